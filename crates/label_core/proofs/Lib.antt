@@ -1,0 +1,4 @@
+pub mod Domination
+pub mod Examples
+pub mod Choosing
+pub mod Greatest

@@ -1,0 +1,127 @@
+// The ticket object in plain numbers: each process holds a ticket, a stamp takes one above the
+// greatest, and two processes are in the order of their tickets. It is the model that bounded
+// labels are measured against. It takes no memory and refuses nothing.
+//
+// Start with `Tickets::new`.
+#![tactic(auto)]
+
+ghost use Rattle.std.specs.Prelude.{◌≡◌, ◌+◌, ◌-◌, ◌^◌, ◌<◌, ◌≤◌, ℕ, List, ◌++◌, length, take, drop, replicate};
+ghost use Rattle.ticket_core.specs.Tickets.{start_tickets, greatest_ticket, stamp_ticket, tickets_below, ticket_ranks, older_ticket};
+
+use std::marker::Model;
+
+/// The most processes that a ticket object has.
+pub const MOST_PROCESSES: usize = 6;
+
+/// One ticket for each of one to six processes, in order of process number.
+#[derive(Clone, Copy, PartialEq, Eq, Debug)]
+pub struct Tickets {
+    count: u8,
+    tickets: [u64; MOST_PROCESSES],
+}
+
+impl Model for Tickets {
+    ghost use Rattle.std.specs.Prelude.{◌≡◌, ◌-◌, ◌≤◌, ℕ, List, ◌++◌, length, take, drop, replicate};
+    ghost use Rattle.std.proofs.Common.{arith, length-take-le};
+    ghost use Rattle.ticket_core.specs.Padded.{padded_back};
+
+    ghost Value = { List ℕ };
+
+    ghost view = { λ fields. take fields.count fields.tickets };
+
+    ghost invariant = { λ fields. (1 ≤ fields.count) × (fields.count ≤ 6) × (length fields.tickets ≡ 6) × (drop fields.count fields.tickets ≡ replicate (6 - fields.count) 0) };
+
+    ghost inverse = { λ tickets. record { count = length tickets; tickets = tickets ++ replicate (6 - length tickets) 0 } };
+
+    ghost inverse_ok = { λ fields kept i. record {
+      count = length-take-le fields.count fields.tickets (omega (arith, kept.1, kept.2)) i;
+      tickets = padded_back 6 fields.count fields.tickets kept.2 kept.1 kept.3 i;
+    } };
+}
+
+impl Tickets {
+    /// The tickets of `n` processes at the start, all 0.
+    pub fn new(n: u8) -> Tickets
+        requires at_least_one { 1 ≤ n }
+        requires at_most_six { n ≤ 6 }
+        ensures { result ≡ start_tickets n }
+    {
+        Tickets {
+            count: n,
+            tickets: [0; MOST_PROCESSES],
+        }
+    }
+
+    /// The number of processes, 1 to 6.
+    pub fn count(&self) -> u8
+        ensures count { result ≡ length self.now }
+        ensures at_least_one { 1 ≤ result }
+        ensures at_most_six { result ≤ 6 }
+    {
+        self.count
+    }
+
+    /// Gives process `p` the ticket one above the greatest.
+    pub fn stamp(&mut self, p: u8)
+        requires in_range { p < length self.old }
+        requires room { greatest_ticket self.old + 1 < 2 ^ 64 }
+        ensures { self.new ≡ stamp_ticket p self.old }
+    {
+        let next = greatest_of(self.held()) + 1;
+        self.tickets[p as usize] = next;
+    }
+
+    /// For each process, how many processes hold a smaller ticket; the entries past the last
+    /// process are 0.
+    pub fn ranks(&self) -> [u8; MOST_PROCESSES]
+        ensures { result ≡ ticket_ranks self.now ++ replicate (6 - length self.now) 0 }
+    {
+        ranks_of(self.held())
+    }
+
+    /// Whether the ticket of process `i` is smaller than that of process `j`.
+    pub fn older(&self, i: u8, j: u8) -> bool
+        requires first_in_range { i < length self.now }
+        requires second_in_range { j < length self.now }
+        ensures { result ≡ older_ticket self.now i j }
+    {
+        let tickets = self.held();
+        tickets[i as usize] < tickets[j as usize]
+    }
+
+    // The tickets that count.
+    fn held(&self) -> &[u64]
+        ensures held { result.now ≡ self.now }
+        ensures at_most_six { length result.now ≤ 6 }
+    {
+        &self.tickets[..self.count as usize]
+    }
+}
+
+fn greatest_of(tickets: &[u64]) -> u64
+    ensures { result ≡ greatest_ticket tickets.now }
+{
+    let mut greatest = 0;
+    for &ticket in tickets {
+        greatest = ticket.max(greatest);
+    }
+    greatest
+}
+
+fn count_below(tickets: &[u64], ticket: u64) -> u8
+    requires { length tickets.now ≤ 6 }
+    ensures { result ≡ tickets_below tickets.now ticket }
+{
+    tickets.iter().filter(|other| **other < ticket).count() as u8
+}
+
+fn ranks_of(tickets: &[u64]) -> [u8; MOST_PROCESSES]
+    requires { length tickets.now ≤ 6 }
+    ensures { result ≡ ticket_ranks tickets.now ++ replicate (6 - length tickets.now) 0 }
+{
+    let mut ranks = [0; MOST_PROCESSES];
+    for (process, &ticket) in tickets.iter().enumerate() {
+        ranks[process] = count_below(tickets, ticket);
+    }
+    ranks
+}

@@ -1,0 +1,57 @@
+-- Counts of what passes a test, and the item with the greatest number.
+use Rattle.std.proofs.Common.{◌≡◌, ℕ, suc, zero, ◌+◌, ◌<◌, ◌≤◌, Bool, true, false, cond, List, [], ◌∷◌, length, get_or, refl, sym, ap, ◌∙◌, subst, arith, rules, inl, inr, ⊎_elim}
+use Rattle.std.specs.Prelude.{count_by, Contains, ◌⊎◌}
+use Rattle.std.specs.List.{AllByRecursion}
+use Rattle.std.proofs.lemmas.Bool.{cases_Bool, cases_lt}
+use Rattle.std.proofs.lemmas.List.Sums.{sum_by-cons}
+
+pub each_weaker : {X : Type 0} (P Q : X → Type 0) (xs : List X) → ((x : X) → P x → Q x) → AllByRecursion P xs → AllByRecursion Q xs
+each_weaker P Q [] gives h = tt
+each_weaker P Q (x ∷ xs) gives h = (gives x h.0, each_weaker P Q xs gives h.1)
+
+count-cons : {X : Type 0} (p : X → Bool) (x : X) (xs : List X) → count_by p (x ∷ xs) ≡ cond (p x) 1 0 + count_by p xs
+count-cons p x xs = sum_by-cons (λ y. cond (p y) 1 0) x xs
+
+one_le : (a b : Bool) → (a ≡ true → b ≡ true) → cond a 1 0 ≤ cond b 1 0
+one_le true true h = omega arith
+one_le true false h = let bad : false ≡ true = h refl in cc
+one_le false b h = omega arith
+
+-- what passes one test passes the other: the other counts no less
+pub count_le : {X : Type 0} (p q : X → Bool) (xs : List X) → AllByRecursion (λ x. p x ≡ true → q x ≡ true) xs → count_by p xs ≤ count_by q xs
+count_le p q [] h = omega arith
+count_le p q (x ∷ xs) h = omega (arith, count-cons p x xs, count-cons q x xs, one_le (p x) (q x) h.0, count_le p q xs h.1)
+
+-- and more, where an item passes the other alone
+pub count_lt : {X : Type 0} (p q : X → Bool) (xs : List X) (k : ℕ) (d : X) → AllByRecursion (λ x. p x ≡ true → q x ≡ true) xs
+    → k < length xs → p (get_or xs k d) ≡ false → q (get_or xs k d) ≡ true → count_by p xs < count_by q xs
+count_lt p q [] k d h inside fails passes = absurd (omega arith)
+count_lt p q (x ∷ xs) zero d h inside fails passes =
+    let none : cond {A = ℕ} (p x) 1 0 ≡ 0 = rw fails refl in
+    let one : cond {A = ℕ} (q x) 1 0 ≡ 1 = rw passes refl in
+    omega (arith, count-cons p x xs, count-cons q x xs, count_le p q xs h.1, none, one)
+count_lt p q (x ∷ xs) (suc k) d h inside fails passes =
+    omega (arith, count-cons p x xs, count-cons q x xs, one_le (p x) (q x) h.0, count_lt p q xs k d h.1 (omega arith) fails passes)
+
+pub record Most {X : Type 0} (f : X → ℕ) (xs : List X) : Type 0 where
+  pub item : X
+  pub member : Contains xs item
+  pub over : AllByRecursion (λ x. f x ≤ f item) xs
+
+-- a list that has items has one with the greatest number
+pub most_of : {X : Type 0} (f : X → ℕ) (x : X) (xs : List X) → Most f (x ∷ xs)
+most_of f x [] = record { item = x; member = (0, omega arith, refl); over = (omega arith, tt) }
+most_of f x (y ∷ ys) =
+    let rest : Most f (y ∷ ys) = most_of f y ys in
+    ⊎_elim
+    (λ below. record {
+      item = rest.item;
+      member = (suc rest.member.0, omega (arith, rest.member.1), rest.member.2);
+      over = (omega arith, rest.over);
+    })
+    (λ above. record {
+      item = x;
+      member = (0, omega arith, refl);
+      over = (omega arith, each_weaker (λ z. f z ≤ f rest.item) (λ z. f z ≤ f x) (y ∷ ys) (λ z le. omega arith) rest.over);
+    })
+    (cases_lt (f x) (f rest.item))

@@ -1,0 +1,5 @@
+pub mod Examples
+pub mod Counting
+pub mod Removing
+pub mod Ranks
+pub mod Stamping

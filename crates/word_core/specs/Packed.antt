@@ -1,0 +1,34 @@
+-- The labels of all processes as one number: two bits a digit, each label in a field of its own,
+-- process 0 in the lowest, and in its field the first digit highest.
+use Rattle.std.specs.Prelude.{◌≡◌, ℕ, zero, suc, ◌+◌, ◌-◌, ◌*◌, ◌/◌, ◌%◌, ◌^◌, List, [], ◌∷◌, length, All}
+use Rattle.label_core.specs.Labels.{IsLabel}
+
+-- a label as a number in base 4, its first digit most significant
+abbrev pub field : List ℕ → ℕ
+field [] = 0
+field (digit ∷ digits) = digit * 4 ^ length digits + field digits
+
+-- the fields of the labels, each as wide as its label
+abbrev pub word : List (List ℕ) → ℕ
+word [] = 0
+word (label ∷ labels) = field label + 4 ^ length label * word labels
+
+-- one label of `n - 1` digits for each of `n` processes
+pub record AreLabels (n : ℕ) (labels : List (List ℕ)) : Type 0 where
+  pub count : length labels ≡ n
+  pub each : All (IsLabel (n - 1)) labels
+
+-- `bits` is the word of these labels of `n` processes
+pub record IsWordOf (n bits : ℕ) (labels : List (List ℕ)) : Type 0 where
+  pub are : AreLabels n labels
+  pub packs : word labels ≡ bits
+
+-- the lowest `count` pairs of bits, the highest first
+abbrev pub digits_in : ℕ → ℕ → List ℕ
+digits_in zero bits = []
+digits_in (suc count) bits = (bits / 4 ^ count) % 4 ∷ digits_in count bits
+
+-- the lowest `count` fields of `digits` pairs of bits each
+abbrev pub labels_in : ℕ → ℕ → ℕ → List (List ℕ)
+labels_in zero digits bits = []
+labels_in (suc count) digits bits = digits_in digits bits ∷ labels_in count digits (bits / 4 ^ digits)
