@@ -7,7 +7,7 @@ use Rattle.std.proofs.lemmas.List.{length-replicate}
 use Rattle.std.proofs.lemmas.List.Elements.{All-contains, All-from_recursion, All-replicate, recursion_from_All}
 use Rattle.label_core.specs.Labels.{IsLabel, dominates, same_label, at_least, is_greatest, greatest, choice, choice_beside, next, zeros, HasGreatest, CanChoose}
 use Rattle.label_core.proofs.Domination.{dominates_self, equal_from_same, dominates_turn}
-use Rattle.label_core.proofs.Choosing.{NotOver, Beaten, choice_beats, length-choice, small-choice}
+use Rattle.label_core.proofs.Choices.{NotOver, Beaten, choice_beats, length-choice, small-choice}
 
 -- a label dominates or equals another exactly where that one does not dominate it
 pub at_least_turn : (m : ℕ) (a b : List ℕ) → IsLabel m a → IsLabel m b → at_least a b ≡ not (dominates b a)

@@ -1,4 +1,7 @@
 pub mod Domination
 pub mod Examples
-pub mod Choosing
+pub mod Choices
 pub mod Greatest
+pub mod Turning
+pub mod Reaching
+pub mod Scanning

@@ -87,3 +87,18 @@ dominated labels label = count_by (dominates label) labels
 -- for each label, how many of the labels it dominates
 abbrev pub label_ranks : List (List ℕ) → List ℕ
 label_ranks labels = map (dominated labels) labels
+
+-- digits of a label: at most five, each below 3
+pub record AreDigits (digits : List ℕ) : Type 0 where
+  pub few : length digits ≤ 5
+  pub small : All (λ digit. digit < 3) digits
+
+-- labels of one length
+abbrev pub AreAlike : List (List ℕ) → Type 0
+AreAlike labels = (digits : ℕ) × All (IsLabel digits) labels
+
+-- whether a label begins with these digits
+abbrev pub begins : List ℕ → List ℕ → Bool
+begins [] label = true
+begins (digit ∷ digits) [] = false
+begins (digit ∷ digits) (first ∷ rest) = (first == digit) && begins digits rest
