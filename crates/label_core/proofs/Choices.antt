@@ -54,16 +54,16 @@ sharing_not_over c top [] h = tt
 sharing_not_over c top ([] ∷ labels) h = let none : 0 ≡ suc (length top) = h.0.len in absurd (omega arith)
 sharing_not_over c top ((d ∷ label) ∷ labels) h =
     sharing_cases (AllByRecursion (NotOver top)) c d label labels
-      (λ here. (not_over_tail c d top label here h.0, sharing_not_over c top labels h.1))
-      (λ here. sharing_not_over c top labels h.1)
+    (λ here. (not_over_tail c d top label here h.0, sharing_not_over c top labels h.1))
+    (λ here. sharing_not_over c top labels h.1)
 
 length-sharing-le : (c : ℕ) (labels : List (List ℕ)) → length (sharing c labels) ≤ length labels
 length-sharing-le c [] = omega arith
 length-sharing-le c ([] ∷ labels) = omega (arith, length-sharing-le c labels)
 length-sharing-le c ((d ∷ label) ∷ labels) =
     sharing_cases (λ few. length few ≤ suc (length labels)) c d label labels
-      (λ here. omega (arith, length-sharing-le c labels))
-      (λ here. omega (arith, length-sharing-le c labels))
+    (λ here. omega (arith, length-sharing-le c labels))
+    (λ here. omega (arith, length-sharing-le c labels))
 
 -- beside its first digit `c`, a label whose rest beats the rests of those that share it beats all
 kept_beats : (c : ℕ) (top rest : List ℕ) (labels : List (List ℕ)) → c < 3 → AllByRecursion (NotOver (c ∷ top)) labels
@@ -72,13 +72,15 @@ kept_beats c top rest [] small h beaten = tt
 kept_beats c top rest ([] ∷ labels) small h beaten = let none : 0 ≡ suc (length top) = h.0.len in absurd (omega arith)
 kept_beats c top rest ((d ∷ label) ∷ labels) small h beaten =
     let Q : Bool → Type 0 = λ t. eqb d c ≡ t → Beaten rest (cond t (label ∷ sharing c labels) (sharing c labels))
-        → cond t (dominates label top) (eqb d (next_digit c)) ≡ false → Beaten (c ∷ rest) ((d ∷ label) ∷ labels) in
+    → cond t (dominates label top) (eqb d (next_digit c)) ≡ false → Beaten (c ∷ rest) ((d ∷ label) ∷ labels) in
     let by : (t : Bool) → Q t = λ t. elim t as Q [
       | true ↦ λ here those below.
           (cond-true (eqb c d) _ _ (eq-eqb c d (sym (eqb-true d c here))) ∙ those.0, kept_beats c top rest labels small h.1 those.1)
-      | false ↦ λ here those below.
-          ((cond-false (eqb c d) (dominates rest label) (eqb c (next_digit d)) (grind (arith, here)))
-            ∙ turn d c (small_head d label h.0.small) small here ∙ ap not below, kept_beats c top rest labels small h.1 those)
+      | false ↦ λ here those below. (
+        (cond-false (eqb c d) (dominates rest label) (eqb c (next_digit d)) (grind (arith, here)))
+            ∙ turn d c (small_head d label h.0.small) small here ∙ ap not below,
+        kept_beats c top rest labels small h.1 those,
+      )
     ] in
     by (eqb d c) refl beaten h.0.below
 
@@ -95,11 +97,12 @@ turned_beats c top rest [] small h all = tt
 turned_beats c top rest ([] ∷ labels) small h all = let none : 0 ≡ suc (length top) = h.0.len in absurd (omega arith)
 turned_beats c top rest ((d ∷ label) ∷ labels) small h all =
     let Q : Bool → Type 0 = λ t. eqb d c ≡ t → suc (length labels) ≤ length (cond t (label ∷ sharing c labels) (sharing c labels))
-        → Beaten (next_digit c ∷ rest) ((d ∷ label) ∷ labels) in
+    → Beaten (next_digit c ∷ rest) ((d ∷ label) ∷ labels) in
     let by : (t : Bool) → Q t = λ t. elim t as Q [
-      | true ↦ λ here those.
-          (rw (eqb-true d c here, next_is_over c small) (eq-eqb (next_digit c) (next_digit c) refl),
-            turned_beats c top rest labels small h.1 (omega arith))
+      | true ↦ λ here those. (
+        rw (eqb-true d c here, next_is_over c small) (eq-eqb (next_digit c) (next_digit c) refl),
+        turned_beats c top rest labels small h.1 (omega arith),
+      )
       | false ↦ λ here those. absurd (omega (arith, length-sharing-le c labels))
     ] in
     by (eqb d c) refl all
@@ -112,7 +115,7 @@ choice_beats [] (label ∷ labels) small h few = absurd (omega arith)
 choice_beats (c ∷ top) labels small h few =
     let shared = sharing c labels in
     let Q : Bool → Type 0 = λ t. leb (length shared) (length top) ≡ t
-        → Beaten (cond t (c ∷ choice top shared) (next_digit c ∷ replicate (length top) 0)) labels in
+    → Beaten (cond t (c ∷ choice top shared) (next_digit c ∷ replicate (length top) 0)) labels in
     let by : (t : Bool) → Q t = λ t. elim t as Q [
       | true ↦ λ here. kept_beats c top (choice top shared) labels (small_head c top small) h
           (choice_beats top shared (small_tail c top small) (sharing_not_over c top labels h) (leb-true _ _ here))

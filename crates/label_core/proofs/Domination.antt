@@ -19,9 +19,6 @@ turn (suc (suc zero)) (suc (suc zero)) a b differ = cc
 turn (suc (suc (suc d))) e a b differ = absurd (omega arith)
 turn d (suc (suc (suc e))) a b differ = absurd (omega arith)
 
-
-
-
 pub self_same : (label : List ℕ) → same_label label label ≡ true
 self_same [] = refl
 self_same (d ∷ label) = rw (eq-eqb d d refl) (self_same label)
@@ -51,7 +48,7 @@ dominates_turn (d ∷ a) [] len small_a small_b differ = let none : suc (length 
 dominates_turn (d ∷ a) (e ∷ b) len small_a small_b differ =
     let len' : suc (length a) ≡ suc (length b) = len in
     let P : Bool → Type 0 = λ t. eqb d e ≡ t → (t && same_label a b) ≡ false
-        → cond (eqb e d) (dominates b a) (eqb e (next_digit d)) ≡ not (cond t (dominates a b) (eqb d (next_digit e))) in
+    → cond (eqb e d) (dominates b a) (eqb e (next_digit d)) ≡ not (cond t (dominates a b) (eqb d (next_digit e))) in
     let by : (t : Bool) → P t = λ t. elim t as P [
       | true ↦ λ here rest.
           cond-true (eqb e d) _ _ (eq-eqb e d (sym (eqb-true d e here)))

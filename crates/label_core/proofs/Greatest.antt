@@ -28,12 +28,12 @@ pub equal_from_at_least : (m : ℕ) (a b : List ℕ) → IsLabel m a → IsLabel
 equal_from_at_least m a b is_a is_b over under =
     ⊎_elim (λ same. equal_from_same a b same)
     (λ differ.
-      let turned : dominates b a ≡ not (dominates a b) = dominates_turn a b (is_a.len ∙ sym is_b.len) is_a.small is_b.small differ in
-      let not_b : not (dominates b a) ≡ true = sym (at_least_turn m a b is_a is_b) ∙ over in
-      let not_a : not (dominates a b) ≡ true = sym (at_least_turn m b a is_b is_a) ∙ under in
-      let b_over : dominates b a ≡ true = turned ∙ not_a in
-      let none : false ≡ true = ap not (sym b_over) ∙ not_b in
-      cc)
+    let turned : dominates b a ≡ not (dominates a b) = dominates_turn a b (is_a.len ∙ sym is_b.len) is_a.small is_b.small differ in
+    let not_b : not (dominates b a) ≡ true = sym (at_least_turn m a b is_a is_b) ∙ over in
+    let not_a : not (dominates a b) ≡ true = sym (at_least_turn m b a is_b is_a) ∙ under in
+    let b_over : dominates b a ≡ true = turned ∙ not_a in
+    let none : false ≡ true = ap not (sym b_over) ∙ not_b in
+    cc)
     (cases_Bool (same_label a b))
 
 pub each_passes : {X : Type 0} (p : X → Bool) (xs : List X) → list_all p xs ≡ true → AllByRecursion (λ x. p x ≡ true) xs
@@ -74,9 +74,9 @@ pub top_of : (labels : List (List ℕ)) → HasGreatest labels → Top labels
 top_of labels has =
     ⊎_elim
     (λ none. absurd (both_ways (is_greatest labels has.label)
-        (All-contains (λ label. is_greatest labels label ≡ false) labels has.label
-            (All-from_recursion (λ label. is_greatest labels label ≡ false) labels none) has.member)
-        has.over))
+    (All-contains (λ label. is_greatest labels label ≡ false) labels has.label
+    (All-from_recursion (λ label. is_greatest labels label ≡ false) labels none) has.member)
+    has.over))
     (λ found. record { label = found.item; is = found.first; member = found.member; over = each_passes (at_least found.item) labels found.passes })
     (find_cases (is_greatest labels) labels)
 
@@ -84,12 +84,14 @@ not_over_from : (m : ℕ) (top : List ℕ) (labels : List (List ℕ)) → IsLabe
     → AllByRecursion (λ other. at_least top other ≡ true) labels → AllByRecursion (NotOver top) labels
 not_over_from m top [] is_top are over = tt
 not_over_from m top (label ∷ labels) is_top are over =
-    let turned : not (dominates label top) ≡ true = sym (at_least_turn m top label is_top are.0) ∙ over.0 in
-    (record {
-      len = are.0.len ∙ sym is_top.len;
-      small = are.0.small;
-      below = elim (dominates label top) as (λ t. not t ≡ true → t ≡ false) [ true ↦ λ e. sym e | false ↦ λ e. refl ] turned;
-    }, not_over_from m top labels is_top are.1 over.1)
+    let turned : not (dominates label top) ≡ true = sym (at_least_turn m top label is_top are.0) ∙ over.0 in (
+      record {
+        len = are.0.len ∙ sym is_top.len;
+        small = are.0.small;
+        below = elim (dominates label top) as (λ t. not t ≡ true → t ≡ false) [ true ↦ λ e. sym e | false ↦ λ e. refl ] turned;
+      },
+      not_over_from m top labels is_top are.1 over.1,
+    )
 
 -- what the next label beside these labels is
 pub record IsNext (m : ℕ) (labels : List (List ℕ)) (label : List ℕ) : Type 0 where

@@ -24,7 +24,7 @@ count_sharing c digits [] = refl
 count_sharing c digits ([] ∷ labels) = count_sharing c digits labels ∙ sym (count-cons (begins (c ∷ digits)) [] labels ∙ omega arith)
 count_sharing c digits ((d ∷ label) ∷ labels) =
     let Q : Bool → Type 0 = λ t. count_by (begins digits) (cond t (label ∷ sharing c labels) (sharing c labels))
-        ≡ cond {A = ℕ} (t && begins digits label) 1 0 + count_by (begins (c ∷ digits)) labels in
+    ≡ cond {A = ℕ} (t && begins digits label) 1 0 + count_by (begins (c ∷ digits)) labels in
     let by : (t : Bool) → Q t = λ t. elim t as Q [
       | true ↦ count-cons (begins digits) label (sharing c labels) ∙ omega (arith, count_sharing c digits labels)
       | false ↦ count_sharing c digits labels ∙ omega arith
@@ -61,7 +61,7 @@ step top at labels inside =
     let next : suc at ≡ at + 1 = omega arith in
     let front : take (at + 1) top ≡ take at top ++ slice_index top at ∷ [] = take_more top at 0 inside in
     let shared : reach (take (at + 1) top) labels ≡ sharing (slice_index top at) (reach (take at top) labels) =
-        ap (λ digits. reach digits labels) front ∙ reach-push (take at top) (slice_index top at) labels in
+    ap (λ digits. reach digits labels) front ∙ reach-push (take at top) (slice_index top at) labels in
     record {
       here = drop-cons top at 0 inside ∙ ap (λ k. slice_index top at ∷ drop k top) next;
       front = front;
@@ -78,9 +78,9 @@ pub step_turns : (top : List ℕ) (at : ℕ) (labels : List (List ℕ)) → at <
 step_turns top at labels inside many so_far =
     let s : Step top at labels = step top at labels inside in
     so_far ∙ ap (λ rest. take at top ++ rest)
-      (ap (λ digits. choice digits (reach (take at top) labels)) s.here
-      ∙ choice_turns (slice_index top at) (drop (at + 1) top) (reach (take at top) labels) (omega (arith, s.many, s.left))
-      ∙ ap (λ k. next_digit (slice_index top at) ∷ replicate k 0) s.left)
+    (ap (λ digits. choice digits (reach (take at top) labels)) s.here
+    ∙ choice_turns (slice_index top at) (drop (at + 1) top) (reach (take at top) labels) (omega (arith, s.many, s.left))
+    ∙ ap (λ k. next_digit (slice_index top at) ∷ replicate k 0) s.left)
 
 -- else it keeps it
 pub step_keeps : (top : List ℕ) (at : ℕ) (labels : List (List ℕ)) → at < length top
@@ -91,7 +91,7 @@ step_keeps top at labels inside few so_far =
     let s : Step top at labels = step top at labels inside in
     let rest : List ℕ = choice (drop (at + 1) top) (sharing (slice_index top at) (reach (take at top) labels)) in
     so_far ∙ ap (λ rest. take at top ++ rest)
-      (ap (λ digits. choice digits (reach (take at top) labels)) s.here
-      ∙ choice_keeps (slice_index top at) (drop (at + 1) top) (reach (take at top) labels) (omega (arith, s.many, s.left)))
+    (ap (λ digits. choice digits (reach (take at top) labels)) s.here
+    ∙ choice_keeps (slice_index top at) (drop (at + 1) top) (reach (take at top) labels) (omega (arith, s.many, s.left)))
     ∙ sym (append_assoc (take at top) (slice_index top at ∷ []) rest)
     ∙ rw (s.shared, s.front) refl

@@ -28,7 +28,7 @@ over_all : (labels : List (List ℕ)) → HasGreatest labels → (label : List �
 over_all labels has label member =
     let top : Top labels = top_of labels has in
     subst (λ best. at_least best label ≡ true) (best_is labels top)
-      (All-contains (λ other. at_least top.label other ≡ true) labels label (All-from_recursion (λ other. at_least top.label other ≡ true) labels top.over) member)
+    (All-contains (λ other. at_least top.label other ≡ true) labels label (All-from_recursion (λ other. at_least top.label other ≡ true) labels top.over) member)
 
 best_member : (labels : List (List ℕ)) → HasGreatest labels → Contains labels (best labels)
 best_member labels has = let top : Top labels = top_of labels has in subst (Contains labels) (best_is labels top) top.member
@@ -37,7 +37,7 @@ not_over_best : (m : ℕ) (labels : List (List ℕ)) → All (IsLabel m) labels 
     → dominates label (best labels) ≡ false
 not_over_best m labels are has label member =
     let turned : at_least (best labels) label ≡ not (dominates label (best labels)) =
-        at_least_turn m (best labels) label (All-contains (IsLabel m) labels (best labels) are (best_member labels has)) (All-contains (IsLabel m) labels label are member) in
+    at_least_turn m (best labels) label (All-contains (IsLabel m) labels (best labels) are (best_member labels has)) (All-contains (IsLabel m) labels label are member) in
     let clear : not (dominates label (best labels)) ≡ true = sym turned ∙ over_all labels has label member in
     elim (dominates label (best labels)) as (λ t. not t ≡ true → t ≡ false) [ true ↦ λ e. sym e | false ↦ λ e. refl ] clear
 
@@ -52,9 +52,9 @@ pub takes : (m : ℕ) (labels rest : List (List ℕ)) (label top : List ℕ) →
 takes m labels rest label top are has member h over = record {
   member = member;
   ahead = ⊎_elim
-    (λ come. ⊎_elim (λ here. inr here) (λ later. inl later) (member_cases label rest (best labels) come))
-    (λ kept. absurd (both_ways (dominates label top) (ap (dominates label) kept ∙ not_over_best m labels are has label member) over))
-    h.ahead;
+      (λ come. ⊎_elim (λ here. inr here) (λ later. inl later) (member_cases label rest (best labels) come))
+      (λ kept. absurd (both_ways (dominates label top) (ap (dominates label) kept ∙ not_over_best m labels are has label member) over))
+      h.ahead;
 }
 
 -- what no label dominates is kept
@@ -63,18 +63,18 @@ pub keeps : (m : ℕ) (labels rest : List (List ℕ)) (label top : List ℕ) →
 keeps m labels rest label top are has h below = record {
   member = h.member;
   ahead = ⊎_elim
-    (λ come. ⊎_elim
+      (λ come. ⊎_elim
       (λ here.
-        let is_best : IsLabel m (best labels) = All-contains (IsLabel m) labels (best labels) are (best_member labels has) in
-        let is_top : IsLabel m top = All-contains (IsLabel m) labels top are h.member in
-        let under : dominates (best labels) top ≡ false = ap (λ x. dominates x top) (sym here) ∙ below in
-        inr (equal_from_at_least m top (best labels) is_top is_best
-          (at_least_turn m top (best labels) is_top is_best ∙ ap not under)
-          (over_all labels has top h.member)))
+      let is_best : IsLabel m (best labels) = All-contains (IsLabel m) labels (best labels) are (best_member labels has) in
+      let is_top : IsLabel m top = All-contains (IsLabel m) labels top are h.member in
+      let under : dominates (best labels) top ≡ false = ap (λ x. dominates x top) (sym here) ∙ below in
+      inr (equal_from_at_least m top (best labels) is_top is_best
+      (at_least_turn m top (best labels) is_top is_best ∙ ap not under)
+      (over_all labels has top h.member)))
       (λ later. inl later)
       (member_cases label rest (best labels) come))
-    (λ kept. inr kept)
-    h.ahead;
+      (λ kept. inr kept)
+      h.ahead;
 }
 
 pub ends : (labels : List (List ℕ)) (top : List ℕ) → HasGreatest labels → Scanning labels [] top → Some top ≡ greatest labels

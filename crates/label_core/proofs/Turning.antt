@@ -18,17 +18,17 @@ turned_row len at digit held row is_len few inside small each is_row =
     let front : List ℕ = take at held ++ digit ∷ [] in
     let reach : length front ≡ at + 1 = length-append (take at held) (digit ∷ []) ∙ omega arith in
     let written : set row at digit ≡ front ++ replicate (5 - (at + 1)) 0 =
-        ap (λ r. set r at digit) is_row ∙ padded_set 5 0 (take at held) at digit kept (omega arith) in
+    ap (λ r. set r at digit) is_row ∙ padded_set 5 0 (take at held) at digit kept (omega arith) in
     let counted : take len (set row at digit) ≡ take at held ++ digit ∷ replicate (len - (at + 1)) 0 =
-        ap (take len) written ∙ padded_take 5 len (at + 1) 0 front reach (omega arith) few
-        ∙ append_assoc (take at held) (digit ∷ []) (replicate (len - (at + 1)) 0) in
+    ap (take len) written ∙ padded_take 5 len (at + 1) 0 front reach (omega arith) few
+    ∙ append_assoc (take at held) (digit ∷ []) (replicate (len - (at + 1)) 0) in
     record {
       whole = ap length written ∙ length-append front (replicate (5 - (at + 1)) 0) ∙ omega (arith, length-replicate {A = ℕ} (5 - (at + 1)) 0);
       rest = ap (drop len) written ∙ padded_drop 5 len (at + 1) 0 front reach (omega arith) few;
       counted = counted;
       small = subst (All (λ digit. digit < 3)) (sym counted)
-        (All-append (λ digit. digit < 3) (take at held) (digit ∷ replicate (len - (at + 1)) 0)
+          (All-append (λ digit. digit < 3) (take at held) (digit ∷ replicate (len - (at + 1)) 0)
           (All-take (λ digit. digit < 3) at held each)
           (All-cons (λ digit. digit < 3) digit (replicate (len - (at + 1)) 0) small
-            (All-replicate (λ digit. digit < 3) (len - (at + 1)) 0 (omega arith))));
+          (All-replicate (λ digit. digit < 3) (len - (at + 1)) 0 (omega arith))));
     }

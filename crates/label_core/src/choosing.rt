@@ -55,7 +55,10 @@ fn count_beginning(top: &Label, count: usize, labels: &[Label]) -> usize
     ensures { result ≡ count_by (begins (take count top.now)) labels.now }
 {
     let digits = &top.held()[..count];
-    labels.iter().filter(|label| begins(digits, label.held())).count()
+    labels
+        .iter()
+        .filter(|label| begins(digits, label.held()))
+        .count()
 }
 
 fn begins(digits: &[u8], label: &[u8]) -> bool

@@ -3,3 +3,4 @@ pub mod Counting
 pub mod Removing
 pub mod Ranks
 pub mod Stamping
+pub mod Fields

@@ -1,10 +1,10 @@
 -- Where labels are in an order, how many each dominates are numbers of that order, and one of any
 -- of them is greatest.
-use Rattle.std.proofs.Common.{◌≡◌, ◌≢◌, ◌↔◌, ℕ, suc, zero, ◌+◌, ◌-◌, ◌<◌, ◌≤◌, Bool, true, false, not, ltb, List, [], ◌∷◌, length, get_or, map, refl, sym, ap, ◌∙◌, subst, arith, rules, inl, inr, ⊎_elim}
+use Rattle.std.proofs.Common.{◌≡◌, ◌≢◌, ◌↔◌, ℕ, suc, zero, ◌+◌, ◌-◌, ◌<◌, ◌≤◌, ◌++◌, replicate, Bool, true, false, not, ltb, List, [], ◌∷◌, length, get_or, map, refl, sym, ap, ◌∙◌, subst, arith, rules, inl, inr, ⊎_elim}
 use Rattle.std.specs.Prelude.{All, Contains, remove, slice_index, nat_lt}
 use Rattle.std.specs.List.{AllByRecursion, list_all}
 use Rattle.std.proofs.lemmas.Bool.{cases_Bool, cases_lt, ltb-true, ltb-false, lt-ltb, le-ltb, and_from}
-use Rattle.std.proofs.lemmas.List.{length-map, get_or-map}
+use Rattle.std.proofs.lemmas.List.{length-map, get_or-map, get_or_append_left}
 use Rattle.std.proofs.lemmas.List.Edits.{length-remove}
 use Rattle.std.proofs.lemmas.List.Elements.{All-from_get_or, All-get_or, All-contains, All-from_recursion, recursion_from_All}
 use Rattle.label_core.specs.Labels.{IsLabel, dominates, same_label, at_least, is_greatest, HasGreatest, CanChoose, dominated, label_ranks}
@@ -23,8 +23,8 @@ passes_on : (labels : List (List ℕ)) (numbers : List ℕ) → OrderedBy labels
 passes_on labels numbers by i j in_i in_j le =
     let P : List ℕ → Type 0 = λ other. dominates (label_at labels j) other ≡ true → dominates (label_at labels i) other ≡ true in
     recursion_from_All P labels (All-from_get_or P labels [] (λ k in_k over.
-      let below : slice_index numbers k < slice_index numbers j = ltb-true _ _ (sym (by.over j k in_j in_k) ∙ over) in
-      by.over i k in_i in_k ∙ lt-ltb _ _ (omega arith)))
+    let below : slice_index numbers k < slice_index numbers j = ltb-true _ _ (sym (by.over j k in_j in_k) ∙ over) in
+    by.over i k in_i in_k ∙ lt-ltb _ _ (omega arith)))
 
 ranks_le : (labels : List (List ℕ)) (numbers : List ℕ) → OrderedBy labels numbers → (i j : ℕ) → i < length labels → j < length labels
     → slice_index numbers j ≤ slice_index numbers i → dominated labels (label_at labels j) ≤ dominated labels (label_at labels i)
@@ -35,8 +35,8 @@ ranks_lt : (labels : List (List ℕ)) (numbers : List ℕ) → OrderedBy labels 
     → slice_index numbers j < slice_index numbers i → dominated labels (label_at labels j) < dominated labels (label_at labels i)
 ranks_lt labels numbers by i j in_i in_j lt =
     count_lt (dominates (label_at labels j)) (dominates (label_at labels i)) labels j []
-      (passes_on labels numbers by i j in_i in_j (omega arith)) in_j
-      (dominates_self (label_at labels j)) (by.over i j in_i in_j ∙ lt-ltb _ _ lt)
+    (passes_on labels numbers by i j in_i in_j (omega arith)) in_j
+    (dominates_self (label_at labels j)) (by.over i j in_i in_j ∙ lt-ltb _ _ lt)
 
 -- of two ordered labels the one that dominates more is the one that dominates the other
 pub dominates_by_rank : (labels : List (List ℕ)) (numbers : List ℕ) → OrderedBy labels numbers → (i j : ℕ) → i < length labels → j < length labels
@@ -56,15 +56,15 @@ pub equal_from_neither : (m : ℕ) (a b : List ℕ) → IsLabel m a → IsLabel 
 equal_from_neither m a b is_a is_b not_a not_b =
     ⊎_elim (λ same. equal_from_same a b same)
     (λ differ.
-      let turned : dominates b a ≡ not (dominates a b) = dominates_turn a b (is_a.len ∙ sym is_b.len) is_a.small is_b.small differ in
-      let bad : false ≡ true = sym not_b ∙ turned ∙ ap not not_a in
-      cc)
+    let turned : dominates b a ≡ not (dominates a b) = dominates_turn a b (is_a.len ∙ sym is_b.len) is_a.small is_b.small differ in
+    let bad : false ≡ true = sym not_b ∙ turned ∙ ap not not_a in
+    cc)
     (cases_Bool (same_label a b))
 
 -- labels that dominate each other as their ranks say are ordered by their ranks
 pub ordered_by_ranks : (n : ℕ) (labels : List (List ℕ)) → All (IsLabel n) labels
     → ((i j : ℕ) → i < length labels → j < length labels
-      → dominates (label_at labels i) (label_at labels j) ≡ ltb (slice_index (label_ranks labels) j) (slice_index (label_ranks labels) i))
+    → dominates (label_at labels i) (label_at labels j) ≡ ltb (slice_index (label_ranks labels) j) (slice_index (label_ranks labels) i))
     → OrderedBy labels (label_ranks labels)
 ordered_by_ranks n labels are each = record {
   count = length-map _ _;
@@ -72,8 +72,9 @@ ordered_by_ranks n labels are each = record {
   equal = λ i j in_i in_j. (
     (λ same. rank_at labels i in_i ∙ ap (dominated labels) same ∙ sym (rank_at labels j in_j)),
     (λ same. equal_from_neither n (label_at labels i) (label_at labels j)
-      (All-get_or (IsLabel n) labels i [] in_i are) (All-get_or (IsLabel n) labels j [] in_j are)
-      (each i j in_i in_j ∙ le-ltb _ _ (omega arith)) (each j i in_j in_i ∙ le-ltb _ _ (omega arith))));
+        (All-get_or (IsLabel n) labels i [] in_i are) (All-get_or (IsLabel n) labels j [] in_j are)
+        (each i j in_i in_j ∙ le-ltb _ _ (omega arith)) (each j i in_j in_i ∙ le-ltb _ _ (omega arith))),
+  );
 }
 
 all_pass : {X : Type 0} (p : X → Bool) (xs : List X) → AllByRecursion (λ x. p x ≡ true) xs → list_all p xs ≡ true
@@ -97,9 +98,9 @@ at_least_by_rank m labels numbers by are a b at_a at_b le =
     let is_a : IsLabel m a = subst (IsLabel m) at_a.is (All-get_or (IsLabel m) labels at_a.process [] at_a.inside are) in
     let is_b : IsLabel m b = subst (IsLabel m) at_b.is (All-get_or (IsLabel m) labels at_b.process [] at_b.inside are) in
     let below : dominates b a ≡ ltb (dominated labels a) (dominated labels b) =
-        subst (λ x. dominates x a ≡ ltb (dominated labels a) (dominated labels x)) at_b.is
-        (subst (λ y. dominates (label_at labels at_b.process) y ≡ ltb (dominated labels y) (dominated labels (label_at labels at_b.process))) at_a.is
-          (dominates_by_rank labels numbers by at_b.process at_a.process at_b.inside at_a.inside)) in
+    subst (λ x. dominates x a ≡ ltb (dominated labels a) (dominated labels x)) at_b.is
+    (subst (λ y. dominates (label_at labels at_b.process) y ≡ ltb (dominated labels y) (dominated labels (label_at labels at_b.process))) at_a.is
+    (dominates_by_rank labels numbers by at_b.process at_a.process at_b.inside at_a.inside)) in
     at_least_turn m a b is_a is_b ∙ ap not (below ∙ le-ltb _ _ le)
 
 -- beside ordered labels of the others a process can choose its next
@@ -110,23 +111,46 @@ can_choose n labels p are ordered in_p =
     let others : List (List ℕ) = remove labels p in
     let inside : p < length labels = omega (arith, are.count) in
     let held : All (Held labels) others = All-remove (Held labels) labels p [] inside
-        (λ j in_j other. record { process = j; inside = in_j; is = refl }) in
+    (λ j in_j other. record { process = j; inside = in_j; is = refl }) in
     record {
       few = omega (arith, are.count, length-remove labels p inside);
       labels = All-remove (IsLabel (n - 1)) labels p [] inside (λ j in_j other. All-get_or (IsLabel (n - 1)) labels j [] in_j are.each);
       top = λ some.
-        let most : Most (dominated labels) others = most_in (dominated labels) others some in
-        let at_most : Held labels most.item = All-contains (Held labels) others most.item held most.member in
-        let over : All (λ other. dominated labels other ≤ dominated labels most.item) others =
-            All-from_recursion (λ other. dominated labels other ≤ dominated labels most.item) others most.over in
-        record {
-          label = most.item;
-          member = most.member;
-          over = all_pass (at_least most.item) others
-            (recursion_from_All (λ other. at_least most.item other ≡ true) others
-              (All-from_get_or (λ other. at_least most.item other ≡ true) others [] (λ k in_k.
+          let most : Most (dominated labels) others = most_in (dominated labels) others some in
+          let at_most : Held labels most.item = All-contains (Held labels) others most.item held most.member in
+          let over : All (λ other. dominated labels other ≤ dominated labels most.item) others =
+          All-from_recursion (λ other. dominated labels other ≤ dominated labels most.item) others most.over in
+          record {
+            label = most.item;
+            member = most.member;
+            over = all_pass (at_least most.item) others
+                (recursion_from_All (λ other. at_least most.item other ≡ true) others
+                (All-from_get_or (λ other. at_least most.item other ≡ true) others [] (λ k in_k.
                 at_least_by_rank (n - 1) labels numbers by are.each most.item (get_or others k []) at_most
-                  (All-get_or (Held labels) others k [] in_k held)
-                  (All-get_or (λ other. dominated labels other ≤ dominated labels most.item) others k [] in_k over))));
-        };
+                (All-get_or (Held labels) others k [] in_k held)
+                (All-get_or (λ other. dominated labels other ≤ dominated labels most.item) others k [] in_k over))));
+          };
     }
+
+-- a rank in a row of ranks that has 0 past the last
+pub rank_in : (labels : List (List ℕ)) (row : List ℕ) (i : ℕ) → row ≡ label_ranks labels ++ replicate (6 - length labels) 0 → i < length labels
+    → slice_index row i ≡ slice_index (label_ranks labels) i
+rank_in labels row i is inside =
+    ap (λ r. slice_index r i) is ∙ get_or_append_left (label_ranks labels) (replicate (6 - length labels) 0) 0 i (omega (arith, length-map labels (dominated labels)))
+
+-- labels are ordered where all of them dominate just those that have a smaller rank
+pub ordered_from_row : (m : ℕ) (labels : List (List ℕ)) (row : List ℕ) → All (IsLabel m) labels → row ≡ label_ranks labels ++ replicate (6 - length labels) 0
+    → ((i j : ℕ) → i < length labels → j < length labels → dominates (label_at labels i) (label_at labels j) ≡ ltb (slice_index row j) (slice_index row i))
+    → IsOrdered labels
+ordered_from_row m labels row are is each = (
+  label_ranks labels,
+  ordered_by_ranks m labels are (λ i j in_i in_j.
+      each i j in_i in_j ∙ rw (rank_in labels row i is in_i, rank_in labels row j is in_j) refl),
+)
+
+-- and only there
+pub row_from_ordered : (labels : List (List ℕ)) (row : List ℕ) → row ≡ label_ranks labels ++ replicate (6 - length labels) 0 → IsOrdered labels
+    → (i j : ℕ) → i < length labels → j < length labels → dominates (label_at labels i) (label_at labels j) ≡ ltb (slice_index row j) (slice_index row i)
+row_from_ordered labels row is ordered i j in_i in_j =
+    dominates_by_rank labels ordered.0 ordered.1 i j in_i in_j
+    ∙ rw (rank_in labels row i is in_i, rank_in labels row j is in_j, rank_at labels i in_i, rank_at labels j in_j) refl

@@ -3,3 +3,5 @@ pub mod Packed
 pub mod Order
 pub mod Agreement
 pub mod Law
+pub mod Distinct
+pub mod Packing

@@ -3,15 +3,15 @@
 use Rattle.std.specs.Prelude.{◌≡◌, ℕ, zero, suc, ◌+◌, ◌-◌, ◌*◌, ◌/◌, ◌%◌, ◌^◌, List, [], ◌∷◌, length, All}
 use Rattle.label_core.specs.Labels.{IsLabel}
 
--- a label as a number in base 4, its first digit most significant
+-- a label as a number of two bits a digit, its first digit highest
 abbrev pub field : List ℕ → ℕ
 field [] = 0
-field (digit ∷ digits) = digit * 4 ^ length digits + field digits
+field (digit ∷ digits) = digit * 2 ^ (2 * length digits) + field digits
 
--- the fields of the labels, each as wide as its label
+-- the fields of the labels, each as wide as its label, the first lowest
 abbrev pub word : List (List ℕ) → ℕ
 word [] = 0
-word (label ∷ labels) = field label + 4 ^ length label * word labels
+word (label ∷ labels) = word labels * 2 ^ (2 * length label) + field label
 
 -- one label of `n - 1` digits for each of `n` processes
 pub record AreLabels (n : ℕ) (labels : List (List ℕ)) : Type 0 where
@@ -26,9 +26,9 @@ pub record IsWordOf (n bits : ℕ) (labels : List (List ℕ)) : Type 0 where
 -- the lowest `count` pairs of bits, the highest first
 abbrev pub digits_in : ℕ → ℕ → List ℕ
 digits_in zero bits = []
-digits_in (suc count) bits = (bits / 4 ^ count) % 4 ∷ digits_in count bits
+digits_in (suc count) bits = (bits / 2 ^ (2 * count)) % 4 ∷ digits_in count bits
 
--- the lowest `count` fields of `digits` pairs of bits each
+-- the lowest `count` fields of `digits` pairs of bits each, the lowest first
 abbrev pub labels_in : ℕ → ℕ → ℕ → List (List ℕ)
 labels_in zero digits bits = []
-labels_in (suc count) digits bits = digits_in digits bits ∷ labels_in count digits (bits / 4 ^ digits)
+labels_in (suc count) digits bits = digits_in digits bits ∷ labels_in count digits (bits / 2 ^ (2 * digits))

@@ -14,4 +14,4 @@ loop-process-preserved c =
     ap (λ row. set row at c.count_below.result) c.loop-process.invariant
     ∙ padded_set 6 front at c.count_below.result here (omega (arith, c.requires))
     ∙ ap (λ row. row ++ replicate (6 - (at + 1)) 0)
-      (rw c.count_below.ensures (sym (map_more (tickets_below tickets) tickets at 0 inside)))
+    (rw c.count_below.ensures (sym (map_more (tickets_below tickets) tickets at 0 inside)))

@@ -19,10 +19,10 @@ loop-label-preserved c =
     elim c.if-dominates.branch [
       | then-dominates w ↦ subst (Scanning labels (drop (at + 1) labels)) (sym w.top-is)
           (takes c.requires.alike.0 labels (drop (at + 1) labels) c.label-item.result c.loop-label.top c.requires.alike.1 has
-            (at, inside, sym c.label-item.is) split (sym c.dominates.ensures ∙ w.if-dominates.true))
+          (at, inside, sym c.label-item.is) split (sym c.dominates.ensures ∙ w.if-dominates.true))
       | else-dominates w ↦ subst (Scanning labels (drop (at + 1) labels)) (sym w.top-is)
           (keeps c.requires.alike.0 labels (drop (at + 1) labels) c.label-item.result c.loop-label.top c.requires.alike.1 has
-            split (sym c.dominates.ensures ∙ w.if-dominates.false))
+          split (sym c.dominates.ensures ∙ w.if-dominates.false))
     ]
 
 pub returns : goal.returns
@@ -30,4 +30,4 @@ returns c =
     let labels = c.args.labels.now in
     let first = first_contained labels c.in_ok-first.first.now c.in_ok-first.ensures.value in
     ends labels c.loop-label.top (c.requires.top first.0)
-      (subst (λ rest. Scanning labels rest c.loop-label.top) (drop_all c.loop-label.label-index labels c.loop-label-test.false) c.loop-label.invariant)
+    (subst (λ rest. Scanning labels rest c.loop-label.top) (drop_all c.loop-label.label-index labels c.loop-label-test.false) c.loop-label.invariant)

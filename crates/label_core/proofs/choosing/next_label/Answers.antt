@@ -9,16 +9,16 @@ pub returns-in-Some-clause-dominates : goal.returns-in-Some-clause-dominates
 returns-in-Some-clause-dominates c =
     let others = c.args.others.now in
     let same : c.choice.result ≡ next c.args.n others =
-        c.choice.ensures ∙ ap (λ found. choice_beside (c.args.n - 1) found others) (sym c.in-Some.is ∙ c.greatest.ensures) in
+    c.choice.ensures ∙ ap (λ found. choice_beside (c.args.n - 1) found others) (sym c.in-Some.is ∙ c.greatest.ensures) in
     let new = next_is c.args.n others c.requires.can in
     subst (λ label. All (λ other. dominates label other ≡ true) others) (sym same)
-      (All-from_recursion (λ other. dominates (next c.args.n others) other ≡ true) others new.beats)
+    (All-from_recursion (λ other. dominates (next c.args.n others) other ≡ true) others new.beats)
 
 pub returns-in-Some-clause-label : goal.returns-in-Some-clause-label
 returns-in-Some-clause-label c =
     let others = c.args.others.now in
     let same : c.choice.result ≡ next c.args.n others =
-        c.choice.ensures ∙ ap (λ found. choice_beside (c.args.n - 1) found others) (sym c.in-Some.is ∙ c.greatest.ensures) in
+    c.choice.ensures ∙ ap (λ found. choice_beside (c.args.n - 1) found others) (sym c.in-Some.is ∙ c.greatest.ensures) in
     let new = next_is c.args.n others c.requires.can in
     subst (IsLabel (c.args.n - 1)) (sym same) new.is
 
@@ -26,7 +26,7 @@ pub returns-in-None-clause-dominates : goal.returns-in-None-clause-dominates
 returns-in-None-clause-dominates c =
     let others = c.args.others.now in
     let same : c.zeros.result ≡ next c.args.n others =
-        c.zeros.ensures ∙ ap (λ found. choice_beside (c.args.n - 1) found others) (sym c.in-None.is ∙ c.greatest.ensures) in
+    c.zeros.ensures ∙ ap (λ found. choice_beside (c.args.n - 1) found others) (sym c.in-None.is ∙ c.greatest.ensures) in
     let new = next_is c.args.n others c.requires.can in
     subst (λ label. All (λ other. dominates label other ≡ true) others) (sym same)
-      (All-from_recursion (λ other. dominates (next c.args.n others) other ≡ true) others new.beats)
+    (All-from_recursion (λ other. dominates (next c.args.n others) other ≡ true) others new.beats)

@@ -13,7 +13,7 @@ loop-process-preserved c =
     let front = map (dominated labels) (take at labels) in
     let here : length front ≡ at = length-map _ _ ∙ length-take-le at labels (omega arith) in
     let more : map (dominated labels) (take (at + 1) labels) ≡ front ++ dominated labels item ∷ [] =
-        map_more (dominated labels) labels at item inside ∙ ap (λ x. front ++ dominated labels x ∷ []) (sym c.index-labels-process.is) in
+    map_more (dominated labels) labels at item inside ∙ ap (λ x. front ++ dominated labels x ∷ []) (sym c.index-labels-process.is) in
     ap (λ row. set row at c.count_dominated.result) c.loop-process.invariant
     ∙ padded_set 6 0 front at c.count_dominated.result here (omega (arith, c.requires.few))
     ∙ ap (λ row. row ++ replicate (6 - (at + 1)) 0) (rw c.count_dominated.ensures (sym more))

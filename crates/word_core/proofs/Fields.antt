@@ -1,0 +1,134 @@
+-- A label's field, digit by digit, and a word, label by label.
+use Rattle.std.proofs.Common.{◌≡◌, ℕ, suc, zero, ◌+◌, ◌-◌, ◌*◌, ◌/◌, ◌%◌, ◌^◌, ◌<◌, ◌≤◌, List, [], ◌∷◌, length, get_or, drop, take, replicate, set, ◌++◌, length-drop, length-set, refl, sym, ap, ◌∙◌, subst, arith, rules, inl, inr, ⊎_elim}
+use Rattle.std.specs.Prelude.{All, slice_index}
+use Rattle.std.proofs.Math.Seq.{drop-cons}
+use Rattle.std.proofs.lemmas.Bool.{cases_lt}
+use Rattle.std.proofs.lemmas.List.{take_at, set-append_left}
+use Rattle.std.proofs.lemmas.Nat.{pow-add, pow_below, mul-le, mul-add-lt, pow_pos, shr_split, mod_below, div-mul-add}
+use Rattle.std.proofs.lemmas.List.Elements.{All-head, All-tail, All-drop, All-cons, All-get_or}
+use Rattle.label_core.specs.Labels.{IsLabel}
+use Rattle.word_core.specs.Packed.{field, word, digits_in, labels_in}
+use Rattle.word_core.specs.Packing.{length-digits_in, length-labels_in, word_lt, label_at-labels_in}
+use Rattle.word_core.specs.Stamps.{label_at}
+
+-- the digits before place `at` as a number, and what that leaves of the field
+pub record FieldSoFar (label : List ℕ) (at bits : ℕ) : Type 0 where
+  pub whole : bits * 2 ^ (2 * (length label - at)) + field (drop at label) ≡ field label
+  pub small : bits < 2 ^ (2 * at)
+
+pub pow-le : (i j : ℕ) → i ≤ j → 2 ^ i ≤ 2 ^ j
+pow-le i j le = ⊎_elim (λ lt. let below : 2 ^ i < 2 ^ j = pow_below i j lt in omega arith) (λ ge. let same : i ≡ j = omega arith in rw same (omega arith)) (cases_lt i j)
+
+-- six labels of five digits have at most sixty bits
+pub fits_word : (n m : ℕ) → n ≤ 6 → m ≤ 5 → 2 ^ (2 * (n * m)) ≤ 2 ^ 60
+fits_word n m few narrow = let le : n * m ≤ 6 * 5 = mul-le n m 6 5 few narrow in pow-le (2 * (n * m)) 60 (omega arith)
+
+regroup : (bits digit w rest : ℕ) → (bits * 4 + digit) * w + rest ≡ bits * (4 * w) + (digit * w + rest)
+regroup bits digit w rest = omega arith
+
+pub field_start : (label : List ℕ) → FieldSoFar label 0 0
+field_start label = record { whole = omega arith; small = omega arith }
+
+pub field_step : (label : List ℕ) (at bits : ℕ) → at < length label → slice_index label at < 3 → FieldSoFar label at bits
+    → FieldSoFar label (at + 1) (bits * 4 + slice_index label at)
+field_step label at bits inside small so_far =
+    let k : ℕ = length label - (at + 1) in
+    let next : suc at ≡ at + 1 = omega arith in
+    let here : drop at label ≡ slice_index label at ∷ drop (at + 1) label = drop-cons label at 0 inside ∙ ap (λ i. slice_index label at ∷ drop i label) next in
+    let left : length (drop (at + 1) label) ≡ length label - (at + 1) = length-drop (at + 1) label in
+    let wide : 2 * (length label - at) ≡ 2 + 2 * (length label - (at + 1)) = omega arith in
+    let pow : 2 ^ (2 * (length label - at)) ≡ 4 * 2 ^ (2 * (length label - (at + 1))) = ap (λ e. 2 ^ e) wide ∙ pow-add 2 2 (2 * (length label - (at + 1))) in
+    let field_here : field (drop at label) ≡ slice_index label at * 2 ^ (2 * (length label - (at + 1))) + field (drop (at + 1) label) =
+    ap field here ∙ ap (λ j. slice_index label at * 2 ^ (2 * j) + field (drop (at + 1) label)) left in
+    let up : 2 * (at + 1) ≡ 2 + 2 * at = omega arith in
+    let wider : 2 ^ (2 * (at + 1)) ≡ 4 * 2 ^ (2 * at) = ap (λ e. 2 ^ e) up ∙ pow-add 2 2 (2 * at) in
+    record {
+      whole = regroup bits (slice_index label at) (2 ^ (2 * (length label - (at + 1)))) (field (drop (at + 1) label))
+          ∙ sym (ap (λ x. bits * x + field (drop at label)) pow ∙ ap (λ f. bits * (4 * 2 ^ (2 * (length label - (at + 1)))) + f) field_here) ∙ so_far.whole;
+      small = omega (arith, wider, so_far.small);
+    }
+
+-- what is packed from the labels from a place on, one more label
+pub record WordStep (labels : List (List ℕ)) (m left bits : ℕ) (item : List ℕ) : Type 0 where
+  pub packs : bits * 2 ^ (2 * m) + field item ≡ word (drop (left - 1) labels)
+  pub small : bits * 2 ^ (2 * m) + field item < 2 ^ 60
+
+pub word_step : (labels : List (List ℕ)) (m left bits : ℕ) (item : List ℕ) → 0 < left → left ≤ length labels → length labels ≤ 6 → m ≤ 5
+    → All (IsLabel m) labels → item ≡ get_or labels (left - 1) item → bits ≡ word (drop left labels) → WordStep labels m left bits item
+word_step labels m left bits item some within few narrow are is packed =
+    let next : suc (left - 1) ≡ left = omega arith in
+    let here : drop (left - 1) labels ≡ item ∷ drop left labels =
+    drop-cons labels (left - 1) item (omega arith) ∙ ap (λ x. x ∷ drop (suc (left - 1)) labels) (sym is) ∙ ap (λ k. item ∷ drop k labels) next in
+    let is_label : IsLabel m item = subst (IsLabel m) (sym is) (All-get_or (IsLabel m) labels (left - 1) item (omega arith) are) in
+    let packs : bits * 2 ^ (2 * m) + field item ≡ word (drop (left - 1) labels) =
+    ap (λ b. b * 2 ^ (2 * m) + field item) packed
+    ∙ ap (λ k. word (drop left labels) * 2 ^ (2 * k) + field item) (sym is_label.len)
+    ∙ ap word (sym here) in
+    let count : length (drop (left - 1) labels) ≡ length labels - (left - 1) = length-drop (left - 1) labels in
+    let below : word (drop (left - 1) labels) < 2 ^ (2 * ((length labels - (left - 1)) * m)) =
+    word_lt (length labels - (left - 1)) m (drop (left - 1) labels) count (All-drop (IsLabel m) (left - 1) labels are) in
+    let fits : 2 ^ (2 * ((length labels - (left - 1)) * m)) ≤ 2 ^ 60 = fits_word (length labels - (left - 1)) m (omega arith) narrow in
+    record { packs = packs; small = omega (arith, packs, below, fits) }
+
+-- the first of some fields is a label, and so are the others
+pub split_labels : (n i m bits : ℕ) → i < n → All (IsLabel m) (labels_in (n - i) m bits)
+    → IsLabel m (digits_in m bits) × All (IsLabel m) (labels_in (n - (i + 1)) m (bits / 2 ^ (2 * m)))
+split_labels n i m bits inside are =
+    let more : n - i ≡ suc (n - (i + 1)) = omega arith in
+    let split : All (IsLabel m) (labels_in (suc (n - (i + 1))) m bits) = subst (λ k. All (IsLabel m) (labels_in k m bits)) more are in (
+      All-head (IsLabel m) (digits_in m bits) (labels_in (n - (i + 1)) m (bits / 2 ^ (2 * m))) split,
+      All-tail (IsLabel m) (digits_in m bits) (labels_in (n - (i + 1)) m (bits / 2 ^ (2 * m))) split,
+    )
+
+pub join_labels : (n i m bits : ℕ) → i < n → IsLabel m (digits_in m bits) → All (IsLabel m) (labels_in (n - (i + 1)) m (bits / 2 ^ (2 * m)))
+    → All (IsLabel m) (labels_in (n - i) m bits)
+join_labels n i m bits inside first rest =
+    let more : n - i ≡ suc (n - (i + 1)) = omega arith in
+    subst (λ k. All (IsLabel m) (labels_in k m bits)) (sym more)
+    (All-cons (IsLabel m) (digits_in m bits) (labels_in (n - (i + 1)) m (bits / 2 ^ (2 * m))) first rest)
+
+zero_div : (w : ℕ) → 0 < w → 0 / w ≡ 0
+zero_div w some = let none : 0 ≡ 0 * w + 0 = omega arith in ap (λ a. a / w) none ∙ div-mul-add 0 w 0 some
+
+digits_in-zero : (m : ℕ) → digits_in m 0 ≡ replicate m 0
+digits_in-zero zero = refl
+digits_in-zero (suc m) =
+    let none : (0 / 2 ^ (2 * m)) % 4 ≡ 0 = ap (λ q. q % 4) (zero_div (2 ^ (2 * m)) (pow_pos (2 * m))) in
+    ap (λ d. d ∷ digits_in m 0) none ∙ ap (λ ds. 0 ∷ ds) (digits_in-zero m)
+
+-- the word whose bits are all 0
+pub labels_in-zero : (n m : ℕ) → labels_in n m 0 ≡ replicate n (replicate m 0)
+labels_in-zero zero m = refl
+labels_in-zero (suc n) m =
+    let none : 0 / 2 ^ (2 * m) ≡ 0 = zero_div (2 ^ (2 * m)) (pow_pos (2 * m)) in
+    ap (λ b. digits_in m 0 ∷ labels_in n m b) none ∙ ap (λ x. x ∷ labels_in n m 0) (digits_in-zero m) ∙ ap (λ xs. replicate m 0 ∷ xs) (labels_in-zero n m)
+
+-- bits of which none is set from a place on
+pub below_from_shift : (bits k : ℕ) → bits / 2 ^ k ≡ 0 → bits < 2 ^ k
+below_from_shift bits k none =
+    let split : bits / 2 ^ k * 2 ^ k + bits % 2 ^ k ≡ bits = shr_split bits k in
+    let rest : bits % 2 ^ k ≡ bits = let gone : 0 * 2 ^ k + bits % 2 ^ k ≡ bits = ap (λ q. q * 2 ^ k + bits % 2 ^ k) (sym none) ∙ split in omega (arith, gone) in
+    subst (λ b. b < 2 ^ k) rest (mod_below bits (2 ^ k) (pow_pos k))
+
+-- the label of process `i`, read from its field
+pub label_read : (n count bits i : ℕ) (labels : List (List ℕ)) → labels_in count (count - 1) bits ≡ labels → n ≡ length labels → i < length labels
+    → digits_in (n - 1) (bits / 2 ^ (2 * ((n - 1) * i))) ≡ label_at labels i
+label_read n count bits i labels is counted inside =
+    let same : n ≡ count = counted ∙ ap length (sym is) ∙ length-labels_in count (count - 1) bits in
+    rw same (sym (label_at-labels_in count (count - 1) bits i (omega arith)) ∙ ap (λ ls. label_at ls i) is)
+
+-- the labels at the front of a row that has empty ones past them
+pub taken : (n : ℕ) (labels row : List (List ℕ)) → row ≡ labels ++ replicate (6 - length labels) [] → n ≡ length labels → take n row ≡ labels
+taken n labels row is count = ap (take n) is ∙ take_at labels (replicate (6 - length labels) []) n (sym count)
+
+-- the same after one of them was written
+pub taken_set : (n p : ℕ) (labels row : List (List ℕ)) (label : List ℕ) → row ≡ labels ++ replicate (6 - length labels) [] → n ≡ length labels → p < n
+    → take n (set row p label) ≡ set labels p label
+taken_set n p labels row label is count inside =
+    ap (λ r. take n (set r p label)) is
+    ∙ ap (take n) (set-append_left labels (replicate (6 - length labels) []) p label (omega arith))
+    ∙ take_at (set labels p label) (replicate (6 - length labels) []) n (length-set labels p label ∙ sym count)
+
+-- a word has no bit past its last label
+pub shift_gone : (bits k : ℕ) → bits < 2 ^ k → bits / 2 ^ k ≡ 0
+shift_gone bits k small = let alone : bits ≡ 0 * 2 ^ k + bits = omega arith in ap (λ b. b / 2 ^ k) alone ∙ div-mul-add 0 (2 ^ k) bits small

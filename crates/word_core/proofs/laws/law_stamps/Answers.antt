@@ -1,0 +1,5 @@
+use Rattle.word_core.proofs.Stamping.{stamps_law}
+use Rattle.word_core.proofs.laws.law_stamps.Goals as goal
+
+pub returns : goal.returns
+returns c = stamps_law
