@@ -1,0 +1,16 @@
+-- What reading keeps from call to call.
+use Rattle.std.proofs.Common.{◌++◌, ◌+◌, ◌≤◌, ℕ, List, length, Option, Some, None, append_assoc, sym}
+use Rattle.std.specs.Io.KnownBytes.{Consumes}
+
+-- after `call` calls the input holds what was taken since the first, and there is room for more
+pub record HasRead (first now : Option (List ℕ)) (input : List ℕ) (counted_first counted_now call : ℕ) : Type 0 where
+  pub taken : Consumes first now input
+  pub room : length input ≤ 1000000
+  pub asked : call ≤ counted_now
+  pub few : counted_now ≤ counted_first + call
+
+pub Consumes-trans : (a b c : Option (List ℕ)) (xs ys : List ℕ) → Consumes a b xs → Consumes b c ys → Consumes a c (xs ++ ys)
+Consumes-trans None b c xs ys first second = tt
+Consumes-trans (Some held) None c xs ys first second = absurd first
+Consumes-trans (Some held) (Some bs) None xs ys first second = absurd second
+Consumes-trans (Some held) (Some bs) (Some cs) xs ys first second = rw (first, second) (sym (append_assoc xs ys cs))

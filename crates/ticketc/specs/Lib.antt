@@ -1,0 +1,10 @@
+pub mod Ends
+pub mod Reading
+pub mod Writing
+pub mod Number
+pub mod Schedule
+pub mod Refusal
+pub mod Text
+pub mod Order
+pub mod Answer
+pub mod Serving

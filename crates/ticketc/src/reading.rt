@@ -1,0 +1,36 @@
+ghost use Rattle.std.specs.Prelude.{◌+◌, ◌≤◌, IfErr, IfOk};
+ghost use Rattle.ticketc.specs.Reading.{IsRead, StopsReading, TakesFew};
+
+use crate::ends::{ByteSource, Transfer};
+use crate::fault::EngineFault;
+use std::alloc::Global;
+
+/// The longest input that is answered, in bytes. One more is read, to tell a longer one.
+pub const INPUT_LIMIT: usize = 1_000_000;
+
+/// How often the input is asked for bytes at most, interruptions included.
+pub const READ_LIMIT: u64 = 2_000_000;
+
+/// Reads an input to its end, or one byte past the limit.
+pub fn read_input<S: ByteSource>(alloc: Global, source: &mut S) -> Result<Vec<u8>, EngineFault>
+    ensures ok { IfOk result (λ input. IsRead (S.remaining source.old) (S.remaining source.new) input.items) }
+    ensures err { IfErr result (λ fault. StopsReading fault (S.counts source.new)) }
+    ensures bytes { TakesFew (S.remaining source.old) (S.remaining source.new) }
+    ensures calls { (S.counts source.new).calls ≤ (S.counts source.old).calls + READ_LIMIT }
+{
+    let mut buffer = [0u8; 16_384];
+    let mut input = Vec::new(alloc);
+    'calls: for _ in 0..READ_LIMIT {
+        let room = buffer.len().min(INPUT_LIMIT + 1 - input.len());
+        match source.read(&mut buffer[..room]) {
+            Transfer::Moved(0) => return Ok(input),
+            Transfer::Moved(count) => input.extend_from_slice(&buffer[..count])?,
+            Transfer::Interrupted => {}
+            Transfer::Failed => return Err(EngineFault::Read),
+        }
+        if input.len() > INPUT_LIMIT {
+            return Ok(input);
+        }
+    }
+    Err(EngineFault::Read)
+}
