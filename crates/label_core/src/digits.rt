@@ -38,12 +38,12 @@ impl Label {
         ensures some { IsSome result ↔ AreDigits digits.now }
         ensures label { IfSome result (λ label. label ≡ digits.now) }
     {
-        if digits.len() > MOST_DIGITS || !are_small(digits) {
+        if digits.len() > MOST_DIGITS {
             return None;
         }
         Some(Label {
             len: digits.len() as u8,
-            digits: padded(digits),
+            digits: checked(digits)?,
         })
     }
 
@@ -135,10 +135,20 @@ pub(crate) fn next_digit(digit: u8) -> u8
     (digit + 1) % 3
 }
 
-fn are_small(digits: &[u8]) -> bool
-    ensures { IsTrue result ↔ All (λ digit. digit < 3) digits.now }
+// The digits, and 0 past them; `None` where one is above 2.
+fn checked(digits: &[u8]) -> Option<[u8; MOST_DIGITS]>
+    requires { length digits.now ≤ 5 }
+    ensures some { IsSome result ↔ All (λ digit. digit < 3) digits.now }
+    ensures row { IfSome result (λ row. row ≡ digits.now ++ replicate (5 - length digits.now) 0) }
 {
-    digits.iter().all(|digit| *digit < 3)
+    let mut row = [0; MOST_DIGITS];
+    for (at, &digit) in digits.iter().enumerate() {
+        if digit > 2 {
+            return None;
+        }
+        row[at] = digit;
+    }
+    Some(row)
 }
 
 fn padded(digits: &[u8]) -> [u8; MOST_DIGITS]
