@@ -1,0 +1,71 @@
+-- The definitions computed on small programs.
+use Rattle.std.proofs.Common.{◌≡◌, ℕ, List, [], ◌∷◌, ◌++◌, Some, None, refl, codes}
+use Rattle.std.specs.Fmt.{decimal}
+use Rattle.tick_syntax.specs.declared.span.Span.{Span}
+use Rattle.tick_syntax.specs.declared.token.Sort.TheVariants as K
+use Rattle.tick_syntax.specs.declared.token.Token.{Token}
+use Rattle.tick_syntax.specs.declared.tree.Op.TheVariants as O
+use Rattle.tick_syntax.specs.declared.word.Word.TheVariants as W
+use Rattle.tick_syntax.specs.Lexeme.{Lexeme, a_name, a_number, a_word, nothing, word_of, lexemes}
+use Rattle.tick_syntax.specs.Plain.{Name, Expression, number, named, me, count, binary, Statement, assign, fetch, put, stamp, scan, copy, older, out, test, loop, Block, nil, cons, WholeProgram}
+use Rattle.tick_syntax.specs.Grammar.{Derives}
+use Rattle.tick_syntax.specs.Nesting.{nesting, open_after}
+use Rattle.tick_syntax.specs.Printed.{printed, nowhere}
+
+abbrev span : ℕ → ℕ → Span
+span a b = record { start = a; end = b }
+
+words : (word_of (codes "processes") ≡ Some W.Processes) × (word_of (codes "n") ≡ Some W.Count)
+    × (word_of (codes "<=") ≡ Some (W.Operator O.AtMost)) × (word_of (codes "!") ≡ None)
+unfolding word_of
+words = (refl, refl, refl, refl)
+
+-- `x<=1 # y`
+line : lexemes (codes "x<=1 # y")
+    (record { sort = K.Name; span = span 0 1 } ∷ record { sort = K.Sign; span = span 1 3 }
+    ∷ record { sort = K.Num 1; span = span 3 4 } ∷ [])
+    ≡ a_name (record { letters = codes "x"; span = span 0 1 }) ∷ a_word (W.Operator O.AtMost)
+    ∷ a_number 1 (span 3 4) ∷ []
+unfolding word_of
+line = refl
+
+-- `processes 2; var x; begin while (x < n) { out me; } end`
+abbrev x : ℕ → ℕ → Name
+x a b = record { letters = codes "x"; span = span a b }
+
+abbrev small : WholeProgram Name
+small = record {
+  processes = 2;
+  span = span 10 11;
+  variables = x 17 18 ∷ [];
+  scans = [];
+  registers = [];
+  body = cons (loop (binary (named (x 33 34)) O.Less count) (cons (out me) nil)) nil;
+}
+
+abbrev small_tokens : List Lexeme
+small_tokens =
+    a_word W.Processes ∷ a_number 2 (span 10 11) ∷ a_word W.Semicolon
+    ∷ a_word W.Var ∷ a_name (x 17 18) ∷ a_word W.Semicolon ∷ a_word W.Begin
+    ∷ a_word W.While ∷ a_word W.Open ∷ a_name (x 33 34) ∷ a_word (W.Operator O.Less) ∷ a_word W.Count ∷ a_word W.Close
+    ∷ a_word W.OpenBrace ∷ a_word W.Out ∷ a_word W.Me ∷ a_word W.Semicolon ∷ a_word W.CloseBrace ∷ a_word W.End ∷ []
+
+small_derived : Derives small_tokens small
+small_derived = (
+  _,
+  _,
+  _,
+  _,
+  refl,
+  (_, refl, refl),
+  refl,
+  refl,
+  (_, (_, _, refl, (_, _, refl, refl, refl), (_, (_, refl, refl), refl)), refl),
+)
+
+small_nesting : nesting small ≡ 1
+small_nesting = refl
+
+small_printed : printed small
+    ≡ codes "processes " ++ ((decimal 2 ++ 32 ∷ []) ++ codes ";\nvar x ;\nbegin\nwhile ( x < n ) {\nout me ;\n}\nend\n")
+small_printed = refl

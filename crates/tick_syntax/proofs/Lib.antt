@@ -1,0 +1,30 @@
+pub mod FirstToken
+pub mod LongestPieces
+pub mod NumberValues
+pub mod SpelledInOrder
+pub mod SpelledOnce
+pub mod SpelledPieces
+mod SpellingExamples
+pub mod TokensSoFar
+pub mod TokensStand
+pub mod TokensTold
+mod GrammarExamples
+pub mod Rows
+pub mod Machine
+pub mod Sound
+pub mod SoundStatements
+pub mod Loops
+pub mod SoundPrograms
+pub mod Forward
+pub mod Parsed
+pub mod Table
+pub mod Stops
+pub mod DerivedAgain
+pub mod DerivedOnce
+pub mod DerivedTokens
+pub mod PrintedParts
+pub mod RoundTrips
+pub mod Spanless
+pub mod SpansAside
+pub mod SpelledAgain
+pub mod TokensThatStand

@@ -1,0 +1,217 @@
+-- The reader's loops: what was read so far stands before what the rest gives.
+use Rattle.std.proofs.Common.{◌≡◌, ℕ, zero, suc, ◌+◌, ◌<◌, Bool, true, false, List, [], ◌∷◌, ◌++◌, length, Result, Ok, Err, refl, sym, ◌∙◌, ap, subst, append_assoc, arith}
+use Rattle.tick_syntax.specs.declared.span.Span.{Span}
+use Rattle.tick_syntax.specs.declared.fault.TextFault.{TextFault}
+use Rattle.tick_syntax.specs.declared.fault.TextFault.TheVariants as F
+use Rattle.tick_syntax.specs.declared.item.Item.{Item}
+use Rattle.tick_syntax.specs.declared.item.Ending.{Ending}
+use Rattle.tick_syntax.specs.declared.item.Meaning.{Meaning}
+use Rattle.tick_syntax.specs.declared.item.Meaning.TheVariants as M
+use Rattle.tick_syntax.specs.declared.word.Word.TheVariants as W
+use Rattle.tick_syntax.specs.declared.tree.Stmt.{Stmt}
+use Rattle.tick_syntax.specs.Plain.{Name, Expression, Statement, test, loop, Block, nil, cons, onto}
+use Rattle.tick_syntax.specs.View.{statement_of, block_of}
+use Rattle.tick_syntax.specs.Reading.{Reading, Fails, ◌>>=◌, next_at, name_at, name_by, names_at, names_by, block_by, ends, statements_with, statements_at, statement_at, expression_at, else_at, choice_at, repetition_at}
+use Rattle.tick_syntax.proofs.Sound.{name_reads}
+use Rattle.tick_syntax.proofs.SoundStatements.{statement_reads}
+
+abbrev pub after_names : List Name → Reading (List Name) → Reading (List Name)
+after_names front r = r >>= λ x. Ok (front ++ x.0, x.1)
+
+abbrev pub after_block : Block Name → Reading (Block Name) → Reading (Block Name)
+after_block front r = r >>= λ x. Ok (onto front x.0, x.1)
+
+-- a step that fails fails what stands on it
+pub fails_on : {U V : Type 0} (e : TextFault) (m : Result U TextFault) (f : U → Result V TextFault)
+    → Fails e m → Fails e (m >>= f)
+fails_on F.NoMemory m f h = tt
+fails_on F.TextTooLong m f h = ap (λ z. z >>= f) h
+fails_on (F.BadCharacter p) m f h = ap (λ z. z >>= f) h
+fails_on (F.NumberTooBig s) m f h = ap (λ z. z >>= f) h
+fails_on (F.NameTooLong s) m f h = ap (λ z. z >>= f) h
+fails_on (F.Unexpected s) m f h = ap (λ z. z >>= f) h
+fails_on (F.TooDeep s) m f h = ap (λ z. z >>= f) h
+
+module _ (end : ℕ) where
+  names_front : (m : Meaning) (span : Span) (rest : List Item)
+      → names_at end (record { meaning = m; span = span } ∷ rest)
+      ≡ (name_by m span rest >>= λ x. next_at end x.1 >>= λ y. names_by end y.0.meaning y.0.span y.1 x.0 (names_at end y.1))
+  unfolding names_at next_at
+  names_front (M.Name letters) span [] = refl
+  names_front (M.Name letters) span (j ∷ js) = refl
+  names_front (M.Number v) span [] = refl
+  names_front (M.Number v) span (j ∷ js) = refl
+  names_front (M.Word w) span [] = refl
+  names_front (M.Word w) span (j ∷ js) = refl
+  names_front M.Nothing span [] = refl
+  names_front M.Nothing span (j ∷ js) = refl
+
+  pub names_step : (is : List Item)
+      → names_at end is
+      ≡ (name_at end is >>= λ x. next_at end x.1 >>= λ y. names_by end y.0.meaning y.0.span y.1 x.0 (names_at end y.1))
+  unfolding names_at name_at next_at
+  names_step [] = refl
+  names_step (i ∷ is) = names_front i.meaning i.span is
+
+  -- one name was read
+  pub names_one : (is r : List Item) (n : Name) → name_at end is ≡ Ok (n, r)
+      → names_at end is ≡ (next_at end r >>= λ y. names_by end y.0.meaning y.0.span y.1 n (names_at end y.1))
+  names_one is r n h = names_step is
+      ∙ ap (λ z. z >>= λ x. next_at end x.1 >>= λ y. names_by end y.0.meaning y.0.span y.1 x.0 (names_at end y.1)) h
+
+  -- and what stands after it
+  pub names_two : (is r : List Item) (n : Name) (y : Item × List Item) → name_at end is ≡ Ok (n, r) → next_at end r ≡ Ok y
+      → names_at end is ≡ names_by end y.0.meaning y.0.span y.1 n (names_at end y.1)
+  names_two is r n y h k = names_one is r n h ∙ ap (λ z. z >>= λ y. names_by end y.0.meaning y.0.span y.1 n (names_at end y.1)) k
+
+  pub after_more : (front : List Name) (n : Name) (r : Reading (List Name))
+      → after_names front (r >>= λ x. Ok (n ∷ x.0, x.1)) ≡ after_names (front ++ n ∷ []) r
+  after_more front n (Ok x) = ap (λ z. Ok (z, x.1)) (sym (append_assoc front (n ∷ []) x.0))
+  after_more front n (Err e) = refl
+
+  onto_more : (a : Block Name) (s : Statement Name) (b : Block Name) → onto (onto a (cons s nil)) b ≡ onto a (cons s b)
+  onto_more nil s b = refl
+  onto_more (cons t a) s b = ap (cons t) (onto_more a s b)
+
+  pub block_more : (ss : List Stmt) (s : Stmt) → block_of (ss ++ s ∷ []) ≡ onto (block_of ss) (cons (statement_of s) nil)
+  block_more [] s = refl
+  block_more (t ∷ ss) s = ap (cons (statement_of t)) (block_more ss s)
+
+  pub onto_nil : (a : Block Name) → onto a nil ≡ a
+  onto_nil nil = refl
+  onto_nil (cons s a) = ap (cons s) (onto_nil a)
+
+  after_statement : (front : Block Name) (s : Statement Name) (r : Reading (Block Name))
+      → after_block front (r >>= λ x. Ok (cons s x.0, x.1)) ≡ after_block (onto front (cons s nil)) r
+  after_statement front s (Ok x) = ap (λ z. Ok (z, x.1)) (sym (onto_more front s x.0))
+  after_statement front s (Err e) = refl
+
+  block_by_same : (b : Bool) (rest : List Item) (o : Reading (Statement Name)) (f g : List Item → Reading (Block Name))
+      → ((x : Statement Name × List Item) → o ≡ Ok x → f x.1 ≡ g x.1)
+      → block_by end b rest o f ≡ block_by end b rest o g
+  block_by_same true rest o f g h = refl
+  block_by_same false rest (Ok x) f g h = ap (λ z. z >>= λ b. Ok (cons x.0 b.0, b.1)) (h x refl)
+  block_by_same false rest (Err e) f g h = refl
+
+  -- as many steps as there are items are enough
+  enough : (one : List Item → Reading (Statement Name))
+      → ((is : List Item) (x : Statement Name × List Item) → one is ≡ Ok x → length x.1 < length is)
+      → (ending : Ending) (a b : ℕ) (is : List Item) → length is < a → length is < b
+      → statements_with end one ending a is ≡ statements_with end one ending b is
+  unfolding statements_with next_at
+  enough one less ending zero b is l k = absurd (omega arith)
+  enough one less ending (suc a) zero is l k = absurd (omega arith)
+  enough one less ending (suc a) (suc b) [] l k = refl
+  enough one less ending (suc a) (suc b) (i ∷ is) l k =
+      block_by_same (ends ending i.meaning) is (one (i ∷ is)) _ _ (λ x h.
+      let j : length x.1 < suc (length is) = less (i ∷ is) x h in
+      enough one less ending a b x.1 (omega arith) (omega arith))
+
+  statements_step : (room : ℕ) (ending : Ending) (is : List Item) (y : Item × List Item) → next_at end is ≡ Ok y
+      → statements_at end room ending is
+      ≡ block_by end (ends ending y.0.meaning) y.1 (statement_at end room is) (statements_with end (statement_at end room) ending (length is))
+  unfolding statements_at statements_with
+  statements_step room ending is y h =
+      ap (λ z. z >>= λ x. block_by end (ends ending x.0.meaning) x.1 (statement_at end room is) (statements_with end (statement_at end room) ending (length is))) h
+
+  -- the word that ends the list
+  pub statements_end : (room : ℕ) (ending : Ending) (is : List Item) (y : Item × List Item) → next_at end is ≡ Ok y
+      → ends ending y.0.meaning ≡ true → statements_at end room ending is ≡ Ok (nil, y.1)
+  statements_end room ending is y h t = statements_step room ending is y h
+      ∙ ap (λ z. block_by end z y.1 (statement_at end room is) (statements_with end (statement_at end room) ending (length is))) t
+
+  -- a statement that stops the list
+  pub statements_stop : (room : ℕ) (ending : Ending) (is : List Item) (y : Item × List Item) (e : TextFault) → next_at end is ≡ Ok y
+      → ends ending y.0.meaning ≡ false → Fails e (statement_at end room is) → Fails e (statements_at end room ending is)
+  statements_stop room ending is y e h f k =
+      subst (Fails e) (sym (statements_step room ending is y h
+      ∙ ap (λ z. block_by end z y.1 (statement_at end room is) (statements_with end (statement_at end room) ending (length is))) f))
+      (fails_on e (statement_at end room is) _ k)
+
+  -- one statement more
+  pub statements_more : (room : ℕ) (ending : Ending) (is r : List Item) (y : Item × List Item) (s : Statement Name) (front : Block Name)
+      → next_at end is ≡ Ok y → ends ending y.0.meaning ≡ false → statement_at end room is ≡ Ok (s, r)
+      → after_block front (statements_at end room ending is) ≡ after_block (onto front (cons s nil)) (statements_at end room ending r)
+  unfolding statements_at
+  statements_more room ending is r y s front h f k =
+      let l : length r < length is = (statement_reads end 0 room is).shorter (s, r) k in
+      let same : statements_with end (statement_at end room) ending (length is) r
+      ≡ statements_with end (statement_at end room) ending (suc (length r)) r =
+      enough (statement_at end room) (λ js x e. (statement_reads end 0 room js).shorter x e) ending _ _ r (omega arith) (omega arith) in
+      ap (after_block front) (statements_step room ending is y h
+      ∙ ap (λ z. block_by end z y.1 (statement_at end room is) (statements_with end (statement_at end room) ending (length is))) f
+      ∙ ap (λ z. block_by end false y.1 z (statements_with end (statement_at end room) ending (length is))) k
+      ∙ ap (λ z. z >>= λ b. Ok (cons s b.0, b.1)) same)
+      ∙ after_statement front s (statements_with end (statement_at end room) ending (suc (length r)) r)
+
+  -- a statement takes an item at least
+  pub statement_shorter : (room : ℕ) (is r : List Item) (s : Statement Name) → statement_at end room is ≡ Ok (s, r) → length r < length is
+  statement_shorter room is r s h = (statement_reads end 0 room is).shorter (s, r) h
+
+  -- The loops' exits: whole is what the reading gives from where the loop began.
+
+  pub names_fail : (front : List Name) (is : List Item) (whole : Reading (List Name)) (e : TextFault)
+      → after_names front (names_at end is) ≡ whole → Fails e (name_at end is) → Fails e whole
+  names_fail front is whole e inv h =
+      subst (Fails e) inv (fails_on e (names_at end is) _ (subst (Fails e) (sym (names_step is)) (fails_on e (name_at end is) _ h)))
+
+  pub names_fail_next : (front : List Name) (is r : List Item) (n : Name) (whole : Reading (List Name)) (e : TextFault)
+      → after_names front (names_at end is) ≡ whole → name_at end is ≡ Ok (n, r) → Fails e (next_at end r) → Fails e whole
+  names_fail_next front is r n whole e inv h k =
+      subst (Fails e) inv (fails_on e (names_at end is) _ (subst (Fails e) (sym (names_one is r n h)) (fails_on e (next_at end r) _ k)))
+
+  pub names_last : (front : List Name) (is r : List Item) (n : Name) (whole : Reading (List Name)) (y : Item × List Item)
+      → after_names front (names_at end is) ≡ whole → name_at end is ≡ Ok (n, r) → next_at end r ≡ Ok y
+      → y.0.meaning ≡ M.Word W.Semicolon → whole ≡ Ok (front ++ n ∷ [], y.1)
+  names_last front is r n whole y inv h k s =
+      sym inv ∙ ap (after_names front) (names_two is r n y h k ∙ ap (λ z. names_by end z y.0.span y.1 n (names_at end y.1)) s)
+
+  pub names_wrong : (front : List Name) (is r : List Item) (n : Name) (whole : Reading (List Name)) (y : Item × List Item)
+      → after_names front (names_at end is) ≡ whole → name_at end is ≡ Ok (n, r) → next_at end r ≡ Ok y
+      → names_by end y.0.meaning y.0.span y.1 n (names_at end y.1) ≡ Err (F.Unexpected y.0.span) → whole ≡ Err (F.Unexpected y.0.span)
+  names_wrong front is r n whole y inv h k s = sym inv ∙ ap (after_names front) (names_two is r n y h k ∙ s)
+
+  pub names_on : (front : List Name) (is r : List Item) (n : Name) (whole : Reading (List Name)) (y : Item × List Item)
+      → after_names front (names_at end is) ≡ whole → name_at end is ≡ Ok (n, r) → next_at end r ≡ Ok y
+      → y.0.meaning ≡ M.Word W.Comma → after_names (front ++ n ∷ []) (names_at end y.1) ≡ whole
+  names_on front is r n whole y inv h k s =
+      sym (after_more front n (names_at end y.1))
+      ∙ sym (ap (after_names front) (names_two is r n y h k ∙ ap (λ z. names_by end z y.0.span y.1 n (names_at end y.1)) s)) ∙ inv
+
+  -- an item is one less
+  pub next_shorter : (is : List Item) (y : Item × List Item) → next_at end is ≡ Ok y → length y.1 < length is
+  unfolding next_at
+  next_shorter [] y h = absurd (cc)
+  next_shorter (i ∷ is) y h = let e : is ≡ y.1 = cc in let l : length is < suc (length is) = omega arith in subst (λ z. length z < suc (length is)) e l
+
+  pub name_shorter : (is : List Item) (x : Name × List Item) → name_at end is ≡ Ok x → length x.1 < length is
+  name_shorter is x h = (name_reads end 0 0 is).shorter x h
+
+  pub statements_none : (room : ℕ) (ending : Ending) (front : Block Name) (is : List Item) (whole : Reading (Block Name)) (e : TextFault)
+      → after_block front (statements_at end room ending is) ≡ whole → Fails e (next_at end is) → Fails e whole
+  unfolding statements_at statements_with
+  statements_none room ending front is whole e inv h =
+      subst (Fails e) inv (fails_on e (statements_at end room ending is) _ (fails_on e (next_at end is) _ h))
+
+  pub statements_fail : (room : ℕ) (ending : Ending) (front : Block Name) (is : List Item) (y : Item × List Item) (whole : Reading (Block Name)) (e : TextFault)
+      → after_block front (statements_at end room ending is) ≡ whole → next_at end is ≡ Ok y
+      → ends ending y.0.meaning ≡ false → Fails e (statement_at end room is) → Fails e whole
+  statements_fail room ending front is y whole e inv h f k =
+      subst (Fails e) inv (fails_on e (statements_at end room ending is) _ (statements_stop room ending is y e h f k))
+
+  pub statements_last : (room : ℕ) (ending : Ending) (front : Block Name) (is : List Item) (y : Item × List Item) (whole : Reading (Block Name))
+      → after_block front (statements_at end room ending is) ≡ whole → next_at end is ≡ Ok y
+      → ends ending y.0.meaning ≡ true → whole ≡ Ok (front, y.1)
+  statements_last room ending front is y whole inv h t =
+      sym inv ∙ ap (after_block front) (statements_end room ending is y h t) ∙ ap (λ z. Ok (z, y.1)) (onto_nil front)
+
+  pub choice_gives : (block : List Item → Reading (Block Name)) (room : ℕ) (is p q r s : List Item) (e : Expression Name) (a b : Block Name)
+      → expression_at end room is ≡ Ok (e, p) → block p ≡ Ok (a, q) → else_at end q ≡ Ok (tt, r) → block r ≡ Ok (b, s)
+      → choice_at end block room is ≡ Ok (test e a b, s)
+  unfolding choice_at
+  choice_gives block room is p q r s e a b h k l m = rw (h, k, l, m) refl
+
+  pub repetition_gives : (block : List Item → Reading (Block Name)) (room : ℕ) (is p q : List Item) (e : Expression Name) (a : Block Name)
+      → expression_at end room is ≡ Ok (e, p) → block p ≡ Ok (a, q) → repetition_at end block room is ≡ Ok (loop e a, q)
+  unfolding repetition_at
+  repetition_gives block room is p q e a h k = rw (h, k) refl

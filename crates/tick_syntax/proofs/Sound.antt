@@ -1,0 +1,379 @@
+-- What the reader reads is what the grammar has, and where it stops nothing goes on.
+use Rattle.std.proofs.Common.{◌≡◌, ◌≢◌, ℕ, zero, suc, ◌+◌, ◌<◌, ◌≤◌, ◌⊎◌, inl, inr, Bool, true, false, List, [], ◌∷◌, ◌++◌, length, map, Option, Some, None, Result, Ok, Err, refl, sym, ◌∙◌, ap, subst, append_assoc, arith, max, nat_eq, eq-eqb}
+use Rattle.std.proofs.lemmas.Bool.{ne_eqb}
+use Rattle.tick_syntax.specs.declared.span.Span.{Span}
+use Rattle.tick_syntax.specs.declared.fault.TextFault.{TextFault}
+use Rattle.tick_syntax.specs.declared.fault.TextFault.TheVariants as F
+use Rattle.tick_syntax.specs.declared.item.Item.{Item}
+use Rattle.tick_syntax.specs.declared.item.Ending.{Ending}
+use Rattle.tick_syntax.specs.declared.item.Ending.TheVariants as N
+use Rattle.tick_syntax.specs.declared.item.Section.{Section}
+use Rattle.tick_syntax.specs.declared.item.Section.TheVariants as C
+use Rattle.tick_syntax.specs.declared.item.Meaning.{Meaning}
+use Rattle.tick_syntax.specs.declared.item.Meaning.TheVariants as M
+use Rattle.tick_syntax.specs.declared.tree.Op.{Op}
+use Rattle.tick_syntax.specs.declared.word.Word.TheVariants as W
+use Rattle.tick_syntax.specs.Lexeme.{Lexeme, a_name, a_number, a_word, nothing}
+use Rattle.tick_syntax.specs.Plain.{Name, Expression, number, named, me, count, binary, Statement, assign, fetch, put, stamp, scan, copy, older, out, test, loop, Block, nil, cons, WholeProgram}
+use Rattle.tick_syntax.specs.Grammar.{IsExpression, IsStatement, IsBlock, AreNames, IsSection, Derives}
+use Rattle.tick_syntax.specs.Nesting.{expression_nesting, statement_nesting, block_nesting}
+use Rattle.tick_syntax.specs.Reading.{Reading, ◌>>=◌, next_at, semicolon_at, semicolon_by, becomes_at, becomes_by, else_at, else_by, close_at, close_by, operator_at, operator_by, name_at, name_by, pair_at, brackets_at, expression_by, expression_at, last_at}
+use Rattle.tick_syntax.proofs.Machine.{said_by, said, says, Symbol, s_program, s_number, s_semicolon, s_variables, s_scans, s_registers, s_begin, s_names, s_more, s_name, s_becomes, s_else, s_close, s_operator, s_expression, s_right, s_block, s_statement, s_until, step, opened, is_full, on_stack, fault_by, fault}
+
+pub bind_ok : {A B : Type 0} (m : Result A TextFault) (f : A → Result B TextFault) (y : B)
+    → (m >>= f) ≡ Ok y → (x : A) × (m ≡ Ok x) × (f x ≡ Ok y)
+bind_ok (Ok x) f y h = (x, refl, h)
+bind_ok (Err e) f y h = absurd (cc)
+
+pub bind_err : {A B : Type 0} (m : Result A TextFault) (f : A → Result B TextFault) (e : TextFault)
+    → (m >>= f) ≡ Err e → (m ≡ Err e) ⊎ ((x : A) × (m ≡ Ok x) × (f x ≡ Err e))
+bind_err (Ok x) f e h = inr (x, refl, h)
+bind_err (Err d) f e h = inl (cc)
+
+abbrev answer : {A : Type 0} → A → Result A TextFault
+answer x = Ok x
+
+abbrev refusal : {A : Type 0} → TextFault → Result A TextFault
+refusal e = Err e
+
+the_ok : {A : Type 0} {x y : A} → answer x ≡ answer y → x ≡ y
+the_ok h = cc
+
+not_err : {A : Type 0} {x : A} {e : TextFault} → answer x ≡ refusal e → ⊥
+not_err h = cc
+
+not_ok : {A : Type 0} {x : A} {e : TextFault} → refusal e ≡ answer x → ⊥
+not_ok h = cc
+
+the_err : {A : Type 0} (d e : TextFault) → refusal {A = A} d ≡ refusal e → d ≡ e
+the_err d e h = cc
+
+module _ (end limit : ℕ) where
+  -- The symbols are read from the front, with something that P says of the value and the rest; or the
+  -- refusal is the first.
+  pub record Reads {V : Type 0} (syms : List Symbol) (P : V → List Lexeme → Type 0) (room : ℕ) (is : List Item) (m : Reading V) : Type 0 where
+    pub found : (x : V × List Item) → m ≡ Ok x → P x.0 (says x.1)
+    pub shorter : (x : V × List Item) → m ≡ Ok x → length x.1 < length is
+    pub goes : (x : V × List Item) → m ≡ Ok x → (st : List Symbol) → opened (syms ++ st) + room ≡ limit
+        → fault end limit is (syms ++ st) ≡ fault end limit x.1 st
+    pub stops : (e : TextFault) → m ≡ Err e → (st : List Symbol) → opened (syms ++ st) + room ≡ limit
+        → fault end limit is (syms ++ st) ≡ Some e
+
+  pub reads_bind_shorter : {V U : Type 0} (xs ys : List Symbol) (P : V → List Lexeme → Type 0) (Q : U → List Lexeme → Type 0)
+      (room : ℕ) (is : List Item) (m : Reading V) (f : V × List Item → Reading U)
+      → ((st : List Symbol) → opened (xs ++ st) ≡ opened st)
+      → Reads xs P room is m
+      → ((x : V × List Item) → P x.0 (says x.1) → length x.1 < length is → Reads ys Q room x.1 (f x))
+      → Reads (xs ++ ys) Q room is (m >>= f)
+  reads_bind_shorter xs ys P Q room is m f none first then_ = record {
+    found = λ y h. let b = bind_ok m f y h in (then_ b.0 (first.found b.0 b.1) (first.shorter b.0 b.1)).found y b.2;
+    shorter = λ y h. let b = bind_ok m f y h in
+        let l : length b.0.1 < length is = first.shorter b.0 b.1 in
+        let k : length y.1 < length b.0.1 = (then_ b.0 (first.found b.0 b.1) (first.shorter b.0 b.1)).shorter y b.2 in omega arith;
+    goes = λ y h st o. let b = bind_ok m f y h in
+        let whole : opened (xs ++ (ys ++ st)) + room ≡ limit = subst (λ z. opened z + room ≡ limit) (append_assoc xs ys st) o in
+        let inner : opened (ys ++ st) + room ≡ limit = subst (λ z. z + room ≡ limit) (none (ys ++ st)) whole in
+        ap (fault end limit is) (append_assoc xs ys st) ∙ first.goes b.0 b.1 (ys ++ st) whole
+        ∙ (then_ b.0 (first.found b.0 b.1) (first.shorter b.0 b.1)).goes y b.2 st inner;
+    stops = λ e h st o.
+        let whole : opened (xs ++ (ys ++ st)) + room ≡ limit = subst (λ z. opened z + room ≡ limit) (append_assoc xs ys st) o in
+        let inner : opened (ys ++ st) + room ≡ limit = subst (λ z. z + room ≡ limit) (none (ys ++ st)) whole in
+        elim (bind_err m f e h) [
+          | inl b ↦ ap (fault end limit is) (append_assoc xs ys st) ∙ first.stops e b (ys ++ st) whole
+          | inr b ↦ ap (fault end limit is) (append_assoc xs ys st) ∙ first.goes b.0 b.1 (ys ++ st) whole
+              ∙ (then_ b.0 (first.found b.0 b.1) (first.shorter b.0 b.1)).stops e b.2 st inner
+        ];
+  }
+
+  pub reads_bind : {V U : Type 0} (xs ys : List Symbol) (P : V → List Lexeme → Type 0) (Q : U → List Lexeme → Type 0)
+      (room : ℕ) (is : List Item) (m : Reading V) (f : V × List Item → Reading U)
+      → ((st : List Symbol) → opened (xs ++ st) ≡ opened st)
+      → Reads xs P room is m
+      → ((x : V × List Item) → P x.0 (says x.1) → Reads ys Q room x.1 (f x))
+      → Reads (xs ++ ys) Q room is (m >>= f)
+  reads_bind xs ys P Q room is m f none first then_ = reads_bind_shorter xs ys P Q room is m f none first (λ x p l. then_ x p)
+
+  pub reads_map : {V U : Type 0} (xs : List Symbol) (P : V → List Lexeme → Type 0) (Q : U → List Lexeme → Type 0)
+      (room : ℕ) (is : List Item) (m : Reading V) (g : V → U)
+      → Reads xs P room is m
+      → ((v : V) (rest : List Lexeme) → P v rest → Q (g v) rest)
+      → Reads xs Q room is (m >>= λ x. Ok (g x.0, x.1))
+  reads_map xs P Q room is m g first q = record {
+    found = λ y h. let b = bind_ok m (λ x. Ok (g x.0, x.1)) y h in
+        subst (λ z. Q z.0 (says z.1)) (the_ok b.2) (q b.0.0 (says b.0.1) (first.found b.0 b.1));
+    shorter = λ y h. let b = bind_ok m (λ x. Ok (g x.0, x.1)) y h in
+        subst (λ z. length z.1 < length is) (the_ok b.2) (first.shorter b.0 b.1);
+    goes = λ y h st o. let b = bind_ok m (λ x. Ok (g x.0, x.1)) y h in
+        subst (λ z. fault end limit is (xs ++ st) ≡ fault end limit z.1 st) (the_ok b.2) (first.goes b.0 b.1 st o);
+    stops = λ e h st o. elim (bind_err m (λ x. Ok (g x.0, x.1)) e h) [
+      | inl b ↦ first.stops e b st o
+      | inr b ↦ absurd (not_err b.2)
+    ];
+  }
+
+  -- An item that no symbol takes.
+  pub refuse : {V : Type 0} (s : Symbol) (P : V → List Lexeme → Type 0) (room : ℕ) (m : Meaning) (span : Span) (rest : List Item)
+      → step s (said_by m span) ≡ None
+      → Reads (s ∷ []) P room (record { meaning = m; span = span } ∷ rest) (refusal (F.Unexpected span))
+  refuse {V} s P room m span rest none = record {
+    found = λ x h. absurd (not_ok h);
+    shorter = λ x h. absurd (not_ok h);
+    goes = λ x h. absurd (not_ok h);
+    stops = λ e h st o.
+        ap (λ z. fault_by (on_stack z st) (is_full limit (said_by m span) (opened (s ∷ st))) span (fault end limit rest)) none
+        ∙ ap Some (the_err {A = V × List Item} _ e h);
+  }
+
+  -- A bracket that is one too many.
+  pub refuse_deep : {V : Type 0} (s : Symbol) (P : V → List Lexeme → Type 0) (m : Meaning) (span : Span) (rest : List Item) (new : List Symbol)
+      → step s (said_by m span) ≡ Some new
+      → ((st : List Symbol) → opened (s ∷ st) + 0 ≡ limit → is_full limit (said_by m span) (opened (s ∷ st)) ≡ true)
+      → Reads (s ∷ []) P 0 (record { meaning = m; span = span } ∷ rest) (refusal (F.TooDeep span))
+  refuse_deep {V} s P m span rest new is_some full = record {
+    found = λ x h. absurd (not_ok h);
+    shorter = λ x h. absurd (not_ok h);
+    goes = λ x h. absurd (not_ok h);
+    stops = λ e h st o.
+        ap (λ z. fault_by (on_stack z st) (is_full limit (said_by m span) (opened (s ∷ st))) span (fault end limit rest)) is_some
+        ∙ ap (λ z. fault_by (Some (new ++ st)) z span (fault end limit rest)) (full st o)
+        ∙ ap Some (the_err {A = V × List Item} _ e h);
+  }
+
+  -- An item that is all that the symbol stands for.
+  pub accept : {V : Type 0} (s : Symbol) (P : V → List Lexeme → Type 0) (room : ℕ) (m : Meaning) (span : Span) (rest : List Item) (v : V)
+      → step s (said_by m span) ≡ Some []
+      → ((st : List Symbol) → is_full limit (said_by m span) (opened (s ∷ st)) ≡ false)
+      → P v (says rest)
+      → Reads (s ∷ []) P room (record { meaning = m; span = span } ∷ rest) (answer (v, rest))
+  accept s P room m span rest v is_some full p = record {
+    found = λ x h. subst (λ z. P z.0 (says z.1)) (the_ok h) p;
+    shorter = λ x h. subst (λ z. length z.1 < suc (length rest)) (the_ok h) (omega arith);
+    goes = λ x h st o.
+        ap (λ z. fault_by (on_stack z st) (is_full limit (said_by m span) (opened (s ∷ st))) span (fault end limit rest)) is_some
+        ∙ ap (λ z. fault_by (Some st) z span (fault end limit rest)) (full st)
+        ∙ ap (λ z. fault end limit z.1 st) (the_ok h);
+    stops = λ e h. absurd (not_err h);
+  }
+
+  -- An item after which other symbols stand in the symbol's place.
+  pub enter : {V : Type 0} (s : Symbol) (P : V → List Lexeme → Type 0) (room inside : ℕ) (m : Meaning) (span : Span) (rest : List Item)
+      (new : List Symbol) (r : Reading V)
+      → step s (said_by m span) ≡ Some new
+      → ((st : List Symbol) → opened (s ∷ st) + room ≡ limit
+      → (is_full limit (said_by m span) (opened (s ∷ st)) ≡ false) × (opened (new ++ st) + inside ≡ limit))
+      → Reads new P inside rest r
+      → Reads (s ∷ []) P room (record { meaning = m; span = span } ∷ rest) r
+  enter s P room inside m span rest new r is_some fits inner = record {
+    found = inner.found;
+    shorter = λ x h. let l : length x.1 < length rest = inner.shorter x h in omega arith;
+    goes = λ x h st o. passes st (fits st o).0 ∙ inner.goes x h st (fits st o).1;
+    stops = λ e h st o. passes st (fits st o).0 ∙ inner.stops e h st (fits st o).1;
+  }
+    where
+      passes : (st : List Symbol) → is_full limit (said_by m span) (opened (s ∷ st)) ≡ false
+          → fault end limit (record { meaning = m; span = span } ∷ rest) (s ∷ st) ≡ fault end limit rest (new ++ st)
+      passes st full =
+          ap (λ z. fault_by (on_stack z st) (is_full limit (said_by m span) (opened (s ∷ st))) span (fault end limit rest)) is_some
+          ∙ ap (λ z. fault_by (Some (new ++ st)) z span (fault end limit rest)) full
+
+  -- No item is left.
+  pub nothing_left : {V : Type 0} (s : Symbol) (P : V → List Lexeme → Type 0) (room : ℕ)
+      → Reads (s ∷ []) P room [] (refusal (F.Unexpected (record { start = end; end = end })))
+  nothing_left {V} s P room = record {
+    found = λ x h. absurd (not_ok h);
+    shorter = λ x h. absurd (not_ok h);
+    goes = λ x h. absurd (not_ok h);
+    stops = λ e h st o. ap Some (the_err {A = V × List Item} _ e h);
+  }
+
+  -- By the next item, if there is one.
+  pub by_next : {V : Type 0} (s : Symbol) (P : List Lexeme → V → List Lexeme → Type 0) (room : ℕ) (f : Meaning → Span → List Item → Reading V)
+      → ((m : Meaning) (span : Span) (rest : List Item)
+      → Reads (s ∷ []) (P (said_by m span ∷ says rest)) room (record { meaning = m; span = span } ∷ rest) (f m span rest))
+      → (is : List Item) → Reads (s ∷ []) (P (says is)) room is (next_at end is >>= λ x. f x.0.meaning x.0.span x.1)
+  unfolding next_at
+  by_next {V} s P room f h [] = nothing_left s (P []) room
+  by_next s P room f h (i ∷ is) = h i.meaning i.span is
+
+  -- The same, where the reading goes back to the item.
+  pub by_next_whole : {V : Type 0} (s : Symbol) (P : List Lexeme → V → List Lexeme → Type 0) (room : ℕ)
+      (f : List Item → Meaning → Span → List Item → Reading V)
+      → ((m : Meaning) (span : Span) (rest : List Item)
+      → Reads (s ∷ []) (P (said_by m span ∷ says rest)) room (record { meaning = m; span = span } ∷ rest)
+      (f (record { meaning = m; span = span } ∷ rest) m span rest))
+      → (is : List Item) → Reads (s ∷ []) (P (says is)) room is (next_at end is >>= λ x. f is x.0.meaning x.0.span x.1)
+  unfolding next_at
+  by_next_whole {V} s P room f h [] = nothing_left s (P []) room
+  by_next_whole s P room f h (i ∷ is) = h i.meaning i.span is
+
+  -- The same, with what is read after it.
+  pub by_next_then : {U V : Type 0} (s : Symbol) (P : List Lexeme → V → List Lexeme → Type 0) (room : ℕ)
+      (f : Meaning → Span → List Item → Reading U) (g : U × List Item → Reading V)
+      → ((m : Meaning) (span : Span) (rest : List Item)
+      → Reads (s ∷ []) (P (said_by m span ∷ says rest)) room (record { meaning = m; span = span } ∷ rest) (f m span rest >>= g))
+      → (is : List Item) → Reads (s ∷ []) (P (says is)) room is ((next_at end is >>= λ x. f x.0.meaning x.0.span x.1) >>= g)
+  unfolding next_at
+  by_next_then {U} {V} s P room f g h [] = nothing_left s (P []) room
+  by_next_then s P room f g h (i ∷ is) = h i.meaning i.span is
+
+  -- A symbol that takes the items as others do.
+  pub stand_in : {V : Type 0} (s : Symbol) (ss : List Symbol) (P : V → List Lexeme → Type 0) (room : ℕ) (is : List Item) (r : Reading V)
+      → ((st : List Symbol) → opened (s ∷ st) ≡ opened (ss ++ st))
+      → ((st : List Symbol) → fault end limit is (s ∷ st) ≡ fault end limit is (ss ++ st))
+      → Reads ss P room is r → Reads (s ∷ []) P room is r
+  stand_in s ss P room is r same as_ inner = record {
+    found = inner.found;
+    shorter = inner.shorter;
+    goes = λ x h st o. as_ st ∙ inner.goes x h st (subst (λ z. z + room ≡ limit) (same st) o);
+    stops = λ e h st o. as_ st ∙ inner.stops e h st (subst (λ z. z + room ≡ limit) (same st) o);
+  }
+
+  pub weaken : {V : Type 0} (ss : List Symbol) (P Q : V → List Lexeme → Type 0) (room : ℕ) (is : List Item) (r : Reading V)
+      → Reads ss P room is r → ((v : V) (rest : List Lexeme) → P v rest → Q v rest) → Reads ss Q room is r
+  weaken ss P Q room is r inner q = record {
+    found = λ x h. q x.0 (says x.1) (inner.found x h);
+    shorter = inner.shorter;
+    goes = inner.goes;
+    stops = inner.stops;
+  }
+
+  semicolon_front : (room : ℕ) (m : Meaning) (span : Span) (rest : List Item)
+      → Reads (s_semicolon ∷ []) (λ v r. said_by m span ∷ says rest ≡ a_word W.Semicolon ∷ r) room
+      (record { meaning = m; span = span } ∷ rest) (semicolon_by m span rest)
+  semicolon_front room (M.Word W.Semicolon) span rest = accept _ _ room _ span rest tt refl (λ st. refl) refl
+  semicolon_front room m span rest = refuse _ _ room m span rest refl
+
+  pub semicolon_reads : (room : ℕ) (is : List Item)
+      → Reads (s_semicolon ∷ []) (λ v r. says is ≡ a_word W.Semicolon ∷ r) room is (semicolon_at end is)
+  unfolding semicolon_at
+  semicolon_reads room is = by_next s_semicolon (λ ts v r. ts ≡ a_word W.Semicolon ∷ r) room semicolon_by (semicolon_front room) is
+
+  becomes_front : (room : ℕ) (m : Meaning) (span : Span) (rest : List Item)
+      → Reads (s_becomes ∷ []) (λ v r. said_by m span ∷ says rest ≡ a_word W.Becomes ∷ r) room
+      (record { meaning = m; span = span } ∷ rest) (becomes_by m span rest)
+  becomes_front room (M.Word W.Becomes) span rest = accept _ _ room _ span rest tt refl (λ st. refl) refl
+  becomes_front room m span rest = refuse _ _ room m span rest refl
+
+  pub becomes_reads : (room : ℕ) (is : List Item)
+      → Reads (s_becomes ∷ []) (λ v r. says is ≡ a_word W.Becomes ∷ r) room is (becomes_at end is)
+  unfolding becomes_at
+  becomes_reads room is = by_next s_becomes (λ ts v r. ts ≡ a_word W.Becomes ∷ r) room becomes_by (becomes_front room) is
+
+  else_front : (room : ℕ) (m : Meaning) (span : Span) (rest : List Item)
+      → Reads (s_else ∷ []) (λ v r. said_by m span ∷ says rest ≡ a_word W.Else ∷ r) room
+      (record { meaning = m; span = span } ∷ rest) (else_by m span rest)
+  else_front room (M.Word W.Else) span rest = accept _ _ room _ span rest tt refl (λ st. refl) refl
+  else_front room m span rest = refuse _ _ room m span rest refl
+
+  pub else_reads : (room : ℕ) (is : List Item)
+      → Reads (s_else ∷ []) (λ v r. says is ≡ a_word W.Else ∷ r) room is (else_at end is)
+  unfolding else_at
+  else_reads room is = by_next s_else (λ ts v r. ts ≡ a_word W.Else ∷ r) room else_by (else_front room) is
+
+  close_front : (room : ℕ) (m : Meaning) (span : Span) (rest : List Item)
+      → Reads (s_close ∷ []) (λ v r. said_by m span ∷ says rest ≡ a_word W.Close ∷ r) room
+      (record { meaning = m; span = span } ∷ rest) (close_by m span rest)
+  close_front room (M.Word W.Close) span rest = accept _ _ room _ span rest tt refl (λ st. refl) refl
+  close_front room m span rest = refuse _ _ room m span rest refl
+
+  pub close_reads : (room : ℕ) (is : List Item)
+      → Reads (s_close ∷ []) (λ v r. says is ≡ a_word W.Close ∷ r) room is (close_at end is)
+  unfolding close_at
+  close_reads room is = by_next s_close (λ ts v r. ts ≡ a_word W.Close ∷ r) room close_by (close_front room) is
+
+  operator_front : (room : ℕ) (m : Meaning) (span : Span) (rest : List Item)
+      → Reads (s_operator ∷ []) (λ v r. said_by m span ∷ says rest ≡ a_word (W.Operator v) ∷ r) room
+      (record { meaning = m; span = span } ∷ rest) (operator_by m span rest)
+  operator_front room (M.Word (W.Operator op)) span rest = accept _ _ room _ span rest op refl (λ st. refl) refl
+  operator_front room m span rest = refuse _ _ room m span rest refl
+
+  pub operator_reads : (room : ℕ) (is : List Item)
+      → Reads (s_operator ∷ []) (λ v r. says is ≡ a_word (W.Operator v) ∷ r) room is (operator_at end is)
+  unfolding operator_at
+  operator_reads room is = by_next s_operator (λ ts v r. ts ≡ a_word (W.Operator v) ∷ r) room operator_by (operator_front room) is
+
+  name_front : (room : ℕ) (m : Meaning) (span : Span) (rest : List Item)
+      → Reads (s_name ∷ []) (λ v r. said_by m span ∷ says rest ≡ a_name v ∷ r) room
+      (record { meaning = m; span = span } ∷ rest) (name_by m span rest)
+  name_front room (M.Name letters) span rest = accept _ _ room _ span rest _ refl (λ st. refl) refl
+  name_front room m span rest = refuse _ _ room m span rest refl
+
+  pub name_reads : (room : ℕ) (is : List Item)
+      → Reads (s_name ∷ []) (λ v r. says is ≡ a_name v ∷ r) room is (name_at end is)
+  unfolding name_at
+  name_reads room is = by_next s_name (λ ts v r. ts ≡ a_name v ∷ r) room name_by (name_front room) is
+
+  -- an expression of no more brackets within one another than there is room for
+  abbrev pub IsExpressionIn : ℕ → List Lexeme → Expression Name → List Lexeme → Type 0
+  IsExpressionIn room ts e rest = IsExpression ts e rest × (expression_nesting e ≤ room)
+
+  abbrev ReadsExpressions : ℕ → (List Item → Reading (Expression Name)) → Type 0
+  ReadsExpressions room read = (is : List Item) → Reads (s_expression ∷ []) (IsExpressionIn room (says is)) room is (read is)
+
+  pair_reads : (room : ℕ) (read : List Item → Reading (Expression Name)) → ReadsExpressions room read → (is : List Item)
+      → Reads (s_expression ∷ s_operator ∷ s_expression ∷ s_close ∷ [])
+      (IsExpressionIn (suc room) (a_word W.Open ∷ says is)) room is (pair_at end read is)
+  unfolding pair_at
+  pair_reads room read reads is =
+      let Q : Expression Name → List Lexeme → Type 0 = IsExpressionIn (suc room) (a_word W.Open ∷ says is) in
+      reads_bind (s_expression ∷ []) (s_operator ∷ s_expression ∷ s_close ∷ []) _ Q room is _ _ (λ st. refl) (reads is) (λ a da.
+      reads_bind (s_operator ∷ []) (s_expression ∷ s_close ∷ []) _ Q room a.1 _ _ (λ st. refl) (operator_reads room a.1) (λ op dop.
+      reads_bind (s_expression ∷ []) (s_close ∷ []) _ Q room op.1 _ _ (λ st. refl) (reads op.1) (λ b db.
+      reads_map (s_close ∷ []) _ Q room b.1 _ _ (close_reads room b.1) (λ c rest dc. (
+        (
+          says is,
+          says op.1,
+          refl,
+          subst (λ z. IsExpression (says is) a.0 z) dop da.0,
+          subst (λ z. IsExpression (says op.1) b.0 z) dc db.0,
+        ),
+        (let l : expression_nesting a.0 ≤ room = da.1 in let k : expression_nesting b.0 ≤ room = db.1 in omega arith),
+      )))))
+
+  -- an opening bracket has room just where it isn't one too many
+  pub full_at : (depth : ℕ) → depth + 0 ≡ limit → nat_eq depth limit ≡ true
+  full_at depth h = eq-eqb depth limit (omega arith)
+
+  pub free_at : (depth room : ℕ) → depth + suc room ≡ limit → nat_eq depth limit ≡ false
+  free_at depth room h = let ne : depth ≢ limit = omega arith in ne_eqb depth limit ne
+
+  expression_front : (room : ℕ) (brackets : Span → List Item → Reading (Expression Name))
+      → ((span : Span) (rest : List Item)
+      → Reads (s_expression ∷ []) (IsExpressionIn room (a_word W.Open ∷ says rest)) room
+      (record { meaning = M.Word W.Open; span = span } ∷ rest) (brackets span rest))
+      → (m : Meaning) (span : Span) (rest : List Item)
+      → Reads (s_expression ∷ []) (IsExpressionIn room (said_by m span ∷ says rest)) room
+      (record { meaning = m; span = span } ∷ rest) (expression_by end m span rest (brackets span rest))
+  expression_front room brackets h (M.Number v) span rest = accept _ _ room _ span rest _ refl (λ st. refl) ((span, refl), omega arith)
+  expression_front room brackets h (M.Name letters) span rest = accept _ _ room _ span rest _ refl (λ st. refl) (refl, omega arith)
+  expression_front room brackets h (M.Word W.Me) span rest = accept _ _ room _ span rest _ refl (λ st. refl) (refl, omega arith)
+  expression_front room brackets h (M.Word W.Count) span rest = accept _ _ room _ span rest _ refl (λ st. refl) (refl, omega arith)
+  expression_front room brackets h (M.Word W.Open) span rest = h span rest
+  expression_front room brackets h m span rest = refuse _ _ room m span rest refl
+
+  brackets_read : (room : ℕ) (span : Span) (rest : List Item)
+      → Reads (s_expression ∷ []) (IsExpressionIn room (a_word W.Open ∷ says rest)) room
+      (record { meaning = M.Word W.Open; span = span } ∷ rest) (brackets_at end room span rest)
+  unfolding brackets_at
+  brackets_read zero span rest = refuse_deep _ _ _ span rest _ refl (λ st o. full_at (opened st) o)
+  brackets_read (suc room) span rest =
+      enter _ _ (suc room) room _ span rest _ _ refl (λ st o. (free_at (opened st) room o, omega arith))
+      (pair_reads room _ (λ is. by_next s_expression (IsExpressionIn room) room
+      (λ m s r. expression_by end m s r (brackets_at end room s r))
+      (expression_front room (brackets_at end room) (brackets_read room)) is) rest)
+
+  pub expression_reads : (room : ℕ) (is : List Item)
+      → Reads (s_expression ∷ []) (IsExpressionIn room (says is)) room is (expression_at end room is)
+  unfolding expression_at
+  expression_reads room is = by_next s_expression (IsExpressionIn room) room
+      (λ m s r. expression_by end m s r (brackets_at end room s r))
+      (expression_front room (brackets_at end room) (brackets_read room)) is
+
+  pub last_reads : (room : ℕ) (is : List Item)
+      → Reads (s_expression ∷ s_semicolon ∷ [])
+      (λ e rest. IsExpressionIn room (says is) e (a_word W.Semicolon ∷ rest)) room is (last_at end room is)
+  unfolding last_at
+  last_reads room is =
+      reads_bind (s_expression ∷ []) (s_semicolon ∷ []) _ _ room is _ _ (λ st. refl) (expression_reads room is) (λ e de.
+      reads_map (s_semicolon ∷ []) _ _ room e.1 _ _ (semicolon_reads room e.1) (λ s rest ds.
+      subst (λ z. IsExpressionIn room (says is) e.0 z) ds de))

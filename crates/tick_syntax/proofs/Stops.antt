@@ -1,0 +1,284 @@
+-- Where the reader stops, no program goes on.
+use Rattle.std.proofs.Common.{◌≡◌, ℕ, suc, ◌≤◌, ◌⊎◌, inl, inr, Bool, true, false, List, [], ◌∷◌, ◌++◌, length, Option, Some, None, Result, Ok, Err, IfErr, refl, sym, ◌∙◌, ap, subst, arith}
+use Rattle.tick_syntax.specs.declared.span.Span.{Span}
+use Rattle.tick_syntax.specs.declared.fault.TextFault.{TextFault}
+use Rattle.tick_syntax.specs.declared.fault.TextFault.TheVariants as F
+use Rattle.tick_syntax.specs.declared.item.Item.{Item}
+use Rattle.tick_syntax.specs.declared.token.Token.{Token}
+use Rattle.tick_syntax.specs.declared.tree.Tree.{Tree}
+use Rattle.tick_syntax.specs.Grammar.{Derives, GoesOn}
+use Rattle.tick_syntax.specs.Items.{SayAs}
+use Rattle.tick_syntax.specs.Lexeme.{Lexeme, lexeme_of, lexemes}
+use Rattle.tick_syntax.specs.Nesting.{IsOpening, open_by, open_after, IsShallow}
+use Rattle.tick_syntax.specs.Plain.{Name, WholeProgram}
+use Rattle.tick_syntax.specs.Reading.{GivesWhole, program_at}
+use Rattle.tick_syntax.specs.Refusal.{Begins, StopsAfter, IsUnexpected, IsTooDeep, IsOfGrammar}
+use Rattle.tick_syntax.specs.Spelling.{FaultAfter, FirstRefusal}
+use Rattle.tick_syntax.specs.View.{tree_of}
+use Rattle.tick_syntax.proofs.Machine.{said, says, Symbol, s_program, step, opened, is_full, on_stack, run_by, run, fault_by, fault}
+use Rattle.tick_syntax.proofs.SoundPrograms.{program_err}
+use Rattle.tick_syntax.proofs.Table.{opens_to, full_is, fits_by, run_append, derives_runs, goes_on, goes_on_runs}
+
+module _ (end : ℕ) (text : List ℕ) where
+  -- the symbols that are left refuse what comes next
+  abbrev StopsAt : List Token → List Symbol → TextFault → Type 0
+  StopsAt [] [] e = ⊥
+  StopsAt [] (s ∷ st) e = e ≡ F.Unexpected (record { start = end; end = end })
+  StopsAt (t ∷ rest) st e =
+      ((e ≡ F.Unexpected t.span) × (run (lexeme_of text t ∷ []) st ≡ None))
+      ⊎ ((e ≡ F.TooDeep t.span) × IsOpening (lexeme_of text t) × (opened st ≡ 64)
+      × (st' : List Symbol) × (run (lexeme_of text t ∷ []) st ≡ Some st'))
+
+  record Stopped (ts : List Token) (st : List Symbol) (e : TextFault) : Type 0 where
+    pub front : List Token
+    pub rest : List Token
+    pub split : ts ≡ front ++ rest
+    pub shallow : IsShallow (lexemes text front) (opened st)
+    pub left : List Symbol
+    pub runs : run (lexemes text front) st ≡ Some left
+    pub depth : open_after (lexemes text front) (opened st) ≡ opened left
+    pub stop : StopsAt rest left e
+
+  the_fault : (d e : TextFault) → Some d ≡ Some e → e ≡ d
+  the_fault d e h = cc
+
+  no_option : {A : Type 0} (e : A) → (let o : Option A = None in o) ≡ Some e → ⊥
+  no_option e h = cc
+
+  stop_step : (t : Token) (ts : List Token) (span : Span) → span ≡ t.span → (s : Symbol) (st : List Symbol) (e : TextFault)
+      (o : Option (List Symbol)) (b : Bool) → step s (lexeme_of text t) ≡ o → is_full 64 (lexeme_of text t) (opened (s ∷ st)) ≡ b
+      → opened (s ∷ st) ≤ 64 → (more : List Symbol → Option TextFault) → fault_by (on_stack o st) b span more ≡ Some e
+      → ((new : List Symbol) → opened (new ++ st) ≤ 64 → more (new ++ st) ≡ Some e → Stopped ts (new ++ st) e)
+      → Stopped (t ∷ ts) (s ∷ st) e
+  stop_step t ts span same s st e None b is_none full l more k go = record {
+    front = [];
+    rest = t ∷ ts;
+    split = refl;
+    shallow = tt;
+    left = s ∷ st;
+    runs = refl;
+    depth = refl;
+    stop = inl (the_fault (F.Unexpected span) e k ∙ ap F.Unexpected same, ap (λ z. run_by (on_stack z st) (run [])) is_none);
+  }
+  stop_step t ts span same s st e (Some new) true is_some full l more k go =
+      let f = full_is 64 (lexeme_of text t) (opened (s ∷ st)) full in
+      record {
+        front = [];
+        rest = t ∷ ts;
+        split = refl;
+        shallow = tt;
+        left = s ∷ st;
+        runs = refl;
+        depth = refl;
+        stop = inr (the_fault (F.TooDeep span) e k ∙ ap F.TooDeep same, f.0, f.1, new ++ st, ap (λ z. run_by (on_stack z st) (run [])) is_some);
+      }
+  stop_step t ts span same s st e (Some new) false is_some full l more k go =
+      let d : opened (new ++ st) ≡ open_by (lexeme_of text t) (opened (s ∷ st)) = opens_to s (lexeme_of text t) new is_some st in
+      let fits : open_by (lexeme_of text t) (opened (s ∷ st)) ≤ 64 = fits_by (lexeme_of text t) (opened (s ∷ st)) l full in
+      let r = go new (subst (λ z. z ≤ 64) (sym d) fits) k in
+      record {
+        front = t ∷ r.front;
+        rest = r.rest;
+        split = ap (λ z. t ∷ z) r.split;
+        shallow = (fits, subst (λ z. IsShallow (lexemes text r.front) z) d r.shallow);
+        left = r.left;
+        runs = ap (λ z. run_by (on_stack z st) (run (lexemes text r.front))) is_some ∙ r.runs;
+        depth = ap (λ z. open_after (lexemes text r.front) z) (sym d) ∙ r.depth;
+        stop = r.stop;
+      }
+
+  stopped : (is : List Item) (ts : List Token) (st : List Symbol) (e : TextFault) → SayAs text is ts → opened st ≤ 64
+      → fault end 64 is st ≡ Some e → Stopped ts st e
+  stopped [] [] [] e same l h = absurd (no_option e h)
+  stopped [] [] (s ∷ st) e same l h = record {
+    front = [];
+    rest = [];
+    split = refl;
+    shallow = tt;
+    left = s ∷ st;
+    runs = refl;
+    depth = refl;
+    stop = the_fault _ e h;
+  }
+  stopped [] (t ∷ ts) st e same l h = absurd same
+  stopped (i ∷ is) [] st e same l h = absurd same
+  stopped (i ∷ is) (t ∷ ts) [] e same l h = record {
+    front = [];
+    rest = t ∷ ts;
+    split = refl;
+    shallow = tt;
+    left = [];
+    runs = refl;
+    depth = refl;
+    stop = inl (the_fault (F.Unexpected i.span) e h ∙ ap F.Unexpected same.0.1, refl);
+  }
+  stopped (i ∷ is) (t ∷ ts) (s ∷ st) e same l h =
+      stop_step t ts i.span same.0.1 s st e (step s (lexeme_of text t)) (is_full 64 (lexeme_of text t) (opened (s ∷ st))) refl refl l
+      (fault end 64 is)
+      (subst (λ z. fault_by (on_stack (step s z) st) (is_full 64 z (opened (s ∷ st))) i.span (fault end 64 is) ≡ Some e) same.0.0 h)
+      (λ new m k. stopped is ts (new ++ st) e same.1 m k)
+
+lexemes_append : (text : List ℕ) (a : List Token) (t : Token) → lexemes text (a ++ t ∷ []) ≡ lexemes text a ++ lexeme_of text t ∷ []
+lexemes_append text [] t = refl
+lexemes_append text (u ∷ a) t = ap (λ z. lexeme_of text u ∷ z) (lexemes_append text a t)
+
+-- one token more
+runs_more : (text : List ℕ) (front : List Token) (t : Token) (left : List Symbol) → run (lexemes text front) (s_program ∷ []) ≡ Some left
+    → run (lexemes text (front ++ t ∷ [])) (s_program ∷ []) ≡ run (lexeme_of text t ∷ []) left
+runs_more text front t left h =
+    ap (λ z. run z (s_program ∷ [])) (lexemes_append text front t)
+    ∙ run_append (lexemes text front) (lexeme_of text t ∷ []) (s_program ∷ [])
+    ∙ ap (λ z. run_by z (run (lexeme_of text t ∷ []))) h
+
+same_place : (a b : Span) → F.Unexpected a ≡ F.Unexpected b → a ≡ b
+same_place a b h = cc
+
+same_deep : (a b : Span) → F.TooDeep a ≡ F.TooDeep b → a ≡ b
+same_deep a b h = cc
+
+not_deep : (a b : Span) → F.Unexpected a ≡ F.TooDeep b → ⊥
+not_deep a b h = cc
+
+not_same : (s : Symbol) (st : List Symbol) → Some [] ≡ Some (s ∷ st) → ⊥
+not_same s st h = cc
+
+unexpected_here : (text : List ℕ) (front rest : List Token) (left : List Symbol) (place : Span)
+    → run (lexemes text front) (s_program ∷ []) ≡ Some left → StopsAt (length text) text rest left (F.Unexpected place)
+    → StopsAfter text front rest place
+unexpected_here text front [] [] place r h = absurd h
+unexpected_here text front [] (s ∷ st) place r h =
+    (same_place _ _ h, λ p d. not_same s st (sym (derives_runs (lexemes text front) p d) ∙ r))
+unexpected_here text front (t ∷ rest) left place r (inl h) =
+    (same_place _ _ h.0, λ g. goes_on_runs (lexemes text (front ++ t ∷ [])) g (runs_more text front t left r ∙ h.1))
+unexpected_here text front (t ∷ rest) left place r (inr h) = absurd (not_deep _ _ h.0)
+
+pub is_unexpected : (text : List ℕ) (is : List Item) (ts : List Token) (place : Span) → SayAs text is ts
+    → fault (length text) 64 is (s_program ∷ []) ≡ Some (F.Unexpected place) → IsUnexpected text ts place
+is_unexpected text is ts place same h =
+    let r = stopped (length text) text is ts (s_program ∷ []) (F.Unexpected place) same (omega arith) h in (
+      r.front,
+      r.rest,
+      r.split,
+      (goes_on (lexemes text r.front) r.left r.runs, r.shallow),
+      unexpected_here text r.front r.rest r.left place r.runs r.stop,
+    )
+
+deep_here : (text : List ℕ) (ts front rest : List Token) (left : List Symbol) (place : Span) → ts ≡ front ++ rest
+    → Begins (lexemes text front) → open_after (lexemes text front) 0 ≡ opened left
+    → run (lexemes text front) (s_program ∷ []) ≡ Some left → StopsAt (length text) text rest left (F.TooDeep place)
+    → IsTooDeep text ts place
+deep_here text ts front [] [] place e b o r h = absurd h
+deep_here text ts front [] (s ∷ st) place e b o r h = absurd (not_deep _ _ (sym h))
+deep_here text ts front (t ∷ rest) left place e b o r (inl h) = absurd (not_deep _ _ (sym h.0))
+deep_here text ts front (t ∷ rest) left place e b o r (inr h) = (
+  front,
+  t,
+  rest,
+  e,
+  b,
+  o ∙ h.2,
+  h.1,
+  goes_on (lexemes text (front ++ t ∷ [])) h.3 (runs_more text front t left r ∙ h.4),
+  same_deep _ _ h.0,
+)
+
+pub is_too_deep : (text : List ℕ) (is : List Item) (ts : List Token) (place : Span) → SayAs text is ts
+    → fault (length text) 64 is (s_program ∷ []) ≡ Some (F.TooDeep place) → IsTooDeep text ts place
+is_too_deep text is ts place same h =
+    let r = stopped (length text) text is ts (s_program ∷ []) (F.TooDeep place) same (omega arith) h in
+    deep_here text ts r.front r.rest r.left place r.split (goes_on (lexemes text r.front) r.left r.runs, r.shallow) r.depth r.runs r.stop
+
+the_error : (d e : TextFault) → (let r : Result Tree TextFault = Err d in r) ≡ Err e → d ≡ e
+the_error d e h = cc
+
+gave : (text : List ℕ) (is : List Item) (r : Result Tree TextFault) (e : TextFault) → GivesWhole tree_of r (program_at (length text) 64 is)
+    → r ≡ Err e → (e ≡ F.NoMemory → ⊥) → fault (length text) 64 is (s_program ∷ []) ≡ Some e
+gave text is (Ok tree) e h k n = absurd (cc)
+gave text is (Err F.NoMemory) e h k n = absurd (n (sym (the_error _ e k)))
+gave text is (Err d) e h k n = program_err (length text) 64 is d h ∙ ap Some (the_error d e k)
+
+pub parsed_unexpected : (text : List ℕ) (is : List Item) (ts : List Token) (r : Result Tree TextFault) (place : Span)
+    → SayAs text is ts → GivesWhole tree_of r (program_at (length text) 64 is) → r ≡ Err (F.Unexpected place) → IsUnexpected text ts place
+parsed_unexpected text is ts r place same h k = is_unexpected text is ts place same (gave text is r _ h k (λ e. cc))
+
+pub parsed_too_deep : (text : List ℕ) (is : List Item) (ts : List Token) (r : Result Tree TextFault) (place : Span)
+    → SayAs text is ts → GivesWhole tree_of r (program_at (length text) 64 is) → r ≡ Err (F.TooDeep place) → IsTooDeep text ts place
+parsed_too_deep text is ts r place same h k = is_too_deep text is ts place same (gave text is r _ h k (λ e. cc))
+
+-- an error that is of memory is no other
+pub memory_alone : (e : TextFault) (place : Span) → e ≡ F.NoMemory → (let r : Result Tree TextFault = Err e in r) ≡ Err (F.Unexpected place) → ⊥
+memory_alone e place h k = cc
+
+pub memory_alone_deep : (e : TextFault) (place : Span) → e ≡ F.NoMemory → (let r : Result Tree TextFault = Err e in r) ≡ Err (F.TooDeep place) → ⊥
+memory_alone_deep e place h k = cc
+
+-- The faults of a text's tokens are none of the grammar's.
+no_unexpected : (at : ℕ) (text : List ℕ) (before : List Token) (place : Span) → FaultAfter at text before (F.Unexpected place) → ⊥
+no_unexpected at text [] place h = h
+no_unexpected at text (t ∷ before) place h = no_unexpected t.span.end h.0 before place h.2
+
+no_too_deep : (at : ℕ) (text : List ℕ) (before : List Token) (place : Span) → FaultAfter at text before (F.TooDeep place) → ⊥
+no_too_deep at text [] place h = h
+no_too_deep at text (t ∷ before) place h = no_too_deep t.span.end h.0 before place h.2
+
+the_fault_of : (d e : TextFault) → (let r : Result Tree TextFault = Err d in r) ≡ Err e → e ≡ d
+the_fault_of d e h = cc
+
+unexpected_is_not : (place : Span) → F.Unexpected place ≡ F.NoMemory → ⊥
+unexpected_is_not place h = cc
+
+deep_is_not : (place : Span) → F.TooDeep place ≡ F.NoMemory → ⊥
+deep_is_not place h = cc
+
+pub tokens_not_unexpected : (text : List ℕ) (e : TextFault) (place : Span) → ((e ≡ F.NoMemory → ⊥) → FirstRefusal text e)
+    → (let r : Result Tree TextFault = Err e in r) ≡ Err (F.Unexpected place) → ⊥
+tokens_not_unexpected text e place h k =
+    let s : F.Unexpected place ≡ e = the_fault_of e (F.Unexpected place) k in
+    let f : FirstRefusal text (F.Unexpected place) = subst (FirstRefusal text) (sym s) (h (λ n. unexpected_is_not place (s ∙ n))) in
+    no_unexpected 0 text f.1.0 place f.1.1
+
+pub tokens_not_deep : (text : List ℕ) (e : TextFault) (place : Span) → ((e ≡ F.NoMemory → ⊥) → FirstRefusal text e)
+    → (let r : Result Tree TextFault = Err e in r) ≡ Err (F.TooDeep place) → ⊥
+tokens_not_deep text e place h k =
+    let s : F.TooDeep place ≡ e = the_fault_of e (F.TooDeep place) k in
+    let f : FirstRefusal text (F.TooDeep place) = subst (FirstRefusal text) (sym s) (h (λ n. deep_is_not place (s ∙ n))) in
+    no_too_deep 0 text f.1.0 place f.1.1
+
+-- The reader has no other refusals.
+some_same : (d e : TextFault) → Some d ≡ Some e → d ≡ e
+some_same d e h = cc
+
+of_step : (o : Option (List Symbol)) (b : Bool) (span : Span) (more : List Symbol → Option TextFault) (e : TextFault)
+    → fault_by o b span more ≡ Some e → ((new : List Symbol) → more new ≡ Some e → IsOfGrammar e) → IsOfGrammar e
+of_step None b span more e h go = subst IsOfGrammar (some_same (F.Unexpected span) e h) tt
+of_step (Some new) true span more e h go = subst IsOfGrammar (some_same (F.TooDeep span) e h) tt
+of_step (Some new) false span more e h go = go new h
+
+of_fault : (end limit : ℕ) (is : List Item) (st : List Symbol) (e : TextFault) → fault end limit is st ≡ Some e → IsOfGrammar e
+of_fault end limit [] [] e h = absurd (cc)
+of_fault end limit [] (s ∷ st) e h = subst IsOfGrammar (some_same (F.Unexpected (record { start = end; end = end })) e h) tt
+of_fault end limit (i ∷ is) [] e h = subst IsOfGrammar (some_same (F.Unexpected i.span) e h) tt
+of_fault end limit (i ∷ is) (s ∷ st) e h =
+    of_step (on_stack (step s (said i)) st) (is_full limit (said i) (opened (s ∷ st))) i.span (fault end limit is) e h
+    (λ new k. of_fault end limit is new e k)
+
+pub parsed_others : (end : ℕ) (is : List Item) (r : Result Tree TextFault) → GivesWhole tree_of r (program_at end 64 is) → IfErr r IsOfGrammar
+parsed_others end is (Ok tree) h = tt
+parsed_others end is (Err F.NoMemory) h = tt
+parsed_others end is (Err e) h = of_fault end 64 is (s_program ∷ []) _ (program_err end 64 is _ h)
+
+pub others_by_memory : (e : TextFault) → e ≡ F.NoMemory → IsOfGrammar e
+others_by_memory e h = subst IsOfGrammar (sym h) tt
+
+pub others_told : (text : List ℕ) (e : TextFault) → ((e ≡ F.NoMemory → ⊥) → FirstRefusal text e) → IsOfGrammar e ⊎ FirstRefusal text e
+others_told text F.NoMemory h = inl tt
+others_told text F.TextTooLong h = inr (h (λ n. cc))
+others_told text (F.BadCharacter p) h = inr (h (λ n. cc))
+others_told text (F.NumberTooBig s) h = inr (h (λ n. cc))
+others_told text (F.NameTooLong s) h = inr (h (λ n. cc))
+others_told text (F.Unexpected s) h = inl tt
+others_told text (F.TooDeep s) h = inl tt
+
+pub others_of : (text : List ℕ) (r : Result Tree TextFault) → IfErr r IsOfGrammar → IfErr r (λ e. IsOfGrammar e ⊎ FirstRefusal text e)
+others_of text (Ok tree) h = tt
+others_of text (Err e) h = inl h

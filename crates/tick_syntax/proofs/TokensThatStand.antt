@@ -1,0 +1,181 @@
+-- Which tokens a text can have: what each token of a spelled text says, and that a token that says it is
+-- spelled again where it is printed.
+use Rattle.std.proofs.Common.{◌≡◌, ℕ, Bool, true, false, ◌≤◌, ◌==◌, ◌⊎◌, inl, inr, Option, Some, None, List, [], ◌∷◌, ◌++◌, length, refl, ap, ◌∙◌, subst, drop, slice_range}
+use Rattle.std.proofs.lemmas.Bool.{and_parts, or_cases, eqb-true, false≢true}
+use Rattle.std.specs.Fmt.{decimal}
+use Rattle.std.specs.List.{list_all, list_any}
+use Rattle.std.specs.Option.{is_some}
+use Rattle.std.specs.Prelude.{codes}
+use Rattle.tick_syntax.specs.declared.span.Span.{Span}
+use Rattle.tick_syntax.specs.declared.token.Sort.{Sort}
+use Rattle.tick_syntax.specs.declared.token.Sort.TheVariants as K
+use Rattle.tick_syntax.specs.declared.token.Token.{Token}
+use Rattle.tick_syntax.specs.declared.tree.Op.TheVariants as O
+use Rattle.tick_syntax.specs.declared.word.Word.{Word}
+use Rattle.tick_syntax.specs.declared.word.Word.TheVariants as W
+use Rattle.tick_syntax.specs.Characters.{is_blank, is_keyword, is_sign, keywords}
+use Rattle.tick_syntax.specs.Lexeme.{Lexeme, a_name, a_number, a_word, nothing, word_of, of_word, lexeme_at, lexemes}
+use Rattle.tick_syntax.specs.Printed.{after_word, printed_token}
+use Rattle.tick_syntax.specs.Spelling.{is_word, IsToken, StandInOrder}
+use Rattle.tick_syntax.specs.Words.{spelling}
+use Rattle.tick_syntax.proofs.FirstToken.{among_words}
+use Rattle.tick_syntax.proofs.Spanless.{spanless, spanless_all}
+use Rattle.tick_syntax.proofs.SpelledPieces.{name_token, number_token, keyword_token, sign_token}
+
+-- a text can have this token
+abbrev pub CanStand : Lexeme → Type 0
+CanStand (a_name x) = (is_word x.letters ≡ true) × (is_keyword x.letters ≡ false) × (length x.letters ≤ 64)
+CanStand (a_number v span) = v ≤ 4294967295
+CanStand (a_word w) = Unit {0}
+CanStand nothing = ⊥
+
+abbrev pub AllCanStand : List Lexeme → Type 0
+AllCanStand [] = Unit {0}
+AllCanStand (t ∷ ts) = CanStand t × AllCanStand ts
+
+-- some word is spelled so
+abbrev is_spelling : List ℕ → Bool
+is_spelling bytes = is_some (word_of bytes)
+
+word_stands : (found : Option Word) → is_some found ≡ true → CanStand (of_word found)
+word_stands None some = false≢true some
+word_stands (Some w) some = tt
+
+keyword_spelled : (bytes : List ℕ) → is_keyword bytes ≡ true → is_spelling bytes ≡ true
+unfolding word_of
+keyword_spelled bytes keyword = among_words is_spelling bytes keywords refl keyword
+
+-- what holds of every byte of a list holds of each that is among them
+among_bytes : (test : ℕ → Bool) (b : ℕ) (bytes : List ℕ) → list_all test bytes ≡ true → list_any (λ other. b == other) bytes ≡ true → test b ≡ true
+among_bytes test b [] all some = absurd (false≢true some)
+among_bytes test b (other ∷ bytes) all some =
+    let parts = and_parts _ _ all in
+    elim (or_cases _ _ some) [ inl same ↦ ap test (eqb-true b other same) ∙ parts.0 | inr later ↦ among_bytes test b bytes parts.1 later ]
+
+lone_spelled : (a : ℕ) → list_any (λ sign. a == sign) (codes ";,(){}=+-*/%<") ≡ true → is_spelling (a ∷ []) ≡ true
+unfolding word_of
+lone_spelled a lone = among_bytes (λ b. is_spelling (b ∷ [])) a (codes ";,(){}=+-*/%<") refl lone
+
+pair_spelled : (a : ℕ) → list_any (λ sign. a == sign) (codes "<=!") ≡ true → is_spelling (a ∷ 61 ∷ []) ≡ true
+unfolding word_of
+pair_spelled a first = among_bytes (λ b. is_spelling (b ∷ 61 ∷ [])) a (codes "<=!") refl first
+
+sign_spelled : (bytes : List ℕ) → is_sign bytes ≡ true → is_spelling bytes ≡ true
+sign_spelled [] sign = absurd (false≢true sign)
+sign_spelled (a ∷ []) sign = lone_spelled a sign
+sign_spelled (a ∷ b ∷ []) sign =
+    let parts = and_parts _ _ sign in
+    ap (λ c. is_spelling (a ∷ c ∷ [])) (eqb-true b 61 parts.1) ∙ pair_spelled a parts.0
+sign_spelled (a ∷ b ∷ c ∷ bytes) sign = absurd (false≢true sign)
+
+sort_stands : (sort : Sort) (bytes more : List ℕ) (span : Span) → IsToken bytes more sort → CanStand (lexeme_at sort bytes span)
+sort_stands K.Name bytes more span kind = (kind.0.word, kind.1, kind.2)
+sort_stands (K.Num v) bytes more span kind = kind.2
+sort_stands K.Keyword bytes more span kind = word_stands (word_of bytes) (keyword_spelled bytes kind.1)
+sort_stands K.Sign bytes more span kind = word_stands (word_of bytes) (sign_spelled bytes kind.sign)
+
+-- each token of a spelled text says what a text can have
+pub all_stand : (text : List ℕ) (from : ℕ) (tokens : List Token) → StandInOrder text from tokens → AllCanStand (lexemes text tokens)
+all_stand text from [] order = tt
+all_stand text from (token ∷ tokens) order = (
+  sort_stands token.sort (slice_range text token.span.start token.span.end) (drop token.span.end text) token.span order.2,
+  all_stand text token.span.end tokens order.3,
+)
+
+-- spans don't matter to it
+stands_spanless : (t : Lexeme) → CanStand t → CanStand (spanless t)
+stands_spanless (a_name x) c = c
+stands_spanless (a_number v span) c = c
+stands_spanless (a_word w) c = c
+stands_spanless nothing c = c
+
+spanless_stands : (t : Lexeme) → CanStand (spanless t) → CanStand t
+spanless_stands (a_name x) c = c
+spanless_stands (a_number v span) c = c
+spanless_stands (a_word w) c = c
+spanless_stands nothing c = c
+
+pub same_stand : (ts us : List Lexeme) → spanless_all ts ≡ spanless_all us → AllCanStand ts → AllCanStand us
+same_stand [] [] same all = all
+same_stand [] (u ∷ us) same all = absurd (cc)
+same_stand (t ∷ ts) [] same all = absurd (cc)
+same_stand (t ∷ ts) (u ∷ us) same all =
+    let first : spanless t ≡ spanless u = cc in
+    let others : spanless_all ts ≡ spanless_all us = cc in
+    (spanless_stands u (subst CanStand first (stands_spanless t all.0)), same_stand ts us others all.1)
+
+-- each word is spelled by letters as a keyword is, or as a sign is, and is told from its spelling
+word_shape : (w : Word) → (is_keyword (spelling w) ≡ true) ⊎ (is_sign (spelling w) ≡ true)
+word_shape W.Semicolon = inr refl
+word_shape W.Comma = inr refl
+word_shape W.Open = inr refl
+word_shape W.Close = inr refl
+word_shape W.OpenBrace = inr refl
+word_shape W.CloseBrace = inr refl
+word_shape W.Becomes = inr refl
+word_shape (W.Operator O.Add) = inr refl
+word_shape (W.Operator _) = inr refl
+word_shape _ = inl refl
+
+word_told : (w : Word) → word_of (spelling w) ≡ Some w
+unfolding word_of
+word_told W.Semicolon = refl
+word_told (W.Operator O.Add) = refl
+word_told (W.Operator _) = refl
+word_told _ = refl
+
+blank_after : (w : Word) → is_blank (after_word w) ≡ true
+blank_after W.Semicolon = refl
+blank_after _ = refl
+
+-- how a token is printed before more text: its bytes and a blank, of which a token that says the same is read
+pub record Written (t : Lexeme) (more : List ℕ) : Type 0 where
+  pub piece : List ℕ
+  pub blank : ℕ
+  pub sort : Sort
+  pub text : printed_token t ≡ piece ++ blank ∷ []
+  pub ends : is_blank blank ≡ true
+  pub kind : IsToken piece (blank ∷ more) sort
+  pub says : (span : Span) → spanless (lexeme_at sort piece span) ≡ spanless t
+
+pub written : (t : Lexeme) (more : List ℕ) → CanStand t → Written t more
+written (a_name x) more c = record {
+  piece = x.letters;
+  blank = 32;
+  sort = K.Name;
+  text = refl;
+  ends = refl;
+  kind = name_token x.letters 32 more c.0 c.1 c.2 refl;
+  says = λ span. refl;
+}
+written (a_number v s) more c = record {
+  piece = decimal v;
+  blank = 32;
+  sort = K.Num v;
+  text = refl;
+  ends = refl;
+  kind = number_token v 32 more c refl;
+  says = λ span. refl;
+}
+written (a_word w) more c =
+    elim (word_shape w) [
+      | inl keyword ↦ record {
+        piece = spelling w;
+        blank = after_word w;
+        sort = K.Keyword;
+        text = refl;
+        ends = blank_after w;
+        kind = keyword_token (spelling w) (after_word w) more keyword (blank_after w);
+        says = λ span. ap (λ found. spanless (of_word found)) (word_told w);
+      }
+      | inr sign ↦ record {
+        piece = spelling w;
+        blank = after_word w;
+        sort = K.Sign;
+        text = refl;
+        ends = blank_after w;
+        kind = sign_token (spelling w) (after_word w) more sign (blank_after w);
+        says = λ span. ap (λ found. spanless (of_word found)) (word_told w);
+      }
+    ]
+written nothing more c = absurd c

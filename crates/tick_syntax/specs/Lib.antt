@@ -1,0 +1,15 @@
+pub mod Words
+pub mod Plain
+pub mod View
+pub mod Lexeme
+pub mod Grammar
+pub mod Nesting
+pub mod Refusal
+pub mod Printed
+pub mod Reading
+pub mod Characters
+pub mod Fronts
+pub mod Spelling
+pub mod Items
+pub mod Printing
+pub mod RoundTrip

@@ -1,0 +1,43 @@
+-- Where a list of tokens stops being a program within the limits.
+use Rattle.std.specs.Prelude.{◌≡◌, ℕ, ◌≤◌, List, [], ◌∷◌, ◌++◌, length}
+use Rattle.tick_syntax.specs.declared.span.Span.{Span}
+use Rattle.tick_syntax.specs.declared.fault.TextFault.{TextFault}
+use Rattle.tick_syntax.specs.declared.fault.TextFault.TheVariants as F
+use Rattle.tick_syntax.specs.declared.token.Token.{Token}
+use Rattle.tick_syntax.specs.Lexeme.{Lexeme, lexeme_of, lexemes}
+use Rattle.tick_syntax.specs.Grammar.{Derives, GoesOn}
+use Rattle.tick_syntax.specs.Nesting.{IsOpening, IsShallow, open_after}
+use Rattle.tick_syntax.specs.Plain.{Name, WholeProgram}
+
+-- programs within the limits begin so
+abbrev pub Begins : List Lexeme → Type 0
+Begins front = GoesOn front × IsShallow front 0
+
+-- The front goes on, and not with the next token; or there is none, and the front is no whole program.
+abbrev pub StopsAfter : List ℕ → List Token → List Token → Span → Type 0
+StopsAfter text front [] place =
+    (place ≡ record { start = length text; end = length text })
+    × ((p : WholeProgram Name) → Derives (lexemes text front) p → ⊥)
+StopsAfter text front (token ∷ rest) place =
+    (place ≡ token.span) × (GoesOn (lexemes text (front ++ token ∷ [])) → ⊥)
+
+-- the first token at which no program goes on is there
+abbrev pub IsUnexpected : List ℕ → List Token → Span → Type 0
+IsUnexpected text tokens place =
+    (front rest : List Token) × (tokens ≡ front ++ rest)
+    × Begins (lexemes text front) × StopsAfter text front rest place
+
+-- the first bracket that may stand there and would be the 65th open is there
+abbrev pub IsTooDeep : List ℕ → List Token → Span → Type 0
+IsTooDeep text tokens place =
+    (front : List Token) × (token : Token) × (rest : List Token) × (tokens ≡ front ++ token ∷ rest)
+    × Begins (lexemes text front) × (open_after (lexemes text front) 0 ≡ 64)
+    × IsOpening (lexeme_of text token) × GoesOn (lexemes text (front ++ token ∷ []))
+    × (place ≡ token.span)
+
+-- the refusals that the grammar makes, and want of memory
+abbrev pub IsOfGrammar : TextFault → Type 0
+IsOfGrammar (F.Unexpected place) = Unit {0}
+IsOfGrammar (F.TooDeep place) = Unit {0}
+IsOfGrammar F.NoMemory = Unit {0}
+IsOfGrammar _ = ⊥

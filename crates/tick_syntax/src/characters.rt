@@ -1,0 +1,62 @@
+// What single bytes and words of a text are.
+ghost use Rattle.std.specs.Prelude.{◌≡◌};
+ghost use Rattle.tick_syntax.specs.Characters.{is_blank, is_letter, is_name_part, is_lone_sign, may_precede_equals, is_keyword};
+
+pub fn is_blank(byte: u8) -> bool
+    ensures { result ≡ is_blank byte }
+{
+    matches!(byte, b' ' | b'\t' | b'\r' | b'\n')
+}
+
+pub fn is_letter(byte: u8) -> bool
+    ensures { result ≡ is_letter byte }
+{
+    byte.is_ascii_alphabetic() || byte == b'_'
+}
+
+/// Whether the byte may stand in a name after its first letter.
+pub fn is_name_part(byte: u8) -> bool
+    ensures { result ≡ is_name_part byte }
+{
+    is_letter(byte) || byte.is_ascii_digit()
+}
+
+/// Whether the byte alone is a sign.
+pub fn is_lone_sign(byte: u8) -> bool
+    ensures { result ≡ is_lone_sign byte }
+{
+    matches!(
+        byte,
+        b';' | b',' | b'(' | b')' | b'{' | b'}' | b'=' | b'+' | b'-' | b'*' | b'/' | b'%' | b'<'
+    )
+}
+
+/// Whether the byte and a `=` after it are a sign.
+pub fn may_precede_equals(byte: u8) -> bool
+    ensures { result ≡ may_precede_equals byte }
+{
+    matches!(byte, b'<' | b'=' | b'!')
+}
+
+/// Whether the word is one of the language's own, and so no name.
+pub fn is_keyword(word: &[u8]) -> bool
+    ensures { result ≡ is_keyword word.now }
+{
+    word == b"processes".as_slice()
+        || word == b"var".as_slice()
+        || word == b"scan".as_slice()
+        || word == b"reg".as_slice()
+        || word == b"begin".as_slice()
+        || word == b"end".as_slice()
+        || word == b"get".as_slice()
+        || word == b"put".as_slice()
+        || word == b"stamp".as_slice()
+        || word == b"copy".as_slice()
+        || word == b"older".as_slice()
+        || word == b"out".as_slice()
+        || word == b"if".as_slice()
+        || word == b"else".as_slice()
+        || word == b"while".as_slice()
+        || word == b"me".as_slice()
+        || word == b"n".as_slice()
+}

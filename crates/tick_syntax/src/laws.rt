@@ -1,0 +1,11 @@
+// What holds of texts and programs at large.
+ghost use Rattle.tick_syntax.specs.RoundTrip.{PrintedReadsBack, PrintedStays, SpansDoNotShow};
+
+/// Printing and reading. Of every program that some text is, the printed form
+/// is a text that is the same program, places aside, and no other program; and
+/// the printed form of what is read in a printed form is that form again.
+pub fn law_print()
+    ensures reads_back { PrintedReadsBack }
+    ensures stays { PrintedStays }
+    ensures spans { SpansDoNotShow }
+{}
