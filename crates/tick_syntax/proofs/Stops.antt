@@ -12,7 +12,7 @@ use Rattle.tick_syntax.specs.Lexeme.{Lexeme, lexeme_of, lexemes}
 use Rattle.tick_syntax.specs.Nesting.{IsOpening, open_by, open_after, IsShallow}
 use Rattle.tick_syntax.specs.Plain.{Name, WholeProgram}
 use Rattle.tick_syntax.specs.Reading.{GivesWhole, program_at}
-use Rattle.tick_syntax.specs.Refusal.{Begins, StopsAfter, IsUnexpected, IsTooDeep, IsOfGrammar}
+use Rattle.tick_syntax.specs.Refusal.{Begins, StopsAfter, IsUnexpected, IsTooDeep, IsOfGrammar, IsTextRefused}
 use Rattle.tick_syntax.specs.Spelling.{FaultAfter, FirstRefusal}
 use Rattle.tick_syntax.specs.View.{tree_of}
 use Rattle.tick_syntax.proofs.Machine.{said, says, Symbol, s_program, step, opened, is_full, on_stack, run_by, run, fault_by, fault}
@@ -230,19 +230,15 @@ unexpected_is_not place h = cc
 deep_is_not : (place : Span) → F.TooDeep place ≡ F.NoMemory → ⊥
 deep_is_not place h = cc
 
-pub tokens_not_unexpected : (text : List ℕ) (e : TextFault) (place : Span) → ((e ≡ F.NoMemory → ⊥) → FirstRefusal text e)
-    → (let r : Result Tree TextFault = Err e in r) ≡ Err (F.Unexpected place) → ⊥
-tokens_not_unexpected text e place h k =
-    let s : F.Unexpected place ≡ e = the_fault_of e (F.Unexpected place) k in
-    let f : FirstRefusal text (F.Unexpected place) = subst (FirstRefusal text) (sym s) (h (λ n. unexpected_is_not place (s ∙ n))) in
-    no_unexpected 0 text f.1.0 place f.1.1
-
-pub tokens_not_deep : (text : List ℕ) (e : TextFault) (place : Span) → ((e ≡ F.NoMemory → ⊥) → FirstRefusal text e)
-    → (let r : Result Tree TextFault = Err e in r) ≡ Err (F.TooDeep place) → ⊥
-tokens_not_deep text e place h k =
-    let s : F.TooDeep place ≡ e = the_fault_of e (F.TooDeep place) k in
-    let f : FirstRefusal text (F.TooDeep place) = subst (FirstRefusal text) (sym s) (h (λ n. deep_is_not place (s ∙ n))) in
-    no_too_deep 0 text f.1.0 place f.1.1
+-- a refusal of the tokens is the text's
+pub first_is_refused : (text : List ℕ) (fault : TextFault) → FirstRefusal text fault → IsTextRefused text fault
+first_is_refused text F.TextTooLong first = first
+first_is_refused text (F.BadCharacter place) first = first
+first_is_refused text (F.NumberTooBig place) first = first
+first_is_refused text (F.NameTooLong place) first = first
+first_is_refused text (F.Unexpected place) first = absurd (no_unexpected 0 text first.1.0 place first.1.1)
+first_is_refused text (F.TooDeep place) first = absurd (no_too_deep 0 text first.1.0 place first.1.1)
+first_is_refused text F.NoMemory first = first
 
 -- The reader has no other refusals.
 some_same : (d e : TextFault) → Some d ≡ Some e → d ≡ e
@@ -269,16 +265,3 @@ parsed_others end is (Err e) h = of_fault end 64 is (s_program ∷ []) _ (progra
 
 pub others_by_memory : (e : TextFault) → e ≡ F.NoMemory → IsOfGrammar e
 others_by_memory e h = subst IsOfGrammar (sym h) tt
-
-pub others_told : (text : List ℕ) (e : TextFault) → ((e ≡ F.NoMemory → ⊥) → FirstRefusal text e) → IsOfGrammar e ⊎ FirstRefusal text e
-others_told text F.NoMemory h = inl tt
-others_told text F.TextTooLong h = inr (h (λ n. cc))
-others_told text (F.BadCharacter p) h = inr (h (λ n. cc))
-others_told text (F.NumberTooBig s) h = inr (h (λ n. cc))
-others_told text (F.NameTooLong s) h = inr (h (λ n. cc))
-others_told text (F.Unexpected s) h = inl tt
-others_told text (F.TooDeep s) h = inl tt
-
-pub others_of : (text : List ℕ) (r : Result Tree TextFault) → IfErr r IsOfGrammar → IfErr r (λ e. IsOfGrammar e ⊎ FirstRefusal text e)
-others_of text (Ok tree) h = tt
-others_of text (Err e) h = inl h

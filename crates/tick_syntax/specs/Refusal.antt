@@ -8,6 +8,7 @@ use Rattle.tick_syntax.specs.Lexeme.{Lexeme, lexeme_of, lexemes}
 use Rattle.tick_syntax.specs.Grammar.{Derives, GoesOn}
 use Rattle.tick_syntax.specs.Nesting.{IsOpening, IsShallow, open_after}
 use Rattle.tick_syntax.specs.Plain.{Name, WholeProgram}
+use Rattle.tick_syntax.specs.Spelling.{Spells, FirstRefusal}
 
 -- programs within the limits begin so
 abbrev pub Begins : List Lexeme → Type 0
@@ -41,3 +42,12 @@ IsOfGrammar (F.Unexpected place) = Unit {0}
 IsOfGrammar (F.TooDeep place) = Unit {0}
 IsOfGrammar F.NoMemory = Unit {0}
 IsOfGrammar _ = ⊥
+
+-- The first refusal of a whole text: its length, the first fault of its tokens, or, where tokens
+-- spell it, the first place at which they stop being a program within the limits.
+abbrev pub IsTextRefused : List ℕ → TextFault → Type 0
+IsTextRefused text (F.Unexpected place) =
+    (tokens : List Token) × (length text ≤ 1000000) × Spells text tokens × IsUnexpected text tokens place
+IsTextRefused text (F.TooDeep place) =
+    (tokens : List Token) × (length text ≤ 1000000) × Spells text tokens × IsTooDeep text tokens place
+IsTextRefused text fault = FirstRefusal text fault

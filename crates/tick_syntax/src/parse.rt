@@ -1,14 +1,15 @@
 // From the tokens of a text to its tree.
-ghost use Rattle.std.specs.Prelude.{◌≡◌, ◌≤◌, ◌⊎◌, ℕ, List, length, IfOk, IfErr, IsOkUnless, MatchResult};
+ghost use Rattle.std.specs.Prelude.{◌≡◌, ◌≢◌, ◌≤◌, ◌⊎◌, ℕ, List, length, IfOk, IfErr, IsOkUnless, MatchResult};
 ghost use Rattle.tick_syntax.specs.Grammar.{Derives};
 ghost use Rattle.tick_syntax.specs.Items.{SayAs, SaysAs, IsInText, said_by};
 ghost use Rattle.tick_syntax.specs.Lexeme.{lexemes, of_word, word_of};
 ghost use Rattle.tick_syntax.specs.Nesting.{nesting};
 ghost use Rattle.tick_syntax.specs.Plain.{Name, WholeProgram};
 ghost use Rattle.tick_syntax.specs.declared.fault.TextFault.TheVariants.{NoMemory, Unexpected, TooDeep};
-ghost use Rattle.tick_syntax.specs.Refusal.{IsUnexpected, IsTooDeep, IsOfGrammar};
+ghost use Rattle.tick_syntax.specs.Refusal.{IsUnexpected, IsTooDeep, IsOfGrammar, IsTextRefused};
 ghost use Rattle.tick_syntax.specs.declared.token.Token.{Token};
 ghost use Rattle.tick_syntax.specs.declared.fault.TextFault.{TextFault};
+ghost use Rattle.tick_syntax.specs.RoundTrip.{IsTextOf};
 ghost use Rattle.tick_syntax.specs.Spelling.{Spells, FirstRefusal};
 ghost use Rattle.std.specs.Str.{IsAscii};
 ghost use Rattle.tick_syntax.specs.declared.span.Span.{Span};
@@ -23,14 +24,15 @@ use super::tree::Tree;
 use super::word::word_at;
 use std::alloc::Global;
 
-/// The tree of a text.
+/// The tree of a text, which is the only one that it has; else the first refusal of the text: its
+/// length, the first fault of its tokens, or where the tokens stop being a program within the
+/// limits. A text has at most 1,000,000 bytes, and at most 64 brackets are open in it at once.
 pub fn parse(alloc: Global, text: &str) -> Result<Tree, TextFault>
-    ensures derived { IfOk result (λ tree. (length text.now ≤ 1000000) × (tokens : List Token) × Spells text.now tokens × Derives (lexemes text.now tokens) (tree_of tree) × (nesting (tree_of tree) ≤ 64)) }
-    ensures accepted { (tokens : List Token) (p : WholeProgram Name) → length text.now ≤ 1000000 → Spells text.now tokens → Derives (lexemes text.now tokens) p → nesting p ≤ 64 → MatchResult result (λ tree. p ≡ tree_of tree) (λ fault. fault ≡ NoMemory) }
-    ensures unexpected { (place : Span) → result ≡ Err (Unexpected place) → (tokens : List Token) × Spells text.now tokens × IsUnexpected text.now tokens place }
-    ensures too_deep { (place : Span) → result ≡ Err (TooDeep place) → (tokens : List Token) × Spells text.now tokens × IsTooDeep text.now tokens place }
-    ensures refused { (first : TextFault) → FirstRefusal text.now first → MatchResult result (λ tree. ⊥) (λ fault. (fault ≡ first) ⊎ (fault ≡ NoMemory)) }
-    ensures others { IfErr result (λ fault. IsOfGrammar fault ⊎ FirstRefusal text.now fault) }
+    ensures tree { IfOk result (λ tree. IsTextOf text.now (tree_of tree)) }
+    ensures limits { IfOk result (λ tree. (length text.now ≤ 1000000) × (nesting (tree_of tree) ≤ 64)) }
+    ensures accepted { (p : WholeProgram Name) → length text.now ≤ 1000000 → IsTextOf text.now p → nesting p ≤ 64 → MatchResult result (λ tree. p ≡ tree_of tree) (λ fault. fault ≡ NoMemory) }
+    ensures refused { IfErr result (λ fault. fault ≢ NoMemory → IsTextRefused text.now fault) }
+    ensures first { (first : TextFault) → FirstRefusal text.now first → MatchResult result (λ tree. ⊥) (λ fault. (fault ≡ first) ⊎ (fault ≡ NoMemory)) }
 {
     let tokens = tokens(alloc, text)?;
     parse_tokens(alloc, text, &tokens)
