@@ -1,0 +1,210 @@
+-- What checking a program comes to: exactly the accepted programs are not refused, the first refusal is told,
+-- and every number in a resolved body is within its section.
+use Rattle.std.proofs.Common.{◌≡◌, ◌≢◌, ◌<◌, ◌≤◌, ◌+◌, ◌↔◌, ℕ, Bool, true, false, if◌then◌else◌, ◌&&◌, nat_le, List, [], ◌∷◌, ◌++◌, length, map, Some, None, Ok, Err, refl, sym, ap, ◌∙◌, subst, arith, true≢false}
+use Rattle.std.proofs.lemmas.Bool.{leb-true, le-leb}
+use Rattle.std.proofs.lemmas.Grind.{flat_map-append}
+use Rattle.std.specs.List.{flat_map, AllByRecursion}
+use Rattle.tick_kinds.specs.declared.fault.KindFault.{KindFault}
+use Rattle.tick_kinds.specs.declared.fault.KindFault.TheVariants as F
+use Rattle.tick_kinds.specs.declared.kind.Kind.TheVariants as K
+use Rattle.tick_kinds.specs.Accepted.{IsAccepted}
+use Rattle.tick_kinds.specs.Checked.{Fails, checked_program}
+use Rattle.tick_kinds.specs.Declarations.{declarations, numbered, slot_in, section}
+use Rattle.tick_kinds.specs.Refusals.{use_refusals, declarations_refusals, processes_refusals, refusals, first, first_refusal}
+use Rattle.tick_kinds.specs.Resolution.{number_by, number_of, resolved}
+use Rattle.tick_kinds.specs.Uses.{Use, a_variable, a_scan, a_register, expression_uses, statement_uses, block_uses}
+use Rattle.tick_kinds.specs.Within.{IsExpressionWithin, IsStatementWithin, IsWithin}
+use Rattle.tick_kinds.proofs.Accepting.{IsOnce, IsSmall, front_empty, back_empty, both_empty, kept_empty, pairs_from, once_from, declarations_fine, declarations_clear, smalls, fresh_first, all_left, all_right, all_both, within_limit, numbers_small}
+use Rattle.tick_kinds.proofs.Telling.{told, program_told}
+use Rattle.tick_kinds.proofs.Using.{letters-declarations, use_within, uses_declared, uses_clear}
+use Rattle.tick_syntax.specs.Plain.{Name, Expression, number, named, me, count, binary, Statement, assign, fetch, put, stamp, scan, copy, older, out, test, loop, Block, nil, cons, map_expression, map_statement, map_block, WholeProgram}
+
+and_left : (a b : Bool) → (a && b) ≡ true → a ≡ true
+and_left true b h = refl
+and_left false b h = h
+
+and_right : (a b : Bool) → (a && b) ≡ true → b ≡ true
+and_right true b h = h
+and_right false b h = absurd (true≢false (sym h))
+
+module _ (p : WholeProgram Name) where
+  abbrev uses_refusals : List KindFault
+  uses_refusals = flat_map (use_refusals (slot_in (declarations p))) (block_uses p.body)
+
+  -- the numbers of all that is declared, section by section
+  section_limit :
+      AllByRecursion IsSmall (declarations p)
+      → (length p.variables ≤ 64) × (length p.scans ≤ 16) × (length p.registers ≤ 8)
+  section_limit h =
+      let rest = all_right IsSmall (numbered K.Variable p.variables 0) _ h in
+      let v : 0 + length p.variables ≤ 64 = within_limit K.Variable p.variables 0 (all_left IsSmall _ _ h) (omega arith) in
+      let s : 0 + length p.scans ≤ 16 = within_limit K.Scan p.scans 0 (all_left IsSmall _ _ rest) (omega arith) in
+      let r : 0 + length p.registers ≤ 8 = within_limit K.Register p.registers 0 (all_right IsSmall (numbered K.Scan p.scans 0) _ rest) (omega arith) in
+      (omega arith, omega arith, omega arith)
+
+  pub accepted_from : refusals p ≡ [] → IsAccepted p
+  accepted_from h =
+      let number = kept_empty (nat_le 1 p.processes && nat_le p.processes 6) _ (front_empty (processes_refusals p) _ h) in
+      let rest = back_empty (processes_refusals p) _ h in
+      let fine = declarations_fine (declarations p) [] (front_empty _ uses_refusals rest) in
+      let limits = section_limit (smalls [] _ fine.0) in
+      record {
+        some_process = leb-true _ _ (and_left (nat_le 1 p.processes) _ number);
+        processes = leb-true _ _ (and_right (nat_le 1 p.processes) _ number);
+        once = pairs_from _ fine.1;
+        variables = limits.0;
+        scans = limits.1;
+        registers = limits.2;
+        uses = uses_declared p (block_uses p.body) (back_empty (declarations_refusals (declarations p) []) _ rest);
+      }
+
+  pub clear_from : IsAccepted p → refusals p ≡ []
+  clear_from a =
+      let some : nat_le 1 p.processes ≡ true = le-leb _ _ a.some_process in
+      let most : nat_le p.processes 6 ≡ true = le-leb _ _ a.processes in
+      let processes : processes_refusals p ≡ [] =
+      ap (λ b. if b then [] else F.Processes p.span ∷ []) (ap (λ b. b && nat_le p.processes 6) some ∙ most) in
+      let small : AllByRecursion IsSmall (declarations p) =
+      all_both IsSmall (numbered K.Variable p.variables 0) _
+      (numbers_small K.Variable p.variables 0 (omega (arith, a.variables)))
+      (all_both IsSmall (numbered K.Scan p.scans 0) _
+      (numbers_small K.Scan p.scans 0 (omega (arith, a.scans)))
+      (numbers_small K.Register p.registers 0 (omega (arith, a.registers)))) in
+      let once : IsOnce (map (λ d. d.name.letters) (declarations p)) = once_from _ a.once in
+      let declared : declarations_refusals (declarations p) [] ≡ [] =
+      declarations_clear (declarations p) [] (fresh_first _ small) once in
+      let used : uses_refusals ≡ [] =
+      uses_clear p (subst IsOnce (letters-declarations p) once) (block_uses p.body) a.uses in
+      both_empty _ _ processes (both_empty _ _ declared used)
+
+  pub not_refused : (b : Block ℕ) → checked_program p ≡ Ok b → refusals p ≡ []
+  not_refused b h = by (refusals p) (sym (program_told p) ∙ h)
+    where
+      by : (fs : List KindFault) → told fs (resolved p).body ≡ Ok b → fs ≡ []
+      by [] e = refl
+      by (f ∷ fs) e = absurd (cc)
+
+  pub resolved_so : (b : Block ℕ) → checked_program p ≡ Ok b → b ≡ (resolved p).body
+  resolved_so b h = by (refusals p) (sym (program_told p) ∙ h)
+    where
+      by : (fs : List KindFault) → told fs (resolved p).body ≡ Ok b → b ≡ (resolved p).body
+      by [] e = cc
+      by (f ∷ fs) e = absurd (cc)
+
+  pub refused_first : (e : KindFault) → checked_program p ≡ Err e → first_refusal p ≡ Some e
+  refused_first e h = by (refusals p) (sym (program_told p) ∙ h)
+    where
+      by : (fs : List KindFault) → told fs (resolved p).body ≡ Err e → first fs ≡ Some e
+      by [] g = absurd (cc)
+      by (f ∷ fs) g = let same : f ≡ e = cc in ap Some same
+
+  failed : (e : KindFault) → Fails e (checked_program p) → e ≢ F.NoMemory → checked_program p ≡ Err e
+  failed F.NoMemory h n = absurd (n refl)
+  failed (F.Processes s) h n = h
+  failed (F.Twice s) h n = h
+  failed (F.Unknown s) h n = h
+  failed (F.WrongKind s w k) h n = h
+  failed (F.TooMany s) h n = h
+
+  pub refused : (e : KindFault) → Fails e (checked_program p) → e ≢ F.NoMemory → first_refusal p ≡ Some e
+  refused e h n = refused_first e (failed e h n)
+
+  accepted_ok : IsAccepted p → checked_program p ≡ Ok (resolved p).body
+  accepted_ok a = program_told p ∙ ap (λ fs. told fs (resolved p).body) (clear_from a)
+
+  pub memory_alone : (e : KindFault) → Fails e (checked_program p) → IsAccepted p → e ≡ F.NoMemory
+  memory_alone F.NoMemory h a = refl
+  memory_alone (F.Processes s) h a = let g : checked_program p ≡ Ok (resolved p).body = accepted_ok a in absurd (cc)
+  memory_alone (F.Twice s) h a = let g : checked_program p ≡ Ok (resolved p).body = accepted_ok a in absurd (cc)
+  memory_alone (F.Unknown s) h a = let g : checked_program p ≡ Ok (resolved p).body = accepted_ok a in absurd (cc)
+  memory_alone (F.WrongKind s w k) h a = let g : checked_program p ≡ Ok (resolved p).body = accepted_ok a in absurd (cc)
+  memory_alone (F.TooMany s) h a = let g : checked_program p ≡ Ok (resolved p).body = accepted_ok a in absurd (cc)
+
+  -- Numbers within their sections.
+
+  abbrev number_at : Name → ℕ
+  number_at x = number_of (slot_in (declarations p)) x
+
+  abbrev faults : List Use → List KindFault
+  faults us = flat_map (use_refusals (slot_in (declarations p))) us
+
+  first_within : (u : Use) (fs : List KindFault) → use_refusals (slot_in (declarations p)) u ++ fs ≡ [] → number_at u.name < length (section p u.wanted)
+  first_within u fs h =
+      let w = use_within p u (front_empty _ fs h) in
+      subst (λ o. number_by o < length (section p u.wanted)) (sym w.1) w.2
+
+  rest_of : (u : Use) (fs : List KindFault) → use_refusals (slot_in (declarations p)) u ++ fs ≡ [] → fs ≡ []
+  rest_of u fs h = back_empty (use_refusals (slot_in (declarations p)) u) fs h
+
+  front_of : (us vs : List Use) → faults (us ++ vs) ≡ [] → faults us ≡ []
+  front_of us vs h = front_empty _ (faults vs) (sym (flat_map-append _ us vs) ∙ h)
+
+  back_of : (us vs : List Use) → faults (us ++ vs) ≡ [] → faults vs ≡ []
+  back_of us vs h = back_empty (faults us) _ (sym (flat_map-append _ us vs) ∙ h)
+
+  abbrev InExpression : Expression ℕ → Type 0
+  InExpression e = IsExpressionWithin (length p.variables) (length p.scans) (length p.registers) e
+
+  abbrev InStatement : Statement ℕ → Type 0
+  InStatement s = IsStatementWithin (length p.variables) (length p.scans) (length p.registers) s
+
+  abbrev InBlock : Block ℕ → Type 0
+  InBlock b = IsWithin (length p.variables) (length p.scans) (length p.registers) b
+
+  expression_within : (e : Expression Name) → faults (expression_uses e) ≡ [] → InExpression (map_expression number_at e)
+  expression_within (number v) h = tt
+  expression_within (named x) h = first_within (a_variable x) _ h
+  expression_within me h = tt
+  expression_within count h = tt
+  expression_within (binary a op b) h =
+      (expression_within a (front_of (expression_uses a) _ h), expression_within b (back_of (expression_uses a) _ h))
+
+  mutual
+    statement_within : (s : Statement Name) → faults (statement_uses s) ≡ [] → InStatement (map_statement number_at s)
+    statement_within (assign x e) h = (first_within (a_variable x) _ h, expression_within e (rest_of (a_variable x) _ h))
+    statement_within (fetch x r e) h =
+        let h1 = rest_of (a_variable x) _ h in
+        (first_within (a_variable x) _ h, first_within (a_register r) _ h1, expression_within e (rest_of (a_register r) _ h1))
+    statement_within (put r e) h = (first_within (a_register r) _ h, expression_within e (rest_of (a_register r) _ h))
+    statement_within stamp h = tt
+    statement_within (scan s) h = first_within (a_scan s) _ h
+    statement_within (copy t s) h = (first_within (a_scan t) _ h, first_within (a_scan s) _ (rest_of (a_scan t) _ h))
+    statement_within (older x s a b) h =
+        let h1 = rest_of (a_variable x) _ h in
+        let h2 = rest_of (a_scan s) _ h1 in (
+          first_within (a_variable x) _ h,
+          first_within (a_scan s) _ h1,
+          expression_within a (front_of (expression_uses a) _ h2),
+          expression_within b (back_of (expression_uses a) _ h2),
+        )
+    statement_within (out e) h = expression_within e h
+    statement_within (test e a b) h =
+        let h1 = back_of (expression_uses e) _ h in (
+          expression_within e (front_of (expression_uses e) _ h),
+          block_within a (front_of (block_uses a) _ h1),
+          block_within b (back_of (block_uses a) _ h1),
+        )
+    statement_within (loop e a) h =
+        (expression_within e (front_of (expression_uses e) _ h), block_within a (back_of (expression_uses e) _ h))
+
+    block_within : (b : Block Name) → faults (block_uses b) ≡ [] → InBlock (map_block number_at b)
+    block_within nil h = tt
+    block_within (cons s b) h =
+        (statement_within s (front_of (statement_uses s) _ h), block_within b (back_of (statement_uses s) _ h))
+
+  pub body_within : (b : Block ℕ) → checked_program p ≡ Ok b → InBlock b
+  body_within b h =
+      let none : refusals p ≡ [] = not_refused b h in
+      let uses : uses_refusals ≡ [] =
+      back_empty (declarations_refusals (declarations p) []) _ (back_empty (processes_refusals p) _ none) in
+      subst InBlock (sym (resolved_so b h)) (block_within p.body uses)
+
+  pub accepted : (b : Block ℕ) → checked_program p ≡ Ok b → IsAccepted p
+  accepted b h = accepted_from (not_refused b h)
+
+pub accepted_unless_refused : (p : WholeProgram Name) → IsAccepted p ↔ (first_refusal p ≡ None)
+accepted_unless_refused p = (λ a. ap first (clear_from p a), λ h. accepted_from p (by (refusals p) h))
+  where
+    by : (fs : List KindFault) → first fs ≡ None → fs ≡ []
+    by [] h = refl
+    by (f ∷ fs) h = absurd (cc)

@@ -1,0 +1,149 @@
+-- One step of checking after another.
+use Rattle.std.proofs.Common.{◌≡◌, ◌<◌, ◌≤◌, ℕ, suc, List, [], ◌∷◌, ◌++◌, ◌+◌, drop, drop-cons, get_or, length, add-one, Option, Ok, Err, refl, sym, ap, ◌∙◌, Vec, Global}
+use Rattle.std.proofs.Math.ListN.{drop_of_length-le}
+use Rattle.tick_kinds.specs.declared.fault.KindFault.{KindFault}
+use Rattle.tick_kinds.specs.declared.fault.KindFault.TheVariants as F
+use Rattle.tick_kinds.specs.declared.resolved.Expression as R
+use Rattle.tick_kinds.specs.declared.resolved.Statement as T
+use Rattle.tick_kinds.specs.declared.resolved.Statement.TheVariants as Q
+use Rattle.tick_kinds.specs.Checked.{Checked, ◌>>=◌, Fails, checked_expression, checked_statement, checked_block}
+use Rattle.tick_kinds.specs.Declarations.{Slot}
+use Rattle.tick_kinds.specs.Resolved.{resolved_expression, resolved_statement, resolved_block}
+use Rattle.tick_kinds.proofs.ResolvedRows.{resolved_if, resolved_while}
+use Rattle.tick_syntax.proofs.Rows.{statement_of-If, statement_of-While}
+use Rattle.tick_syntax.specs.declared.tree.Expr.{Expr}
+use Rattle.tick_syntax.specs.declared.tree.Stmt.{Stmt}
+use Rattle.tick_syntax.specs.declared.tree.Stmt.TheVariants as S
+use Rattle.tick_syntax.specs.Plain.{Name, Expression, Statement, Block, test, loop, nil, cons, onto}
+use Rattle.tick_syntax.specs.View.{expression_of, statement_of, block_of}
+
+-- what fails first fails the whole
+pub fails_on : {A B : Type 0} (e : KindFault) (r : Checked A) (f : A → Checked B) → Fails e r → Fails e (r >>= f)
+fails_on F.NoMemory r f h = tt
+fails_on (F.Processes s) r f h = ap (λ r. r >>= f) h
+fails_on (F.Twice s) r f h = ap (λ r. r >>= f) h
+fails_on (F.Unknown s) r f h = ap (λ r. r >>= f) h
+fails_on (F.WrongKind s w k) r f h = ap (λ r. r >>= f) h
+fails_on (F.TooMany s) r f h = ap (λ r. r >>= f) h
+
+-- the two statements that hold statements
+abbrev choice : Checked (Expression ℕ) → Checked (Block ℕ) → Checked (Block ℕ) → Checked (Statement ℕ)
+choice e a b = e >>= λ e. a >>= λ a. b >>= λ b. Ok (test e a b)
+
+abbrev repetition : Checked (Expression ℕ) → Checked (Block ℕ) → Checked (Statement ℕ)
+repetition e a = e >>= λ e. a >>= λ a. Ok (loop e a)
+
+module _ (look : List ℕ → Option Slot) where
+  checked_if :
+      (s : Stmt) (x : Expr) (a b : Vec Stmt Global) → s ≡ S.If x a b
+      → checked_statement look (statement_of s)
+      ≡ choice (checked_expression look (expression_of x)) (checked_block look (block_of a.items))
+      (checked_block look (block_of b.items))
+  unfolding checked_statement
+  checked_if s x a b is = ap (checked_statement look) (ap statement_of is ∙ statement_of-If x a b)
+
+  checked_while :
+      (s : Stmt) (x : Expr) (a : Vec Stmt Global) → s ≡ S.While x a
+      → checked_statement look (statement_of s)
+      ≡ repetition (checked_expression look (expression_of x)) (checked_block look (block_of a.items))
+  unfolding checked_statement
+  checked_while s x a is = ap (checked_statement look) (ap statement_of is ∙ statement_of-While x a)
+
+  pub first_fails :
+      (s : Stmt) (x : Expr) (a b : Vec Stmt Global) (v : Expression ℕ) (e : KindFault)
+      → s ≡ S.If x a b → checked_expression look (expression_of x) ≡ Ok v
+      → Fails e (checked_block look (block_of a.items)) → Fails e (checked_statement look (statement_of s))
+  first_fails s x a b v e is hx ha =
+      rw (checked_if s x a b is, hx) (fails_on e (checked_block look (block_of a.items)) _ ha)
+
+  pub second_fails :
+      (s : Stmt) (x : Expr) (a b : Vec Stmt Global) (v : Expression ℕ) (u : Block ℕ) (e : KindFault)
+      → s ≡ S.If x a b → checked_expression look (expression_of x) ≡ Ok v
+      → checked_block look (block_of a.items) ≡ Ok u
+      → Fails e (checked_block look (block_of b.items)) → Fails e (checked_statement look (statement_of s))
+  second_fails s x a b v u e is hx ha hb =
+      rw (checked_if s x a b is, hx, ha) (fails_on e (checked_block look (block_of b.items)) _ hb)
+
+  pub body_fails :
+      (s : Stmt) (x : Expr) (a : Vec Stmt Global) (v : Expression ℕ) (e : KindFault)
+      → s ≡ S.While x a → checked_expression look (expression_of x) ≡ Ok v
+      → Fails e (checked_block look (block_of a.items)) → Fails e (checked_statement look (statement_of s))
+  body_fails s x a v e is hx ha =
+      rw (checked_while s x a is, hx) (fails_on e (checked_block look (block_of a.items)) _ ha)
+
+  pub if_checked :
+      (s : Stmt) (x : Expr) (a b : Vec Stmt Global) (v : R.Expression) (c d : Vec T.Statement Global)
+      → s ≡ S.If x a b → checked_expression look (expression_of x) ≡ Ok (resolved_expression v)
+      → checked_block look (block_of a.items) ≡ Ok (resolved_block c.items)
+      → checked_block look (block_of b.items) ≡ Ok (resolved_block d.items)
+      → checked_statement look (statement_of s) ≡ Ok (resolved_statement (Q.If v c d))
+  if_checked s x a b v c d is hx ha hb = rw (checked_if s x a b is, hx, ha, hb) (ap Ok (sym (resolved_if v c d)))
+
+  pub while_checked :
+      (s : Stmt) (x : Expr) (a : Vec Stmt Global) (v : R.Expression) (c : Vec T.Statement Global)
+      → s ≡ S.While x a → checked_expression look (expression_of x) ≡ Ok (resolved_expression v)
+      → checked_block look (block_of a.items) ≡ Ok (resolved_block c.items)
+      → checked_statement look (statement_of s) ≡ Ok (resolved_statement (Q.While v c))
+  while_checked s x a v c is hx ha = rw (checked_while s x a is, hx, ha) (ap Ok (sym (resolved_while v c)))
+
+  -- a block whose first statements gave a block already
+  abbrev pub checked_after : Block ℕ → Block Name → Checked (Block ℕ)
+  checked_after before b = checked_block look b >>= λ b. Ok (onto before b)
+
+onto-onto-one : (a : Block ℕ) (s : Statement ℕ) (b : Block ℕ) → onto (onto a (cons s nil)) b ≡ onto a (cons s b)
+onto-onto-one nil s b = refl
+onto-onto-one (cons t a) s b = ap (λ x. cons t x) (onto-onto-one a s b)
+
+onto-nil : (a : Block ℕ) → onto a nil ≡ a
+onto-nil nil = refl
+onto-nil (cons t a) = ap (λ x. cons t x) (onto-nil a)
+
+after_nothing : (r : Checked (Block ℕ)) → r ≡ (r >>= λ b. Ok (onto nil b))
+after_nothing (Ok b) = refl
+after_nothing (Err e) = refl
+
+after_one :
+    (before : Block ℕ) (s : Statement ℕ) (r : Checked (Block ℕ))
+    → ((r >>= λ b. Ok (cons s b)) >>= λ b. Ok (onto before b))
+    ≡ (r >>= λ b. Ok (onto (onto before (cons s nil)) b))
+after_one before s (Ok b) = ap Ok (sym (onto-onto-one before s b))
+after_one before s (Err e) = refl
+
+resolved_block-push :
+    (xs : List T.Statement) (s : T.Statement)
+    → resolved_block (xs ++ s ∷ []) ≡ onto (resolved_block xs) (cons (resolved_statement s) nil)
+resolved_block-push [] s = refl
+resolved_block-push (x ∷ xs) s = ap (λ b. cons (resolved_statement x) b) (resolved_block-push xs s)
+
+module _ (look : List ℕ → Option Slot) where
+  pub starts : (b : Block Name) → checked_block look b ≡ checked_after look nil b
+  starts b = after_nothing (checked_block look b)
+
+  pub goes_on :
+      (xs : List T.Statement) (s : Statement Name) (b : Block Name) (q : T.Statement)
+      → checked_statement look s ≡ Ok (resolved_statement q)
+      → checked_after look (resolved_block xs) (cons s b) ≡ checked_after look (resolved_block (xs ++ q ∷ [])) b
+  unfolding checked_block
+  goes_on xs s b q h =
+      rw (h, resolved_block-push xs q) (after_one (resolved_block xs) (resolved_statement q) (checked_block look b))
+
+  pub stops :
+      (before : Block ℕ) (s : Statement Name) (b : Block Name) (e : KindFault)
+      → Fails e (checked_statement look s) → Fails e (checked_after look before (cons s b))
+  unfolding checked_block
+  stops before s b e h = fails_on e _ _ (fails_on e (checked_statement look s) _ h)
+
+  pub ends : (before : Block ℕ) → checked_after look before nil ≡ Ok before
+  unfolding checked_block
+  ends before = ap Ok (onto-nil before)
+
+pub next_item :
+    (xs : List Stmt) (i : ℕ) (x : Stmt) → i < length xs → x ≡ get_or xs i x
+    → block_of (drop i xs) ≡ cons (statement_of x) (block_of (drop (i + 1) xs))
+next_item xs i x h is =
+    ap block_of (drop-cons xs i x h)
+    ∙ ap (λ y. cons (statement_of y) (block_of (drop (suc i) xs))) (sym is)
+    ∙ ap (λ k. cons (statement_of x) (block_of (drop k xs))) (sym (add-one i))
+
+pub no_item : (xs : List Stmt) (i : ℕ) → length xs ≤ i → block_of (drop i xs) ≡ nil
+no_item xs i h = ap block_of (drop_of_length-le xs h)

@@ -1,0 +1,10 @@
+pub mod Declarations
+pub mod Uses
+pub mod Accepted
+pub mod Refusals
+pub mod Resolution
+pub mod Resolved
+pub mod Within
+pub mod Checked
+pub mod Table
+pub mod Coding

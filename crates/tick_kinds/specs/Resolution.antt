@@ -1,0 +1,22 @@
+-- A program with each name replaced by its number in the section that declares it.
+use Rattle.std.specs.Prelude.{ℕ, List, map, Option, Some, None}
+use Rattle.tick_kinds.specs.Declarations.{Slot, declarations, slot_in}
+use Rattle.tick_syntax.specs.Plain.{Name, WholeProgram, map_block}
+
+-- 0 for a name that is not declared, which no accepted program uses
+abbrev pub number_by : Option Slot → ℕ
+number_by None = 0
+number_by (Some slot) = slot.1
+
+abbrev pub number_of : (List ℕ → Option Slot) → Name → ℕ
+number_of look x = number_by (look x.letters)
+
+abbrev pub resolved : WholeProgram Name → WholeProgram ℕ
+resolved p = let number = number_of (slot_in (declarations p)) in record {
+  processes = p.processes;
+  span = p.span;
+  variables = map number p.variables;
+  scans = map number p.scans;
+  registers = map number p.registers;
+  body = map_block number p.body;
+}

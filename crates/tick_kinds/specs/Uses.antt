@@ -1,0 +1,42 @@
+-- The names that a program uses, in order of the text, each with the kind that its place wants.
+use Rattle.std.specs.Prelude.{List, [], ◌∷◌, ◌++◌}
+use Rattle.tick_kinds.specs.declared.kind.Kind.{Kind}
+use Rattle.tick_kinds.specs.declared.kind.Kind.TheVariants as K
+use Rattle.tick_syntax.specs.Plain.{Name, Expression, number, named, me, count, binary, Statement, assign, fetch, put, stamp, scan, copy, older, out, test, loop, Block, nil, cons}
+
+pub record Use : Type 0 where
+  pub wanted : Kind
+  pub name : Name
+
+abbrev pub a_variable : Name → Use
+a_variable x = record { wanted = K.Variable; name = x }
+
+abbrev pub a_scan : Name → Use
+a_scan s = record { wanted = K.Scan; name = s }
+
+abbrev pub a_register : Name → Use
+a_register r = record { wanted = K.Register; name = r }
+
+abbrev pub expression_uses : Expression Name → List Use
+expression_uses (number v) = []
+expression_uses (named x) = a_variable x ∷ []
+expression_uses me = []
+expression_uses count = []
+expression_uses (binary a op b) = expression_uses a ++ expression_uses b
+
+abbrev mutual
+  pub statement_uses : Statement Name → List Use
+  statement_uses (assign x e) = a_variable x ∷ expression_uses e
+  statement_uses (fetch x r e) = a_variable x ∷ a_register r ∷ expression_uses e
+  statement_uses (put r e) = a_register r ∷ expression_uses e
+  statement_uses stamp = []
+  statement_uses (scan s) = a_scan s ∷ []
+  statement_uses (copy t s) = a_scan t ∷ a_scan s ∷ []
+  statement_uses (older x s a b) = a_variable x ∷ a_scan s ∷ (expression_uses a ++ expression_uses b)
+  statement_uses (out e) = expression_uses e
+  statement_uses (test e a b) = expression_uses e ++ (block_uses a ++ block_uses b)
+  statement_uses (loop e a) = expression_uses e ++ block_uses a
+
+  pub block_uses : Block Name → List Use
+  block_uses nil = []
+  block_uses (cons s b) = statement_uses s ++ block_uses b

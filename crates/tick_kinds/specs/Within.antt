@@ -1,0 +1,30 @@
+-- Every number in a resolved block names something that is declared: a variable below the number of
+-- variables, a scan below that of scans, a register row below that of rows.
+use Rattle.std.specs.Prelude.{ℕ, ◌<◌}
+use Rattle.tick_syntax.specs.Plain.{Expression, number, named, me, count, binary, Statement, assign, fetch, put, stamp, scan, copy, older, out, test, loop, Block, nil, cons}
+
+module _ (variables scans registers : ℕ) where
+  abbrev pub IsExpressionWithin : Expression ℕ → Type 0
+  IsExpressionWithin (number _) = Unit {0}
+  IsExpressionWithin (named x) = x < variables
+  IsExpressionWithin me = Unit {0}
+  IsExpressionWithin count = Unit {0}
+  IsExpressionWithin (binary a _ b) = IsExpressionWithin a × IsExpressionWithin b
+
+  abbrev mutual
+    pub IsStatementWithin : Statement ℕ → Type 0
+    IsStatementWithin (assign x e) = (x < variables) × IsExpressionWithin e
+    IsStatementWithin (fetch x r e) = (x < variables) × (r < registers) × IsExpressionWithin e
+    IsStatementWithin (put r e) = (r < registers) × IsExpressionWithin e
+    IsStatementWithin stamp = Unit {0}
+    IsStatementWithin (scan s) = s < scans
+    IsStatementWithin (copy t s) = (t < scans) × (s < scans)
+    IsStatementWithin (older x s a b) =
+        (x < variables) × (s < scans) × IsExpressionWithin a × IsExpressionWithin b
+    IsStatementWithin (out e) = IsExpressionWithin e
+    IsStatementWithin (test e a b) = IsExpressionWithin e × IsWithin a × IsWithin b
+    IsStatementWithin (loop e a) = IsExpressionWithin e × IsWithin a
+
+    pub IsWithin : Block ℕ → Type 0
+    IsWithin nil = Unit {0}
+    IsWithin (cons s b) = IsStatementWithin s × IsWithin b

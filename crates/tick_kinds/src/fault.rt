@@ -1,0 +1,53 @@
+use super::kind::Kind;
+use std::alloc::{AllocError, AllocFailed};
+use thiserror::Error;
+use tick_syntax::span::Span;
+
+/// Why a program is refused. Spans are in bytes of the text that it was read from.
+#[derive(Clone, Copy, PartialEq, Eq, Debug, Error)]
+pub enum KindFault {
+    /// The number of processes is not 1 to 6.
+    #[error("the number of processes at bytes {}..{} is not 1 to 6", .0.start, .0.end)]
+    Processes(Span),
+    /// The name was declared before, in whichever section.
+    #[error("the name at bytes {}..{} was declared before", .0.start, .0.end)]
+    Twice(Span),
+    /// A name that is not declared.
+    #[error("the name at bytes {}..{} is not declared", .0.start, .0.end)]
+    Unknown(Span),
+    /// A name of another kind than its place wants.
+    #[error("the name at bytes {}..{} is declared as {found}, and a {wanted} stands here", .span.start, .span.end)]
+    WrongKind {
+        span: Span,
+        wanted: Kind,
+        found: Kind,
+    },
+    /// The 65th variable, the 17th scan or the 9th register row.
+    #[error("the name at bytes {}..{} is one too many of its kind", .0.start, .0.end)]
+    TooMany(Span),
+    /// Memory was refused.
+    #[error("out of memory")]
+    NoMemory,
+}
+
+impl From<AllocError> for KindFault {
+    ghost use Rattle.std.specs.Prelude.{◌≡◌};
+    ghost use Rattle.tick_kinds.specs.declared.fault.KindFault.TheVariants.{NoMemory};
+
+    ghost from_gives = { λ _ e. e ≡ NoMemory };
+
+    fn from(_: AllocError) -> KindFault {
+        KindFault::NoMemory
+    }
+}
+
+impl<T: Drop> From<AllocFailed<T>> for KindFault {
+    ghost use Rattle.std.specs.Prelude.{◌≡◌};
+    ghost use Rattle.tick_kinds.specs.declared.fault.KindFault.TheVariants.{NoMemory};
+
+    ghost from_gives = { λ _ e. e ≡ NoMemory };
+
+    fn from(_: AllocFailed<T>) -> KindFault {
+        KindFault::NoMemory
+    }
+}
