@@ -95,6 +95,7 @@ impl Program {
     /// How many variables each process has, at most 64.
     pub fn variables(&self) -> u8
         ensures count { result ≡ length self.now.variables }
+        ensures resolved { result ≡ length (resolved self.now).variables }
         ensures most { result ≤ 64 }
     {
         self.tree.variables.len() as u8
@@ -103,6 +104,7 @@ impl Program {
     /// How many scans each process has, at most 16.
     pub fn scans(&self) -> u8
         ensures count { result ≡ length self.now.scans }
+        ensures resolved { result ≡ length (resolved self.now).scans }
         ensures most { result ≤ 16 }
     {
         self.tree.scans.len() as u8
@@ -111,6 +113,7 @@ impl Program {
     /// How many register rows there are, at most 8.
     pub fn registers(&self) -> u8
         ensures count { result ≡ length self.now.registers }
+        ensures resolved { result ≡ length (resolved self.now).registers }
         ensures most { result ≤ 8 }
     {
         self.tree.registers.len() as u8

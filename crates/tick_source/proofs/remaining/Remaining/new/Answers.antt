@@ -1,0 +1,9 @@
+use Rattle.std.proofs.Common.{◌≡◌, ap, ◌∙◌, sym, subst}
+use Rattle.tick_source.specs.Remaining.{joined, IsUndone}
+use Rattle.tick_source.proofs.Open.{onto-nil}
+use Rattle.tick_kinds.specs.Resolved.{resolved_block}
+use Rattle.tick_syntax.specs.Plain.{onto}
+use Rattle.tick_source.proofs.remaining.Remaining.new.Goals as goal
+
+pub returns : goal.returns
+returns c = c.in_ok-enter.ensures.ok ∙ ap (λ r. onto (resolved_block c.args.block.now) (joined r)) c.new.ensures.items ∙ onto-nil (resolved_block c.args.block.now)

@@ -1,0 +1,17 @@
+use Rattle.std.proofs.Common.{◌≡◌, ◌<◌, ap, ◌∙◌, sym, arith, length, refl}
+use Rattle.std.specs.Prelude.{slice_set}
+use Rattle.std.specs.Vec.{with_items}
+use Rattle.std.proofs.lemmas.List.{with_items_is, length-set}
+use Rattle.tick_source.proofs.Held.{rows_set}
+use Rattle.tick_source.proofs.shared.Shared.set_register.Goals as goal
+
+pub returns-in-Some-clause-rows : goal.returns-in-Some-clause-rows
+returns-in-Some-clause-rows c =
+    let rows = c.args.self.now.rows in
+    let row = c.in-Some.row.now in
+    let inside : c.args.r < length rows.items = omega (arith, c.in-Some.ensures.variant.0 refl, rows.ok) in
+    let written : c.set_at.new.values ≡ slice_set row.items c.args.i c.args.value =
+    c.set_at.ensures ∙ ap (λ x. slice_set x c.args.i c.args.value) c.deref_mut.ensures.value in
+    let long : length c.set_at.new.values ≡ row.len = ap length written ∙ length-set row.items c.args.i c.args.value ∙ sym row.ok.0 in
+    rows_set rows.items c.args.r c.args.i c.args.value row (with_items row c.set_at.new.values) c.in-Some.ensures.value inside
+    (with_items_is row c.set_at.new.values long ∙ written)

@@ -1,0 +1,18 @@
+use Rattle.std.proofs.Common.{◌≡◌, ◌≤◌, ap, ◌∙◌, arith, length}
+use Rattle.ticket_core.specs.Tickets.{greatest_ticket}
+use Rattle.tick_source.proofs.Held.{counted_on}
+use Rattle.tick_source.proofs.shared.Shared.stamp.Goals as goal
+
+pub invariant_of-self : goal.invariant_of-self
+invariant_of-self c =
+    let old = c.args.self.now in
+    let told = c.tell.new.self in
+    let counted : greatest_ticket old.tickets ≤ length old.events.items = omega (arith, old.counted, old.events.ok) in
+    record {
+      counted = omega (
+        arith,
+        told.events.ok,
+        counted_on c.args.p old.tickets told.tickets c.stamp.new.self old.events.items told.events.items _
+            c.in_ok-tell.ensures.tickets c.stamp.ensures c.in_ok-tell.ensures.ok counted,
+      );
+    }
