@@ -1,0 +1,5 @@
+pub mod NumberLemmas
+pub mod ScheduleLemmas
+pub mod WritingLemmas
+pub mod ReadingBack
+pub mod Rows

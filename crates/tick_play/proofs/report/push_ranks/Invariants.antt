@@ -1,0 +1,8 @@
+use Rattle.std.proofs.Common.{◌≡◌, ◌++◌, drop, map, string_bytes}
+use Rattle.std.specs.Fmt.{decimal}
+use Rattle.tick_play.specs.Written.{spaced}
+use Rattle.tick_play.proofs.report.push_ranks.Given as goal
+
+abbrev pub invariant-loop-rank : goal.invariant-loop-rank
+invariant-loop-rank l =
+    string_bytes l.text ++ spaced (map decimal (drop l.rank-index l.told)) ≡ string_bytes l.fn.text ++ spaced (map decimal l.told)

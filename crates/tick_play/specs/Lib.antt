@@ -1,0 +1,4 @@
+pub mod Number
+pub mod Schedule
+pub mod Written
+pub mod Report

@@ -1,0 +1,109 @@
+//! What a run let others see, as a text.
+ghost use Rattle.std.specs.Prelude.{◌≡◌, ◌++◌, IfOk, OnOk, map, string_bytes, take};
+ghost use Rattle.std.specs.Fmt.{decimal};
+ghost use Rattle.tick_play.specs.Report.{event_line, event_lines, register_line, register_lines, report, status_line, status_lines, trap_text};
+ghost use Rattle.tick_play.specs.Written.{spaced};
+
+use std::alloc::{AllocError, Global};
+use std::fmt::Write;
+use tick_source::{Act, Event, NoMemory, Outcome, Status, Trap};
+
+/// A line for each event, then for each register row, and then for each process.
+pub fn report_of(alloc: Global, outcome: &Outcome) -> Result<String, NoMemory>
+    ensures { IfOk result (λ text. string_bytes text ≡ report outcome.now.events.items (map (λ row. row.items) outcome.now.registers.items) outcome.now.statuses.items) }
+{
+    let mut text = String::new(alloc);
+    push_events(&mut text, outcome.statuses.len(), &outcome.events)?;
+    push_registers(&mut text, &outcome.registers)?;
+    push_statuses(&mut text, &outcome.statuses)?;
+    Ok(text)
+}
+
+fn push_events(text: &mut String, n: usize, events: &[Event]) -> Result<(), AllocError>
+    ensures { OnOk result (string_bytes text.new ≡ string_bytes text.old ++ event_lines n events.now) }
+{
+    for event in events {
+        push_event(text, n, *event)?;
+    }
+    Ok(())
+}
+
+fn push_event(text: &mut String, n: usize, event: Event) -> Result<(), AllocError>
+    ensures { OnOk result (string_bytes text.new ≡ string_bytes text.old ++ event_line n event) }
+{
+    let process = event.process;
+    match event.act {
+        Act::Put(row, value) => writeln!(text, "{process} put {row} {value}"),
+        Act::Get(row, index, value) => writeln!(text, "{process} get {row} {index} {value}"),
+        Act::Stamp => writeln!(text, "{process} stamp"),
+        Act::Scan(ranks) => {
+            write!(text, "{process} scan")?;
+            push_ranks(text, n, &ranks)?;
+            writeln!(text)
+        }
+        Act::Older(i, j, answer) => writeln!(text, "{process} older {i} {j} {answer}"),
+        Act::Out(value) => writeln!(text, "{process} out {value}"),
+        Act::Trap(trap) => writeln!(text, "{process} trap {}", trap_name(trap)),
+        Act::End => writeln!(text, "{process} end"),
+    }
+}
+
+// The first `n` of the ranks, each after a space.
+fn push_ranks(text: &mut String, n: usize, ranks: &[u8]) -> Result<(), AllocError>
+    ensures { OnOk result (string_bytes text.new ≡ string_bytes text.old ++ spaced (map decimal (take n ranks.now))) }
+{
+    let told = &ranks[..n.min(ranks.len())];
+    for rank in told {
+        write!(text, " {rank}")?;
+    }
+    Ok(())
+}
+
+fn trap_name(trap: Trap) -> &'static str
+    ensures { result.now ≡ trap_text trap }
+{
+    match trap {
+        Trap::Overflow => "Overflow",
+        Trap::Below => "Below",
+        Trap::Zero => "Zero",
+        Trap::Index => "Index",
+    }
+}
+
+fn push_registers(text: &mut String, registers: &[Vec<u32>]) -> Result<(), AllocError>
+    ensures { OnOk result (string_bytes text.new ≡ string_bytes text.old ++ register_lines 0 (map (λ row. row.items) registers.now)) }
+{
+    for (row, values) in registers.iter().enumerate() {
+        push_register(text, row, values)?;
+    }
+    Ok(())
+}
+
+fn push_register(text: &mut String, row: usize, values: &[u32]) -> Result<(), AllocError>
+    ensures { OnOk result (string_bytes text.new ≡ string_bytes text.old ++ register_line row values.now) }
+{
+    write!(text, "reg {row}")?;
+    for value in values {
+        write!(text, " {value}")?;
+    }
+    writeln!(text)
+}
+
+fn push_statuses(text: &mut String, statuses: &[Status]) -> Result<(), AllocError>
+    ensures { OnOk result (string_bytes text.new ≡ string_bytes text.old ++ status_lines 0 statuses.now) }
+{
+    for (process, status) in statuses.iter().enumerate() {
+        push_status(text, process, *status)?;
+    }
+    Ok(())
+}
+
+fn push_status(text: &mut String, process: usize, status: Status) -> Result<(), AllocError>
+    ensures { OnOk result (string_bytes text.new ≡ string_bytes text.old ++ status_line process status) }
+{
+    match status {
+        Status::Running => writeln!(text, "status {process} running"),
+        Status::Ended => writeln!(text, "status {process} ended"),
+        Status::Trapped(trap) => writeln!(text, "status {process} trapped {}", trap_name(trap)),
+    }
+}
