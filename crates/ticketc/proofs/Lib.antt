@@ -1,6 +1,6 @@
 pub mod ReadingLemmas
 pub mod WritingLemmas
-pub mod ScheduleLemmas
-pub mod NumberLemmas
 pub mod OrderLemmas
 pub mod TextLemmas
+pub mod StopLemmas
+pub mod ProgramLemmas

@@ -1,10 +1,12 @@
 pub mod Ends
 pub mod Reading
 pub mod Writing
-pub mod Number
-pub mod Schedule
 pub mod Refusal
+pub mod Stop
 pub mod Text
 pub mod Order
 pub mod Answer
+pub mod Ordering
+pub mod Programs
+pub mod Commands
 pub mod Serving

@@ -13,17 +13,25 @@ use Rattle.ticketc.specs.declared.fault.EngineFault.TheVariants.{Read, Write, Me
 abbrev pub IfStatus : Served → (ℕ → Type 0) → Type 0
 IfStatus (Status status) P = P status
 
--- the status is the answer's, and its text was written
-pub record Writes (old new : Option (List ℕ)) (status : ℕ) (a : Answer) : Type 0 where
-  pub status_is : status ≡ a.status
-  pub written : Appends old new a.text
+-- the status is that of an answer of these, and its text was written
+pub record Writes (old new : Option (List ℕ)) (status : ℕ) (allowed : Answer → Type 0) : Type 0 where
+  pub answer : Answer
+  pub is_allowed : allowed answer
+  pub status_is : status ≡ answer.status
+  pub written : Appends old new answer.text
 
--- a failed write leaves some of the text, from its front; any other fault leaves nothing
-abbrev pub LeavesWritten : EngineFault → Option (List ℕ) → Option (List ℕ) → Answer → Type 0
-LeavesWritten Write old new a = WritesPrefix old new a.text
-LeavesWritten Read old new a = Keeps old new
-LeavesWritten Memory old new a = Keeps old new
-LeavesWritten Thread old new a = Keeps old new
+-- some of the text of an answer of these was written, from its front
+pub record WritesSome (old new : Option (List ℕ)) (allowed : Answer → Type 0) : Type 0 where
+  pub answer : Answer
+  pub is_allowed : allowed answer
+  pub written : WritesPrefix old new answer.text
+
+-- a failed write leaves some of the answer's text; any other fault leaves nothing
+abbrev pub LeavesWritten : EngineFault → Option (List ℕ) → Option (List ℕ) → (Answer → Type 0) → Type 0
+LeavesWritten Write old new allowed = WritesSome old new allowed
+LeavesWritten Read old new allowed = Keeps old new
+LeavesWritten Memory old new allowed = Keeps old new
+LeavesWritten Thread old new allowed = Keeps old new
 
 -- the cause of a fault, by the counts of both ends
 abbrev pub StopsServing : EngineFault → Counts → Counts → Type 0

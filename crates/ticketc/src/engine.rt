@@ -1,7 +1,7 @@
 //! The engine: the words of a command line and two ends in, a status out.
 ghost use Rattle.std.specs.Prelude.{◌≡◌, ◌≢◌, ◌+◌, ◌≤◌, false, IfErr, IfOk, IfSome, map, string_bytes};
 ghost use Rattle.command_line.specs.Line.{meaning_of};
-ghost use Rattle.ticketc.specs.Answer.{answer, reads_input};
+ghost use Rattle.ticketc.specs.Commands.{Answers, reads_input};
 ghost use Rattle.ticketc.specs.Reading.{TakesFew};
 ghost use Rattle.ticketc.specs.Serving.{IfStatus, LeavesWritten, StopsServing, Writes};
 
@@ -30,9 +30,9 @@ pub fn serve<S: ByteSource, W: ByteSink>(
     sink: &mut W,
 ) -> Result<Served, EngineFault>
     ensures status { IfOk result (λ served. IfStatus served (λ status. IfSome (S.remaining source.old) (λ input.
-        Writes (W.written sink.old) (W.written sink.new) status (answer (meaning_of (map string_bytes words.now)) input)))) }
+        Writes (W.written sink.old) (W.written sink.new) status (Answers (meaning_of (map string_bytes words.now)) input)))) }
     ensures err { IfErr result (λ fault. IfSome (S.remaining source.old) (λ input.
-        LeavesWritten fault (W.written sink.old) (W.written sink.new) (answer (meaning_of (map string_bytes words.now)) input))) }
+        LeavesWritten fault (W.written sink.old) (W.written sink.new) (Answers (meaning_of (map string_bytes words.now)) input))) }
     ensures untouched { IfErr result (λ fault. fault ≢ EngineFault.Write → sink.new ≡ sink.old) }
     ensures fault { IfErr result (λ fault. StopsServing fault (S.counts source.new) (W.counts sink.new)) }
     ensures unread { reads_input (meaning_of (map string_bytes words.now)) ≡ false → source.new ≡ source.old }
@@ -53,9 +53,9 @@ pub fn engine<R: AllocGlobal, S: ByteSource, W: ByteSink>(
     sink: &mut W,
 ) -> Result<u8, EngineFault>
     ensures status { IfOk result (λ status. IfSome (S.remaining source.old) (λ input.
-        Writes (W.written sink.old) (W.written sink.new) status (answer (meaning_of (map string_bytes words.now)) input))) }
+        Writes (W.written sink.old) (W.written sink.new) status (Answers (meaning_of (map string_bytes words.now)) input))) }
     ensures err { IfErr result (λ fault. IfSome (S.remaining source.old) (λ input.
-        LeavesWritten fault (W.written sink.old) (W.written sink.new) (answer (meaning_of (map string_bytes words.now)) input))) }
+        LeavesWritten fault (W.written sink.old) (W.written sink.new) (Answers (meaning_of (map string_bytes words.now)) input))) }
     ensures untouched { IfErr result (λ fault. fault ≢ EngineFault.Write → sink.new ≡ sink.old) }
     ensures fault { IfErr result (λ fault. StopsServing fault (S.counts source.new) (W.counts sink.new)) }
     ensures unread { reads_input (meaning_of (map string_bytes words.now)) ≡ false → source.new ≡ source.old }

@@ -7,12 +7,12 @@ mod ends;
 mod engine;
 mod fault;
 mod host;
-mod number;
 mod order;
+mod program;
 mod reading;
 mod refusal;
 mod reply;
-mod schedule;
+mod stop;
 #[cfg(test)]
 mod tests;
 mod text;

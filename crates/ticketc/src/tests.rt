@@ -1,6 +1,7 @@
-//! The engine over ends in memory: the worked answers, and ends that fail, are interrupted or go a
-//! byte at a time.
+//! The engine over ends in memory: the answers of `order`, and ends that fail, are interrupted or go
+//! a byte at a time.
 mod ends;
+mod programs;
 
 use crate::engine::engine;
 use crate::fault::EngineFault;
@@ -8,7 +9,7 @@ use ends::{Disturbance, Input, Output};
 use std::test::Fail;
 
 // A command line, its input, the status, and how the text ends. A text that isn't cut begins so.
-const ANSWERS: [(&[&str], &[u8], u8, &str); 20] = [
+const ANSWERS: [(&[&str], &[u8], u8, &str); 21] = [
     (
         &["ticketc", "order", "2"],
         b"",
@@ -103,12 +104,8 @@ const ANSWERS: [(&[&str], &[u8], u8, &str); 20] = [
     (&["ticketc", "order", "+3"], b"", 2, USAGE),
     (&["ticketc"], b"", 2, USAGE),
     (&["ticketc", "--help"], b"", 2, USAGE),
-    (
-        &["ticketc", "source", "0"],
-        b"processes 1; begin end",
-        2,
-        USAGE,
-    ),
+    (&["ticketc", "emit"], b"processes 1; begin end", 2, USAGE),
+    (&["ticketc", "source"], b"processes 1; begin end", 2, USAGE),
 ];
 
 const USAGE: &str =
