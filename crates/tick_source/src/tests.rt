@@ -3,7 +3,7 @@ use super::machine::{SourceMachine, run};
 use std::alloc::Global;
 use std::test::Fail;
 use tick_kinds::{Program, check};
-use tick_syntax::parse::parse;
+use tick_syntax::parse;
 
 const STAMPS_AND_COMPARES: &str =
     "processes 2; var x; scan s; begin stamp; s = scan; x = older s 0 1; out x; end";

@@ -11,8 +11,7 @@ use crate::text::text_of;
 use std::alloc::Global;
 use tick_kinds::{Program, check};
 use tick_play::{play_source, read_schedule};
-use tick_syntax::parse::parse;
-use tick_syntax::print::print;
+use tick_syntax::{parse, print};
 
 /// The printed form of an accepted program.
 pub fn check_text(alloc: Global, input: &[u8]) -> Result<String, Stop>

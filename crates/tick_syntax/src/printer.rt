@@ -3,6 +3,7 @@
 ghost use Rattle.std.specs.Prelude.{◌≡◌, ℕ, List, ◌++◌, ◌∷◌, [], map, OnOk, IfOk, IfErr, string_bytes};
 ghost use Rattle.std.specs.Fmt.{decimal};
 ghost use Rattle.tick_syntax.specs.Lexeme.{a_name, a_number, a_word};
+ghost use Rattle.tick_syntax.specs.Plain.{fetch, copy, older};
 ghost use Rattle.tick_syntax.specs.Printed.{nowhere, after_word, printed_token, printed_tokens, expression_tokens, statement_tokens, block_tokens, section_tokens, printed};
 ghost use Rattle.tick_syntax.specs.Printing.{more_names, declaration_tokens};
 ghost use Rattle.tick_syntax.specs.RoundTrip.{IsTextOf, ReadsAs};
@@ -76,6 +77,48 @@ fn push_target(out: &mut String, name: &Named) -> Result<(), AllocError>
     push_word(out, Word::Becomes)
 }
 
+/// `x = get r e;`.
+fn push_fetch(
+    out: &mut String,
+    target: &Named,
+    register: &Named,
+    process: &Expr,
+) -> Result<(), AllocError>
+    ensures { OnOk result (string_bytes out.new ≡ string_bytes out.old ++ printed_tokens (statement_tokens (fetch (name_of target.now) (name_of register.now) (expression_of process.now)))) }
+{
+    push_target(out, target)?;
+    push_word(out, Word::Get)?;
+    push_name(out, register)?;
+    push_last(out, process)
+}
+
+/// `t = copy s;`.
+fn push_copy(out: &mut String, target: &Named, source: &Named) -> Result<(), AllocError>
+    ensures { OnOk result (string_bytes out.new ≡ string_bytes out.old ++ printed_tokens (statement_tokens (copy (name_of target.now) (name_of source.now)))) }
+{
+    push_target(out, target)?;
+    push_word(out, Word::Copy)?;
+    push_name(out, source)?;
+    push_word(out, Word::Semicolon)
+}
+
+/// `x = older s e f;`.
+fn push_older(
+    out: &mut String,
+    target: &Named,
+    scan: &Named,
+    first: &Expr,
+    second: &Expr,
+) -> Result<(), AllocError>
+    ensures { OnOk result (string_bytes out.new ≡ string_bytes out.old ++ printed_tokens (statement_tokens (older (name_of target.now) (name_of scan.now) (expression_of first.now) (expression_of second.now)))) }
+{
+    push_target(out, target)?;
+    push_word(out, Word::Older)?;
+    push_name(out, scan)?;
+    push_expression(out, first)?;
+    push_last(out, second)
+}
+
 #[cycle(statement)]
 fn push_statement(out: &mut String, statement: &Stmt) -> Result<(), AllocError>
     ensures { OnOk result (string_bytes out.new ≡ string_bytes out.old ++ printed_tokens (statement_tokens (statement_of statement.now))) }
@@ -85,12 +128,7 @@ fn push_statement(out: &mut String, statement: &Stmt) -> Result<(), AllocError>
             push_target(out, target)?;
             push_last(out, value)
         }
-        Stmt::Get(target, register, process) => {
-            push_target(out, target)?;
-            push_word(out, Word::Get)?;
-            push_name(out, register)?;
-            push_last(out, process)
-        }
+        Stmt::Get(target, register, process) => push_fetch(out, target, register, process),
         Stmt::Put(register, value) => {
             push_word(out, Word::Put)?;
             push_name(out, register)?;
@@ -105,19 +143,8 @@ fn push_statement(out: &mut String, statement: &Stmt) -> Result<(), AllocError>
             push_word(out, Word::Scan)?;
             push_word(out, Word::Semicolon)
         }
-        Stmt::Copy(target, source) => {
-            push_target(out, target)?;
-            push_word(out, Word::Copy)?;
-            push_name(out, source)?;
-            push_word(out, Word::Semicolon)
-        }
-        Stmt::Older(target, scan, first, second) => {
-            push_target(out, target)?;
-            push_word(out, Word::Older)?;
-            push_name(out, scan)?;
-            push_expression(out, first)?;
-            push_last(out, second)
-        }
+        Stmt::Copy(target, source) => push_copy(out, target, source),
+        Stmt::Older(target, scan, first, second) => { push_older(out, target, scan, first, second) }
         Stmt::Out(value) => {
             push_word(out, Word::Out)?;
             push_last(out, value)

@@ -3,7 +3,7 @@ use Rattle.std.proofs.lemmas.List.{take_more}
 use Rattle.tick_syntax.specs.declared.token.Sort.TheVariants as K
 use Rattle.tick_syntax.specs.declared.token.Token.{Token}
 use Rattle.tick_syntax.proofs.Parsed.{in_text, same_more}
-use Rattle.tick_syntax.proofs.parse.items_of.Goals as goal
+use Rattle.tick_syntax.proofs.parser.items_of.Goals as goal
 
 abbrev no_token : Token
 no_token = record { sort = K.Name; span = record { start = 0; end = 0 } }

@@ -1,7 +1,7 @@
 use Rattle.std.proofs.Common.{arith}
 use Rattle.std.proofs.lemmas.Grind.{common_steps}
 use Rattle.tick_syntax.proofs.PrintedParts.{tokens_if, tokens_while}
-use Rattle.tick_syntax.proofs.print.+statement.Goals as goal
+use Rattle.tick_syntax.proofs.printer.+statement.Goals as goal
 
 pub push_statement-returns-in_ok-push_word-in-If-2 :
     goal.push_statement-returns-in_ok-push_word-in-If-2

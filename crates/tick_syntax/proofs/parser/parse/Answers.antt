@@ -2,7 +2,7 @@ use Rattle.std.proofs.Common.{◌∙◌, subst, sym}
 use Rattle.std.proofs.lemmas.Result.{err_from_is_err_and}
 use Rattle.tick_syntax.proofs.Parsed.{parse_accepted}
 use Rattle.tick_syntax.proofs.Stops.{first_is_refused}
-use Rattle.tick_syntax.proofs.parse.parse.Goals as goal
+use Rattle.tick_syntax.proofs.parser.parse.Goals as goal
 
 pub returns-clause-accepted : goal.returns-clause-accepted
 returns-clause-accepted c = λ p short is shallow.

@@ -4,7 +4,7 @@ use Rattle.tick_syntax.specs.Printed.{printed}
 use Rattle.tick_syntax.specs.RoundTrip.{ReadsAs}
 use Rattle.tick_syntax.specs.View.{tree_of}
 use Rattle.tick_syntax.proofs.RoundTrips.{reads_back}
-use Rattle.tick_syntax.proofs.print.print.Goals as goal
+use Rattle.tick_syntax.proofs.printer.print.Goals as goal
 
 pub returns-clause-reads_back : goal.returns-clause-reads_back
 returns-clause-reads_back c = λ source is.

@@ -3,7 +3,7 @@ use Rattle.std.proofs.lemmas.Result.{err_from_is_err_and}
 use Rattle.tick_syntax.proofs.Stops.{parsed_unexpected, parsed_too_deep, memory_alone, memory_alone_deep, parsed_others, others_by_memory}
 use Rattle.tick_syntax.specs.Items.{SayAs}
 use Rattle.tick_syntax.proofs.Parsed.{parsed_derived, parsed_shallow, parsed_only, parsed_accepted}
-use Rattle.tick_syntax.proofs.parse.parse_tokens.Goals as goal
+use Rattle.tick_syntax.proofs.parser.parse_tokens.Goals as goal
 
 pub returns-clause-derived : goal.returns-clause-derived
 returns-clause-derived c =
