@@ -4,13 +4,13 @@
 -- digits. Where few share the first digit, the new label shares it too: those that share it are
 -- dominated by the rest of it, and the others by its first digit. Where too many share it, all do,
 -- and the next digit dominates them.
-use Rattle.std.proofs.Common.{◌≡◌, ℕ, suc, zero, ◌+◌, ◌-◌, ◌%◌, ◌<◌, ◌≤◌, Bool, true, false, not, cond, eqb, leb, List, [], ◌∷◌, length, replicate, refl, sym, ap, ◌∙◌, subst, arith, rules}
+use Rattle.std.proofs.Common.{◌≡◌, ℕ, suc, zero, ◌<◌, ◌≤◌, Bool, true, false, not, cond, eqb, leb, List, [], ◌∷◌, length, replicate, refl, sym, ap, ◌∙◌, arith}
 use Rattle.std.specs.Prelude.{All}
 use Rattle.std.specs.List.{AllByRecursion}
 use Rattle.std.proofs.lemmas.Bool.{cond-true, cond-false, eqb-true, eq-eqb, leb-true, leb-false}
 use Rattle.std.proofs.lemmas.List.{length-replicate}
-use Rattle.std.proofs.lemmas.List.Elements.{All-head, All-tail, All-cons, All-replicate, All-nil}
-use Rattle.label_core.specs.Labels.{IsLabel, next_digit, dominates, sharing, choice}
+use Rattle.std.proofs.lemmas.List.Elements.{All-head, All-tail, All-cons, All-replicate}
+use Rattle.label_core.specs.Labels.{next_digit, dominates, sharing, choice}
 use Rattle.label_core.proofs.Domination.{turn}
 
 -- a label of the same length as `top` that does not dominate it

@@ -1,9 +1,9 @@
 -- Of two different labels of one length just one dominates the other.
-use Rattle.std.proofs.Common.{◌≡◌, ℕ, suc, zero, ◌+◌, ◌<◌, Bool, true, false, not, ◌&&◌, ◌||◌, cond, eqb, List, [], ◌∷◌, length, refl, sym, ap, ◌∙◌, subst, arith, rules, inl, inr}
+use Rattle.std.proofs.Common.{◌≡◌, ℕ, suc, zero, ◌<◌, Bool, true, false, not, ◌&&◌, cond, eqb, List, [], ◌∷◌, length, refl, sym, ◌∙◌, arith}
 use Rattle.std.specs.Prelude.{All}
-use Rattle.std.proofs.lemmas.Bool.{cases_Bool, cond-true, cond-false, eqb-true, eq-eqb}
+use Rattle.std.proofs.lemmas.Bool.{cond-true, cond-false, eqb-true, eq-eqb}
 use Rattle.std.proofs.lemmas.List.Elements.{All-head, All-tail}
-use Rattle.label_core.specs.Labels.{IsLabel, next_digit, dominates, same_label, at_least}
+use Rattle.label_core.specs.Labels.{next_digit, dominates, same_label}
 
 -- of two different digits just one is the next one of the other
 pub turn : (d e : ℕ) → d < 3 → e < 3 → eqb d e ≡ false → eqb e (next_digit d) ≡ not (eqb d (next_digit e))

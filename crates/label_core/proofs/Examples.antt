@@ -1,5 +1,5 @@
 -- The choice rule on labels that were worked out by hand.
-use Rattle.std.proofs.Common.{◌≡◌, ℕ, Bool, true, false, List, [], ◌∷◌, refl}
+use Rattle.std.proofs.Common.{◌≡◌, true, [], ◌∷◌, refl}
 use Rattle.label_core.specs.Labels.{dominates, next, label_ranks}
 
 -- three processes: the second stamp comes beside 10 and 00, the third beside 10 and 11

@@ -1,11 +1,10 @@
 -- A scan of some labels for the greatest, which keeps a label until one dominates it.
-use Rattle.std.proofs.Common.{◌≡◌, ℕ, suc, zero, ◌+◌, ◌-◌, ◌<◌, ◌≤◌, Bool, true, false, not, Option, Some, None, List, [], ◌∷◌, length, get_or, refl, sym, ap, ◌∙◌, subst, arith, take, drop, inl, inr, ⊎_elim}
+use Rattle.std.proofs.Common.{◌≡◌, ℕ, suc, zero, ◌+◌, ◌<◌, true, false, not, Some, List, [], ◌∷◌, length, get_or, refl, sym, ap, ◌∙◌, subst, arith, drop, inl, inr, ⊎_elim}
 use Rattle.std.specs.Prelude.{All, Contains, ◌⊎◌, slice_get, unwrap_or}
 use Rattle.std.proofs.Math.Seq.{drop-cons}
-use Rattle.std.specs.List.{AllByRecursion}
 use Rattle.std.proofs.lemmas.Bool.{both_ways}
 use Rattle.std.proofs.lemmas.List.Elements.{All-contains, All-from_recursion}
-use Rattle.label_core.specs.Labels.{IsLabel, AreAlike, HasGreatest, dominates, at_least, greatest}
+use Rattle.label_core.specs.Labels.{IsLabel, HasGreatest, dominates, at_least, greatest}
 use Rattle.label_core.proofs.Greatest.{Top, top_of, at_least_turn, equal_from_at_least}
 
 abbrev pub best : List (List ℕ) → List ℕ

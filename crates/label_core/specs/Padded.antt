@@ -1,5 +1,5 @@
 -- A row of `m` items of which the first few count and the others are `z`.
-use Rattle.std.proofs.Common.{◌≡◌, ℕ, suc, ◌+◌, ◌-◌, ◌<◌, ◌≤◌, List, [], ◌∷◌, ◌++◌, length, refl, ap, ◌∙◌, sym, arith, take, drop, set, replicate, append_assoc, take-append-drop, length-take-le}
+use Rattle.std.proofs.Common.{◌≡◌, ℕ, suc, ◌+◌, ◌-◌, ◌<◌, ◌≤◌, List, [], ◌∷◌, ◌++◌, length, ap, ◌∙◌, sym, arith, take, drop, set, replicate, append_assoc, take-append-drop, length-take-le}
 use Rattle.std.proofs.lemmas.List.{set-append_right, take-replicate, drop-replicate}
 use Rattle.std.proofs.Math.Seq.{take-append-add, drop-append-add}
 

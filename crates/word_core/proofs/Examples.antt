@@ -1,5 +1,5 @@
 -- Stamps that were worked out by hand.
-use Rattle.std.proofs.Common.{◌≡◌, ℕ, List, [], ◌∷◌, refl}
+use Rattle.std.proofs.Common.{◌≡◌, [], ◌∷◌, refl}
 use Rattle.ticket_core.specs.Tickets.{start_tickets, tickets_after}
 use Rattle.word_core.specs.Stamps.{start_labels, labels_after}
 use Rattle.word_core.specs.Packed.{word, labels_in}

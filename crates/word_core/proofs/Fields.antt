@@ -1,14 +1,14 @@
 -- A label's field, digit by digit, and a word, label by label.
-use Rattle.std.proofs.Common.{◌≡◌, ℕ, suc, zero, ◌+◌, ◌-◌, ◌*◌, ◌/◌, ◌%◌, ◌^◌, ◌<◌, ◌≤◌, List, [], ◌∷◌, length, get_or, drop, take, replicate, set, ◌++◌, length-drop, length-set, refl, sym, ap, ◌∙◌, subst, arith, rules, inl, inr, ⊎_elim}
+use Rattle.std.proofs.Common.{◌≡◌, ℕ, suc, zero, ◌+◌, ◌-◌, ◌*◌, ◌/◌, ◌%◌, ◌^◌, ◌<◌, ◌≤◌, List, [], ◌∷◌, length, get_or, drop, take, replicate, set, ◌++◌, length-drop, length-set, refl, sym, ap, ◌∙◌, subst, arith, ⊎_elim}
 use Rattle.std.specs.Prelude.{All, slice_index}
 use Rattle.std.proofs.Math.Seq.{drop-cons}
 use Rattle.std.proofs.lemmas.Bool.{cases_lt}
 use Rattle.std.proofs.lemmas.List.{take_at, set-append_left}
-use Rattle.std.proofs.lemmas.Nat.{pow-add, pow_below, mul-le, mul-add-lt, pow_pos, shr_split, mod_below, div-mul-add}
+use Rattle.std.proofs.lemmas.Nat.{pow-add, pow_below, mul-le, pow_pos, shr_split, mod_below, div-mul-add}
 use Rattle.std.proofs.lemmas.List.Elements.{All-head, All-tail, All-drop, All-cons, All-get_or}
 use Rattle.label_core.specs.Labels.{IsLabel}
 use Rattle.word_core.specs.Packed.{field, word, digits_in, labels_in}
-use Rattle.word_core.specs.Packing.{length-digits_in, length-labels_in, word_lt, label_at-labels_in}
+use Rattle.word_core.specs.Packing.{length-labels_in, word_lt, label_at-labels_in}
 use Rattle.word_core.specs.Stamps.{label_at}
 
 -- the digits before place `at` as a number, and what that leaves of the field

@@ -1,13 +1,13 @@
 -- Where labels are in an order, how many each dominates are numbers of that order, and one of any
 -- of them is greatest.
-use Rattle.std.proofs.Common.{◌≡◌, ◌≢◌, ◌↔◌, ℕ, suc, zero, ◌+◌, ◌-◌, ◌<◌, ◌≤◌, ◌++◌, replicate, Bool, true, false, not, ltb, List, [], ◌∷◌, length, get_or, map, refl, sym, ap, ◌∙◌, subst, arith, rules, inl, inr, ⊎_elim}
-use Rattle.std.specs.Prelude.{All, Contains, remove, slice_index, nat_lt}
+use Rattle.std.proofs.Common.{◌≡◌, ℕ, ◌-◌, ◌<◌, ◌≤◌, ◌++◌, replicate, Bool, true, false, not, ltb, List, [], ◌∷◌, length, get_or, refl, sym, ap, ◌∙◌, subst, arith, ⊎_elim}
+use Rattle.std.specs.Prelude.{All, remove, slice_index}
 use Rattle.std.specs.List.{AllByRecursion, list_all}
-use Rattle.std.proofs.lemmas.Bool.{cases_Bool, cases_lt, ltb-true, ltb-false, lt-ltb, le-ltb, and_from}
+use Rattle.std.proofs.lemmas.Bool.{cases_Bool, cases_lt, ltb-true, lt-ltb, le-ltb, and_from}
 use Rattle.std.proofs.lemmas.List.{length-map, get_or-map, get_or_append_left}
 use Rattle.std.proofs.lemmas.List.Edits.{length-remove}
 use Rattle.std.proofs.lemmas.List.Elements.{All-from_get_or, All-get_or, All-contains, All-from_recursion, recursion_from_All}
-use Rattle.label_core.specs.Labels.{IsLabel, dominates, same_label, at_least, is_greatest, HasGreatest, CanChoose, dominated, label_ranks}
+use Rattle.label_core.specs.Labels.{IsLabel, dominates, same_label, at_least, CanChoose, dominated, label_ranks}
 use Rattle.label_core.proofs.Domination.{dominates_self, dominates_turn, equal_from_same}
 use Rattle.label_core.proofs.Greatest.{at_least_turn}
 use Rattle.word_core.specs.Stamps.{label_at}

@@ -3,14 +3,13 @@
 -- The new label dominates each of the others as the new ticket is above each of the others, and
 -- nothing changes among the others. That there is a greatest label beside which to choose follows
 -- from the order that the tickets give.
-use Rattle.std.proofs.Common.{◌≡◌, ◌≢◌, ◌↔◌, ℕ, suc, zero, ◌+◌, ◌-◌, ◌<◌, ◌≤◌, max, Bool, true, false, not, cond, ltb, List, [], ◌∷◌, length, get_or, set, map, replicate, refl, sym, ap, ◌∙◌, subst, arith, rules, inl, inr, ⊎_elim, length-set, get_or-set_same, get_or-set_other}
-use Rattle.std.specs.Prelude.{All, count_by, remove, slice_index, slice_index_or, slice_set}
-use Rattle.std.specs.List.{AllByRecursion}
-use Rattle.std.proofs.lemmas.Bool.{cases_Bool, cases_lt, cases_eq, ltb-true, ltb-false, lt-ltb, le-ltb, both_ways}
+use Rattle.std.proofs.Common.{◌≡◌, ◌≢◌, ℕ, suc, zero, ◌+◌, ◌-◌, ◌<◌, ◌≤◌, Bool, true, false, not, cond, ltb, List, [], ◌∷◌, length, get_or, set, map, refl, sym, ap, ◌∙◌, subst, arith, ⊎_elim, length-set, get_or-set_same, get_or-set_other}
+use Rattle.std.specs.Prelude.{All, count_by, remove, slice_index, slice_set}
+use Rattle.std.proofs.lemmas.Bool.{cases_Bool, cases_lt, cases_eq, ltb-false, lt-ltb, le-ltb, both_ways}
 use Rattle.std.proofs.lemmas.List.{length-replicate, get_or-replicate, set_past}
 use Rattle.std.proofs.lemmas.List.Elements.{All-get_or, All-set, All-replicate, All-from_recursion}
 use Rattle.std.proofs.lemmas.List.Sums.{sum_by-cons}
-use Rattle.label_core.specs.Labels.{IsLabel, dominates, same_label, zeros, next, CanChoose, dominated, label_ranks}
+use Rattle.label_core.specs.Labels.{IsLabel, dominates, same_label, zeros, next, dominated, label_ranks}
 use Rattle.label_core.proofs.Domination.{dominates_self, dominates_turn, equal_from_same}
 use Rattle.label_core.proofs.Greatest.{IsNext, next_is, zeros_label}
 use Rattle.ticket_core.specs.Tickets.{start_tickets, greatest_ticket, stamp_ticket, tickets_below, ticket_ranks, older_ticket, tickets_after}

@@ -1,4 +1,4 @@
-use Rattle.std.proofs.Common.{◌≡◌, ◌≤◌, ◌++◌, length, take, drop}
+use Rattle.std.proofs.Common.{◌≡◌, ◌++◌, take, drop}
 use Rattle.label_core.specs.Labels.{choice}
 use Rattle.label_core.proofs.Reaching.{reach}
 use Rattle.label_core.proofs.choosing.choice.Given as goal

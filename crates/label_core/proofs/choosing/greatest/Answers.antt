@@ -1,4 +1,4 @@
-use Rattle.std.proofs.Common.{◌≡◌, ◌+◌, ◌<◌, arith, sym, subst, ◌∙◌, length, drop}
+use Rattle.std.proofs.Common.{◌+◌, ◌<◌, arith, sym, subst, ◌∙◌, length, drop}
 use Rattle.std.proofs.lemmas.List.{drop_all}
 use Rattle.label_core.proofs.Scanning.{Scanning, starts, takes, keeps, ends, first_contained, drop_item}
 use Rattle.label_core.proofs.choosing.greatest.Goals as goal

@@ -1,4 +1,4 @@
-use Rattle.std.proofs.Common.{◌≡◌, ◌+◌, ◌-◌, ◌<◌, ◌++◌, [], ◌∷◌, arith, ap, ◌∙◌, sym, subst, length, get_or, map, take, set, replicate, length-take-le}
+use Rattle.std.proofs.Common.{◌≡◌, ◌+◌, ◌-◌, ◌<◌, ◌++◌, [], ◌∷◌, arith, ap, ◌∙◌, sym, length, map, take, set, replicate, length-take-le}
 use Rattle.std.proofs.lemmas.List.{length-map, map_more}
 use Rattle.label_core.specs.Labels.{dominated}
 use Rattle.label_core.specs.Padded.{padded_set}

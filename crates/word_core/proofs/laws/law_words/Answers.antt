@@ -1,4 +1,4 @@
-use Rattle.std.proofs.Common.{◌≡◌, ◌-◌, ap, sym, ◌∙◌}
+use Rattle.std.proofs.Common.{◌-◌, ap, sym, ◌∙◌}
 use Rattle.word_core.specs.Packed.{labels_in}
 use Rattle.word_core.specs.Packing.{labels_in-word}
 use Rattle.word_core.proofs.laws.law_words.Goals as goal

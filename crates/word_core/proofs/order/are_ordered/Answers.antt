@@ -1,4 +1,4 @@
-use Rattle.std.proofs.Common.{◌≡◌, ◌<◌, arith, refl}
+use Rattle.std.proofs.Common.{arith, refl}
 use Rattle.std.proofs.lemmas.Bool.{both_ways}
 use Rattle.word_core.proofs.Ranks.{ordered_from_row, row_from_ordered}
 use Rattle.word_core.proofs.order.are_ordered.Goals as goal

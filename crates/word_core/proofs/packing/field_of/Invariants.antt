@@ -1,4 +1,3 @@
-use Rattle.std.proofs.Common.{drop}
 use Rattle.word_core.proofs.Fields.{FieldSoFar}
 use Rattle.word_core.proofs.packing.field_of.Given as goal
 

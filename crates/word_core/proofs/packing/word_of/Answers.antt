@@ -1,5 +1,4 @@
-use Rattle.std.proofs.Common.{◌≡◌, ◌+◌, ◌-◌, ◌*◌, ◌%◌, ◌^◌, ◌<◌, arith, sym, subst, ap, ◌∙◌}
-use Rattle.word_core.specs.Packed.{field}
+use Rattle.std.proofs.Common.{◌≡◌, ◌+◌, ◌*◌, ◌%◌, ◌^◌, ◌<◌, arith, sym, subst, ap, ◌∙◌}
 use Rattle.word_core.proofs.Fields.{WordStep, word_step}
 use Rattle.word_core.proofs.packing.word_of.Goals as goal
 

@@ -1,5 +1,4 @@
-use Rattle.std.proofs.Common.{◌≡◌, ◌+◌, ◌-◌, ◌<◌, ◌++◌, ℕ, List, arith, ap, ◌∙◌, refl, sym, subst, length, take, set, replicate, length-take-le}
-use Rattle.std.specs.Prelude.{All}
+use Rattle.std.proofs.Common.{◌≡◌, ◌-◌, ◌++◌, arith, ap, ◌∙◌, refl, sym, subst, length, take, set, replicate, length-take-le}
 use Rattle.label_core.specs.Labels.{AreDigits}
 use Rattle.label_core.proofs.Turning.{Turned, turned_row}
 use Rattle.label_core.proofs.digits.Label.turned.Goals as goal

@@ -1,4 +1,4 @@
-use Rattle.std.proofs.Common.{◌≡◌, ◌-◌, ap, sym, subst, ◌∙◌, length}
+use Rattle.std.proofs.Common.{◌-◌, ap, sym, subst, ◌∙◌, length}
 use Rattle.std.specs.Prelude.{All}
 use Rattle.label_core.specs.Labels.{IsLabel}
 use Rattle.word_core.specs.Packing.{length-labels_in}

@@ -1,8 +1,8 @@
-use Rattle.std.proofs.Common.{◌≡◌, ◌-◌, ◌*◌, ◌^◌, ◌<◌, ap, sym, subst, ◌∙◌}
+use Rattle.std.proofs.Common.{◌-◌, ◌*◌, ◌^◌, ◌<◌, ap, sym, subst, ◌∙◌}
 use Rattle.std.specs.Prelude.{All}
 use Rattle.std.proofs.lemmas.Bool.{both_ways}
 use Rattle.label_core.specs.Labels.{IsLabel}
-use Rattle.word_core.specs.Packed.{IsWordOf, word, labels_in}
+use Rattle.word_core.specs.Packed.{labels_in}
 use Rattle.word_core.specs.Packing.{length-labels_in, labels_in-word, word-labels_in, word_lt}
 use Rattle.word_core.proofs.Fields.{below_from_shift, shift_gone}
 use Rattle.word_core.proofs.words.LabelWord.read.Goals as goal

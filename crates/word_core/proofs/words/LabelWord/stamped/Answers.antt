@@ -1,4 +1,4 @@
-use Rattle.std.proofs.Common.{◌≡◌, ◌-◌, ◌*◌, ◌^◌, ◌<◌, List, ℕ, arith, ap, sym, subst, ◌∙◌, length, take, set}
+use Rattle.std.proofs.Common.{◌≡◌, ◌-◌, ◌*◌, ◌^◌, ◌<◌, arith, ap, sym, subst, ◌∙◌, length}
 use Rattle.std.specs.Prelude.{All, remove, slice_set}
 use Rattle.label_core.specs.Labels.{IsLabel, next}
 use Rattle.ticket_core.specs.Tickets.{stamp_ticket}

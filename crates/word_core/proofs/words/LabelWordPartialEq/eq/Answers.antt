@@ -1,4 +1,4 @@
-use Rattle.std.proofs.Common.{◌≡◌, ◌-◌, ap, refl, sym, ◌∙◌, length}
+use Rattle.std.proofs.Common.{◌-◌, ap, refl, sym, ◌∙◌, length}
 use Rattle.word_core.specs.Packed.{word}
 use Rattle.word_core.specs.Packing.{length-labels_in, word-labels_in}
 use Rattle.word_core.proofs.words.LabelWordPartialEq.eq.Goals as goal
