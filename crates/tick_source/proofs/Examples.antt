@@ -1,8 +1,7 @@
 -- Small programs, and what the definitions make of them.
-use Rattle.std.proofs.Common.{◌≡◌, ℕ, List, [], ◌∷◌, replicate, Result, Ok, Err, refl}
+use Rattle.std.proofs.Common.{◌≡◌, ℕ, List, [], ◌∷◌, Err, refl}
 use Rattle.tick_syntax.specs.declared.tree.Op.TheVariants as O
-use Rattle.tick_syntax.specs.Plain.{Expression, number, named, me, count, binary, Statement, assign, fetch, put, stamp, scan, copy, older, out, test, loop, Block, nil, cons, WholeProgram}
-use Rattle.tick_source.specs.declared.event.Trap.{Trap}
+use Rattle.tick_syntax.specs.Plain.{number, named, me, binary, assign, fetch, put, stamp, scan, older, out, loop, Block, nil, cons, WholeProgram}
 use Rattle.tick_source.specs.declared.event.Trap.TheVariants as T
 use Rattle.tick_source.specs.declared.event.Status.{Status}
 use Rattle.tick_source.specs.declared.event.Status.TheVariants.{Running, Ended, Trapped}

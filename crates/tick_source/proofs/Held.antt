@@ -1,6 +1,5 @@
 -- What is shared, after a write.
 use Rattle.std.proofs.Common.{◌≡◌, ℕ, zero, suc, ◌+◌, ◌<◌, ◌≤◌, max, List, [], ◌∷◌, ◌++◌, refl, ap, ◌∙◌, sym, length, map, set, get_or, replicate, arith, Vec, Global}
-use Rattle.std.specs.Vec.{vec_len}
 use Rattle.std.proofs.lemmas.List.{map-set, get_or-map, length-append, map-append, replicate_more}
 use Rattle.std.proofs.Math.Nat.{max-le, le-max_left, le-max_right}
 use Rattle.ticket_core.specs.Tickets.{start_tickets, greatest_ticket, stamp_ticket}

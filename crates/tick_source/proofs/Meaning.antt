@@ -1,6 +1,6 @@
 -- What a statement that holds blocks means, in terms of the blocks as slices.
 use Rattle.std.proofs.Common.{◌≡◌, ap, ◌∙◌, sym, List, Vec, Global}
-use Rattle.tick_syntax.specs.Plain.{Statement, test, loop}
+use Rattle.tick_syntax.specs.Plain.{test, loop}
 use Rattle.tick_kinds.specs.declared.resolved.Expression as DeclaredExpression
 use Rattle.tick_kinds.specs.declared.resolved.Statement as DeclaredStatement
 use Rattle.tick_kinds.specs.declared.resolved.Statement.TheVariants as S

@@ -1,5 +1,5 @@
 -- Each step keeps that there is a ticket for each process, in each scan too; and what a step of the machine is.
-use Rattle.std.proofs.Common.{◌≡◌, ℕ, zero, suc, ◌+◌, ◌<◌, Bool, true, false, if◌then◌else◌, List, [], ◌∷◌, refl, ap, ◌∙◌, sym, subst, length, map, set, drop, get_or, replicate, arith, Vec, Global, Result, Ok, Err, Option, None, Some, OnOk, OnErr}
+use Rattle.std.proofs.Common.{◌≡◌, ℕ, zero, suc, ◌+◌, ◌<◌, Bool, true, false, if◌then◌else◌, List, [], ◌∷◌, refl, ap, ◌∙◌, sym, subst, length, map, set, drop, get_or, replicate, arith, Result, Ok, Err, Option, None, Some, OnOk, OnErr}
 use Rattle.std.specs.Prelude.{nat_lt, slice_get, slice_set}
 use Rattle.std.specs.List.{All}
 use Rattle.std.specs.Option.{option_map}
@@ -8,14 +8,13 @@ use Rattle.std.proofs.lemmas.List.Elements.{All-set, All-get_or, All-replicate}
 use Rattle.std.proofs.lemmas.Option.{slice_get-map, slice_get_read}
 use Rattle.std.proofs.Math.Seq.{map-set_same, drop-cons, drop-length}
 use Rattle.std.proofs.Math.ListN.{get_or-map}
-use Rattle.ticket_core.specs.Tickets.{start_tickets, stamp_ticket, greatest_ticket}
-use Rattle.tick_syntax.specs.Plain.{Expression, Statement, assign, fetch, put, stamp, scan, copy, older, out, test, loop, Block, nil, cons, WholeProgram}
+use Rattle.ticket_core.specs.Tickets.{start_tickets, greatest_ticket}
+use Rattle.tick_syntax.specs.Plain.{Statement, assign, fetch, put, stamp, scan, copy, older, out, test, loop, Block, nil, cons, WholeProgram}
 use Rattle.tick_source.specs.declared.event.Trap.{Trap}
 use Rattle.tick_source.specs.declared.event.Status.{Status}
 use Rattle.tick_source.specs.declared.event.Status.TheVariants.{Running, Ended, Trapped}
 use Rattle.tick_source.specs.declared.no_memory.NoMemory.{NoMemory}
 use Rattle.tick_source.specs.declared.process.Process.{Process}
-use Rattle.tick_source.specs.declared.shared.Shared.{Shared}
 use Rattle.tick_source.specs.declared.machine.SourceMachine.TheInside.{Inside}
 use Rattle.tick_source.specs.Values.{value}
 use Rattle.tick_source.specs.Source.{SourceProcess, SourceState, Did, scan_at, assigns, fetches, puts, compares, outs, chooses, does, did, state_after, step_of, step_as, source_step, source_run, source_start, start_process, statuses_of}

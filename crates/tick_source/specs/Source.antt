@@ -1,7 +1,7 @@
 -- A ticket program as it runs on whole-number tickets: the state, what one step does, and the run.
-use Rattle.std.specs.Prelude.{ℕ, ◌+◌, ◌-◌, ◌==◌, nat_lt, Bool, if◌then◌else◌, List, [], ◌∷◌, ◌++◌, length, map, replicate, slice_get, slice_set, slice_index, slice_index_or, Option, Some, None, Result, Ok, Err}
+use Rattle.std.specs.Prelude.{ℕ, ◌-◌, ◌==◌, nat_lt, if◌then◌else◌, List, [], ◌∷◌, ◌++◌, length, map, replicate, slice_get, slice_set, slice_index, slice_index_or, Option, Some, None, Result, Ok, Err}
 use Rattle.ticket_core.specs.Tickets.{start_tickets, stamp_ticket, ticket_ranks, older_ticket}
-use Rattle.tick_syntax.specs.Plain.{Expression, Statement, assign, fetch, put, stamp, scan, copy, older, out, test, loop, Block, nil, cons, onto, WholeProgram}
+use Rattle.tick_syntax.specs.Plain.{Statement, assign, fetch, put, stamp, scan, copy, older, out, test, loop, Block, nil, cons, onto, WholeProgram}
 use Rattle.tick_source.specs.declared.event.Trap.{Trap}
 use Rattle.tick_source.specs.declared.event.Trap.TheVariants as T
 use Rattle.tick_source.specs.declared.event.Status.{Status}

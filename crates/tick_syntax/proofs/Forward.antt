@@ -1,8 +1,6 @@
 -- What the grammar has the reader reads.
-use Rattle.std.proofs.Common.{◌≡◌, ◌≢◌, ℕ, zero, suc, ◌+◌, ◌<◌, ◌≤◌, Bool, true, false, List, [], ◌∷◌, ◌++◌, length, Option, Some, None, Result, Ok, Err, Bor, refl, sym, ◌∙◌, ap, subst, arith, max}
+use Rattle.std.proofs.Common.{◌≡◌, ℕ, zero, suc, ◌<◌, ◌≤◌, false, List, [], ◌∷◌, length, Ok, Bor, refl, sym, ◌∙◌, ap, subst, arith}
 use Rattle.tick_syntax.specs.declared.span.Span.{Span}
-use Rattle.tick_syntax.specs.declared.fault.TextFault.{TextFault}
-use Rattle.tick_syntax.specs.declared.fault.TextFault.TheVariants as F
 use Rattle.tick_syntax.specs.declared.item.Item.{Item}
 use Rattle.tick_syntax.specs.declared.item.Ending.{Ending}
 use Rattle.tick_syntax.specs.declared.item.Ending.TheVariants as N
@@ -13,11 +11,11 @@ use Rattle.tick_syntax.specs.declared.item.Meaning.TheVariants as M
 use Rattle.tick_syntax.specs.declared.tree.Op.{Op}
 use Rattle.tick_syntax.specs.declared.word.Word.{Word}
 use Rattle.tick_syntax.specs.declared.word.Word.TheVariants as W
-use Rattle.tick_syntax.specs.Lexeme.{Lexeme, a_name, a_number, a_word, nothing}
+use Rattle.tick_syntax.specs.Lexeme.{Lexeme, a_name, a_number, a_word}
 use Rattle.tick_syntax.specs.Plain.{Name, Expression, number, named, me, count, binary, Statement, assign, fetch, put, stamp, scan, copy, older, out, test, loop, Block, nil, cons, WholeProgram}
 use Rattle.tick_syntax.specs.Grammar.{IsExpression, IsStatement, IsBlock, AreNames, IsSection, Derives}
 use Rattle.tick_syntax.specs.Nesting.{expression_nesting, statement_nesting, block_nesting, nesting}
-use Rattle.tick_syntax.specs.Reading.{Reading, ◌>>=◌, next_at, processes_at, begin_at, number_at, semicolon_at, becomes_at, else_at, close_at, brace_at, operator_at, name_at, pair_at, brackets_at, expression_by, expression_at, last_at, get_at, scan_at, copy_at, older_at, plain_at, right_at, assignment_at, put_at, stamp_at, out_at, choice_at, repetition_at, statement_with, statement_at, block_by, ends, statements_with, block_at, statements_at, names_at, begins, section_by, section_at, body_at, whole_at, program_at, nothing_after}
+use Rattle.tick_syntax.specs.Reading.{Reading, ◌>>=◌, next_at, processes_at, begin_at, number_at, semicolon_at, becomes_at, else_at, close_at, brace_at, operator_at, name_at, pair_at, brackets_at, expression_at, last_at, get_at, scan_at, copy_at, older_at, plain_at, right_at, assignment_at, put_at, stamp_at, out_at, choice_at, repetition_at, statement_with, statement_at, block_by, ends, statements_with, block_at, statements_at, names_at, begins, section_by, section_at, body_at, whole_at, program_at}
 use Rattle.tick_syntax.proofs.Machine.{said_by, said, says}
 use Rattle.tick_syntax.proofs.Loops.{statement_shorter, choice_gives, repetition_gives}
 

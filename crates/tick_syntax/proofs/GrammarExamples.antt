@@ -3,14 +3,13 @@ use Rattle.std.proofs.Common.{◌≡◌, ℕ, List, [], ◌∷◌, ◌++◌, Som
 use Rattle.std.specs.Fmt.{decimal}
 use Rattle.tick_syntax.specs.declared.span.Span.{Span}
 use Rattle.tick_syntax.specs.declared.token.Sort.TheVariants as K
-use Rattle.tick_syntax.specs.declared.token.Token.{Token}
 use Rattle.tick_syntax.specs.declared.tree.Op.TheVariants as O
 use Rattle.tick_syntax.specs.declared.word.Word.TheVariants as W
-use Rattle.tick_syntax.specs.Lexeme.{Lexeme, a_name, a_number, a_word, nothing, word_of, lexemes}
-use Rattle.tick_syntax.specs.Plain.{Name, Expression, number, named, me, count, binary, Statement, assign, fetch, put, stamp, scan, copy, older, out, test, loop, Block, nil, cons, WholeProgram}
+use Rattle.tick_syntax.specs.Lexeme.{Lexeme, a_name, a_number, a_word, word_of, lexemes}
+use Rattle.tick_syntax.specs.Plain.{Name, named, me, count, binary, out, loop, nil, cons, WholeProgram}
 use Rattle.tick_syntax.specs.Grammar.{Derives}
-use Rattle.tick_syntax.specs.Nesting.{nesting, open_after}
-use Rattle.tick_syntax.specs.Printed.{printed, nowhere}
+use Rattle.tick_syntax.specs.Nesting.{nesting}
+use Rattle.tick_syntax.specs.Printed.{printed}
 
 abbrev span : ℕ → ℕ → Span
 span a b = record { start = a; end = b }

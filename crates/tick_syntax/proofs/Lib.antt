@@ -28,3 +28,6 @@ pub mod Spanless
 pub mod SpansAside
 pub mod SpelledAgain
 pub mod TokensThatStand
+pub mod Covered
+pub mod OneStop
+pub mod Decided

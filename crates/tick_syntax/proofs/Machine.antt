@@ -1,15 +1,13 @@
 -- What may still come, as a stack of symbols, and the first item at which nothing does.
-use Rattle.std.proofs.Common.{◌≡◌, ℕ, zero, suc, ◌+◌, ◌<◌, Bool, true, false, List, [], ◌∷◌, ◌++◌, length, map, Option, Some, None, nat_eq}
+use Rattle.std.proofs.Common.{ℕ, suc, Bool, true, false, List, [], ◌∷◌, ◌++◌, Option, Some, None, nat_eq}
 use Rattle.tick_syntax.specs.declared.span.Span.{Span}
 use Rattle.tick_syntax.specs.declared.fault.TextFault.{TextFault}
 use Rattle.tick_syntax.specs.declared.fault.TextFault.TheVariants as F
 use Rattle.tick_syntax.specs.declared.item.Item.{Item}
 use Rattle.tick_syntax.specs.declared.item.Ending.{Ending}
 use Rattle.tick_syntax.specs.declared.item.Ending.TheVariants as N
-use Rattle.tick_syntax.specs.declared.item.Meaning.{Meaning}
-use Rattle.tick_syntax.specs.declared.item.Meaning.TheVariants as M
 use Rattle.tick_syntax.specs.declared.word.Word.TheVariants as W
-use Rattle.tick_syntax.specs.Lexeme.{Lexeme, a_name, a_number, a_word, nothing}
+use Rattle.tick_syntax.specs.Lexeme.{Lexeme, a_name, a_number, a_word}
 pub use Rattle.tick_syntax.specs.Items.{said_by, said}
 
 abbrev pub says : List Item → List Lexeme

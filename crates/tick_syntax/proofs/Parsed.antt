@@ -12,7 +12,7 @@ use Rattle.tick_syntax.specs.declared.token.Sort.{Sort}
 use Rattle.tick_syntax.specs.declared.token.Sort.TheVariants as K
 use Rattle.tick_syntax.proofs.TokensStand.{each_stands, word_is_ascii}
 use Rattle.std.proofs.lemmas.Option.{slice_get-get_or}
-use Rattle.tick_syntax.specs.Lexeme.{Lexeme, lexeme_of, lexemes}
+use Rattle.tick_syntax.specs.Lexeme.{lexeme_of, lexemes}
 use Rattle.tick_syntax.specs.Nesting.{nesting}
 use Rattle.tick_syntax.specs.Plain.{Name, WholeProgram}
 use Rattle.tick_syntax.proofs.Forward.{program_takes}

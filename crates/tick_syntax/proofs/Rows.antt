@@ -1,5 +1,5 @@
 -- The lists of statements in a declared statement are plain blocks.
-use Rattle.std.proofs.Common.{◌≡◌, List, Vec, Global, refl, ◌∙◌, ap}
+use Rattle.std.proofs.Common.{◌≡◌, Vec, Global, refl, ◌∙◌, ap}
 use Rattle.tick_syntax.specs.declared.tree.Expr.{Expr}
 use Rattle.tick_syntax.specs.declared.tree.Stmt.{Stmt, Row_of-Stmt, end_of-Stmt, more_of-Stmt}
 use Rattle.tick_syntax.specs.declared.tree.Stmt.TheVariants as S

@@ -1,24 +1,19 @@
 -- What the reader reads is what the grammar has, and where it stops nothing goes on.
-use Rattle.std.proofs.Common.{◌≡◌, ◌≢◌, ℕ, zero, suc, ◌+◌, ◌<◌, ◌≤◌, ◌⊎◌, inl, inr, Bool, true, false, List, [], ◌∷◌, ◌++◌, length, map, Option, Some, None, Result, Ok, Err, refl, sym, ◌∙◌, ap, subst, append_assoc, arith, max, nat_eq, eq-eqb}
+use Rattle.std.proofs.Common.{◌≡◌, ◌≢◌, ℕ, zero, suc, ◌+◌, ◌<◌, ◌≤◌, ◌⊎◌, inl, inr, true, false, List, [], ◌∷◌, ◌++◌, length, Some, None, Result, Ok, Err, refl, ◌∙◌, ap, subst, append_assoc, arith, nat_eq, eq-eqb}
 use Rattle.std.proofs.lemmas.Bool.{ne_eqb}
 use Rattle.tick_syntax.specs.declared.span.Span.{Span}
 use Rattle.tick_syntax.specs.declared.fault.TextFault.{TextFault}
 use Rattle.tick_syntax.specs.declared.fault.TextFault.TheVariants as F
 use Rattle.tick_syntax.specs.declared.item.Item.{Item}
-use Rattle.tick_syntax.specs.declared.item.Ending.{Ending}
-use Rattle.tick_syntax.specs.declared.item.Ending.TheVariants as N
-use Rattle.tick_syntax.specs.declared.item.Section.{Section}
-use Rattle.tick_syntax.specs.declared.item.Section.TheVariants as C
 use Rattle.tick_syntax.specs.declared.item.Meaning.{Meaning}
 use Rattle.tick_syntax.specs.declared.item.Meaning.TheVariants as M
-use Rattle.tick_syntax.specs.declared.tree.Op.{Op}
 use Rattle.tick_syntax.specs.declared.word.Word.TheVariants as W
-use Rattle.tick_syntax.specs.Lexeme.{Lexeme, a_name, a_number, a_word, nothing}
-use Rattle.tick_syntax.specs.Plain.{Name, Expression, number, named, me, count, binary, Statement, assign, fetch, put, stamp, scan, copy, older, out, test, loop, Block, nil, cons, WholeProgram}
-use Rattle.tick_syntax.specs.Grammar.{IsExpression, IsStatement, IsBlock, AreNames, IsSection, Derives}
-use Rattle.tick_syntax.specs.Nesting.{expression_nesting, statement_nesting, block_nesting}
+use Rattle.tick_syntax.specs.Lexeme.{Lexeme, a_name, a_word}
+use Rattle.tick_syntax.specs.Plain.{Name, Expression}
+use Rattle.tick_syntax.specs.Grammar.{IsExpression}
+use Rattle.tick_syntax.specs.Nesting.{expression_nesting}
 use Rattle.tick_syntax.specs.Reading.{Reading, ◌>>=◌, next_at, semicolon_at, semicolon_by, becomes_at, becomes_by, else_at, else_by, close_at, close_by, operator_at, operator_by, name_at, name_by, pair_at, brackets_at, expression_by, expression_at, last_at}
-use Rattle.tick_syntax.proofs.Machine.{said_by, said, says, Symbol, s_program, s_number, s_semicolon, s_variables, s_scans, s_registers, s_begin, s_names, s_more, s_name, s_becomes, s_else, s_close, s_operator, s_expression, s_right, s_block, s_statement, s_until, step, opened, is_full, on_stack, fault_by, fault}
+use Rattle.tick_syntax.proofs.Machine.{said_by, says, Symbol, s_semicolon, s_name, s_becomes, s_else, s_close, s_operator, s_expression, step, opened, is_full, on_stack, fault_by, fault}
 
 pub bind_ok : {A B : Type 0} (m : Result A TextFault) (f : A → Result B TextFault) (y : B)
     → (m >>= f) ≡ Ok y → (x : A) × (m ≡ Ok x) × (f x ≡ Ok y)

@@ -1,5 +1,5 @@
 -- What the reader reads is what the grammar has: whole programs.
-use Rattle.std.proofs.Common.{◌≡◌, ℕ, zero, suc, ◌+◌, ◌<◌, ◌≤◌, Bool, true, false, List, [], ◌∷◌, ◌++◌, length, Option, Some, None, Result, Ok, Err, refl, sym, ◌∙◌, ap, subst, arith, inl, inr}
+use Rattle.std.proofs.Common.{◌≡◌, ℕ, ◌≤◌, List, [], ◌∷◌, Some, None, Ok, Err, refl, sym, ◌∙◌, ap, subst, arith, inl, inr}
 use Rattle.tick_syntax.specs.declared.span.Span.{Span}
 use Rattle.tick_syntax.specs.declared.fault.TextFault.{TextFault}
 use Rattle.tick_syntax.specs.declared.fault.TextFault.TheVariants as F
@@ -16,9 +16,9 @@ use Rattle.tick_syntax.specs.Plain.{Name, Block, WholeProgram}
 use Rattle.tick_syntax.specs.Grammar.{IsBlock, AreNames, IsSection, Derives}
 use Rattle.tick_syntax.specs.Nesting.{block_nesting, nesting}
 use Rattle.tick_syntax.specs.Reading.{Reading, ◌>>=◌, next_at, processes_at, processes_by, begin_at, begin_by, number_at, number_by, semicolon_at, name_by, names_by, names_at, begins, section_by, section_at, statements_at, body_at, whole_at, program_at, nothing_after}
-use Rattle.tick_syntax.proofs.Machine.{said_by, said, says, Symbol, s_program, s_number, s_semicolon, s_variables, s_scans, s_registers, s_begin, s_names, s_more, s_until, step, opened, fault}
+use Rattle.tick_syntax.proofs.Machine.{said_by, said, says, Symbol, s_program, s_number, s_semicolon, s_variables, s_scans, s_registers, s_begin, s_names, s_more, s_until, fault}
 use Rattle.tick_syntax.proofs.Sound.{bind_ok, bind_err, Reads, reads_bind, reads_map, refuse, accept, enter, by_next, by_next_then, stand_in, weaken, nothing_left, semicolon_reads}
-use Rattle.tick_syntax.proofs.SoundStatements.{IsBlockIn, statements_reads}
+use Rattle.tick_syntax.proofs.SoundStatements.{statements_reads}
 
 module _ (end limit : ℕ) where
   -- one name or more, and the `;` after them

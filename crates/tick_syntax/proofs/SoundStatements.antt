@@ -1,8 +1,6 @@
 -- What the reader reads is what the grammar has: statements.
-use Rattle.std.proofs.Common.{◌≡◌, ◌≢◌, ℕ, zero, suc, ◌+◌, ◌<◌, ◌≤◌, Bool, true, false, List, [], ◌∷◌, ◌++◌, length, Option, Some, None, Result, Ok, Err, refl, sym, ◌∙◌, ap, subst, arith, max}
+use Rattle.std.proofs.Common.{◌≡◌, ℕ, zero, suc, ◌<◌, ◌≤◌, List, [], ◌∷◌, length, Ok, refl, sym, ◌∙◌, ap, subst, arith}
 use Rattle.tick_syntax.specs.declared.span.Span.{Span}
-use Rattle.tick_syntax.specs.declared.fault.TextFault.{TextFault}
-use Rattle.tick_syntax.specs.declared.fault.TextFault.TheVariants as F
 use Rattle.tick_syntax.specs.declared.item.Item.{Item}
 use Rattle.tick_syntax.specs.declared.item.Ending.{Ending}
 use Rattle.tick_syntax.specs.declared.item.Ending.TheVariants as N
@@ -10,12 +8,12 @@ use Rattle.tick_syntax.specs.declared.item.Meaning.{Meaning}
 use Rattle.tick_syntax.specs.declared.item.Meaning.TheVariants as M
 use Rattle.tick_syntax.specs.declared.word.Word.{Word}
 use Rattle.tick_syntax.specs.declared.word.Word.TheVariants as W
-use Rattle.tick_syntax.specs.Lexeme.{Lexeme, a_name, a_number, a_word, nothing}
-use Rattle.tick_syntax.specs.Plain.{Name, Expression, Statement, assign, fetch, put, stamp, scan, copy, older, out, test, loop, Block, nil, cons}
+use Rattle.tick_syntax.specs.Lexeme.{Lexeme, a_name, a_word}
+use Rattle.tick_syntax.specs.Plain.{Name, Statement, Block, nil}
 use Rattle.tick_syntax.specs.Grammar.{IsExpression, IsStatement, IsBlock}
 use Rattle.tick_syntax.specs.Nesting.{expression_nesting, statement_nesting, block_nesting}
-use Rattle.tick_syntax.specs.Reading.{Reading, ◌>>=◌, next_at, semicolon_at, brace_at, brace_by, name_at, expression_at, last_at, get_at, scan_at, copy_at, older_at, plain_at, right_by, right_at, assignment_at, put_at, stamp_at, out_at, choice_at, repetition_at, statement_by, statement_with, block_by, ends, statements_with, block_at, statement_at, statements_at}
-use Rattle.tick_syntax.proofs.Machine.{said_by, said, says, Symbol, s_semicolon, s_name, s_becomes, s_else, s_expression, s_right, s_block, s_statement, s_until, step, opened, is_full, fault_by, fault}
+use Rattle.tick_syntax.specs.Reading.{Reading, ◌>>=◌, next_at, brace_at, brace_by, get_at, scan_at, copy_at, older_at, plain_at, right_by, right_at, assignment_at, put_at, stamp_at, out_at, choice_at, repetition_at, statement_by, statement_with, block_by, ends, statements_with, block_at, statement_at, statements_at}
+use Rattle.tick_syntax.proofs.Machine.{said_by, says, s_semicolon, s_name, s_becomes, s_else, s_expression, s_right, s_block, s_statement, s_until, opened}
 use Rattle.tick_syntax.proofs.Sound.{Reads, reads_bind, reads_bind_shorter, reads_map, refuse, refuse_deep, accept, enter, by_next, by_next_whole, by_next_then, stand_in, weaken, nothing_left, semicolon_reads, becomes_reads, else_reads, name_reads, expression_reads, last_reads, full_at, free_at}
 
 module _ (end limit : ℕ) where

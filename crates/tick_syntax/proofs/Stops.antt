@@ -1,21 +1,19 @@
 -- Where the reader stops, no program goes on.
-use Rattle.std.proofs.Common.{◌≡◌, ℕ, suc, ◌≤◌, ◌⊎◌, inl, inr, Bool, true, false, List, [], ◌∷◌, ◌++◌, length, Option, Some, None, Result, Ok, Err, IfErr, refl, sym, ◌∙◌, ap, subst, arith}
+use Rattle.std.proofs.Common.{◌≡◌, ℕ, ◌≤◌, ◌⊎◌, inl, inr, Bool, true, false, List, [], ◌∷◌, ◌++◌, length, Option, Some, None, Result, Ok, Err, IfErr, refl, sym, ◌∙◌, ap, subst, arith}
 use Rattle.tick_syntax.specs.declared.span.Span.{Span}
 use Rattle.tick_syntax.specs.declared.fault.TextFault.{TextFault}
 use Rattle.tick_syntax.specs.declared.fault.TextFault.TheVariants as F
 use Rattle.tick_syntax.specs.declared.item.Item.{Item}
 use Rattle.tick_syntax.specs.declared.token.Token.{Token}
 use Rattle.tick_syntax.specs.declared.tree.Tree.{Tree}
-use Rattle.tick_syntax.specs.Grammar.{Derives, GoesOn}
 use Rattle.tick_syntax.specs.Items.{SayAs}
-use Rattle.tick_syntax.specs.Lexeme.{Lexeme, lexeme_of, lexemes}
+use Rattle.tick_syntax.specs.Lexeme.{lexeme_of, lexemes}
 use Rattle.tick_syntax.specs.Nesting.{IsOpening, open_by, open_after, IsShallow}
-use Rattle.tick_syntax.specs.Plain.{Name, WholeProgram}
 use Rattle.tick_syntax.specs.Reading.{GivesWhole, program_at}
 use Rattle.tick_syntax.specs.Refusal.{Begins, StopsAfter, IsUnexpected, IsTooDeep, IsOfGrammar, IsTextRefused}
 use Rattle.tick_syntax.specs.Spelling.{FaultAfter, FirstRefusal}
 use Rattle.tick_syntax.specs.View.{tree_of}
-use Rattle.tick_syntax.proofs.Machine.{said, says, Symbol, s_program, step, opened, is_full, on_stack, run_by, run, fault_by, fault}
+use Rattle.tick_syntax.proofs.Machine.{said, Symbol, s_program, step, opened, is_full, on_stack, run_by, run, fault_by, fault}
 use Rattle.tick_syntax.proofs.SoundPrograms.{program_err}
 use Rattle.tick_syntax.proofs.Table.{opens_to, full_is, fits_by, run_append, derives_runs, goes_on, goes_on_runs}
 
@@ -250,7 +248,7 @@ of_step None b span more e h go = subst IsOfGrammar (some_same (F.Unexpected spa
 of_step (Some new) true span more e h go = subst IsOfGrammar (some_same (F.TooDeep span) e h) tt
 of_step (Some new) false span more e h go = go new h
 
-of_fault : (end limit : ℕ) (is : List Item) (st : List Symbol) (e : TextFault) → fault end limit is st ≡ Some e → IsOfGrammar e
+pub of_fault : (end limit : ℕ) (is : List Item) (st : List Symbol) (e : TextFault) → fault end limit is st ≡ Some e → IsOfGrammar e
 of_fault end limit [] [] e h = absurd (cc)
 of_fault end limit [] (s ∷ st) e h = subst IsOfGrammar (some_same (F.Unexpected (record { start = end; end = end })) e h) tt
 of_fault end limit (i ∷ is) [] e h = subst IsOfGrammar (some_same (F.Unexpected i.span) e h) tt
@@ -265,3 +263,18 @@ parsed_others end is (Err e) h = of_fault end 64 is (s_program ∷ []) _ (progra
 
 pub others_by_memory : (e : TextFault) → e ≡ F.NoMemory → IsOfGrammar e
 others_by_memory e h = subst IsOfGrammar (sym h) tt
+
+-- and want of memory is none of the tokens'
+memory_step : (o : Option (List Symbol)) (b : Bool) (span : Span) (more : List Symbol → Option TextFault)
+    → fault_by o b span more ≡ Some F.NoMemory → ((new : List Symbol) → more new ≡ Some F.NoMemory → ⊥) → ⊥
+memory_step None b span more h go = unexpected_is_not span (some_same (F.Unexpected span) F.NoMemory h)
+memory_step (Some new) true span more h go = deep_is_not span (some_same (F.TooDeep span) F.NoMemory h)
+memory_step (Some new) false span more h go = go new h
+
+pub no_memory : (end limit : ℕ) (is : List Item) (st : List Symbol) → fault end limit is st ≡ Some F.NoMemory → ⊥
+no_memory end limit [] [] h = cc
+no_memory end limit [] (s ∷ st) h = unexpected_is_not (record { start = end; end = end }) (some_same _ F.NoMemory h)
+no_memory end limit (i ∷ is) [] h = unexpected_is_not i.span (some_same (F.Unexpected i.span) F.NoMemory h)
+no_memory end limit (i ∷ is) (s ∷ st) h =
+    memory_step (on_stack (step s (said i)) st) (is_full limit (said i) (opened (s ∷ st))) i.span (fault end limit is) h
+    (λ new k. no_memory end limit is new k)

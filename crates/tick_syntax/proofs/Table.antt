@@ -1,21 +1,17 @@
 -- Tokens that go on to a program are those that leave symbols which may still come.
-use Rattle.std.proofs.Common.{◌≡◌, ◌≢◌, ℕ, zero, suc, ◌+◌, ◌<◌, ◌≤◌, ◌⊎◌, inl, inr, Bool, true, false, List, [], ◌∷◌, ◌++◌, length, Option, Some, None, Result, Ok, Err, refl, sym, ◌∙◌, ap, subst, append_assoc, arith, nat_eq}
+use Rattle.std.proofs.Common.{◌≡◌, ◌≢◌, ℕ, suc, ◌+◌, ◌<◌, ◌≤◌, Bool, true, false, List, [], ◌∷◌, ◌++◌, length, Option, Some, None, Result, Ok, Err, refl, sym, ◌∙◌, ap, subst, arith}
 use Rattle.std.proofs.lemmas.Bool.{ne_eqb, eqb-true, eqb-false}
 use Rattle.tick_syntax.specs.declared.span.Span.{Span}
 use Rattle.tick_syntax.specs.declared.fault.TextFault.{TextFault}
-use Rattle.tick_syntax.specs.declared.fault.TextFault.TheVariants as F
 use Rattle.tick_syntax.specs.declared.item.Item.{Item}
-use Rattle.tick_syntax.specs.declared.item.Ending.{Ending}
 use Rattle.tick_syntax.specs.declared.item.Ending.TheVariants as N
 use Rattle.tick_syntax.specs.declared.item.Meaning.TheVariants as M
 use Rattle.tick_syntax.specs.declared.tree.Op.TheVariants as O
-use Rattle.tick_syntax.specs.declared.token.Token.{Token}
 use Rattle.tick_syntax.specs.declared.word.Word.TheVariants as W
-use Rattle.tick_syntax.specs.Items.{SayAs}
-use Rattle.tick_syntax.specs.Lexeme.{Lexeme, a_name, a_number, a_word, nothing, lexeme_of, lexemes}
+use Rattle.tick_syntax.specs.Lexeme.{Lexeme, a_name, a_number, a_word, nothing}
 use Rattle.tick_syntax.specs.Plain.{Name, WholeProgram}
 use Rattle.tick_syntax.specs.Grammar.{Derives, GoesOn}
-use Rattle.tick_syntax.specs.Nesting.{nesting, IsOpening, open_by, open_after, IsShallow}
+use Rattle.tick_syntax.specs.Nesting.{nesting, IsOpening, open_by}
 use Rattle.tick_syntax.specs.Reading.{program_at}
 use Rattle.tick_syntax.proofs.Machine.{said, says, Symbol, s_program, s_number, s_semicolon, s_variables, s_scans, s_registers, s_begin, s_names, s_more, s_name, s_becomes, s_else, s_close, s_operator, s_expression, s_right, s_block, s_statement, s_until, step, opened, is_full, on_stack, run_by, run, fault_by, fault}
 use Rattle.tick_syntax.proofs.SoundPrograms.{program_ok, program_err}

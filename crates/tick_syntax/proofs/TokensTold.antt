@@ -23,7 +23,7 @@ not_by_length : (at : ℕ) (text : List ℕ) (before : List Token) → FaultAfte
 not_by_length at text [] fails = fails
 not_by_length at text (token ∷ before) fails = not_by_length token.span.end fails.0 before fails.2
 
-refusal_of : (text : List ℕ) (fault : TextFault) → length text ≤ 1000000 → FirstFault text fault → FirstRefusal text fault
+pub refusal_of : (text : List ℕ) (fault : TextFault) → length text ≤ 1000000 → FirstFault text fault → FirstRefusal text fault
 refusal_of text TextTooLong short fails = absurd (not_by_length 0 text fails.0 fails.1)
 refusal_of text (BadCharacter place) short fails = (short, fails)
 refusal_of text (NumberTooBig span) short fails = (short, fails)
@@ -32,7 +32,7 @@ refusal_of text (Unexpected span) short fails = (short, fails)
 refusal_of text (TooDeep span) short fails = (short, fails)
 refusal_of text NoMemory short fails = (short, fails)
 
-fault_of : (text : List ℕ) (fault : TextFault) → length text ≤ 1000000 → FirstRefusal text fault → FirstFault text fault
+pub fault_of : (text : List ℕ) (fault : TextFault) → length text ≤ 1000000 → FirstRefusal text fault → FirstFault text fault
 fault_of text TextTooLong short refusal = absurd (omega arith)
 fault_of text (BadCharacter place) short refusal = refusal.1
 fault_of text (NumberTooBig span) short refusal = refusal.1

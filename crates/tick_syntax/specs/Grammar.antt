@@ -1,5 +1,5 @@
 -- The grammar: which tokens are which program. Each relation ends with the tokens that follow.
-use Rattle.std.specs.Prelude.{◌≡◌, ℕ, List, [], ◌∷◌, ◌++◌}
+use Rattle.std.specs.Prelude.{◌≡◌, List, [], ◌∷◌, ◌++◌}
 use Rattle.tick_syntax.specs.declared.span.Span.{Span}
 use Rattle.tick_syntax.specs.declared.word.Word.{Word}
 use Rattle.tick_syntax.specs.declared.word.Word.TheVariants as W

@@ -13,3 +13,4 @@ pub mod Spelling
 pub mod Items
 pub mod Printing
 pub mod RoundTrip
+pub mod Decided

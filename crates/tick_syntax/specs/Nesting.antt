@@ -1,7 +1,7 @@
 -- How deep brackets stand within one another.
 use Rattle.std.specs.Prelude.{ℕ, suc, ◌-◌, ◌≤◌, List, [], ◌∷◌, max}
 use Rattle.tick_syntax.specs.declared.word.Word.TheVariants as W
-use Rattle.tick_syntax.specs.Lexeme.{Lexeme, a_name, a_number, a_word, nothing}
+use Rattle.tick_syntax.specs.Lexeme.{Lexeme, a_word}
 use Rattle.tick_syntax.specs.Plain.{Expression, number, named, me, count, binary, Statement, assign, fetch, put, stamp, scan, copy, older, out, test, loop, Block, nil, cons, WholeProgram}
 
 -- the deepest `(` and `{` of a tree: how many are open at once where most are

@@ -1,6 +1,6 @@
 -- Programs as plain trees. A is what stands for a name: its letters with their place as a text has it,
 -- or a number once names are resolved.
-use Rattle.std.specs.Prelude.{ℕ, List, [], ◌∷◌, map}
+use Rattle.std.specs.Prelude.{ℕ, List, map}
 use Rattle.tick_syntax.specs.declared.span.Span.{Span}
 use Rattle.tick_syntax.specs.declared.tree.Op.{Op}
 

@@ -13,7 +13,7 @@ use Rattle.tick_syntax.specs.declared.item.Meaning.{Meaning}
 use Rattle.tick_syntax.specs.declared.item.Meaning.TheVariants as M
 use Rattle.tick_syntax.specs.declared.tree.Op.{Op}
 use Rattle.tick_syntax.specs.declared.word.Word.TheVariants as W
-use Rattle.tick_syntax.specs.Plain.{Name, Expression, number, named, me, count, binary, Statement, assign, fetch, put, stamp, scan, copy, older, out, test, loop, Block, nil, cons, onto, WholeProgram}
+use Rattle.tick_syntax.specs.Plain.{Name, Expression, number, named, me, count, binary, Statement, assign, fetch, put, stamp, scan, copy, older, out, test, loop, Block, nil, cons, WholeProgram}
 
 -- what was read and the items after it, or a refusal
 abbrev pub Reading : Type 0 → Type 0

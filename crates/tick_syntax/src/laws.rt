@@ -1,4 +1,5 @@
 // What holds of texts and programs at large.
+ghost use Rattle.tick_syntax.specs.Decided.{OneProgram, OneRefusal, NeverBoth, NeverNeither};
 ghost use Rattle.tick_syntax.specs.RoundTrip.{PrintedReadsBack, PrintedStays, SpansDoNotShow};
 
 /// Printing and reading. Of every program that some text is, the printed form
@@ -8,4 +9,13 @@ pub fn law_print()
     ensures reads_back { PrintedReadsBack }
     ensures stays { PrintedStays }
     ensures spans { SpansDoNotShow }
+{}
+
+/// Reading. Each text is one program within the limits, or it has one refusal;
+/// it is never both, and never neither.
+pub fn law_reading()
+    ensures one_program { OneProgram }
+    ensures one_refusal { OneRefusal }
+    ensures never_both { NeverBoth }
+    ensures never_neither { NeverNeither }
 {}

@@ -4,3 +4,4 @@ pub mod OrderLemmas
 pub mod TextLemmas
 pub mod StopLemmas
 pub mod ProgramLemmas
+pub mod AnswerLemmas

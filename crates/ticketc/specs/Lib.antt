@@ -10,3 +10,4 @@ pub mod Ordering
 pub mod Programs
 pub mod Commands
 pub mod Serving
+pub mod OneAnswer

@@ -1,4 +1,6 @@
 //! Ends over a reader and a writer of the standard library, as standard input and output.
+ghost use Rattle.std.specs.Prelude.{◌≡◌};
+
 use crate::ends::{ByteSink, ByteSource, Transfer};
 use std::io::{ErrorKind, Read, Write};
 
@@ -12,7 +14,11 @@ pub struct Source<R> {
 }
 
 impl<R: Read> Source<R> {
-    pub fn new(reader: R) -> Source<R> {
+    /// An input over a reader that no call was made of.
+    pub fn new(reader: R) -> Source<R>
+        ensures reader { result.reader ≡ reader }
+        ensures counts { (result.calls ≡ 0) × (result.failures ≡ 0) × (result.interruptions ≡ 0) }
+    {
         Source {
             reader,
             calls: 0,
@@ -59,7 +65,11 @@ pub struct Sink<W> {
 }
 
 impl<W: Write> Sink<W> {
-    pub fn new(writer: W) -> Sink<W> {
+    /// An output over a writer that no call was made of.
+    pub fn new(writer: W) -> Sink<W>
+        ensures writer { result.writer ≡ writer }
+        ensures counts { (result.calls ≡ 0) × (result.failures ≡ 0) × (result.interruptions ≡ 0) }
+    {
         Sink {
             writer,
             calls: 0,

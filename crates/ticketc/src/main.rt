@@ -7,6 +7,7 @@ mod ends;
 mod engine;
 mod fault;
 mod host;
+mod laws;
 mod order;
 mod program;
 mod reading;

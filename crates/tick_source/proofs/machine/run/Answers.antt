@@ -1,7 +1,7 @@
-use Rattle.std.proofs.Common.{◌≡◌, IfOk, ap, ◌∙◌, subst, arith, length, map, get_or, drop}
+use Rattle.std.proofs.Common.{◌≡◌, IfOk, ap, ◌∙◌, subst, arith, length, map, get_or}
 use Rattle.std.proofs.lemmas.List.{length-replicate}
 use Rattle.tick_kinds.specs.Resolution.{resolved}
-use Rattle.tick_source.specs.Source.{SourceState, source, source_run, start_process, statuses_of}
+use Rattle.tick_source.specs.Source.{source, source_run, start_process, statuses_of}
 use Rattle.tick_source.proofs.Sound.{processes_kept, run_more, run_done}
 use Rattle.tick_source.proofs.machine.run.Goals as goal
 

@@ -1,4 +1,4 @@
-use Rattle.std.proofs.Common.{◌≡◌, ◌<◌, arith, [], ◌∷◌}
+use Rattle.std.proofs.Common.{◌<◌, arith, [], ◌∷◌}
 use Rattle.std.proofs.lemmas.List.Elements.{All-from_recursion}
 use Rattle.tick_kinds.specs.Resolution.{resolved}
 use Rattle.tick_source.proofs.tests.runs_a_schedule.Goals as goal

@@ -1,4 +1,4 @@
-use Rattle.std.proofs.Common.{◌∙◌, subst, sym}
+use Rattle.std.proofs.Common.{◌∙◌}
 use Rattle.std.proofs.lemmas.Result.{err_from_is_err_and}
 use Rattle.tick_syntax.proofs.Parsed.{parse_accepted}
 use Rattle.tick_syntax.proofs.Stops.{first_is_refused}

@@ -1,4 +1,4 @@
-use Rattle.std.proofs.Common.{◌≡◌, ap, ◌∙◌, sym, arith, map, replicate}
+use Rattle.std.proofs.Common.{◌≡◌, ap, ◌∙◌, arith, map, replicate}
 use Rattle.tick_kinds.specs.Resolution.{resolved}
 use Rattle.tick_source.specs.Source.{start_process}
 use Rattle.tick_source.specs.Machine.{process_of}

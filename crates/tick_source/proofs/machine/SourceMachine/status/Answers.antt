@@ -1,4 +1,4 @@
-use Rattle.std.proofs.Common.{◌≡◌, ◌<◌, ap, ◌∙◌, sym, arith, length, Some}
+use Rattle.std.proofs.Common.{◌<◌, ap, ◌∙◌, sym, length}
 use Rattle.std.specs.Prelude.{slice_get}
 use Rattle.tick_source.specs.Source.{statuses_of}
 use Rattle.tick_source.proofs.Sound.{in_range, status_held}

@@ -1,8 +1,5 @@
-use Rattle.std.proofs.Common.{◌≡◌, ◌<◌, ap, ◌∙◌, sym, refl, arith, length}
+use Rattle.std.proofs.Common.{◌<◌, ap, ◌∙◌, refl, length}
 use Rattle.std.specs.Vec.{with_item}
-use Rattle.std.proofs.lemmas.List.{length-map}
-use Rattle.tick_source.specs.declared.machine.SourceMachine.TheInside.{Inside}
-use Rattle.tick_source.specs.Machine.{process_of}
 use Rattle.tick_source.proofs.Sound.{in_range, sound_step, step_ok, step_err, step_stopped, processes_after, processes_kept}
 use Rattle.tick_source.proofs.machine.SourceMachine.step.Goals as goal
 

@@ -1,6 +1,5 @@
-use Rattle.std.proofs.Common.{◌≡◌, OnOk, ap, ◌∙◌, sym, subst}
-use Rattle.tick_kinds.specs.Resolved.{resolved_statement}
-use Rattle.tick_syntax.specs.Plain.{Statement, cons}
+use Rattle.std.proofs.Common.{OnOk, ap, ◌∙◌, sym, subst}
+use Rattle.tick_syntax.specs.Plain.{cons}
 use Rattle.tick_source.specs.Remaining.{after_first}
 use Rattle.tick_source.specs.Steps.{Makes, does_from}
 use Rattle.tick_source.proofs.Meaning.{if_means, while_means}

@@ -1,4 +1,4 @@
-use Rattle.std.proofs.Common.{◌≡◌, ap, ◌∙◌, sym, subst}
+use Rattle.std.proofs.Common.{ap, ◌∙◌, sym, subst}
 use Rattle.tick_source.specs.Remaining.{joined, IsUndone}
 use Rattle.tick_source.proofs.Open.{joined_more, undone_more, more_of}
 use Rattle.tick_kinds.specs.Resolved.{resolved_block}

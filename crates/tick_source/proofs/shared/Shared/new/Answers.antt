@@ -1,4 +1,4 @@
-use Rattle.std.proofs.Common.{◌≡◌, ◌≤◌, ap, ◌∙◌, sym, arith, replicate}
+use Rattle.std.proofs.Common.{◌≡◌, ap, ◌∙◌, arith, replicate}
 use Rattle.ticket_core.specs.Tickets.{greatest_ticket}
 use Rattle.tick_source.specs.Steps.{rows_of}
 use Rattle.tick_source.proofs.Held.{greatest_start, made_more}

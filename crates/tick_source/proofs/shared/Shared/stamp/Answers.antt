@@ -1,4 +1,4 @@
-use Rattle.std.proofs.Common.{◌≡◌, ◌≤◌, ap, ◌∙◌, arith, length}
+use Rattle.std.proofs.Common.{◌≤◌, arith, length}
 use Rattle.ticket_core.specs.Tickets.{greatest_ticket}
 use Rattle.tick_source.proofs.Held.{counted_on}
 use Rattle.tick_source.proofs.shared.Shared.stamp.Goals as goal

@@ -1,7 +1,7 @@
-use Rattle.std.proofs.Common.{◌≡◌, ◌∷◌, [], ◌++◌, ◌<◌, ◌∙◌, ap, sym, Ok, drop, arith}
+use Rattle.std.proofs.Common.{◌≡◌, ◌∙◌, ap, sym, Ok, drop}
 use Rattle.std.proofs.lemmas.Result.{err_from_is_err_and}
 use Rattle.tick_syntax.specs.Plain.{nil, cons, onto}
-use Rattle.tick_syntax.specs.View.{expression_of, statement_of, block_of}
+use Rattle.tick_syntax.specs.View.{statement_of, block_of}
 use Rattle.tick_syntax.proofs.Rows.{statement_of-If, statement_of-While}
 use Rattle.tick_syntax.proofs.Loops.{statements_none, statements_fail, statements_last, statements_more, statement_shorter, block_more, choice_gives, repetition_gives}
 use Rattle.tick_syntax.proofs.reader.Reader.+statement.Goals as goal

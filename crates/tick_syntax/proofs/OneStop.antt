@@ -1,0 +1,154 @@
+-- Tokens stop being a program at one place at most, and nowhere where they are one.
+use Rattle.std.proofs.Common.{◌≡◌, ℕ, ◌⊎◌, inl, inr, List, [], ◌∷◌, ◌++◌, refl, sym, ◌∙◌, ap, subst, append_assoc, arith}
+use Rattle.std.proofs.lemmas.List.{map-append, append-nil}
+use Rattle.tick_syntax.specs.declared.span.Span.{Span}
+use Rattle.tick_syntax.specs.declared.fault.TextFault.{TextFault}
+use Rattle.tick_syntax.specs.declared.fault.TextFault.TheVariants as F
+use Rattle.tick_syntax.specs.declared.token.Token.{Token}
+use Rattle.tick_syntax.specs.declared.word.Word.TheVariants as W
+use Rattle.tick_syntax.specs.Grammar.{Derives, GoesOn}
+use Rattle.tick_syntax.specs.Lexeme.{Lexeme, a_word, lexeme_of, lexemes}
+use Rattle.tick_syntax.specs.Nesting.{IsOpening, open_by, open_after, IsShallow}
+use Rattle.tick_syntax.specs.Plain.{Name, WholeProgram}
+use Rattle.tick_syntax.specs.Refusal.{StopsAfter, IsUnexpected, IsTooDeep}
+
+-- one of two fronts of a list is the other, or goes on past it
+abbrev Past : List Token → List Token → List Token → List Token → Type 0
+Past a r b q = (t : Token) × (m : List Token) × (b ≡ a ++ t ∷ m) × (r ≡ t ∷ (m ++ q))
+
+abbrev Compared : List Token → List Token → List Token → List Token → Type 0
+Compared a r b q = ((a ≡ b) × (r ≡ q)) ⊎ (Past a r b q ⊎ Past b q a r)
+
+same_head : (t u : Token) (a b : List Token) → t ∷ a ≡ u ∷ b → t ≡ u
+same_head t u a b h = cc
+
+same_tail : (t u : Token) (a b : List Token) → t ∷ a ≡ u ∷ b → a ≡ b
+same_tail t u a b h = cc
+
+more_compared : (t u : Token) (a r b q : List Token) → t ≡ u → Compared a r b q → Compared (t ∷ a) r (u ∷ b) q
+more_compared t u a r b q same (inl c) = inl (ap (λ z. z ∷ a) same ∙ ap (λ z. u ∷ z) c.0, c.1)
+more_compared t u a r b q same (inr (inl c)) = inr (inl (c.0, c.1, ap (λ z. z ∷ b) (sym same) ∙ ap (λ z. t ∷ z) c.2, c.3))
+more_compared t u a r b q same (inr (inr c)) = inr (inr (c.0, c.1, ap (λ z. z ∷ a) same ∙ ap (λ z. u ∷ z) c.2, c.3))
+
+compared : (a r b q : List Token) → a ++ r ≡ b ++ q → Compared a r b q
+compared [] r [] q e = inl (refl, e)
+compared [] r (t ∷ b) q e = inr (inl (t, b, refl, e))
+compared (t ∷ a) r [] q e = inr (inr (t, a, refl, sym e))
+compared (t ∷ a) r (u ∷ b) q e = more_compared t u a r b q (same_head t u _ _ e) (compared a r b q (same_tail t u _ _ e))
+
+-- what goes on goes on from each front of it
+front_goes_on : (a b : List Lexeme) → GoesOn (a ++ b) → GoesOn a
+front_goes_on a b g = (b ++ g.0, g.1, subst (λ z. Derives z g.1) (append_assoc a b g.0) g.2)
+
+program_goes_on : (ts : List Lexeme) (p : WholeProgram Name) → Derives ts p → GoesOn ts
+program_goes_on ts p d = ([], p, subst (λ z. Derives z p) (sym (append-nil ts)) d)
+
+-- a bracket after 64 open ones is one too many
+not_shallow : (a b : List Lexeme) (x : Lexeme) (depth : ℕ) → open_after a depth ≡ 64 → IsOpening x → IsShallow (a ++ x ∷ b) depth → ⊥
+not_shallow [] b (a_word W.Open) depth full opening shallow = omega (arith, full, shallow.0)
+not_shallow [] b (a_word W.OpenBrace) depth full opening shallow = omega (arith, full, shallow.0)
+not_shallow [] b x depth full opening shallow = absurd opening
+not_shallow (y ∷ a) b x depth full opening shallow = not_shallow a b x (open_by y depth) full opening shallow.1
+
+module _ (text : List ℕ) where
+  said_apart : (a b : List Token) → lexemes text (a ++ b) ≡ lexemes text a ++ lexemes text b
+  said_apart a b = map-append (lexeme_of text) a b
+
+  past_goes_on : (a m : List Token) (t : Token) → GoesOn (lexemes text (a ++ t ∷ m)) → GoesOn (lexemes text (a ++ t ∷ []))
+  past_goes_on a m t g =
+      front_goes_on (lexemes text (a ++ t ∷ [])) (lexemes text m)
+      (subst GoesOn (ap (lexemes text) (sym (append_assoc a (t ∷ []) m)) ∙ said_apart (a ++ t ∷ []) m) g)
+
+  -- where tokens stop they do not go on
+  stops_before : (a r m : List Token) (t : Token) (place : Span) → r ≡ t ∷ m → StopsAfter text a r place
+      → GoesOn (lexemes text (a ++ t ∷ [])) → ⊥
+  stops_before a [] m t place is stop g = absurd (cc)
+  stops_before a (u ∷ r) m t place is stop g =
+      stop.1 (subst (λ z. GoesOn (lexemes text (a ++ z ∷ []))) (sym (same_head u t r m is)) g)
+
+  one_place : (a r : List Token) (p q : Span) → StopsAfter text a r p → StopsAfter text a r q → p ≡ q
+  one_place a [] p q s z = s.0 ∙ sym z.0
+  one_place a (t ∷ r) p q s z = s.0 ∙ sym z.0
+
+  -- a front that goes on past an opening which is one too many
+  past_opening : (a m : List Token) (t u : Token) → t ≡ u → IsShallow (lexemes text (a ++ u ∷ m)) 0 → open_after (lexemes text a) 0 ≡ 64
+      → IsOpening (lexeme_of text t) → ⊥
+  past_opening a m t u same shallow full opening =
+      not_shallow (lexemes text a) (lexemes text m) (lexeme_of text u) 0 full
+      (subst (λ z. IsOpening (lexeme_of text z)) same opening)
+      (subst (λ z. IsShallow z 0) (said_apart a (u ∷ m)) shallow)
+
+  unexpected_once : (ts : List Token) (p q : Span) → IsUnexpected text ts p → IsUnexpected text ts q → p ≡ q
+  unexpected_once ts p q h k =
+      elim (compared h.0 h.1 k.0 k.1 (sym h.2 ∙ k.2)) [
+        | inl c ↦ one_place k.0 k.1 p q (subst (λ z. StopsAfter text k.0 z p) c.1 (subst (λ z. StopsAfter text z h.1 p) c.0 h.4)) k.4
+        | inr (inl c) ↦ absurd (stops_before h.0 h.1 (c.1 ++ k.1) c.0 p c.3 h.4
+            (past_goes_on h.0 c.1 c.0 (subst (λ z. GoesOn (lexemes text z)) c.2 k.3.0)))
+        | inr (inr c) ↦ absurd (stops_before k.0 k.1 (c.1 ++ h.1) c.0 q c.3 k.4
+            (past_goes_on k.0 c.1 c.0 (subst (λ z. GoesOn (lexemes text z)) c.2 h.3.0)))
+      ]
+
+  deep_once : (ts : List Token) (p q : Span) → IsTooDeep text ts p → IsTooDeep text ts q → p ≡ q
+  deep_once ts p q h k =
+      elim (compared h.0 (h.1 ∷ h.2) k.0 (k.1 ∷ k.2) (sym h.3 ∙ k.3)) [
+        | inl c ↦ h.8 ∙ ap (λ (z : Token). z.span) (same_head h.1 k.1 h.2 k.2 c.1) ∙ sym k.8
+        | inr (inl c) ↦ absurd (past_opening h.0 c.1 h.1 c.0 (same_head h.1 c.0 h.2 _ c.3)
+            (subst (λ z. IsShallow (lexemes text z) 0) c.2 k.4.1) h.5 h.6)
+        | inr (inr c) ↦ absurd (past_opening k.0 c.1 k.1 c.0 (same_head k.1 c.0 k.2 _ c.3)
+            (subst (λ z. IsShallow (lexemes text z) 0) c.2 h.4.1) k.5 k.6)
+      ]
+
+  unexpected_or_deep : (ts : List Token) (p q : Span) → IsUnexpected text ts p → IsTooDeep text ts q → ⊥
+  unexpected_or_deep ts p q h k =
+      elim (compared h.0 h.1 k.0 (k.1 ∷ k.2) (sym h.2 ∙ k.3)) [
+        | inl c ↦ stops_before h.0 h.1 k.2 k.1 p c.1 h.4 (subst (λ z. GoesOn (lexemes text (z ++ k.1 ∷ []))) (sym c.0) k.7)
+        | inr (inl c) ↦ stops_before h.0 h.1 (c.1 ++ (k.1 ∷ k.2)) c.0 p c.3 h.4
+            (past_goes_on h.0 c.1 c.0 (subst (λ z. GoesOn (lexemes text z)) c.2 k.4.0))
+        | inr (inr c) ↦ past_opening k.0 c.1 k.1 c.0 (same_head k.1 c.0 k.2 _ c.3)
+            (subst (λ z. IsShallow (lexemes text z) 0) c.2 h.3.1) k.5 k.6
+      ]
+
+  -- what stops the tokens
+  abbrev pub Stops : List Token → TextFault → Type 0
+  Stops ts (F.Unexpected place) = IsUnexpected text ts place
+  Stops ts (F.TooDeep place) = IsTooDeep text ts place
+  Stops ts _ = ⊥
+
+  pub stops_once : (ts : List Token) (a b : TextFault) → Stops ts a → Stops ts b → a ≡ b
+  stops_once ts (F.Unexpected p) (F.Unexpected q) h k = ap F.Unexpected (unexpected_once ts p q h k)
+  stops_once ts (F.Unexpected p) (F.TooDeep q) h k = absurd (unexpected_or_deep ts p q h k)
+  stops_once ts (F.TooDeep p) (F.Unexpected q) h k = absurd (unexpected_or_deep ts q p k h)
+  stops_once ts (F.TooDeep p) (F.TooDeep q) h k = ap F.TooDeep (deep_once ts p q h k)
+  stops_once ts (F.Unexpected p) F.TextTooLong h k = absurd k
+  stops_once ts (F.Unexpected p) (F.BadCharacter q) h k = absurd k
+  stops_once ts (F.Unexpected p) (F.NumberTooBig q) h k = absurd k
+  stops_once ts (F.Unexpected p) (F.NameTooLong q) h k = absurd k
+  stops_once ts (F.Unexpected p) F.NoMemory h k = absurd k
+  stops_once ts (F.TooDeep p) F.TextTooLong h k = absurd k
+  stops_once ts (F.TooDeep p) (F.BadCharacter q) h k = absurd k
+  stops_once ts (F.TooDeep p) (F.NumberTooBig q) h k = absurd k
+  stops_once ts (F.TooDeep p) (F.NameTooLong q) h k = absurd k
+  stops_once ts (F.TooDeep p) F.NoMemory h k = absurd k
+  stops_once ts F.TextTooLong b h k = absurd h
+  stops_once ts (F.BadCharacter p) b h k = absurd h
+  stops_once ts (F.NumberTooBig p) b h k = absurd h
+  stops_once ts (F.NameTooLong p) b h k = absurd h
+  stops_once ts F.NoMemory b h k = absurd h
+
+  unexpected_program : (ts : List Token) (place : Span) (p : WholeProgram Name) → Derives (lexemes text ts) p → (a r : List Token) → ts ≡ a ++ r
+      → StopsAfter text a r place → ⊥
+  unexpected_program ts place p d a [] is stop = stop.1 p (subst (λ z. Derives (lexemes text z) p) (is ∙ append-nil a) d)
+  unexpected_program ts place p d a (t ∷ r) is stop =
+      stop.1 (past_goes_on a r t (program_goes_on (lexemes text (a ++ t ∷ r)) p (subst (λ z. Derives (lexemes text z) p) is d)))
+
+  -- a program within the limits does not stop
+  pub no_stop : (ts : List Token) (p : WholeProgram Name) (fault : TextFault) → Derives (lexemes text ts) p → IsShallow (lexemes text ts) 0
+      → Stops ts fault → ⊥
+  no_stop ts p (F.Unexpected place) d shallow h = unexpected_program ts place p d h.0 h.1 h.2 h.4
+  no_stop ts p (F.TooDeep place) d shallow h =
+      past_opening h.0 h.2 h.1 h.1 refl (subst (λ z. IsShallow (lexemes text z) 0) h.3 shallow) h.5 h.6
+  no_stop ts p F.TextTooLong d shallow h = h
+  no_stop ts p (F.BadCharacter q) d shallow h = h
+  no_stop ts p (F.NumberTooBig q) d shallow h = h
+  no_stop ts p (F.NameTooLong q) d shallow h = h
+  no_stop ts p F.NoMemory d shallow h = h
