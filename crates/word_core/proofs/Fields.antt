@@ -4,11 +4,11 @@ use Rattle.std.specs.Prelude.{All, slice_index}
 use Rattle.std.proofs.Math.Seq.{drop-cons}
 use Rattle.std.proofs.lemmas.Bool.{cases_lt}
 use Rattle.std.proofs.lemmas.List.{take_at, set-append_left}
-use Rattle.std.proofs.lemmas.Nat.{pow-add, pow_below, mul-le, pow_pos, shr_split, mod_below, div-mul-add}
+use Rattle.std.proofs.lemmas.Nat.{shr_high, shr_below, mul-add-lt, shr-shr, mod-pow-add, mod_low, pow-add, pow_below, mul-le, pow_pos, shr_split, mod_below, div-mul-add}
 use Rattle.std.proofs.lemmas.List.Elements.{All-head, All-tail, All-drop, All-cons, All-get_or}
 use Rattle.label_core.specs.Labels.{IsLabel}
 use Rattle.word_core.specs.Packed.{field, word, digits_in, labels_in}
-use Rattle.word_core.specs.Packing.{length-labels_in, word_lt, label_at-labels_in}
+use Rattle.word_core.specs.Packing.{field_lt, field_set, length-labels_in, word_lt, label_at-labels_in}
 use Rattle.word_core.specs.Stamps.{label_at}
 
 -- the digits before place `at` as a number, and what that leaves of the field
@@ -132,3 +132,86 @@ taken_set n p labels row label is count inside =
 -- a word has no bit past its last label
 pub shift_gone : (bits k : ℕ) → bits < 2 ^ k → bits / 2 ^ k ≡ 0
 shift_gone bits k small = let alone : bits ≡ 0 * 2 ^ k + bits = omega arith in ap (λ b. b / 2 ^ k) alone ∙ div-mul-add 0 (2 ^ k) bits small
+
+-- One label of a word is written into its field.
+field_set_first : (rest m f f' : ℕ) → f < 2 ^ (2 * m)
+    → (((rest * 2 ^ (2 * m) + f) / 2 ^ (2 * (m * 0) + 2 * m)) * 2 ^ (2 * m) + f') * 2 ^ (2 * (m * 0)) + (rest * 2 ^ (2 * m) + f) % 2 ^ (2 * (m * 0))
+    ≡ rest * 2 ^ (2 * m) + f'
+field_set_first rest m f f' small =
+    let none : 2 * (m * 0) ≡ 0 = omega arith in
+    let wide : 2 * (m * 0) + 2 * m ≡ 2 * m = omega arith in
+    let above : (rest * 2 ^ (2 * m) + f) / 2 ^ (2 * m) ≡ rest = shr_high rest (2 * m) f small in
+    ap (λ e. (((rest * 2 ^ (2 * m) + f) / 2 ^ e) * 2 ^ (2 * m) + f') * 2 ^ (2 * (m * 0)) + (rest * 2 ^ (2 * m) + f) % 2 ^ (2 * (m * 0))) wide
+    ∙ ap (λ e. (((rest * 2 ^ (2 * m) + f) / 2 ^ (2 * m)) * 2 ^ (2 * m) + f') * 2 ^ e + (rest * 2 ^ (2 * m) + f) % 2 ^ e) none
+    ∙ ap (λ q. (q * 2 ^ (2 * m) + f') * 2 ^ 0 + (rest * 2 ^ (2 * m) + f) % 2 ^ 0) above
+    ∙ omega arith
+
+regroup_set : (q f p r w l : ℕ) → (q * w + f) * (p * w) + (r * w + l) ≡ ((q * w + f) * p + r) * w + l
+regroup_set q f p r w l = omega arith
+
+-- the field of a later label, in the word of those from the second on
+field_set_later : (rest m p f f' : ℕ) → f < 2 ^ (2 * m)
+    → (((rest * 2 ^ (2 * m) + f) / 2 ^ (2 * (m * suc p) + 2 * m)) * 2 ^ (2 * m) + f') * 2 ^ (2 * (m * suc p)) + (rest * 2 ^ (2 * m) + f) % 2 ^ (2 * (m * suc p))
+    ≡ ((rest / 2 ^ (2 * (m * p) + 2 * m) * 2 ^ (2 * m) + f') * 2 ^ (2 * (m * p)) + rest % 2 ^ (2 * (m * p))) * 2 ^ (2 * m) + f
+field_set_later rest m p f f' small =
+    let bits : ℕ = rest * 2 ^ (2 * m) + f in
+    let above : bits / 2 ^ (2 * m) ≡ rest = shr_high rest (2 * m) f small in
+    let low : bits % 2 ^ (2 * m) ≡ f = mod_low rest (2 * m) f small in
+    let place : 2 * (m * suc p) ≡ 2 * (m * p) + 2 * m = omega arith in
+    let far : 2 * (m * suc p) + 2 * m ≡ 2 * m + (2 * (m * p) + 2 * m) = omega arith in
+    let high : bits / 2 ^ (2 * (m * suc p) + 2 * m) ≡ rest / 2 ^ (2 * (m * p) + 2 * m) =
+    ap (λ e. bits / 2 ^ e) far ∙ sym (shr-shr bits (2 * m) (2 * (m * p) + 2 * m)) ∙ ap (λ b. b / 2 ^ (2 * (m * p) + 2 * m)) above in
+    let wide : 2 ^ (2 * (m * suc p)) ≡ 2 ^ (2 * (m * p)) * 2 ^ (2 * m) = ap (λ e. 2 ^ e) place ∙ pow-add 2 (2 * (m * p)) (2 * m) in
+    let below : bits % 2 ^ (2 * (m * suc p)) ≡ rest % 2 ^ (2 * (m * p)) * 2 ^ (2 * m) + f =
+    ap (λ e. bits % 2 ^ e) place ∙ mod-pow-add bits (2 * (m * p)) (2 * m)
+    ∙ ap (λ b. b % 2 ^ (2 * (m * p)) * 2 ^ (2 * m) + bits % 2 ^ (2 * m)) above
+    ∙ ap (λ l. rest % 2 ^ (2 * (m * p)) * 2 ^ (2 * m) + l) low in
+    ap (λ q. (q * 2 ^ (2 * m) + f') * 2 ^ (2 * (m * suc p)) + bits % 2 ^ (2 * (m * suc p))) high
+    ∙ ap (λ w. (rest / 2 ^ (2 * (m * p) + 2 * m) * 2 ^ (2 * m) + f') * w + bits % 2 ^ (2 * (m * suc p))) wide
+    ∙ ap (λ r. (rest / 2 ^ (2 * (m * p) + 2 * m) * 2 ^ (2 * m) + f') * (2 ^ (2 * (m * p)) * 2 ^ (2 * m)) + r) below
+    ∙ regroup_set (rest / 2 ^ (2 * (m * p) + 2 * m)) f' (2 ^ (2 * (m * p))) (rest % 2 ^ (2 * (m * p))) (2 ^ (2 * m)) f
+
+pub word_set : (m p : ℕ) (labels : List (List ℕ)) (label : List ℕ) → All (IsLabel m) labels → IsLabel m label → p < length labels
+    → field_set (word labels) (m * p) m label ≡ word (set labels p label)
+word_set m p [] label are is inside = absurd (omega (arith, inside))
+word_set m zero (first ∷ labels) label are is inside =
+    let old : IsLabel m first = All-head (IsLabel m) first labels are in
+    let small : field first < 2 ^ (2 * m) = subst (λ k. field first < 2 ^ (2 * k)) old.len (field_lt first old.small) in
+    ap (λ k. field_set (word labels * 2 ^ (2 * k) + field first) (m * 0) m label) old.len
+    ∙ field_set_first (word labels) m (field first) (field label) small
+    ∙ ap (λ k. word labels * 2 ^ (2 * k) + field label) (sym is.len)
+word_set m (suc p) (first ∷ labels) label are is inside =
+    let old : IsLabel m first = All-head (IsLabel m) first labels are in
+    let small : field first < 2 ^ (2 * m) = subst (λ k. field first < 2 ^ (2 * k)) old.len (field_lt first old.small) in
+    ap (λ k. field_set (word labels * 2 ^ (2 * k) + field first) (m * suc p) m label) old.len
+    ∙ field_set_later (word labels) m p (field first) (field label) small
+    ∙ ap (λ w. w * 2 ^ (2 * m) + field first) (word_set m p labels label (All-tail (IsLabel m) first labels are) is (omega (arith, inside)))
+    ∙ ap (λ k. word (set labels p label) * 2 ^ (2 * k) + field first) (sym old.len)
+
+-- A word of sixty bits keeps to them when one of its fields is written.
+pub record FieldFits (bits at m f : ℕ) : Type 0 where
+  pub place : 2 ^ (2 * at) ≤ 2 ^ 60
+  pub above : bits / 2 ^ (2 * at + 2 * m) * 2 ^ (2 * m) + f < 2 ^ 60
+  pub all : (bits / 2 ^ (2 * at + 2 * m) * 2 ^ (2 * m) + f) * 2 ^ (2 * at) + bits % 2 ^ (2 * at) < 2 ^ 60
+
+pub field_fits : (bits at m f : ℕ) → 2 * at + 2 * m ≤ 60 → bits < 2 ^ 60 → f < 2 ^ (2 * m) → FieldFits bits at m f
+field_fits bits at m f within small below =
+    let free : ℕ = 60 - (2 * at + 2 * m) in
+    let whole : 60 ≡ free + (2 * at + 2 * m) = omega (arith, within) in
+    let rest : 2 * m + free ≡ 60 - 2 * at = omega (arith, within) in
+    let high : bits / 2 ^ (2 * at + 2 * m) < 2 ^ free = shr_below bits free (2 * at + 2 * m) (subst (λ e. bits < 2 ^ e) whole small) in
+    let packed : bits / 2 ^ (2 * at + 2 * m) * 2 ^ (2 * m) + f < 2 ^ (2 * m) * 2 ^ free =
+    mul-add-lt (bits / 2 ^ (2 * at + 2 * m)) (2 ^ (2 * m)) f (2 ^ free) high below in
+    let short : bits / 2 ^ (2 * at + 2 * m) * 2 ^ (2 * m) + f < 2 ^ (60 - 2 * at) =
+    subst (λ b. bits / 2 ^ (2 * at + 2 * m) * 2 ^ (2 * m) + f < b) (sym (pow-add 2 (2 * m) free) ∙ ap (λ e. 2 ^ e) rest) packed in
+    let less : 2 ^ (60 - 2 * at) ≤ 2 ^ 60 = pow-le (60 - 2 * at) 60 (omega arith) in
+    let up : 2 * at + (60 - 2 * at) ≡ 60 = omega (arith, within) in
+    let all : (bits / 2 ^ (2 * at + 2 * m) * 2 ^ (2 * m) + f) * 2 ^ (2 * at) + bits % 2 ^ (2 * at) < 2 ^ (2 * at) * 2 ^ (60 - 2 * at) =
+    mul-add-lt (bits / 2 ^ (2 * at + 2 * m) * 2 ^ (2 * m) + f) (2 ^ (2 * at)) (bits % 2 ^ (2 * at)) (2 ^ (60 - 2 * at)) short
+    (mod_below bits (2 ^ (2 * at)) (pow_pos (2 * at))) in
+    record {
+      place = pow-le (2 * at) 60 (omega (arith, within));
+      above = omega (arith, short, less);
+      all = subst (λ b. (bits / 2 ^ (2 * at + 2 * m) * 2 ^ (2 * m) + f) * 2 ^ (2 * at) + bits % 2 ^ (2 * at) < b)
+          (sym (pow-add 2 (2 * at) (60 - 2 * at)) ∙ ap (λ e. 2 ^ e) up) all;
+    }

@@ -123,3 +123,8 @@ digit_at-digits_in (suc m) bits zero inside = let all : m ≡ suc m - (0 + 1) = 
 digit_at-digits_in (suc m) bits (suc i) inside =
     let same : m - (i + 1) ≡ suc m - (suc i + 1) = omega arith in
     digit_at-digits_in m bits i (omega arith) ∙ ap (λ k. (bits / 2 ^ (2 * k)) % 4) same
+
+-- bits in which the field that begins `at` digits up is that of this label
+abbrev pub field_set : ℕ → ℕ → ℕ → List ℕ → ℕ
+field_set bits at m label =
+    (bits / 2 ^ (2 * at + 2 * m) * 2 ^ (2 * m) + field label) * 2 ^ (2 * at) + bits % 2 ^ (2 * at)

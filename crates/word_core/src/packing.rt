@@ -1,6 +1,7 @@
-ghost use Rattle.std.specs.Prelude.{◌≡◌, ◌↔◌, ◌+◌, ◌-◌, ◌<◌, ◌≤◌, ℕ, ◌++◌, length, replicate, All, IsSome, IfSome, IsTrue};
+ghost use Rattle.std.specs.Prelude.{◌≡◌, ◌↔◌, ◌+◌, ◌-◌, ◌*◌, ◌^◌, ◌<◌, ◌≤◌, ◌++◌, replicate, All, IsSome, IfSome, IsTrue};
 ghost use Rattle.label_core.specs.Labels.{IsLabel};
-ghost use Rattle.word_core.specs.Packed.{field, word, digits_in, labels_in};
+ghost use Rattle.word_core.specs.Packed.{field, digits_in, labels_in};
+ghost use Rattle.word_core.specs.Packing.{field_set};
 
 use label_core::{Label, MOST_DIGITS};
 
@@ -53,18 +54,17 @@ fn field_of(label: &Label) -> u64
     bits
 }
 
-/// The word of up to six labels of `digits` digits.
-pub fn word_of(labels: &[Label], digits: usize) -> u64
+/// The bits with the field of process `p` turned into that of this label, of `digits` digits.
+pub fn with_field(bits: u64, p: u8, digits: usize, label: &Label) -> u64
     requires narrow { digits ≤ 5 }
-    requires few { length labels.now ≤ 6 }
-    requires each { All (IsLabel digits) labels.now }
-    ensures { result ≡ word labels.now }
+    requires few { p < 6 }
+    requires small { bits < 2 ^ 60 }
+    requires label { IsLabel digits label.now }
+    ensures { result ≡ field_set bits (digits * p) digits label.now }
 {
-    let mut bits = 0;
-    let mut left = labels.len();
-    while left > 0 {
-        left -= 1;
-        bits = (bits << (2 * digits)) + field_of(&labels[left]);
-    }
-    bits
+    let place = 2 * (digits * p as usize);
+    let width = 2 * digits;
+    let above = bits >> (place + width);
+    let below = bits % (1 << place);
+    (((above << width) + field_of(label)) << place) + below
 }

@@ -1,4 +1,4 @@
-ghost use Rattle.std.specs.Prelude.{◌≡◌, ◌↔◌, ◌+◌, ◌-◌, ◌*◌, ◌^◌, ◌<◌, ◌≤◌, ℕ, List, [], ◌++◌, length, replicate, slice_index, All, MatchOption, IsTrue};
+ghost use Rattle.std.specs.Prelude.{◌≡◌, ◌↔◌, ◌+◌, ◌-◌, ◌*◌, ◌^◌, ◌<◌, ◌≤◌, ℕ, List, [], ◌++◌, length, remove, replicate, slice_index, All, MatchOption, IsTrue};
 ghost use Rattle.label_core.specs.Labels.{IsLabel, label_ranks};
 ghost use Rattle.ticket_core.specs.Tickets.{start_tickets, stamp_ticket};
 ghost use Rattle.word_core.specs.Stamps.{start_labels, label_at, stamped};
@@ -6,9 +6,9 @@ ghost use Rattle.word_core.specs.Packed.{AreLabels, IsWordOf, word, labels_in};
 ghost use Rattle.word_core.specs.Order.{IsOrdered, older_label};
 ghost use Rattle.word_core.specs.Agreement.{Agrees};
 
-use super::order::{are_ordered, next_beside};
-use super::packing::{are_labels, label_of, word_of};
-use label_core::{Label, MOST_LABELS, ranks};
+use super::order::are_ordered;
+use super::packing::{are_labels, label_of, with_field};
+use label_core::{Label, MOST_DIGITS, MOST_LABELS, next_label, ranks};
 use std::marker::Model;
 
 /// One label for each of one to six processes, packed into 64 bits.
@@ -111,13 +111,11 @@ impl LabelWord {
         ensures agrees { (tickets : List ℕ) → Agrees (length self.now) tickets self.now → Agrees (length self.now) (stamp_ticket p tickets) result }
     {
         let n = self.n();
-        let count = n as usize;
-        let mut labels = self.labels();
-        let next = next_beside(&labels[..count], p as usize);
-        labels[p as usize] = next;
+        let digits = (n - 1) as usize;
+        let next = next_label(n, &self.others(p)[..digits]);
         LabelWord {
             count: n,
-            bits: word_of(&labels[..count], count - 1),
+            bits: with_field(self.bits, p, digits, &next),
         }
     }
 
@@ -138,6 +136,22 @@ impl LabelWord {
     {
         let _n = self.n();
         self.label(j).dominates(&self.label(i))
+    }
+
+    // The labels of all but process `p`, and empty ones past the last.
+    fn others(&self, p: u8) -> [Label; MOST_DIGITS]
+        requires { p < length self.now }
+        ensures { result ≡ remove self.now p ++ replicate (6 - length self.now) [] }
+    {
+        let n = self.n();
+        let mut row = [Label::zeros(0); MOST_DIGITS];
+        for before in 0..p {
+            row[before as usize] = self.label(before);
+        }
+        for after in p + 1..n {
+            row[(after - 1) as usize] = self.label(after);
+        }
+        row
     }
 
     // The labels, and empty ones past the last.
