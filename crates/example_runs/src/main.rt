@@ -2,7 +2,7 @@
 //! one that stands there. The reports are another interpreter's.
 #![tactic(auto)]
 
-use anyhow::{Error, anyhow};
+use anyhow::Error;
 use std::alloc::Global;
 use std::fs;
 use tick_kinds::{Program, check};

@@ -1,14 +1,15 @@
 -- A label's field, digit by digit, and a word, label by label.
-use Rattle.std.proofs.Common.{◌≡◌, ℕ, suc, zero, ◌+◌, ◌-◌, ◌*◌, ◌/◌, ◌%◌, ◌^◌, ◌<◌, ◌≤◌, List, [], ◌∷◌, length, get_or, drop, take, replicate, set, ◌++◌, length-drop, length-set, refl, sym, ap, ◌∙◌, subst, arith, ⊎_elim}
-use Rattle.std.specs.Prelude.{All, slice_index}
+use Rattle.std.proofs.Common.{◌≡◌, ℕ, suc, zero, ◌+◌, ◌-◌, ◌*◌, ◌/◌, ◌%◌, ◌^◌, ◌<◌, ◌≤◌, List, [], ◌∷◌, length, drop, take, replicate, set, ◌++◌, length-drop, refl, sym, ap, ◌∙◌, subst, arith, ⊎_elim}
+use Rattle.std.specs.Prelude.{All, remove, slice_index}
 use Rattle.std.proofs.Math.Seq.{drop-cons}
 use Rattle.std.proofs.lemmas.Bool.{cases_lt}
-use Rattle.std.proofs.lemmas.List.{take_at, set-append_left}
+use Rattle.std.proofs.lemmas.List.{take_at}
 use Rattle.std.proofs.lemmas.Nat.{shr_high, shr_below, mul-add-lt, shr-shr, mod-pow-add, mod_low, pow-add, pow_below, mul-le, pow_pos, shr_split, mod_below, div-mul-add}
-use Rattle.std.proofs.lemmas.List.Elements.{All-head, All-tail, All-drop, All-cons, All-get_or}
+use Rattle.std.proofs.lemmas.List.Edits.{length-remove}
+use Rattle.std.proofs.lemmas.List.Elements.{All-head, All-tail, All-cons}
 use Rattle.label_core.specs.Labels.{IsLabel}
 use Rattle.word_core.specs.Packed.{field, word, digits_in, labels_in}
-use Rattle.word_core.specs.Packing.{field_lt, field_set, length-labels_in, word_lt, label_at-labels_in}
+use Rattle.word_core.specs.Packing.{field_lt, field_set, length-labels_in, label_at-labels_in}
 use Rattle.word_core.specs.Stamps.{label_at}
 
 -- the digits before place `at` as a number, and what that leaves of the field
@@ -25,9 +26,6 @@ fits_word n m few narrow = let le : n * m ≤ 6 * 5 = mul-le n m 6 5 few narrow 
 
 regroup : (bits digit w rest : ℕ) → (bits * 4 + digit) * w + rest ≡ bits * (4 * w) + (digit * w + rest)
 regroup bits digit w rest = omega arith
-
-pub field_start : (label : List ℕ) → FieldSoFar label 0 0
-field_start label = record { whole = omega arith; small = omega arith }
 
 pub field_step : (label : List ℕ) (at bits : ℕ) → at < length label → slice_index label at < 3 → FieldSoFar label at bits
     → FieldSoFar label (at + 1) (bits * 4 + slice_index label at)
@@ -47,28 +45,6 @@ field_step label at bits inside small so_far =
           ∙ sym (ap (λ x. bits * x + field (drop at label)) pow ∙ ap (λ f. bits * (4 * 2 ^ (2 * (length label - (at + 1)))) + f) field_here) ∙ so_far.whole;
       small = omega (arith, wider, so_far.small);
     }
-
--- what is packed from the labels from a place on, one more label
-pub record WordStep (labels : List (List ℕ)) (m left bits : ℕ) (item : List ℕ) : Type 0 where
-  pub packs : bits * 2 ^ (2 * m) + field item ≡ word (drop (left - 1) labels)
-  pub small : bits * 2 ^ (2 * m) + field item < 2 ^ 60
-
-pub word_step : (labels : List (List ℕ)) (m left bits : ℕ) (item : List ℕ) → 0 < left → left ≤ length labels → length labels ≤ 6 → m ≤ 5
-    → All (IsLabel m) labels → item ≡ get_or labels (left - 1) item → bits ≡ word (drop left labels) → WordStep labels m left bits item
-word_step labels m left bits item some within few narrow are is packed =
-    let next : suc (left - 1) ≡ left = omega arith in
-    let here : drop (left - 1) labels ≡ item ∷ drop left labels =
-    drop-cons labels (left - 1) item (omega arith) ∙ ap (λ x. x ∷ drop (suc (left - 1)) labels) (sym is) ∙ ap (λ k. item ∷ drop k labels) next in
-    let is_label : IsLabel m item = subst (IsLabel m) (sym is) (All-get_or (IsLabel m) labels (left - 1) item (omega arith) are) in
-    let packs : bits * 2 ^ (2 * m) + field item ≡ word (drop (left - 1) labels) =
-    ap (λ b. b * 2 ^ (2 * m) + field item) packed
-    ∙ ap (λ k. word (drop left labels) * 2 ^ (2 * k) + field item) (sym is_label.len)
-    ∙ ap word (sym here) in
-    let count : length (drop (left - 1) labels) ≡ length labels - (left - 1) = length-drop (left - 1) labels in
-    let below : word (drop (left - 1) labels) < 2 ^ (2 * ((length labels - (left - 1)) * m)) =
-    word_lt (length labels - (left - 1)) m (drop (left - 1) labels) count (All-drop (IsLabel m) (left - 1) labels are) in
-    let fits : 2 ^ (2 * ((length labels - (left - 1)) * m)) ≤ 2 ^ 60 = fits_word (length labels - (left - 1)) m (omega arith) narrow in
-    record { packs = packs; small = omega (arith, packs, below, fits) }
 
 -- the first of some fields is a label, and so are the others
 pub split_labels : (n i m bits : ℕ) → i < n → All (IsLabel m) (labels_in (n - i) m bits)
@@ -121,13 +97,12 @@ label_read n count bits i labels is counted inside =
 pub taken : (n : ℕ) (labels row : List (List ℕ)) → row ≡ labels ++ replicate (6 - length labels) [] → n ≡ length labels → take n row ≡ labels
 taken n labels row is count = ap (take n) is ∙ take_at labels (replicate (6 - length labels) []) n (sym count)
 
--- the same after one of them was written
-pub taken_set : (n p : ℕ) (labels row : List (List ℕ)) (label : List ℕ) → row ≡ labels ++ replicate (6 - length labels) [] → n ≡ length labels → p < n
-    → take n (set row p label) ≡ set labels p label
-taken_set n p labels row label is count inside =
-    ap (λ r. take n (set r p label)) is
-    ∙ ap (take n) (set-append_left labels (replicate (6 - length labels) []) p label (omega arith))
-    ∙ take_at (set labels p label) (replicate (6 - length labels) []) n (length-set labels p label ∙ sym count)
+-- the same of a row of all labels but one
+pub others_taken : (n p : ℕ) (labels row : List (List ℕ)) → row ≡ remove labels p ++ replicate (6 - length labels) [] → n ≡ length labels → p < length labels
+    → take (n - 1) row ≡ remove labels p
+others_taken n p labels row is count inside =
+    let fewer : length (remove labels p) ≡ n - 1 = omega (arith, count, length-remove labels p inside) in
+    ap (take (n - 1)) is ∙ take_at (remove labels p) (replicate (6 - length labels) []) (n - 1) fewer
 
 -- a word has no bit past its last label
 pub shift_gone : (bits k : ℕ) → bits < 2 ^ k → bits / 2 ^ k ≡ 0

@@ -1,7 +1,5 @@
-use Rattle.std.proofs.Common.{◌≡◌, ◌≤◌, ◌-◌, ◌*◌, ◌^◌, ◌<◌, [], arith, ap, sym, subst, ◌∙◌, length, take, replicate}
+use Rattle.std.proofs.Common.{◌≡◌, ◌≤◌, ◌-◌, ◌*◌, ◌^◌, ◌<◌, arith, ap, sym, subst, ◌∙◌, length}
 use Rattle.std.specs.Prelude.{All, remove, slice_set}
-use Rattle.std.proofs.lemmas.List.{take_at}
-use Rattle.std.proofs.lemmas.List.Edits.{length-remove}
 use Rattle.label_core.specs.Labels.{IsLabel, CanChoose, next}
 use Rattle.ticket_core.specs.Tickets.{stamp_ticket}
 use Rattle.word_core.specs.Stamps.{stamped}
@@ -9,7 +7,7 @@ use Rattle.word_core.specs.Packed.{AreLabels, word, labels_in}
 use Rattle.word_core.specs.Packing.{field_set, labels_in-word, word-labels_in, word_lt}
 use Rattle.word_core.specs.Order.{IsOrdered}
 use Rattle.word_core.specs.Agreement.{Agrees}
-use Rattle.word_core.proofs.Fields.{fits_word, word_set}
+use Rattle.word_core.proofs.Fields.{fits_word, others_taken, word_set}
 use Rattle.word_core.proofs.Ranks.{can_choose}
 use Rattle.word_core.proofs.Stamping.{stamped_are, stamped_ordered, stamped_agrees}
 use Rattle.word_core.proofs.words.LabelWord.stamped.Goals as goal
@@ -20,9 +18,7 @@ next_label-next-requires-clause-can c =
     let p = c.args.p in
     let n = c.n-n.result in
     let inside : p < n = omega (arith, c.n-n.ensures.count, c.requires.in_range) in
-    let fewer : length (remove labels p) ≡ n - 1 = omega (arith, c.n-n.ensures.count, length-remove labels p c.requires.in_range) in
-    let front : take (n - 1) c.others.result ≡ remove labels p =
-    ap (take (n - 1)) c.others.ensures ∙ take_at (remove labels p) (replicate (6 - length labels) []) (n - 1) fewer in
+    let front = others_taken n p labels c.others.result c.others.ensures c.n-n.ensures.count c.requires.in_range in
     subst (CanChoose n) (sym front) (can_choose n labels p c.n-n.ensures.labels c.requires.ordered inside)
 
 pub with_field-requires-clause-small : goal.with_field-requires-clause-small
@@ -46,9 +42,7 @@ packed c =
     let m = c.n-n.result - 1 in
     let count = c.self.inside.count in
     let label = c.next_label-next.result in
-    let front : take m c.others.result ≡ remove labels p =
-    (let fewer : length (remove labels p) ≡ m = omega (arith, c.n-n.ensures.count, length-remove labels p c.requires.in_range) in
-    ap (take m) c.others.ensures ∙ take_at (remove labels p) (replicate (6 - length labels) []) m fewer) in
+    let front = others_taken c.n-n.result p labels c.others.result c.others.ensures c.n-n.ensures.count c.requires.in_range in
     let new : label ≡ next (length labels) (remove labels p) =
     c.next_label-next.ensures.choice ∙ ap (next c.n-n.result) front ∙ ap (λ n. next n (remove labels p)) c.n-n.ensures.count in
     let old : c.self.inside.bits ≡ word labels = sym (word-labels_in count (count - 1) c.self.inside.bits c.self.invariant.2) ∙ ap word c.self.view_is in
