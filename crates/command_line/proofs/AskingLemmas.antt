@@ -17,7 +17,7 @@ use Rattle.clap.specs.declared.builder.command.Command.{Command}
 use Rattle.clap.specs.declared.builder.command.Command.TheViews.{out-Command}
 use Rattle.clap.specs.declared.parser.matches.SubCommand.{SubCommand}
 use Rattle.clap.specs.declared.parser.matches.ArgMatches.TheViews.{out-SubCommand}
-use Rattle.command_line.specs.Line.{command_in, is_faultless, is_taken, meaning_of, meaning_of_rows, named, ticketc}
+use Rattle.command_line.specs.Line.{command_in, is_faultless, is_taken, asked_in, asked_in_rows, named, ticketc}
 
 pub with_required : (old new : Command) (app : App)
     → out-Command new ≡ record (out-Command old) { subcommand_required = true }
@@ -38,7 +38,7 @@ with_one_more old sub new app shape adds is_local is_app is_shape =
 pub named-rows : {Z : Type 0} (o : Option (Box SubCommand Z)) (name : Text) (rows : List Row)
     → Some name ≡ option_map (λ b. (out-SubCommand (box_value b)).name.now) o
     → Some rows ≡ option_map (λ p. p.1) (subcommand_rows o)
-    → named name (first_of (codes "value") rows) ≡ meaning_of_rows (subcommand_rows o)
+    → named name (first_of (codes "value") rows) ≡ asked_in_rows (subcommand_rows o)
 named-rows None name rows is_name are_rows = cc
 named-rows (Some b) name rows is_name are_rows =
     let found = out-SubCommand (box_value b) in
@@ -55,13 +55,13 @@ ticketc_is_free : is_simple_and_free ticketc ≡ true
 unfolding clap_on_literals
 ticketc_is_free = refl
 
-pub meaning_of-taken : (app : App) (words : List Text) (matches : ArgMatches)
+pub asked_in-taken : (app : App) (words : List Text) (matches : ArgMatches)
     → app ≡ ticketc
     → (is_simple_and_free app ≡ true → fault_of app words ≡ [])
     → HasMatchesOf app words matches
-    → meaning_of_rows (subcommand_rows_of matches) ≡ meaning_of words
+    → asked_in_rows (subcommand_rows_of matches) ≡ asked_in words
 unfolding is_taken command_in
-meaning_of-taken app words matches is_line faultless has_matches =
+asked_in-taken app words matches is_line faultless has_matches =
     let P : App → Type 0 = λ a. is_simple_and_free a ≡ true → fault_of a words ≡ [] in
     let Q : App → Type 0 = λ a. HasMatchesOf a words matches in
     let none : fault_of ticketc words ≡ [] = subst P is_line faultless ticketc_is_free in
@@ -72,13 +72,13 @@ not_taken : (kinds : Kinds) (e : Error) → HasKind kinds e → (kind_of e ≡ k
 not_taken [] e has_kind has_memory = elim has_kind [ inl memory ↦ absurd (has_memory memory) | inr among ↦ absurd among ]
 not_taken (k ∷ ks) e has_kind has_memory = refl
 
-pub meaning_of-refused : (app : App) (words : List Text) (error : Error)
+pub asked_in-refused : (app : App) (words : List Text) (error : Error)
     → app ≡ ticketc
     → (is_simple_and_free app ≡ true → HasKind (fault_of app words) error)
     → (kind_of error ≡ kind.OutOfMemory → ⊥)
-    → None ≡ meaning_of words
+    → None ≡ asked_in words
 unfolding is_taken
-meaning_of-refused app words error is_line fails has_memory =
+asked_in-refused app words error is_line fails has_memory =
     let P : App → Type 0 = λ a. is_simple_and_free a ≡ true → HasKind (fault_of a words) error in
     let refused : is_faultless (fault_of ticketc words) ≡ false = not_taken _ error (subst P is_line fails ticketc_is_free) has_memory in
     rw refused refl

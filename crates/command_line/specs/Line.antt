@@ -9,25 +9,25 @@ use Rattle.command_line.specs.declared.request.Request.{Request}
 use Rattle.command_line.specs.declared.request.Request.TheVariants as request
 
 -- a command with the text that goes with it
-pub data Meaning : Type 0 where
-  Order : (text : Text) → Meaning
-  Check : Meaning
-  Emit : Meaning
-  Source : (text : Text) → Meaning
-  Code : (text : Text) → Meaning
-  Lift : (text : Text) → Meaning
-  Project : (text : Text) → Meaning
-  Run : (text : Text) → Meaning
+pub data Asked : Type 0 where
+  Order : (text : Text) → Asked
+  Check : Asked
+  Emit : Asked
+  Source : (text : Text) → Asked
+  Code : (text : Text) → Asked
+  Expand : (text : Text) → Asked
+  Project : (text : Text) → Asked
+  Run : (text : Text) → Asked
 
-abbrev pub meaning : Request → Meaning
-meaning (request.Order text) = Order text.now
-meaning request.Check = Check
-meaning request.Emit = Emit
-meaning (request.Source text) = Source text.now
-meaning (request.Code text) = Code text.now
-meaning (request.Lift text) = Lift text.now
-meaning (request.Project text) = Project text.now
-meaning (request.Run text) = Run text.now
+abbrev pub asked_by : Request → Asked
+asked_by (request.Order text) = Order text.now
+asked_by request.Check = Check
+asked_by request.Emit = Emit
+asked_by (request.Source text) = Source text.now
+asked_by (request.Code text) = Code text.now
+asked_by (request.Expand text) = Expand text.now
+asked_by (request.Project text) = Project text.now
+asked_by (request.Run text) = Run text.now
 
 -- a subcommand with nothing after it, and one with a text that it has to have
 abbrev pub bare_shape : Text → Shape
@@ -50,20 +50,20 @@ ticketc =
     (valued_shape (codes "drop"))) (valued_shape (codes "run"))
 
 -- the command of this name, with the text that it wants
-abbrev pub named : Text → Option Text → Option Meaning
+abbrev pub named : Text → Option Text → Option Asked
 named name text =
     if bytes_eq name (codes "order") then option_map Order text
     else if bytes_eq name (codes "check") then Some Check
     else if bytes_eq name (codes "emit") then Some Emit
     else if bytes_eq name (codes "source") then option_map Source text
     else if bytes_eq name (codes "code") then option_map Code text
-    else if bytes_eq name (codes "lift") then option_map Lift text
+    else if bytes_eq name (codes "lift") then option_map Expand text
     else if bytes_eq name (codes "drop") then option_map Project text
     else if bytes_eq name (codes "run") then option_map Run text
     else None
 
-abbrev pub meaning_of_rows : Option (Text × List Row) → Option Meaning
-meaning_of_rows rows = option_and_then (λ p. named p.0 (first_of (codes "value") p.1)) rows
+abbrev pub asked_in_rows : Option (Text × List Row) → Option Asked
+asked_in_rows rows = option_and_then (λ p. named p.0 (first_of (codes "value") p.1)) rows
 
 abbrev pub is_faultless : Kinds → Bool
 is_faultless [] = true
@@ -78,5 +78,5 @@ unfoldable pub command_in : List Text → Option (Text × List Row)
 command_in words = subcommand_of ticketc words
 
 -- what the words ask for, and nothing where they are no command
-abbrev pub meaning_of : List Text → Option Meaning
-meaning_of words = if is_taken words then meaning_of_rows (command_in words) else None
+abbrev pub asked_in : List Text → Option Asked
+asked_in words = if is_taken words then asked_in_rows (command_in words) else None

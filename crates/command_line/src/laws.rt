@@ -1,18 +1,18 @@
-//! What some command lines mean, computed from the description of the command line alone.
-ghost use Rattle.command_line.specs.Rows.{BareCommands, CommandsWithText, OtherLines};
+//! What command lines ask for, computed from the description of the command line alone.
+ghost use Rattle.command_line.specs.Laws.{BareCommandsLaw, CommandsWithTextLaw, OtherLinesLaw};
 
 /// `check` and `emit` take no text.
 pub fn law_bare_commands()
-    ensures { BareCommands }
+    ensures { BareCommandsLaw }
 {}
 
-/// The other commands take one text, also an empty one, one with a sign before its number, and
-/// any that begins with a digit (two digits stand for all here).
+/// Each other command takes exactly one text: an empty one, and any that begins with a digit, a
+/// space or a plus sign.
 pub fn law_commands_with_text()
-    ensures { CommandsWithText }
+    ensures { CommandsWithTextLaw }
 {}
 
-/// Too few words or too many, unknown ones, and a wish for help or the version are no command.
+/// No words, unknown ones, and a wish for help or the version are no command.
 pub fn law_other_lines()
-    ensures { OtherLines }
+    ensures { OtherLinesLaw }
 {}

@@ -6,7 +6,7 @@ pub enum Request<'a> {
     Emit,
     Source(&'a str),
     Code(&'a str),
-    Lift(&'a str),
+    Expand(&'a str),
     /// The command `drop`.
     Project(&'a str),
     Run(&'a str),

@@ -1,7 +1,8 @@
--- Of two different labels of one length just one dominates the other.
+-- No two labels dominate each other; of two different labels of one length just one dominates the
+-- other.
 use Rattle.std.proofs.Common.{◌≡◌, ℕ, suc, zero, ◌<◌, Bool, true, false, not, ◌&&◌, cond, eqb, List, [], ◌∷◌, length, refl, sym, ◌∙◌, arith}
 use Rattle.std.specs.Prelude.{All}
-use Rattle.std.proofs.lemmas.Bool.{cond-true, cond-false, eqb-true, eq-eqb}
+use Rattle.std.proofs.lemmas.Bool.{cond-true, cond-false, eqb-true, eq-eqb, ne_eqb}
 use Rattle.std.proofs.lemmas.List.Elements.{All-head, All-tail}
 use Rattle.label_core.specs.Labels.{next_digit, dominates, same_label}
 
@@ -19,13 +20,26 @@ turn (suc (suc zero)) (suc (suc zero)) a b differ = cc
 turn (suc (suc (suc d))) e a b differ = absurd (omega arith)
 turn d (suc (suc (suc e))) a b differ = absurd (omega arith)
 
-pub self_same : (label : List ℕ) → same_label label label ≡ true
-self_same [] = refl
-self_same (d ∷ label) = rw (eq-eqb d d refl) (self_same label)
-
 pub dominates_self : (label : List ℕ) → dominates label label ≡ false
 dominates_self [] = refl
 dominates_self (d ∷ label) = rw (eq-eqb d d refl) (dominates_self label)
+
+-- no two digits are each the next one of the other
+one_turn : (d e : ℕ) → d ≡ next_digit e → eqb e (next_digit d) ≡ false
+one_turn d e turned = ne_eqb e (next_digit d) (λ back. omega (arith, turned, back))
+
+-- no two labels dominate each other
+pub dominates_one_way : (a b : List ℕ) → dominates a b ≡ true → dominates b a ≡ false
+dominates_one_way [] b over = cc
+dominates_one_way (d ∷ a) [] over = refl
+dominates_one_way (d ∷ a) (e ∷ b) over =
+    let P : Bool → Type 0 = λ t. eqb d e ≡ t → cond t (dominates a b) (eqb d (next_digit e)) ≡ true
+    → cond (eqb e d) (dominates b a) (eqb e (next_digit d)) ≡ false in
+    let by : (t : Bool) → P t = λ t. elim t as P [
+      | true ↦ λ here rest. cond-true (eqb e d) _ _ (eq-eqb e d (sym (eqb-true d e here))) ∙ dominates_one_way a b rest
+      | false ↦ λ here rest. cond-false (eqb e d) _ _ (grind (arith, here)) ∙ one_turn d e (eqb-true d (next_digit e) rest)
+    ] in
+    by (eqb d e) refl over
 
 pub equal_from_same : (a b : List ℕ) → same_label a b ≡ true → a ≡ b
 equal_from_same [] [] same = refl

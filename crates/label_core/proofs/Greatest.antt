@@ -1,8 +1,8 @@
 -- The greatest of some labels, and that the next label dominates each of them.
 use Rattle.std.proofs.Common.{◌≡◌, ℕ, suc, ◌-◌, ◌<◌, Bool, true, false, not, ◌||◌, cond, Some, List, [], ◌∷◌, refl, sym, ap, ◌∙◌, subst, arith, inl, inr, ⊎_elim}
-use Rattle.std.specs.Prelude.{Contains, find, ◌⊎◌}
+use Rattle.std.specs.Prelude.{All, Contains, find, ◌⊎◌}
 use Rattle.std.specs.List.{AllByRecursion, list_all}
-use Rattle.std.proofs.lemmas.Bool.{cases_Bool, and_parts, both_ways, or_right}
+use Rattle.std.proofs.lemmas.Bool.{cases_Bool, and_parts, and_from, both_ways, or_right}
 use Rattle.std.proofs.lemmas.List.{length-replicate}
 use Rattle.std.proofs.lemmas.List.Elements.{All-contains, All-from_recursion, All-replicate, recursion_from_All}
 use Rattle.label_core.specs.Labels.{IsLabel, dominates, same_label, at_least, is_greatest, greatest, choice, choice_beside, next, zeros, HasGreatest, CanChoose}
@@ -35,6 +35,33 @@ equal_from_at_least m a b is_a is_b over under =
     let none : false ≡ true = ap not (sym b_over) ∙ not_b in
     cc)
     (cases_Bool (same_label a b))
+
+all_pass : {X : Type 0} (p : X → Bool) (xs : List X) → AllByRecursion (λ x. p x ≡ true) xs → list_all p xs ≡ true
+all_pass p [] h = refl
+all_pass p (x ∷ xs) h = and_from (p x) (list_all p xs) h.0 (all_pass p xs h.1)
+
+each_at_least : (m : ℕ) (labels : List (List ℕ)) (label : List ℕ) → IsLabel m label → AllByRecursion (IsLabel m) labels
+    → AllByRecursion (λ other. dominates other label ≡ false) labels → AllByRecursion (λ other. at_least label other ≡ true) labels
+each_at_least m [] label is are under = tt
+each_at_least m (other ∷ labels) label is are under =
+    (at_least_turn m label other is are.0 ∙ ap not under.0, each_at_least m labels label is are.1 under.1)
+
+-- two labels of which neither dominates the other are one
+pub equal_from_neither : (m : ℕ) (a b : List ℕ) → IsLabel m a → IsLabel m b → dominates a b ≡ false → dominates b a ≡ false → a ≡ b
+equal_from_neither m a b is_a is_b not_a not_b =
+    equal_from_at_least m a b is_a is_b (at_least_turn m a b is_a is_b ∙ ap not not_b) (at_least_turn m b a is_b is_a ∙ ap not not_a)
+
+-- one of the labels that none of them dominates is greatest
+pub greatest_from_undominated : (m : ℕ) (labels : List (List ℕ)) (label : List ℕ) → All (IsLabel m) labels → Contains labels label
+    → All (λ other. dominates other label ≡ false) labels → HasGreatest labels
+greatest_from_undominated m labels label are member under =
+    let is : IsLabel m label = All-contains (IsLabel m) labels label are member in
+    record {
+      label = label;
+      member = member;
+      over = all_pass (at_least label) labels (each_at_least m labels label is
+          (recursion_from_All (IsLabel m) labels are) (recursion_from_All (λ other. dominates other label ≡ false) labels under));
+    }
 
 pub each_passes : {X : Type 0} (p : X → Bool) (xs : List X) → list_all p xs ≡ true → AllByRecursion (λ x. p x ≡ true) xs
 each_passes p [] all = tt

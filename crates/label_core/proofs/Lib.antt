@@ -1,7 +1,8 @@
+pub mod Choices
 pub mod Domination
 pub mod Examples
-pub mod Choices
 pub mod Greatest
-pub mod Turning
+pub mod Offered
 pub mod Reaching
 pub mod Scanning
+pub mod Turning

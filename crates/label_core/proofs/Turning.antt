@@ -3,7 +3,7 @@ use Rattle.std.proofs.Common.{◌≡◌, ℕ, ◌+◌, ◌-◌, ◌<◌, ◌≤�
 use Rattle.std.specs.Prelude.{All}
 use Rattle.std.proofs.lemmas.List.{length-replicate}
 use Rattle.std.proofs.lemmas.List.Elements.{All-append, All-cons, All-take, All-replicate}
-use Rattle.label_core.specs.Padded.{padded_set, padded_take, padded_drop}
+use Rattle.padded_row.proofs.Offered.{padded_set, padded_take, padded_drop}
 
 pub record Turned (len at digit : ℕ) (held row : List ℕ) : Type 0 where
   pub whole : length row ≡ 5

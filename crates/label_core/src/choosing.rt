@@ -1,7 +1,7 @@
 ghost use Rattle.std.specs.Prelude.{◌≡◌, ◌+◌, ◌-◌, ◌<◌, ◌≤◌, ℕ, List, true, length, take, count_by, All};
 ghost use Rattle.label_core.specs.Labels.{IsLabel, AreAlike, HasGreatest, CanChoose, dominates, begins, greatest, choice, next};
 
-use super::digits::Label;
+use crate::digits::Label;
 
 /// The label that one of `n` processes takes next, beside the labels of others: at most n - 1 of
 /// them, each of n - 1 digits, and one of them greatest where there are any. It dominates each of

@@ -1,4 +1,5 @@
 ghost use Rattle.std.specs.Prelude.{◌≡◌, ◌↔◌, ◌+◌, ◌-◌, ◌<◌, ◌≤◌, ℕ, List, ◌∷◌, ◌++◌, length, take, drop, replicate, slice_index, All, IsSome, IfSome, IsTrue, ◌==◌};
+ghost use Rattle.padded_row.specs.Rows.{padded};
 ghost use Rattle.label_core.specs.Labels.{AreDigits, dominates, next_digit, zeros, begins};
 
 use std::marker::Model;
@@ -14,9 +15,10 @@ pub struct Label {
 }
 
 impl Model for Label {
-    ghost use Rattle.std.specs.Prelude.{◌≡◌, ◌-◌, ◌<◌, ◌≤◌, ℕ, List, ◌++◌, length, take, drop, replicate, All};
+    ghost use Rattle.std.specs.Prelude.{◌≡◌, ◌-◌, ◌<◌, ◌≤◌, ℕ, List, length, take, drop, replicate, All};
     ghost use Rattle.std.proofs.Common.{arith, length-take-le};
-    ghost use Rattle.label_core.specs.Padded.{padded_back};
+    ghost use Rattle.padded_row.specs.Rows.{padded};
+    ghost use Rattle.padded_row.proofs.Offered.{padded_back};
 
     ghost Value = { List ℕ };
 
@@ -24,7 +26,7 @@ impl Model for Label {
 
     ghost invariant = { λ fields. (fields.len ≤ 5) × (length fields.digits ≡ 5) × (drop fields.len fields.digits ≡ replicate (5 - fields.len) 0) × All (λ digit. digit < 3) (take fields.len fields.digits) };
 
-    ghost inverse = { λ label. record { len = length label; digits = label ++ replicate (5 - length label) 0 } };
+    ghost inverse = { λ label. record { len = length label; digits = padded 5 0 label } };
 
     ghost inverse_ok = { λ fields kept i. record {
       len = length-take-le fields.len fields.digits (omega (arith, kept.0, kept.1)) i;
@@ -41,10 +43,23 @@ impl Label {
         if digits.len() > MOST_DIGITS {
             return None;
         }
+        if !digits.iter().all(|&digit| digit < 3) {
+            return None;
+        }
         Some(Label {
             len: digits.len() as u8,
-            digits: checked(digits)?,
+            digits: padded(digits),
         })
+    }
+
+    /// The label of the first `len` of these digits, which are 0, 1 or 2; the others are 0.
+    pub fn from_row(len: u8, row: [u8; MOST_DIGITS]) -> Label
+        requires few { len ≤ 5 }
+        requires small { All (λ digit. digit < 3) (take len row) }
+        requires rest { drop len row ≡ replicate (5 - len) 0 }
+        ensures { result ≡ take len row }
+    {
+        Label { len, digits: row }
     }
 
     /// The label of `len` digits that are all 0.
@@ -135,25 +150,10 @@ pub(crate) fn next_digit(digit: u8) -> u8
     (digit + 1) % 3
 }
 
-// The digits, and 0 past them; `None` where one is above 2.
-fn checked(digits: &[u8]) -> Option<[u8; MOST_DIGITS]>
-    requires { length digits.now ≤ 5 }
-    ensures some { IsSome result ↔ All (λ digit. digit < 3) digits.now }
-    ensures row { IfSome result (λ row. row ≡ digits.now ++ replicate (5 - length digits.now) 0) }
-{
-    let mut row = [0; MOST_DIGITS];
-    for (at, &digit) in digits.iter().enumerate() {
-        if digit > 2 {
-            return None;
-        }
-        row[at] = digit;
-    }
-    Some(row)
-}
-
+// The digits, and 0 past them.
 fn padded(digits: &[u8]) -> [u8; MOST_DIGITS]
     requires { length digits.now ≤ 5 }
-    ensures { result ≡ digits.now ++ replicate (5 - length digits.now) 0 }
+    ensures { result ≡ padded 5 0 digits.now }
 {
     let mut row = [0; MOST_DIGITS];
     for (at, &digit) in digits.iter().enumerate() {

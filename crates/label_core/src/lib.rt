@@ -7,8 +7,9 @@
 
 mod choosing;
 mod digits;
+pub mod laws;
 mod ranking;
 
 pub use choosing::next_label;
 pub use digits::{Label, MOST_DIGITS};
-pub use ranking::{MOST_LABELS, ranks};
+pub use ranking::{MOST_LABELS, count_dominated, ranks};

@@ -1,7 +1,7 @@
 ghost use Rattle.std.specs.Prelude.{◌≡◌, ◌-◌, ◌≤◌, ℕ, List, ◌++◌, length, replicate, All};
 ghost use Rattle.label_core.specs.Labels.{AreAlike, dominated, label_ranks};
 
-use super::digits::Label;
+use crate::digits::Label;
 
 /// The most labels that are ranked together: one for each process.
 pub const MOST_LABELS: usize = 6;
@@ -20,7 +20,8 @@ pub fn ranks(labels: &[Label]) -> [u8; MOST_LABELS]
     ranks
 }
 
-fn count_dominated(label: &Label, labels: &[Label]) -> u8
+/// How many of up to six labels of one length this one, of the same length, dominates.
+pub fn count_dominated(label: &Label, labels: &[Label]) -> u8
     requires few { length labels.now ≤ 6 }
     requires alike { All (λ other. length label.now ≡ length other) labels.now }
     ensures { result ≡ dominated labels.now label.now }

@@ -8,7 +8,7 @@ use Rattle.tick_kinds.specs.declared.fault.KindFault.{KindFault}
 use Rattle.tick_kinds.specs.declared.fault.KindFault.TheVariants as F
 use Rattle.tick_kinds.specs.declared.kind.Kind.TheVariants as K
 use Rattle.tick_kinds.specs.Accepted.{IsAccepted}
-use Rattle.tick_kinds.specs.Checked.{Fails, checked_program}
+use Rattle.tick_kinds.specs.prover.Checked.{Fails, checked_program}
 use Rattle.tick_kinds.specs.Declarations.{declarations, numbered, slot_in, section}
 use Rattle.tick_kinds.specs.Refusals.{use_refusals, declarations_refusals, processes_refusals, refusals, first, first_refusal}
 use Rattle.tick_kinds.specs.Resolution.{number_by, number_of, resolved}
@@ -17,7 +17,7 @@ use Rattle.tick_kinds.specs.Within.{IsExpressionWithin, IsStatementWithin, IsWit
 use Rattle.tick_kinds.proofs.Accepting.{IsOnce, IsSmall, front_empty, back_empty, both_empty, kept_empty, pairs_from, once_from, declarations_fine, declarations_clear, smalls, fresh_first, all_left, all_right, all_both, within_limit, numbers_small}
 use Rattle.tick_kinds.proofs.Telling.{told, program_told}
 use Rattle.tick_kinds.proofs.Using.{letters-declarations, use_within, uses_declared, uses_clear}
-use Rattle.tick_syntax.specs.Plain.{Name, Expression, number, named, me, count, binary, Statement, assign, fetch, put, stamp, scan, copy, older, out, test, loop, Block, nil, cons, map_expression, map_statement, map_block, WholeProgram}
+use Rattle.tick_syntax.specs.Plain.{Name, Expression, number, named, me, count, binary, Statement, assign, get, put, stamp, scan, copy, older, out, branch, repeat, Block, nil, cons, map_expression, map_statement, map_block, WholeProgram}
 
 and_left : (a b : Bool) → (a && b) ≡ true → a ≡ true
 and_left true b h = refl
@@ -162,7 +162,7 @@ module _ (p : WholeProgram Name) where
   mutual
     statement_within : (s : Statement Name) → faults (statement_uses s) ≡ [] → InStatement (map_statement number_at s)
     statement_within (assign x e) h = (first_within (a_variable x) _ h, expression_within e (rest_of (a_variable x) _ h))
-    statement_within (fetch x r e) h =
+    statement_within (get x r e) h =
         let h1 = rest_of (a_variable x) _ h in
         (first_within (a_variable x) _ h, first_within (a_register r) _ h1, expression_within e (rest_of (a_register r) _ h1))
     statement_within (put r e) h = (first_within (a_register r) _ h, expression_within e (rest_of (a_register r) _ h))
@@ -178,13 +178,13 @@ module _ (p : WholeProgram Name) where
           expression_within b (back_of (expression_uses a) _ h2),
         )
     statement_within (out e) h = expression_within e h
-    statement_within (test e a b) h =
+    statement_within (branch e a b) h =
         let h1 = back_of (expression_uses e) _ h in (
           expression_within e (front_of (expression_uses e) _ h),
           block_within a (front_of (block_uses a) _ h1),
           block_within b (back_of (block_uses a) _ h1),
         )
-    statement_within (loop e a) h =
+    statement_within (repeat e a) h =
         (expression_within e (front_of (expression_uses e) _ h), block_within a (back_of (expression_uses e) _ h))
 
     block_within : (b : Block Name) → faults (block_uses b) ≡ [] → InBlock (map_block number_at b)

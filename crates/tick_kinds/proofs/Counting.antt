@@ -3,7 +3,7 @@ use Rattle.std.proofs.Common.{◌≡◌, ◌<◌, ◌≤◌, ◌+◌, ℕ, true,
 use Rattle.std.proofs.lemmas.List.{length-map}
 use Rattle.std.specs.Str.{bytes_eq}
 use Rattle.tick_kinds.specs.declared.kind.Kind.{Kind}
-use Rattle.tick_kinds.specs.Checked.{checked_program}
+use Rattle.tick_kinds.specs.prover.Checked.{checked_program}
 use Rattle.tick_kinds.specs.declared.kind.Kind.TheVariants as K
 use Rattle.tick_kinds.specs.Declarations.{Slot, declarations, numbered, slot_in}
 use Rattle.tick_kinds.proofs.Acceptance.{accepted}

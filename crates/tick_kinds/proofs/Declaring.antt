@@ -8,9 +8,9 @@ use Rattle.std.specs.Str.{bytes_eq}
 use Rattle.tick_kinds.specs.declared.fault.KindFault.{KindFault}
 use Rattle.tick_kinds.specs.declared.kind.Kind.{Kind}
 use Rattle.tick_kinds.specs.declared.kind.Kind.TheVariants as K
-use Rattle.tick_kinds.specs.Checked.{Checked, Table, ◌>>=◌, Fails, checked_declaration, checked_declarations}
+use Rattle.tick_kinds.specs.prover.Checked.{Checked, Table, ◌>>=◌, Fails, checked_declaration, checked_declarations}
 use Rattle.tick_kinds.specs.Declarations.{Slot, Declaration, declarations, numbered, limit}
-use Rattle.tick_kinds.specs.Table.{slot_at}
+use Rattle.tick_kinds.specs.prover.Table.{slot_at}
 use Rattle.indexmap.specs.IndexMap.{IndexMap, IsEmpty}
 use Rattle.tick_syntax.specs.declared.tree.Tree.{Tree}
 use Rattle.tick_kinds.proofs.Steps.{fails_on}

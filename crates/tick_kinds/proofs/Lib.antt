@@ -1,4 +1,4 @@
-pub mod ResolvedRows
+pub mod Offered
 pub mod Steps
 pub mod Declaring
 pub mod Telling

@@ -6,15 +6,15 @@ use Rattle.tick_kinds.specs.declared.fault.KindFault.TheVariants as F
 use Rattle.tick_kinds.specs.declared.resolved.Expression as R
 use Rattle.tick_kinds.specs.declared.resolved.Statement as T
 use Rattle.tick_kinds.specs.declared.resolved.Statement.TheVariants as Q
-use Rattle.tick_kinds.specs.Checked.{Checked, ◌>>=◌, Fails, checked_expression, checked_statement, checked_block}
+use Rattle.tick_kinds.specs.prover.Checked.{Checked, ◌>>=◌, Fails, checked_expression, checked_statement, checked_block}
 use Rattle.tick_kinds.specs.Declarations.{Slot}
 use Rattle.tick_kinds.specs.Resolved.{resolved_expression, resolved_statement, resolved_block}
-use Rattle.tick_kinds.proofs.ResolvedRows.{resolved_if, resolved_while}
-use Rattle.tick_syntax.proofs.Rows.{statement_of-If, statement_of-While}
+use Rattle.tick_kinds.proofs.Offered.{resolved_branch, resolved_repeat}
+use Rattle.tick_syntax.proofs.Offered.{statement_of_branch, statement_of_repeat}
 use Rattle.tick_syntax.specs.declared.tree.Expr.{Expr}
 use Rattle.tick_syntax.specs.declared.tree.Stmt.{Stmt}
 use Rattle.tick_syntax.specs.declared.tree.Stmt.TheVariants as S
-use Rattle.tick_syntax.specs.Plain.{Name, Expression, Statement, Block, test, loop, nil, cons, onto}
+use Rattle.tick_syntax.specs.Plain.{Name, Expression, Statement, Block, branch, repeat, nil, cons, onto}
 use Rattle.tick_syntax.specs.View.{expression_of, statement_of, block_of}
 
 -- what fails first fails the whole
@@ -27,34 +27,34 @@ fails_on (F.WrongKind s w k) r f h = ap (λ r. r >>= f) h
 fails_on (F.TooMany s) r f h = ap (λ r. r >>= f) h
 
 -- the two statements that hold statements
-abbrev choice : Checked (Expression ℕ) → Checked (Block ℕ) → Checked (Block ℕ) → Checked (Statement ℕ)
-choice e a b = e >>= λ e. a >>= λ a. b >>= λ b. Ok (test e a b)
+abbrev branching : Checked (Expression ℕ) → Checked (Block ℕ) → Checked (Block ℕ) → Checked (Statement ℕ)
+branching e a b = e >>= λ e. a >>= λ a. b >>= λ b. Ok (branch e a b)
 
-abbrev repetition : Checked (Expression ℕ) → Checked (Block ℕ) → Checked (Statement ℕ)
-repetition e a = e >>= λ e. a >>= λ a. Ok (loop e a)
+abbrev repeating : Checked (Expression ℕ) → Checked (Block ℕ) → Checked (Statement ℕ)
+repeating e a = e >>= λ e. a >>= λ a. Ok (repeat e a)
 
 module _ (look : List ℕ → Option Slot) where
-  checked_if :
+  checked_branch :
       (s : Stmt) (x : Expr) (a b : Vec Stmt Global) → s ≡ S.If x a b
       → checked_statement look (statement_of s)
-      ≡ choice (checked_expression look (expression_of x)) (checked_block look (block_of a.items))
+      ≡ branching (checked_expression look (expression_of x)) (checked_block look (block_of a.items))
       (checked_block look (block_of b.items))
   unfolding checked_statement
-  checked_if s x a b is = ap (checked_statement look) (ap statement_of is ∙ statement_of-If x a b)
+  checked_branch s x a b is = ap (checked_statement look) (ap statement_of is ∙ statement_of_branch x a b)
 
-  checked_while :
+  checked_repeat :
       (s : Stmt) (x : Expr) (a : Vec Stmt Global) → s ≡ S.While x a
       → checked_statement look (statement_of s)
-      ≡ repetition (checked_expression look (expression_of x)) (checked_block look (block_of a.items))
+      ≡ repeating (checked_expression look (expression_of x)) (checked_block look (block_of a.items))
   unfolding checked_statement
-  checked_while s x a is = ap (checked_statement look) (ap statement_of is ∙ statement_of-While x a)
+  checked_repeat s x a is = ap (checked_statement look) (ap statement_of is ∙ statement_of_repeat x a)
 
   pub first_fails :
       (s : Stmt) (x : Expr) (a b : Vec Stmt Global) (v : Expression ℕ) (e : KindFault)
       → s ≡ S.If x a b → checked_expression look (expression_of x) ≡ Ok v
       → Fails e (checked_block look (block_of a.items)) → Fails e (checked_statement look (statement_of s))
   first_fails s x a b v e is hx ha =
-      rw (checked_if s x a b is, hx) (fails_on e (checked_block look (block_of a.items)) _ ha)
+      rw (checked_branch s x a b is, hx) (fails_on e (checked_block look (block_of a.items)) _ ha)
 
   pub second_fails :
       (s : Stmt) (x : Expr) (a b : Vec Stmt Global) (v : Expression ℕ) (u : Block ℕ) (e : KindFault)
@@ -62,29 +62,29 @@ module _ (look : List ℕ → Option Slot) where
       → checked_block look (block_of a.items) ≡ Ok u
       → Fails e (checked_block look (block_of b.items)) → Fails e (checked_statement look (statement_of s))
   second_fails s x a b v u e is hx ha hb =
-      rw (checked_if s x a b is, hx, ha) (fails_on e (checked_block look (block_of b.items)) _ hb)
+      rw (checked_branch s x a b is, hx, ha) (fails_on e (checked_block look (block_of b.items)) _ hb)
 
   pub body_fails :
       (s : Stmt) (x : Expr) (a : Vec Stmt Global) (v : Expression ℕ) (e : KindFault)
       → s ≡ S.While x a → checked_expression look (expression_of x) ≡ Ok v
       → Fails e (checked_block look (block_of a.items)) → Fails e (checked_statement look (statement_of s))
   body_fails s x a v e is hx ha =
-      rw (checked_while s x a is, hx) (fails_on e (checked_block look (block_of a.items)) _ ha)
+      rw (checked_repeat s x a is, hx) (fails_on e (checked_block look (block_of a.items)) _ ha)
 
-  pub if_checked :
+  pub branch_checked :
       (s : Stmt) (x : Expr) (a b : Vec Stmt Global) (v : R.Expression) (c d : Vec T.Statement Global)
       → s ≡ S.If x a b → checked_expression look (expression_of x) ≡ Ok (resolved_expression v)
       → checked_block look (block_of a.items) ≡ Ok (resolved_block c.items)
       → checked_block look (block_of b.items) ≡ Ok (resolved_block d.items)
       → checked_statement look (statement_of s) ≡ Ok (resolved_statement (Q.If v c d))
-  if_checked s x a b v c d is hx ha hb = rw (checked_if s x a b is, hx, ha, hb) (ap Ok (sym (resolved_if v c d)))
+  branch_checked s x a b v c d is hx ha hb = rw (checked_branch s x a b is, hx, ha, hb) (ap Ok (sym (resolved_branch v c d)))
 
-  pub while_checked :
+  pub repeat_checked :
       (s : Stmt) (x : Expr) (a : Vec Stmt Global) (v : R.Expression) (c : Vec T.Statement Global)
       → s ≡ S.While x a → checked_expression look (expression_of x) ≡ Ok (resolved_expression v)
       → checked_block look (block_of a.items) ≡ Ok (resolved_block c.items)
       → checked_statement look (statement_of s) ≡ Ok (resolved_statement (Q.While v c))
-  while_checked s x a v c is hx ha = rw (checked_while s x a is, hx, ha) (ap Ok (sym (resolved_while v c)))
+  repeat_checked s x a v c is hx ha = rw (checked_repeat s x a is, hx, ha) (ap Ok (sym (resolved_repeat v c)))
 
   -- a block whose first statements gave a block already
   abbrev pub checked_after : Block ℕ → Block Name → Checked (Block ℕ)

@@ -11,12 +11,12 @@ use Rattle.tick_kinds.specs.declared.fault.KindFault.{KindFault}
 use Rattle.tick_kinds.specs.declared.fault.KindFault.TheVariants as F
 use Rattle.tick_kinds.specs.declared.kind.Kind.{Kind}
 use Rattle.tick_kinds.specs.declared.kind.Kind.TheVariants as K
-use Rattle.tick_kinds.specs.Checked.{Checked, ◌>>=◌, number_if, with_declaration, checked_name, checked_expression, checked_assign, checked_get, checked_put, checked_copy, checked_older, checked_statement, checked_block, checked_declaration, checked_declarations, checked_program}
+use Rattle.tick_kinds.specs.prover.Checked.{Checked, ◌>>=◌, number_if, with_declaration, checked_name, checked_expression, checked_assign, checked_get, checked_put, checked_copy, checked_older, checked_statement, checked_block, checked_declaration, checked_declarations, checked_program}
 use Rattle.tick_kinds.specs.Declarations.{Slot, Declaration, declarations, slot_in, limit}
 use Rattle.tick_kinds.specs.Refusals.{is_kind, use_refusals, use_refusals_by, declaration_refusals, declarations_refusals, refusals}
 use Rattle.tick_kinds.specs.Resolution.{number_by, number_of, resolved}
 use Rattle.tick_kinds.specs.Uses.{Use, expression_uses, statement_uses, block_uses}
-use Rattle.tick_syntax.specs.Plain.{Name, Expression, number, named, me, count, binary, Statement, assign, fetch, put, stamp, scan, copy, older, out, test, loop, Block, nil, cons, map_expression, map_statement, map_block, WholeProgram}
+use Rattle.tick_syntax.specs.Plain.{Name, Expression, number, named, me, count, binary, Statement, assign, get, put, stamp, scan, copy, older, out, branch, repeat, Block, nil, cons, map_expression, map_statement, map_block, WholeProgram}
 
 -- the first of the faults, else the value
 abbrev pub told : {A : Type 0} → List KindFault → A → Checked A
@@ -85,7 +85,7 @@ module _ (look : List ℕ → Option Slot) where
         (s : Statement Name) → checked_statement look s ≡ told (faults (statement_uses s)) (map_statement num s)
     statement_told (assign x e) =
         told-then _ _ _ _ _ _ (name_told K.Variable x) (told-last _ _ _ _ (expression_told e))
-    statement_told (fetch x r e) =
+    statement_told (get x r e) =
         told-then _ _ _ _ _ _ (name_told K.Variable x)
         (told-then _ _ _ _ _ _ (name_told K.Register r) (told-last _ _ _ _ (expression_told e)))
     statement_told (put r e) =
@@ -100,11 +100,11 @@ module _ (look : List ℕ → Option Slot) where
         (told-then _ _ _ _ _ _ (expression_told a) (told-last _ _ _ _ (expression_told b))
         ∙ split (expression_uses a) (expression_uses b) _))
     statement_told (out e) = told-last _ _ _ _ (expression_told e)
-    statement_told (test e a b) =
+    statement_told (branch e a b) =
         told-then _ _ _ _ _ _ (expression_told e)
         (told-then _ _ _ _ _ _ (block_told a) (told-last _ _ _ _ (block_told b)) ∙ split (block_uses a) (block_uses b) _)
         ∙ split (expression_uses e) (block_uses a ++ block_uses b) _
-    statement_told (loop e a) =
+    statement_told (repeat e a) =
         told-then _ _ _ _ _ _ (expression_told e) (told-last _ _ _ _ (block_told a))
         ∙ split (expression_uses e) (block_uses a) _
 

@@ -5,6 +5,5 @@ pub mod Refusals
 pub mod Resolution
 pub mod Resolved
 pub mod Within
-pub mod Checked
-pub mod Table
-pub mod Coding
+pub mod Laws
+pub mod prover

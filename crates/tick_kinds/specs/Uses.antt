@@ -2,7 +2,7 @@
 use Rattle.std.specs.Prelude.{List, [], ◌∷◌, ◌++◌}
 use Rattle.tick_kinds.specs.declared.kind.Kind.{Kind}
 use Rattle.tick_kinds.specs.declared.kind.Kind.TheVariants as K
-use Rattle.tick_syntax.specs.Plain.{Name, Expression, number, named, me, count, binary, Statement, assign, fetch, put, stamp, scan, copy, older, out, test, loop, Block, nil, cons}
+use Rattle.tick_syntax.specs.Plain.{Name, Expression, number, named, me, count, binary, Statement, assign, get, put, stamp, scan, copy, older, out, branch, repeat, Block, nil, cons}
 
 pub record Use : Type 0 where
   pub wanted : Kind
@@ -27,15 +27,15 @@ expression_uses (binary a op b) = expression_uses a ++ expression_uses b
 abbrev mutual
   pub statement_uses : Statement Name → List Use
   statement_uses (assign x e) = a_variable x ∷ expression_uses e
-  statement_uses (fetch x r e) = a_variable x ∷ a_register r ∷ expression_uses e
+  statement_uses (get x r e) = a_variable x ∷ a_register r ∷ expression_uses e
   statement_uses (put r e) = a_register r ∷ expression_uses e
   statement_uses stamp = []
   statement_uses (scan s) = a_scan s ∷ []
   statement_uses (copy t s) = a_scan t ∷ a_scan s ∷ []
   statement_uses (older x s a b) = a_variable x ∷ a_scan s ∷ (expression_uses a ++ expression_uses b)
   statement_uses (out e) = expression_uses e
-  statement_uses (test e a b) = expression_uses e ++ (block_uses a ++ block_uses b)
-  statement_uses (loop e a) = expression_uses e ++ block_uses a
+  statement_uses (branch e a b) = expression_uses e ++ (block_uses a ++ block_uses b)
+  statement_uses (repeat e a) = expression_uses e ++ block_uses a
 
   pub block_uses : Block Name → List Use
   block_uses nil = []

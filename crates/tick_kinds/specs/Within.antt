@@ -1,7 +1,7 @@
 -- Every number in a resolved block names something that is declared: a variable below the number of
 -- variables, a scan below that of scans, a register row below that of rows.
 use Rattle.std.specs.Prelude.{ℕ, ◌<◌}
-use Rattle.tick_syntax.specs.Plain.{Expression, number, named, me, count, binary, Statement, assign, fetch, put, stamp, scan, copy, older, out, test, loop, Block, nil, cons}
+use Rattle.tick_syntax.specs.Plain.{Expression, number, named, me, count, binary, Statement, assign, get, put, stamp, scan, copy, older, out, branch, repeat, Block, nil, cons}
 
 module _ (variables scans registers : ℕ) where
   abbrev pub IsExpressionWithin : Expression ℕ → Type 0
@@ -14,7 +14,7 @@ module _ (variables scans registers : ℕ) where
   abbrev mutual
     pub IsStatementWithin : Statement ℕ → Type 0
     IsStatementWithin (assign x e) = (x < variables) × IsExpressionWithin e
-    IsStatementWithin (fetch x r e) = (x < variables) × (r < registers) × IsExpressionWithin e
+    IsStatementWithin (get x r e) = (x < variables) × (r < registers) × IsExpressionWithin e
     IsStatementWithin (put r e) = (r < registers) × IsExpressionWithin e
     IsStatementWithin stamp = Unit {0}
     IsStatementWithin (scan s) = s < scans
@@ -22,8 +22,8 @@ module _ (variables scans registers : ℕ) where
     IsStatementWithin (older x s a b) =
         (x < variables) × (s < scans) × IsExpressionWithin a × IsExpressionWithin b
     IsStatementWithin (out e) = IsExpressionWithin e
-    IsStatementWithin (test e a b) = IsExpressionWithin e × IsWithin a × IsWithin b
-    IsStatementWithin (loop e a) = IsExpressionWithin e × IsWithin a
+    IsStatementWithin (branch e a b) = IsExpressionWithin e × IsWithin a × IsWithin b
+    IsStatementWithin (repeat e a) = IsExpressionWithin e × IsWithin a
 
     pub IsWithin : Block ℕ → Type 0
     IsWithin nil = Unit {0}

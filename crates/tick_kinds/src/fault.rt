@@ -1,4 +1,4 @@
-use super::kind::Kind;
+use crate::kind::Kind;
 use std::alloc::{AllocError, AllocFailed};
 use thiserror::Error;
 use tick_syntax::span::Span;

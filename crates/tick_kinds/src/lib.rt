@@ -15,6 +15,3 @@ pub mod resolved;
 pub use fault::KindFault;
 pub use kind::Kind;
 pub use program::{Program, check};
-
-#[cfg(test)]
-mod tests;

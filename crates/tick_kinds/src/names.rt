@@ -1,13 +1,13 @@
 ghost use Rattle.tick_syntax.specs.View.{tree_of, name_of, expression_of, statement_of, block_of};
 ghost use Rattle.tick_kinds.specs.Resolved.{resolved_expression, resolved_statement, resolved_block};
-ghost use Rattle.tick_kinds.specs.Table.{slot_at};
-ghost use Rattle.tick_kinds.specs.Checked.{Gives, checked_name, checked_expression, checked_assign, checked_get, checked_put, checked_copy, checked_older, checked_statement, checked_block, checked_declaration, checked_declarations};
+ghost use Rattle.tick_kinds.specs.prover.Table.{slot_at};
+ghost use Rattle.tick_kinds.specs.prover.Checked.{Gives, checked_name, checked_expression, checked_assign, checked_get, checked_put, checked_copy, checked_older, checked_statement, checked_block, checked_declaration, checked_declarations};
 ghost use Rattle.tick_kinds.specs.Declarations.{limit, numbered, declarations};
 ghost use Rattle.std.specs.Prelude.{◌≡◌, None, map};
 
-use super::fault::KindFault;
-use super::kind::Kind;
-use super::resolved::{Expression, Statement};
+use crate::fault::KindFault;
+use crate::kind::Kind;
+use crate::resolved::{Expression, Statement};
 use indexmap::IndexMap;
 use std::alloc::Global;
 use tick_syntax::tree::{Expr, Named, Stmt, Tree};
@@ -54,7 +54,7 @@ impl<'a> Names<'a> {
         Ok(())
     }
 
-    #[tactic(auto, unfolding(crate::specs::Checked::checked_declaration))]
+    #[tactic(auto, unfolding(crate::specs::prover::Checked::checked_declaration))]
     fn declare(&mut self, kind: Kind, number: usize, named: &'a Named) -> Result<(), KindFault>
         ensures { Gives (λ _. slot_at self.new.slots) result (checked_declaration (record { name = name_of named.now; slot = (kind, number) }) (slot_at self.old.slots)) }
     {
@@ -69,7 +69,7 @@ impl<'a> Names<'a> {
         Ok(())
     }
 
-    #[tactic(auto, unfolding(crate::specs::Checked::checked_name))]
+    #[tactic(auto, unfolding(crate::specs::prover::Checked::checked_name))]
     fn number(&self, wanted: Kind, named: &Named) -> Result<u8, KindFault>
         ensures { Gives (λ x. x) result (checked_name (slot_at self.now.slots) wanted (name_of named.now)) }
     {
@@ -84,7 +84,7 @@ impl<'a> Names<'a> {
         }
     }
 
-    #[tactic(auto, unfolding(crate::specs::Checked::checked_expression))]
+    #[tactic(auto, unfolding(crate::specs::prover::Checked::checked_expression))]
     fn expression(&self, value: &Expr) -> Result<Expression, KindFault>
         ensures { Gives resolved_expression result (checked_expression (slot_at self.now.slots) (expression_of value.now)) }
     {
@@ -101,7 +101,7 @@ impl<'a> Names<'a> {
         }
     }
 
-    #[tactic(auto, unfolding(crate::specs::Checked::checked_assign))]
+    #[tactic(auto, unfolding(crate::specs::prover::Checked::checked_assign))]
     fn assign(&self, target: &Named, value: &Expr) -> Result<Statement, KindFault>
         ensures { Gives resolved_statement result (checked_assign (slot_at self.now.slots) (name_of target.now) (expression_of value.now)) }
     {
@@ -109,7 +109,7 @@ impl<'a> Names<'a> {
         Ok(Statement::Assign(target, self.expression(value)?))
     }
 
-    #[tactic(auto, unfolding(crate::specs::Checked::checked_get))]
+    #[tactic(auto, unfolding(crate::specs::prover::Checked::checked_get))]
     fn get(&self, target: &Named, register: &Named, process: &Expr) -> Result<Statement, KindFault>
         ensures { Gives resolved_statement result (checked_get (slot_at self.now.slots) (name_of target.now) (name_of register.now) (expression_of process.now)) }
     {
@@ -118,7 +118,7 @@ impl<'a> Names<'a> {
         Ok(Statement::Get(target, register, self.expression(process)?))
     }
 
-    #[tactic(auto, unfolding(crate::specs::Checked::checked_put))]
+    #[tactic(auto, unfolding(crate::specs::prover::Checked::checked_put))]
     fn put(&self, register: &Named, value: &Expr) -> Result<Statement, KindFault>
         ensures { Gives resolved_statement result (checked_put (slot_at self.now.slots) (name_of register.now) (expression_of value.now)) }
     {
@@ -126,7 +126,7 @@ impl<'a> Names<'a> {
         Ok(Statement::Put(register, self.expression(value)?))
     }
 
-    #[tactic(auto, unfolding(crate::specs::Checked::checked_copy))]
+    #[tactic(auto, unfolding(crate::specs::prover::Checked::checked_copy))]
     fn copy(&self, target: &Named, source: &Named) -> Result<Statement, KindFault>
         ensures { Gives resolved_statement result (checked_copy (slot_at self.now.slots) (name_of target.now) (name_of source.now)) }
     {
@@ -134,7 +134,7 @@ impl<'a> Names<'a> {
         Ok(Statement::Copy(target, self.number(Kind::Scan, source)?))
     }
 
-    #[tactic(auto, unfolding(crate::specs::Checked::checked_older))]
+    #[tactic(auto, unfolding(crate::specs::prover::Checked::checked_older))]
     fn older(
         &self,
         target: &Named,
@@ -152,7 +152,7 @@ impl<'a> Names<'a> {
     }
 
     #[cycle(statement)]
-    #[tactic(auto, unfolding(crate::specs::Checked::checked_statement))]
+    #[tactic(auto, unfolding(crate::specs::prover::Checked::checked_statement))]
     fn statement(&self, statement: &Stmt) -> Result<Statement, KindFault>
         ensures { Gives resolved_statement result (checked_statement (slot_at self.now.slots) (statement_of statement.now)) }
     {
@@ -178,7 +178,7 @@ impl<'a> Names<'a> {
     }
 
     #[cycle(statement)]
-    #[tactic(auto, unfolding(crate::specs::Checked::checked_block))]
+    #[tactic(auto, unfolding(crate::specs::prover::Checked::checked_block))]
     pub fn block(&self, statements: &[Stmt]) -> Result<Vec<Statement>, KindFault>
         ensures { Gives (λ b. resolved_block b.items) result (checked_block (slot_at self.now.slots) (block_of statements.now)) }
     {

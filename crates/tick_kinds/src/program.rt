@@ -1,17 +1,17 @@
 ghost use Rattle.std.specs.Prelude.{◌≡◌, ◌≢◌, ◌≤◌, Some, length, map, IfOk, OnOk, IfErr};
 ghost use Rattle.tick_syntax.specs.View.{tree_of, name_of};
 ghost use Rattle.tick_kinds.specs.Accepted.{IsAccepted};
-ghost use Rattle.tick_kinds.specs.Checked.{Gives, checked_program};
+ghost use Rattle.tick_kinds.specs.prover.Checked.{Gives, checked_program};
 ghost use Rattle.tick_kinds.specs.Declarations.{declarations, numbered, slot_in};
 ghost use Rattle.tick_kinds.specs.Refusals.{first_refusal};
 ghost use Rattle.tick_kinds.specs.Resolution.{resolved};
 ghost use Rattle.tick_kinds.specs.Resolved.{resolved_block};
 ghost use Rattle.tick_kinds.specs.Within.{IsWithin};
 
-use super::fault::KindFault;
-use super::kind::Kind;
-use super::names::Names;
-use super::resolved::Statement;
+use crate::fault::KindFault;
+use crate::kind::Kind;
+use crate::names::Names;
+use crate::resolved::Statement;
 use std::alloc::Global;
 use std::marker::Model;
 use tick_syntax::tree::{Named, Tree};
@@ -28,20 +28,20 @@ impl Model for Program {
     ghost use Rattle.std.specs.Coded.{codes};
     ghost use Rattle.tick_syntax.specs.Plain.{Name, WholeProgram};
     ghost use Rattle.tick_syntax.specs.View.{tree_of};
-    ghost use Rattle.tick_kinds.specs.Checked.{checked_program};
-    ghost use Rattle.tick_kinds.specs.Coding.{block_code};
+    ghost use Rattle.tick_kinds.specs.prover.Checked.{checked_program};
+    ghost use Rattle.tick_syntax.specs.prover.Coding.{written_blocks};
     ghost use Rattle.tick_kinds.specs.Resolved.{resolved_block};
 
     ghost Value = { WholeProgram Name };
 
-    ghost coded = { Prim.hlevel (codes, block_code) };
+    ghost coded = { Prim.hlevel (codes, written_blocks) };
 
     ghost view = { λ a. tree_of a.tree };
 
     ghost invariant = { λ a. checked_program (tree_of a.tree) ≡ Ok (resolved_block a.body.items) };
 }
 
-#[tactic(auto, unfolding(crate::specs::Checked::checked_program))]
+#[tactic(auto, unfolding(crate::specs::prover::Checked::checked_program))]
 fn resolve(alloc: Global, tree: &Tree) -> Result<Vec<Statement>, KindFault>
     ensures { Gives (λ b. resolved_block b.items) result (checked_program (tree_of tree.now)) }
 {

@@ -1,5 +1,5 @@
+mod Examples
 pub mod NumberLemmas
 pub mod ScheduleLemmas
 pub mod WritingLemmas
 pub mod ReadingBack
-pub mod Rows

@@ -2,14 +2,15 @@
 use Rattle.std.specs.Prelude.{ℕ, ◌+◌, List, [], ◌∷◌, ◌++◌, codes, length, map, take}
 use Rattle.std.specs.Fmt.{decimal}
 use Rattle.tick_syntax.specs.Plain.{WholeProgram}
-use Rattle.tick_source.specs.declared.event.Trap.{Trap}
-use Rattle.tick_source.specs.declared.event.Trap.TheVariants as T
-use Rattle.tick_source.specs.declared.event.Act.{Act}
-use Rattle.tick_source.specs.declared.event.Act.TheVariants as A
-use Rattle.tick_source.specs.declared.event.Event.{Event}
-use Rattle.tick_source.specs.declared.event.Status.{Status}
-use Rattle.tick_source.specs.declared.event.Status.TheVariants as S
-use Rattle.tick_source.specs.Source.{source, statuses_of}
+use Rattle.machine_core.specs.declared.status.Trap.{Trap}
+use Rattle.machine_core.specs.declared.status.Trap.TheVariants as T
+use Rattle.machine_core.specs.declared.event.Act.{Act}
+use Rattle.machine_core.specs.declared.event.Act.TheVariants as A
+use Rattle.machine_core.specs.declared.event.Event.{Event}
+use Rattle.machine_core.specs.declared.status.Status.{Status}
+use Rattle.machine_core.specs.declared.status.Status.TheVariants as S
+use Rattle.machine_core.specs.Observables.{Observables}
+use Rattle.tick_source.specs.Source.{source, observables}
 use Rattle.tick_play.specs.Written.{spaced}
 
 abbrev pub line_feed : List ℕ
@@ -60,11 +61,9 @@ abbrev pub status_lines : ℕ → List Status → List ℕ
 status_lines p [] = []
 status_lines p (status ∷ statuses) = status_line p status ++ status_lines (p + 1) statuses
 
-abbrev pub report : List Event → List (List ℕ) → List Status → List ℕ
-report events rows statuses =
-    event_lines (length statuses) events ++ register_lines 0 rows ++ status_lines 0 statuses
+abbrev pub report : Observables → List ℕ
+report o = event_lines (length o.statuses) o.events ++ register_lines 0 o.rows ++ status_lines 0 o.statuses
 
 -- the program under this schedule
 abbrev pub source_report : WholeProgram ℕ → List ℕ → List ℕ
-source_report a schedule =
-    let s = source a schedule in report s.events s.rows (statuses_of s)
+source_report a schedule = report (observables (source a schedule))

@@ -1,15 +1,12 @@
 -- Schedules as texts. Blanks separate items; the item `P` is one step of process P, and `P*K` is K
 -- of them.
-use Rattle.std.specs.Prelude.{ℕ, ◌+◌, nat_le, nat_lt, ◌==◌, ◌||◌, Bool, List, [], ◌∷◌, ◌++◌, drop, length, replicate, take, Option, Some, None, Result, Ok, Err, if◌then◌else◌}
+use Rattle.std.specs.Prelude.{ℕ, ◌+◌, nat_le, nat_lt, ◌==◌, Bool, List, [], ◌∷◌, ◌++◌, drop, length, replicate, take, Option, Some, None, Result, Ok, Err, if◌then◌else◌}
 use Rattle.std.specs.List.{position, slice_split}
+use Rattle.tick_syntax.specs.Characters.{is_blank}
 use Rattle.tick_play.specs.Number.{capped, number_of}
 use Rattle.tick_play.specs.declared.schedule.Item.{Item}
 use Rattle.tick_play.specs.declared.schedule.ScheduleFault.{ScheduleFault}
 use Rattle.tick_play.specs.declared.schedule.ScheduleFault.TheVariants.{BadItem, NoSuchProcess, TooLong}
-
--- space, tab, carriage return, line feed
-abbrev pub is_blank : ℕ → Bool
-is_blank byte = byte == 32 || byte == 9 || byte == 13 || byte == 10
 
 abbrev pub is_star : ℕ → Bool
 is_star byte = byte == 42

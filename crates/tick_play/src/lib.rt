@@ -1,18 +1,17 @@
-// Schedules as texts, and runs under a schedule told as a text.
+// Schedules as texts, and runs told as texts.
 //
-// Start with `read_schedule`, or with `play_source` for the report of a whole run.
+// Start with `read_schedule`, or with `play_source` for the report of a whole run under a schedule.
 #![tactic(auto)]
 
 pub mod laws;
 pub mod number;
 mod play;
 mod report;
-pub mod schedule;
+mod schedule;
 mod writing;
 
+pub use machine_core::{NoMemory, Outcome};
 pub use play::play_source;
+pub use report::report_of;
 pub use schedule::{ScheduleFault, read_schedule};
 pub use writing::write_schedule;
-
-#[cfg(test)]
-mod tests;

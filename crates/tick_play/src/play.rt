@@ -1,12 +1,12 @@
-//! Runs told as texts.
 ghost use Rattle.std.specs.Prelude.{◌≡◌, ◌<◌, All, IfOk, string_bytes};
 ghost use Rattle.tick_kinds.specs.Resolution.{resolved};
 ghost use Rattle.tick_play.specs.Report.{source_report};
 
 use crate::report::report_of;
+use machine_core::NoMemory;
 use std::alloc::Global;
 use tick_kinds::Program;
-use tick_source::{NoMemory, run};
+use tick_source::run;
 
 /// The report of the program's run under a schedule, each number of which is below the number of
 /// processes.

@@ -1,16 +1,16 @@
-//! What a run let others see, as a text.
 ghost use Rattle.std.specs.Prelude.{◌≡◌, ◌++◌, IfOk, OnOk, map, string_bytes, take};
 ghost use Rattle.std.specs.Fmt.{decimal};
+ghost use Rattle.machine_core.specs.Observables.{observed};
 ghost use Rattle.tick_play.specs.Report.{event_line, event_lines, register_line, register_lines, report, status_line, status_lines, trap_text};
 ghost use Rattle.tick_play.specs.Written.{spaced};
 
+use machine_core::{Act, Event, NoMemory, Outcome, Status, Trap};
 use std::alloc::{AllocError, Global};
 use std::fmt::Write;
-use tick_source::{Act, Event, NoMemory, Outcome, Status, Trap};
 
 /// A line for each event, then for each register row, and then for each process.
 pub fn report_of(alloc: Global, outcome: &Outcome) -> Result<String, NoMemory>
-    ensures { IfOk result (λ text. string_bytes text ≡ report outcome.now.events.items (map (λ row. row.items) outcome.now.registers.items) outcome.now.statuses.items) }
+    ensures { IfOk result (λ text. string_bytes text ≡ report (observed outcome.now)) }
 {
     let mut text = String::new(alloc);
     push_events(&mut text, outcome.statuses.len(), &outcome.events)?;

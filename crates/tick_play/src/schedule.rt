@@ -1,7 +1,7 @@
-//! Schedules as texts: items `P` and `P*K` between blanks.
 ghost use Rattle.std.specs.Prelude.{◌≡◌, ◌≢◌, ◌<◌, All, IfErr, IfOk, IfSome, OnOk, length, option_map};
 ghost use Rattle.std.specs.List.{position};
-ghost use Rattle.tick_play.specs.Schedule.{capped_item, is_blank as is_blank_byte, is_star, item_of as item_spelled, item_of_numbers, schedule_of, with_item, with_piece};
+ghost use Rattle.tick_syntax.specs.Characters.{is_blank as is_blank_byte};
+ghost use Rattle.tick_play.specs.Schedule.{capped_item, is_star, item_of as item_spelled, item_of_numbers, schedule_of, with_item, with_piece};
 ghost use Rattle.tick_play.specs.declared.schedule.ScheduleFault.TheVariants.{NoMemory};
 
 use crate::number::number;

@@ -1,11 +1,10 @@
-//! The text that a schedule is written as.
 ghost use Rattle.std.specs.Prelude.{◌≡◌, ◌∷◌, ◌++◌, IfOk, OnOk, string_bytes};
 ghost use Rattle.tick_play.specs.Written.{item_text, schedule_text};
 
 use crate::schedule::Item;
+use machine_core::NoMemory;
 use std::alloc::{AllocError, Global};
 use std::fmt::Write;
-use tick_source::NoMemory;
 
 /// The shortest text of a schedule: an item for each longest run of steps of one process, and one
 /// space between each two.

@@ -1,15 +1,14 @@
 -- Small programs, and what the definitions make of them.
 use Rattle.std.proofs.Common.{◌≡◌, ℕ, List, [], ◌∷◌, Err, refl}
-use Rattle.tick_syntax.specs.declared.tree.Op.TheVariants as O
-use Rattle.tick_syntax.specs.Plain.{number, named, me, binary, assign, fetch, put, stamp, scan, older, out, loop, Block, nil, cons, WholeProgram}
-use Rattle.tick_source.specs.declared.event.Trap.TheVariants as T
-use Rattle.tick_source.specs.declared.event.Status.{Status}
-use Rattle.tick_source.specs.declared.event.Status.TheVariants.{Running, Ended, Trapped}
-use Rattle.tick_source.specs.declared.event.Act.{Act}
-use Rattle.tick_source.specs.declared.event.Act.TheVariants as A
-use Rattle.tick_source.specs.declared.event.Event.{Event}
+use Rattle.machine_core.specs.declared.operator.Op.TheVariants as O
+use Rattle.tick_syntax.specs.Plain.{number, named, me, binary, assign, get, put, stamp, scan, older, out, repeat, Block, nil, cons, WholeProgram}
+use Rattle.machine_core.specs.declared.status.Trap.TheVariants as T
+use Rattle.machine_core.specs.declared.status.Status.TheVariants.{Running, Ended, Trapped}
+use Rattle.machine_core.specs.declared.event.Act.{Act}
+use Rattle.machine_core.specs.declared.event.Act.TheVariants as A
+use Rattle.machine_core.specs.declared.event.Event.{Event}
 use Rattle.tick_source.specs.Values.{value}
-use Rattle.tick_source.specs.Source.{SourceState, source, statuses_of}
+use Rattle.tick_source.specs.Source.{source, observables}
 
 abbrev program : ℕ → List ℕ → List ℕ → List ℕ → Block ℕ → WholeProgram ℕ
 program n variables scans registers body = record {
@@ -24,15 +23,6 @@ program n variables scans registers body = record {
 abbrev by : ℕ → Act → Event
 by p act = record { process = p; act = act }
 
--- what a run lets others see
-record Seen : Type 0 where
-  events : List Event
-  rows : List (List ℕ)
-  statuses : List Status
-
-abbrev seen : SourceState → Seen
-seen s = record { events = s.events; rows = s.rows; statuses = statuses_of s }
-
 -- processes 2; var x; scan s; begin stamp; s = scan; x = older s 0 1; out x; end
 abbrev stamps_and_compares : WholeProgram ℕ
 stamps_and_compares =
@@ -40,7 +30,7 @@ stamps_and_compares =
     (cons stamp (cons (scan 0) (cons (older 0 0 (number 0) (number 1)) (cons (out (named 0)) nil))))
 
 -- one process after the other
-in_turn : seen (source stamps_and_compares (0 ∷ 0 ∷ 0 ∷ 0 ∷ 0 ∷ 1 ∷ 1 ∷ 1 ∷ 1 ∷ 1 ∷ [])) ≡ record {
+in_turn : observables (source stamps_and_compares (0 ∷ 0 ∷ 0 ∷ 0 ∷ 0 ∷ 1 ∷ 1 ∷ 1 ∷ 1 ∷ 1 ∷ [])) ≡ record {
   events = by 0 A.Stamp ∷ by 0 (A.Scan (1 ∷ 0 ∷ 0 ∷ 0 ∷ 0 ∷ 0 ∷ [])) ∷ by 0 (A.Older 0 1 0) ∷ by 0 (A.Out 0) ∷ by 0 A.End
       ∷ by 1 A.Stamp ∷ by 1 (A.Scan (0 ∷ 1 ∷ 0 ∷ 0 ∷ 0 ∷ 0 ∷ [])) ∷ by 1 (A.Older 0 1 1) ∷ by 1 (A.Out 1) ∷ by 1 A.End ∷ [];
   rows = [];
@@ -49,7 +39,7 @@ in_turn : seen (source stamps_and_compares (0 ∷ 0 ∷ 0 ∷ 0 ∷ 0 ∷ 1 ∷ 
 in_turn = refl
 
 -- processes 2; var x; begin x = (0 - 1); end
-below : seen (source (program 2 (0 ∷ []) [] [] (cons (assign 0 (binary (number 0) O.Sub (number 1))) nil)) (0 ∷ 0 ∷ 1 ∷ [])) ≡ record {
+below : observables (source (program 2 (0 ∷ []) [] [] (cons (assign 0 (binary (number 0) O.Sub (number 1))) nil)) (0 ∷ 0 ∷ 1 ∷ [])) ≡ record {
   events = by 0 (A.Trap T.Below) ∷ by 1 (A.Trap T.Below) ∷ [];
   rows = [];
   statuses = Trapped T.Below ∷ Trapped T.Below ∷ [];
@@ -65,7 +55,7 @@ left_first : value 2 0 [] (binary (binary (number 1) O.Add (binary (number 0) O.
 left_first = refl
 
 -- processes 2; var x; scan s; begin x = older s 0 2; end
-no_such_process : seen (source (program 2 (0 ∷ []) (0 ∷ []) [] (cons (older 0 0 (number 0) (number 2)) nil)) (0 ∷ [])) ≡ record {
+no_such_process : observables (source (program 2 (0 ∷ []) (0 ∷ []) [] (cons (older 0 0 (number 0) (number 2)) nil)) (0 ∷ [])) ≡ record {
   events = by 0 (A.Trap T.Index) ∷ [];
   rows = [];
   statuses = Trapped T.Index ∷ Running ∷ [];
@@ -73,7 +63,7 @@ no_such_process : seen (source (program 2 (0 ∷ []) (0 ∷ []) [] (cons (older 
 no_such_process = refl
 
 -- x = older s 2 (1 / 0): the operands count before the places are tested
-operands_first : seen (source (program 2 (0 ∷ []) (0 ∷ []) [] (cons (older 0 0 (number 2) (binary (number 1) O.Div (number 0))) nil)) (0 ∷ [])) ≡ record {
+operands_first : observables (source (program 2 (0 ∷ []) (0 ∷ []) [] (cons (older 0 0 (number 2) (binary (number 1) O.Div (number 0))) nil)) (0 ∷ [])) ≡ record {
   events = by 0 (A.Trap T.Zero) ∷ [];
   rows = [];
   statuses = Trapped T.Zero ∷ Running ∷ [];
@@ -81,18 +71,18 @@ operands_first : seen (source (program 2 (0 ∷ []) (0 ∷ []) [] (cons (older 0
 operands_first = refl
 
 -- processes 2; begin end
-nothing_to_do : seen (source (program 2 [] [] [] nil) (0 ∷ 0 ∷ 1 ∷ [])) ≡ record {
+nothing_to_do : observables (source (program 2 [] [] [] nil) (0 ∷ 0 ∷ 1 ∷ [])) ≡ record {
   events = by 0 A.End ∷ by 1 A.End ∷ [];
   rows = [];
   statuses = Ended ∷ Ended ∷ [];
 }
 nothing_to_do = refl
 
-no_step : seen (source (program 2 [] [] [] nil) []) ≡ record { events = []; rows = []; statuses = Running ∷ Running ∷ [] }
+no_step : observables (source (program 2 [] [] [] nil) []) ≡ record { events = []; rows = []; statuses = Running ∷ Running ∷ [] }
 no_step = refl
 
 -- processes 2; var x; reg r; begin put r (me + 7); x = get r 0; out x; end
-registers : seen (source (program 2 (0 ∷ []) [] (0 ∷ []) (cons (put 0 (binary me O.Add (number 7))) (cons (fetch 0 0 (number 0)) (cons (out (named 0)) nil)))) (1 ∷ 1 ∷ 0 ∷ 1 ∷ [])) ≡ record {
+registers : observables (source (program 2 (0 ∷ []) [] (0 ∷ []) (cons (put 0 (binary me O.Add (number 7))) (cons (get 0 0 (number 0)) (cons (out (named 0)) nil)))) (1 ∷ 1 ∷ 0 ∷ 1 ∷ [])) ≡ record {
   events = by 1 (A.Put 0 8) ∷ by 1 (A.Get 0 0 0) ∷ by 0 (A.Put 0 7) ∷ by 1 (A.Out 0) ∷ [];
   rows = (7 ∷ 8 ∷ []) ∷ [];
   statuses = Running ∷ Running ∷ [];
@@ -103,10 +93,10 @@ registers = refl
 abbrev counts_to_two : WholeProgram ℕ
 counts_to_two =
     program 1 (0 ∷ []) [] []
-    (cons (loop (binary (named 0) O.Less (number 2)) (cons (assign 0 (binary (named 0) O.Add (number 1))) nil)) (cons (out (named 0)) nil))
+    (cons (repeat (binary (named 0) O.Less (number 2)) (cons (assign 0 (binary (named 0) O.Add (number 1))) nil)) (cons (out (named 0)) nil))
 
 -- three tests, two turns, the output and the end
-a_loop : seen (source counts_to_two (0 ∷ 0 ∷ 0 ∷ 0 ∷ 0 ∷ 0 ∷ 0 ∷ [])) ≡ record {
+a_loop : observables (source counts_to_two (0 ∷ 0 ∷ 0 ∷ 0 ∷ 0 ∷ 0 ∷ 0 ∷ [])) ≡ record {
   events = by 0 (A.Out 2) ∷ by 0 A.End ∷ [];
   rows = [];
   statuses = Ended ∷ [];

@@ -1,5 +1,5 @@
 mod Examples
+pub mod Steps
+pub mod Counted
 pub mod Open
-pub mod Held
-pub mod Meaning
-pub mod Sound
+pub mod StandsFor

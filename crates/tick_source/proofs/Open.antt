@@ -7,7 +7,7 @@ use Rattle.std.proofs.lemmas.List.{length-set, set-append_left}
 use Rattle.tick_syntax.specs.Plain.{Block, nil, cons, onto}
 use Rattle.tick_kinds.specs.Resolved.{resolved_block, resolved_statement}
 use Rattle.tick_kinds.specs.declared.resolved.Statement as DeclaredStatement
-use Rattle.tick_source.specs.Remaining.{first_of, after_first, joined, HasMore, IsUndone}
+use Rattle.tick_source.specs.prover.Remaining.{first_of, after_first, joined, HasMore, IsUndone}
 
 pub onto-nil : (a : Block ℕ) → onto a nil ≡ a
 onto-nil nil = refl

@@ -1,13 +1,13 @@
-ghost use Rattle.std.specs.Prelude.{◌≡◌, ◌<◌, length, OnOk, OnErr, IfOk, map, Some, slice_get};
+ghost use Rattle.std.specs.Prelude.{◌≡◌, ◌<◌, length, OnOk, OnErr, IfOk, IsOk, Some, slice_get};
 ghost use Rattle.std.specs.List.{All};
 ghost use Rattle.tick_kinds.specs.Resolution.{resolved};
-ghost use Rattle.tick_source.specs.Source.{source, source_start, source_step, register_at, statuses_of};
+ghost use Rattle.machine_core.specs.Rows.{register_at};
+ghost use Rattle.machine_core.specs.Observables.{observed};
+ghost use Rattle.tick_source.specs.Source.{source, source_start, source_step, observables, statuses_of, IsQuietStep};
 
-use super::event::{Event, Status};
-use super::no_memory::NoMemory;
-use super::outcome::Outcome;
-use super::process::Process;
-use super::shared::Shared;
+use crate::process::Process;
+use crate::shared::Shared;
+use machine_core::{Event, NoMemory, Outcome, Status};
 use std::alloc::Global;
 use std::marker::Model;
 use tick_kinds::Program;
@@ -23,23 +23,25 @@ pub struct SourceMachine<'a> {
 impl<'a> Model for SourceMachine<'a> {
     ghost use Rattle.std.specs.Coded.{codes};
     ghost use Rattle.tick_source.specs.Source.{SourceState};
-    ghost use Rattle.tick_source.specs.Stored.{block_code};
+    ghost use Rattle.tick_syntax.specs.prover.Coding.{resolved_blocks};
 
     ghost Value = { SourceState };
 
-    ghost coded = { Prim.hlevel (codes, block_code) };
+    ghost coded = { Prim.hlevel (codes, resolved_blocks) };
 
-    ghost use Rattle.tick_source.specs.Machine.{state_of, IsSound};
+    ghost use Rattle.tick_source.specs.prover.Machine.{state_of, IsTicketed};
 
     ghost view = { state_of };
 
-    ghost invariant = { IsSound };
+    ghost invariant = { IsTicketed };
 }
 
 impl<'a> SourceMachine<'a> {
     /// The program before its first step: all variables, registers and tickets are 0.
     pub fn new(alloc: Global, program: &'a Program) -> Result<SourceMachine<'a>, NoMemory>
-        ensures { IfOk result (λ m. m ≡ source_start (resolved program.now)) }
+        ensures start { IfOk result (λ m. m ≡ source_start (resolved program.now)) }
+        ensures processes { IfOk result (λ m. length m.processes ≡ program.now.processes) }
+        ensures rows { IfOk result (λ m. length m.rows ≡ length program.now.registers) }
     {
         let n = program.processes();
         let shared = Shared::new(alloc, n, program.registers())?;
@@ -58,8 +60,13 @@ impl<'a> SourceMachine<'a> {
         ensures ok { OnOk result (self.new ≡ source_step (length self.old.processes) p self.old) }
         ensures err { OnErr result (self.new ≡ self.old) }
 
-        // No step adds or takes a process.
+        // A process that has stopped needs no memory, nor do a copy, an assignment of a value and a loop
+        // that is left.
+        ensures quiet { IsQuietStep (length self.old.processes) p self.old → IsOk result }
+
+        // No step adds or takes a process or a register row.
         ensures processes { length self.new.processes ≡ length self.old.processes }
+        ensures rows { length self.new.rows ≡ length self.old.rows }
     {
         let process = &mut self.processes[p as usize];
         match process.status {
@@ -81,7 +88,7 @@ impl<'a> SourceMachine<'a> {
         requires process { i < length self.now.processes }
         ensures { result ≡ register_at self.now.rows r i }
     {
-        self.shared.register(r, i)
+        self.shared.registers.get(r, i)
     }
 
     /// Whether process `p` goes on.
@@ -92,11 +99,9 @@ impl<'a> SourceMachine<'a> {
         self.processes[p as usize].status
     }
 
-    // What the run has let others see.
+    // What the run lets others see.
     fn into_outcome(self, alloc: Global) -> Result<Outcome, NoMemory>
-        ensures events { IfOk result (λ o. o.events.items ≡ self.entry.events) }
-        ensures registers { IfOk result (λ o. map (λ row. row.items) o.registers.items ≡ self.entry.rows) }
-        ensures statuses { IfOk result (λ o. o.statuses.items ≡ statuses_of self.entry) }
+        ensures { IfOk result (λ o. observed o ≡ observables self.entry) }
     {
         let mut statuses = Vec::with_capacity(alloc, self.processes.len())?;
         for process in &self.processes {
@@ -104,7 +109,7 @@ impl<'a> SourceMachine<'a> {
         }
         Ok(Outcome {
             events: self.shared.events,
-            registers: self.shared.rows,
+            registers: self.shared.registers.into_rows(),
             statuses,
         })
     }
@@ -114,9 +119,7 @@ impl<'a> SourceMachine<'a> {
 /// below the number of processes.
 pub fn run(alloc: Global, program: &Program, schedule: &[u8]) -> Result<Outcome, NoMemory>
     requires { All (λ p. p < (resolved program.now).processes) schedule.now }
-    ensures events { IfOk result (λ o. o.events.items ≡ (source (resolved program.now) schedule.now).events) }
-    ensures registers { IfOk result (λ o. map (λ row. row.items) o.registers.items ≡ (source (resolved program.now) schedule.now).rows) }
-    ensures statuses { IfOk result (λ o. o.statuses.items ≡ statuses_of (source (resolved program.now) schedule.now)) }
+    ensures { IfOk result (λ o. observed o ≡ observables (source (resolved program.now) schedule.now)) }
 {
     let mut machine = SourceMachine::new(alloc, program)?;
     for &p in schedule {

@@ -1,20 +1,18 @@
-ghost use Rattle.std.specs.Prelude.{◌≡◌, ◌<◌, length, OnOk, OnErr, IfOk};
+ghost use Rattle.std.specs.Prelude.{◌≡◌, ◌<◌, length, OnOk, OnErr, IfOk, IsOk};
 ghost use Rattle.std.specs.List.{All};
 ghost use Rattle.tick_kinds.specs.Resolved.{resolved_expression, resolved_statement, resolved_block};
-ghost use Rattle.tick_syntax.specs.Plain.{assign, fetch, put, stamp, scan, copy, older, out, test, loop, number, cons};
-ghost use Rattle.tick_source.specs.Remaining.{after_first};
-ghost use Rattle.tick_source.specs.Source.{scan_at, start_process};
-ghost use Rattle.tick_source.specs.Machine.{process_of};
+ghost use Rattle.tick_syntax.specs.Plain.{assign, get, put, stamp, scan, copy, older, out, branch, repeat, number, cons};
+ghost use Rattle.tick_source.specs.prover.Remaining.{after_first};
+ghost use Rattle.tick_source.specs.Source.{scan_at, start_process, IsQuiet, HasQuietFirst};
+ghost use Rattle.tick_source.specs.prover.Machine.{process_of};
 ghost use Rattle.tick_kinds.specs.Resolution.{resolved};
 ghost use Rattle.tick_source.specs.Values.{value};
-ghost use Rattle.tick_source.specs.Steps.{Makes, Keeps, traps_from, does_from, did_from};
+ghost use Rattle.tick_source.specs.prover.Steps.{Makes, Keeps, traps_from, does_from, did_from};
 
-use super::event::{Act, Status, Trap};
-use super::no_memory::NoMemory;
-use super::place::set_at;
-use super::remaining::Remaining;
-use super::shared::Shared;
-use super::value::value_of;
+use crate::remaining::Remaining;
+use crate::shared::Shared;
+use crate::value::value_of;
+use machine_core::{Act, NoMemory, Status, Trap, set_at};
 use std::alloc::Global;
 use tick_kinds::Program;
 use tick_kinds::resolved::{Expression, Statement};
@@ -78,6 +76,7 @@ impl<'a> Process<'a> {
         requires { self.old.status ≡ Status.Running }
         ensures ok { OnOk result (Makes p (does_from p shared.old self.old (assign x (resolved_expression expression.now))) shared.old shared.new self.new) }
         ensures err { OnErr result (Keeps shared.old shared.new self.old self.new) }
+        ensures quiet { IsQuiet (length shared.old.tickets) p self.old.variables.items (assign x (resolved_expression expression.now)) → IsOk result }
     {
         match self.value(p, shared, expression) {
             Ok(value) => {
@@ -134,15 +133,13 @@ impl<'a> Process<'a> {
         Ok(())
     }
 
-    fn copy(&mut self, p: u8, shared: &mut Shared, target: u8, source: u8) -> Result<(), NoMemory>
+    fn copy(&mut self, p: u8, shared: &Shared, target: u8, copied: u8)
         requires { self.old.status ≡ Status.Running }
-        ensures ok { OnOk result (Makes p (does_from p shared.old self.old (copy target source)) shared.old shared.new self.new) }
-        ensures err { OnErr result (Keeps shared.old shared.new self.old self.new) }
+        ensures { Makes p (does_from p shared.now self.old (copy target copied)) shared.now shared.now self.new }
     {
-        let scan = self.scan(shared, source);
+        let scan = self.scan(shared, copied);
         set_at(&mut self.scans, target as usize, scan);
         self.rest.advance();
-        Ok(())
     }
 
     fn give(&mut self, p: u8, shared: &mut Shared, expression: &Expression) -> Result<(), NoMemory>
@@ -160,7 +157,7 @@ impl<'a> Process<'a> {
         }
     }
 
-    fn fetch(
+    fn get(
         &mut self,
         p: u8,
         shared: &mut Shared,
@@ -169,13 +166,13 @@ impl<'a> Process<'a> {
         expression: &Expression,
     ) -> Result<(), NoMemory>
         requires { self.old.status ≡ Status.Running }
-        ensures ok { OnOk result (Makes p (does_from p shared.old self.old (fetch x r (resolved_expression expression.now))) shared.old shared.new self.new) }
+        ensures ok { OnOk result (Makes p (does_from p shared.old self.old (get x r (resolved_expression expression.now))) shared.old shared.new self.new) }
         ensures err { OnErr result (Keeps shared.old shared.new self.old self.new) }
     {
         let n = shared.tickets.count();
         match self.value(p, shared, expression) {
             Ok(i) if i < u32::from(n) => {
-                let value = shared.register(r, i as u8);
+                let value = shared.registers.get(r, i as u8);
                 shared.tell(p, Act::Get(r, i as u8, value))?;
                 set_at(&mut self.variables, x as usize, value);
                 self.rest.advance();
@@ -235,7 +232,7 @@ impl<'a> Process<'a> {
         Ok(())
     }
 
-    fn choose(
+    fn branch(
         &mut self,
         p: u8,
         shared: &mut Shared,
@@ -244,7 +241,7 @@ impl<'a> Process<'a> {
         else_block: &'a [Statement],
     ) -> Result<(), NoMemory>
         requires { self.old.status ≡ Status.Running }
-        ensures ok { OnOk result (Makes p (does_from p shared.old self.old (test (resolved_expression expression.now) (resolved_block then_block.now) (resolved_block else_block.now))) shared.old shared.new self.new) }
+        ensures ok { OnOk result (Makes p (does_from p shared.old self.old (branch (resolved_expression expression.now) (resolved_block then_block.now) (resolved_block else_block.now))) shared.old shared.new self.new) }
         ensures err { OnErr result (Keeps shared.old shared.new self.old self.new) }
     {
         match self.value(p, shared, expression) {
@@ -262,9 +259,10 @@ impl<'a> Process<'a> {
         block: &'a [Statement],
     ) -> Result<(), NoMemory>
         requires running { self.old.status ≡ Status.Running }
-        requires first { self.old.rest ≡ cons (loop (resolved_expression expression.now) (resolved_block block.now)) (after_first self.old.rest) }
-        ensures ok { OnOk result (Makes p (does_from p shared.old self.old (loop (resolved_expression expression.now) (resolved_block block.now))) shared.old shared.new self.new) }
+        requires first { self.old.rest ≡ cons (repeat (resolved_expression expression.now) (resolved_block block.now)) (after_first self.old.rest) }
+        ensures ok { OnOk result (Makes p (does_from p shared.old self.old (repeat (resolved_expression expression.now) (resolved_block block.now))) shared.old shared.new self.new) }
         ensures err { OnErr result (Keeps shared.old shared.new self.old self.new) }
+        ensures quiet { IsQuiet (length shared.old.tickets) p self.old.variables.items (repeat (resolved_expression expression.now) (resolved_block block.now)) → IsOk result }
     {
         match self.value(p, shared, expression) {
             Ok(0) => {
@@ -289,20 +287,24 @@ impl<'a> Process<'a> {
         requires first { self.old.rest ≡ cons (resolved_statement statement.now) (after_first self.old.rest) }
         ensures ok { OnOk result (Makes p (does_from p shared.old self.old (resolved_statement statement.now)) shared.old shared.new self.new) }
         ensures err { OnErr result (Keeps shared.old shared.new self.old self.new) }
+        ensures quiet { IsQuiet (length shared.old.tickets) p self.old.variables.items (resolved_statement statement.now) → IsOk result }
     {
         match statement {
             Statement::Assign(x, value) => self.assign(p, shared, *x, value),
-            Statement::Get(x, r, place) => self.fetch(p, shared, *x, *r, place),
+            Statement::Get(x, r, place) => self.get(p, shared, *x, *r, place),
             Statement::Put(r, value) => self.put(p, shared, *r, value),
             Statement::Stamp => self.stamp(p, shared),
             Statement::Scan(s) => self.take(p, shared, *s),
-            Statement::Copy(target, source) => self.copy(p, shared, *target, *source),
+            Statement::Copy(target, copied) => {
+                self.copy(p, shared, *target, *copied);
+                Ok(())
+            }
             Statement::Older(x, s, first, second) => {
                 self.compare(p, shared, *x, *s, first, second)
             }
             Statement::Out(value) => self.give(p, shared, value),
             Statement::If(test, then_block, else_block) => {
-                self.choose(p, shared, test, then_block, else_block)
+                self.branch(p, shared, test, then_block, else_block)
             }
             Statement::While(test, block) => self.repeat(p, shared, test, block),
         }
@@ -315,6 +317,7 @@ impl<'a> Process<'a> {
         requires scans { All (λ scan. length scan ≡ length shared.old.tickets) self.old.scans.items }
         ensures ok { OnOk result (Makes p (did_from p shared.old self.old) shared.old shared.new self.new) }
         ensures err { OnErr result (Keeps shared.old shared.new self.old self.new) }
+        ensures quiet { HasQuietFirst (length shared.old.tickets) p self.old.variables.items self.old.rest → IsOk result }
     {
         match self.rest.first() {
             Some(statement) => self.execute(p, shared, statement),

@@ -1,10 +1,10 @@
 ghost use Rattle.std.specs.Prelude.{◌≡◌, OnOk, OnErr, IfOk};
 ghost use Rattle.std.specs.Option.{option_map};
 ghost use Rattle.tick_kinds.specs.Resolved.{resolved_block, resolved_statement};
-ghost use Rattle.tick_source.specs.Remaining.{first_of, after_first};
+ghost use Rattle.tick_source.specs.prover.Remaining.{first_of, after_first};
 ghost use Rattle.tick_syntax.specs.Plain.{nil, onto};
 
-use super::no_memory::NoMemory;
+use machine_core::NoMemory;
 use std::alloc::Global;
 use std::marker::Model;
 use tick_kinds::resolved::Statement;
@@ -19,12 +19,12 @@ pub struct Remaining<'a> {
 impl<'a> Model for Remaining<'a> {
     ghost use Rattle.std.specs.Prelude.{ℕ};
     ghost use Rattle.tick_syntax.specs.Plain.{Block};
-    ghost use Rattle.tick_source.specs.Stored.{block_code};
-    ghost use Rattle.tick_source.specs.Remaining.{joined, IsUndone};
+    ghost use Rattle.tick_syntax.specs.prover.Coding.{resolved_blocks};
+    ghost use Rattle.tick_source.specs.prover.Remaining.{joined, IsUndone};
 
     ghost Value = { Block ℕ };
 
-    ghost coded = { block_code };
+    ghost coded = { resolved_blocks };
 
     ghost view = { λ r. joined r.blocks.items };
 

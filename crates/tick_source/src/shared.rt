@@ -2,9 +2,7 @@ ghost use Rattle.std.specs.Prelude.{◌≤◌};
 ghost use Rattle.std.specs.Vec.{vec_len};
 ghost use Rattle.ticket_core.specs.Tickets.{greatest_ticket};
 
-use super::event::{Act, Event};
-use super::no_memory::NoMemory;
-use super::place::set_at;
+use machine_core::{Act, Event, NoMemory, Registers};
 use std::alloc::Global;
 use ticket_core::Tickets;
 
@@ -12,35 +10,29 @@ use ticket_core::Tickets;
 #[derive(Drop)]
 pub struct Shared {
     pub tickets: Tickets,
-    /// For each register row, the values of all processes' registers.
-    pub rows: Vec<Vec<u32>>,
+    pub registers: Registers,
     pub events: Vec<Event>,
     // Each ticket was taken by a step that gave an event.
     ghost counted: { greatest_ticket tickets ≤ vec_len events },
 }
 
 impl Shared {
-    ghost use Rattle.std.specs.Prelude.{◌≡◌, ◌<◌, ◌≤◌, ◌++◌, ◌∷◌, [], length, replicate, OnOk, OnErr, IfOk};
+    ghost use Rattle.std.specs.Prelude.{◌≡◌, ◌<◌, ◌≤◌, ◌++◌, ◌∷◌, [], length, OnOk, OnErr, IfOk};
     ghost use Rattle.ticket_core.specs.Tickets.{start_tickets, stamp_ticket};
-    ghost use Rattle.tick_source.specs.Source.{register_at, register_set};
-    ghost use Rattle.tick_source.specs.Steps.{rows_of, Shares};
+    ghost use Rattle.machine_core.specs.Rows.{start_rows, register_set};
+    ghost use Rattle.tick_source.specs.prover.Steps.{Shares};
 
     /// The start for `n` processes: all tickets and registers 0, and no event.
-    pub fn new(alloc: Global, n: u8, registers: u8) -> Result<Shared, NoMemory>
+    pub fn new(alloc: Global, n: u8, rows: u8) -> Result<Shared, NoMemory>
         requires at_least_one { 1 ≤ n }
         requires at_most_six { n ≤ 6 }
         ensures tickets { IfOk result (λ s. s.tickets ≡ start_tickets n) }
-        ensures rows { IfOk result (λ s. rows_of s.rows.items ≡ replicate registers (replicate n 0)) }
+        ensures registers { IfOk result (λ s. s.registers ≡ start_rows rows n) }
         ensures events { IfOk result (λ s. s.events.items ≡ []) }
     {
-        let mut rows = Vec::with_capacity(alloc, usize::from(registers))?;
-        for _ in 0..registers {
-            let row = vec![in alloc; 0; usize::from(n)]?;
-            rows.push(row)?;
-        }
         Ok(Shared {
             tickets: Tickets::new(n),
-            rows,
+            registers: Registers::new(alloc, rows, n)?,
             events: Vec::new(alloc),
         })
     }
@@ -48,7 +40,7 @@ impl Shared {
     /// Adds an event.
     pub fn tell(&mut self, process: u8, act: Act) -> Result<(), NoMemory>
         ensures tickets { self.new.tickets ≡ self.old.tickets }
-        ensures rows { self.new.rows.items ≡ self.old.rows.items }
+        ensures registers { self.new.registers ≡ self.old.registers }
         ensures ok { OnOk result (self.new.events.items ≡ self.old.events.items ++ record { process = process; act = act } ∷ []) }
         ensures err { OnErr result (self.new.events.items ≡ self.old.events.items) }
     {
@@ -56,31 +48,19 @@ impl Shared {
         Ok(())
     }
 
-    /// The value in row `r` of process `i`.
-    pub fn register(&self, r: u8, i: u8) -> u32
-        ensures { result ≡ register_at (rows_of self.now.rows.items) r i }
-    {
-        match self.rows.get(r as usize) {
-            Some(row) => row.get(i as usize).copied().unwrap_or(0),
-            None => 0,
-        }
-    }
-
-    /// Writes the value in row `r` of process `i`.
-    pub fn set_register(&mut self, r: u8, i: u8, value: u32)
+    /// Writes the value in row `row` of process `process`.
+    pub fn set_register(&mut self, row: u8, process: u8, value: u32)
         ensures tickets { self.new.tickets ≡ self.old.tickets }
-        ensures rows { rows_of self.new.rows.items ≡ register_set (rows_of self.old.rows.items) r i value }
+        ensures registers { self.new.registers ≡ register_set self.old.registers row process value }
         ensures events { self.new.events.items ≡ self.old.events.items }
     {
-        if let Some(row) = self.rows.get_mut(r as usize) {
-            set_at(row, i as usize, value);
-        }
+        self.registers.set(row, process, value);
     }
 
     /// Adds the event of a stamp, and gives process `p` the next ticket.
     pub fn stamp(&mut self, p: u8) -> Result<(), NoMemory>
         requires { p < length self.old.tickets }
-        ensures rows { self.new.rows.items ≡ self.old.rows.items }
+        ensures registers { self.new.registers ≡ self.old.registers }
         ensures ok_tickets { OnOk result (self.new.tickets ≡ stamp_ticket p self.old.tickets) }
         ensures ok_events { OnOk result (self.new.events.items ≡ self.old.events.items ++ record { process = p; act = Act.Stamp } ∷ []) }
         ensures err { OnErr result (Shares self.old self.new) }

@@ -1,10 +1,9 @@
 ghost use Rattle.std.specs.Prelude.{◌≡◌};
 ghost use Rattle.tick_kinds.specs.Resolved.{resolved_expression};
-ghost use Rattle.tick_source.specs.Values.{value, operation};
+ghost use Rattle.tick_source.specs.Values.{value};
 
-use super::event::Trap;
+use machine_core::Trap;
 use tick_kinds::resolved::Expression;
-use tick_syntax::tree::Op;
 
 /// What an expression means for process `p` of `n` with these variables.
 pub fn value_of(n: u8, p: u8, variables: &[u32], expression: &Expression) -> Result<u32, Trap>
@@ -19,23 +18,7 @@ pub fn value_of(n: u8, p: u8, variables: &[u32], expression: &Expression) -> Res
         Expression::Binary(left, op, right) => {
             let a = value_of(n, p, variables, left)?;
             let b = value_of(n, p, variables, right)?;
-            operation_of(*op, a, b)
+            op.apply(a, b)
         }
-    }
-}
-
-fn operation_of(op: Op, a: u32, b: u32) -> Result<u32, Trap>
-    ensures { result ≡ operation op a b }
-{
-    match op {
-        Op::Add => a.checked_add(b).ok_or(Trap::Overflow),
-        Op::Sub => a.checked_sub(b).ok_or(Trap::Below),
-        Op::Mul => a.checked_mul(b).ok_or(Trap::Overflow),
-        Op::Div => a.checked_div(b).ok_or(Trap::Zero),
-        Op::Rem => a.checked_rem(b).ok_or(Trap::Zero),
-        Op::Less => Ok(u32::from(a < b)),
-        Op::AtMost => Ok(u32::from(a <= b)),
-        Op::Equal => Ok(u32::from(a == b)),
-        Op::Differs => Ok(u32::from(a != b)),
     }
 }

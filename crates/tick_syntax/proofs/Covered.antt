@@ -4,7 +4,7 @@ use Rattle.std.specs.Str.Parse.{digits_value}
 use Rattle.std.proofs.lemmas.Bool.Decides.{leb_tells}
 use Rattle.std.proofs.lemmas.List.{take-append-drop, length-drop}
 use Rattle.tick_syntax.specs.Characters.{is_letter, is_digit, is_keyword}
-use Rattle.tick_syntax.specs.Fronts.{word_length, number_length, sign_length}
+use Rattle.tick_syntax.specs.prover.Extents.{word_length, number_length, sign_length}
 use Rattle.tick_syntax.specs.Spelling.{starts, gap_length, after_gap, span_of, IsWord, IsNumber, IsSign, TokenAt, FaultAt, SpellsFrom, Spells, FaultAfter, FirstFault}
 use Rattle.tick_syntax.specs.declared.token.Sort.TheVariants.{Name, Num, Keyword, Sign}
 use Rattle.tick_syntax.specs.declared.token.Token.{Token}

@@ -1,5 +1,5 @@
 -- Each text is one program within the limits, or it has one refusal.
-use Rattle.std.proofs.Common.{◌≡◌, ℕ, ◌<◌, ◌≤◌, ◌⊎◌, inl, inr, Bool, true, false, List, [], ◌∷◌, ◌++◌, length, Option, Some, None, Result, Ok, Err, refl, sym, ◌∙◌, subst, arith}
+use Rattle.std.proofs.Common.{◌≡◌, ◌≢◌, ℕ, ◌<◌, ◌≤◌, ◌⊎◌, inl, inr, Bool, true, false, List, [], ◌∷◌, ◌++◌, length, Option, Some, None, Result, Ok, Err, IfOk, IfErr, MatchResult, refl, sym, ◌∙◌, subst, arith}
 use Rattle.std.proofs.lemmas.Bool.Decides.{leb_tells}
 use Rattle.tick_syntax.specs.declared.fault.TextFault.{TextFault}
 use Rattle.tick_syntax.specs.declared.fault.TextFault.TheVariants as F
@@ -9,28 +9,31 @@ use Rattle.tick_syntax.specs.declared.span.Span.{Span}
 use Rattle.tick_syntax.specs.declared.token.Sort.{Sort}
 use Rattle.tick_syntax.specs.declared.token.Sort.TheVariants as K
 use Rattle.tick_syntax.specs.declared.token.Token.{Token}
-use Rattle.tick_syntax.specs.declared.word.Word.{Word}
+use Rattle.tick_syntax.specs.declared.terminals.Word.{Word}
 use Rattle.tick_syntax.specs.Decided.{IsWithinLimits}
+use Rattle.tick_syntax.specs.declared.tree.Tree.{Tree}
 use Rattle.tick_syntax.specs.Grammar.{Derives}
-use Rattle.tick_syntax.specs.Items.{SayAs}
+use Rattle.tick_syntax.specs.prover.Items.{SayAs}
 use Rattle.tick_syntax.specs.Lexeme.{Lexeme, a_name, a_number, a_word, nothing, lexeme_at, lexeme_of, lexemes, of_word, word_of, bytes_at}
 use Rattle.tick_syntax.specs.Nesting.{nesting, open_by, IsShallow}
 use Rattle.tick_syntax.specs.Plain.{Name, WholeProgram}
-use Rattle.tick_syntax.specs.Reading.{program_at}
-use Rattle.tick_syntax.specs.Refusal.{IsTextRefused}
+use Rattle.tick_syntax.specs.prover.Reading.{program_at}
+use Rattle.tick_syntax.specs.Refusal.{AllCanStand, IsUnexpected, IsTooDeep, IsOfGrammar, IsTextRefused}
 use Rattle.tick_syntax.specs.RoundTrip.{IsTextOf}
 use Rattle.tick_syntax.specs.Spelling.{Spells, FirstFault, FirstRefusal}
+use Rattle.tick_syntax.specs.View.{tree_of}
 use Rattle.tick_syntax.proofs.Covered.{spelled_or_faulty}
-use Rattle.tick_syntax.proofs.DerivedOnce.{derives_once}
-use Rattle.tick_syntax.proofs.Forward.{program_takes}
-use Rattle.tick_syntax.proofs.Machine.{said, says, Symbol, s_program, step, opened, is_full, on_stack, fault_by, fault}
+use Rattle.tick_syntax.proofs.Complete.{program_takes}
+use Rattle.tick_syntax.proofs.Symbols.{said, says, Symbol, s_program, step, opened, is_full, on_stack, fault_by, fault}
 use Rattle.tick_syntax.proofs.OneStop.{Stops, stops_once, no_stop}
 use Rattle.tick_syntax.proofs.Parsed.{says_same}
 use Rattle.tick_syntax.proofs.SoundPrograms.{program_ok, program_err}
+use Rattle.tick_syntax.proofs.SpelledInOrder.{spells_in_order}
 use Rattle.tick_syntax.proofs.SpelledOnce.{spells_unique, first_fault_unique, spells_no_fault}
 use Rattle.tick_syntax.proofs.Stops.{first_is_refused, is_unexpected, is_too_deep, of_fault, no_memory}
-use Rattle.tick_syntax.proofs.Table.{opens_to, fits_by}
-use Rattle.tick_syntax.proofs.TokensTold.{refusal_of, fault_of}
+use Rattle.tick_syntax.proofs.Continuations.{opens_to, fits_by, derives_once}
+use Rattle.tick_syntax.proofs.TokensThatStand.{all_stand}
+use Rattle.tick_syntax.proofs.TokensTold.{is_memory, refusal_of, fault_of}
 
 -- an item that says what is said at this place
 abbrev item_at : Lexeme → Span → Item
@@ -150,12 +153,16 @@ module _ (text : List ℕ) where
         | inr long ↦ long_alone a long.1 h ∙ sym (long_alone b long.1 k)
       ]
 
+  -- a text can have its own tokens
+  stand : (tokens : List Token) → Spells text tokens → AllCanStand (lexemes text tokens)
+  stand tokens spells = all_stand text 0 tokens (spells_in_order text tokens spells)
+
   first_or_stop : (a b : TextFault) → FirstRefusal text a → OfTokens b → ⊥
   first_or_stop a b h k = spells_no_fault text k.0 a k.2 (fault_of text a k.1 h)
 
   one_stop : (a b : TextFault) → OfTokens a → OfTokens b → a ≡ b
   one_stop a b h k =
-      stops_once text k.0 a b (subst (λ z. Stops text z a) (spells_unique text h.0 k.0 h.2 k.2) h.3) k.3
+      stops_once text k.0 a b (stand k.0 k.2) (subst (λ z. Stops text z a) (spells_unique text h.0 k.0 h.2 k.2) h.3) k.3
 
   one_told : (a b : TextFault) → FirstRefusal text a ⊎ OfTokens a → FirstRefusal text b ⊎ OfTokens b → a ≡ b
   one_told a b (inl h) (inl k) = first_once a b h k
@@ -175,7 +182,7 @@ module _ (text : List ℕ) where
   both_told p fault h (inr k) =
       let d : Derives (lexemes text k.0) p =
       subst (λ z. Derives (lexemes text z) p) (spells_unique text h.1.0 k.0 h.1.1 k.2) h.1.2 in
-      no_stop text k.0 p fault d (keeps_shallow k.0 p d h.2) k.3
+      no_stop text k.0 p fault (stand k.0 k.2) d (keeps_shallow k.0 p d h.2) k.3
 
   pub never_both : (p : WholeProgram Name) (fault : TextFault) → IsWithinLimits text p → IsTextRefused text fault → ⊥
   never_both p fault h k = both_told p fault h (told fault k)
@@ -197,3 +204,38 @@ module _ (text : List ℕ) where
         | inl short ↦ decided_short short.1 (spelled_or_faulty text)
         | inr long ↦ inr (F.TextTooLong, long.1)
       ]
+
+  -- An answer that is the text's program, or its refusal, is so where the text is refused.
+  pub refused_first : (r : Result Tree TextFault)
+      → IfOk r (λ tree. IsWithinLimits text (tree_of tree)) → IfErr r (λ fault. fault ≢ F.NoMemory → IsTextRefused text fault)
+      → (first : TextFault) → IsTextRefused text first → MatchResult r (λ tree. ⊥) (λ fault. (fault ≡ first) ⊎ (fault ≡ F.NoMemory))
+  refused_first (Ok tree) ok err first h = never_both (tree_of tree) first ok h
+  refused_first (Err e) ok err first h = elim (is_memory e) [ inl memory ↦ inr memory | inr other ↦ inl (one_refusal e first (err other) h) ]
+
+  refusal_told : (tokens : List Token) (r : Result Tree TextFault) → length text ≤ 1000000 → Spells text tokens
+      → ((place : Span) → r ≡ Err (F.Unexpected place) → IsUnexpected text tokens place)
+      → ((place : Span) → r ≡ Err (F.TooDeep place) → IsTooDeep text tokens place)
+      → IfErr r IsOfGrammar → IfErr r (λ fault. fault ≢ F.NoMemory → IsTextRefused text fault)
+  refusal_told tokens (Ok tree) short spells unexpected deep others = tt
+  refusal_told tokens (Err (F.Unexpected place)) short spells unexpected deep others = λ other. (tokens, short, spells, unexpected place refl)
+  refusal_told tokens (Err (F.TooDeep place)) short spells unexpected deep others = λ other. (tokens, short, spells, deep place refl)
+  refusal_told tokens (Err F.NoMemory) short spells unexpected deep others = λ other. absurd (other refl)
+  refusal_told tokens (Err F.TextTooLong) short spells unexpected deep others = absurd others
+  refusal_told tokens (Err (F.BadCharacter place)) short spells unexpected deep others = absurd others
+  refusal_told tokens (Err (F.NumberTooBig place)) short spells unexpected deep others = absurd others
+  refusal_told tokens (Err (F.NameTooLong place)) short spells unexpected deep others = absurd others
+
+  is_within : (tokens : List Token) (r : Result Tree TextFault) → length text ≤ 1000000 → Spells text tokens
+      → IfOk r (λ tree. Derives (lexemes text tokens) (tree_of tree)) → IfOk r (λ tree. nesting (tree_of tree) ≤ 64)
+      → IfOk r (λ tree. IsWithinLimits text (tree_of tree))
+  is_within tokens (Ok tree) short spells derived shallow = (short, (tokens, spells, derived), shallow)
+  is_within tokens (Err e) short spells derived shallow = tt
+
+  pub parsed_first : (tokens : List Token) (r : Result Tree TextFault) → length text ≤ 1000000 → Spells text tokens
+      → IfOk r (λ tree. Derives (lexemes text tokens) (tree_of tree)) → IfOk r (λ tree. nesting (tree_of tree) ≤ 64)
+      → ((place : Span) → r ≡ Err (F.Unexpected place) → IsUnexpected text tokens place)
+      → ((place : Span) → r ≡ Err (F.TooDeep place) → IsTooDeep text tokens place)
+      → IfErr r IsOfGrammar → (first : TextFault) → IsTextRefused text first
+      → MatchResult r (λ tree. ⊥) (λ fault. (fault ≡ first) ⊎ (fault ≡ F.NoMemory))
+  parsed_first tokens r short spells derived shallow unexpected deep others =
+      refused_first r (is_within tokens r short spells derived shallow) (refusal_told tokens r short spells unexpected deep others)

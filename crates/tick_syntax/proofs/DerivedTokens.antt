@@ -1,11 +1,11 @@
 -- The tokens that a program was derived from are its printed tokens, spans aside.
 use Rattle.std.proofs.Common.{◌≡◌, List, [], ◌∷◌, ◌++◌, ap, ◌∙◌, append_assoc}
 use Rattle.std.proofs.lemmas.List.{map-append}
-use Rattle.tick_syntax.specs.declared.word.Word.{Word}
-use Rattle.tick_syntax.specs.declared.word.Word.TheVariants as W
+use Rattle.tick_syntax.specs.declared.terminals.Word.{Word}
+use Rattle.tick_syntax.specs.declared.terminals.Word.TheVariants as W
 use Rattle.tick_syntax.specs.Lexeme.{Lexeme, a_name, a_number, a_word}
 use Rattle.tick_syntax.specs.Grammar.{IsExpression, IsStatement, IsBlock, AreNames, IsSection, Derives}
-use Rattle.tick_syntax.specs.Plain.{Name, Expression, number, named, me, count, binary, Statement, assign, fetch, put, stamp, scan, copy, older, out, test, loop, Block, nil, cons, WholeProgram}
+use Rattle.tick_syntax.specs.Plain.{Name, Expression, number, named, me, count, binary, Statement, assign, get, put, stamp, scan, copy, older, out, branch, repeat, Block, nil, cons, WholeProgram}
 use Rattle.tick_syntax.specs.Printed.{expression_tokens, statement_tokens, block_tokens, names_tokens, section_tokens, program_tokens}
 use Rattle.tick_syntax.proofs.Spanless.{spanless_all}
 
@@ -27,7 +27,7 @@ mutual
   pub statement_derived : (ts : List Lexeme) (s : Statement Name) (rest : List Lexeme) → IsStatement ts s rest → spanless_all ts ≡ spanless_all (statement_tokens s) ++ spanless_all rest
   statement_derived ts (assign x e) rest d =
       ap spanless_all d.1 ∙ ap (λ xs. spanless_all (a_name x ∷ a_word W.Becomes ∷ []) ++ xs) (then_word d.0 e W.Semicolon rest d.2)
-  statement_derived ts (fetch x r e) rest d =
+  statement_derived ts (get x r e) rest d =
       ap spanless_all d.1 ∙ ap (λ xs. spanless_all (a_name x ∷ a_word W.Becomes ∷ a_word W.Get ∷ a_name r ∷ []) ++ xs) (then_word d.0 e W.Semicolon rest d.2)
   statement_derived ts (put r e) rest d =
       ap spanless_all d.1 ∙ ap (λ xs. spanless_all (a_word W.Put ∷ a_name r ∷ []) ++ xs) (then_word d.0 e W.Semicolon rest d.2)
@@ -40,13 +40,13 @@ mutual
       (expression_derived d.0 a d.1 d.3 ∙ ap (λ xs. spanless_all (expression_tokens a) ++ xs) (then_word d.1 b W.Semicolon rest d.4) ∙ simp (map-append, append_assoc))
   statement_derived ts (out e) rest d =
       ap spanless_all d.1 ∙ ap (λ xs. spanless_all (a_word W.Out ∷ []) ++ xs) (then_word d.0 e W.Semicolon rest d.2)
-  statement_derived ts (test e a b) rest d =
+  statement_derived ts (branch e a b) rest d =
       ap spanless_all d.3
       ∙ ap (λ xs. a_word W.If ∷ xs) (expression_derived d.0 e (a_word W.OpenBrace ∷ d.1) d.4)
       ∙ ap (λ xs. a_word W.If ∷ (spanless_all (expression_tokens e) ++ a_word W.OpenBrace ∷ xs)) (block_derived W.CloseBrace d.1 a (a_word W.Else ∷ a_word W.OpenBrace ∷ d.2) d.5)
       ∙ ap (λ xs. a_word W.If ∷ (spanless_all (expression_tokens e) ++ a_word W.OpenBrace ∷ (spanless_all (block_tokens a) ++ a_word W.CloseBrace ∷ a_word W.Else ∷ a_word W.OpenBrace ∷ xs))) (block_derived W.CloseBrace d.2 b rest d.6)
       ∙ simp (map-append, append_assoc)
-  statement_derived ts (loop e a) rest d =
+  statement_derived ts (repeat e a) rest d =
       ap spanless_all d.2
       ∙ ap (λ xs. a_word W.While ∷ xs) (expression_derived d.0 e (a_word W.OpenBrace ∷ d.1) d.3)
       ∙ ap (λ xs. a_word W.While ∷ (spanless_all (expression_tokens e) ++ a_word W.OpenBrace ∷ xs)) (block_derived W.CloseBrace d.1 a rest d.4)

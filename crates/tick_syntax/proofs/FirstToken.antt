@@ -1,14 +1,15 @@
 -- A text has at most one first token or one fault at its front: both are a function of the text.
-use Rattle.std.proofs.Common.{◌≡◌, ℕ, ◌≤◌, Bool, true, false, cond, leb, List, [], ◌∷◌, ◌++◌, length, take, drop, refl, sym, ap, ◌∙◌, arith, inl, inr, Ok, Err, Result}
+use Rattle.std.proofs.Common.{◌≡◌, ℕ, ◌≤◌, Bool, true, false, cond, leb, List, [], ◌∷◌, ◌++◌, length, take, drop, refl, sym, ap, ◌∙◌, arith, inl, inr, Ok, Err, Result, map}
 use Rattle.std.specs.Str.Parse.{digits_value}
 use Rattle.std.proofs.lemmas.Bool.{cond-true, cond-false, le-leb, lt-leb, leb-true, false≢true, and_parts, or_cases, or_parts, false_from_ne_true}
 use Rattle.std.proofs.lemmas.Slice.Eq.{bytes_eq-Decides}
 use Rattle.std.specs.Str.{bytes_eq}
 use Rattle.std.specs.List.{list_all, list_any}
 use Rattle.std.proofs.lemmas.List.{take_at, drop_at}
-use Rattle.tick_syntax.specs.Characters.{is_letter, is_digit, is_keyword, keywords}
-use Rattle.tick_syntax.specs.Fronts.{word_length, number_length, sign_length}
+use Rattle.tick_syntax.specs.Characters.{is_letter, is_digit, is_keyword}
+use Rattle.tick_syntax.specs.prover.Extents.{word_length, number_length, sign_length}
 use Rattle.tick_syntax.specs.Spelling.{starts, starts_token, span_of, IsWord, IsNumber, IsSign, IsToken, TokenAt, FaultAt}
+use Rattle.tick_syntax.specs.Terminals.{spelling, keywords}
 use Rattle.tick_syntax.specs.declared.span.Span.{Span}
 use Rattle.tick_syntax.specs.declared.token.Sort.{Sort}
 use Rattle.tick_syntax.specs.declared.token.Sort.TheVariants.{Name, Num, Keyword, Sign}
@@ -72,7 +73,7 @@ among_words test word (other ∷ words) all some =
 
 keyword_short : (piece : List ℕ) → is_keyword piece ≡ true → length piece ≤ 64
 keyword_short piece keyword =
-    leb-true (length piece) 64 (among_words (λ word. leb (length word) 64) piece keywords refl keyword)
+    leb-true (length piece) 64 (among_words (λ word. leb (length word) 64) piece (map spelling keywords) refl keyword)
 
 no_front : (text : List ℕ) → starts_token text ≡ false → (starts is_letter text ≡ false) × (starts is_digit text ≡ false)
 no_front [] none = (refl, refl)

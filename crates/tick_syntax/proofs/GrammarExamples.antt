@@ -3,10 +3,10 @@ use Rattle.std.proofs.Common.{◌≡◌, ℕ, List, [], ◌∷◌, ◌++◌, Som
 use Rattle.std.specs.Fmt.{decimal}
 use Rattle.tick_syntax.specs.declared.span.Span.{Span}
 use Rattle.tick_syntax.specs.declared.token.Sort.TheVariants as K
-use Rattle.tick_syntax.specs.declared.tree.Op.TheVariants as O
-use Rattle.tick_syntax.specs.declared.word.Word.TheVariants as W
+use Rattle.machine_core.specs.declared.operator.Op.TheVariants as O
+use Rattle.tick_syntax.specs.declared.terminals.Word.TheVariants as W
 use Rattle.tick_syntax.specs.Lexeme.{Lexeme, a_name, a_number, a_word, word_of, lexemes}
-use Rattle.tick_syntax.specs.Plain.{Name, named, me, count, binary, out, loop, nil, cons, WholeProgram}
+use Rattle.tick_syntax.specs.Plain.{Name, named, me, count, binary, out, repeat, nil, cons, WholeProgram}
 use Rattle.tick_syntax.specs.Grammar.{Derives}
 use Rattle.tick_syntax.specs.Nesting.{nesting}
 use Rattle.tick_syntax.specs.Printed.{printed}
@@ -39,7 +39,7 @@ small = record {
   variables = x 17 18 ∷ [];
   scans = [];
   registers = [];
-  body = cons (loop (binary (named (x 33 34)) O.Less count) (cons (out me) nil)) nil;
+  body = cons (repeat (binary (named (x 33 34)) O.Less count) (cons (out me) nil)) nil;
 }
 
 abbrev small_tokens : List Lexeme

@@ -10,17 +10,16 @@ pub mod TokensStand
 pub mod TokensTold
 mod GrammarExamples
 pub mod Rows
-pub mod Machine
+pub mod Symbols
 pub mod Sound
 pub mod SoundStatements
 pub mod Loops
 pub mod SoundPrograms
-pub mod Forward
+pub mod Complete
 pub mod Parsed
-pub mod Table
+pub mod Continuations
 pub mod Stops
 pub mod DerivedAgain
-pub mod DerivedOnce
 pub mod DerivedTokens
 pub mod PrintedParts
 pub mod RoundTrips
@@ -31,3 +30,4 @@ pub mod TokensThatStand
 pub mod Covered
 pub mod OneStop
 pub mod Decided
+pub mod Offered

@@ -1,10 +1,9 @@
 -- The longest fronts of a text are its words, numbers and signs.
 use Rattle.std.proofs.Common.{◌≡◌, ℕ, suc, inl, inr, ◌<◌, Bool, true, false, cond, List, [], ◌∷◌, ◌++◌, ◌+◌, length, take, drop, refl, ap, ◌∙◌, arith, ◌&&◌, ◌==◌, not}
 use Rattle.std.specs.List.{list_all, list_any, prefix_len}
-use Rattle.std.specs.Prelude.{codes}
 use Rattle.std.proofs.lemmas.Bool.{and_parts, and_from, and_left, and_right, or_cases, or_from, or_left, or_right, cond_both, cond-true, cond-false, eqb-true, ne_eqb, leb-true, lt-leb, not-true, false≢true}
-use Rattle.tick_syntax.specs.Characters.{is_letter, is_digit, is_name_part, is_sign, is_lone_sign, may_precede_equals}
-use Rattle.tick_syntax.specs.Fronts.{word_length, number_length, sign_length}
+use Rattle.tick_syntax.specs.Characters.{is_letter, is_digit, is_name_part, is_sign, lone_signs, is_lone_sign, before_equals, may_precede_equals}
+use Rattle.tick_syntax.specs.prover.Extents.{word_length, number_length, sign_length}
 use Rattle.tick_syntax.specs.Spelling.{starts, starts_token, IsWord, IsNumber, IsSign}
 
 -- the longest front whose bytes pass, and the byte after it that doesn't
@@ -134,10 +133,10 @@ pub number_no_letter : (piece more : List ℕ) → IsNumber piece more → start
 number_no_letter piece more n = starts_other is_digit is_letter (piece ++ more) digit_no_letter (number_starts piece more n)
 
 -- the first byte of a sign passes what all such bytes pass
-pub sign_first : (test : ℕ → Bool) (piece more : List ℕ) → list_all test (codes ";,(){}=+-*/%<") ≡ true → list_all test (codes "<=!") ≡ true → is_sign piece ≡ true → starts test (piece ++ more) ≡ true
+pub sign_first : (test : ℕ → Bool) (piece more : List ℕ) → list_all test lone_signs ≡ true → list_all test before_equals ≡ true → is_sign piece ≡ true → starts test (piece ++ more) ≡ true
 sign_first test [] more lone pair sign = absurd (false≢true sign)
-sign_first test (a ∷ []) more lone pair sign = among test a (codes ";,(){}=+-*/%<") lone sign
-sign_first test (a ∷ b ∷ []) more lone pair sign = among test a (codes "<=!") pair (and_parts (may_precede_equals a) (b == 61) sign).0
+sign_first test (a ∷ []) more lone pair sign = among test a lone_signs lone sign
+sign_first test (a ∷ b ∷ []) more lone pair sign = among test a before_equals pair (and_parts (may_precede_equals a) (b == 61) sign).0
 sign_first test (a ∷ b ∷ c ∷ piece) more lone pair sign = absurd (false≢true sign)
 
 pub sign_no_letter : (piece more : List ℕ) → IsSign piece more → starts is_letter (piece ++ more) ≡ false

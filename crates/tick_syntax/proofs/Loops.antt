@@ -7,11 +7,12 @@ use Rattle.tick_syntax.specs.declared.item.Item.{Item}
 use Rattle.tick_syntax.specs.declared.item.Ending.{Ending}
 use Rattle.tick_syntax.specs.declared.item.Meaning.{Meaning}
 use Rattle.tick_syntax.specs.declared.item.Meaning.TheVariants as M
-use Rattle.tick_syntax.specs.declared.word.Word.TheVariants as W
+use Rattle.tick_syntax.specs.declared.terminals.Word.{Word}
+use Rattle.tick_syntax.specs.declared.terminals.Word.TheVariants as W
 use Rattle.tick_syntax.specs.declared.tree.Stmt.{Stmt}
-use Rattle.tick_syntax.specs.Plain.{Name, Expression, Statement, test, loop, Block, nil, cons, onto}
+use Rattle.tick_syntax.specs.Plain.{Name, Expression, Statement, branch, repeat, Block, nil, cons, onto}
 use Rattle.tick_syntax.specs.View.{statement_of, block_of}
-use Rattle.tick_syntax.specs.Reading.{Reading, Fails, ◌>>=◌, next_at, name_at, name_by, names_at, names_by, block_by, ends, statements_with, statements_at, statement_at, expression_at, else_at, choice_at, repetition_at}
+use Rattle.tick_syntax.specs.prover.Reading.{Reading, Fails, ◌>>=◌, next_at, name_at, name_by, names_at, names_by, block_by, ends, statements_with, statements_at, statement_at, expression_at, word_at, branch_at, repeat_at}
 use Rattle.tick_syntax.proofs.Sound.{name_reads}
 use Rattle.tick_syntax.proofs.SoundStatements.{statement_reads}
 
@@ -32,7 +33,23 @@ fails_on (F.NameTooLong s) m f h = ap (λ z. z >>= f) h
 fails_on (F.Unexpected s) m f h = ap (λ z. z >>= f) h
 fails_on (F.TooDeep s) m f h = ap (λ z. z >>= f) h
 
+-- where a function takes no memory its refusal is the reading's
+fails_with : {V : Type 0} (e : TextFault) (m : Result V TextFault) → m ≡ Err e → Fails e m
+fails_with F.NoMemory m h = tt
+fails_with F.TextTooLong m h = h
+fails_with (F.BadCharacter p) m h = h
+fails_with (F.NumberTooBig s) m h = h
+fails_with (F.NameTooLong s) m h = h
+fails_with (F.Unexpected s) m h = h
+fails_with (F.TooDeep s) m h = h
+
 module _ (end : ℕ) where
+  -- no word is in no items
+  pub word_none : (word : Word) (is : List Item) → is ≡ [] → word_at end word is ≡ Err (F.Unexpected (record { start = end; end = end }))
+  unfolding word_at next_at
+  word_none word [] h = refl
+  word_none word (i ∷ is) h = absurd (cc)
+
   names_front : (m : Meaning) (span : Span) (rest : List Item)
       → names_at end (record { meaning = m; span = span } ∷ rest)
       ≡ (name_by m span rest >>= λ x. next_at end x.1 >>= λ y. names_by end y.0.meaning y.0.span y.1 x.0 (names_at end y.1))
@@ -156,9 +173,9 @@ module _ (end : ℕ) where
       subst (Fails e) inv (fails_on e (names_at end is) _ (subst (Fails e) (sym (names_step is)) (fails_on e (name_at end is) _ h)))
 
   pub names_fail_next : (front : List Name) (is r : List Item) (n : Name) (whole : Reading (List Name)) (e : TextFault)
-      → after_names front (names_at end is) ≡ whole → name_at end is ≡ Ok (n, r) → Fails e (next_at end r) → Fails e whole
+      → after_names front (names_at end is) ≡ whole → name_at end is ≡ Ok (n, r) → next_at end r ≡ Err e → Fails e whole
   names_fail_next front is r n whole e inv h k =
-      subst (Fails e) inv (fails_on e (names_at end is) _ (subst (Fails e) (sym (names_one is r n h)) (fails_on e (next_at end r) _ k)))
+      subst (Fails e) inv (fails_on e (names_at end is) _ (subst (Fails e) (sym (names_one is r n h)) (fails_on e (next_at end r) _ (fails_with e (next_at end r) k))))
 
   pub names_last : (front : List Name) (is r : List Item) (n : Name) (whole : Reading (List Name)) (y : Item × List Item)
       → after_names front (names_at end is) ≡ whole → name_at end is ≡ Ok (n, r) → next_at end r ≡ Ok y
@@ -188,10 +205,10 @@ module _ (end : ℕ) where
   name_shorter is x h = (name_reads end 0 0 is).shorter x h
 
   pub statements_none : (room : ℕ) (ending : Ending) (front : Block Name) (is : List Item) (whole : Reading (Block Name)) (e : TextFault)
-      → after_block front (statements_at end room ending is) ≡ whole → Fails e (next_at end is) → Fails e whole
+      → after_block front (statements_at end room ending is) ≡ whole → next_at end is ≡ Err e → Fails e whole
   unfolding statements_at statements_with
   statements_none room ending front is whole e inv h =
-      subst (Fails e) inv (fails_on e (statements_at end room ending is) _ (fails_on e (next_at end is) _ h))
+      subst (Fails e) inv (fails_on e (statements_at end room ending is) _ (fails_on e (next_at end is) _ (fails_with e (next_at end is) h)))
 
   pub statements_fail : (room : ℕ) (ending : Ending) (front : Block Name) (is : List Item) (y : Item × List Item) (whole : Reading (Block Name)) (e : TextFault)
       → after_block front (statements_at end room ending is) ≡ whole → next_at end is ≡ Ok y
@@ -205,13 +222,13 @@ module _ (end : ℕ) where
   statements_last room ending front is y whole inv h t =
       sym inv ∙ ap (after_block front) (statements_end room ending is y h t) ∙ ap (λ z. Ok (z, y.1)) (onto_nil front)
 
-  pub choice_gives : (block : List Item → Reading (Block Name)) (room : ℕ) (is p q r s : List Item) (e : Expression Name) (a b : Block Name)
-      → expression_at end room is ≡ Ok (e, p) → block p ≡ Ok (a, q) → else_at end q ≡ Ok (tt, r) → block r ≡ Ok (b, s)
-      → choice_at end block room is ≡ Ok (test e a b, s)
-  unfolding choice_at
-  choice_gives block room is p q r s e a b h k l m = rw (h, k, l, m) refl
+  pub branch_gives : (block : List Item → Reading (Block Name)) (room : ℕ) (is p q r s : List Item) (e : Expression Name) (a b : Block Name)
+      → expression_at end room is ≡ Ok (e, p) → block p ≡ Ok (a, q) → word_at end W.Else q ≡ Ok (tt, r) → block r ≡ Ok (b, s)
+      → branch_at end block room is ≡ Ok (branch e a b, s)
+  unfolding branch_at
+  branch_gives block room is p q r s e a b h k l m = rw (h, k, l, m) refl
 
-  pub repetition_gives : (block : List Item → Reading (Block Name)) (room : ℕ) (is p q : List Item) (e : Expression Name) (a : Block Name)
-      → expression_at end room is ≡ Ok (e, p) → block p ≡ Ok (a, q) → repetition_at end block room is ≡ Ok (loop e a, q)
-  unfolding repetition_at
-  repetition_gives block room is p q e a h k = rw (h, k) refl
+  pub repeat_gives : (block : List Item → Reading (Block Name)) (room : ℕ) (is p q : List Item) (e : Expression Name) (a : Block Name)
+      → expression_at end room is ≡ Ok (e, p) → block p ≡ Ok (a, q) → repeat_at end block room is ≡ Ok (repeat e a, q)
+  unfolding repeat_at
+  repeat_gives block room is p q e a h k = rw (h, k) refl

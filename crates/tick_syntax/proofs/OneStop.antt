@@ -5,12 +5,13 @@ use Rattle.tick_syntax.specs.declared.span.Span.{Span}
 use Rattle.tick_syntax.specs.declared.fault.TextFault.{TextFault}
 use Rattle.tick_syntax.specs.declared.fault.TextFault.TheVariants as F
 use Rattle.tick_syntax.specs.declared.token.Token.{Token}
-use Rattle.tick_syntax.specs.declared.word.Word.TheVariants as W
-use Rattle.tick_syntax.specs.Grammar.{Derives, GoesOn}
+use Rattle.tick_syntax.specs.declared.terminals.Word.TheVariants as W
+use Rattle.tick_syntax.specs.Grammar.{Derives}
 use Rattle.tick_syntax.specs.Lexeme.{Lexeme, a_word, lexeme_of, lexemes}
 use Rattle.tick_syntax.specs.Nesting.{IsOpening, open_by, open_after, IsShallow}
 use Rattle.tick_syntax.specs.Plain.{Name, WholeProgram}
-use Rattle.tick_syntax.specs.Refusal.{StopsAfter, IsUnexpected, IsTooDeep}
+use Rattle.tick_syntax.specs.Refusal.{AllCanStand, GoesOn, StopsAfter, IsUnexpected, IsTooDeep}
+use Rattle.tick_syntax.proofs.Continuations.{all_append}
 
 -- one of two fronts of a list is the other, or goes on past it
 abbrev Past : List Token → List Token → List Token → List Token → Type 0
@@ -37,11 +38,11 @@ compared (t ∷ a) r [] q e = inr (inr (t, a, refl, sym e))
 compared (t ∷ a) r (u ∷ b) q e = more_compared t u a r b q (same_head t u _ _ e) (compared a r b q (same_tail t u _ _ e))
 
 -- what goes on goes on from each front of it
-front_goes_on : (a b : List Lexeme) → GoesOn (a ++ b) → GoesOn a
-front_goes_on a b g = (b ++ g.0, g.1, subst (λ z. Derives z g.1) (append_assoc a b g.0) g.2)
+front_goes_on : (a b : List Lexeme) → AllCanStand b → GoesOn (a ++ b) → GoesOn a
+front_goes_on a b stand g = (b ++ g.0, all_append b g.0 stand g.1, g.2, subst (λ z. Derives z g.2) (append_assoc a b g.0) g.3)
 
 program_goes_on : (ts : List Lexeme) (p : WholeProgram Name) → Derives ts p → GoesOn ts
-program_goes_on ts p d = ([], p, subst (λ z. Derives z p) (sym (append-nil ts)) d)
+program_goes_on ts p d = ([], tt, p, subst (λ z. Derives z p) (sym (append-nil ts)) d)
 
 -- a bracket after 64 open ones is one too many
 not_shallow : (a b : List Lexeme) (x : Lexeme) (depth : ℕ) → open_after a depth ≡ 64 → IsOpening x → IsShallow (a ++ x ∷ b) depth → ⊥
@@ -54,10 +55,19 @@ module _ (text : List ℕ) where
   said_apart : (a b : List Token) → lexemes text (a ++ b) ≡ lexemes text a ++ lexemes text b
   said_apart a b = map-append (lexeme_of text) a b
 
-  past_goes_on : (a m : List Token) (t : Token) → GoesOn (lexemes text (a ++ t ∷ m)) → GoesOn (lexemes text (a ++ t ∷ []))
-  past_goes_on a m t g =
+  middle_stands : (a m q : List Token) → AllCanStand (lexemes text ((a ++ m) ++ q)) → AllCanStand (lexemes text m)
+  middle_stands [] [] q all = tt
+  middle_stands [] (t ∷ m) q all = (all.0, middle_stands [] m q all.1)
+  middle_stands (t ∷ a) m q all = middle_stands a m q all.1
+
+  -- of tokens that a text can have
+  past_goes_on : (ts front q a m : List Token) (t : Token) → AllCanStand (lexemes text ts) → ts ≡ front ++ q → front ≡ a ++ t ∷ m
+      → GoesOn (lexemes text front) → GoesOn (lexemes text (a ++ t ∷ []))
+  past_goes_on ts front q a m t all split past g =
+      let apart : front ≡ (a ++ t ∷ []) ++ m = past ∙ sym (append_assoc a (t ∷ []) m) in
       front_goes_on (lexemes text (a ++ t ∷ [])) (lexemes text m)
-      (subst GoesOn (ap (lexemes text) (sym (append_assoc a (t ∷ []) m)) ∙ said_apart (a ++ t ∷ []) m) g)
+      (middle_stands (a ++ t ∷ []) m q (subst (λ z. AllCanStand (lexemes text z)) (split ∙ ap (λ z. z ++ q) apart) all))
+      (subst GoesOn (ap (lexemes text) apart ∙ said_apart (a ++ t ∷ []) m) g)
 
   -- where tokens stop they do not go on
   stops_before : (a r m : List Token) (t : Token) (place : Span) → r ≡ t ∷ m → StopsAfter text a r place
@@ -78,14 +88,14 @@ module _ (text : List ℕ) where
       (subst (λ z. IsOpening (lexeme_of text z)) same opening)
       (subst (λ z. IsShallow z 0) (said_apart a (u ∷ m)) shallow)
 
-  unexpected_once : (ts : List Token) (p q : Span) → IsUnexpected text ts p → IsUnexpected text ts q → p ≡ q
-  unexpected_once ts p q h k =
+  unexpected_once : (ts : List Token) (p q : Span) → AllCanStand (lexemes text ts) → IsUnexpected text ts p → IsUnexpected text ts q → p ≡ q
+  unexpected_once ts p q all h k =
       elim (compared h.0 h.1 k.0 k.1 (sym h.2 ∙ k.2)) [
         | inl c ↦ one_place k.0 k.1 p q (subst (λ z. StopsAfter text k.0 z p) c.1 (subst (λ z. StopsAfter text z h.1 p) c.0 h.4)) k.4
         | inr (inl c) ↦ absurd (stops_before h.0 h.1 (c.1 ++ k.1) c.0 p c.3 h.4
-            (past_goes_on h.0 c.1 c.0 (subst (λ z. GoesOn (lexemes text z)) c.2 k.3.0)))
+            (past_goes_on ts k.0 k.1 h.0 c.1 c.0 all k.2 c.2 k.3.0))
         | inr (inr c) ↦ absurd (stops_before k.0 k.1 (c.1 ++ h.1) c.0 q c.3 k.4
-            (past_goes_on k.0 c.1 c.0 (subst (λ z. GoesOn (lexemes text z)) c.2 h.3.0)))
+            (past_goes_on ts h.0 h.1 k.0 c.1 c.0 all h.2 c.2 h.3.0))
       ]
 
   deep_once : (ts : List Token) (p q : Span) → IsTooDeep text ts p → IsTooDeep text ts q → p ≡ q
@@ -98,12 +108,12 @@ module _ (text : List ℕ) where
             (subst (λ z. IsShallow (lexemes text z) 0) c.2 h.4.1) k.5 k.6)
       ]
 
-  unexpected_or_deep : (ts : List Token) (p q : Span) → IsUnexpected text ts p → IsTooDeep text ts q → ⊥
-  unexpected_or_deep ts p q h k =
+  unexpected_or_deep : (ts : List Token) (p q : Span) → AllCanStand (lexemes text ts) → IsUnexpected text ts p → IsTooDeep text ts q → ⊥
+  unexpected_or_deep ts p q all h k =
       elim (compared h.0 h.1 k.0 (k.1 ∷ k.2) (sym h.2 ∙ k.3)) [
         | inl c ↦ stops_before h.0 h.1 k.2 k.1 p c.1 h.4 (subst (λ z. GoesOn (lexemes text (z ++ k.1 ∷ []))) (sym c.0) k.7)
         | inr (inl c) ↦ stops_before h.0 h.1 (c.1 ++ (k.1 ∷ k.2)) c.0 p c.3 h.4
-            (past_goes_on h.0 c.1 c.0 (subst (λ z. GoesOn (lexemes text z)) c.2 k.4.0))
+            (past_goes_on ts k.0 (k.1 ∷ k.2) h.0 c.1 c.0 all k.3 c.2 k.4.0)
         | inr (inr c) ↦ past_opening k.0 c.1 k.1 c.0 (same_head k.1 c.0 k.2 _ c.3)
             (subst (λ z. IsShallow (lexemes text z) 0) c.2 h.3.1) k.5 k.6
       ]
@@ -114,41 +124,41 @@ module _ (text : List ℕ) where
   Stops ts (F.TooDeep place) = IsTooDeep text ts place
   Stops ts _ = ⊥
 
-  pub stops_once : (ts : List Token) (a b : TextFault) → Stops ts a → Stops ts b → a ≡ b
-  stops_once ts (F.Unexpected p) (F.Unexpected q) h k = ap F.Unexpected (unexpected_once ts p q h k)
-  stops_once ts (F.Unexpected p) (F.TooDeep q) h k = absurd (unexpected_or_deep ts p q h k)
-  stops_once ts (F.TooDeep p) (F.Unexpected q) h k = absurd (unexpected_or_deep ts q p k h)
-  stops_once ts (F.TooDeep p) (F.TooDeep q) h k = ap F.TooDeep (deep_once ts p q h k)
-  stops_once ts (F.Unexpected p) F.TextTooLong h k = absurd k
-  stops_once ts (F.Unexpected p) (F.BadCharacter q) h k = absurd k
-  stops_once ts (F.Unexpected p) (F.NumberTooBig q) h k = absurd k
-  stops_once ts (F.Unexpected p) (F.NameTooLong q) h k = absurd k
-  stops_once ts (F.Unexpected p) F.NoMemory h k = absurd k
-  stops_once ts (F.TooDeep p) F.TextTooLong h k = absurd k
-  stops_once ts (F.TooDeep p) (F.BadCharacter q) h k = absurd k
-  stops_once ts (F.TooDeep p) (F.NumberTooBig q) h k = absurd k
-  stops_once ts (F.TooDeep p) (F.NameTooLong q) h k = absurd k
-  stops_once ts (F.TooDeep p) F.NoMemory h k = absurd k
-  stops_once ts F.TextTooLong b h k = absurd h
-  stops_once ts (F.BadCharacter p) b h k = absurd h
-  stops_once ts (F.NumberTooBig p) b h k = absurd h
-  stops_once ts (F.NameTooLong p) b h k = absurd h
-  stops_once ts F.NoMemory b h k = absurd h
+  pub stops_once : (ts : List Token) (a b : TextFault) → AllCanStand (lexemes text ts) → Stops ts a → Stops ts b → a ≡ b
+  stops_once ts (F.Unexpected p) (F.Unexpected q) all h k = ap F.Unexpected (unexpected_once ts p q all h k)
+  stops_once ts (F.Unexpected p) (F.TooDeep q) all h k = absurd (unexpected_or_deep ts p q all h k)
+  stops_once ts (F.TooDeep p) (F.Unexpected q) all h k = absurd (unexpected_or_deep ts q p all k h)
+  stops_once ts (F.TooDeep p) (F.TooDeep q) all h k = ap F.TooDeep (deep_once ts p q h k)
+  stops_once ts (F.Unexpected p) F.TextTooLong all h k = absurd k
+  stops_once ts (F.Unexpected p) (F.BadCharacter q) all h k = absurd k
+  stops_once ts (F.Unexpected p) (F.NumberTooBig q) all h k = absurd k
+  stops_once ts (F.Unexpected p) (F.NameTooLong q) all h k = absurd k
+  stops_once ts (F.Unexpected p) F.NoMemory all h k = absurd k
+  stops_once ts (F.TooDeep p) F.TextTooLong all h k = absurd k
+  stops_once ts (F.TooDeep p) (F.BadCharacter q) all h k = absurd k
+  stops_once ts (F.TooDeep p) (F.NumberTooBig q) all h k = absurd k
+  stops_once ts (F.TooDeep p) (F.NameTooLong q) all h k = absurd k
+  stops_once ts (F.TooDeep p) F.NoMemory all h k = absurd k
+  stops_once ts F.TextTooLong b all h k = absurd h
+  stops_once ts (F.BadCharacter p) b all h k = absurd h
+  stops_once ts (F.NumberTooBig p) b all h k = absurd h
+  stops_once ts (F.NameTooLong p) b all h k = absurd h
+  stops_once ts F.NoMemory b all h k = absurd h
 
-  unexpected_program : (ts : List Token) (place : Span) (p : WholeProgram Name) → Derives (lexemes text ts) p → (a r : List Token) → ts ≡ a ++ r
-      → StopsAfter text a r place → ⊥
-  unexpected_program ts place p d a [] is stop = stop.1 p (subst (λ z. Derives (lexemes text z) p) (is ∙ append-nil a) d)
-  unexpected_program ts place p d a (t ∷ r) is stop =
-      stop.1 (past_goes_on a r t (program_goes_on (lexemes text (a ++ t ∷ r)) p (subst (λ z. Derives (lexemes text z) p) is d)))
+  unexpected_program : (ts : List Token) (place : Span) (p : WholeProgram Name) → AllCanStand (lexemes text ts) → Derives (lexemes text ts) p
+      → (a r : List Token) → ts ≡ a ++ r → StopsAfter text a r place → ⊥
+  unexpected_program ts place p all d a [] is stop = stop.1 p (subst (λ z. Derives (lexemes text z) p) (is ∙ append-nil a) d)
+  unexpected_program ts place p all d a (t ∷ r) is stop =
+      stop.1 (past_goes_on ts ts [] a r t all (sym (append-nil ts)) is (program_goes_on (lexemes text ts) p d))
 
   -- a program within the limits does not stop
-  pub no_stop : (ts : List Token) (p : WholeProgram Name) (fault : TextFault) → Derives (lexemes text ts) p → IsShallow (lexemes text ts) 0
+  pub no_stop : (ts : List Token) (p : WholeProgram Name) (fault : TextFault) → AllCanStand (lexemes text ts) → Derives (lexemes text ts) p → IsShallow (lexemes text ts) 0
       → Stops ts fault → ⊥
-  no_stop ts p (F.Unexpected place) d shallow h = unexpected_program ts place p d h.0 h.1 h.2 h.4
-  no_stop ts p (F.TooDeep place) d shallow h =
+  no_stop ts p (F.Unexpected place) all d shallow h = unexpected_program ts place p all d h.0 h.1 h.2 h.4
+  no_stop ts p (F.TooDeep place) all d shallow h =
       past_opening h.0 h.2 h.1 h.1 refl (subst (λ z. IsShallow (lexemes text z) 0) h.3 shallow) h.5 h.6
-  no_stop ts p F.TextTooLong d shallow h = h
-  no_stop ts p (F.BadCharacter q) d shallow h = h
-  no_stop ts p (F.NumberTooBig q) d shallow h = h
-  no_stop ts p (F.NameTooLong q) d shallow h = h
-  no_stop ts p F.NoMemory d shallow h = h
+  no_stop ts p F.TextTooLong all d shallow h = h
+  no_stop ts p (F.BadCharacter q) all d shallow h = h
+  no_stop ts p (F.NumberTooBig q) all d shallow h = h
+  no_stop ts p (F.NameTooLong q) all d shallow h = h
+  no_stop ts p F.NoMemory all d shallow h = h

@@ -1,13 +1,14 @@
 -- From what the reader answers to what is said of the tokens.
-use Rattle.std.proofs.Common.{◌≡◌, ℕ, ◌<◌, ◌≤◌, arith, rules, max, IsOkUnless, MatchResult, length, slice_index_or, List, [], ◌∷◌, ◌++◌, Result, Ok, Err, IfOk, refl, sym, ◌∙◌, ap, subst}
+use Rattle.std.proofs.Common.{◌≡◌, ℕ, ◌<◌, ◌≤◌, arith, rules, IsOkUnless, MatchResult, length, slice_index_or, List, [], ◌∷◌, ◌++◌, Result, Ok, Err, IfOk, refl, sym, ◌∙◌, ap, subst, zero-add}
 use Rattle.tick_syntax.specs.declared.fault.TextFault.{TextFault}
 use Rattle.tick_syntax.specs.declared.fault.TextFault.TheVariants as F
 use Rattle.tick_syntax.specs.declared.item.Item.{Item}
 use Rattle.tick_syntax.specs.declared.token.Token.{Token}
 use Rattle.tick_syntax.specs.declared.tree.Tree.{Tree}
 use Rattle.tick_syntax.specs.Grammar.{Derives}
-use Rattle.tick_syntax.specs.Items.{SayAs, IsInText, IsAsciiName}
-use Rattle.tick_syntax.specs.Spelling.{Spells, IsToken}
+use Rattle.tick_syntax.specs.prover.Items.{SayAs, IsInText, IsAsciiName}
+use Rattle.tick_syntax.specs.declared.span.Span.{Span}
+use Rattle.tick_syntax.specs.Spelling.{gap_length, after_gap, Spells, HasToken, IsToken, TokenAt}
 use Rattle.tick_syntax.specs.declared.token.Sort.{Sort}
 use Rattle.tick_syntax.specs.declared.token.Sort.TheVariants as K
 use Rattle.tick_syntax.proofs.TokensStand.{each_stands, word_is_ascii}
@@ -15,11 +16,12 @@ use Rattle.std.proofs.lemmas.Option.{slice_get-get_or}
 use Rattle.tick_syntax.specs.Lexeme.{lexeme_of, lexemes}
 use Rattle.tick_syntax.specs.Nesting.{nesting}
 use Rattle.tick_syntax.specs.Plain.{Name, WholeProgram}
-use Rattle.tick_syntax.proofs.Forward.{program_takes}
-use Rattle.tick_syntax.specs.Reading.{GivesWhole, program_at}
+use Rattle.tick_syntax.proofs.Complete.{program_takes}
+use Rattle.tick_syntax.specs.prover.Reading.{GivesWhole, program_at}
 use Rattle.tick_syntax.specs.View.{tree_of}
-use Rattle.tick_syntax.proofs.Machine.{says}
+use Rattle.tick_syntax.proofs.Symbols.{says}
 use Rattle.tick_syntax.proofs.SoundPrograms.{program_ok}
+use Rattle.tick_syntax.proofs.Continuations.{derives_once}
 
 pub says_same : (text : List ℕ) (is : List Item) (ts : List Token) → SayAs text is ts → says is ≡ lexemes text ts
 says_same text [] [] h = refl
@@ -58,23 +60,14 @@ pub in_text : (text : List ℕ) (tokens : List Token) → Spells text tokens →
 in_text text tokens spells i d l =
     let s = each_stands text tokens spells i (slice_index_or tokens i d) (slice_get-get_or tokens i d l) in
     let some : (slice_index_or tokens i d).span.start < (slice_index_or tokens i d).span.end = s.some in
-    record { order = omega arith; within = s.within; ascii = ascii_name (slice_index_or tokens i d).sort _ _ s.kind }
-
-one_value : (p q : WholeProgram Name) → (let r : Result (WholeProgram Name) TextFault = Ok p in r) ≡ Ok q → p ≡ q
-one_value p q h = cc
+    record { forward = omega arith; within = s.within; ascii = ascii_name (slice_index_or tokens i d).sort _ _ s.kind }
 
 -- The reader's answer, for each program of these tokens.
 pub parsed_only : (end : ℕ) (text : List ℕ) (is : List Item) (ts : List Token) (r : Result Tree TextFault)
     → SayAs text is ts → GivesWhole tree_of r (program_at end 64 is)
     → IfOk r (λ tree. (p : WholeProgram Name) → Derives (lexemes text ts) p → p ≡ tree_of tree)
 parsed_only end text is ts (Ok tree) same h = λ p d.
-    let own : Derives (says is) p = subst (λ z. Derives z p) (sym (says_same text is ts same)) d in
-    let depth : ℕ = max 64 (nesting p) in
-    let t = program_ok end 64 is (tree_of tree) h in
-    let a : program_at end depth is ≡ Ok p = program_takes end depth p is own (omega arith) in
-    let b : program_at end depth is ≡ Ok (tree_of tree) =
-    (let l : nesting (tree_of tree) ≤ 64 = t.1 in program_takes end depth (tree_of tree) is t.0 (omega arith)) in
-    one_value p (tree_of tree) (sym a ∙ b)
+    derives_once (lexemes text ts) p (tree_of tree) d (parsed_derived end text is ts (Ok tree) same h)
 parsed_only end text is ts (Err e) same h = tt
 
 refused_ok : (p : WholeProgram Name) (e : TextFault) → (let r : Result (WholeProgram Name) TextFault = Ok p in r) ≡ Err e → ⊥
@@ -96,3 +89,18 @@ pub parse_accepted : (text : List ℕ) (own tokens : List Token) → own ≡ tok
     → MatchResult r (λ tree. p ≡ tree_of tree) (λ fault. fault ≡ F.NoMemory)
 parse_accepted text own tokens same (Ok tree) only accepted p d n = only p (subst (λ z. Derives (lexemes text z) p) (sym same) d)
 parse_accepted text own tokens same (Err e) only accepted p d n = accepted p (subst (λ z. Derives (lexemes text z) p) (sym same) d) n
+
+-- No items say no tokens, and tokens that spell a text begin it.
+pub no_items : (text : List ℕ) (is : List Item) (ts : List Token) → SayAs text is ts → ts ≡ [] → is ≡ []
+no_items text [] ts h none = refl
+no_items text (i ∷ is) [] h none = absurd h
+no_items text (i ∷ is) (t ∷ ts) h none = absurd (cc)
+
+pub first_spelled : (text : List ℕ) (ts : List Token) (place : Span) (r : Result Tree TextFault)
+    → Spells text ts → (ts ≡ [] → r ≡ Err (F.Unexpected place)) → r ≡ Err F.NoMemory → HasToken text
+first_spelled text [] place r spells none h = absurd (not_memory place (sym (none refl) ∙ h))
+  where
+    not_memory : (place : Span) → (let r : Result Tree TextFault = Err (F.Unexpected place) in r) ≡ Err F.NoMemory → ⊥
+    not_memory place h = cc
+first_spelled text (t ∷ ts) place r spells none h =
+    (t, spells.0, subst (λ n. TokenAt n (after_gap text) t spells.0) (zero-add (gap_length text)) spells.1)

@@ -4,23 +4,23 @@ use Rattle.std.proofs.lemmas.Grind.{flat_map-append}
 use Rattle.tick_syntax.specs.declared.tree.Expr.{Expr}
 use Rattle.tick_syntax.specs.declared.tree.Stmt.{Stmt}
 use Rattle.tick_syntax.specs.declared.tree.Stmt.TheVariants.{If, While}
-use Rattle.tick_syntax.specs.declared.word.Word.{Word}
-use Rattle.tick_syntax.specs.declared.word.Word.TheVariants as W
+use Rattle.tick_syntax.specs.declared.terminals.Word.{Word}
+use Rattle.tick_syntax.specs.declared.terminals.Word.TheVariants as W
 use Rattle.tick_syntax.specs.Lexeme.{a_name, a_word}
 use Rattle.tick_syntax.specs.Plain.{Name, Statement}
 use Rattle.tick_syntax.specs.Printed.{printed_token, printed_tokens, expression_tokens, statement_tokens, block_tokens, names_tokens, section_tokens}
-use Rattle.tick_syntax.specs.Printing.{more_names}
+use Rattle.tick_syntax.specs.prover.Printing.{more_names}
 use Rattle.tick_syntax.specs.View.{expression_of, statement_of, block_of}
-use Rattle.tick_syntax.proofs.Rows.{statement_of-If, statement_of-While}
+use Rattle.tick_syntax.proofs.Rows.{statement_of_branch, statement_of_repeat}
 
 -- the tokens of a statement with blocks
-pub tokens_if : (s : Stmt) (e : Expr) (a b : Vec Stmt Global) → s ≡ If e a b → printed_tokens (statement_tokens (statement_of s)) ≡ printed_token (a_word W.If) ++ (printed_tokens (expression_tokens (expression_of e)) ++ (printed_tokens (a_word W.OpenBrace ∷ (block_tokens (block_of a.items) ++ a_word W.CloseBrace ∷ [])) ++ (printed_token (a_word W.Else) ++ printed_tokens (a_word W.OpenBrace ∷ (block_tokens (block_of b.items) ++ a_word W.CloseBrace ∷ [])))))
-tokens_if s e a b is =
-    ap (λ (x : Stmt). printed_tokens (statement_tokens (statement_of x))) is ∙ ap (λ (x : Statement Name). printed_tokens (statement_tokens x)) (statement_of-If e a b) ∙ simp (flat_map-append, append_assoc)
+pub tokens_branch : (s : Stmt) (e : Expr) (a b : Vec Stmt Global) → s ≡ If e a b → printed_tokens (statement_tokens (statement_of s)) ≡ printed_token (a_word W.If) ++ (printed_tokens (expression_tokens (expression_of e)) ++ (printed_tokens (a_word W.OpenBrace ∷ (block_tokens (block_of a.items) ++ a_word W.CloseBrace ∷ [])) ++ (printed_token (a_word W.Else) ++ printed_tokens (a_word W.OpenBrace ∷ (block_tokens (block_of b.items) ++ a_word W.CloseBrace ∷ [])))))
+tokens_branch s e a b is =
+    ap (λ (x : Stmt). printed_tokens (statement_tokens (statement_of x))) is ∙ ap (λ (x : Statement Name). printed_tokens (statement_tokens x)) (statement_of_branch e a b) ∙ simp (flat_map-append, append_assoc)
 
-pub tokens_while : (s : Stmt) (e : Expr) (a : Vec Stmt Global) → s ≡ While e a → printed_tokens (statement_tokens (statement_of s)) ≡ printed_token (a_word W.While) ++ (printed_tokens (expression_tokens (expression_of e)) ++ printed_tokens (a_word W.OpenBrace ∷ (block_tokens (block_of a.items) ++ a_word W.CloseBrace ∷ [])))
-tokens_while s e a is =
-    ap (λ (x : Stmt). printed_tokens (statement_tokens (statement_of x))) is ∙ ap (λ (x : Statement Name). printed_tokens (statement_tokens x)) (statement_of-While e a) ∙ simp (flat_map-append, append_assoc)
+pub tokens_repeat : (s : Stmt) (e : Expr) (a : Vec Stmt Global) → s ≡ While e a → printed_tokens (statement_tokens (statement_of s)) ≡ printed_token (a_word W.While) ++ (printed_tokens (expression_tokens (expression_of e)) ++ printed_tokens (a_word W.OpenBrace ∷ (block_tokens (block_of a.items) ++ a_word W.CloseBrace ∷ [])))
+tokens_repeat s e a is =
+    ap (λ (x : Stmt). printed_tokens (statement_tokens (statement_of x))) is ∙ ap (λ (x : Statement Name). printed_tokens (statement_tokens x)) (statement_of_repeat e a) ∙ simp (flat_map-append, append_assoc)
 
 -- names with a comma between two are the first, and each other after a comma
 pub names_are : (x : Name) (xs : List Name) → names_tokens x xs ≡ a_name x ∷ more_names xs

@@ -7,13 +7,13 @@ use Rattle.tick_syntax.specs.declared.fault.TextFault.TheVariants as F
 use Rattle.tick_syntax.specs.declared.item.Item.{Item}
 use Rattle.tick_syntax.specs.declared.item.Meaning.{Meaning}
 use Rattle.tick_syntax.specs.declared.item.Meaning.TheVariants as M
-use Rattle.tick_syntax.specs.declared.word.Word.TheVariants as W
+use Rattle.tick_syntax.specs.declared.terminals.Word.TheVariants as W
 use Rattle.tick_syntax.specs.Lexeme.{Lexeme, a_name, a_word}
 use Rattle.tick_syntax.specs.Plain.{Name, Expression}
 use Rattle.tick_syntax.specs.Grammar.{IsExpression}
 use Rattle.tick_syntax.specs.Nesting.{expression_nesting}
-use Rattle.tick_syntax.specs.Reading.{Reading, ◌>>=◌, next_at, semicolon_at, semicolon_by, becomes_at, becomes_by, else_at, else_by, close_at, close_by, operator_at, operator_by, name_at, name_by, pair_at, brackets_at, expression_by, expression_at, last_at}
-use Rattle.tick_syntax.proofs.Machine.{said_by, says, Symbol, s_semicolon, s_name, s_becomes, s_else, s_close, s_operator, s_expression, step, opened, is_full, on_stack, fault_by, fault}
+use Rattle.tick_syntax.specs.prover.Reading.{Reading, ◌>>=◌, next_at, word_at, word_by, operator_at, operator_by, name_at, name_by, pair_at, brackets_at, expression_by, expression_at, last_at}
+use Rattle.tick_syntax.proofs.Symbols.{said_by, says, Symbol, s_semicolon, s_name, s_becomes, s_else, s_close, s_operator, s_expression, step, opened, is_full, on_stack, fault_by, fault}
 
 pub bind_ok : {A B : Type 0} (m : Result A TextFault) (f : A → Result B TextFault) (y : B)
     → (m >>= f) ≡ Ok y → (x : A) × (m ≡ Ok x) × (f x ≡ Ok y)
@@ -234,47 +234,47 @@ module _ (end limit : ℕ) where
 
   semicolon_front : (room : ℕ) (m : Meaning) (span : Span) (rest : List Item)
       → Reads (s_semicolon ∷ []) (λ v r. said_by m span ∷ says rest ≡ a_word W.Semicolon ∷ r) room
-      (record { meaning = m; span = span } ∷ rest) (semicolon_by m span rest)
+      (record { meaning = m; span = span } ∷ rest) (word_by W.Semicolon m span rest)
   semicolon_front room (M.Word W.Semicolon) span rest = accept _ _ room _ span rest tt refl (λ st. refl) refl
   semicolon_front room m span rest = refuse _ _ room m span rest refl
 
   pub semicolon_reads : (room : ℕ) (is : List Item)
-      → Reads (s_semicolon ∷ []) (λ v r. says is ≡ a_word W.Semicolon ∷ r) room is (semicolon_at end is)
-  unfolding semicolon_at
-  semicolon_reads room is = by_next s_semicolon (λ ts v r. ts ≡ a_word W.Semicolon ∷ r) room semicolon_by (semicolon_front room) is
+      → Reads (s_semicolon ∷ []) (λ v r. says is ≡ a_word W.Semicolon ∷ r) room is (word_at end W.Semicolon is)
+  unfolding word_at
+  semicolon_reads room is = by_next s_semicolon (λ ts v r. ts ≡ a_word W.Semicolon ∷ r) room (word_by W.Semicolon) (semicolon_front room) is
 
   becomes_front : (room : ℕ) (m : Meaning) (span : Span) (rest : List Item)
       → Reads (s_becomes ∷ []) (λ v r. said_by m span ∷ says rest ≡ a_word W.Becomes ∷ r) room
-      (record { meaning = m; span = span } ∷ rest) (becomes_by m span rest)
+      (record { meaning = m; span = span } ∷ rest) (word_by W.Becomes m span rest)
   becomes_front room (M.Word W.Becomes) span rest = accept _ _ room _ span rest tt refl (λ st. refl) refl
   becomes_front room m span rest = refuse _ _ room m span rest refl
 
   pub becomes_reads : (room : ℕ) (is : List Item)
-      → Reads (s_becomes ∷ []) (λ v r. says is ≡ a_word W.Becomes ∷ r) room is (becomes_at end is)
-  unfolding becomes_at
-  becomes_reads room is = by_next s_becomes (λ ts v r. ts ≡ a_word W.Becomes ∷ r) room becomes_by (becomes_front room) is
+      → Reads (s_becomes ∷ []) (λ v r. says is ≡ a_word W.Becomes ∷ r) room is (word_at end W.Becomes is)
+  unfolding word_at
+  becomes_reads room is = by_next s_becomes (λ ts v r. ts ≡ a_word W.Becomes ∷ r) room (word_by W.Becomes) (becomes_front room) is
 
   else_front : (room : ℕ) (m : Meaning) (span : Span) (rest : List Item)
       → Reads (s_else ∷ []) (λ v r. said_by m span ∷ says rest ≡ a_word W.Else ∷ r) room
-      (record { meaning = m; span = span } ∷ rest) (else_by m span rest)
+      (record { meaning = m; span = span } ∷ rest) (word_by W.Else m span rest)
   else_front room (M.Word W.Else) span rest = accept _ _ room _ span rest tt refl (λ st. refl) refl
   else_front room m span rest = refuse _ _ room m span rest refl
 
   pub else_reads : (room : ℕ) (is : List Item)
-      → Reads (s_else ∷ []) (λ v r. says is ≡ a_word W.Else ∷ r) room is (else_at end is)
-  unfolding else_at
-  else_reads room is = by_next s_else (λ ts v r. ts ≡ a_word W.Else ∷ r) room else_by (else_front room) is
+      → Reads (s_else ∷ []) (λ v r. says is ≡ a_word W.Else ∷ r) room is (word_at end W.Else is)
+  unfolding word_at
+  else_reads room is = by_next s_else (λ ts v r. ts ≡ a_word W.Else ∷ r) room (word_by W.Else) (else_front room) is
 
   close_front : (room : ℕ) (m : Meaning) (span : Span) (rest : List Item)
       → Reads (s_close ∷ []) (λ v r. said_by m span ∷ says rest ≡ a_word W.Close ∷ r) room
-      (record { meaning = m; span = span } ∷ rest) (close_by m span rest)
+      (record { meaning = m; span = span } ∷ rest) (word_by W.Close m span rest)
   close_front room (M.Word W.Close) span rest = accept _ _ room _ span rest tt refl (λ st. refl) refl
   close_front room m span rest = refuse _ _ room m span rest refl
 
   pub close_reads : (room : ℕ) (is : List Item)
-      → Reads (s_close ∷ []) (λ v r. says is ≡ a_word W.Close ∷ r) room is (close_at end is)
-  unfolding close_at
-  close_reads room is = by_next s_close (λ ts v r. ts ≡ a_word W.Close ∷ r) room close_by (close_front room) is
+      → Reads (s_close ∷ []) (λ v r. says is ≡ a_word W.Close ∷ r) room is (word_at end W.Close is)
+  unfolding word_at
+  close_reads room is = by_next s_close (λ ts v r. ts ≡ a_word W.Close ∷ r) room (word_by W.Close) (close_front room) is
 
   operator_front : (room : ℕ) (m : Meaning) (span : Span) (rest : List Item)
       → Reads (s_operator ∷ []) (λ v r. said_by m span ∷ says rest ≡ a_word (W.Operator v) ∷ r) room

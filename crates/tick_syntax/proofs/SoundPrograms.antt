@@ -9,14 +9,14 @@ use Rattle.tick_syntax.specs.declared.item.Section.{Section}
 use Rattle.tick_syntax.specs.declared.item.Section.TheVariants as C
 use Rattle.tick_syntax.specs.declared.item.Meaning.{Meaning}
 use Rattle.tick_syntax.specs.declared.item.Meaning.TheVariants as M
-use Rattle.tick_syntax.specs.declared.word.Word.{Word}
-use Rattle.tick_syntax.specs.declared.word.Word.TheVariants as W
+use Rattle.tick_syntax.specs.declared.terminals.Word.{Word}
+use Rattle.tick_syntax.specs.declared.terminals.Word.TheVariants as W
 use Rattle.tick_syntax.specs.Lexeme.{Lexeme, a_name, a_number, a_word}
 use Rattle.tick_syntax.specs.Plain.{Name, Block, WholeProgram}
 use Rattle.tick_syntax.specs.Grammar.{IsBlock, AreNames, IsSection, Derives}
 use Rattle.tick_syntax.specs.Nesting.{block_nesting, nesting}
-use Rattle.tick_syntax.specs.Reading.{Reading, ◌>>=◌, next_at, processes_at, processes_by, begin_at, begin_by, number_at, number_by, semicolon_at, name_by, names_by, names_at, begins, section_by, section_at, statements_at, body_at, whole_at, program_at, nothing_after}
-use Rattle.tick_syntax.proofs.Machine.{said_by, said, says, Symbol, s_program, s_number, s_semicolon, s_variables, s_scans, s_registers, s_begin, s_names, s_more, s_until, fault}
+use Rattle.tick_syntax.specs.prover.Reading.{Reading, ◌>>=◌, next_at, word_at, word_by, number_at, number_by, name_by, names_by, names_at, begins, section_by, section_at, statements_at, body_at, whole_at, program_at, nothing_after}
+use Rattle.tick_syntax.proofs.Symbols.{said_by, said, says, Symbol, s_program, s_number, s_semicolon, s_variables, s_scans, s_registers, s_begin, s_names, s_more, s_until, fault}
 use Rattle.tick_syntax.proofs.Sound.{bind_ok, bind_err, Reads, reads_bind, reads_map, refuse, accept, enter, by_next, by_next_then, stand_in, weaken, nothing_left, semicolon_reads}
 use Rattle.tick_syntax.proofs.SoundStatements.{statements_reads}
 
@@ -111,14 +111,14 @@ module _ (end limit : ℕ) where
 
   begin_front : (room : ℕ) (m : Meaning) (span : Span) (rest : List Item)
       → Reads end limit (s_begin ∷ []) (IsBody room (said_by m span ∷ says rest)) room (record { meaning = m; span = span } ∷ rest)
-      (begin_by m span rest >>= λ b. statements_at end room N.Program b.1)
+      (word_by W.Begin m span rest >>= λ b. statements_at end room N.Program b.1)
   begin_front room (M.Word W.Begin) span rest = enter end limit _ _ room room _ span rest (s_until N.Program ∷ []) _ refl (λ st o. (refl, o))
       (weaken end limit _ _ _ room rest _ (statements_reads end limit room N.Program rest) (λ b r d. (says rest, refl, d.0, d.1)))
   begin_front room m span rest = refuse end limit _ _ room m span rest refl
 
   body_reads : (room : ℕ) (is : List Item) → Reads end limit (s_begin ∷ []) (IsBody room (says is)) room is (body_at end room is)
-  unfolding body_at begin_at
-  body_reads room is = by_next_then end limit s_begin (IsBody room) room begin_by (λ b. statements_at end room N.Program b.1) (begin_front room) is
+  unfolding body_at word_at
+  body_reads room is = by_next_then end limit s_begin (IsBody room) room (word_by W.Begin) (λ b. statements_at end room N.Program b.1) (begin_front room) is
 
   number_front : (room : ℕ) (m : Meaning) (span : Span) (rest : List Item)
       → Reads end limit (s_number ∷ []) (λ v r. said_by m span ∷ says rest ≡ a_number v.0 v.1 ∷ r) room
@@ -150,13 +150,13 @@ module _ (end limit : ℕ) where
 
   abbrev after_processes : ℕ → Unit {0} × List Item → Reading (WholeProgram Name)
   after_processes room p =
-      number_at end p.1 >>= λ n. semicolon_at end n.1 >>= λ s. section_at end C.Variables s.1
+      number_at end p.1 >>= λ n. word_at end W.Semicolon n.1 >>= λ s. section_at end C.Variables s.1
       >>= λ variables. section_at end C.Scans variables.1 >>= λ scans. section_at end C.Registers scans.1
       >>= λ registers. body_at end room registers.1 >>= λ body. Ok (made n.0 variables.0 scans.0 registers.0 body.0, body.1)
 
   processes_front : (room : ℕ) (m : Meaning) (span : Span) (rest : List Item)
       → Reads end limit (s_program ∷ []) (IsProgram room (said_by m span ∷ says rest)) room (record { meaning = m; span = span } ∷ rest)
-      (processes_by m span rest >>= after_processes room)
+      (word_by W.Processes m span rest >>= after_processes room)
   processes_front room (M.Word W.Processes) span rest =
       let Q : WholeProgram Name → List Lexeme → Type 0 = IsProgram room (a_word W.Processes ∷ says rest) in
       enter end limit _ Q room room _ span rest (s_number ∷ s_semicolon ∷ s_variables ∷ []) _ refl (λ st o. (refl, o))
@@ -182,8 +182,8 @@ module _ (end limit : ℕ) where
   processes_front room m span rest = refuse end limit _ _ room m span rest refl
 
   pub whole_reads : (room : ℕ) (is : List Item) → Reads end limit (s_program ∷ []) (IsProgram room (says is)) room is (whole_at end room is)
-  unfolding whole_at processes_at
-  whole_reads room is = by_next_then end limit s_program (IsProgram room) room processes_by (after_processes room) (processes_front room) is
+  unfolding whole_at word_at
+  whole_reads room is = by_next_then end limit s_program (IsProgram room) room (word_by W.Processes) (after_processes room) (processes_front room) is
 
 -- what the reader answers, for whatever limit on the brackets
 module _ (end room : ℕ) where

@@ -6,14 +6,14 @@ use Rattle.tick_syntax.specs.declared.item.Ending.{Ending}
 use Rattle.tick_syntax.specs.declared.item.Ending.TheVariants as N
 use Rattle.tick_syntax.specs.declared.item.Meaning.{Meaning}
 use Rattle.tick_syntax.specs.declared.item.Meaning.TheVariants as M
-use Rattle.tick_syntax.specs.declared.word.Word.{Word}
-use Rattle.tick_syntax.specs.declared.word.Word.TheVariants as W
+use Rattle.tick_syntax.specs.declared.terminals.Word.{Word}
+use Rattle.tick_syntax.specs.declared.terminals.Word.TheVariants as W
 use Rattle.tick_syntax.specs.Lexeme.{Lexeme, a_name, a_word}
 use Rattle.tick_syntax.specs.Plain.{Name, Statement, Block, nil}
 use Rattle.tick_syntax.specs.Grammar.{IsExpression, IsStatement, IsBlock}
 use Rattle.tick_syntax.specs.Nesting.{expression_nesting, statement_nesting, block_nesting}
-use Rattle.tick_syntax.specs.Reading.{Reading, ◌>>=◌, next_at, brace_at, brace_by, get_at, scan_at, copy_at, older_at, plain_at, right_by, right_at, assignment_at, put_at, stamp_at, out_at, choice_at, repetition_at, statement_by, statement_with, block_by, ends, statements_with, block_at, statement_at, statements_at}
-use Rattle.tick_syntax.proofs.Machine.{said_by, says, s_semicolon, s_name, s_becomes, s_else, s_expression, s_right, s_block, s_statement, s_until, opened}
+use Rattle.tick_syntax.specs.prover.Reading.{Reading, ◌>>=◌, next_at, brace_at, brace_by, get_at, scan_at, copy_at, older_at, plain_at, right_by, right_at, assignment_at, put_at, stamp_at, out_at, branch_at, repeat_at, statement_by, statement_with, block_by, ends, statements_with, block_at, statement_at, statements_at}
+use Rattle.tick_syntax.proofs.Symbols.{said_by, says, s_semicolon, s_name, s_becomes, s_else, s_expression, s_right, s_block, s_statement, s_until, opened}
 use Rattle.tick_syntax.proofs.Sound.{Reads, reads_bind, reads_bind_shorter, reads_map, refuse, refuse_deep, accept, enter, by_next, by_next_whole, by_next_then, stand_in, weaken, nothing_left, semicolon_reads, becomes_reads, else_reads, name_reads, expression_reads, last_reads, full_at, free_at}
 
 module _ (end limit : ℕ) where
@@ -124,11 +124,11 @@ module _ (end limit : ℕ) where
   abbrev ReadsBlocks : ℕ → (List Item → Reading (Block Name)) → Type 0
   ReadsBlocks room block = (is : List Item) → Reads end limit (s_block ∷ []) (IsBraced room (says is)) room is (block is)
 
-  choice_reads : (room : ℕ) (block : List Item → Reading (Block Name)) → ReadsBlocks room block → (is : List Item)
+  branch_reads : (room : ℕ) (block : List Item → Reading (Block Name)) → ReadsBlocks room block → (is : List Item)
       → Reads end limit (s_expression ∷ s_block ∷ s_else ∷ s_block ∷ []) (IsStatementIn room (a_word W.If ∷ says is)) room is
-      (choice_at end block room is)
-  unfolding choice_at
-  choice_reads room block reads is =
+      (branch_at end block room is)
+  unfolding branch_at
+  branch_reads room block reads is =
       reads_bind end limit (s_expression ∷ []) (s_block ∷ s_else ∷ s_block ∷ []) _ _ room is _ _ (λ st. refl) (expression_reads end limit room is) (λ e de.
       reads_bind end limit (s_block ∷ []) (s_else ∷ s_block ∷ []) _ _ room e.1 _ _ (λ st. refl) (reads e.1) (λ a da.
       reads_bind end limit (s_else ∷ []) (s_block ∷ []) _ _ room a.1 _ _ (λ st. refl) (else_reads end limit room a.1) (λ o do_.
@@ -146,11 +146,11 @@ module _ (end limit : ℕ) where
             let j : suc (block_nesting b) ≤ room = db.3 in omega arith),
       )))))
 
-  repetition_reads : (room : ℕ) (block : List Item → Reading (Block Name)) → ReadsBlocks room block → (is : List Item)
+  repeat_reads : (room : ℕ) (block : List Item → Reading (Block Name)) → ReadsBlocks room block → (is : List Item)
       → Reads end limit (s_expression ∷ s_block ∷ []) (IsStatementIn room (a_word W.While ∷ says is)) room is
-      (repetition_at end block room is)
-  unfolding repetition_at
-  repetition_reads room block reads is =
+      (repeat_at end block room is)
+  unfolding repeat_at
+  repeat_reads room block reads is =
       reads_bind end limit (s_expression ∷ []) (s_block ∷ []) _ _ room is _ _ (λ st. refl) (expression_reads end limit room is) (λ e de.
       reads_map end limit (s_block ∷ []) _ _ room e.1 _ _ (reads e.1) (λ a rest da. (
         (says is, da.0, refl, subst (λ z. IsExpression (says is) e.0 z) da.1 de.0, da.2),
@@ -167,9 +167,9 @@ module _ (end limit : ℕ) where
   statement_front room block reads (M.Word W.Stamp) span rest = enter end limit _ _ room room _ span rest _ _ refl (λ st o. (refl, o)) (stamp_reads room rest)
   statement_front room block reads (M.Word W.Out) span rest = enter end limit _ _ room room _ span rest _ _ refl (λ st o. (refl, o)) (out_reads room rest)
   statement_front room block reads (M.Word W.If) span rest =
-      enter end limit _ _ room room _ span rest _ _ refl (λ st o. (refl, o)) (choice_reads room block reads rest)
+      enter end limit _ _ room room _ span rest _ _ refl (λ st o. (refl, o)) (branch_reads room block reads rest)
   statement_front room block reads (M.Word W.While) span rest =
-      enter end limit _ _ room room _ span rest _ _ refl (λ st o. (refl, o)) (repetition_reads room block reads rest)
+      enter end limit _ _ room room _ span rest _ _ refl (λ st o. (refl, o)) (repeat_reads room block reads rest)
   statement_front room block reads m span rest = refuse end limit _ _ room m span rest refl
 
   with_reads : (room : ℕ) (block : List Item → Reading (Block Name)) → ReadsBlocks room block → (is : List Item)

@@ -1,11 +1,11 @@
 -- What of a program does not turn on its spans: its printed form, and how deep its brackets stand.
 use Rattle.std.proofs.Common.{◌≡◌, ℕ, suc, max, List, [], ◌∷◌, ◌++◌, map, refl, sym, ap, ◌∙◌}
 use Rattle.std.proofs.lemmas.List.{map-append}
-use Rattle.tick_syntax.specs.declared.word.Word.{Word}
-use Rattle.tick_syntax.specs.declared.word.Word.TheVariants as W
+use Rattle.tick_syntax.specs.declared.terminals.Word.{Word}
+use Rattle.tick_syntax.specs.declared.terminals.Word.TheVariants as W
 use Rattle.tick_syntax.specs.Lexeme.{Lexeme, a_name, a_number, a_word, nothing}
 use Rattle.tick_syntax.specs.Nesting.{expression_nesting, statement_nesting, block_nesting, nesting}
-use Rattle.tick_syntax.specs.Plain.{Name, Expression, number, named, me, count, binary, map_expression, Statement, assign, fetch, put, stamp, scan, copy, older, out, test, loop, map_statement, Block, nil, cons, map_block, WholeProgram, without_spans}
+use Rattle.tick_syntax.specs.Plain.{Name, Expression, number, named, me, count, binary, map_expression, Statement, assign, get, put, stamp, scan, copy, older, out, branch, repeat, map_statement, Block, nil, cons, map_block, WholeProgram, without_spans}
 use Rattle.tick_syntax.specs.Printed.{nowhere, expression_tokens, statement_tokens, block_tokens, names_tokens, section_tokens, program_tokens, printed_token, printed_tokens, printed}
 use Rattle.tick_syntax.proofs.Spanless.{letters_of, spanless, spanless_all}
 
@@ -22,7 +22,7 @@ module _ {A B : Type 0} (f : A → B) where
   mutual
     pub statement_as_deep : (s : Statement A) → statement_nesting (map_statement f s) ≡ statement_nesting s
     statement_as_deep (assign x e) = expression_as_deep e
-    statement_as_deep (fetch x r e) = expression_as_deep e
+    statement_as_deep (get x r e) = expression_as_deep e
     statement_as_deep (put r e) = expression_as_deep e
     statement_as_deep stamp = refl
     statement_as_deep (scan s) = refl
@@ -30,11 +30,11 @@ module _ {A B : Type 0} (f : A → B) where
     statement_as_deep (older x s a b) =
         ap (λ n. max n (expression_nesting (map_expression f b))) (expression_as_deep a) ∙ ap (max (expression_nesting a)) (expression_as_deep b)
     statement_as_deep (out e) = expression_as_deep e
-    statement_as_deep (test e a b) =
+    statement_as_deep (branch e a b) =
         ap (λ n. max n (suc (max (block_nesting (map_block f a)) (block_nesting (map_block f b))))) (expression_as_deep e)
         ∙ ap (λ n. max (expression_nesting e) (suc (max n (block_nesting (map_block f b))))) (block_as_deep a)
         ∙ ap (λ n. max (expression_nesting e) (suc (max (block_nesting a) n))) (block_as_deep b)
-    statement_as_deep (loop e a) =
+    statement_as_deep (repeat e a) =
         ap (λ n. max n (suc (block_nesting (map_block f a)))) (expression_as_deep e) ∙ ap (λ n. max (expression_nesting e) (suc n)) (block_as_deep a)
 
     pub block_as_deep : (b : Block A) → block_nesting (map_block f b) ≡ block_nesting b
@@ -47,7 +47,7 @@ same_nesting p q same =
     sym (block_as_deep letters_of p.body) ∙ ap (λ (w : WholeProgram (List ℕ)). nesting w) same ∙ block_as_deep letters_of q.body
 
 -- a name at no place, and a program whose names stand at none
-abbrev name_at_none : List ℕ → Name
+abbrev pub name_at_none : List ℕ → Name
 name_at_none letters = record { letters = letters; span = nowhere }
 
 -- tokens spans aside are those of the tree whose names stand at no place
@@ -61,15 +61,15 @@ expression_plain (binary a op b) = simp (map-append, expression_plain a, express
 mutual
   statement_plain : (s : Statement Name) → spanless_all (statement_tokens s) ≡ statement_tokens (map_statement name_at_none (map_statement letters_of s))
   statement_plain (assign x e) = simp (map-append, expression_plain e)
-  statement_plain (fetch x r e) = simp (map-append, expression_plain e)
+  statement_plain (get x r e) = simp (map-append, expression_plain e)
   statement_plain (put r e) = simp (map-append, expression_plain e)
   statement_plain stamp = refl
   statement_plain (scan s) = refl
   statement_plain (copy t s) = refl
   statement_plain (older x s a b) = simp (map-append, expression_plain a, expression_plain b)
   statement_plain (out e) = simp (map-append, expression_plain e)
-  statement_plain (test e a b) = simp (map-append, expression_plain e, block_plain a, block_plain b)
-  statement_plain (loop e a) = simp (map-append, expression_plain e, block_plain a)
+  statement_plain (branch e a b) = simp (map-append, expression_plain e, block_plain a, block_plain b)
+  statement_plain (repeat e a) = simp (map-append, expression_plain e, block_plain a)
 
   block_plain : (b : Block Name) → spanless_all (block_tokens b) ≡ block_tokens (map_block name_at_none (map_block letters_of b))
   block_plain nil = refl
@@ -83,7 +83,7 @@ section_plain : (word : Word) (xs : List Name) → spanless_all (section_tokens 
 section_plain word [] = refl
 section_plain word (x ∷ xs) = simp (map-append, names_plain x xs)
 
-abbrev program_at_none : WholeProgram (List ℕ) → WholeProgram Name
+abbrev pub program_at_none : WholeProgram (List ℕ) → WholeProgram Name
 program_at_none w = record {
   processes = w.processes;
   span = nowhere;
@@ -93,7 +93,7 @@ program_at_none w = record {
   body = map_block name_at_none w.body;
 }
 
-program_plain : (p : WholeProgram Name) → spanless_all (program_tokens p) ≡ program_tokens (program_at_none (without_spans p))
+pub program_plain : (p : WholeProgram Name) → spanless_all (program_tokens p) ≡ program_tokens (program_at_none (without_spans p))
 program_plain p =
     simp (map-append, section_plain W.Var p.variables, section_plain W.Scan p.scans, section_plain W.Reg p.registers, block_plain p.body)
 

@@ -3,10 +3,11 @@ use Rattle.std.proofs.Common.{◌≡◌, ℕ, ◌+◌, List, [], ◌∷◌, ◌+
 use Rattle.tick_syntax.specs.declared.token.Token.{Token}
 use Rattle.tick_syntax.specs.Lexeme.{Lexeme, lexeme_at, lexemes}
 use Rattle.tick_syntax.specs.Printed.{printed_token, printed_tokens}
+use Rattle.tick_syntax.specs.Refusal.{AllCanStand}
 use Rattle.tick_syntax.specs.Spelling.{span_of, SpellsFrom}
 use Rattle.tick_syntax.proofs.Spanless.{spanless, spanless_all}
 use Rattle.tick_syntax.proofs.SpelledPieces.{spelled_piece, piece_at}
-use Rattle.tick_syntax.proofs.TokensThatStand.{AllCanStand, written}
+use Rattle.tick_syntax.proofs.TokensThatStand.{written}
 
 -- the printed tokens that stand after other bytes
 pub record SpelledAgain (before : List ℕ) (ts : List Lexeme) : Type 0 where

@@ -1,5 +1,5 @@
 -- How a text that is written token by token, each followed by a blank, is spelled.
-use Rattle.std.proofs.Common.{◌≡◌, ℕ, suc, ◌<◌, ◌≤◌, Bool, true, false, List, [], ◌∷◌, ◌++◌, ◌+◌, ◌-◌, ◌&&◌, ◌==◌, not, leb, length, take, drop, refl, sym, ap, ◌∙◌, subst, arith, inl, inr, slice_range, add-zero}
+use Rattle.std.proofs.Common.{◌≡◌, ℕ, suc, ◌<◌, ◌≤◌, Bool, true, false, List, [], ◌∷◌, ◌++◌, ◌+◌, ◌-◌, ◌&&◌, ◌==◌, not, leb, length, take, drop, refl, sym, ap, ◌∙◌, subst, arith, inl, inr, slice_range, add-zero, map}
 use Rattle.std.specs.Fmt.{decimal}
 use Rattle.std.specs.List.{list_all}
 use Rattle.std.specs.Str.Parse.{AllDigits}
@@ -7,8 +7,9 @@ use Rattle.std.proofs.lemmas.Bool.{and_parts, and_from, and_right, or_cases, or_
 use Rattle.std.proofs.lemmas.Fmt.{decimal_is_IsNumeral, decimal_nonempty}
 use Rattle.std.proofs.lemmas.List.{take_at, drop_at}
 use Rattle.std.proofs.lemmas.Str.Parse.{digit_from_value}
-use Rattle.tick_syntax.specs.Characters.{is_blank, hash, is_letter, is_digit, is_name_part, is_sign, is_keyword, keywords}
+use Rattle.tick_syntax.specs.Characters.{is_blank, hash, is_letter, is_digit, is_name_part, is_sign, is_keyword}
 use Rattle.tick_syntax.specs.Spelling.{gap_length, comment_length, after_gap, starts, is_word, is_number, span_of, IsWord, IsNumber, IsSign, IsToken, TokenAt, SpellsFrom}
+use Rattle.tick_syntax.specs.Terminals.{spelling, keywords}
 use Rattle.tick_syntax.specs.declared.token.Sort.{Sort}
 use Rattle.tick_syntax.specs.declared.token.Sort.TheVariants.{Name, Num, Keyword, Sign}
 use Rattle.tick_syntax.specs.declared.token.Token.{Token}
@@ -112,7 +113,7 @@ name_token piece b more word no_keyword short blank = (word_before_blank piece b
 
 pub keyword_token : (piece : List ℕ) (b : ℕ) (more : List ℕ) → is_keyword piece ≡ true → is_blank b ≡ true → IsToken piece (b ∷ more) Keyword
 keyword_token piece b more keyword blank = (
-  word_before_blank piece b more (among_words is_word piece keywords refl keyword) blank,
+  word_before_blank piece b more (among_words is_word piece (map spelling keywords) refl keyword) blank,
   keyword,
 )
 

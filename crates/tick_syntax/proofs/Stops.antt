@@ -6,16 +6,16 @@ use Rattle.tick_syntax.specs.declared.fault.TextFault.TheVariants as F
 use Rattle.tick_syntax.specs.declared.item.Item.{Item}
 use Rattle.tick_syntax.specs.declared.token.Token.{Token}
 use Rattle.tick_syntax.specs.declared.tree.Tree.{Tree}
-use Rattle.tick_syntax.specs.Items.{SayAs}
+use Rattle.tick_syntax.specs.prover.Items.{SayAs}
 use Rattle.tick_syntax.specs.Lexeme.{lexeme_of, lexemes}
 use Rattle.tick_syntax.specs.Nesting.{IsOpening, open_by, open_after, IsShallow}
-use Rattle.tick_syntax.specs.Reading.{GivesWhole, program_at}
+use Rattle.tick_syntax.specs.prover.Reading.{GivesWhole, program_at}
 use Rattle.tick_syntax.specs.Refusal.{Begins, StopsAfter, IsUnexpected, IsTooDeep, IsOfGrammar, IsTextRefused}
 use Rattle.tick_syntax.specs.Spelling.{FaultAfter, FirstRefusal}
 use Rattle.tick_syntax.specs.View.{tree_of}
-use Rattle.tick_syntax.proofs.Machine.{said, Symbol, s_program, step, opened, is_full, on_stack, run_by, run, fault_by, fault}
+use Rattle.tick_syntax.proofs.Symbols.{said, Symbol, s_program, step, opened, is_full, on_stack, run_by, run, fault_by, fault}
 use Rattle.tick_syntax.proofs.SoundPrograms.{program_err}
-use Rattle.tick_syntax.proofs.Table.{opens_to, full_is, fits_by, run_append, derives_runs, goes_on, goes_on_runs}
+use Rattle.tick_syntax.proofs.Continuations.{opens_to, full_is, fits_by, run_append, derives_runs, goes_on, goes_on_runs}
 
 module _ (end : ℕ) (text : List ℕ) where
   -- the symbols that are left refuse what comes next

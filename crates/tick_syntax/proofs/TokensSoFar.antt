@@ -1,13 +1,13 @@
 -- The token at a place of a text, and how the tokens that are read so far go on.
-use Rattle.std.proofs.Common.{◌≡◌, ℕ, ◌<◌, ◌≤◌, Bool, true, List, [], ◌∷◌, ◌++◌, ◌+◌, ◌-◌, length, take, drop, get_or, sym, ap, ◌∙◌, subst, arith, slice_range, append_assoc}
+use Rattle.std.proofs.Common.{◌≡◌, ℕ, ◌<◌, ◌≤◌, ◌⊎◌, inl, inr, refl, zero-add, Bool, true, List, [], ◌∷◌, ◌++◌, ◌+◌, ◌-◌, length, take, drop, get_or, sym, ap, ◌∙◌, subst, arith, slice_range, append_assoc}
 use Rattle.std.specs.Str.Parse.{digits_value}
 use Rattle.std.proofs.lemmas.List.{drop-drop, at_drop_more, length-take-le, length-drop, append-nil, drop_all}
 use Rattle.std.proofs.lemmas.List.Folds.{drop_split}
 use Rattle.std.proofs.lemmas.Bool.{and_parts}
 use Rattle.std.specs.List.{list_all}
 use Rattle.tick_syntax.specs.Characters.{is_letter, is_digit}
-use Rattle.tick_syntax.specs.Fronts.{word_length, number_length, sign_length, IsReadAt}
-use Rattle.tick_syntax.specs.Spelling.{starts, gap_length, after_gap, span_of, IsWord, IsNumber, IsSign, IsToken, TokenAt, FaultAt, SpellsFrom, Spells, FaultAfter, FirstFault}
+use Rattle.tick_syntax.specs.prover.Extents.{word_length, number_length, sign_length, IsReadAt}
+use Rattle.tick_syntax.specs.Spelling.{starts, gap_length, after_gap, span_of, IsWord, IsNumber, IsSign, IsToken, HasToken, TokenAt, FaultAt, SpellsFrom, Spells, FaultAfter, FirstFault}
 use Rattle.tick_syntax.specs.declared.span.Span.{Span}
 use Rattle.tick_syntax.specs.declared.token.Sort.{Sort}
 use Rattle.tick_syntax.specs.declared.token.Token.{Token}
@@ -96,12 +96,13 @@ sign_in bytes from end order e =
 -- the tokens of the text before a place, and what the whole text is by what is left
 pub record ReadSoFar (text : List ℕ) (tokens : List Token) (end : ℕ) : Type 0 where
   pub within : end ≤ length text
+  pub first : HasToken text ⊎ (end ≡ 0)
   pub spelled : (later : List Token) → SpellsFrom end (drop end text) later → Spells text (tokens ++ later)
   pub faulty : (later : List Token) (fault : TextFault) → FaultAfter end (drop end text) later fault → FaultAfter 0 text (tokens ++ later) fault
 
 pub read_none : (text : List ℕ) → ReadSoFar text [] 0
 read_none text =
-    record { within = omega arith; spelled = λ later s. s; faulty = λ later fault s. s }
+    record { within = omega arith; first = inr refl; spelled = λ later s. s; faulty = λ later fault s. s }
 
 -- where a gap ends, the rest of the text is what comes after the gap
 gap_passed : (text : List ℕ) (end start : ℕ) → start ≡ end + gap_length (drop end text) → after_gap (drop end text) ≡ drop start text
@@ -117,12 +118,24 @@ read_fault text tokens end start fault so_far e fails = (
   so_far.faulty [] fault (subst (λ (n : ℕ). FaultAt n (after_gap (drop end text)) fault) e (subst (λ (rest : List ℕ). FaultAt start rest fault) (sym (gap_passed text end start e)) fails)),
 )
 
+pub first_token : (text : List ℕ) (tokens : List Token) (end start : ℕ) (token : Token) → ReadSoFar text tokens end → start ≡ end + gap_length (drop end text) → IsReadAt text start token → HasToken text
+first_token text tokens end start token so_far e read =
+    elim so_far.first [
+      | inl first ↦ first
+      | inr none ↦ (
+        token,
+        drop token.span.end text,
+        subst (λ (n : ℕ). TokenAt n (drop n text) token (drop token.span.end text)) (subst (λ (n : ℕ). start ≡ n + gap_length (drop n text)) none e ∙ zero-add (gap_length text)) read.here,
+      )
+    ]
+
 pub read_more : (text : List ℕ) (tokens : List Token) (end start : ℕ) (token : Token) → ReadSoFar text tokens end → start ≡ end + gap_length (drop end text) → IsReadAt text start token → ReadSoFar text (tokens ++ token ∷ []) token.span.end
 read_more text tokens end start token so_far e read =
     let more = drop token.span.end text in
     let here = subst (λ (n : ℕ). TokenAt n (after_gap (drop end text)) token more) e (subst (λ (rest : List ℕ). TokenAt start rest token more) (sym (gap_passed text end start e)) read.here) in
     record {
       within = read.within;
+      first = inl (first_token text tokens end start token so_far e read);
       spelled = λ later s. subst (Spells text) (sym (append_assoc tokens (token ∷ []) later)) (so_far.spelled (token ∷ later) (more, here, s));
       faulty = λ later fault s. subst (λ (found : List Token). FaultAfter 0 text found fault) (sym (append_assoc tokens (token ∷ []) later)) (so_far.faulty (token ∷ later) fault (more, here, s));
     }

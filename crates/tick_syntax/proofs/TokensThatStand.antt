@@ -1,37 +1,27 @@
 -- Which tokens a text can have: what each token of a spelled text says, and that a token that says it is
 -- spelled again where it is printed.
-use Rattle.std.proofs.Common.{◌≡◌, ℕ, Bool, true, false, ◌≤◌, ◌==◌, ◌⊎◌, inl, inr, Option, Some, None, List, [], ◌∷◌, ◌++◌, length, refl, ap, ◌∙◌, subst, drop, slice_range}
-use Rattle.std.proofs.lemmas.Bool.{and_parts, or_cases, eqb-true, false≢true}
+use Rattle.std.proofs.Common.{◌≡◌, ℕ, Bool, true, ◌==◌, ◌⊎◌, inl, inr, Option, Some, None, List, [], ◌∷◌, ◌++◌, refl, ap, ◌∙◌, subst, drop, slice_range, map}
+use Rattle.std.proofs.lemmas.Bool.{and_parts, eqb-true, false≢true}
 use Rattle.std.specs.Fmt.{decimal}
-use Rattle.std.specs.List.{list_all, list_any}
+use Rattle.std.specs.List.{list_any}
 use Rattle.std.specs.Option.{is_some}
-use Rattle.std.specs.Prelude.{codes}
 use Rattle.tick_syntax.specs.declared.span.Span.{Span}
 use Rattle.tick_syntax.specs.declared.token.Sort.{Sort}
 use Rattle.tick_syntax.specs.declared.token.Sort.TheVariants as K
 use Rattle.tick_syntax.specs.declared.token.Token.{Token}
-use Rattle.tick_syntax.specs.declared.tree.Op.TheVariants as O
-use Rattle.tick_syntax.specs.declared.word.Word.{Word}
-use Rattle.tick_syntax.specs.declared.word.Word.TheVariants as W
-use Rattle.tick_syntax.specs.Characters.{is_blank, is_keyword, is_sign, keywords}
+use Rattle.machine_core.specs.declared.operator.Op.TheVariants as O
+use Rattle.tick_syntax.specs.declared.terminals.Word.{Word}
+use Rattle.tick_syntax.specs.declared.terminals.Word.TheVariants as W
+use Rattle.tick_syntax.specs.Characters.{is_blank, is_keyword, lone_signs, before_equals, is_sign}
 use Rattle.tick_syntax.specs.Lexeme.{Lexeme, a_name, a_number, a_word, nothing, word_of, of_word, lexeme_at, lexemes}
 use Rattle.tick_syntax.specs.Printed.{after_word, printed_token}
-use Rattle.tick_syntax.specs.Spelling.{is_word, IsToken, StandInOrder}
-use Rattle.tick_syntax.specs.Words.{spelling}
+use Rattle.tick_syntax.specs.Refusal.{CanStand, AllCanStand}
+use Rattle.tick_syntax.specs.Spelling.{IsToken, StandInOrder}
+use Rattle.tick_syntax.specs.Terminals.{spelling, keywords}
 use Rattle.tick_syntax.proofs.FirstToken.{among_words}
+use Rattle.tick_syntax.proofs.LongestPieces.{among}
 use Rattle.tick_syntax.proofs.Spanless.{spanless, spanless_all}
 use Rattle.tick_syntax.proofs.SpelledPieces.{name_token, number_token, keyword_token, sign_token}
-
--- a text can have this token
-abbrev pub CanStand : Lexeme → Type 0
-CanStand (a_name x) = (is_word x.letters ≡ true) × (is_keyword x.letters ≡ false) × (length x.letters ≤ 64)
-CanStand (a_number v span) = v ≤ 4294967295
-CanStand (a_word w) = Unit {0}
-CanStand nothing = ⊥
-
-abbrev pub AllCanStand : List Lexeme → Type 0
-AllCanStand [] = Unit {0}
-AllCanStand (t ∷ ts) = CanStand t × AllCanStand ts
 
 -- some word is spelled so
 abbrev is_spelling : List ℕ → Bool
@@ -43,22 +33,15 @@ word_stands (Some w) some = tt
 
 keyword_spelled : (bytes : List ℕ) → is_keyword bytes ≡ true → is_spelling bytes ≡ true
 unfolding word_of
-keyword_spelled bytes keyword = among_words is_spelling bytes keywords refl keyword
+keyword_spelled bytes keyword = among_words is_spelling bytes (map spelling keywords) refl keyword
 
--- what holds of every byte of a list holds of each that is among them
-among_bytes : (test : ℕ → Bool) (b : ℕ) (bytes : List ℕ) → list_all test bytes ≡ true → list_any (λ other. b == other) bytes ≡ true → test b ≡ true
-among_bytes test b [] all some = absurd (false≢true some)
-among_bytes test b (other ∷ bytes) all some =
-    let parts = and_parts _ _ all in
-    elim (or_cases _ _ some) [ inl same ↦ ap test (eqb-true b other same) ∙ parts.0 | inr later ↦ among_bytes test b bytes parts.1 later ]
-
-lone_spelled : (a : ℕ) → list_any (λ sign. a == sign) (codes ";,(){}=+-*/%<") ≡ true → is_spelling (a ∷ []) ≡ true
+lone_spelled : (a : ℕ) → list_any (λ sign. a == sign) lone_signs ≡ true → is_spelling (a ∷ []) ≡ true
 unfolding word_of
-lone_spelled a lone = among_bytes (λ b. is_spelling (b ∷ [])) a (codes ";,(){}=+-*/%<") refl lone
+lone_spelled a lone = among (λ b. is_spelling (b ∷ [])) a lone_signs refl lone
 
-pair_spelled : (a : ℕ) → list_any (λ sign. a == sign) (codes "<=!") ≡ true → is_spelling (a ∷ 61 ∷ []) ≡ true
+pair_spelled : (a : ℕ) → list_any (λ sign. a == sign) before_equals ≡ true → is_spelling (a ∷ 61 ∷ []) ≡ true
 unfolding word_of
-pair_spelled a first = among_bytes (λ b. is_spelling (b ∷ 61 ∷ [])) a (codes "<=!") refl first
+pair_spelled a first = among (λ b. is_spelling (b ∷ 61 ∷ [])) a before_equals refl first
 
 sign_spelled : (bytes : List ℕ) → is_sign bytes ≡ true → is_spelling bytes ≡ true
 sign_spelled [] sign = absurd (false≢true sign)

@@ -9,7 +9,7 @@ use Rattle.tick_syntax.specs.declared.fault.TextFault.TheVariants.{TextTooLong, 
 use Rattle.tick_syntax.proofs.SpelledInOrder.{spells_in_order}
 use Rattle.tick_syntax.proofs.SpelledOnce.{spells_unique, first_fault_unique, spells_no_fault}
 
-is_memory : (fault : TextFault) → (fault ≡ NoMemory) ⊎ (fault ≢ NoMemory)
+pub is_memory : (fault : TextFault) → (fault ≡ NoMemory) ⊎ (fault ≢ NoMemory)
 is_memory TextTooLong = inr (λ same. cc)
 is_memory (BadCharacter place) = inr (λ same. cc)
 is_memory (NumberTooBig span) = inr (λ same. cc)

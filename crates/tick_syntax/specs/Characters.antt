@@ -1,8 +1,9 @@
 -- What the bytes of a text are: blanks, letters, digits, signs and keywords.
-use Rattle.std.specs.Prelude.{ℕ, Bool, false, ◌||◌, ◌&&◌, ◌==◌, List, [], ◌∷◌, codes}
+use Rattle.std.specs.Prelude.{ℕ, Bool, false, ◌||◌, ◌&&◌, ◌==◌, List, [], ◌∷◌, map}
 use Rattle.std.specs.Char.{is_ascii_alphabetic, is_ascii_digit}
 use Rattle.std.specs.List.{list_any}
 use Rattle.std.specs.Str.{bytes_eq}
+use Rattle.tick_syntax.specs.Terminals.{spelling, signs, keywords}
 
 -- line feed, which ends a comment
 abbrev pub line_feed : ℕ
@@ -29,20 +30,33 @@ abbrev pub is_name_part : ℕ → Bool
 is_name_part b = is_letter b || is_digit b
 
 -- the words that are no names
-abbrev pub keywords : List (List ℕ)
-keywords =
-    codes "processes" ∷ codes "var" ∷ codes "scan" ∷ codes "reg" ∷ codes "begin" ∷ codes "end" ∷ codes "get" ∷ codes "put" ∷ codes "stamp" ∷ codes "copy" ∷ codes "older" ∷ codes "out" ∷ codes "if" ∷ codes "else" ∷ codes "while" ∷ codes "me" ∷ codes "n" ∷ []
-
 abbrev pub is_keyword : List ℕ → Bool
-is_keyword word = list_any (bytes_eq word) keywords
+is_keyword word = list_any (λ keyword. bytes_eq word (spelling keyword)) keywords
 
--- the signs of one byte: ; , ( ) { } = + - * / % <
+-- of these spellings those of one byte, and the first bytes of those of two
+abbrev pub ones : List (List ℕ) → List ℕ
+ones [] = []
+ones ((a ∷ []) ∷ more) = a ∷ ones more
+ones (_ ∷ more) = ones more
+
+abbrev pub firsts_of_two : List (List ℕ) → List ℕ
+firsts_of_two [] = []
+firsts_of_two ((a ∷ b ∷ []) ∷ more) = a ∷ firsts_of_two more
+firsts_of_two (_ ∷ more) = firsts_of_two more
+
+-- the signs of one byte: ; = ( ) { } , + - * / % <
+abbrev pub lone_signs : List ℕ
+lone_signs = ones (map spelling signs)
+
 abbrev pub is_lone_sign : ℕ → Bool
-is_lone_sign b = list_any (λ sign. b == sign) (codes ";,(){}=+-*/%<")
+is_lone_sign b = list_any (λ sign. b == sign) lone_signs
 
 -- the signs of two bytes, <= == !=, are one of these before a `=`
+abbrev pub before_equals : List ℕ
+before_equals = firsts_of_two (map spelling signs)
+
 abbrev pub may_precede_equals : ℕ → Bool
-may_precede_equals b = list_any (λ sign. b == sign) (codes "<=!")
+may_precede_equals b = list_any (λ sign. b == sign) before_equals
 
 abbrev pub is_sign : List ℕ → Bool
 is_sign [] = false

@@ -1,10 +1,10 @@
 -- The grammar: which tokens are which program. Each relation ends with the tokens that follow.
-use Rattle.std.specs.Prelude.{◌≡◌, List, [], ◌∷◌, ◌++◌}
+use Rattle.std.specs.Prelude.{◌≡◌, List, [], ◌∷◌}
 use Rattle.tick_syntax.specs.declared.span.Span.{Span}
-use Rattle.tick_syntax.specs.declared.word.Word.{Word}
-use Rattle.tick_syntax.specs.declared.word.Word.TheVariants as W
+use Rattle.tick_syntax.specs.declared.terminals.Word.{Word}
+use Rattle.tick_syntax.specs.declared.terminals.Word.TheVariants as W
 use Rattle.tick_syntax.specs.Lexeme.{Lexeme, a_name, a_number, a_word}
-use Rattle.tick_syntax.specs.Plain.{Name, Expression, number, named, me, count, binary, Statement, assign, fetch, put, stamp, scan, copy, older, out, test, loop, Block, nil, cons, WholeProgram}
+use Rattle.tick_syntax.specs.Plain.{Name, Expression, number, named, me, count, binary, Statement, assign, get, put, stamp, scan, copy, older, out, branch, repeat, Block, nil, cons, WholeProgram}
 
 -- NUM, NAME, `me`, `n`, or two expressions about an operator, all in brackets
 abbrev pub IsExpression : List Lexeme → Expression Name → List Lexeme → Type 0
@@ -20,7 +20,7 @@ abbrev mutual
   pub IsStatement : List Lexeme → Statement Name → List Lexeme → Type 0
   IsStatement ts (assign x e) rest =
       (t : List Lexeme) × (ts ≡ a_name x ∷ a_word W.Becomes ∷ t) × IsExpression t e (a_word W.Semicolon ∷ rest)
-  IsStatement ts (fetch x r e) rest =
+  IsStatement ts (get x r e) rest =
       (t : List Lexeme) × (ts ≡ a_name x ∷ a_word W.Becomes ∷ a_word W.Get ∷ a_name r ∷ t)
       × IsExpression t e (a_word W.Semicolon ∷ rest)
   IsStatement ts (put r e) rest =
@@ -35,10 +35,10 @@ abbrev mutual
       × IsExpression t a u × IsExpression u b (a_word W.Semicolon ∷ rest)
   IsStatement ts (out e) rest =
       (t : List Lexeme) × (ts ≡ a_word W.Out ∷ t) × IsExpression t e (a_word W.Semicolon ∷ rest)
-  IsStatement ts (test e a b) rest =
+  IsStatement ts (branch e a b) rest =
       (t u v : List Lexeme) × (ts ≡ a_word W.If ∷ t) × IsExpression t e (a_word W.OpenBrace ∷ u)
       × IsBlock W.CloseBrace u a (a_word W.Else ∷ a_word W.OpenBrace ∷ v) × IsBlock W.CloseBrace v b rest
-  IsStatement ts (loop e a) rest =
+  IsStatement ts (repeat e a) rest =
       (t u : List Lexeme) × (ts ≡ a_word W.While ∷ t) × IsExpression t e (a_word W.OpenBrace ∷ u)
       × IsBlock W.CloseBrace u a rest
 
@@ -67,7 +67,3 @@ Derives ts p =
     × IsSection W.Scan u p.scans v
     × IsSection W.Reg v p.registers (a_word W.Begin ∷ w)
     × IsBlock W.End w p.body []
-
--- some program goes on from these tokens
-abbrev pub GoesOn : List Lexeme → Type 0
-GoesOn ts = (more : List Lexeme) × (p : WholeProgram Name) × Derives (ts ++ more) p

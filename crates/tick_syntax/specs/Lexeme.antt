@@ -1,16 +1,14 @@
 -- What a token says, read in its text.
-use Rattle.std.specs.Prelude.{ℕ, List, [], ◌∷◌, Option, Some, None, map, slice_range}
+use Rattle.std.specs.Prelude.{ℕ, List, ◌++◌, Option, Some, None, map, slice_range}
 use Rattle.std.specs.List.{find}
 use Rattle.std.specs.Str.{bytes_eq}
 use Rattle.tick_syntax.specs.declared.span.Span.{Span}
 use Rattle.tick_syntax.specs.declared.token.Sort.{Sort}
 use Rattle.tick_syntax.specs.declared.token.Sort.TheVariants as K
 use Rattle.tick_syntax.specs.declared.token.Token.{Token}
-use Rattle.tick_syntax.specs.declared.tree.Op.TheVariants as O
-use Rattle.tick_syntax.specs.declared.word.Word.{Word}
-use Rattle.tick_syntax.specs.declared.word.Word.TheVariants as W
+use Rattle.tick_syntax.specs.declared.terminals.Word.{Word}
 use Rattle.tick_syntax.specs.Plain.{Name}
-use Rattle.tick_syntax.specs.Words.{spelling}
+use Rattle.tick_syntax.specs.Terminals.{spelling, signs, keywords}
 
 -- a name, a number with its place, a keyword or a sign; or nothing that the language has
 pub data Lexeme : Type 0 where
@@ -19,17 +17,9 @@ pub data Lexeme : Type 0 where
   a_word : Word → Lexeme
   nothing : Lexeme
 
-abbrev pub all_words : List Word
-all_words =
-    W.Semicolon ∷ W.Becomes ∷ W.Open ∷ W.Close ∷ W.OpenBrace ∷ W.CloseBrace ∷ W.Comma ∷
-    W.Operator O.Add ∷ W.Operator O.Sub ∷ W.Operator O.Mul ∷ W.Operator O.Div ∷ W.Operator O.Rem ∷
-    W.Operator O.Less ∷ W.Operator O.AtMost ∷ W.Operator O.Equal ∷ W.Operator O.Differs ∷
-    W.Me ∷ W.Count ∷ W.Put ∷ W.Get ∷ W.Out ∷ W.If ∷ W.Else ∷ W.While ∷ W.Stamp ∷ W.Scan ∷ W.Copy ∷ W.Older ∷
-    W.Processes ∷ W.Var ∷ W.Reg ∷ W.Begin ∷ W.End ∷ []
-
 -- the word that is spelled so, if one is
 unfoldable pub word_of : List ℕ → Option Word
-word_of bytes = find (λ w. bytes_eq (spelling w) bytes) all_words
+word_of bytes = find (λ w. bytes_eq (spelling w) bytes) (signs ++ keywords)
 
 abbrev pub of_word : Option Word → Lexeme
 of_word None = nothing

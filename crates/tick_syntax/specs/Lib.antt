@@ -1,4 +1,6 @@
-pub mod Words
+pub mod Characters
+pub mod Spelling
+pub mod Terminals
 pub mod Plain
 pub mod View
 pub mod Lexeme
@@ -6,11 +8,6 @@ pub mod Grammar
 pub mod Nesting
 pub mod Refusal
 pub mod Printed
-pub mod Reading
-pub mod Characters
-pub mod Fronts
-pub mod Spelling
-pub mod Items
-pub mod Printing
 pub mod RoundTrip
 pub mod Decided
+pub mod prover

@@ -1,8 +1,8 @@
 -- How deep brackets stand within one another.
 use Rattle.std.specs.Prelude.{ℕ, suc, ◌-◌, ◌≤◌, List, [], ◌∷◌, max}
-use Rattle.tick_syntax.specs.declared.word.Word.TheVariants as W
+use Rattle.tick_syntax.specs.declared.terminals.Word.TheVariants as W
 use Rattle.tick_syntax.specs.Lexeme.{Lexeme, a_word}
-use Rattle.tick_syntax.specs.Plain.{Expression, number, named, me, count, binary, Statement, assign, fetch, put, stamp, scan, copy, older, out, test, loop, Block, nil, cons, WholeProgram}
+use Rattle.tick_syntax.specs.Plain.{Expression, number, named, me, count, binary, Statement, assign, get, put, stamp, scan, copy, older, out, branch, repeat, Block, nil, cons, WholeProgram}
 
 -- the deepest `(` and `{` of a tree: how many are open at once where most are
 module _ {A : Type 0} where
@@ -16,15 +16,15 @@ module _ {A : Type 0} where
   abbrev mutual
     pub statement_nesting : Statement A → ℕ
     statement_nesting (assign x e) = expression_nesting e
-    statement_nesting (fetch x r e) = expression_nesting e
+    statement_nesting (get x r e) = expression_nesting e
     statement_nesting (put r e) = expression_nesting e
     statement_nesting stamp = 0
     statement_nesting (scan s) = 0
     statement_nesting (copy t s) = 0
     statement_nesting (older x s a b) = max (expression_nesting a) (expression_nesting b)
     statement_nesting (out e) = expression_nesting e
-    statement_nesting (test e a b) = max (expression_nesting e) (suc (max (block_nesting a) (block_nesting b)))
-    statement_nesting (loop e a) = max (expression_nesting e) (suc (block_nesting a))
+    statement_nesting (branch e a b) = max (expression_nesting e) (suc (max (block_nesting a) (block_nesting b)))
+    statement_nesting (repeat e a) = max (expression_nesting e) (suc (block_nesting a))
 
     pub block_nesting : Block A → ℕ
     block_nesting nil = 0

@@ -2,7 +2,7 @@
 -- or a number once names are resolved.
 use Rattle.std.specs.Prelude.{ℕ, List, map}
 use Rattle.tick_syntax.specs.declared.span.Span.{Span}
-use Rattle.tick_syntax.specs.declared.tree.Op.{Op}
+use Rattle.machine_core.specs.declared.operator.Op.{Op}
 
 -- a name as it stands in a text
 pub record Name : Type 0 where
@@ -21,15 +21,15 @@ pub data Expression (A : Type 0) : Type 0 where
 mutual
   pub data Statement (A : Type 0) : Type 0 where
     assign : A → Expression A → Statement A
-    fetch : A → A → Expression A → Statement A
+    get : A → A → Expression A → Statement A
     put : A → Expression A → Statement A
     stamp : Statement A
     scan : A → Statement A
     copy : A → A → Statement A
     older : A → A → Expression A → Expression A → Statement A
     out : Expression A → Statement A
-    test : Expression A → Block A → Block A → Statement A
-    loop : Expression A → Block A → Statement A
+    branch : Expression A → Block A → Block A → Statement A
+    repeat : Expression A → Block A → Statement A
 
   pub data Block (A : Type 0) : Type 0 where
     nil : Block A
@@ -61,15 +61,15 @@ module _ {A B : Type 0} (f : A → B) where
   abbrev mutual
     pub map_statement : Statement A → Statement B
     map_statement (assign x e) = assign (f x) (map_expression e)
-    map_statement (fetch x r e) = fetch (f x) (f r) (map_expression e)
+    map_statement (get x r e) = get (f x) (f r) (map_expression e)
     map_statement (put r e) = put (f r) (map_expression e)
     map_statement stamp = stamp
     map_statement (scan s) = scan (f s)
     map_statement (copy t s) = copy (f t) (f s)
     map_statement (older x s a b) = older (f x) (f s) (map_expression a) (map_expression b)
     map_statement (out e) = out (map_expression e)
-    map_statement (test e a b) = test (map_expression e) (map_block a) (map_block b)
-    map_statement (loop e a) = loop (map_expression e) (map_block a)
+    map_statement (branch e a b) = branch (map_expression e) (map_block a) (map_block b)
+    map_statement (repeat e a) = repeat (map_expression e) (map_block a)
 
     pub map_block : Block A → Block B
     map_block nil = nil

@@ -3,11 +3,11 @@ use Rattle.std.specs.Prelude.{ℕ, List, [], ◌∷◌, ◌++◌}
 use Rattle.std.specs.List.{flat_map}
 use Rattle.std.specs.Fmt.{decimal}
 use Rattle.tick_syntax.specs.declared.span.Span.{Span}
-use Rattle.tick_syntax.specs.declared.word.Word.{Word}
-use Rattle.tick_syntax.specs.declared.word.Word.TheVariants as W
-use Rattle.tick_syntax.specs.Words.{spelling}
+use Rattle.tick_syntax.specs.declared.terminals.Word.{Word}
+use Rattle.tick_syntax.specs.declared.terminals.Word.TheVariants as W
+use Rattle.tick_syntax.specs.Terminals.{spelling}
 use Rattle.tick_syntax.specs.Lexeme.{Lexeme, a_name, a_number, a_word, nothing}
-use Rattle.tick_syntax.specs.Plain.{Name, Expression, number, named, me, count, binary, Statement, assign, fetch, put, stamp, scan, copy, older, out, test, loop, Block, nil, cons, WholeProgram}
+use Rattle.tick_syntax.specs.Plain.{Name, Expression, number, named, me, count, binary, Statement, assign, get, put, stamp, scan, copy, older, out, branch, repeat, Block, nil, cons, WholeProgram}
 
 -- a number stands at no place of a text yet
 abbrev pub nowhere : Span
@@ -24,7 +24,7 @@ expression_tokens (binary a op b) =
 abbrev mutual
   pub statement_tokens : Statement Name → List Lexeme
   statement_tokens (assign x e) = a_name x ∷ a_word W.Becomes ∷ (expression_tokens e ++ a_word W.Semicolon ∷ [])
-  statement_tokens (fetch x r e) =
+  statement_tokens (get x r e) =
       a_name x ∷ a_word W.Becomes ∷ a_word W.Get ∷ a_name r ∷ (expression_tokens e ++ a_word W.Semicolon ∷ [])
   statement_tokens (put r e) = a_word W.Put ∷ a_name r ∷ (expression_tokens e ++ a_word W.Semicolon ∷ [])
   statement_tokens stamp = a_word W.Stamp ∷ a_word W.Semicolon ∷ []
@@ -34,10 +34,10 @@ abbrev mutual
       a_name x ∷ a_word W.Becomes ∷ a_word W.Older ∷ a_name s
       ∷ (expression_tokens a ++ (expression_tokens b ++ a_word W.Semicolon ∷ []))
   statement_tokens (out e) = a_word W.Out ∷ (expression_tokens e ++ a_word W.Semicolon ∷ [])
-  statement_tokens (test e a b) =
+  statement_tokens (branch e a b) =
       a_word W.If ∷ (expression_tokens e ++ (a_word W.OpenBrace ∷ (block_tokens a
       ++ (a_word W.CloseBrace ∷ a_word W.Else ∷ a_word W.OpenBrace ∷ (block_tokens b ++ a_word W.CloseBrace ∷ [])))))
-  statement_tokens (loop e a) =
+  statement_tokens (repeat e a) =
       a_word W.While ∷ (expression_tokens e ++ (a_word W.OpenBrace ∷ (block_tokens a ++ a_word W.CloseBrace ∷ [])))
 
   pub block_tokens : Block Name → List Lexeme

@@ -1,14 +1,30 @@
 -- Where a list of tokens stops being a program within the limits.
-use Rattle.std.specs.Prelude.{◌≡◌, ℕ, ◌≤◌, List, [], ◌∷◌, ◌++◌, length}
+use Rattle.std.specs.Prelude.{◌≡◌, ℕ, ◌≤◌, true, false, List, [], ◌∷◌, ◌++◌, length}
 use Rattle.tick_syntax.specs.declared.span.Span.{Span}
 use Rattle.tick_syntax.specs.declared.fault.TextFault.{TextFault}
 use Rattle.tick_syntax.specs.declared.fault.TextFault.TheVariants as F
 use Rattle.tick_syntax.specs.declared.token.Token.{Token}
-use Rattle.tick_syntax.specs.Lexeme.{Lexeme, lexeme_of, lexemes}
-use Rattle.tick_syntax.specs.Grammar.{Derives, GoesOn}
+use Rattle.tick_syntax.specs.Characters.{is_keyword}
+use Rattle.tick_syntax.specs.Lexeme.{Lexeme, a_name, a_number, a_word, nothing, lexeme_of, lexemes}
+use Rattle.tick_syntax.specs.Grammar.{Derives}
 use Rattle.tick_syntax.specs.Nesting.{IsOpening, IsShallow, open_after}
 use Rattle.tick_syntax.specs.Plain.{Name, WholeProgram}
-use Rattle.tick_syntax.specs.Spelling.{Spells, FirstRefusal}
+use Rattle.tick_syntax.specs.Spelling.{is_word, Spells, FirstRefusal}
+
+-- a text can have this token
+abbrev pub CanStand : Lexeme → Type 0
+CanStand (a_name x) = (is_word x.letters ≡ true) × (is_keyword x.letters ≡ false) × (length x.letters ≤ 64)
+CanStand (a_number v span) = v ≤ 4294967295
+CanStand (a_word w) = Unit {0}
+CanStand nothing = ⊥
+
+abbrev pub AllCanStand : List Lexeme → Type 0
+AllCanStand [] = Unit {0}
+AllCanStand (t ∷ ts) = CanStand t × AllCanStand ts
+
+-- some program goes on from these tokens, by tokens that a text can have
+abbrev pub GoesOn : List Lexeme → Type 0
+GoesOn ts = (more : List Lexeme) × AllCanStand more × (p : WholeProgram Name) × Derives (ts ++ more) p
 
 -- programs within the limits begin so
 abbrev pub Begins : List Lexeme → Type 0

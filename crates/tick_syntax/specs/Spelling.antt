@@ -78,6 +78,10 @@ SpellsFrom at text (token ∷ tokens) =
 abbrev pub Spells : List ℕ → List Token → Type 0
 Spells text tokens = SpellsFrom 0 text tokens
 
+-- the text has a first token
+abbrev pub HasToken : List ℕ → Type 0
+HasToken text = (token : Token) × (more : List ℕ) × TokenAt (gap_length text) (after_gap text) token more
+
 -- the tokens stand in this text one after another, from this place on, each on the bytes at its span
 abbrev pub StandInOrder : List ℕ → ℕ → List Token → Type 0
 StandInOrder text from [] = from ≤ length text

@@ -1,6 +1,6 @@
-// What single bytes and words of a text are.
+// What single bytes of a text are.
 ghost use Rattle.std.specs.Prelude.{◌≡◌};
-ghost use Rattle.tick_syntax.specs.Characters.{is_blank, is_letter, is_name_part, is_lone_sign, may_precede_equals, is_keyword};
+ghost use Rattle.tick_syntax.specs.Characters.{is_blank, is_letter, is_name_part, is_lone_sign, may_precede_equals};
 
 pub fn is_blank(byte: u8) -> bool
     ensures { result ≡ is_blank byte }
@@ -27,7 +27,7 @@ pub fn is_lone_sign(byte: u8) -> bool
 {
     matches!(
         byte,
-        b';' | b',' | b'(' | b')' | b'{' | b'}' | b'=' | b'+' | b'-' | b'*' | b'/' | b'%' | b'<'
+        b';' | b'=' | b'(' | b')' | b'{' | b'}' | b',' | b'+' | b'-' | b'*' | b'/' | b'%' | b'<'
     )
 }
 
@@ -36,27 +36,4 @@ pub fn may_precede_equals(byte: u8) -> bool
     ensures { result ≡ may_precede_equals byte }
 {
     matches!(byte, b'<' | b'=' | b'!')
-}
-
-/// Whether the word is one of the language's own, and so no name.
-pub fn is_keyword(word: &[u8]) -> bool
-    ensures { result ≡ is_keyword word.now }
-{
-    word == b"processes".as_slice()
-        || word == b"var".as_slice()
-        || word == b"scan".as_slice()
-        || word == b"reg".as_slice()
-        || word == b"begin".as_slice()
-        || word == b"end".as_slice()
-        || word == b"get".as_slice()
-        || word == b"put".as_slice()
-        || word == b"stamp".as_slice()
-        || word == b"copy".as_slice()
-        || word == b"older".as_slice()
-        || word == b"out".as_slice()
-        || word == b"if".as_slice()
-        || word == b"else".as_slice()
-        || word == b"while".as_slice()
-        || word == b"me".as_slice()
-        || word == b"n".as_slice()
 }

@@ -1,4 +1,4 @@
-use super::span::Span;
+use crate::span::Span;
 use std::alloc::{AllocError, AllocFailed};
 use thiserror::Error;
 

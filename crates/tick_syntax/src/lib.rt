@@ -4,20 +4,19 @@
 #![tactic(auto)]
 
 mod characters;
+mod extents;
 pub mod fault;
-mod fronts;
 mod item;
 pub mod laws;
+mod lexer;
 mod parser;
 mod printer;
-mod reader;
 pub mod span;
+pub mod terminals;
 pub mod token;
-mod tokenizer;
 pub mod tree;
-pub mod word;
 
 pub use fault::TextFault;
+pub use lexer::tokens;
 pub use parser::parse;
 pub use printer::print;
-pub use tokenizer::tokens;

@@ -1,38 +1,40 @@
-// From the tokens of a text to its tree.
-ghost use Rattle.std.specs.Prelude.{◌≡◌, ◌≢◌, ◌≤◌, ◌⊎◌, ℕ, List, length, IfOk, IfErr, IsOkUnless, MatchResult};
+// From the tokens of a text to its tree: a descent by the grammar, one method for each of its rules.
+ghost use Rattle.std.specs.Prelude.{◌≡◌, ◌≢◌, ◌<◌, ◌≤◌, ◌⊎◌, ℕ, List, [], length, drop, map, IfOk, IfErr, IsOkUnless, MatchResult};
 ghost use Rattle.tick_syntax.specs.Grammar.{Derives};
-ghost use Rattle.tick_syntax.specs.Items.{SayAs, SaysAs, IsInText, said_by};
-ghost use Rattle.tick_syntax.specs.Lexeme.{lexemes, of_word, word_of};
+ghost use Rattle.tick_syntax.specs.prover.Reading.{Gives, GivesAlways, GivesWhole, IsOkUnlessMemory, next_at, word_at, brace_at, operator_at, name_at, number_at, pair_at, brackets_at, expression_at, last_at, get_at, scan_at, copy_at, older_at, plain_at, right_at, assignment_at, put_at, stamp_at, out_at, branch_at, repeat_at, block_at, statement_at, statements_at, names_at, section_at, body_at, whole_at, program_at};
+ghost use Rattle.tick_syntax.specs.Lexeme.{lexemes};
 ghost use Rattle.tick_syntax.specs.Nesting.{nesting};
 ghost use Rattle.tick_syntax.specs.Plain.{Name, WholeProgram};
-ghost use Rattle.tick_syntax.specs.declared.fault.TextFault.TheVariants.{NoMemory, Unexpected, TooDeep};
+ghost use Rattle.tick_syntax.specs.declared.fault.TextFault.TheVariants.{NoMemory, TextTooLong, Unexpected, TooDeep};
 ghost use Rattle.tick_syntax.specs.Refusal.{IsUnexpected, IsTooDeep, IsOfGrammar, IsTextRefused};
 ghost use Rattle.tick_syntax.specs.declared.token.Token.{Token};
 ghost use Rattle.tick_syntax.specs.declared.fault.TextFault.{TextFault};
 ghost use Rattle.tick_syntax.specs.RoundTrip.{IsTextOf};
-ghost use Rattle.tick_syntax.specs.Spelling.{Spells, FirstRefusal};
-ghost use Rattle.std.specs.Str.{IsAscii};
+ghost use Rattle.tick_syntax.specs.Spelling.{Spells, HasToken};
 ghost use Rattle.tick_syntax.specs.declared.span.Span.{Span};
-ghost use Rattle.tick_syntax.specs.View.{tree_of};
+ghost use Rattle.tick_syntax.specs.View.{name_of, expression_of, statement_of, block_of, tree_of};
 
-use super::fault::TextFault;
-use super::item::{Item, Meaning};
-use super::reader::Reader;
-use super::token::{Sort, Token};
-use super::tokenizer::tokens;
-use super::tree::Tree;
-use super::word::word_at;
+use crate::fault::TextFault;
+use crate::item::{Ending, Item, Meaning, Section, items_of};
+use crate::lexer::tokens;
+use crate::span::Span;
+use crate::terminals::Word;
+use crate::token::Token;
+use crate::tree::{Expr, Named, Op, Stmt, Tree};
 use std::alloc::Global;
 
 /// The tree of a text, which is the only one that it has; else the first refusal of the text: its
 /// length, the first fault of its tokens, or where the tokens stop being a program within the
 /// limits. A text has at most 1,000,000 bytes, and at most 64 brackets are open in it at once.
+/// Memory is wanted only for a text that has a token.
 pub fn parse(alloc: Global, text: &str) -> Result<Tree, TextFault>
     ensures tree { IfOk result (λ tree. IsTextOf text.now (tree_of tree)) }
     ensures limits { IfOk result (λ tree. (length text.now ≤ 1000000) × (nesting (tree_of tree) ≤ 64)) }
     ensures accepted { (p : WholeProgram Name) → length text.now ≤ 1000000 → IsTextOf text.now p → nesting p ≤ 64 → MatchResult result (λ tree. p ≡ tree_of tree) (λ fault. fault ≡ NoMemory) }
+    ensures long { 1000000 < length text.now → result ≡ Err TextTooLong }
+    ensures memory { result ≡ Err NoMemory → (length text.now ≤ 1000000) × HasToken text.now }
     ensures refused { IfErr result (λ fault. fault ≢ NoMemory → IsTextRefused text.now fault) }
-    ensures first { (first : TextFault) → FirstRefusal text.now first → MatchResult result (λ tree. ⊥) (λ fault. (fault ≡ first) ⊎ (fault ≡ NoMemory)) }
+    ensures first { (first : TextFault) → IsTextRefused text.now first → MatchResult result (λ tree. ⊥) (λ fault. (fault ≡ first) ⊎ (fault ≡ NoMemory)) }
 {
     let tokens = tokens(alloc, text)?;
     parse_tokens(alloc, text, &tokens)
@@ -48,115 +50,407 @@ pub fn parse_tokens(alloc: Global, text: &str, tokens: &[Token]) -> Result<Tree,
     ensures unexpected { (place : Span) → result ≡ Err (Unexpected place) → IsUnexpected text.now tokens.now place }
     ensures too_deep { (place : Span) → result ≡ Err (TooDeep place) → IsTooDeep text.now tokens.now place }
     ensures others { IfErr result IsOfGrammar }
+    ensures none { tokens.now ≡ [] → result ≡ Err (Unexpected (record { start = length text.now; end = length text.now })) }
 {
     let items = items_of(alloc, text, tokens)?;
-    let reader = Reader {
+    let parser = Parser {
         alloc,
         items: &items,
         end: text.len(),
     };
-    reader.program()
+    parser.program()
 }
 
-// What each token says.
-fn items_of<'a>(alloc: Global, text: &'a str, tokens: &[Token]) -> Result<Vec<Item<'a>>, TextFault>
-    requires { Spells text.now tokens.now }
-    ensures said { IfOk result (λ items. SayAs text.now items.items tokens.now) }
-    ensures err { IsOkUnless result NoMemory }
-{
-    let mut items = Vec::new(alloc);
-    for token in tokens {
-        items.push(item_of(text, *token))?;
-    }
-    Ok(items)
+/// What was read, and the place of the item after it.
+type Read<T> = Result<(T, usize), TextFault>;
+
+/// Parses a program from a list of items. `at` is the place of the next item,
+/// and `room` is how many brackets may still be opened.
+#[derive(Clone, Copy)]
+pub struct Parser<'a> {
+    pub alloc: Global,
+    pub items: &'a [Item<'a>],
+    /// How many bytes the text has.
+    pub end: usize,
 }
 
-fn item_of<'a>(text: &'a str, token: Token) -> Item<'a>
-    requires { IsInText text.now token }
-    ensures { SaysAs text.now result token }
-{
-    let bytes = &text.as_bytes()[token.span.start..token.span.end];
-    let meaning = match token.sort {
-        Sort::Name => Meaning::Name(letters(bytes)),
-        Sort::Num(value) => Meaning::Number(value),
-        Sort::Keyword | Sort::Sign => word_meaning(bytes),
-    };
-    Item {
-        meaning,
-        span: token.span,
-    }
-}
-
-fn word_meaning(bytes: &[u8]) -> Meaning<'_>
-    ensures { (span : Span) → said_by result span ≡ of_word (word_of bytes.now) }
-{
-    match word_at(bytes) {
-        Some(word) => Meaning::Word(word),
-        None => Meaning::Nothing,
-    }
-}
-
-// ASCII bytes as text.
-fn letters(bytes: &[u8]) -> &str
-    requires { IsAscii bytes.now }
-    ensures { result.now ≡ bytes.now }
-{
-    match str::from_utf8(bytes) {
-        Ok(letters) => letters,
-        Err(_) => unreachable!(),
-    }
-}
-
-#[cfg(test)]
-mod tests {
-    use super::parse;
-    use crate::fault::TextFault;
-    use crate::span::Span;
-    use std::test::Fail;
-
-    #[test]
-    fn happy(rt: HostRuntime) -> Result<(), Fail> {
-        let text =
-            "processes 2; var x; scan s; reg r; begin x = (me + 1); put r x; stamp; s = scan; \
-            if x { out x; } else { while n { x = get r me; } } s = copy s; x = older s 0 1; end";
-        let tree = parse(rt.alloc(), text)?;
-        assert_eq!(rt; tree.processes, 2);
-        assert_eq!(rt; tree.processes_span, Span { start: 10, end: 11 });
-        assert_eq!(rt; tree.variables.len(), 1);
-        assert_eq!(rt; tree.body.len(), 7);
-        Ok(())
-    }
-
-    #[test]
-    fn unexpected(rt: HostRuntime) -> Result<(), Fail> {
-        for (text, start, end) in [
-            ("processes 2; begin out ; end", 23, 24),
-            ("processes 2; begin out x", 24, 24),
-            ("", 0, 0),
-        ] {
-            let span = Span { start, end };
-            assert!(rt;
-                matches!(parse(rt.alloc(), text), Err(TextFault::Unexpected(found)) if found == span)
-            );
+impl Parser<'_> {
+    #[tactic(auto, unfolding(crate::specs::prover::Reading::next_at))]
+    fn next(&self, at: usize) -> Read<Item<'_>>
+        ensures { GivesAlways (λ x. x) self.now.items.now result (next_at self.now.end (drop at self.now.items.now)) }
+    {
+        if at < self.items.len() {
+            Ok((self.items[at], at + 1))
+        } else {
+            Err(TextFault::Unexpected(Span {
+                start: self.end,
+                end: self.end,
+            }))
         }
-        Ok(())
     }
 
-    #[test]
-    fn brackets(rt: HostRuntime) -> Result<(), Fail> {
-        let mut text = String::from_str(rt.alloc(), "processes 1; begin out ")?;
-        for _ in 0..64 {
-            text.push('(')?;
+    // This word, of those that a rule has alone.
+    #[tactic(auto, unfolding(crate::specs::prover::Reading::word_at))]
+    fn word(&self, word: Word, at: usize) -> Read<()>
+        ensures { GivesAlways (λ x. x) self.now.items.now result (word_at self.now.end word (drop at self.now.items.now)) }
+    {
+        let (item, at) = self.next(at)?;
+        match (word, item.meaning) {
+            (Word::Processes, Meaning::Word(Word::Processes))
+            | (Word::Begin, Meaning::Word(Word::Begin))
+            | (Word::Else, Meaning::Word(Word::Else))
+            | (Word::Semicolon, Meaning::Word(Word::Semicolon))
+            | (Word::Becomes, Meaning::Word(Word::Becomes))
+            | (Word::Close, Meaning::Word(Word::Close)) => Ok(((), at)),
+            _ => Err(TextFault::Unexpected(item.span)),
         }
-        let end = Span { start: 87, end: 87 };
-        assert!(rt;
-            matches!(parse(rt.alloc(), &text), Err(TextFault::Unexpected(found)) if found == end)
-        );
-        text.push('(')?;
-        let last = Span { start: 87, end: 88 };
-        assert!(rt;
-            matches!(parse(rt.alloc(), &text), Err(TextFault::TooDeep(found)) if found == last)
-        );
-        Ok(())
+    }
+
+    // `{`, unless it is one too many.
+    #[tactic(auto, unfolding(crate::specs::prover::Reading::brace_at))]
+    fn brace(&self, room: usize, at: usize) -> Read<()>
+        ensures { GivesAlways (λ x. x) self.now.items.now result (brace_at self.now.end room (drop at self.now.items.now)) }
+    {
+        let (item, at) = self.next(at)?;
+        match item.meaning {
+            Meaning::Word(Word::OpenBrace) => match room {
+                0 => Err(TextFault::TooDeep(item.span)),
+                _ => Ok(((), at)),
+            },
+            _ => Err(TextFault::Unexpected(item.span)),
+        }
+    }
+
+    #[tactic(auto, unfolding(crate::specs::prover::Reading::operator_at))]
+    fn operator(&self, at: usize) -> Read<Op>
+        ensures { GivesAlways (λ x. x) self.now.items.now result (operator_at self.now.end (drop at self.now.items.now)) }
+    {
+        let (item, at) = self.next(at)?;
+        match item.meaning {
+            Meaning::Word(Word::Operator(op)) => Ok((op, at)),
+            _ => Err(TextFault::Unexpected(item.span)),
+        }
+    }
+
+    fn named(&self, letters: &str, span: Span) -> Result<Named, TextFault>
+        ensures { IsOkUnlessMemory (λ x. name_of x ≡ record { letters = letters.now; span = span }) result }
+    {
+        let name = String::from_str(self.alloc, letters)?;
+        Ok(Named { name, span })
+    }
+
+    #[tactic(auto, unfolding(crate::specs::prover::Reading::name_at))]
+    fn name(&self, at: usize) -> Read<Named>
+        ensures { Gives name_of self.now.items.now result (name_at self.now.end (drop at self.now.items.now)) }
+    {
+        let (item, at) = self.next(at)?;
+        match item.meaning {
+            Meaning::Name(letters) => Ok((self.named(letters, item.span)?, at)),
+            _ => Err(TextFault::Unexpected(item.span)),
+        }
+    }
+
+    #[tactic(auto, unfolding(crate::specs::prover::Reading::number_at))]
+    fn number(&self, at: usize) -> Read<(u32, Span)>
+        ensures { GivesAlways (λ x. (x.0, x.1)) self.now.items.now result (number_at self.now.end (drop at self.now.items.now)) }
+    {
+        let (item, at) = self.next(at)?;
+        match item.meaning {
+            Meaning::Number(value) => Ok(((value, item.span), at)),
+            _ => Err(TextFault::Unexpected(item.span)),
+        }
+    }
+
+    // Two expressions about an operator, and the bracket that closes them.
+    #[cycle(expression)]
+    #[tactic(auto, unfolding(crate::specs::prover::Reading::pair_at))]
+    fn pair(&self, room: usize, at: usize) -> Read<Expr>
+        ensures { Gives expression_of self.now.items.now result (pair_at self.now.end (expression_at self.now.end room) (drop at self.now.items.now)) }
+    {
+        let (left, at) = self.expression(room, at)?;
+        let (op, at) = self.operator(at)?;
+        let (right, at) = self.expression(room, at)?;
+        let (_, at) = self.word(Word::Close, at)?;
+        let left = Box::new(self.alloc, left)?;
+        let right = Box::new(self.alloc, right)?;
+        Ok((Expr::Bin(left, op, right), at))
+    }
+
+    // What stands after the bracket at this place.
+    #[cycle(expression)]
+    #[tactic(auto, unfolding(crate::specs::prover::Reading::brackets_at, crate::specs::prover::Reading::expression_at))]
+    fn brackets(&self, room: usize, span: Span, at: usize) -> Read<Expr>
+        ensures { Gives expression_of self.now.items.now result (brackets_at self.now.end room span (drop at self.now.items.now)) }
+    {
+        match room {
+            0 => Err(TextFault::TooDeep(span)),
+            _ => self.pair(room - 1, at),
+        }
+    }
+
+    #[cycle(expression)]
+    #[tactic(auto, unfolding(crate::specs::prover::Reading::expression_at))]
+    fn expression(&self, room: usize, at: usize) -> Read<Expr>
+        ensures { Gives expression_of self.now.items.now result (expression_at self.now.end room (drop at self.now.items.now)) }
+    {
+        let (item, at) = self.next(at)?;
+        match item.meaning {
+            Meaning::Number(value) => Ok((Expr::Num(value), at)),
+            Meaning::Name(letters) => Ok((Expr::Name(self.named(letters, item.span)?), at)),
+            Meaning::Word(Word::Me) => Ok((Expr::Me, at)),
+            Meaning::Word(Word::Count) => Ok((Expr::Count, at)),
+            Meaning::Word(Word::Open) => self.brackets(room, item.span, at),
+            _ => Err(TextFault::Unexpected(item.span)),
+        }
+    }
+
+    // An expression and the `;` after it.
+    #[tactic(auto, unfolding(crate::specs::prover::Reading::last_at))]
+    fn last(&self, room: usize, at: usize) -> Read<Expr>
+        ensures { Gives expression_of self.now.items.now result (last_at self.now.end room (drop at self.now.items.now)) }
+    {
+        let (value, at) = self.expression(room, at)?;
+        let (_, at) = self.word(Word::Semicolon, at)?;
+        Ok((value, at))
+    }
+
+    #[tactic(auto, unfolding(crate::specs::prover::Reading::get_at))]
+    fn get(&self, room: usize, target: Named, at: usize) -> Read<Stmt>
+        ensures { Gives statement_of self.now.items.now result (get_at self.now.end room (name_of target) (drop at self.now.items.now)) }
+    {
+        let (register, at) = self.name(at)?;
+        let (process, at) = self.last(room, at)?;
+        Ok((Stmt::Get(target, register, process), at))
+    }
+
+    #[tactic(auto, unfolding(crate::specs::prover::Reading::scan_at))]
+    fn scan(&self, target: Named, at: usize) -> Read<Stmt>
+        ensures { Gives statement_of self.now.items.now result (scan_at self.now.end (name_of target) (drop at self.now.items.now)) }
+    {
+        let (_, at) = self.word(Word::Semicolon, at)?;
+        Ok((Stmt::Scan(target), at))
+    }
+
+    #[tactic(auto, unfolding(crate::specs::prover::Reading::copy_at))]
+    fn copy(&self, target: Named, at: usize) -> Read<Stmt>
+        ensures { Gives statement_of self.now.items.now result (copy_at self.now.end (name_of target) (drop at self.now.items.now)) }
+    {
+        let (source, at) = self.name(at)?;
+        let (_, at) = self.word(Word::Semicolon, at)?;
+        Ok((Stmt::Copy(target, source), at))
+    }
+
+    #[tactic(auto, unfolding(crate::specs::prover::Reading::older_at))]
+    fn older(&self, room: usize, target: Named, at: usize) -> Read<Stmt>
+        ensures { Gives statement_of self.now.items.now result (older_at self.now.end room (name_of target) (drop at self.now.items.now)) }
+    {
+        let (scan, at) = self.name(at)?;
+        let (first, at) = self.expression(room, at)?;
+        let (second, at) = self.last(room, at)?;
+        Ok((Stmt::Older(target, scan, first, second), at))
+    }
+
+    #[tactic(auto, unfolding(crate::specs::prover::Reading::plain_at))]
+    fn plain(&self, room: usize, target: Named, at: usize) -> Read<Stmt>
+        ensures { Gives statement_of self.now.items.now result (plain_at self.now.end room (name_of target) (drop at self.now.items.now)) }
+    {
+        let (value, at) = self.last(room, at)?;
+        Ok((Stmt::Assign(target, value), at))
+    }
+
+    // What stands after `=`.
+    #[tactic(auto, unfolding(crate::specs::prover::Reading::right_at))]
+    fn right(&self, room: usize, target: Named, at: usize) -> Read<Stmt>
+        ensures { Gives statement_of self.now.items.now result (right_at self.now.end room (name_of target) (drop at self.now.items.now)) }
+    {
+        let (item, after) = self.next(at)?;
+        match item.meaning {
+            Meaning::Word(Word::Get) => self.get(room, target, after),
+            Meaning::Word(Word::Scan) => self.scan(target, after),
+            Meaning::Word(Word::Copy) => self.copy(target, after),
+            Meaning::Word(Word::Older) => self.older(room, target, after),
+            _ => self.plain(room, target, at),
+        }
+    }
+
+    // What stands after the name that a statement begins with.
+    #[tactic(auto, unfolding(crate::specs::prover::Reading::assignment_at))]
+    fn assignment(&self, room: usize, target: Named, at: usize) -> Read<Stmt>
+        ensures { Gives statement_of self.now.items.now result (assignment_at self.now.end room (name_of target) (drop at self.now.items.now)) }
+    {
+        let (_, at) = self.word(Word::Becomes, at)?;
+        self.right(room, target, at)
+    }
+
+    #[tactic(auto, unfolding(crate::specs::prover::Reading::put_at))]
+    fn put(&self, room: usize, at: usize) -> Read<Stmt>
+        ensures { Gives statement_of self.now.items.now result (put_at self.now.end room (drop at self.now.items.now)) }
+    {
+        let (register, at) = self.name(at)?;
+        let (value, at) = self.last(room, at)?;
+        Ok((Stmt::Put(register, value), at))
+    }
+
+    #[tactic(auto, unfolding(crate::specs::prover::Reading::stamp_at))]
+    fn stamp(&self, at: usize) -> Read<Stmt>
+        ensures { Gives statement_of self.now.items.now result (stamp_at self.now.end (drop at self.now.items.now)) }
+    {
+        let (_, at) = self.word(Word::Semicolon, at)?;
+        Ok((Stmt::Stamp, at))
+    }
+
+    #[tactic(auto, unfolding(crate::specs::prover::Reading::out_at))]
+    fn out(&self, room: usize, at: usize) -> Read<Stmt>
+        ensures { Gives statement_of self.now.items.now result (out_at self.now.end room (drop at self.now.items.now)) }
+    {
+        let (value, at) = self.last(room, at)?;
+        Ok((Stmt::Out(value), at))
+    }
+
+    // What stands after `if`.
+    #[cycle(statement)]
+    #[tactic(auto, unfolding(crate::specs::prover::Reading::branch_at))]
+    fn branch(&self, room: usize, at: usize) -> Read<Stmt>
+        ensures { Gives statement_of self.now.items.now result (branch_at self.now.end (block_at self.now.end room) room (drop at self.now.items.now)) }
+    {
+        let (value, at) = self.expression(room, at)?;
+        let (first, at) = self.block(room, at)?;
+        let (_, at) = self.word(Word::Else, at)?;
+        let (second, at) = self.block(room, at)?;
+        Ok((Stmt::If(value, first, second), at))
+    }
+
+    // What stands after `while`.
+    #[cycle(statement)]
+    #[tactic(auto, unfolding(crate::specs::prover::Reading::repeat_at))]
+    fn repeat(&self, room: usize, at: usize) -> Read<Stmt>
+        ensures { Gives statement_of self.now.items.now result (repeat_at self.now.end (block_at self.now.end room) room (drop at self.now.items.now)) }
+    {
+        let (value, at) = self.expression(room, at)?;
+        let (body, at) = self.block(room, at)?;
+        Ok((Stmt::While(value, body), at))
+    }
+
+    #[cycle(statement)]
+    #[tactic(auto, unfolding(crate::specs::prover::Reading::statement_at, crate::specs::prover::Reading::statement_with))]
+    fn statement(&self, room: usize, at: usize) -> Read<Stmt>
+        ensures { Gives statement_of self.now.items.now result (statement_at self.now.end room (drop at self.now.items.now)) }
+    {
+        let (item, at) = self.next(at)?;
+        match item.meaning {
+            Meaning::Name(letters) => self.assignment(room, self.named(letters, item.span)?, at),
+            Meaning::Word(Word::Put) => self.put(room, at),
+            Meaning::Word(Word::Stamp) => self.stamp(at),
+            Meaning::Word(Word::Out) => self.out(room, at),
+            Meaning::Word(Word::If) => self.branch(room, at),
+            Meaning::Word(Word::While) => self.repeat(room, at),
+            _ => Err(TextFault::Unexpected(item.span)),
+        }
+    }
+
+    // Statements, and the word that ends them.
+    #[cycle(statement)]
+    fn statements(&self, room: usize, ending: Ending, start: usize) -> Read<Vec<Stmt>>
+        ensures { Gives (λ v. block_of v.items) self.now.items.now result (statements_at self.now.end room ending (drop start self.now.items.now)) }
+    {
+        let mut statements = Vec::new(self.alloc);
+        let mut at = start;
+        loop {
+            let (item, after) = self.next(at)?;
+            if ending.ends(item.meaning) {
+                return Ok((statements, after));
+            }
+            let (statement, after) = self.statement(room, at)?;
+            statements.push(statement)?;
+            at = after;
+        }
+    }
+
+    // A block in braces.
+    #[cycle(statement)]
+    #[tactic(auto, unfolding(crate::specs::prover::Reading::block_at, crate::specs::prover::Reading::statements_at, crate::specs::prover::Reading::statement_at))]
+    fn block(&self, room: usize, at: usize) -> Read<Vec<Stmt>>
+        ensures { Gives (λ v. block_of v.items) self.now.items.now result (block_at self.now.end room (drop at self.now.items.now)) }
+    {
+        let (_, at) = self.brace(room, at)?;
+        match room {
+            0 => Ok((Vec::new(self.alloc), at)),
+            _ => self.statements(room - 1, Ending::Braces, at),
+        }
+    }
+
+    // Names with a comma between two, and the `;` after them.
+    fn names(&self, start: usize) -> Read<Vec<Named>>
+        ensures { Gives (λ v. map name_of v.items) self.now.items.now result (names_at self.now.end (drop start self.now.items.now)) }
+    {
+        let mut names = Vec::new(self.alloc);
+        let mut at = start;
+        loop {
+            let (name, after) = self.name(at)?;
+            names.push(name)?;
+            let (item, after) = self.next(after)?;
+            match item.meaning {
+                Meaning::Word(Word::Comma) => at = after,
+                Meaning::Word(Word::Semicolon) => return Ok((names, after)),
+                _ => return Err(TextFault::Unexpected(item.span)),
+            }
+        }
+    }
+
+    // A section of declarations, which may be left out.
+    #[tactic(auto, unfolding(crate::specs::prover::Reading::section_at))]
+    fn section(&self, section: Section, at: usize) -> Read<Vec<Named>>
+        ensures { Gives (λ v. map name_of v.items) self.now.items.now result (section_at self.now.end section (drop at self.now.items.now)) }
+    {
+        let (item, after) = self.next(at)?;
+        if section.begins(item.meaning) {
+            self.names(after)
+        } else {
+            Ok((Vec::new(self.alloc), at))
+        }
+    }
+
+    #[tactic(auto, unfolding(crate::specs::prover::Reading::body_at))]
+    fn body(&self, room: usize, at: usize) -> Read<Vec<Stmt>>
+        ensures { Gives (λ v. block_of v.items) self.now.items.now result (body_at self.now.end room (drop at self.now.items.now)) }
+    {
+        let (_, at) = self.word(Word::Begin, at)?;
+        self.statements(room, Ending::Program, at)
+    }
+
+    #[tactic(auto, using(crate::proofs::Loops::word_none), unfolding(crate::specs::prover::Reading::whole_at))]
+    fn whole(&self, room: usize, at: usize) -> Read<Tree>
+        ensures read { Gives tree_of self.now.items.now result (whole_at self.now.end room (drop at self.now.items.now)) }
+        ensures none { drop at self.now.items.now ≡ [] → result ≡ Err (Unexpected (record { start = self.now.end; end = self.now.end })) }
+    {
+        let (_, at) = self.word(Word::Processes, at)?;
+        let ((processes, processes_span), at) = self.number(at)?;
+        let (_, at) = self.word(Word::Semicolon, at)?;
+        let (variables, at) = self.section(Section::Variables, at)?;
+        let (scans, at) = self.section(Section::Scans, at)?;
+        let (registers, at) = self.section(Section::Registers, at)?;
+        let (body, at) = self.body(room, at)?;
+        let tree = Tree {
+            processes,
+            processes_span,
+            variables,
+            scans,
+            registers,
+            body,
+        };
+        Ok((tree, at))
+    }
+
+    /// Reads a program of all the items.
+    #[tactic(auto, unfolding(crate::specs::prover::Reading::program_at))]
+    pub fn program(&self) -> Result<Tree, TextFault>
+        ensures read { GivesWhole tree_of result (program_at self.now.end 64 self.now.items.now) }
+        ensures none { self.now.items.now ≡ [] → result ≡ Err (Unexpected (record { start = self.now.end; end = self.now.end })) }
+    {
+        let (tree, at) = self.whole(64, 0)?;
+        match self.items.get(at) {
+            None => Ok(tree),
+            Some(item) => Err(TextFault::Unexpected(item.span)),
+        }
     }
 }

@@ -3,15 +3,15 @@
 ghost use Rattle.std.specs.Prelude.{◌≡◌, ℕ, List, ◌++◌, ◌∷◌, [], map, OnOk, IfOk, IfErr, string_bytes};
 ghost use Rattle.std.specs.Fmt.{decimal};
 ghost use Rattle.tick_syntax.specs.Lexeme.{a_name, a_number, a_word};
-ghost use Rattle.tick_syntax.specs.Plain.{fetch, copy, older};
+ghost use Rattle.tick_syntax.specs.Plain.{get, copy, older};
 ghost use Rattle.tick_syntax.specs.Printed.{nowhere, after_word, printed_token, printed_tokens, expression_tokens, statement_tokens, block_tokens, section_tokens, printed};
-ghost use Rattle.tick_syntax.specs.Printing.{more_names, declaration_tokens};
+ghost use Rattle.tick_syntax.specs.prover.Printing.{more_names, declaration_tokens};
 ghost use Rattle.tick_syntax.specs.RoundTrip.{IsTextOf, ReadsAs};
 ghost use Rattle.tick_syntax.specs.View.{name_of, expression_of, statement_of, block_of, tree_of};
 
-use super::fault::TextFault;
-use super::tree::{Expr, Named, Stmt, Tree};
-use super::word::Word;
+use crate::fault::TextFault;
+use crate::terminals::Word;
+use crate::tree::{Expr, Named, Stmt, Tree};
 use std::alloc::{AllocError, Global};
 
 fn after(word: Word) -> &'static str
@@ -78,13 +78,13 @@ fn push_target(out: &mut String, name: &Named) -> Result<(), AllocError>
 }
 
 /// `x = get r e;`.
-fn push_fetch(
+fn push_get(
     out: &mut String,
     target: &Named,
     register: &Named,
     process: &Expr,
 ) -> Result<(), AllocError>
-    ensures { OnOk result (string_bytes out.new ≡ string_bytes out.old ++ printed_tokens (statement_tokens (fetch (name_of target.now) (name_of register.now) (expression_of process.now)))) }
+    ensures { OnOk result (string_bytes out.new ≡ string_bytes out.old ++ printed_tokens (statement_tokens (get (name_of target.now) (name_of register.now) (expression_of process.now)))) }
 {
     push_target(out, target)?;
     push_word(out, Word::Get)?;
@@ -128,7 +128,7 @@ fn push_statement(out: &mut String, statement: &Stmt) -> Result<(), AllocError>
             push_target(out, target)?;
             push_last(out, value)
         }
-        Stmt::Get(target, register, process) => push_fetch(out, target, register, process),
+        Stmt::Get(target, register, process) => push_get(out, target, register, process),
         Stmt::Put(register, value) => {
             push_word(out, Word::Put)?;
             push_name(out, register)?;
@@ -248,7 +248,7 @@ fn push_body(out: &mut String, body: &Vec<Stmt>) -> Result<(), AllocError>
 pub fn print(alloc: Global, tree: &Tree) -> Result<String, TextFault>
     ensures ok { IfOk result (λ text. string_bytes text ≡ printed (tree_of tree.now)) }
     ensures err { IfErr result (λ fault. fault ≡ TextFault.NoMemory) }
-    ensures reads_back { (source : List ℕ) → IsTextOf source (tree_of tree.now) → IfOk result (λ text. ReadsAs (string_bytes text) (tree_of tree.now)) }
+    ensures reads_back { (origin : List ℕ) → IsTextOf origin (tree_of tree.now) → IfOk result (λ text. ReadsAs (string_bytes text) (tree_of tree.now)) }
 {
     let mut out = String::new(alloc);
     push_head(&mut out, tree.processes)?;
@@ -256,6 +256,3 @@ pub fn print(alloc: Global, tree: &Tree) -> Result<String, TextFault>
     push_body(&mut out, &tree.body)?;
     Ok(out)
 }
-
-#[cfg(test)]
-mod tests;

@@ -1,4 +1,4 @@
-use super::span::Span;
+use crate::span::Span;
 
 /// What a token is. Which keyword or sign it is, the text at its span says.
 #[derive(Clone, Copy, PartialEq, Eq, Debug)]

@@ -1,24 +1,11 @@
-use super::span::Span;
+use crate::span::Span;
+pub use machine_core::Op;
 
 /// A name as it stands in a text: its letters, and where they are.
 #[derive(PartialEq, Eq, Debug, Drop)]
 pub struct Named {
     pub name: String,
     pub span: Span,
-}
-
-/// The operators `+ - * / % < <= == !=`, in this order.
-#[derive(Clone, Copy, PartialEq, Eq, Debug)]
-pub enum Op {
-    Add,
-    Sub,
-    Mul,
-    Div,
-    Rem,
-    Less,
-    AtMost,
-    Equal,
-    Differs,
 }
 
 /// An expression.

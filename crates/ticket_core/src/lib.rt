@@ -21,9 +21,10 @@ pub struct Tickets {
 }
 
 impl Model for Tickets {
-    ghost use Rattle.std.specs.Prelude.{◌≡◌, ◌-◌, ◌≤◌, ℕ, List, ◌++◌, length, take, drop, replicate};
+    ghost use Rattle.std.specs.Prelude.{◌≡◌, ◌-◌, ◌≤◌, ℕ, List, length, take, drop, replicate};
     ghost use Rattle.std.proofs.Common.{arith, length-take-le};
-    ghost use Rattle.ticket_core.specs.Padded.{padded_back};
+    ghost use Rattle.padded_row.specs.Rows.{padded};
+    ghost use Rattle.padded_row.proofs.Offered.{padded_back};
 
     ghost Value = { List ℕ };
 
@@ -31,11 +32,11 @@ impl Model for Tickets {
 
     ghost invariant = { λ fields. (1 ≤ fields.count) × (fields.count ≤ 6) × (length fields.tickets ≡ 6) × (drop fields.count fields.tickets ≡ replicate (6 - fields.count) 0) };
 
-    ghost inverse = { λ tickets. record { count = length tickets; tickets = tickets ++ replicate (6 - length tickets) 0 } };
+    ghost inverse = { λ tickets. record { count = length tickets; tickets = padded 6 0 tickets } };
 
     ghost inverse_ok = { λ fields kept i. record {
       count = length-take-le fields.count fields.tickets (omega (arith, kept.1, kept.2)) i;
-      tickets = padded_back 6 fields.count fields.tickets kept.2 kept.1 kept.3 i;
+      tickets = padded_back 6 fields.count 0 fields.tickets kept.2 kept.1 kept.3 i;
     } };
 }
 

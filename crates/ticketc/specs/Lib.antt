@@ -1,13 +1,2 @@
-pub mod Ends
-pub mod Reading
-pub mod Writing
-pub mod Refusal
-pub mod Stop
-pub mod Text
-pub mod Order
-pub mod Answer
-pub mod Ordering
-pub mod Programs
-pub mod Commands
-pub mod Serving
-pub mod OneAnswer
+pub mod Host
+pub mod Exit

@@ -1,112 +1,82 @@
 //! Ends over a reader and a writer of the standard library, as standard input and output.
 ghost use Rattle.std.specs.Prelude.{◌≡◌};
+ghost use Rattle.ticketc.specs.Host.{IsTransferOf};
 
-use crate::ends::{ByteSink, ByteSource, Transfer};
+use engine::{ByteSink, ByteSource, Counts, Transfer};
+use std::io;
 use std::io::{ErrorKind, Read, Write};
 
-/// A reader as an input, with its counts.
+/// A reader as an input.
 #[derive(Drop)]
-pub struct Source<R> {
+pub struct HostReader<R> {
     reader: R,
-    calls: u64,
-    failures: u64,
-    interruptions: u64,
+    counts: Counts,
 }
 
-impl<R: Read> Source<R> {
+impl<R: Read> HostReader<R> {
     /// An input over a reader that no call was made of.
-    pub fn new(reader: R) -> Source<R>
+    pub fn new(reader: R) -> HostReader<R>
         ensures reader { result.reader ≡ reader }
-        ensures counts { (result.calls ≡ 0) × (result.failures ≡ 0) × (result.interruptions ≡ 0) }
+        ensures counts { result.counts ≡ record { calls = 0; failures = 0; interruptions = 0 } }
     {
-        Source {
+        HostReader {
             reader,
-            calls: 0,
-            failures: 0,
-            interruptions: 0,
+            counts: Counts::new(),
         }
     }
 }
 
-impl<R: Read> ByteSource for Source<R> {
-    ghost use Rattle.ticketc.specs.Ends.{Counts};
-
+impl<R: Read> ByteSource for HostReader<R> {
     ghost remaining = { λ s. R.remaining s.reader };
 
-    ghost counts = { λ s. record { calls = s.calls; failures = s.failures; interruptions = s.interruptions } };
+    ghost counts = { λ s. s.counts };
 
     fn read(&mut self, buffer: &mut [u8]) -> Transfer {
-        self.calls = self.calls.saturating_add(1);
-        match self.reader.read(buffer) {
-            Ok(count) => {
-                self.interruptions = 0;
-                Transfer::Moved(count)
-            }
-            Err(error) if error.kind() == ErrorKind::Interrupted => {
-                self.interruptions = self.interruptions.saturating_add(1);
-                Transfer::Interrupted
-            }
-            Err(_) => {
-                self.failures = self.failures.saturating_add(1);
-                self.interruptions = 0;
-                Transfer::Failed
-            }
-        }
+        let transfer = transfer_of(self.reader.read(buffer));
+        self.counts.count_read(transfer);
+        transfer
     }
 }
 
-/// A writer as an output, with its counts.
+/// A writer as an output.
 #[derive(Drop)]
-pub struct Sink<W> {
+pub struct HostWriter<W> {
     writer: W,
-    calls: u64,
-    failures: u64,
-    interruptions: u64,
+    counts: Counts,
 }
 
-impl<W: Write> Sink<W> {
+impl<W: Write> HostWriter<W> {
     /// An output over a writer that no call was made of.
-    pub fn new(writer: W) -> Sink<W>
+    pub fn new(writer: W) -> HostWriter<W>
         ensures writer { result.writer ≡ writer }
-        ensures counts { (result.calls ≡ 0) × (result.failures ≡ 0) × (result.interruptions ≡ 0) }
+        ensures counts { result.counts ≡ record { calls = 0; failures = 0; interruptions = 0 } }
     {
-        Sink {
+        HostWriter {
             writer,
-            calls: 0,
-            failures: 0,
-            interruptions: 0,
+            counts: Counts::new(),
         }
     }
 }
 
-impl<W: Write> ByteSink for Sink<W> {
-    ghost use Rattle.ticketc.specs.Ends.{Counts};
-
+impl<W: Write> ByteSink for HostWriter<W> {
     ghost written = { λ s. W.contents s.writer };
 
-    ghost counts = { λ s. record { calls = s.calls; failures = s.failures; interruptions = s.interruptions } };
+    ghost counts = { λ s. s.counts };
 
     fn write(&mut self, bytes: &[u8]) -> Transfer {
-        self.calls = self.calls.saturating_add(1);
-        match self.writer.write(bytes) {
-            Ok(0) if !bytes.is_empty() => {
-                self.failures = self.failures.saturating_add(1);
-                self.interruptions = 0;
-                Transfer::Moved(0)
-            }
-            Ok(count) => {
-                self.interruptions = 0;
-                Transfer::Moved(count)
-            }
-            Err(error) if error.kind() == ErrorKind::Interrupted => {
-                self.interruptions = self.interruptions.saturating_add(1);
-                Transfer::Interrupted
-            }
-            Err(_) => {
-                self.failures = self.failures.saturating_add(1);
-                self.interruptions = 0;
-                Transfer::Failed
-            }
-        }
+        let transfer = transfer_of(self.writer.write(bytes));
+        self.counts.count_write(transfer, bytes);
+        transfer
+    }
+}
+
+/// What the host's answer to a read or a write comes to.
+pub fn transfer_of(answer: io::Result<usize>) -> Transfer
+    ensures { IsTransferOf answer result }
+{
+    match answer {
+        Ok(count) => Transfer::Moved(count),
+        Err(error) if error.kind() == ErrorKind::Interrupted => Transfer::Interrupted,
+        Err(_) => Transfer::Failed,
     }
 }

@@ -1,47 +1,44 @@
 //! `ticketc` answers one command line from standard input to standard output, and ends with the
 //! status of its answer.
+//!
+//! All of it is the library `engine`; here are standard input and output as its ends, and the
+//! status that the host is told.
 #![tactic(auto)]
 
-mod answer;
-mod ends;
-mod engine;
-mod fault;
+mod exit;
 mod host;
-mod laws;
-mod order;
-mod program;
-mod reading;
-mod refusal;
-mod reply;
-mod stop;
 #[cfg(test)]
 mod tests;
-mod text;
-mod writing;
 
-use engine::engine;
-use fault::EngineFault;
-use host::{Sink, Source};
-use std::io;
+use engine::{EngineFault, engine};
+use exit::exit_code;
+use host::{HostReader, HostWriter};
 use std::process::ExitCode;
 
 fn main(rt: HostRuntime) -> ExitCode {
-    let Ok(words) = command_words(&rt) else {
-        return ExitCode::from(4);
-    };
-    let mut source = Source::new(rt.stdin());
-    let mut sink = Sink::new(rt.stdout());
-    match engine(&rt, words.as_slice(), &mut source, &mut sink) {
-        Ok(status) => ExitCode::from(status),
-        Err(EngineFault::Read | EngineFault::Write) => ExitCode::from(3),
-        Err(EngineFault::Memory | EngineFault::Thread) => ExitCode::from(4),
-    }
+    ended(&rt)
 }
 
-// One by one, so that each growth that is refused is told.
-fn command_words(rt: &HostRuntime) -> io::Result<Vec<String>> {
+// The whole program, apart from `main`, which no test can call.
+fn ended(rt: &HostRuntime) -> ExitCode {
+    exit_code(served(rt))
+}
+
+fn served(rt: &HostRuntime) -> Result<u8, EngineFault> {
+    let words = command_words(rt)?;
+    let mut reader = HostReader::new(rt.stdin());
+    let mut writer = HostWriter::new(rt.stdout());
+    engine(rt, words.as_slice(), &mut reader, &mut writer)
+}
+
+// The command line, one word after the other, so that each growth that is refused is told. Words that
+// can't be had, as one that is no UTF-8, end as want of memory does.
+fn command_words(rt: &HostRuntime) -> Result<Vec<String>, EngineFault> {
+    let Ok(given) = std::env::args(rt) else {
+        return Err(EngineFault::Memory);
+    };
     let mut words = Vec::new(rt.alloc());
-    for word in std::env::args(rt)? {
+    for word in given {
         words.push(word)?;
     }
     Ok(words)

@@ -1,219 +1,71 @@
-//! The engine over ends in memory: the answers of `order`, and ends that fail, are interrupted or go
-//! a byte at a time.
-mod ends;
-mod programs;
+//! What no clause can say: that both ends tell an interruption from a failure, and that the program
+//! ends with its status.
+ghost use Rattle.std.specs.Prelude.{◌≤◌, IfOk};
 
-use crate::engine::engine;
-use crate::fault::EngineFault;
-use ends::{Disturbance, Input, Output};
+use crate::ended;
+use crate::host::{HostReader, HostWriter};
+use engine::{ByteSink, ByteSource, Transfer};
+use std::io;
+use std::io::{Error, ErrorKind, Read, Write};
 use std::test::Fail;
 
-// A command line, its input, the status, and how the text ends. A text that isn't cut begins so.
-const ANSWERS: [(&[&str], &[u8], u8, &str); 21] = [
-    (
-        &["ticketc", "order", "2"],
-        b"",
-        0,
-        "layout 1\nword 0\nlabels 0 0\nranks 0 0\n",
-    ),
-    (
-        &["ticketc", "order", "1"],
-        b"0 0",
-        0,
-        "layout 1\nstamp 0 word 0\nstamp 0 word 0\nword 0\nlabels -\nranks 0\n",
-    ),
-    (
-        &["ticketc", "order", "2"],
-        b"0 1 0 1 0 1 0",
-        0,
-        "layout 1\nstamp 0 word 1\nstamp 1 word 9\nstamp 0 word 8\nstamp 1 word 4\nstamp 0 word 6\nstamp 1 word 2\nstamp 0 word 1\nword 1\nlabels 1 0\nranks 1 0\n",
-    ),
-    (
-        &["ticketc", "order", "3"],
-        b"0 1 2",
-        0,
-        "layout 1\nstamp 0 word 4\nstamp 1 word 84\nstamp 2 word 2132\nword 2132\nlabels 10 11 20\nranks 0 1 2\n",
-    ),
-    (
-        &["ticketc", "order", "3"],
-        b"0 1 2 0 1 2",
-        0,
-        "word 265\nlabels 21 00 01\nranks 0 1 2\n",
-    ),
-    (
-        &["ticketc", "order", "3"],
-        b"0*2",
-        0,
-        "layout 1\nstamp 0 word 4\nstamp 0 word 4\nword 4\nlabels 10 00 00\nranks 2 0 0\n",
-    ),
-    (
-        &["ticketc", "order", "6"],
-        b"\t0 1\r\n02 ",
-        0,
-        "word 272893184\nlabels 10000 10001 10010 00000 00000 00000\nranks 3 4 5 0 0 0\n",
-    ),
-    (
-        &["ticketc", "order", "7"],
-        b"x",
-        1,
-        "refused 11 Processes\n",
-    ),
-    (
-        &["ticketc", "order", "4294967295"],
-        b"x",
-        1,
-        "refused 11 Processes\n",
-    ),
-    (
-        &["ticketc", "order", "2"],
-        b"0 \xff",
-        1,
-        "refused 2 BadCharacter 2\n",
-    ),
-    (
-        &["ticketc", "order", "2"],
-        b"0 1 0*0 2",
-        1,
-        "refused 51 BadItem 4\n",
-    ),
-    (
-        &["ticketc", "order", "2"],
-        b"0 2 x",
-        1,
-        "refused 52 NoSuchProcess 2\n",
-    ),
-    (
-        &["ticketc", "order", "2"],
-        b" 99999999999999999999*2",
-        1,
-        "refused 52 NoSuchProcess 1\n",
-    ),
-    (
-        &["ticketc", "order", "2"],
-        b"0 1*10000000",
-        1,
-        "refused 53 TooLong\n",
-    ),
-    (
-        &["ticketc", "order", "2"],
-        b"0*99999999999999999999",
-        1,
-        "refused 53 TooLong\n",
-    ),
-    (&["ticketc", "order", "4294967296"], b"", 2, USAGE),
-    (&["ticketc", "order", "+3"], b"", 2, USAGE),
-    (&["ticketc"], b"", 2, USAGE),
-    (&["ticketc", "--help"], b"", 2, USAGE),
-    (&["ticketc", "emit"], b"processes 1; begin end", 2, USAGE),
-    (&["ticketc", "source"], b"processes 1; begin end", 2, USAGE),
-];
+// A reader and a writer that answers so each time.
+#[derive(Drop)]
+struct Answering(Result<usize, ErrorKind>);
 
-const USAGE: &str =
-    "usage: ticketc order N | check | emit | source S | code S | lift S | drop S | run TURNS\n";
-
-const ROW: &str =
-    "layout 1\nstamp 0 word 4\nstamp 1 word 84\nstamp 2 word 2132\nword 2132\nlabels 10 11 20\nranks 0 1 2\n";
-
-fn served(
-    rt: &HostRuntime,
-    words: &[&str],
-    input: &mut Input<'_>,
-    output: &mut Output,
-) -> Result<Result<u8, EngineFault>, Fail> {
-    let mut line = Vec::new(rt.alloc());
-    for word in words {
-        line.push(String::from_str(rt.alloc(), word)?)?;
-    }
-    Ok(engine(rt, line.as_slice(), input, output))
-}
-
-#[test]
-fn answers(rt: HostRuntime) -> Result<(), Fail> {
-    for (words, text, status, end) in ANSWERS {
-        let mut input = Input::new(text, 7, Disturbance::Never);
-        let mut output = Output::new(rt.alloc(), 100, Disturbance::Never);
-        assert_eq!(rt;
-            served(&rt, words, &mut input, &mut output)?,
-            Ok(status),
-            "{words:?}"
-        );
-        assert!(rt;
-            output.bytes.as_slice().ends_with(end.as_bytes()),
-            "{words:?}"
-        );
-        if !end.starts_with("word") {
-            assert_eq!(rt; output.bytes.len(), end.len(), "{words:?}");
+impl Answering {
+    fn answer(&self, room: usize) -> io::Result<usize>
+        ensures { IfOk result (λ count. count ≤ room) }
+    {
+        match self.0 {
+            Ok(count) => Ok(count.min(room)),
+            Err(kind) => Err(Error::from(kind)),
         }
     }
-    Ok(())
 }
 
-#[test]
-fn reads(rt: HostRuntime) -> Result<(), Fail> {
-    let cases = [
-        (
-            Disturbance::Interrupted {
-                from: 2,
-                below: 5000,
-            },
-            Ok(0),
-        ),
-        (Disturbance::Failed(1), Err(EngineFault::Read)),
-        (Disturbance::Failed(4), Err(EngineFault::Read)),
-        (
-            Disturbance::Interrupted {
-                from: 3,
-                below: u64::MAX,
-            },
-            Err(EngineFault::Read),
-        ),
-    ];
-    for (disturbance, outcome) in cases {
-        let mut input = Input::new(b"0 1 2", 1, disturbance);
-        let mut output = Output::new(rt.alloc(), 1000, Disturbance::Never);
-        assert_eq!(rt;
-            served(&rt, &["ticketc", "order", "3"], &mut input, &mut output)?,
-            outcome
-        );
-        let written = if outcome == Ok(0) { ROW } else { "" };
-        assert_eq!(rt; output.bytes.as_slice(), written.as_bytes());
-        assert!(rt; input.calls <= 2_000_000);
+impl Read for Answering {
+    fn read(&mut self, buffer: &mut [u8]) -> io::Result<usize> {
+        self.answer(buffer.len())
     }
-    Ok(())
 }
 
-#[test]
-fn writes(rt: HostRuntime) -> Result<(), Fail> {
-    let cases = [
-        (
-            1,
-            Disturbance::Interrupted {
-                from: 2,
-                below: 1002,
-            },
-            Ok(0),
-            ROW,
-        ),
-        (
-            6,
-            Disturbance::Interrupted {
-                from: 2,
-                below: 1003,
-            },
-            Err(EngineFault::Write),
-            "layout",
-        ),
-        (6, Disturbance::Failed(2), Err(EngineFault::Write), "layout"),
-        (0, Disturbance::Never, Err(EngineFault::Write), ""),
-    ];
-    for (step, disturbance, outcome, written) in cases {
-        let mut input = Input::new(b"0 1 2", 1000, Disturbance::Never);
-        let mut output = Output::new(rt.alloc(), step, disturbance);
-        assert_eq!(rt;
-            served(&rt, &["ticketc", "order", "3"], &mut input, &mut output)?,
-            outcome
-        );
-        assert_eq!(rt; output.bytes.as_slice(), written.as_bytes());
+impl Write for Answering {
+    fn write(&mut self, bytes: &[u8]) -> io::Result<usize> {
+        self.answer(bytes.len())
     }
+
+    fn flush(&mut self) -> io::Result<()> {
+        Ok(())
+    }
+}
+
+const ANSWERS: [(Result<usize, ErrorKind>, Transfer); 7] = [
+    (Ok(3), Transfer::Moved(3)),
+    (Ok(0), Transfer::Moved(0)),
+    (Err(ErrorKind::Interrupted), Transfer::Interrupted),
+    (Err(ErrorKind::WouldBlock), Transfer::Failed),
+    (Err(ErrorKind::BrokenPipe), Transfer::Failed),
+    (Err(ErrorKind::StorageFull), Transfer::Failed),
+    (Err(ErrorKind::Other), Transfer::Failed),
+];
+
+#[test]
+fn host_ends(rt: HostRuntime) {
+    for (answer, transfer) in ANSWERS {
+        let mut buffer = [0u8; 4];
+        assert_eq!(rt;
+            HostReader::new(Answering(answer)).read(&mut buffer),
+            transfer
+        );
+        assert_eq!(rt; HostWriter::new(Answering(answer)).write(&buffer), transfer);
+    }
+}
+
+// The words of a test's run are no command line.
+#[test]
+fn status_of_the_usage_line(rt: HostRuntime) -> Result<(), Fail> {
+    let status = format!(in rt.alloc(); "{:?}", ended(&rt))?;
+    assert_eq!(rt; status.as_str(), "ExitCode(unix_exit_status(2))");
     Ok(())
 }

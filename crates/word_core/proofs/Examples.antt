@@ -2,7 +2,8 @@
 use Rattle.std.proofs.Common.{◌≡◌, [], ◌∷◌, refl}
 use Rattle.ticket_core.specs.Tickets.{start_tickets, tickets_after}
 use Rattle.word_core.specs.Stamps.{start_labels, labels_after}
-use Rattle.word_core.specs.Packed.{word, labels_in}
+use Rattle.word_core.specs.Packed.{word}
+use Rattle.word_core.specs.prover.Packing.{labels_in}
 
 -- two processes in turn: the word comes back while the tickets grow
 came_back : word (labels_after (start_labels 2) (0 ∷ 1 ∷ 0 ∷ 1 ∷ 0 ∷ 1 ∷ 0 ∷ [])) ≡ 1

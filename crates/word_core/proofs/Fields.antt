@@ -8,9 +8,10 @@ use Rattle.std.proofs.lemmas.Nat.{shr_high, shr_below, mul-add-lt, shr-shr, mod-
 use Rattle.std.proofs.lemmas.List.Edits.{length-remove}
 use Rattle.std.proofs.lemmas.List.Elements.{All-head, All-tail, All-cons}
 use Rattle.label_core.specs.Labels.{IsLabel}
-use Rattle.word_core.specs.Packed.{field, word, digits_in, labels_in}
-use Rattle.word_core.specs.Packing.{field_lt, field_set, length-labels_in, label_at-labels_in}
+use Rattle.word_core.specs.Packed.{field, word}
+use Rattle.word_core.specs.prover.Packing.{digits_in, labels_in, field_lt, field_set, length-labels_in, label_at-labels_in, labels_in-word}
 use Rattle.word_core.specs.Stamps.{label_at}
+use Rattle.word_core.specs.Laws.{DistinctLaw}
 
 -- the digits before place `at` as a number, and what that leaves of the field
 pub record FieldSoFar (label : List ℕ) (at bits : ℕ) : Type 0 where
@@ -190,3 +191,8 @@ field_fits bits at m f within small below =
       all = subst (λ b. (bits / 2 ^ (2 * at + 2 * m) * 2 ^ (2 * m) + f) * 2 ^ (2 * at) + bits % 2 ^ (2 * at) < b)
           (sym (pow-add 2 (2 * at) (60 - 2 * at)) ∙ ap (λ e. 2 ^ e) up) all;
     }
+
+-- two lists of labels with one word are both what is read from it
+pub distinct_law : DistinctLaw
+distinct_law n a b is_a is_b same =
+    sym (labels_in-word n (n - 1) a is_a.count is_a.each) ∙ ap (labels_in n (n - 1)) same ∙ labels_in-word n (n - 1) b is_b.count is_b.each

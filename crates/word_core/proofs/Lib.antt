@@ -1,6 +1,12 @@
-pub mod Examples
 pub mod Counting
-pub mod Removing
-pub mod Ranks
-pub mod Stamping
+pub mod Examples
 pub mod Fields
+pub mod Histories
+pub mod HistoryExamples
+pub mod Offered
+pub mod OfferedHistory
+pub mod Orders
+pub mod Ranks
+pub mod Removing
+pub mod Stamping
+pub mod Views

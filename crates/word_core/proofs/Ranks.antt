@@ -1,15 +1,14 @@
 -- Where labels are in an order, how many each dominates are numbers of that order, and one of any
 -- of them is greatest.
-use Rattle.std.proofs.Common.{◌≡◌, ℕ, ◌-◌, ◌<◌, ◌≤◌, ◌++◌, replicate, Bool, true, false, not, ltb, List, [], ◌∷◌, length, get_or, refl, sym, ap, ◌∙◌, subst, arith, ⊎_elim}
+use Rattle.std.proofs.Common.{◌≡◌, ℕ, ◌-◌, ◌<◌, ◌≤◌, ◌++◌, replicate, true, false, ltb, List, [], ◌∷◌, length, get_or, refl, sym, ap, ◌∙◌, subst, arith, ⊎_elim}
 use Rattle.std.specs.Prelude.{All, remove, slice_index}
-use Rattle.std.specs.List.{AllByRecursion, list_all}
-use Rattle.std.proofs.lemmas.Bool.{cases_Bool, cases_lt, ltb-true, lt-ltb, le-ltb, and_from}
+use Rattle.std.specs.List.{AllByRecursion}
+use Rattle.std.proofs.lemmas.Bool.{cases_lt, ltb-true, lt-ltb, le-ltb}
 use Rattle.std.proofs.lemmas.List.{length-map, get_or-map, get_or_append_left}
 use Rattle.std.proofs.lemmas.List.Edits.{length-remove}
 use Rattle.std.proofs.lemmas.List.Elements.{All-from_get_or, All-get_or, All-contains, All-from_recursion, recursion_from_All}
-use Rattle.label_core.specs.Labels.{IsLabel, dominates, same_label, at_least, CanChoose, dominated, label_ranks}
-use Rattle.label_core.proofs.Domination.{dominates_self, dominates_turn, equal_from_same}
-use Rattle.label_core.proofs.Greatest.{at_least_turn}
+use Rattle.label_core.specs.Labels.{IsLabel, dominates, CanChoose, dominated, label_ranks}
+use Rattle.label_core.proofs.Offered.{dominates_self, equal_from_neither, greatest_from_undominated}
 use Rattle.word_core.specs.Stamps.{label_at}
 use Rattle.word_core.specs.Packed.{AreLabels}
 use Rattle.word_core.specs.Order.{OrderedBy, IsOrdered}
@@ -51,16 +50,6 @@ dominates_by_rank labels numbers by i j in_i in_j =
 pub rank_at : (labels : List (List ℕ)) (i : ℕ) → i < length labels → slice_index (label_ranks labels) i ≡ dominated labels (label_at labels i)
 rank_at labels i inside = get_or-map (dominated labels) labels i [] 0 inside
 
--- two labels of which neither dominates the other are one
-pub equal_from_neither : (m : ℕ) (a b : List ℕ) → IsLabel m a → IsLabel m b → dominates a b ≡ false → dominates b a ≡ false → a ≡ b
-equal_from_neither m a b is_a is_b not_a not_b =
-    ⊎_elim (λ same. equal_from_same a b same)
-    (λ differ.
-    let turned : dominates b a ≡ not (dominates a b) = dominates_turn a b (is_a.len ∙ sym is_b.len) is_a.small is_b.small differ in
-    let bad : false ≡ true = sym not_b ∙ turned ∙ ap not not_a in
-    cc)
-    (cases_Bool (same_label a b))
-
 -- labels that dominate each other as their ranks say are ordered by their ranks
 pub ordered_by_ranks : (n : ℕ) (labels : List (List ℕ)) → All (IsLabel n) labels
     → ((i j : ℕ) → i < length labels → j < length labels
@@ -77,10 +66,6 @@ ordered_by_ranks n labels are each = record {
   );
 }
 
-all_pass : {X : Type 0} (p : X → Bool) (xs : List X) → AllByRecursion (λ x. p x ≡ true) xs → list_all p xs ≡ true
-all_pass p [] h = refl
-all_pass p (x ∷ xs) h = and_from (p x) (list_all p xs) h.0 (all_pass p xs h.1)
-
 most_in : {X : Type 0} (f : X → ℕ) (xs : List X) → 0 < length xs → Most f xs
 most_in f [] some = absurd (omega arith)
 most_in f (x ∷ xs) some = most_of f x xs
@@ -91,17 +76,14 @@ record Held (labels : List (List ℕ)) (label : List ℕ) : Type 0 where
   inside : process < length labels
   is : label_at labels process ≡ label
 
--- one that dominates as many dominates or equals the other
-at_least_by_rank : (m : ℕ) (labels : List (List ℕ)) (numbers : List ℕ) → OrderedBy labels numbers → All (IsLabel m) labels
-    → (a b : List ℕ) → Held labels a → Held labels b → dominated labels b ≤ dominated labels a → at_least a b ≡ true
-at_least_by_rank m labels numbers by are a b at_a at_b le =
-    let is_a : IsLabel m a = subst (IsLabel m) at_a.is (All-get_or (IsLabel m) labels at_a.process [] at_a.inside are) in
-    let is_b : IsLabel m b = subst (IsLabel m) at_b.is (All-get_or (IsLabel m) labels at_b.process [] at_b.inside are) in
-    let below : dominates b a ≡ ltb (dominated labels a) (dominated labels b) =
+-- one that dominates as many is not dominated by the other
+undominated : (labels : List (List ℕ)) (numbers : List ℕ) → OrderedBy labels numbers → (a b : List ℕ) → Held labels a → Held labels b
+    → dominated labels b ≤ dominated labels a → dominates b a ≡ false
+undominated labels numbers by a b at_a at_b le =
     subst (λ x. dominates x a ≡ ltb (dominated labels a) (dominated labels x)) at_b.is
     (subst (λ y. dominates (label_at labels at_b.process) y ≡ ltb (dominated labels y) (dominated labels (label_at labels at_b.process))) at_a.is
-    (dominates_by_rank labels numbers by at_b.process at_a.process at_b.inside at_a.inside)) in
-    at_least_turn m a b is_a is_b ∙ ap not (below ∙ le-ltb _ _ le)
+    (dominates_by_rank labels numbers by at_b.process at_a.process at_b.inside at_a.inside))
+    ∙ le-ltb _ _ le
 
 -- beside ordered labels of the others a process can choose its next
 pub can_choose : (n : ℕ) (labels : List (List ℕ)) (p : ℕ) → AreLabels n labels → IsOrdered labels → p < n → CanChoose n (remove labels p)
@@ -112,24 +94,21 @@ can_choose n labels p are ordered in_p =
     let inside : p < length labels = omega (arith, are.count) in
     let held : All (Held labels) others = All-remove (Held labels) labels p [] inside
     (λ j in_j other. record { process = j; inside = in_j; is = refl }) in
+    let are_others : All (IsLabel (n - 1)) others = All-remove (IsLabel (n - 1)) labels p [] inside
+    (λ j in_j other. All-get_or (IsLabel (n - 1)) labels j [] in_j are.each) in
     record {
       few = omega (arith, are.count, length-remove labels p inside);
-      labels = All-remove (IsLabel (n - 1)) labels p [] inside (λ j in_j other. All-get_or (IsLabel (n - 1)) labels j [] in_j are.each);
+      labels = are_others;
       top = λ some.
           let most : Most (dominated labels) others = most_in (dominated labels) others some in
           let at_most : Held labels most.item = All-contains (Held labels) others most.item held most.member in
           let over : All (λ other. dominated labels other ≤ dominated labels most.item) others =
           All-from_recursion (λ other. dominated labels other ≤ dominated labels most.item) others most.over in
-          record {
-            label = most.item;
-            member = most.member;
-            over = all_pass (at_least most.item) others
-                (recursion_from_All (λ other. at_least most.item other ≡ true) others
-                (All-from_get_or (λ other. at_least most.item other ≡ true) others [] (λ k in_k.
-                at_least_by_rank (n - 1) labels numbers by are.each most.item (get_or others k []) at_most
-                (All-get_or (Held labels) others k [] in_k held)
-                (All-get_or (λ other. dominated labels other ≤ dominated labels most.item) others k [] in_k over))));
-          };
+          greatest_from_undominated (n - 1) others most.item are_others most.member
+          (All-from_get_or (λ other. dominates other most.item ≡ false) others [] (λ k in_k.
+          undominated labels numbers by most.item (get_or others k []) at_most
+          (All-get_or (Held labels) others k [] in_k held)
+          (All-get_or (λ other. dominated labels other ≤ dominated labels most.item) others k [] in_k over)));
     }
 
 -- a rank in a row of ranks that has 0 past the last

@@ -2,6 +2,7 @@ pub mod Stamps
 pub mod Packed
 pub mod Order
 pub mod Agreement
-pub mod Law
-pub mod Distinct
-pub mod Packing
+pub mod Laws
+pub mod History
+pub mod HistoryLaws
+pub mod prover

@@ -1,6 +1,6 @@
 -- The labels of all processes as one number: two bits a digit, each label in a field of its own,
 -- process 0 in the lowest, and in its field the first digit highest.
-use Rattle.std.specs.Prelude.{◌≡◌, ℕ, zero, suc, ◌+◌, ◌-◌, ◌*◌, ◌/◌, ◌%◌, ◌^◌, List, [], ◌∷◌, length, All}
+use Rattle.std.specs.Prelude.{◌≡◌, ℕ, ◌+◌, ◌-◌, ◌*◌, ◌^◌, List, [], ◌∷◌, length, All}
 use Rattle.label_core.specs.Labels.{IsLabel}
 
 -- a label as a number of two bits a digit, its first digit highest
@@ -22,13 +22,3 @@ pub record AreLabels (n : ℕ) (labels : List (List ℕ)) : Type 0 where
 pub record IsWordOf (n bits : ℕ) (labels : List (List ℕ)) : Type 0 where
   pub are : AreLabels n labels
   pub packs : word labels ≡ bits
-
--- the lowest `count` pairs of bits, the highest first
-abbrev pub digits_in : ℕ → ℕ → List ℕ
-digits_in zero bits = []
-digits_in (suc count) bits = (bits / 2 ^ (2 * count)) % 4 ∷ digits_in count bits
-
--- the lowest `count` fields of `digits` pairs of bits each, the lowest first
-abbrev pub labels_in : ℕ → ℕ → ℕ → List (List ℕ)
-labels_in zero digits bits = []
-labels_in (suc count) digits bits = digits_in digits bits ∷ labels_in count digits (bits / 2 ^ (2 * digits))

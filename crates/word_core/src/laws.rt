@@ -1,11 +1,16 @@
 //! What holds of all labels and all stamps.
 
-ghost use Rattle.word_core.specs.Law.{StampsLaw};
-ghost use Rattle.word_core.specs.Distinct.{DistinctLaw};
+ghost use Rattle.word_core.specs.HistoryLaws.{HistoryStandsLaw, WordStandsLaw, BeginningLaw, NextStepLaw, OneStepLaw, RowsLaw};
+ghost use Rattle.word_core.specs.Laws.{AgreementLaw, StampsLaw, DistinctLaw};
 
-/// After any stamps of any number of processes the labels are ordered as the whole-number tickets:
-/// their ranks and which is older are the tickets', and two labels are equal exactly where the
-/// tickets are, which are then 0.
+/// Labels that agree with whole-number tickets are ordered as these: their ranks and which is older
+/// are the tickets', and two labels are equal exactly where the tickets are, which are then 0. The
+/// start agrees, and each stamp of any process keeps it, for every number of processes.
+pub fn law_agreement()
+    ensures { AgreementLaw }
+{}
+
+/// After any stamps of any number of processes the labels stand for the whole-number tickets.
 pub fn law_stamps()
     ensures { StampsLaw }
 {}
@@ -13,4 +18,16 @@ pub fn law_stamps()
 /// Two lists of labels of one number of processes with the same word are the same list.
 pub fn law_words()
     ensures { DistinctLaw }
+{}
+
+/// Over every history of steps on shared words: its labels stand for its tickets, also where they are
+/// read off a word that has come back; a beginning of a legal one is legal; one more step is legal
+/// exactly where it can come next, and adds what it says.
+pub fn law_histories()
+    ensures stands { HistoryStandsLaw }
+    ensures words { WordStandsLaw }
+    ensures begins { BeginningLaw }
+    ensures follows { NextStepLaw }
+    ensures adds { OneStepLaw }
+    ensures rows { RowsLaw }
 {}

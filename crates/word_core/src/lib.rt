@@ -6,9 +6,12 @@
 // for the whole-number tickets.
 #![tactic(auto)]
 
+pub mod history;
 pub mod laws;
 mod order;
 mod packing;
 mod words;
 
-pub use words::LabelWord;
+pub use history::{Shared, SharedAct};
+pub use packing::LAYOUT;
+pub use words::{EMPTY_LABEL, LabelWord};

@@ -1,9 +1,12 @@
 ghost use Rattle.std.specs.Prelude.{◌≡◌, ◌↔◌, ◌+◌, ◌-◌, ◌*◌, ◌^◌, ◌<◌, ◌≤◌, ◌++◌, replicate, All, IsSome, IfSome, IsTrue};
 ghost use Rattle.label_core.specs.Labels.{IsLabel};
-ghost use Rattle.word_core.specs.Packed.{field, digits_in, labels_in};
-ghost use Rattle.word_core.specs.Packing.{field_set};
+ghost use Rattle.word_core.specs.Packed.{field};
+ghost use Rattle.word_core.specs.prover.Packing.{digits_in, label_in, labels_in, word_end, field_set};
 
 use label_core::{Label, MOST_DIGITS};
+
+/// The name of the layout that is told here, as texts give it.
+pub const LAYOUT: &str = "layout 1";
 
 // The lowest `count` pairs of bits, the highest first, and 0 past them.
 fn digits_of(bits: u64, count: usize) -> [u8; MOST_DIGITS]
@@ -17,8 +20,17 @@ fn digits_of(bits: u64, count: usize) -> [u8; MOST_DIGITS]
     digits
 }
 
-/// The label in the lowest `digits` pairs of bits, unless one of them is 11.
-pub fn label_of(bits: u64, digits: usize) -> Option<Label>
+/// Whether no bit is set past the fields of `n` labels.
+pub fn fits(n: u8, bits: u64) -> bool
+    requires at_least_one { 1 ≤ n }
+    requires at_most_six { n ≤ 6 }
+    ensures { IsTrue result ↔ (bits < word_end n) }
+{
+    bits >> (2 * (n * (n - 1))) == 0
+}
+
+// The label in the lowest `digits` pairs of bits, unless one of them is 11.
+fn label_of(bits: u64, digits: usize) -> Option<Label>
     requires { digits ≤ 5 }
     ensures some { IsSome result ↔ IsLabel digits (digits_in digits bits) }
     ensures label { IfSome result (λ label. label ≡ digits_in digits bits) }
@@ -40,6 +52,17 @@ pub fn are_labels(count: u8, digits: usize, bits: u64) -> bool
         rest >>= 2 * digits;
     }
     true
+}
+
+/// The label in the field of process `i`, where none of its pairs of bits is 11.
+pub fn label_in(bits: u64, i: u8, digits: u8) -> Label
+    requires narrow { digits ≤ 5 }
+    requires few { i < 6 }
+    requires label { IsLabel digits (label_in digits bits i) }
+    ensures { result ≡ label_in digits bits i }
+{
+    let row = digits_of(bits >> (2 * (digits * i)), digits as usize);
+    Label::from_row(digits, row)
 }
 
 // The label as a number of two bits a digit.

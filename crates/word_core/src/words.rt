@@ -1,15 +1,19 @@
 ghost use Rattle.std.specs.Prelude.{◌≡◌, ◌↔◌, ◌+◌, ◌-◌, ◌*◌, ◌^◌, ◌<◌, ◌≤◌, ℕ, List, [], ◌++◌, length, remove, replicate, slice_index, All, MatchOption, IsTrue};
-ghost use Rattle.label_core.specs.Labels.{IsLabel, label_ranks};
+ghost use Rattle.label_core.specs.Labels.{IsLabel, label_ranks, next};
 ghost use Rattle.ticket_core.specs.Tickets.{start_tickets, stamp_ticket};
 ghost use Rattle.word_core.specs.Stamps.{start_labels, label_at, stamped};
-ghost use Rattle.word_core.specs.Packed.{AreLabels, IsWordOf, word, labels_in};
+ghost use Rattle.word_core.specs.Packed.{AreLabels, IsWordOf, word};
+ghost use Rattle.word_core.specs.prover.Packing.{labels_in, word_end};
 ghost use Rattle.word_core.specs.Order.{IsOrdered, older_label};
 ghost use Rattle.word_core.specs.Agreement.{Agrees};
 
-use super::order::are_ordered;
-use super::packing::{are_labels, label_of, with_field};
-use label_core::{Label, MOST_DIGITS, MOST_LABELS, next_label, ranks};
+use crate::order::are_ordered;
+use crate::packing::{are_labels, fits, label_in, with_field};
+use label_core::{Label, MOST_DIGITS, MOST_LABELS, count_dominated, next_label};
 use std::marker::Model;
+
+/// What is written for a label of no digits, that of a single process.
+pub const EMPTY_LABEL: &str = "-";
 
 /// One label for each of one to six processes, packed into 64 bits.
 #[derive(Clone, Copy, PartialEq, Eq, Debug)]
@@ -19,16 +23,16 @@ pub struct LabelWord {
 }
 
 impl Model for LabelWord {
-    ghost use Rattle.std.specs.Prelude.{◌≡◌, ◌+◌, ◌-◌, ◌*◌, ◌^◌, ◌<◌, ◌≤◌, ℕ, List, length, All};
+    ghost use Rattle.std.specs.Prelude.{◌≡◌, ◌-◌, ◌<◌, ◌≤◌, ℕ, List, length, All};
     ghost use Rattle.label_core.specs.Labels.{IsLabel};
-    ghost use Rattle.word_core.specs.Packed.{word, labels_in};
-    ghost use Rattle.word_core.specs.Packing.{length-labels_in, word-labels_in};
+    ghost use Rattle.word_core.specs.Packed.{word};
+    ghost use Rattle.word_core.specs.prover.Packing.{labels_in, word_end, length-labels_in, word-labels_in};
 
     ghost Value = { List (List ℕ) };
 
     ghost view = { λ fields. labels_in fields.count (fields.count - 1) fields.bits };
 
-    ghost invariant = { λ fields. (1 ≤ fields.count) × (fields.count ≤ 6) × (fields.bits < 2 ^ (2 * (fields.count * (fields.count - 1)))) × All (IsLabel (fields.count - 1)) (labels_in fields.count (fields.count - 1) fields.bits) };
+    ghost invariant = { λ fields. (1 ≤ fields.count) × (fields.count ≤ 6) × (fields.bits < word_end fields.count) × All (IsLabel (fields.count - 1)) (labels_in fields.count (fields.count - 1) fields.bits) };
 
     ghost inverse = { λ labels. record { count = length labels; bits = word labels } };
 
@@ -40,33 +44,35 @@ impl Model for LabelWord {
 
 impl LabelWord {
     /// The word of `n` processes that never stamped: all digits are 0.
+    #[tactic(auto, using(crate::proofs::Views::start_in, crate::proofs::Views::start_small, crate::proofs::Views::start_each))]
     pub fn start(n: u8) -> LabelWord
         requires at_least_one { 1 ≤ n }
         requires at_most_six { n ≤ 6 }
         ensures start { result ≡ start_labels n }
         ensures agrees { Agrees n (start_tickets n) result }
     {
-        LabelWord { count: n, bits: 0 }
+        LabelWord::of_bits(n, 0)
     }
 
     /// The word of `n` processes with these bits; `None` where they are no word: where a pair of
     /// bits is 11, or one is set past the last label.
+    #[tactic(auto, using(crate::proofs::Views::is_word, crate::proofs::Views::word_small, crate::proofs::Views::word_each))]
     pub fn read(n: u8, bits: u64) -> Option<LabelWord>
         requires at_least_one { 1 ≤ n }
         requires at_most_six { n ≤ 6 }
         ensures { MatchOption result ((labels : List (List ℕ)) → ¬ IsWordOf n bits labels) (IsWordOf n bits) }
     {
-        let digits = (n - 1) as usize;
-        if bits >> (2 * (n as usize * digits)) != 0 {
+        if !fits(n, bits) {
             return None;
         }
-        if !are_labels(n, digits, bits) {
+        if !are_labels(n, (n - 1) as usize, bits) {
             return None;
         }
-        Some(LabelWord { count: n, bits })
+        Some(LabelWord::of_bits(n, bits))
     }
 
     /// The number of processes, 1 to 6.
+    #[tactic(auto, using(crate::proofs::Views::count_in, crate::proofs::Views::are_in))]
     pub fn n(&self) -> u8
         ensures count { result ≡ length self.now }
         ensures at_least_one { 1 ≤ result }
@@ -77,6 +83,7 @@ impl LabelWord {
     }
 
     /// The packed labels.
+    #[tactic(auto, using(crate::proofs::Views::bits_in))]
     pub fn bits(&self) -> u64
         ensures { result ≡ word self.now }
     {
@@ -89,8 +96,7 @@ impl LabelWord {
         ensures { result ≡ label_at self.now i }
     {
         let n = self.n();
-        let digits = (n - 1) as usize;
-        label_of(self.bits >> (2 * (digits * i as usize)), digits).unwrap()
+        label_in(self.bits, i, n - 1)
     }
 
     /// Whether whole numbers can be given to the processes so that one's label dominates another's
@@ -110,13 +116,8 @@ impl LabelWord {
         ensures ordered { IsOrdered result }
         ensures agrees { (tickets : List ℕ) → Agrees (length self.now) tickets self.now → Agrees (length self.now) (stamp_ticket p tickets) result }
     {
-        let n = self.n();
-        let digits = (n - 1) as usize;
-        let next = next_label(n, &self.others(p)[..digits]);
-        LabelWord {
-            count: n,
-            bits: with_field(self.bits, p, digits, &next),
-        }
+        let next = self.next(p);
+        self.with_next(p, &next)
     }
 
     /// How many labels that of process `i` dominates.
@@ -125,7 +126,9 @@ impl LabelWord {
         ensures { result ≡ slice_index (label_ranks self.now) i }
     {
         let n = self.n();
-        ranks(&self.labels()[..n as usize])[i as usize]
+        let row = self.labels();
+        let labels = &row[..n as usize];
+        count_dominated(&labels[i as usize], labels)
     }
 
     /// Whether the label of process `i` is dominated by that of process `j`.
@@ -136,6 +139,45 @@ impl LabelWord {
     {
         let _n = self.n();
         self.label(j).dominates(&self.label(i))
+    }
+
+    // The word of `n` processes with these bits.
+    fn of_bits(n: u8, bits: u64) -> LabelWord
+        requires at_least_one { 1 ≤ n }
+        requires at_most_six { n ≤ 6 }
+        requires small { bits < word_end n }
+        requires labels { All (IsLabel (n - 1)) (labels_in n (n - 1) bits) }
+        ensures { result ≡ labels_in n (n - 1) bits }
+    {
+        LabelWord { count: n, bits }
+    }
+
+    // The label that process `p` takes next.
+    fn next(&self, p: u8) -> Label
+        requires in_range { p < length self.now }
+        requires ordered { IsOrdered self.now }
+        ensures next { result ≡ next (length self.now) (remove self.now p) }
+        ensures label { IsLabel (length self.now - 1) result }
+    {
+        let n = self.n();
+        next_label(n, &self.others(p)[..(n - 1) as usize])
+    }
+
+    // The word in which process `p` has this label, its next.
+    fn with_next(&self, p: u8, label: &Label) -> LabelWord
+        requires in_range { p < length self.now }
+        requires ordered { IsOrdered self.now }
+        requires next { label.now ≡ next (length self.now) (remove self.now p) }
+        requires label { IsLabel (length self.now - 1) label.now }
+        ensures stamped { result ≡ stamped p self.now }
+        ensures ordered { IsOrdered result }
+        ensures agrees { (tickets : List ℕ) → Agrees (length self.now) tickets self.now → Agrees (length self.now) (stamp_ticket p tickets) result }
+    {
+        let n = self.n();
+        LabelWord {
+            count: n,
+            bits: with_field(self.bits, p, (n - 1) as usize, label),
+        }
     }
 
     // The labels of all but process `p`, and empty ones past the last.

@@ -5,4 +5,4 @@ use Rattle.command_line.proofs.laws.law_bare_commands.Goals as goal
 
 pub returns : goal.returns
 unfolding clap_on_literals is_taken command_in
-returns c = record { check = refl; emit = refl; text_after_check = refl }
+returns c = record { check = refl; emit = refl; text_after_check = refl; text_after_emit = refl }

@@ -6,12 +6,10 @@ use Rattle.command_line.proofs.laws.law_commands_with_text.Goals as goal
 pub returns : goal.returns
 unfolding clap_on_literals is_taken command_in
 returns c = record {
-  order = λ rest. refl;
-  source = λ rest. refl;
-  code = λ rest. refl;
-  lift = λ rest. refl;
-  drop = λ rest. refl;
-  run = λ rest. refl;
-  signed = refl;
-  empty = refl;
+  order = record { empty = refl; begun = (λ rest. refl, (λ rest. refl, (λ rest. refl, (λ rest. refl, (λ rest. refl, (λ rest. refl, (λ rest. refl, (λ rest. refl, (λ rest. refl, (λ rest. refl, (λ rest. refl, (λ rest. refl, tt)))))))))))); absent = refl; two = refl; flag = refl };
+  source = record { empty = refl; begun = (λ rest. refl, (λ rest. refl, (λ rest. refl, (λ rest. refl, (λ rest. refl, (λ rest. refl, (λ rest. refl, (λ rest. refl, (λ rest. refl, (λ rest. refl, (λ rest. refl, (λ rest. refl, tt)))))))))))); absent = refl; two = refl; flag = refl };
+  code = record { empty = refl; begun = (λ rest. refl, (λ rest. refl, (λ rest. refl, (λ rest. refl, (λ rest. refl, (λ rest. refl, (λ rest. refl, (λ rest. refl, (λ rest. refl, (λ rest. refl, (λ rest. refl, (λ rest. refl, tt)))))))))))); absent = refl; two = refl; flag = refl };
+  lift = record { empty = refl; begun = (λ rest. refl, (λ rest. refl, (λ rest. refl, (λ rest. refl, (λ rest. refl, (λ rest. refl, (λ rest. refl, (λ rest. refl, (λ rest. refl, (λ rest. refl, (λ rest. refl, (λ rest. refl, tt)))))))))))); absent = refl; two = refl; flag = refl };
+  drop = record { empty = refl; begun = (λ rest. refl, (λ rest. refl, (λ rest. refl, (λ rest. refl, (λ rest. refl, (λ rest. refl, (λ rest. refl, (λ rest. refl, (λ rest. refl, (λ rest. refl, (λ rest. refl, (λ rest. refl, tt)))))))))))); absent = refl; two = refl; flag = refl };
+  run = record { empty = refl; begun = (λ rest. refl, (λ rest. refl, (λ rest. refl, (λ rest. refl, (λ rest. refl, (λ rest. refl, (λ rest. refl, (λ rest. refl, (λ rest. refl, (λ rest. refl, (λ rest. refl, (λ rest. refl, tt)))))))))))); absent = refl; two = refl; flag = refl };
 }

@@ -8,8 +8,6 @@ unfolding clap_on_literals is_taken command_in
 returns c = record {
   nothing = refl;
   no_words = refl;
-  no_number = refl;
-  two_numbers = refl;
   help = refl;
   help_flag = refl;
   order_help = refl;

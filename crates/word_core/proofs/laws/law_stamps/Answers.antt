@@ -1,4 +1,4 @@
-use Rattle.word_core.proofs.Stamping.{stamps_law}
+use Rattle.word_core.proofs.Offered.{stamps_law}
 use Rattle.word_core.proofs.laws.law_stamps.Goals as goal
 
 pub returns : goal.returns

@@ -3,7 +3,7 @@ use Rattle.std.specs.Prelude.{All}
 use Rattle.std.proofs.lemmas.Bool.{both_ways}
 use Rattle.std.proofs.lemmas.List.Elements.{All-nil}
 use Rattle.label_core.specs.Labels.{IsLabel}
-use Rattle.word_core.specs.Packed.{labels_in}
+use Rattle.word_core.specs.prover.Packing.{labels_in}
 use Rattle.word_core.proofs.Fields.{split_labels, join_labels}
 use Rattle.word_core.proofs.packing.are_labels.Goals as goal
 

@@ -1,7 +1,7 @@
 use Rattle.std.proofs.Common.{◌↔◌, ◌-◌}
 use Rattle.std.specs.Prelude.{All}
 use Rattle.label_core.specs.Labels.{IsLabel}
-use Rattle.word_core.specs.Packed.{labels_in}
+use Rattle.word_core.specs.prover.Packing.{labels_in}
 use Rattle.word_core.proofs.packing.are_labels.Given as goal
 
 -- all are labels where those that are left are

@@ -1,5 +1,5 @@
 use Rattle.std.proofs.Common.{◌≡◌, ◌-◌, ◌++◌, take, replicate}
-use Rattle.word_core.specs.Packed.{digits_in}
+use Rattle.word_core.specs.prover.Packing.{digits_in}
 use Rattle.word_core.proofs.packing.digits_of.Given as goal
 
 -- the digits so far, and 0 past them

@@ -1,7 +1,7 @@
 use Rattle.std.proofs.Common.{◌≡◌, ◌≤◌, ◌+◌, ◌*◌, ◌/◌, ◌%◌, ◌^◌, ◌<◌, arith, sym, subst, ap, ◌∙◌}
 use Rattle.std.proofs.lemmas.Nat.{mul-le}
 use Rattle.word_core.specs.Packed.{field}
-use Rattle.word_core.specs.Packing.{field_lt}
+use Rattle.word_core.specs.prover.Packing.{field_lt}
 use Rattle.word_core.proofs.Fields.{FieldFits, field_fits}
 use Rattle.word_core.proofs.packing.with_field.Goals as goal
 

@@ -1,9 +1,9 @@
 use Rattle.std.proofs.Common.{◌≡◌, ◌∙◌, ◌+◌, Ok, ap, sym, drop, subst}
 use Rattle.std.proofs.lemmas.Result.{err_from_is_err_and}
-use Rattle.tick_kinds.proofs.Steps.{first_fails, second_fails, body_fails, if_checked, while_checked, goes_on, ends, next_item, no_item, checked_after}
-use Rattle.tick_kinds.specs.Checked.{Fails, checked_block}
+use Rattle.tick_kinds.proofs.Steps.{first_fails, second_fails, body_fails, branch_checked, repeat_checked, goes_on, ends, next_item, no_item, checked_after}
+use Rattle.tick_kinds.specs.prover.Checked.{Fails, checked_block}
 use Rattle.tick_kinds.specs.Resolved.{resolved_block}
-use Rattle.tick_kinds.specs.Table.{slot_at}
+use Rattle.tick_kinds.specs.prover.Table.{slot_at}
 use Rattle.tick_syntax.specs.View.{block_of}
 use Rattle.tick_kinds.proofs.names.Names.+statement.Goals as goal
 
@@ -28,13 +28,13 @@ statement-returns-in_err-block-in-While t c =
 
 pub statement-returns-in_ok-block-in-If : goal.statement-returns-in_ok-block-in-If
 statement-returns-in_ok-block-in-If t c =
-    if_checked (slot_at c.args.self.now.slots) _ _ _ _ _ _ _ c.in-If.is c.in_ok-test-in-If.ensures
+    branch_checked (slot_at c.args.self.now.slots) _ _ _ _ _ _ _ c.in-If.is c.in_ok-test-in-If.ensures
     (subst (λ xs. checked_block (slot_at c.args.self.now.slots) (block_of xs) ≡ Ok (resolved_block c.in_ok-first-in-If.first.items)) c.deref.ensures.value c.in_ok-first-in-If.ensures)
     (subst (λ xs. checked_block (slot_at c.args.self.now.slots) (block_of xs) ≡ Ok (resolved_block c.in_ok-block-in-If.field-0.items)) c.deref-in-If.ensures.value c.in_ok-block-in-If.ensures)
 
 pub statement-returns-in_ok-block-in-While : goal.statement-returns-in_ok-block-in-While
 statement-returns-in_ok-block-in-While t c =
-    while_checked (slot_at c.args.self.now.slots) _ _ _ _ _ c.in-While.is c.in_ok-test-in-While.ensures
+    repeat_checked (slot_at c.args.self.now.slots) _ _ _ _ _ c.in-While.is c.in_ok-test-in-While.ensures
     (subst (λ xs. checked_block (slot_at c.args.self.now.slots) (block_of xs) ≡ Ok (resolved_block c.in_ok-block-in-While.field-0.items)) c.deref-in-While.ensures.value c.in_ok-block-in-While.ensures)
 
 pub block-loop-statement-preserved : goal.block-loop-statement-preserved

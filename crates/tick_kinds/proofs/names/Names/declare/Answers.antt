@@ -3,7 +3,7 @@ use Rattle.std.proofs.lemmas.Map.Text.{hash_map_updates_str}
 use Rattle.tick_kinds.proofs.Declaring.{declares}
 use Rattle.tick_kinds.proofs.names.Names.declare.Goals as goal
 use Rattle.tick_kinds.specs.Declarations.{limit}
-use Rattle.tick_kinds.specs.Table.{slot_at}
+use Rattle.tick_kinds.specs.prover.Table.{slot_at}
 use Rattle.tick_syntax.specs.View.{name_of}
 
 pub returns : goal.returns

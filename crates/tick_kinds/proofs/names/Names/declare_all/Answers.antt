@@ -2,8 +2,8 @@ use Rattle.std.proofs.Common.{◌∙◌, ap}
 use Rattle.std.proofs.lemmas.Result.{err_from_is_err_and}
 use Rattle.tick_kinds.proofs.Declaring.{next_name, no_name, declared_all, declared_one, declared_none}
 use Rattle.tick_kinds.proofs.names.Names.declare_all.Goals as goal
-use Rattle.tick_kinds.specs.Checked.{checked_declarations}
-use Rattle.tick_kinds.specs.Table.{slot_at}
+use Rattle.tick_kinds.specs.prover.Checked.{checked_declarations}
+use Rattle.tick_kinds.specs.prover.Table.{slot_at}
 
 pub loop-number-preserved : goal.loop-number-preserved
 loop-number-preserved c =

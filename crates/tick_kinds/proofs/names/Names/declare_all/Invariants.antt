@@ -1,9 +1,9 @@
 use Rattle.std.proofs.Common.{◌≡◌, map}
 use Rattle.tick_kinds.proofs.Declaring.{from}
 use Rattle.tick_kinds.proofs.names.Names.declare_all.Given as goal
-use Rattle.tick_kinds.specs.Checked.{checked_declarations}
+use Rattle.tick_kinds.specs.prover.Checked.{checked_declarations}
 use Rattle.tick_kinds.specs.Declarations.{numbered}
-use Rattle.tick_kinds.specs.Table.{slot_at}
+use Rattle.tick_kinds.specs.prover.Table.{slot_at}
 use Rattle.tick_syntax.specs.View.{name_of}
 
 abbrev pub invariant-loop-number : goal.invariant-loop-number

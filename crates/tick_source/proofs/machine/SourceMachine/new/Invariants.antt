@@ -1,7 +1,7 @@
 use Rattle.std.proofs.Common.{◌≡◌, map, replicate}
 use Rattle.tick_kinds.specs.Resolution.{resolved}
 use Rattle.tick_source.specs.Source.{start_process}
-use Rattle.tick_source.specs.Machine.{process_of}
+use Rattle.tick_source.specs.prover.Machine.{process_of}
 use Rattle.tick_source.proofs.machine.SourceMachine.new.Given as goal
 
 -- the processes so far

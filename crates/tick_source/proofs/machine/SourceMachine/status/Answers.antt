@@ -1,7 +1,7 @@
 use Rattle.std.proofs.Common.{◌<◌, ap, ◌∙◌, sym, length}
 use Rattle.std.specs.Prelude.{slice_get}
 use Rattle.tick_source.specs.Source.{statuses_of}
-use Rattle.tick_source.proofs.Sound.{in_range, status_held}
+use Rattle.tick_source.proofs.StandsFor.{in_range, status_held}
 use Rattle.tick_source.proofs.machine.SourceMachine.status.Goals as goal
 
 pub returns : goal.returns

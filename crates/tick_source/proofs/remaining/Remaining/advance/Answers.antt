@@ -1,5 +1,5 @@
 use Rattle.std.proofs.Common.{ap, ◌∙◌, sym, arith, subst, refl}
-use Rattle.tick_source.specs.Remaining.{after_first, joined, IsUndone}
+use Rattle.tick_source.specs.prover.Remaining.{after_first, joined, IsUndone}
 use Rattle.tick_source.proofs.Open.{joined_set, undone_set, joined_take, undone_take, long_rest}
 use Rattle.tick_source.proofs.remaining.Remaining.advance.Goals as goal
 

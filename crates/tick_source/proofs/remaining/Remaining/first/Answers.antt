@@ -1,6 +1,6 @@
 use Rattle.std.proofs.Common.{◌-◌, ap, ◌∙◌, sym, subst, length, arith}
 use Rattle.std.specs.Option.{option_map}
-use Rattle.tick_source.specs.Remaining.{first_of, joined, IsUndone}
+use Rattle.tick_source.specs.prover.Remaining.{first_of, joined, IsUndone}
 use Rattle.tick_source.proofs.Open.{first_last, seen_first}
 use Rattle.tick_kinds.specs.Resolved.{resolved_statement}
 use Rattle.tick_source.proofs.remaining.Remaining.first.Goals as goal

@@ -1,6 +1,6 @@
 use Rattle.std.proofs.Common.{◌-◌, ap, refl, sym, ◌∙◌, length}
 use Rattle.word_core.specs.Packed.{word}
-use Rattle.word_core.specs.Packing.{length-labels_in, word-labels_in}
+use Rattle.word_core.specs.prover.Packing.{length-labels_in, word-labels_in}
 use Rattle.word_core.proofs.words.LabelWordPartialEq.eq.Goals as goal
 
 pub returns : goal.returns

@@ -1,0 +1,111 @@
+-- The instruction whose line begins a text is guessed.
+use Rattle.std.proofs.Common.{◌≡◌, ℕ, ◌%◌, ◌^◌, ◌<◌, List, ◌∷◌, ◌++◌, refl, ap, ◌∙◌, sym, subst, arith, codes, drop, append_assoc}
+use Rattle.std.specs.Fmt.{decimal}
+use Rattle.machine_core.specs.declared.operator.Op.{Op}
+use Rattle.machine_core.specs.declared.operator.Op.TheVariants as O
+use Rattle.verified_code.specs.declared.instr.Instr.{Instr}
+use Rattle.verified_code.specs.declared.instr.Instr.TheVariants as I
+use Rattle.verified_code.specs.Instructions.{CodeSizes, AreSizes}
+use Rattle.code_text.specs.CodeText.{line_feed, instr_line, header_line, InRange, HasNoLine, HasNoHeader}
+use Rattle.code_text.specs.prover.Guess.{leading, second, guess, guessed_sizes}
+use Rattle.code_text.proofs.Leading.{last_number, number_then}
+
+slot_same : (x : ℕ) → x < 2 ^ 8 → x % 256 ≡ x
+slot_same x small = omega arith
+
+place_same : (x : ℕ) → x < 2 ^ 16 → x % 65536 ≡ x
+place_same x small = omega arith
+
+slot_read : (x : ℕ) (more : List ℕ) → x < 2 ^ 8 → (leading 0 ((decimal x ++ line_feed) ++ more)).0 % 256 ≡ x
+slot_read x more small = ap (λ a. a.0 % 256) (last_number x more (omega arith)) ∙ slot_same x small
+
+place_read : (x : ℕ) (more : List ℕ) → x < 2 ^ 16 → (leading 0 ((decimal x ++ line_feed) ++ more)).0 % 65536 ≡ x
+place_read x more small = ap (λ a. a.0 % 65536) (last_number x more (omega arith)) ∙ place_same x small
+
+regrouped : (a b c d e : List ℕ) → (((a ++ b) ++ c) ++ d) ++ e ≡ a ++ (b ++ ((c ++ d) ++ e))
+regrouped a b c d e = simp append_assoc
+
+-- two numbers with a space between them
+abbrev pair_text : ℕ → ℕ → List ℕ → List ℕ
+pair_text x y more = (((decimal x ++ codes " ") ++ decimal y) ++ line_feed) ++ more
+
+pair_read : (x y : ℕ) (more : List ℕ) → x < 2 ^ 8 → leading 0 (pair_text x y more) ≡ (x, 32 ∷ ((decimal y ++ line_feed) ++ more))
+pair_read x y more small =
+    ap (leading 0) (regrouped (decimal x) (codes " ") (decimal y) line_feed more)
+    ∙ number_then x ((decimal y ++ line_feed) ++ more) (omega arith)
+
+first_read : (x y : ℕ) (more : List ℕ) → x < 2 ^ 8 → (leading 0 (pair_text x y more)).0 % 256 ≡ x
+first_read x y more small = ap (λ a. a.0 % 256) (pair_read x y more small) ∙ slot_same x small
+
+second_read : (x y : ℕ) (more : List ℕ) → x < 2 ^ 8 → y < 2 ^ 8 → (second (pair_text x y more)).0 % 256 ≡ y
+second_read x y more small other = ap (λ a. (leading 0 (drop 1 a.1)).0 % 256) (pair_read x y more small) ∙ slot_read y more other
+
+operator_line : (op : Op) (more : List ℕ) → guess (instr_line (I.Bin op) ++ more) ≡ I.Bin op
+operator_line O.Add more = refl
+operator_line O.Sub more = refl
+operator_line O.Mul more = refl
+operator_line O.Div more = refl
+operator_line O.Rem more = refl
+operator_line O.Less more = refl
+operator_line O.AtMost more = refl
+operator_line O.Equal more = refl
+operator_line O.Differs more = refl
+
+pub guess_line : (i : Instr) (more : List ℕ) → InRange i → guess (instr_line i ++ more) ≡ i
+guess_line (I.Push v) more small = ap (λ a. I.Push a.0) (last_number v more small)
+guess_line (I.Load x) more small = ap I.Load (slot_read x more small)
+guess_line I.Me more small = refl
+guess_line I.Count more small = refl
+guess_line (I.Bin op) more small = operator_line op more
+guess_line (I.Store x) more small = ap I.Store (slot_read x more small)
+guess_line (I.Get r x) more small = λ j. I.Get (first_read r x more small.0 j) (second_read r x more small.0 small.1 j)
+guess_line (I.Put r) more small = ap I.Put (slot_read r more small)
+guess_line I.LoadWord more small = refl
+guess_line I.Next more small = refl
+guess_line (I.Exchange l) more small = ap I.Exchange (place_read l more small)
+guess_line (I.Scan s) more small = ap I.Scan (slot_read s more small)
+guess_line (I.Copy s t) more small = λ j. I.Copy (first_read s t more small.0 j) (second_read s t more small.0 small.1 j)
+guess_line (I.Older s x) more small = λ j. I.Older (first_read s x more small.0 j) (second_read s x more small.0 small.1 j)
+guess_line I.Out more small = refl
+guess_line (I.JumpZero l) more small = ap I.JumpZero (place_read l more small)
+guess_line (I.Jump l) more small = ap I.Jump (place_read l more small)
+guess_line I.Halt more small = refl
+
+-- where the guessed line does not begin the text, no line does
+pub no_line : (text : List ℕ) → ((more : List ℕ) → instr_line (guess text) ++ more ≡ text → ⊥) → HasNoLine text
+no_line text not_this i more small is =
+    not_this more (ap (λ j. instr_line j ++ more) (ap guess (sym is) ∙ guess_line i more small) ∙ is)
+
+regrouped_header : (a b c d e f g h k : List ℕ)
+    → (((((((a ++ b) ++ c) ++ d) ++ e) ++ f) ++ g) ++ h) ++ k ≡ a ++ (b ++ (c ++ (d ++ (e ++ (f ++ ((g ++ h) ++ k))))))
+regrouped_header a b c d e f g h k = simp append_assoc
+
+pub guess_header : (z : CodeSizes) (more : List ℕ) → AreSizes z → guessed_sizes (header_line z ++ more) ≡ z
+guess_header z more are =
+    let text = header_line z ++ more in
+    let last = (decimal z.rows ++ line_feed) ++ more in
+    let third = decimal z.scans ++ 32 ∷ last in
+    let other = decimal z.variables ++ 32 ∷ third in
+    let first : leading 0 (drop 11 text) ≡ (z.processes, 32 ∷ other) =
+    ap (leading 0) (regrouped_header (decimal z.processes) (codes " ") (decimal z.variables) (codes " ") (decimal z.scans) (codes " ") (decimal z.rows) line_feed more)
+    ∙ number_then z.processes other (omega (arith, are.at_most_six)) in
+    let two : leading 0 (drop 1 (leading 0 (drop 11 text)).1) ≡ (z.variables, 32 ∷ third) =
+    ap (λ a. leading 0 (drop 1 a.1)) first ∙ number_then z.variables third (omega (arith, are.variables)) in
+    let three : leading 0 (drop 1 (leading 0 (drop 1 (leading 0 (drop 11 text)).1)).1) ≡ (z.scans, 32 ∷ last) =
+    ap (λ a. leading 0 (drop 1 a.1)) two ∙ number_then z.scans last (omega (arith, are.scans)) in
+    let four : leading 0 (drop 1 (leading 0 (drop 1 (leading 0 (drop 1 (leading 0 (drop 11 text)).1)).1)).1) ≡ (z.rows, 10 ∷ more) =
+    ap (λ a. leading 0 (drop 1 a.1)) three ∙ last_number z.rows more (omega (arith, are.rows)) in
+    λ j. record {
+      processes = (ap (λ a. a.0 % 256) first ∙ slot_same z.processes (omega (arith, are.at_most_six))) j;
+      variables = (ap (λ a. a.0 % 256) two ∙ slot_same z.variables (omega (arith, are.variables))) j;
+      scans = (ap (λ a. a.0 % 256) three ∙ slot_same z.scans (omega (arith, are.scans))) j;
+      rows = (ap (λ a. a.0 % 256) four ∙ slot_same z.rows (omega (arith, are.rows))) j;
+    }
+
+-- where the guessed sizes are none, or their line does not begin the text, no line of sizes does
+pub no_sizes : (text : List ℕ) → (AreSizes (guessed_sizes text) → ⊥) → HasNoHeader text
+no_sizes text none z more are is = none (subst AreSizes (sym (ap guessed_sizes (sym is) ∙ guess_header z more are)) are)
+
+pub no_header : (text : List ℕ) → ((more : List ℕ) → header_line (guessed_sizes text) ++ more ≡ text → ⊥) → HasNoHeader text
+no_header text not_this z more are is =
+    not_this more (ap (λ y. header_line y ++ more) (ap guessed_sizes (sym is) ∙ guess_header z more are) ∙ is)

@@ -1,0 +1,4 @@
+mod Leading
+mod Guessing
+mod Unique
+mod Lines

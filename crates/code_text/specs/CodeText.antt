@@ -1,0 +1,111 @@
+-- Codes as texts: how they are written, and what a text is read as.
+use Rattle.std.specs.Prelude.{◌≡◌, ◌⊎◌, ℕ, ◌+◌, ◌<◌, ◌^◌, List, [], ◌∷◌, ◌++◌, codes, length, Some, Result, Ok, Err}
+use Rattle.std.specs.Fmt.{decimal}
+use Rattle.machine_core.specs.Operators.{sign}
+use Rattle.verified_code.specs.declared.instr.Instr.{Instr}
+use Rattle.verified_code.specs.declared.instr.Instr.TheVariants as I
+use Rattle.verified_code.specs.declared.fault.CodeFault.{CodeFault}
+use Rattle.verified_code.specs.declared.fault.CodeFault.TheVariants as F
+use Rattle.verified_code.specs.Instructions.{CodeSizes, AreSizes, StepCode}
+use Rattle.verified_code.specs.Verified.{code_fault, IsVerified}
+
+abbrev pub line_feed : List ℕ
+line_feed = 10 ∷ []
+
+-- an instruction: its name, and its operands after one space each
+abbrev pub instr_text : Instr → List ℕ
+instr_text (I.Push v) = codes "Push " ++ decimal v
+instr_text (I.Load x) = codes "Load " ++ decimal x
+instr_text I.Me = codes "Me"
+instr_text I.Count = codes "Count"
+instr_text (I.Bin op) = codes "Bin " ++ sign op
+instr_text (I.Store x) = codes "Store " ++ decimal x
+instr_text (I.Get r x) = codes "Get " ++ decimal r ++ codes " " ++ decimal x
+instr_text (I.Put r) = codes "Put " ++ decimal r
+instr_text I.LoadWord = codes "LoadWord"
+instr_text I.Next = codes "Next"
+instr_text (I.Exchange l) = codes "Exchange " ++ decimal l
+instr_text (I.Scan s) = codes "Scan " ++ decimal s
+instr_text (I.Copy s t) = codes "Copy " ++ decimal s ++ codes " " ++ decimal t
+instr_text (I.Older s x) = codes "Older " ++ decimal s ++ codes " " ++ decimal x
+instr_text I.Out = codes "Out"
+instr_text (I.JumpZero l) = codes "JumpZero " ++ decimal l
+instr_text (I.Jump l) = codes "Jump " ++ decimal l
+instr_text I.Halt = codes "Halt"
+
+abbrev pub instr_line : Instr → List ℕ
+instr_line i = instr_text i ++ line_feed
+
+abbrev pub code_lines : List Instr → List ℕ
+code_lines [] = []
+code_lines (i ∷ is) = instr_line i ++ code_lines is
+
+-- the line of the sizes, which a text begins with
+abbrev pub header_line : CodeSizes → List ℕ
+header_line z =
+    codes "tickcode 1 " ++ decimal z.processes ++ codes " " ++ decimal z.variables ++ codes " " ++ decimal z.scans
+    ++ codes " " ++ decimal z.rows ++ line_feed
+
+abbrev pub code_text : StepCode → List ℕ
+code_text c = header_line c.sizes ++ code_lines c.instructions
+
+-- values are below 4294967296, places below 65536 and slots below 256
+abbrev pub InRange : Instr → Type 0
+InRange (I.Push v) = v < 2 ^ 32
+InRange (I.Load x) = x < 2 ^ 8
+InRange (I.Store x) = x < 2 ^ 8
+InRange (I.Get r x) = (r < 2 ^ 8) × (x < 2 ^ 8)
+InRange (I.Put r) = r < 2 ^ 8
+InRange (I.Exchange l) = l < 2 ^ 16
+InRange (I.Scan s) = s < 2 ^ 8
+InRange (I.Copy s t) = (s < 2 ^ 8) × (t < 2 ^ 8)
+InRange (I.Older s x) = (s < 2 ^ 8) × (x < 2 ^ 8)
+InRange (I.JumpZero l) = l < 2 ^ 16
+InRange (I.Jump l) = l < 2 ^ 16
+InRange _ = Unit {0}
+
+abbrev pub AllInRange : List Instr → Type 0
+AllInRange [] = Unit {0}
+AllInRange (i ∷ is) = InRange i × AllInRange is
+
+-- the text is that of this list of instructions with its sizes
+pub record IsTextOf (c : StepCode) (text : List ℕ) : Type 0 where
+  pub sizes : AreSizes c.sizes
+  pub numbers : AllInRange c.instructions
+  pub spelled : code_text c ≡ text
+
+-- it begins with no line of sizes
+abbrev pub HasNoHeader : List ℕ → Type 0
+HasNoHeader text = (z : CodeSizes) (more : List ℕ) → AreSizes z → header_line z ++ more ≡ text → ⊥
+
+-- it begins with no line of an instruction
+abbrev pub HasNoLine : List ℕ → Type 0
+HasNoLine text = (i : Instr) (more : List ℕ) → InRange i → instr_line i ++ more ≡ text → ⊥
+
+-- after lines of instructions it goes on, and line `k` from there is none
+pub record HasBadLine (k : ℕ) (text : List ℕ) : Type 0 where
+  pub good : List Instr
+  pub numbers : AllInRange good
+  pub rest : List ℕ
+  pub some : 0 < length rest
+  pub spelled : code_lines good ++ rest ≡ text
+  pub bad : HasNoLine rest
+  pub line : k ≡ length good
+
+-- the first bad line of the text; the header is line 1
+abbrev pub IsBadLine : ℕ → List ℕ → Type 0
+IsBadLine k text =
+    ((k ≡ 1) × HasNoHeader text)
+    ⊎ ((z : CodeSizes) × (rest : List ℕ) × (j : ℕ) × AreSizes z × (header_line z ++ rest ≡ text) × HasBadLine j rest × (k ≡ j + 2))
+
+-- the first line that is not of the form is bad, or the text is that of instructions of which this
+-- is the first fault
+abbrev pub HasFault : List ℕ → CodeFault → Type 0
+HasFault text fault =
+    ((k : ℕ) × (fault ≡ F.BadLine k) × IsBadLine k text)
+    ⊎ ((c : StepCode) × IsTextOf c text × (code_fault c.sizes c.instructions ≡ Some fault))
+
+-- what a text is read as: the verified code whose text it is, else its fault
+abbrev pub Reading : List ℕ → Result StepCode CodeFault → Type 0
+Reading text (Ok c) = IsTextOf c text × IsVerified c.sizes c.instructions
+Reading text (Err fault) = HasFault text fault

@@ -1,0 +1,14 @@
+-- What holds of all codes and all texts.
+use Rattle.std.specs.Prelude.{◌≡◌, ℕ, List, Result, Ok}
+use Rattle.verified_code.specs.declared.fault.CodeFault.{CodeFault}
+use Rattle.verified_code.specs.Instructions.{AreSizes, StepCode}
+use Rattle.verified_code.specs.Verified.{IsVerified}
+use Rattle.code_text.specs.CodeText.{code_text, AllInRange, Reading}
+
+-- a text is read as one code, or has one fault
+abbrev pub OneReadingLaw : Type 0
+OneReadingLaw = (text : List ℕ) (r s : Result StepCode CodeFault) → Reading text r → Reading text s → r ≡ s
+
+-- a verified code that was written is read as itself
+abbrev pub RoundTripLaw : Type 0
+RoundTripLaw = (c : StepCode) → AreSizes c.sizes → AllInRange c.instructions → IsVerified c.sizes c.instructions → Reading (code_text c) (Ok c)

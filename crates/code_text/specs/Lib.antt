@@ -1,0 +1,3 @@
+pub mod CodeText
+pub mod Laws
+pub mod prover

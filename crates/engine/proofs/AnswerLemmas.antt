@@ -1,0 +1,122 @@
+-- Each command line has one answer on each input.
+use Rattle.std.proofs.Common.{◌≡◌, ℕ, ◌≤◌, ◌⊎◌, inl, inr, Bool, true, false, List, length, nat_lt, Option, Some, None, Result, Ok, Err, if◌then◌else◌, refl, sym, ◌∙◌, ap, arith}
+use Rattle.std.proofs.lemmas.Bool.Decides.{leb_tells}
+use Rattle.std.specs.Str.{is_utf8}
+use Rattle.std.specs.Str.Lossy.{utf8_valid_len}
+use Rattle.command_line.specs.Line.{Asked}
+use Rattle.tick_kinds.specs.Accepted.{IsAccepted}
+use Rattle.tick_kinds.specs.Refusals.{first_refusal}
+use Rattle.tick_kinds.specs.declared.fault.KindFault.{KindFault}
+use Rattle.tick_kinds.proofs.Offered.{acceptance_law}
+use Rattle.tick_syntax.specs.Decided.{IsWithinLimits}
+use Rattle.tick_syntax.specs.Plain.{Name, WholeProgram}
+use Rattle.tick_syntax.specs.Refusal.{IsTextRefused}
+use Rattle.tick_syntax.specs.declared.fault.TextFault.{TextFault}
+use Rattle.tick_syntax.proofs.Offered.{one_program, one_refusal, never_both, never_neither}
+use Rattle.engine.specs.Answer.{Answer, refused, stopped}
+use Rattle.engine.specs.Commands.{Answers, Job, JobAnswers, TextAnswers, UnlessRefused, job_of, line_answer}
+use Rattle.engine.specs.Commands.Job.{Order, Check, Source}
+use Rattle.engine.specs.Order.{order_answer}
+use Rattle.engine.specs.Programs.{IsProgramText, IsTextAnswer, no_program, not_accepted, accepted, check_answer, source_answer}
+use Rattle.engine.specs.Stop.{kinds_stop, text_stop}
+use Rattle.engine.specs.Text.{text_fault}
+use Rattle.engine.specs.declared.command.LineFault.{LineFault}
+use Rattle.engine.specs.declared.refusal.Refusal.{Refusal}
+use Rattle.engine.specs.declared.refusal.Refusal.TheVariants.{TextTooLong, BadCharacter}
+
+same_fault : (a b : KindFault) → Some a ≡ Some b → a ≡ b
+same_fault a b h = cc
+
+-- a program that isn't accepted has a first fault
+first_fault : (o : Option KindFault) → (o ≡ None) ⊎ ((fault : KindFault) × (o ≡ Some fault))
+first_fault None = inl refl
+first_fault (Some fault) = inr (fault, refl)
+
+module _ (by : WholeProgram Name → Answer) (text : List ℕ) (short : length text ≤ 1000000) where
+  within : (p : WholeProgram Name) → IsProgramText text p → IsWithinLimits text p
+  within p reads = (short, reads.is_text, reads.shallow)
+
+  same_program : (p q : WholeProgram Name) → IsProgramText text p → IsProgramText text q → p ≡ q
+  same_program p q r s = one_program text p q r.is_text s.is_text
+
+  -- it isn't both accepted and refused
+  refused_alone : (p : WholeProgram Name) (fault : KindFault) → IsAccepted p → first_refusal p ≡ Some fault → ⊥
+  refused_alone p fault fine first =
+      let none : first_refusal p ≡ None = (acceptance_law p).0 fine in
+      cc
+
+  one_answer : (a b : Answer) → IsTextAnswer by text a → IsTextAnswer by text b → a ≡ b
+  one_answer a b (no_program f h is) (no_program g k same) =
+      is ∙ ap (λ z. stopped (text_stop z)) (one_refusal text f g h k) ∙ sym same
+  one_answer a b (no_program f h is) (not_accepted q g s k same) = absurd (never_both text q f (within q s) h)
+  one_answer a b (no_program f h is) (accepted q s k same) = absurd (never_both text q f (within q s) h)
+  one_answer a b (not_accepted p f r h is) (no_program g k same) = absurd (never_both text p g (within p r) k)
+  one_answer a b (accepted p r h is) (no_program g k same) = absurd (never_both text p g (within p r) k)
+  one_answer a b (not_accepted p f r h is) (not_accepted q g s k same) =
+      is ∙ ap (λ z. stopped (kinds_stop z)) (same_fault f g (sym h ∙ ap first_refusal (same_program p q r s) ∙ k)) ∙ sym same
+  one_answer a b (not_accepted p f r h is) (accepted q s k same) =
+      absurd (refused_alone q f k (ap first_refusal (same_program q p s r) ∙ h))
+  one_answer a b (accepted p r h is) (not_accepted q g s k same) =
+      absurd (refused_alone p g h (ap first_refusal (same_program p q r s) ∙ k))
+  one_answer a b (accepted p r h is) (accepted q s k same) = is ∙ ap by (same_program p q r s) ∙ sym same
+
+  abbrev Answered : Type 0
+  Answered = (a : Answer) × IsTextAnswer by text a
+
+  by_kinds : (p : WholeProgram Name) → IsProgramText text p → (first_refusal p ≡ None) ⊎ ((fault : KindFault) × (first_refusal p ≡ Some fault)) → Answered
+  by_kinds p r (inl none) = (by p, accepted p r ((acceptance_law p).1 none) refl)
+  by_kinds p r (inr first) = (stopped (kinds_stop first.0), not_accepted p first.0 r first.1 refl)
+
+  by_text : ((p : WholeProgram Name) × IsWithinLimits text p) ⊎ ((fault : TextFault) × IsTextRefused text fault) → Answered
+  by_text (inl found) =
+      by_kinds found.0 (record { is_text = found.1.1; shallow = found.1.2 }) (first_fault (first_refusal found.0))
+  by_text (inr found) = (stopped (text_stop found.0), no_program found.0 found.1 refl)
+
+  answered : Answered
+  answered = by_text (never_neither text)
+
+-- an input that is a text isn't too long
+short_by : (long utf8 : Bool) (place : ℕ)
+    → (let fault : Option Refusal = if long then Some TextTooLong else if utf8 then None else Some (BadCharacter place) in fault) ≡ None
+    → long ≡ false
+short_by true utf8 place h = absurd (cc)
+short_by false utf8 place h = refl
+
+short_input : (input : List ℕ) → text_fault input ≡ None → length input ≤ 1000000
+short_input input h =
+    let no : nat_lt 1000000 (length input) ≡ false = short_by (nat_lt 1000000 (length input)) (is_utf8 input) (utf8_valid_len input) h in
+    elim (leb_tells 1000001 (length input)) [ inl long ↦ absurd (cc) | inr short ↦ omega (arith, short.1) ]
+
+one_text_answer : (job : Job) (text : List ℕ) → length text ≤ 1000000 → (a b : Answer) → TextAnswers job text a → TextAnswers job text b → a ≡ b
+one_text_answer (Order n) text short a b h k = h ∙ sym k
+one_text_answer Check text short a b h k = one_answer check_answer text short a b h k
+one_text_answer (Source schedule) text short a b h k = one_answer (source_answer schedule) text short a b h k
+
+some_text_answer : (job : Job) (text : List ℕ) → length text ≤ 1000000 → (a : Answer) × TextAnswers job text a
+some_text_answer (Order n) text short = (order_answer n text, refl)
+some_text_answer Check text short = answered check_answer text short
+some_text_answer (Source schedule) text short = answered (source_answer schedule) text short
+
+module _ (job : Job) (input : List ℕ) where
+  one_by : (o : Option Refusal) → text_fault input ≡ o → (a b : Answer)
+      → UnlessRefused o (TextAnswers job input) a → UnlessRefused o (TextAnswers job input) b → a ≡ b
+  one_by None is a b h k = one_text_answer job input (short_input input is) a b h k
+  one_by (Some refusal) is a b h k = h ∙ sym k
+
+  some_by : (o : Option Refusal) → text_fault input ≡ o → (a : Answer) × UnlessRefused o (TextAnswers job input) a
+  some_by None is = some_text_answer job input (short_input input is)
+  some_by (Some refusal) is = (refused refusal, refl)
+
+one_by_job : (job : Result Job LineFault) (input : List ℕ) (a b : Answer) → JobAnswers job input a → JobAnswers job input b → a ≡ b
+one_by_job (Ok job) input a b h k = one_by job input (text_fault input) refl a b h k
+one_by_job (Err fault) input a b h k = h ∙ sym k
+
+some_by_job : (job : Result Job LineFault) (input : List ℕ) → (a : Answer) × JobAnswers job input a
+some_by_job (Ok job) input = some_by job input (text_fault input) refl
+some_by_job (Err fault) input = (line_answer fault, refl)
+
+pub one_of : (asked : Option Asked) (input : List ℕ) (a b : Answer) → Answers asked input a → Answers asked input b → a ≡ b
+one_of asked input a b h k = one_by_job (job_of asked) input a b h k
+
+pub some_of : (asked : Option Asked) (input : List ℕ) → (a : Answer) × Answers asked input a
+some_of asked input = some_by_job (job_of asked) input

@@ -1,0 +1,13 @@
+pub mod Ends
+pub mod Reading
+pub mod Writing
+pub mod Refusal
+pub mod Stop
+pub mod Text
+pub mod Order
+pub mod Answer
+pub mod Programs
+pub mod Commands
+pub mod Serving
+pub mod Laws
+pub mod prover

@@ -1,0 +1,53 @@
+-- What `order` answers: the labels that a schedule of stamps leaves, beside the ranks of the
+-- whole-number tickets.
+use Rattle.std.specs.Prelude.{ℕ, ◌==◌, List, [], ◌∷◌, ◌++◌, codes, length, map, Result, Ok, Err, if◌then◌else◌}
+use Rattle.std.specs.Fmt.{decimal}
+use Rattle.std.specs.List.{flat_map}
+use Rattle.ticket_core.specs.Tickets.{start_tickets, tickets_after, ticket_ranks}
+use Rattle.word_core.specs.Stamps.{labels_after, stamped, start_labels}
+use Rattle.word_core.specs.Packed.{word}
+use Rattle.tick_play.specs.Schedule.{schedule_of}
+use Rattle.tick_play.specs.declared.schedule.ScheduleFault.{ScheduleFault}
+use Rattle.engine.specs.Answer.{Answer, done, stopped}
+use Rattle.engine.specs.Refusal.{line_feed}
+use Rattle.engine.specs.Stop.{schedule_stop}
+
+-- process `p` stamped, which left these labels
+abbrev pub stamp_line : ℕ → List (List ℕ) → List ℕ
+stamp_line p labels = codes "stamp " ++ decimal p ++ codes " word " ++ decimal (word labels) ++ line_feed
+
+-- a line for each stamp, from these labels on
+abbrev pub stamp_lines : List (List ℕ) → List ℕ → List ℕ
+stamp_lines labels [] = []
+stamp_lines labels (p ∷ stamps) = stamp_line p (stamped p labels) ++ stamp_lines (stamped p labels) stamps
+
+-- the digits of a label, or a dash where it has none
+abbrev pub label_text : List ℕ → List ℕ
+label_text label = if length label == 0 then codes "-" else flat_map decimal label
+
+-- each text after a space
+abbrev pub spaced : List (List ℕ) → List ℕ
+spaced [] = []
+spaced (text ∷ texts) = codes " " ++ text ++ spaced texts
+
+-- the word of these labels, the labels, and these ranks
+abbrev pub state_lines : List (List ℕ) → List ℕ → List ℕ
+state_lines labels ranks =
+    codes "word " ++ decimal (word labels) ++ line_feed
+    ++ codes "labels" ++ spaced (map label_text labels) ++ line_feed
+    ++ codes "ranks" ++ spaced (map decimal ranks) ++ line_feed
+
+-- the labels are those of the choice rule, and the ranks those of the tickets
+abbrev pub stamps_text : ℕ → List ℕ → List ℕ
+stamps_text n stamps =
+    codes "layout 1" ++ line_feed
+    ++ stamp_lines (start_labels n) stamps
+    ++ state_lines (labels_after (start_labels n) stamps) (ticket_ranks (tickets_after (start_tickets n) stamps))
+
+abbrev pub stamps_answer : ℕ → Result (List ℕ) ScheduleFault → Answer
+stamps_answer n (Ok stamps) = done (stamps_text n stamps)
+stamps_answer n (Err fault) = stopped (schedule_stop fault)
+
+-- for `n` processes and the schedule that a text spells
+abbrev pub order_answer : ℕ → List ℕ → Answer
+order_answer n text = stamps_answer n (schedule_of n text)

@@ -1,0 +1,41 @@
+-- What the commands on a program answer, by the text: it is refused, or the program that it is, or that
+-- program is accepted and answered.
+use Rattle.std.specs.Prelude.{◌≡◌, ℕ, ◌≤◌, List, Some, Result, Ok, Err}
+use Rattle.tick_kinds.specs.Accepted.{IsAccepted}
+use Rattle.tick_kinds.specs.Refusals.{first_refusal}
+use Rattle.tick_kinds.specs.Resolution.{resolved}
+use Rattle.tick_kinds.specs.declared.fault.KindFault.{KindFault}
+use Rattle.tick_play.specs.Report.{source_report}
+use Rattle.tick_play.specs.Schedule.{schedule_of}
+use Rattle.tick_play.specs.declared.schedule.ScheduleFault.{ScheduleFault}
+use Rattle.tick_syntax.specs.Nesting.{nesting}
+use Rattle.tick_syntax.specs.Plain.{Name, WholeProgram}
+use Rattle.tick_syntax.specs.Printed.{printed}
+use Rattle.tick_syntax.specs.Refusal.{IsTextRefused}
+use Rattle.tick_syntax.specs.RoundTrip.{IsTextOf}
+use Rattle.tick_syntax.specs.declared.fault.TextFault.{TextFault}
+use Rattle.engine.specs.Answer.{Answer, done, stopped}
+use Rattle.engine.specs.Stop.{kinds_stop, schedule_stop, text_stop}
+
+-- the text is this program, and within the limits
+pub record IsProgramText (text : List ℕ) (p : WholeProgram Name) : Type 0 where
+  pub is_text : IsTextOf text p
+  pub shallow : nesting p ≤ 64
+
+-- the text is no program, or one that isn't accepted, or one that is and that `by` answers
+pub data IsTextAnswer (by : WholeProgram Name → Answer) (text : List ℕ) (a : Answer) : Type 0 where
+  no_program : (fault : TextFault) → IsTextRefused text fault → a ≡ stopped (text_stop fault) → IsTextAnswer by text a
+  not_accepted : (p : WholeProgram Name) (fault : KindFault) → IsProgramText text p → first_refusal p ≡ Some fault
+      → a ≡ stopped (kinds_stop fault) → IsTextAnswer by text a
+  accepted : (p : WholeProgram Name) → IsProgramText text p → IsAccepted p → a ≡ by p → IsTextAnswer by text a
+
+abbrev pub check_answer : WholeProgram Name → Answer
+check_answer p = done (printed p)
+
+abbrev pub report_answer : WholeProgram Name → Result (List ℕ) ScheduleFault → Answer
+report_answer p (Ok steps) = done (source_report (resolved p) steps)
+report_answer p (Err fault) = stopped (schedule_stop fault)
+
+-- `source` with the text of a schedule
+abbrev pub source_answer : List ℕ → WholeProgram Name → Answer
+source_answer schedule p = report_answer p (schedule_of p.processes schedule)

@@ -1,0 +1,39 @@
+-- The line that tells why an input is refused.
+use Rattle.std.specs.Prelude.{ℕ, List, [], ◌∷◌, ◌++◌, codes}
+use Rattle.std.specs.Fmt.{decimal}
+use Rattle.tick_kinds.specs.declared.kind.Kind.{Kind}
+use Rattle.tick_kinds.specs.declared.kind.Kind.TheVariants.{Variable, Scan, Register}
+use Rattle.tick_syntax.specs.declared.span.Span.{Span}
+use Rattle.engine.specs.declared.refusal.Refusal.{Refusal}
+use Rattle.engine.specs.declared.refusal.Refusal.TheVariants.{TextTooLong, BadCharacter, NumberTooBig, NameTooLong, Unexpected, TooDeep, Processes, ProcessesAt, Twice, Unknown, WrongKind, TooMany, BadItem, NoSuchProcess, ScheduleTooLong}
+
+abbrev pub line_feed : List ℕ
+line_feed = 10 ∷ []
+
+abbrev pub kind_name : Kind → List ℕ
+kind_name Variable = codes "Variable"
+kind_name Scan = codes "Scan"
+kind_name Register = codes "Register"
+
+-- after the number and the name the start and the end
+abbrev pub span_line : List ℕ → Span → List ℕ
+span_line name span = name ++ codes " " ++ decimal span.start ++ codes " " ++ decimal span.end ++ line_feed
+
+abbrev pub refusal_line : Refusal → List ℕ
+refusal_line TextTooLong = codes "refused 1 TextTooLong" ++ line_feed
+refusal_line (BadCharacter place) = codes "refused 2 BadCharacter " ++ decimal place ++ line_feed
+refusal_line (NumberTooBig span) = span_line (codes "refused 3 NumberTooBig") span
+refusal_line (NameTooLong span) = span_line (codes "refused 4 NameTooLong") span
+refusal_line (Unexpected span) = span_line (codes "refused 5 Unexpected") span
+refusal_line (TooDeep span) = span_line (codes "refused 6 TooDeep") span
+refusal_line Processes = codes "refused 11 Processes" ++ line_feed
+refusal_line (ProcessesAt span) = span_line (codes "refused 11 Processes") span
+refusal_line (Twice span) = span_line (codes "refused 12 Twice") span
+refusal_line (Unknown span) = span_line (codes "refused 13 Unknown") span
+refusal_line (WrongKind span wanted found) =
+    codes "refused 14 WrongKind" ++ codes " " ++ decimal span.start ++ codes " " ++ decimal span.end
+    ++ codes " " ++ kind_name wanted ++ codes " " ++ kind_name found ++ line_feed
+refusal_line (TooMany span) = span_line (codes "refused 15 TooMany") span
+refusal_line (BadItem place) = codes "refused 51 BadItem " ++ decimal place ++ line_feed
+refusal_line (NoSuchProcess place) = codes "refused 52 NoSuchProcess " ++ decimal place ++ line_feed
+refusal_line ScheduleTooLong = codes "refused 53 TooLong" ++ line_feed

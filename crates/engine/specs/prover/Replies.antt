@@ -1,0 +1,38 @@
+-- Commands, replies and what stops a command, as the code has them, beside the definitions.
+use Rattle.std.specs.Prelude.{◌≡◌, ◌≤◌, string_bytes}
+use Rattle.engine.specs.Answer.{Answer}
+use Rattle.engine.specs.Commands.{Job}
+use Rattle.engine.specs.Commands.Job.{Order, Check, Source}
+use Rattle.engine.specs.declared.command.Command.{Command}
+use Rattle.engine.specs.declared.command.Command.TheVariants as command
+use Rattle.engine.specs.declared.refusal.Refusal.{Refusal}
+use Rattle.engine.specs.declared.reply.Reply.{Reply}
+use Rattle.engine.specs.declared.stop.Stop.{Stop}
+use Rattle.engine.specs.declared.stop.Stop.TheVariants.{Refused, Memory}
+
+abbrev pub job : Command → Job
+job (command.Order n) = Order n
+job command.Check = Check
+job (command.Source schedule) = Source schedule.now
+
+-- its number of processes is one that a label word can have
+abbrev pub Fits : Job → Type 0
+Fits (Order n) = (1 ≤ n) × (n ≤ 6)
+Fits Check = Unit {0}
+Fits (Source schedule) = Unit {0}
+
+-- the reply is this answer
+pub record Replies (reply : Reply) (a : Answer) : Type 0 where
+  pub status : reply.status ≡ a.status
+  pub text : string_bytes reply.text ≡ a.text
+
+-- the reply is an answer of these
+pub record IsReply (allowed : Answer → Type 0) (reply : Reply) : Type 0 where
+  pub answer : Answer
+  pub is_allowed : allowed answer
+  pub replies : Replies reply answer
+
+-- P of the refusal, where it is one
+abbrev pub IfRefused : Stop → (Refusal → Type 0) → Type 0
+IfRefused (Refused refusal) P = P refusal
+IfRefused Memory P = Unit {0}

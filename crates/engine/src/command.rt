@@ -1,0 +1,73 @@
+//! Commands, once the numbers in their words are read.
+ghost use Rattle.std.specs.Prelude.{◌≡◌, ◌<◌, ◌^◌, IfOk, MatchResult, option_map};
+ghost use Rattle.command_line.specs.Line.{asked_by};
+ghost use Rattle.tick_play.specs.Number.{number_of};
+ghost use Rattle.engine.specs.Commands.{job_of, lawful as lawful_number, processes_of};
+ghost use Rattle.engine.specs.prover.Replies.{Fits, job};
+
+use command_line::Request;
+use tick_play::number::number;
+
+/// The greatest N that a command line may have.
+const NUMBER_LIMIT: u64 = 4_294_967_295;
+
+/// A command that wants nothing more than an input.
+#[derive(Clone, Copy, Debug, PartialEq, Eq)]
+pub enum Command<'a> {
+    /// For so many processes, 1 to 6.
+    Order(u8),
+    Check,
+    /// Under the schedule that this text spells.
+    Source(&'a str),
+}
+
+/// Why a command line is refused.
+#[derive(Clone, Copy, Debug, PartialEq, Eq)]
+pub enum LineFault {
+    /// It is none of those that the usage line tells.
+    Usage,
+    /// The number of processes isn't 1 to 6.
+    Processes,
+}
+
+/// The command that a command line asks for.
+pub fn command_of<'a>(request: Option<Request<'a>>) -> Result<Command<'a>, LineFault>
+    ensures job { MatchResult result (λ command. job_of (option_map asked_by request.entry) ≡ Ok (job command)) (λ fault. job_of (option_map asked_by request.entry) ≡ Err fault) }
+    ensures fits { IfOk result (λ command. Fits (job command)) }
+{
+    let Some(request) = request else {
+        return Err(LineFault::Usage);
+    };
+    match request {
+        Request::Order(text) => Ok(Command::Order(processes(text)?)),
+        Request::Check => Ok(Command::Check),
+        Request::Emit => Err(LineFault::Usage),
+        Request::Source(schedule) => Ok(Command::Source(schedule)),
+        Request::Code(_) => Err(LineFault::Usage),
+        Request::Expand(_) => Err(LineFault::Usage),
+        Request::Project(_) => Err(LineFault::Usage),
+        Request::Run(_) => Err(LineFault::Usage),
+    }
+}
+
+// A number of processes, 1 to 6.
+fn processes(text: &str) -> Result<u8, LineFault>
+    ensures { result ≡ processes_of (lawful_number 4294967295 (number_of text.now)) }
+{
+    let Some(n) = lawful(text, NUMBER_LIMIT) else {
+        return Err(LineFault::Usage);
+    };
+    if n == 0 || n > 6 {
+        return Err(LineFault::Processes);
+    }
+    Ok(n as u8)
+}
+
+// The number that a text of digits spells, if it isn't above the limit.
+fn lawful(text: &str, limit: u64) -> Option<u64>
+    requires { limit < 2 ^ 32 }
+    ensures { result ≡ lawful_number limit (number_of text.now) }
+{
+    let n = number(text.as_bytes())?;
+    if n > limit { None } else { Some(n) }
+}

@@ -1,0 +1,38 @@
+ghost use Rattle.std.specs.Prelude.{◌≡◌};
+ghost use Rattle.engine.specs.declared.fault.EngineFault.TheVariants.{Memory};
+
+use std::alloc::{AllocError, AllocFailed};
+use thiserror::Error;
+
+/// Why the engine has no status to give.
+#[derive(Clone, Copy, Debug, PartialEq, Eq, Error)]
+pub enum EngineFault {
+    /// A read failed, or 2,000,000 reads came to no end.
+    #[error("reading failed")]
+    Read,
+    /// A write failed, took nothing, or was interrupted more than 1,000 times in a row.
+    #[error("writing failed")]
+    Write,
+    /// Memory was refused.
+    #[error("out of memory")]
+    Memory,
+    /// A thread was refused.
+    #[error("no thread could be started")]
+    Thread,
+}
+
+impl From<AllocError> for EngineFault {
+    ghost from_gives = { λ _ fault. fault ≡ Memory };
+
+    fn from(_error: AllocError) -> EngineFault {
+        EngineFault::Memory
+    }
+}
+
+impl<T: Drop> From<AllocFailed<T>> for EngineFault {
+    ghost from_gives = { λ _ fault. fault ≡ Memory };
+
+    fn from(_error: AllocFailed<T>) -> EngineFault {
+        EngineFault::Memory
+    }
+}

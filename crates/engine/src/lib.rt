@@ -1,0 +1,27 @@
+//! The engine of `ticketc`: the words of a command line and two ends in, an answer written and its
+//! status out.
+//!
+//! Start with `engine`, and with `specs/Commands.antt` for what each command answers. The ends are of
+//! the traits `ByteSource` and `ByteSink`, and nothing here knows of standard input or output. An
+//! input is read once, where the words want one; an answer is built whole before any of it is written.
+#![tactic(auto)]
+
+mod answer;
+mod command;
+mod ends;
+mod fault;
+mod laws;
+mod order;
+mod program;
+mod reading;
+mod refusal;
+mod reply;
+mod serving;
+mod stop;
+mod text;
+mod writing;
+
+pub use ends::{ByteSink, ByteSource, Counts, Transfer};
+pub use fault::EngineFault;
+pub use laws::law_answers;
+pub use serving::{Served, engine, serve};

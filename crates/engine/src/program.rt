@@ -1,0 +1,47 @@
+//! The commands on a program, each as the text that it answers.
+ghost use Rattle.std.specs.Prelude.{IfErr, IfOk, string_bytes};
+ghost use Rattle.tick_kinds.specs.Accepted.{IsAccepted};
+ghost use Rattle.tick_syntax.specs.Plain.{Name, WholeProgram};
+ghost use Rattle.engine.specs.Answer.{Answer, done, refused};
+ghost use Rattle.engine.specs.Programs.{IsProgramText, IsTextAnswer, check_answer, source_answer};
+ghost use Rattle.engine.specs.prover.Replies.{IfRefused};
+
+use crate::stop::Stop;
+use std::alloc::Global;
+use tick_kinds::{Program, check};
+use tick_play::{play_source, read_schedule};
+use tick_syntax::{parse, print};
+
+/// The printed form of an accepted program.
+pub fn check_text(alloc: Global, text: &str) -> Result<String, Stop>
+    ensures ok { IfOk result (λ answer. IsTextAnswer check_answer text.now (done (string_bytes answer))) }
+    ensures refused { IfErr result (λ stop. IfRefused stop (λ refusal. IsTextAnswer check_answer text.now (refused refusal))) }
+{
+    let program = program_of(alloc, text)?;
+    let printed = print(alloc, program.tree())?;
+    Ok(printed)
+}
+
+/// The report of an accepted program's run under the schedule that a text spells.
+pub fn source_text(alloc: Global, text: &str, schedule: &str) -> Result<String, Stop>
+    ensures ok { IfOk result (λ answer. IsTextAnswer (source_answer schedule.now) text.now (done (string_bytes answer))) }
+    ensures refused { IfErr result (λ stop. IfRefused stop (λ refusal. IsTextAnswer (source_answer schedule.now) text.now (refused refusal))) }
+{
+    let program = program_of(alloc, text)?;
+    let steps = read_schedule(alloc, schedule, program.processes())?;
+    let report = play_source(alloc, &program, steps.as_slice())?;
+    Ok(report)
+}
+
+// The accepted program that a text is.
+fn program_of(alloc: Global, text: &str) -> Result<Program, Stop>
+    ensures reads { IfOk result (λ p. IsProgramText text.now p) }
+    ensures accepted { IfOk result (λ p. IsAccepted p) }
+    ensures refused { (by : WholeProgram Name → Answer) → IfErr result (λ stop. IfRefused stop (λ refusal. IsTextAnswer by text.now (refused refusal))) }
+{
+    let tree = parse(alloc, text)?;
+    match check(alloc, tree) {
+        Ok(program) => Ok(program),
+        Err((_tree, fault)) => Err(Stop::from(fault)),
+    }
+}

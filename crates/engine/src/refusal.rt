@@ -1,0 +1,90 @@
+ghost use Rattle.std.specs.Prelude.{◌≡◌, IfOk, string_bytes};
+ghost use Rattle.engine.specs.Refusal.{kind_name, refusal_line, span_line};
+
+use std::alloc::{AllocError, Global};
+use std::fmt::Write;
+use tick_kinds::Kind;
+use tick_syntax::span::Span;
+
+/// Why an input is refused. A place is an offset in bytes, and a span one of bytes of the input.
+#[derive(Clone, Copy, Debug, PartialEq, Eq)]
+pub enum Refusal {
+    TextTooLong,
+    BadCharacter(usize),
+    NumberTooBig(Span),
+    NameTooLong(Span),
+    Unexpected(Span),
+    TooDeep(Span),
+    /// The number of processes that a command line gives isn't 1 to 6.
+    Processes,
+    /// The number of processes that a program gives isn't 1 to 6.
+    ProcessesAt(Span),
+    Twice(Span),
+    Unknown(Span),
+    WrongKind {
+        span: Span,
+        wanted: Kind,
+        found: Kind,
+    },
+    TooMany(Span),
+    BadItem(usize),
+    NoSuchProcess(usize),
+    ScheduleTooLong,
+}
+
+/// The line that tells it: its number, its name and its fields.
+pub fn line_of(alloc: Global, refusal: Refusal) -> Result<String, AllocError>
+    ensures { IfOk result (λ line. string_bytes line ≡ refusal_line refusal) }
+{
+    match refusal {
+        Refusal::TextTooLong => String::from_str(alloc, "refused 1 TextTooLong\n"),
+        Refusal::BadCharacter(place) => format!(in alloc; "refused 2 BadCharacter {place}\n"),
+        Refusal::NumberTooBig(span) => line_at(alloc, "refused 3 NumberTooBig", span),
+        Refusal::NameTooLong(span) => line_at(alloc, "refused 4 NameTooLong", span),
+        Refusal::Unexpected(span) => line_at(alloc, "refused 5 Unexpected", span),
+        Refusal::TooDeep(span) => line_at(alloc, "refused 6 TooDeep", span),
+        Refusal::Processes => String::from_str(alloc, "refused 11 Processes\n"),
+        Refusal::ProcessesAt(span) => line_at(alloc, "refused 11 Processes", span),
+        Refusal::Twice(span) => line_at(alloc, "refused 12 Twice", span),
+        Refusal::Unknown(span) => line_at(alloc, "refused 13 Unknown", span),
+        Refusal::WrongKind {
+            span,
+            wanted,
+            found,
+        } => kinds_line(alloc, span, wanted, found),
+        Refusal::TooMany(span) => line_at(alloc, "refused 15 TooMany", span),
+        Refusal::BadItem(place) => format!(in alloc; "refused 51 BadItem {place}\n"),
+        Refusal::NoSuchProcess(place) => format!(in alloc; "refused 52 NoSuchProcess {place}\n"),
+        Refusal::ScheduleTooLong => String::from_str(alloc, "refused 53 TooLong\n"),
+    }
+}
+
+fn line_at(alloc: Global, name: &str, span: Span) -> Result<String, AllocError>
+    ensures { IfOk result (λ line. string_bytes line ≡ span_line name.now span) }
+{
+    let mut line = String::from_str(alloc, name)?;
+    writeln!(line, " {} {}", span.start, span.end)?;
+    Ok(line)
+}
+
+fn kinds_line(alloc: Global, span: Span, wanted: Kind, found: Kind) -> Result<String, AllocError>
+    ensures { IfOk result (λ line. string_bytes line ≡ refusal_line (Refusal.WrongKind span wanted found)) }
+{
+    let mut line = String::from_str(alloc, "refused 14 WrongKind")?;
+    write!(line, " {} {} ", span.start, span.end)?;
+    line.push_str(kind_text(wanted))?;
+    line.push_str(" ")?;
+    line.push_str(kind_text(found))?;
+    line.push_str("\n")?;
+    Ok(line)
+}
+
+fn kind_text(kind: Kind) -> &'static str
+    ensures { result.now ≡ kind_name kind }
+{
+    match kind {
+        Kind::Variable => "Variable",
+        Kind::Scan => "Scan",
+        Kind::Register => "Register",
+    }
+}

@@ -1,0 +1,20 @@
+//! Tests of the library `engine`, in a crate of their own, so that they cost no second proof of it.
+//!
+//! What no clause says stands here: that each command has an answer where memory is left, that each
+//! kind of statement and each refusal comes through, and what ends that fail make of it.
+#![tactic(auto)]
+
+#[cfg(test)]
+mod answering;
+#[cfg(test)]
+mod disturbed;
+#[cfg(test)]
+mod ends;
+#[cfg(test)]
+mod large;
+#[cfg(test)]
+mod orders;
+#[cfg(test)]
+mod programs;
+#[cfg(test)]
+mod refusals;

@@ -1,0 +1,25 @@
+-- What a run lets others see: one record for every machine.
+use Rattle.std.specs.Prelude.{ℕ, ◌-◌, List, [], ◌∷◌, ◌++◌, map, replicate, Option, Some, None}
+use Rattle.machine_core.specs.declared.event.Act.{Act}
+use Rattle.machine_core.specs.declared.event.Event.{Event}
+use Rattle.machine_core.specs.declared.status.Status.{Status}
+use Rattle.machine_core.specs.declared.outcome.Outcome.{Outcome}
+
+-- The events in the order of their steps, the register rows, and for each process its status.
+pub record Observables : Type 0 where
+  pub events : List Event
+  pub rows : List (List ℕ)
+  pub statuses : List Status
+
+-- what an outcome holds
+abbrev pub observed : Outcome → Observables
+observed o = record { events = o.events.items; rows = map (λ row. row.items) o.registers.items; statuses = o.statuses.items }
+
+-- the events with that of a step of process `p`, where it has one
+abbrev pub told : ℕ → Option Act → List Event → List Event
+told p None events = events
+told p (Some act) events = events ++ record { process = p; act = act } ∷ []
+
+-- the ranks of `n` processes as an event tells them, 0 past the last process
+abbrev pub told_ranks : ℕ → List ℕ → List ℕ
+told_ranks n ranks = ranks ++ replicate (6 - n) 0

@@ -1,0 +1,135 @@
+use crate::programs::{accepted, report};
+use std::test::Fail;
+use tick_play::read_schedule;
+use tick_source::{Act, Event, SourceMachine, Status, Trap, run};
+
+const EACH_STATEMENT: &str = "
+processes 2; var x, y; scan s, t; reg r;
+begin
+  stamp;
+  s = scan;
+  t = copy s;
+  x = older t 0 1;
+  put r (x + 5);
+  y = get r me;
+  out y;
+  if y { out 1; } else { out 2; }
+  while (x < 2) { x = (x + 1); }
+  out x;
+end";
+
+#[test]
+fn runs_each_statement(rt: HostRuntime) -> Result<(), Fail> {
+    let text = report(rt.alloc(), EACH_STATEMENT, "0*20 1*20")?;
+    assert_eq!(rt;
+        text.as_str(),
+        "0 stamp\n0 scan 1 0\n0 older 0 1 0\n0 put 0 5\n0 get 0 0 5\n0 out 5\n0 out 1\n0 out 2\n0 end\n\
+1 stamp\n1 scan 0 1\n1 older 0 1 1\n1 put 0 6\n1 get 0 1 6\n1 out 6\n1 out 1\n1 out 2\n1 end\n\
+reg 0 5 6\nstatus 0 ended\nstatus 1 ended\n"
+    );
+    Ok(())
+}
+
+// The copy is of the scan as it stood: the second stamp makes process 0 the younger one again.
+#[test]
+fn copies_a_scan(rt: HostRuntime) -> Result<(), Fail> {
+    let text = report(
+        rt.alloc(),
+        "processes 2; var x; scan s, t; begin stamp; s = scan; t = copy s; stamp; s = scan; x = older t 0 1; out x; x = older s 0 1; out x; end",
+        "0 1 0*2 1*2 0*20",
+    )?;
+    assert_eq!(rt;
+        text.as_str(),
+        "0 stamp\n1 stamp\n0 scan 0 1\n1 scan 0 1\n0 stamp\n0 scan 1 0\n0 older 0 1 1\n0 out 1\n0 older 0 1 0\n0 out 0\n0 end\n\
+status 0 ended\nstatus 1 running\n"
+    );
+    Ok(())
+}
+
+#[test]
+fn stops_at_each_trap(rt: HostRuntime) -> Result<(), Fail> {
+    let text = report(
+        rt.alloc(),
+        "processes 4; var x; reg r; begin if me { } else { out (4294967295 + 1); } if (me == 1) { x = (0 - 1); } else { } if (me == 2) { put r (1 % 0); } else { } x = get r n; end",
+        "0*9 1*9 2*9 3*9",
+    )?;
+    assert_eq!(rt;
+        text.as_str(),
+        "0 trap Overflow\n1 trap Below\n2 trap Zero\n3 trap Index\nreg 0 0 0 0 0\n\
+status 0 trapped Overflow\nstatus 1 trapped Below\nstatus 2 trapped Zero\nstatus 3 trapped Index\n"
+    );
+    Ok(())
+}
+
+#[test]
+fn steps_one_by_one(rt: HostRuntime) -> Result<(), Fail> {
+    let program = accepted(
+        rt.alloc(),
+        "processes 2; scan s, t; reg r; begin put r (me + 7); t = copy s; end",
+    )?;
+    assert_eq!(rt; program.processes(), 2);
+    assert_eq!(rt; program.registers(), 1);
+    let mut machine = SourceMachine::new(rt.alloc(), &program)?;
+    machine.step(1)?;
+    machine.step(1)?;
+    assert_eq!(rt; machine.register(0, 0), 0);
+    assert_eq!(rt; machine.register(0, 1), 8);
+    assert_eq!(rt; machine.events().len(), 1);
+    assert_eq!(rt; machine.status(1), Status::Running);
+    machine.step(1)?;
+    machine.step(1)?;
+    assert_eq!(rt; machine.status(0), Status::Running);
+    assert_eq!(rt; machine.status(1), Status::Ended);
+    let expected = [
+        Event {
+            process: 1,
+            act: Act::Put(0, 8),
+        },
+        Event {
+            process: 1,
+            act: Act::End,
+        },
+    ];
+    assert_eq!(rt; machine.events(), expected.as_slice());
+    Ok(())
+}
+
+#[test]
+fn runs_a_schedule(rt: HostRuntime) -> Result<(), Fail> {
+    let program = accepted(rt.alloc(), "processes 2; reg r; begin put r (0 - me); end")?;
+    let steps = read_schedule(rt.alloc(), "1*3 0", program.processes())?;
+    let outcome = run(rt.alloc(), &program, &steps)?;
+    let expected = [
+        Event {
+            process: 1,
+            act: Act::Trap(Trap::Below),
+        },
+        Event {
+            process: 0,
+            act: Act::Put(0, 0),
+        },
+    ];
+    assert_eq!(rt; outcome.events.as_slice(), expected.as_slice());
+    assert_eq!(rt; outcome.registers.len(), 1);
+    assert_eq!(rt;
+        outcome.statuses.as_slice(),
+        [Status::Running, Status::Trapped(Trap::Below)].as_slice()
+    );
+    Ok(())
+}
+
+#[test]
+fn runs_long(rt: HostRuntime) -> Result<(), Fail> {
+    let program = accepted(
+        rt.alloc(),
+        "processes 2; var x; scan s, t; begin while (x < 100000) { x = (x + 1); t = copy s; stamp; } end",
+    )?;
+    let steps = read_schedule(rt.alloc(), "0*400002 1*1000000", program.processes())?;
+    let outcome = run(rt.alloc(), &program, &steps)?;
+    assert_eq!(rt; outcome.events.len(), 200_002);
+    assert_eq!(rt;
+        outcome.statuses.as_slice(),
+        [Status::Ended, Status::Ended].as_slice()
+    );
+    Ok(())
+}

@@ -1,0 +1,13 @@
+pub mod Prefixes
+pub mod Sets
+pub mod Places
+pub mod Kept
+pub mod Parting
+pub mod Ends
+pub mod Going
+pub mod Answering
+pub mod Swapping
+pub mod Here
+pub mod Meeting
+pub mod Rows
+pub mod Offered

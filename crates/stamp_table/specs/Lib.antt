@@ -1,0 +1,5 @@
+pub mod Passes
+pub mod Ordered
+pub mod Swapped
+pub mod Rule
+pub mod prover

@@ -1,0 +1,8 @@
+-- The labels that a word holds.
+use Rattle.std.specs.Prelude.{◌≡◌, ℕ, List, length}
+use Rattle.word_core.specs.Order.{IsOrdered}
+
+-- labels of `n` processes that are in the order of numbers
+pub record AreOrdered (n : ℕ) (labels : List (List ℕ)) : Type 0 where
+  pub count : length labels ≡ n
+  pub ordered : IsOrdered labels

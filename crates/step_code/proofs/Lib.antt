@@ -1,0 +1,8 @@
+mod Examples
+mod Fine
+mod Words
+mod Safe
+mod Runs
+mod Making
+mod Kept
+mod Steps

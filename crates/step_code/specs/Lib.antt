@@ -1,0 +1,5 @@
+pub mod Machine
+pub mod Safety
+pub mod Laws
+pub mod Process
+pub mod prover

@@ -1,0 +1,196 @@
+ghost use Rattle.std.specs.Prelude.{◌≡◌, false, ℕ, ◌<◌, List, length, slice_get, OnOk, OnErr, IfOk, IsOk, IsTrue, Some, is_some, All};
+ghost use Rattle.machine_core.specs.Rows.{register_at};
+ghost use Rattle.machine_core.specs.Observables.{observed};
+ghost use Rattle.step_code.specs.Machine.{code_start, code_step, run_of, statuses_of, places_of, observables};
+ghost use Rattle.step_code.specs.Safety.{AreOrdered};
+ghost use Rattle.step_code.specs.Process.{IsOf, event_of, next_of};
+ghost use Rattle.step_code.specs.prover.Parts.{moved_as, labels_as, rows_as, Makes, Keeps};
+
+use crate::ask::Advance;
+use crate::proc::Proc;
+use crate::shared::Shared;
+use machine_core::{Event, NoMemory, Outcome, Status};
+use std::alloc::Global;
+use std::marker::Model;
+use verified_code::Code;
+use word_core::LabelWord;
+
+/// A code on bounded labels, one step at a time. The code says what a step does; which process steps
+/// is the caller's choice.
+#[derive(Drop)]
+pub struct CodeMachine<'a> {
+    code: &'a Code,
+    shared: Shared,
+    processes: Vec<Proc>,
+    events: Vec<Event>,
+}
+
+impl<'a> Model for CodeMachine<'a> {
+    ghost use Rattle.step_code.specs.Machine.{CodeRun};
+    ghost use Rattle.step_code.specs.prover.Parts.{state_of, IsSound};
+
+    ghost Value = { CodeRun };
+
+    ghost view = { λ fields. record { code = fields.code.now; state = state_of fields } };
+
+    ghost invariant = { IsSound };
+}
+
+impl<'a> CodeMachine<'a> {
+    /// The code before its first step: all variables, registers and digits of labels are 0.
+    pub fn new(alloc: Global, code: &'a Code) -> Result<CodeMachine<'a>, NoMemory>
+        ensures code { IfOk result (λ m. m.code ≡ code.now) }
+        ensures start { IfOk result (λ m. m.state ≡ code_start code.now.sizes) }
+    {
+        let sizes = code.sizes();
+        let shared = Shared::new(alloc, sizes)?;
+        let n = sizes.processes();
+        let mut processes = Vec::with_capacity(alloc, usize::from(n))?;
+        for p in 0..n {
+            let Ok(process) = Proc::new(alloc, code, p) else {
+                return Err(NoMemory);
+            };
+            processes.push(process)?;
+        }
+        Ok(CodeMachine {
+            code,
+            shared,
+            processes,
+            events: Vec::new(alloc),
+        })
+    }
+
+    /// Makes the next step of process `p`, which is below the number of processes. A step of a
+    /// process that has stopped changes nothing. Where memory is refused the machine is as it was.
+    pub fn step(&mut self, p: u8) -> Result<(), NoMemory>
+        requires { p < length self.old.state.processes }
+        ensures ok { OnOk result (self.new.state ≡ code_step self.old.code.sizes.processes self.old.code.instructions p self.old.state) }
+        ensures err { OnErr result (self.new.state ≡ self.old.state) }
+
+        // A step that gives no event takes no memory.
+        ensures silent { (code_step self.old.code.sizes.processes self.old.code.instructions p self.old.state).events ≡ self.old.state.events → IsOk result }
+
+        // No step adds or takes a process or a register row, or changes the code.
+        ensures code { self.new.code ≡ self.old.code }
+        ensures processes { length self.new.state.processes ≡ length self.old.state.processes }
+        ensures rows { length self.new.state.rows ≡ length self.old.state.rows }
+    {
+        let process = &mut self.processes[p as usize];
+        step_one(self.code, &mut self.shared, process, p, &mut self.events)
+    }
+
+    /// What the steps so far let others see, in their order.
+    pub fn events(&self) -> &[Event]
+        ensures { result.now ≡ self.now.state.events }
+    {
+        self.events.as_slice()
+    }
+
+    /// The value in register row `r` of process `i`.
+    pub fn register(&self, r: u8, i: u8) -> u32
+        requires row { r < length self.now.state.rows }
+        requires process { i < length self.now.state.processes }
+        ensures { result ≡ register_at self.now.state.rows r i }
+    {
+        self.shared.registers.get(r, i)
+    }
+
+    /// Whether process `p` goes on.
+    pub fn status(&self, p: u8) -> Status
+        requires { p < length self.now.state.processes }
+        ensures { slice_get (statuses_of self.now.state) p ≡ Some result }
+    {
+        self.processes[p as usize].status()
+    }
+
+    /// The place of the next instruction of process `p`; where it has stopped, of its last.
+    pub fn place(&self, p: u8) -> u16
+        requires { p < length self.now.state.processes }
+        ensures { slice_get (places_of self.now.state) p ≡ Some result }
+    {
+        self.processes[p as usize].place()
+    }
+
+    /// The labels of all processes.
+    pub fn word(&self) -> LabelWord
+        ensures { result ≡ self.now.state.labels }
+    {
+        self.shared.labels
+    }
+
+    // What the run has let others see.
+    fn into_outcome(self, alloc: Global) -> Result<Outcome, NoMemory>
+        ensures { IfOk result (λ outcome. observed outcome ≡ observables self.entry.state) }
+    {
+        let mut statuses = Vec::with_capacity(alloc, self.processes.len())?;
+        for process in &self.processes {
+            statuses.push(process.status())?;
+        }
+        Ok(Outcome {
+            events: self.events,
+            registers: self.shared.registers.into_rows(),
+            statuses,
+        })
+    }
+}
+
+/// Runs the code: the processes step in the order of the schedule. Each number in the schedule is
+/// below the number of processes.
+pub fn run(alloc: Global, code: &Code, schedule: &[u8]) -> Result<Outcome, NoMemory>
+    requires { All (λ p. p < code.now.sizes.processes) schedule.now }
+    ensures { IfOk result (λ outcome. observed outcome ≡ observables (run_of code.now.sizes code.now.instructions schedule.now)) }
+{
+    let mut machine = CodeMachine::new(alloc, code)?;
+    for &p in schedule {
+        machine.step(p)?;
+    }
+    machine.into_outcome(alloc)
+}
+
+// A step of one process. What is shared answers what it asks.
+fn make(code: &Code, shared: &mut Shared, process: &mut Proc, p: u8) -> Option<Event>
+    requires of { IsOf code.now process.old }
+    requires me { process.old.me ≡ p }
+    requires labels { AreOrdered code.now.sizes.processes shared.old.labels }
+    ensures event { result ≡ event_of p (moved_as process.old.process.status process.old.process shared.old.labels shared.old.registers (next_of code.now process.old)).act }
+    ensures process { process.new.process ≡ (moved_as process.old.process.status process.old.process shared.old.labels shared.old.registers (next_of code.now process.old)).process }
+    ensures labels { shared.new.labels ≡ labels_as process.old.process.status (next_of code.now process.old) shared.old.labels }
+    ensures rows { shared.new.registers ≡ rows_as process.old.process.status p (next_of code.now process.old) shared.old.registers }
+    ensures me { process.new.me ≡ p }
+    ensures of { IsOf code.now process.new }
+{
+    match process.advance(code) {
+        Advance::Silent | Advance::Stopped => None,
+        Advance::Did(event) => Some(event),
+        Advance::Ask(ask) => {
+            let reply = shared.serve(p, ask);
+            process.answer(code, reply)
+        }
+    }
+}
+
+// The same with its event. Memory is taken where an event has no room.
+fn step_one(
+    code: &Code,
+    shared: &mut Shared,
+    process: &mut Proc,
+    p: u8,
+    events: &mut Vec<Event>,
+) -> Result<(), NoMemory>
+    requires of { IsOf code.now process.old }
+    requires me { process.old.me ≡ p }
+    requires labels { AreOrdered code.now.sizes.processes shared.old.labels }
+    ensures ok { OnOk result (Makes code.now p shared.old shared.new process.old process.new events.old.items events.new.items) }
+    ensures err { OnErr result (Keeps shared.old shared.new process.old process.new events.old.items events.new.items) }
+    ensures silent { is_some (moved_as process.old.process.status process.old.process shared.old.labels shared.old.registers (next_of code.now process.old)).act ≡ false → IsOk result }
+    ensures me { process.new.me ≡ p }
+    ensures of { IsOf code.now process.new }
+{
+    if events.len() == events.capacity() && process.tells(code, &shared.labels) {
+        events.reserve(1)?;
+    }
+    if let Some(event) = make(code, shared, process, p) {
+        events.push_reserved(event);
+    }
+    Ok(())
+}

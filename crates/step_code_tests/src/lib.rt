@@ -1,0 +1,10 @@
+// Tests of the machine of step code and of one process by itself. They stand in a crate of their
+// own, since a crate with tests is proved twice.
+#![tactic(auto)]
+
+#[cfg(test)]
+mod codes;
+#[cfg(test)]
+mod machine;
+#[cfg(test)]
+mod process;

@@ -1,0 +1,105 @@
+-- Names replaced by their numbers from the front of a program on, up to the first fault: what each
+-- function of `check` gives. What it comes to is told by `refusals` and `resolved`.
+use Rattle.std.specs.Prelude.{◌≡◌, ℕ, List, [], ◌∷◌, Option, Some, None, Result, Ok, Err, if◌then◌else◌, is_some, ◌&&◌, nat_lt, nat_le}
+use Rattle.std.specs.Map.{update}
+use Rattle.std.specs.Str.{bytes_eq}
+use Rattle.tick_kinds.specs.declared.fault.KindFault.{KindFault}
+use Rattle.tick_kinds.specs.declared.fault.KindFault.TheVariants as F
+use Rattle.tick_kinds.specs.declared.kind.Kind.{Kind}
+use Rattle.tick_kinds.specs.declared.kind.Kind.TheVariants as K
+use Rattle.tick_kinds.specs.Declarations.{Slot, Declaration, declarations, limit}
+use Rattle.tick_kinds.specs.Refusals.{is_kind}
+use Rattle.tick_syntax.specs.declared.span.Span.{Span}
+use Rattle.tick_syntax.specs.Plain.{Name, Expression, number, named, me, count, binary, Statement, assign, get, put, stamp, scan, copy, older, out, branch, repeat, Block, nil, cons, WholeProgram}
+
+abbrev pub Checked : Type 0 → Type 0
+Checked A = Result A KindFault
+
+infixl 10 ◌>>=◌
+abbrev pub ◌>>=◌ : {A B : Type 0} → Checked A → (A → Checked B) → Checked B
+(Ok x) >>= f = f x
+(Err e) >>= f = Err e
+
+-- A function answers what was checked, seen by view, unless memory was refused.
+abbrev pub Fails : {A : Type 0} → KindFault → Checked A → Type 0
+Fails F.NoMemory checked = Unit {0}
+Fails e checked = checked ≡ Err e
+
+abbrev pub Gives : {X A : Type 0} → (X → A) → Result X KindFault → Checked A → Type 0
+Gives view (Ok x) checked = checked ≡ Ok (view x)
+Gives view (Err e) checked = Fails e checked
+
+abbrev pub number_if : Kind → Span → Option Slot → Checked ℕ
+number_if wanted span None = Err (F.Unknown span)
+number_if wanted span (Some slot) = if is_kind wanted slot.0 then Ok slot.1 else Err (F.WrongKind span wanted slot.0)
+
+module _ (look : List ℕ → Option Slot) where
+  unfoldable pub checked_name : Kind → Name → Checked ℕ
+  checked_name wanted x = number_if wanted x.span (look x.letters)
+
+  unfoldable pub checked_expression : Expression Name → Checked (Expression ℕ)
+  checked_expression (number v) = Ok (number v)
+  checked_expression (named x) = checked_name K.Variable x >>= λ x. Ok (named x)
+  checked_expression me = Ok me
+  checked_expression count = Ok count
+  checked_expression (binary a op b) =
+      checked_expression a >>= λ a. checked_expression b >>= λ b. Ok (binary a op b)
+
+  unfoldable pub checked_assign : Name → Expression Name → Checked (Statement ℕ)
+  checked_assign x e = checked_name K.Variable x >>= λ x. checked_expression e >>= λ e. Ok (assign x e)
+
+  unfoldable pub checked_get : Name → Name → Expression Name → Checked (Statement ℕ)
+  checked_get x r e =
+      checked_name K.Variable x >>= λ x. checked_name K.Register r >>= λ r. checked_expression e >>= λ e.
+      Ok (get x r e)
+
+  unfoldable pub checked_put : Name → Expression Name → Checked (Statement ℕ)
+  checked_put r e = checked_name K.Register r >>= λ r. checked_expression e >>= λ e. Ok (put r e)
+
+  unfoldable pub checked_copy : Name → Name → Checked (Statement ℕ)
+  checked_copy t s = checked_name K.Scan t >>= λ t. checked_name K.Scan s >>= λ s. Ok (copy t s)
+
+  unfoldable pub checked_older : Name → Name → Expression Name → Expression Name → Checked (Statement ℕ)
+  checked_older x s a b =
+      checked_name K.Variable x >>= λ x. checked_name K.Scan s >>= λ s.
+      checked_expression a >>= λ a. checked_expression b >>= λ b. Ok (older x s a b)
+
+  unfoldable mutual
+    pub checked_statement : Statement Name → Checked (Statement ℕ)
+    checked_statement (assign x e) = checked_assign x e
+    checked_statement (get x r e) = checked_get x r e
+    checked_statement (put r e) = checked_put r e
+    checked_statement stamp = Ok stamp
+    checked_statement (scan s) = checked_name K.Scan s >>= λ s. Ok (scan s)
+    checked_statement (copy t s) = checked_copy t s
+    checked_statement (older x s a b) = checked_older x s a b
+    checked_statement (out e) = checked_expression e >>= λ e. Ok (out e)
+    checked_statement (branch e a b) =
+        checked_expression e >>= λ e. checked_block a >>= λ a. checked_block b >>= λ b. Ok (branch e a b)
+    checked_statement (repeat e a) = checked_expression e >>= λ e. checked_block a >>= λ a. Ok (repeat e a)
+
+    pub checked_block : Block Name → Checked (Block ℕ)
+    checked_block nil = Ok nil
+    checked_block (cons s b) = checked_statement s >>= λ s. checked_block b >>= λ b. Ok (cons s b)
+
+-- what each name stands for, as far as declared
+abbrev pub Table : Type 0
+Table = List ℕ → Option Slot
+
+abbrev pub with_declaration : Declaration → Table → Table
+with_declaration d look = update bytes_eq look d.name.letters (Some d.slot)
+
+unfoldable pub checked_declaration : Declaration → Table → Checked Table
+checked_declaration d look =
+    if is_some (look d.name.letters) then Err (F.Twice d.name.span)
+    else if nat_lt d.slot.1 (limit d.slot.0) then Ok (with_declaration d look) else Err (F.TooMany d.name.span)
+
+unfoldable pub checked_declarations : List Declaration → Table → Checked Table
+checked_declarations [] look = Ok look
+checked_declarations (d ∷ ds) look = checked_declaration d look >>= checked_declarations ds
+
+unfoldable pub checked_program : WholeProgram Name → Checked (Block ℕ)
+checked_program p =
+    if nat_le 1 p.processes && nat_le p.processes 6
+    then (checked_declarations (declarations p) (λ _. None) >>= λ look. checked_block look p.body)
+    else Err (F.Processes p.span)

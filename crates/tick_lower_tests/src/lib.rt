@@ -1,0 +1,12 @@
+// Tests of the compiler on programs as they are written. They stand in a crate of their own, since a
+// crate with tests is proved twice.
+#![tactic(auto)]
+
+#[cfg(test)]
+mod commits;
+#[cfg(test)]
+mod emitted;
+#[cfg(test)]
+mod limits;
+#[cfg(test)]
+mod programs;

@@ -1,0 +1,104 @@
+-- Small schedules and runs, and their texts.
+use Rattle.std.proofs.Common.{◌≡◌, ℕ, List, [], ◌∷◌, ◌++◌, Ok, Err, codes, refl}
+use Rattle.std.specs.Fmt.{digits}
+use Rattle.machine_core.specs.declared.operator.Op.TheVariants as O
+use Rattle.tick_syntax.specs.Plain.{number, named, me, binary, get, put, stamp, scan, older, out, Block, nil, cons, WholeProgram}
+use Rattle.machine_core.specs.declared.status.Trap.TheVariants as T
+use Rattle.machine_core.specs.declared.status.Status.TheVariants as S
+use Rattle.machine_core.specs.declared.event.Act.TheVariants as A
+use Rattle.tick_play.specs.declared.schedule.ScheduleFault.TheVariants.{BadItem, NoSuchProcess, TooLong}
+use Rattle.tick_play.specs.Schedule.{schedule_of}
+use Rattle.tick_play.specs.Written.{schedule_text}
+use Rattle.tick_play.specs.Report.{line_feed, report, source_report}
+
+no_steps : schedule_text [] ≡ []
+unfolding digits
+no_steps = refl
+
+one_step : schedule_text (3 ∷ []) ≡ codes "3"
+unfolding digits
+one_step = refl
+
+longest_runs : schedule_text (1 ∷ 1 ∷ 0 ∷ 1 ∷ 1 ∷ 1 ∷ []) ≡ codes "1*2 0 1*3"
+unfolding digits
+longest_runs = refl
+
+blanks_around : schedule_of 2 (codes " 1*2  0 ") ≡ Ok (1 ∷ 1 ∷ 0 ∷ [])
+blanks_around = refl
+
+leading_zeros : schedule_of 2 (codes "01*02") ≡ Ok (1 ∷ 1 ∷ [])
+leading_zeros = refl
+
+no_such_process : schedule_of 2 (codes "0 2") ≡ Err (NoSuchProcess 2)
+no_such_process = refl
+
+no_turns : schedule_of 2 (codes "0*0") ≡ Err (BadItem 0)
+no_turns = refl
+
+too_long : schedule_of 2 (codes "0*10000001") ≡ Err TooLong
+too_long = refl
+
+abbrev lines : List (List ℕ) → List ℕ
+lines [] = []
+lines (text ∷ texts) = text ++ line_feed ++ lines texts
+
+abbrev program : ℕ → List ℕ → List ℕ → List ℕ → Block ℕ → WholeProgram ℕ
+program n variables scans registers body = record {
+  processes = n;
+  span = record { start = 0; end = 0 };
+  variables = variables;
+  scans = scans;
+  registers = registers;
+  body = body;
+}
+
+-- processes 2; var x; scan s; begin stamp; s = scan; x = older s 0 1; out x; end
+in_turn : source_report
+    (program 2 (0 ∷ []) (0 ∷ []) []
+    (cons stamp (cons (scan 0) (cons (older 0 0 (number 0) (number 1)) (cons (out (named 0)) nil)))))
+    (0 ∷ 0 ∷ 0 ∷ 0 ∷ 0 ∷ 1 ∷ 1 ∷ 1 ∷ 1 ∷ 1 ∷ [])
+    ≡ lines
+    (codes "0 stamp" ∷ codes "0 scan 1 0" ∷ codes "0 older 0 1 0" ∷ codes "0 out 0" ∷ codes "0 end"
+    ∷ codes "1 stamp" ∷ codes "1 scan 0 1" ∷ codes "1 older 0 1 1" ∷ codes "1 out 1" ∷ codes "1 end"
+    ∷ codes "status 0 ended" ∷ codes "status 1 ended" ∷ [])
+unfolding digits
+in_turn = refl
+
+-- processes 2; var x; reg r; begin put r (me + 7); x = get r 0; out x; end
+registers : source_report
+    (program 2 (0 ∷ []) [] (0 ∷ [])
+    (cons (put 0 (binary me O.Add (number 7))) (cons (get 0 0 (number 0)) (cons (out (named 0)) nil))))
+    (1 ∷ 1 ∷ 0 ∷ 1 ∷ [])
+    ≡ lines
+    (codes "1 put 0 8" ∷ codes "1 get 0 0 0" ∷ codes "0 put 0 7" ∷ codes "1 out 0" ∷ codes "reg 0 7 8"
+    ∷ codes "status 0 running" ∷ codes "status 1 running" ∷ [])
+unfolding digits
+registers = refl
+
+-- processes 2; begin out (0 - 1); end
+trapped : source_report (program 2 [] [] [] (cons (out (binary (number 0) O.Sub (number 1))) nil)) (1 ∷ [])
+    ≡ lines (codes "1 trap Below" ∷ codes "status 0 running" ∷ codes "status 1 trapped Below" ∷ [])
+unfolding digits
+trapped = refl
+
+-- each kind of event, of three processes
+each_kind : report (record {
+  events = record { process = 2; act = A.Put 7 4294967295 }
+      ∷ record { process = 0; act = A.Get 1 2 30 }
+      ∷ record { process = 1; act = A.Stamp }
+      ∷ record { process = 1; act = A.Scan (0 ∷ 2 ∷ 0 ∷ 0 ∷ 0 ∷ 0 ∷ []) }
+      ∷ record { process = 1; act = A.Older 0 1 1 }
+      ∷ record { process = 0; act = A.Out 0 }
+      ∷ record { process = 2; act = A.Trap T.Overflow }
+      ∷ record { process = 0; act = A.End }
+      ∷ [];
+  rows = (1 ∷ 2 ∷ 3 ∷ []) ∷ (0 ∷ 0 ∷ 10 ∷ []) ∷ [];
+  statuses = S.Ended ∷ S.Running ∷ S.Trapped T.Overflow ∷ [];
+})
+    ≡ lines
+    (codes "2 put 7 4294967295" ∷ codes "0 get 1 2 30" ∷ codes "1 stamp" ∷ codes "1 scan 0 2 0" ∷ codes "1 older 0 1 1"
+    ∷ codes "0 out 0" ∷ codes "2 trap Overflow" ∷ codes "0 end"
+    ∷ codes "reg 0 1 2 3" ∷ codes "reg 1 0 0 10"
+    ∷ codes "status 0 ended" ∷ codes "status 1 running" ∷ codes "status 2 trapped Overflow" ∷ [])
+unfolding digits
+each_kind = refl

@@ -1,0 +1,344 @@
+-- Tokens that go on to a program are those that leave symbols which may still come.
+use Rattle.std.proofs.Common.{◌≡◌, ◌≢◌, ℕ, suc, ◌+◌, ◌<◌, ◌≤◌, Bool, true, false, List, [], ◌∷◌, ◌++◌, length, Option, Some, None, Result, Ok, Err, refl, sym, ◌∙◌, ap, subst, arith, max}
+use Rattle.std.proofs.lemmas.Bool.{ne_eqb, eqb-true, eqb-false}
+use Rattle.tick_syntax.specs.declared.span.Span.{Span}
+use Rattle.tick_syntax.specs.declared.fault.TextFault.{TextFault}
+use Rattle.tick_syntax.specs.declared.item.Item.{Item}
+use Rattle.tick_syntax.specs.declared.item.Ending.TheVariants as N
+use Rattle.tick_syntax.specs.declared.item.Meaning.TheVariants as M
+use Rattle.machine_core.specs.declared.operator.Op.TheVariants as O
+use Rattle.tick_syntax.specs.declared.terminals.Word.TheVariants as W
+use Rattle.tick_syntax.specs.Lexeme.{Lexeme, a_name, a_number, a_word, nothing}
+use Rattle.tick_syntax.specs.Plain.{Name, WholeProgram}
+use Rattle.tick_syntax.specs.Grammar.{Derives}
+use Rattle.tick_syntax.specs.Nesting.{nesting, IsOpening, open_by}
+use Rattle.tick_syntax.specs.prover.Reading.{program_at}
+use Rattle.tick_syntax.specs.Refusal.{AllCanStand, GoesOn}
+use Rattle.tick_syntax.proofs.Symbols.{said, says, Symbol, s_program, s_number, s_semicolon, s_variables, s_scans, s_registers, s_begin, s_names, s_more, s_name, s_becomes, s_else, s_close, s_operator, s_expression, s_right, s_block, s_statement, s_until, step, opened, is_full, on_stack, run_by, run, fault_by, fault}
+use Rattle.tick_syntax.proofs.SoundPrograms.{program_ok, program_err}
+use Rattle.tick_syntax.proofs.Complete.{program_takes}
+
+-- what a symbol turns into closes the brackets that are open then
+abbrev Opens : Symbol → Lexeme → Option (List Symbol) → Type 0
+Opens s x None = Unit {0}
+Opens s x (Some new) = (st : List Symbol) → opened (new ++ st) ≡ open_by x (opened (s ∷ st))
+
+opens : (s : Symbol) (x : Lexeme) → Opens s x (step s x)
+opens s_program (a_word W.Processes) = λ st. refl
+opens s_program x = tt
+opens s_number (a_number v t) = λ st. refl
+opens s_number x = tt
+opens s_semicolon (a_word W.Semicolon) = λ st. refl
+opens s_semicolon x = tt
+opens s_names (a_name n) = λ st. refl
+opens s_names x = tt
+opens s_more (a_word W.Comma) = λ st. refl
+opens s_more (a_word W.Semicolon) = λ st. refl
+opens s_more x = tt
+opens s_name (a_name n) = λ st. refl
+opens s_name x = tt
+opens s_becomes (a_word W.Becomes) = λ st. refl
+opens s_becomes x = tt
+opens s_else (a_word W.Else) = λ st. refl
+opens s_else x = tt
+opens s_close (a_word W.Close) = λ st. omega arith
+opens s_close x = tt
+opens s_operator (a_word (W.Operator op)) = λ st. refl
+opens s_operator x = tt
+opens s_block (a_word W.OpenBrace) = λ st. refl
+opens s_block x = tt
+opens s_begin (a_word W.Begin) = λ st. refl
+opens s_begin x = tt
+opens s_registers (a_word W.Reg) = λ st. refl
+opens s_registers (a_word W.Begin) = λ st. refl
+opens s_registers x = tt
+opens s_scans (a_word W.Scan) = λ st. refl
+opens s_scans (a_word W.Reg) = λ st. refl
+opens s_scans (a_word W.Begin) = λ st. refl
+opens s_scans x = tt
+opens s_variables (a_word W.Var) = λ st. refl
+opens s_variables (a_word W.Scan) = λ st. refl
+opens s_variables (a_word W.Reg) = λ st. refl
+opens s_variables (a_word W.Begin) = λ st. refl
+opens s_variables x = tt
+opens s_expression (a_number v t) = λ st. refl
+opens s_expression (a_name n) = λ st. refl
+opens s_expression (a_word W.Me) = λ st. refl
+opens s_expression (a_word W.Count) = λ st. refl
+opens s_expression (a_word W.Open) = λ st. refl
+opens s_expression x = tt
+opens s_right (a_number v t) = λ st. refl
+opens s_right (a_name n) = λ st. refl
+opens s_right (a_word W.Me) = λ st. refl
+opens s_right (a_word W.Count) = λ st. refl
+opens s_right (a_word W.Open) = λ st. refl
+opens s_right (a_word W.Get) = λ st. refl
+opens s_right (a_word W.Scan) = λ st. refl
+opens s_right (a_word W.Copy) = λ st. refl
+opens s_right (a_word W.Older) = λ st. refl
+opens s_right x = tt
+opens s_statement (a_name n) = λ st. refl
+opens s_statement (a_word W.Put) = λ st. refl
+opens s_statement (a_word W.Stamp) = λ st. refl
+opens s_statement (a_word W.Out) = λ st. refl
+opens s_statement (a_word W.If) = λ st. refl
+opens s_statement (a_word W.While) = λ st. refl
+opens s_statement x = tt
+opens (s_until N.Program) (a_name n) = λ st. refl
+opens (s_until N.Program) (a_word W.Put) = λ st. refl
+opens (s_until N.Program) (a_word W.Stamp) = λ st. refl
+opens (s_until N.Program) (a_word W.Out) = λ st. refl
+opens (s_until N.Program) (a_word W.If) = λ st. refl
+opens (s_until N.Program) (a_word W.While) = λ st. refl
+opens (s_until N.Program) (a_word W.End) = λ st. refl
+opens (s_until N.Program) x = tt
+opens (s_until N.Braces) (a_name n) = λ st. refl
+opens (s_until N.Braces) (a_word W.Put) = λ st. refl
+opens (s_until N.Braces) (a_word W.Stamp) = λ st. refl
+opens (s_until N.Braces) (a_word W.Out) = λ st. refl
+opens (s_until N.Braces) (a_word W.If) = λ st. refl
+opens (s_until N.Braces) (a_word W.While) = λ st. refl
+opens (s_until N.Braces) (a_word W.CloseBrace) = λ st. omega arith
+opens (s_until N.Braces) x = tt
+
+pub opens_to : (s : Symbol) (x : Lexeme) (new : List Symbol) → step s x ≡ Some new → (st : List Symbol)
+    → opened (new ++ st) ≡ open_by x (opened (s ∷ st))
+opens_to s x new h = subst (Opens s x) h (opens s x)
+
+pub full_is : (limit : ℕ) (x : Lexeme) (depth : ℕ) → is_full limit x depth ≡ true → IsOpening x × (depth ≡ limit)
+full_is limit (a_word W.Open) depth h = (tt, eqb-true depth limit h)
+full_is limit (a_word W.OpenBrace) depth h = (tt, eqb-true depth limit h)
+full_is limit x depth h = absurd (cc)
+
+pub fits_by : (x : Lexeme) (depth : ℕ) → depth ≤ 64 → is_full 64 x depth ≡ false → open_by x depth ≤ 64
+fits_by (a_word W.Open) depth l h = let n : depth ≢ 64 = eqb-false depth 64 h in omega arith
+fits_by (a_word W.OpenBrace) depth l h = let n : depth ≢ 64 = eqb-false depth 64 h in omega arith
+fits_by (a_word W.Close) depth l h = omega arith
+fits_by (a_word W.CloseBrace) depth l h = omega arith
+fits_by x depth l h = l
+
+grows_by : (x : Lexeme) (depth : ℕ) → open_by x depth ≤ suc depth
+grows_by (a_word W.Open) depth = omega arith
+grows_by (a_word W.OpenBrace) depth = omega arith
+grows_by (a_word W.Close) depth = omega arith
+grows_by (a_word W.CloseBrace) depth = omega arith
+grows_by x depth = omega arith
+
+free_by : (limit : ℕ) (x : Lexeme) (depth : ℕ) → depth < limit → is_full limit x depth ≡ false
+free_by limit (a_word W.Open) depth l = let n : depth ≢ limit = omega arith in ne_eqb depth limit n
+free_by limit (a_word W.OpenBrace) depth l = let n : depth ≢ limit = omega arith in ne_eqb depth limit n
+free_by limit x depth l = refl
+
+-- a way to complete each symbol
+abbrev complete : Symbol → List Lexeme
+complete s_program = a_word W.Processes ∷ a_number 1 (record { start = 0; end = 0 }) ∷ a_word W.Semicolon ∷ a_word W.Begin ∷ a_word W.End ∷ []
+complete s_number = a_number 0 (record { start = 0; end = 0 }) ∷ []
+complete s_semicolon = a_word W.Semicolon ∷ []
+complete s_variables = a_word W.Begin ∷ a_word W.End ∷ []
+complete s_scans = a_word W.Begin ∷ a_word W.End ∷ []
+complete s_registers = a_word W.Begin ∷ a_word W.End ∷ []
+complete s_begin = a_word W.Begin ∷ a_word W.End ∷ []
+complete s_names = a_name (record { letters = 120 ∷ []; span = record { start = 0; end = 0 } }) ∷ a_word W.Semicolon ∷ []
+complete s_more = a_word W.Semicolon ∷ []
+complete s_name = a_name (record { letters = 120 ∷ []; span = record { start = 0; end = 0 } }) ∷ []
+complete s_becomes = a_word W.Becomes ∷ []
+complete s_else = a_word W.Else ∷ []
+complete s_close = a_word W.Close ∷ []
+complete s_operator = a_word (W.Operator O.Add) ∷ []
+complete s_expression = a_word W.Me ∷ []
+complete s_right = a_word W.Me ∷ a_word W.Semicolon ∷ []
+complete s_block = a_word W.OpenBrace ∷ a_word W.CloseBrace ∷ []
+complete s_statement = a_word W.Stamp ∷ a_word W.Semicolon ∷ []
+complete (s_until N.Program) = a_word W.End ∷ []
+complete (s_until N.Braces) = a_word W.CloseBrace ∷ []
+
+completes : (s : Symbol) (ts : List Lexeme) (st : List Symbol) → run (complete s ++ ts) (s ∷ st) ≡ run ts st
+completes s_program ts st = refl
+completes s_number ts st = refl
+completes s_semicolon ts st = refl
+completes s_variables ts st = refl
+completes s_scans ts st = refl
+completes s_registers ts st = refl
+completes s_begin ts st = refl
+completes s_names ts st = refl
+completes s_more ts st = refl
+completes s_name ts st = refl
+completes s_becomes ts st = refl
+completes s_else ts st = refl
+completes s_close ts st = refl
+completes s_operator ts st = refl
+completes s_expression ts st = refl
+completes s_right ts st = refl
+completes s_block ts st = refl
+completes s_statement ts st = refl
+completes (s_until N.Program) ts st = refl
+completes (s_until N.Braces) ts st = refl
+
+abbrev complete_all : List Symbol → List Lexeme
+complete_all [] = []
+complete_all (s ∷ st) = complete s ++ complete_all st
+
+completes_all : (st : List Symbol) → run (complete_all st) st ≡ Some []
+completes_all [] = refl
+completes_all (s ∷ st) = completes s (complete_all st) st ∙ completes_all st
+
+-- and one that a text can have
+complete_stands : (s : Symbol) → AllCanStand (complete s)
+complete_stands s_program = (tt, (omega arith, (tt, (tt, (tt, tt)))))
+complete_stands s_number = (omega arith, tt)
+complete_stands s_semicolon = (tt, tt)
+complete_stands s_variables = (tt, (tt, tt))
+complete_stands s_scans = (tt, (tt, tt))
+complete_stands s_registers = (tt, (tt, tt))
+complete_stands s_begin = (tt, (tt, tt))
+complete_stands s_names = ((refl, refl, omega arith), (tt, tt))
+complete_stands s_more = (tt, tt)
+complete_stands s_name = ((refl, refl, omega arith), tt)
+complete_stands s_becomes = (tt, tt)
+complete_stands s_else = (tt, tt)
+complete_stands s_close = (tt, tt)
+complete_stands s_operator = (tt, tt)
+complete_stands s_expression = (tt, tt)
+complete_stands s_right = (tt, (tt, tt))
+complete_stands s_block = (tt, (tt, tt))
+complete_stands s_statement = (tt, (tt, tt))
+complete_stands (s_until N.Program) = (tt, tt)
+complete_stands (s_until N.Braces) = (tt, tt)
+
+pub all_append : (xs ys : List Lexeme) → AllCanStand xs → AllCanStand ys → AllCanStand (xs ++ ys)
+all_append [] ys a b = b
+all_append (x ∷ xs) ys a b = (a.0, all_append xs ys a.1 b)
+
+completed_stand : (st : List Symbol) → AllCanStand (complete_all st)
+completed_stand [] = tt
+completed_stand (s ∷ st) = all_append (complete s) (complete_all st) (complete_stands s) (completed_stand st)
+
+run_by_by : (o : Option (List Symbol)) (f g : List Symbol → Option (List Symbol)) → run_by (run_by o f) g ≡ run_by o (λ st. run_by (f st) g)
+run_by_by None f g = refl
+run_by_by (Some st) f g = refl
+
+run_by_same : (o : Option (List Symbol)) (f g : List Symbol → Option (List Symbol)) → ((st : List Symbol) → f st ≡ g st) → run_by o f ≡ run_by o g
+run_by_same None f g h = refl
+run_by_same (Some st) f g h = h st
+
+pub run_append : (xs ys : List Lexeme) (st : List Symbol) → run (xs ++ ys) st ≡ run_by (run xs st) (run ys)
+run_append [] ys st = refl
+run_append (x ∷ xs) ys [] = refl
+run_append (x ∷ xs) ys (s ∷ st) =
+    run_by_same (on_stack (step s x) st) (run (xs ++ ys)) (λ z. run_by (run xs z) (run ys)) (λ z. run_append xs ys z)
+    ∙ sym (run_by_by (on_stack (step s x) st) (run xs) (run ys))
+
+-- items that say these tokens
+abbrev item_for : Lexeme → Item
+item_for (a_name x) = record { meaning = M.Name (record { ref_ptr = (0, 0); now = x.letters }); span = x.span }
+item_for (a_number v s) = record { meaning = M.Number v; span = s }
+item_for (a_word w) = record { meaning = M.Word w; span = record { start = 0; end = 0 } }
+item_for nothing = record { meaning = M.Nothing; span = record { start = 0; end = 0 } }
+
+abbrev items_for : List Lexeme → List Item
+items_for [] = []
+items_for (x ∷ xs) = item_for x ∷ items_for xs
+
+said_for : (x : Lexeme) → said (item_for x) ≡ x
+said_for (a_name x) = refl
+said_for (a_number v s) = refl
+said_for (a_word w) = refl
+said_for nothing = refl
+
+says_for : (xs : List Lexeme) → says (items_for xs) ≡ xs
+says_for [] = refl
+says_for (x ∷ xs) = ap (λ z. z ∷ says (items_for xs)) (said_for x) ∙ ap (λ z. x ∷ z) (says_for xs)
+
+-- where no bracket is one too many, the items are read to their end just where they run out of symbols
+module _ (end limit : ℕ) where
+  runs_step : (ts : List Lexeme) (st : List Symbol) (span : Span) (more : List Symbol → Option TextFault) (o : Option (List Symbol)) (b : Bool)
+      → fault_by (on_stack o st) b span more ≡ None
+      → ((new : List Symbol) → more (new ++ st) ≡ None → run ts (new ++ st) ≡ Some [])
+      → run_by (on_stack o st) (run ts) ≡ Some []
+  runs_step ts st span more None b k go = absurd (cc)
+  runs_step ts st span more (Some new) true k go = absurd (cc)
+  runs_step ts st span more (Some new) false k go = go new k
+
+  runs_out : (is : List Item) (st : List Symbol) → fault end limit is st ≡ None → run (says is) st ≡ Some []
+  runs_out [] [] h = refl
+  runs_out [] (s ∷ st) h = absurd (cc)
+  runs_out (i ∷ is) [] h = absurd (cc)
+  runs_out (i ∷ is) (s ∷ st) h =
+      runs_step (says is) st i.span (fault end limit is) (step s (said i)) (is_full limit (said i) (opened (s ∷ st))) h
+      (λ new k. runs_out is (new ++ st) k)
+
+  fault_step : (x : Lexeme) (ts : List Lexeme) (count : ℕ) (s : Symbol) (st : List Symbol) (span : Span) (more : List Symbol → Option TextFault)
+      (o : Option (List Symbol)) → step s x ≡ o → run_by (on_stack o st) (run ts) ≡ Some [] → opened (s ∷ st) + suc count < limit
+      → ((new : List Symbol) → run ts (new ++ st) ≡ Some [] → opened (new ++ st) + count < limit → more (new ++ st) ≡ None)
+      → fault_by (on_stack o st) (is_full limit x (opened (s ∷ st))) span more ≡ None
+  fault_step x ts count s st span more None e k l go = absurd (cc)
+  fault_step x ts count s st span more (Some new) e k l go =
+      let d : opened (new ++ st) ≡ open_by x (opened (s ∷ st)) = opens_to s x new e st in
+      let g : open_by x (opened (s ∷ st)) ≤ suc (opened (s ∷ st)) = grows_by x (opened (s ∷ st)) in
+      ap (λ z. fault_by (Some (new ++ st)) z span more) (free_by limit x (opened (s ∷ st)) (omega arith))
+      ∙ go new k (omega arith)
+
+  no_fault : (is : List Item) (st : List Symbol) → run (says is) st ≡ Some [] → opened st + length is < limit → fault end limit is st ≡ None
+  no_fault [] [] h l = refl
+  no_fault [] (s ∷ st) h l = absurd (cc)
+  no_fault (i ∷ is) [] h l = absurd (cc)
+  no_fault (i ∷ is) (s ∷ st) h l =
+      fault_step (said i) (says is) (length is) s st i.span (fault end limit is) (step s (said i)) refl h l
+      (λ new k j. no_fault is (new ++ st) k j)
+
+derived_by : (r : Result (WholeProgram Name) TextFault) (ts : List Lexeme)
+    → ((p : WholeProgram Name) → r ≡ Ok p → Derives ts p) → ((e : TextFault) → r ≡ Err e → ⊥)
+    → (p : WholeProgram Name) × Derives ts p
+derived_by (Ok p) ts f g = (p, f p refl)
+derived_by (Err e) ts f g = absurd (g e refl)
+
+-- tokens that run out of symbols are a program
+pub derives_back : (ts : List Lexeme) → run ts (s_program ∷ []) ≡ Some [] → (p : WholeProgram Name) × Derives ts p
+derives_back ts h =
+    let is : List Item = items_for ts in
+    let limit : ℕ = suc (length is) in
+    let same : says is ≡ ts = says_for ts in
+    let none : fault 0 limit is (s_program ∷ []) ≡ None =
+    no_fault 0 limit is (s_program ∷ []) (subst (λ z. run z (s_program ∷ []) ≡ Some []) (sym same) h) (omega arith) in
+    derived_by (program_at 0 limit is) ts
+    (λ p k. subst (λ z. Derives z p) same (program_ok 0 limit is p k).0)
+    (λ e k. not_none e (sym (program_err 0 limit is e k) ∙ none))
+  where
+    not_none : (e : TextFault) → Some e ≡ None → ⊥
+    not_none e h = cc
+
+-- and a program's tokens run out of symbols
+pub derives_runs : (ts : List Lexeme) (p : WholeProgram Name) → Derives ts p → run ts (s_program ∷ []) ≡ Some []
+derives_runs ts p d =
+    let is : List Item = items_for ts in
+    let same : says is ≡ ts = says_for ts in
+    let ok : program_at 0 (nesting p) is ≡ Ok p = program_takes 0 (nesting p) p is (subst (λ z. Derives z p) (sym same) d) (omega arith) in
+    subst (λ z. run z (s_program ∷ []) ≡ Some []) same
+    (runs_out 0 (nesting p) is (s_program ∷ []) (program_ok 0 (nesting p) is p ok).2)
+
+one_value : (p q : WholeProgram Name) → (let r : Result (WholeProgram Name) TextFault = Ok p in r) ≡ Ok q → p ≡ q
+one_value p q h = cc
+
+-- a list of tokens is one program at most
+pub derives_once : (ts : List Lexeme) (p q : WholeProgram Name) → Derives ts p → Derives ts q → p ≡ q
+derives_once ts p q d f =
+    let is : List Item = items_for ts in
+    let depth : ℕ = max (nesting p) (nesting q) in
+    let same : says is ≡ ts = says_for ts in
+    let a : program_at 0 depth is ≡ Ok p = program_takes 0 depth p is (subst (λ z. Derives z p) (sym same) d) (omega arith) in
+    let b : program_at 0 depth is ≡ Ok q = program_takes 0 depth q is (subst (λ z. Derives z q) (sym same) f) (omega arith) in
+    one_value p q (sym a ∙ b)
+
+pub goes_on : (ts : List Lexeme) (st : List Symbol) → run ts (s_program ∷ []) ≡ Some st → GoesOn ts
+goes_on ts st h =
+    let b = derives_back (ts ++ complete_all st)
+    (run_append ts (complete_all st) (s_program ∷ []) ∙ ap (λ z. run_by z (run (complete_all st))) h ∙ completes_all st) in
+    (complete_all st, completed_stand st, b.0, b.1)
+
+none_some : (st : List Symbol) → (let r : Option (List Symbol) = None in r) ≡ Some st → ⊥
+none_some st h = cc
+
+pub goes_on_runs : (ts : List Lexeme) → GoesOn ts → run ts (s_program ∷ []) ≡ None → ⊥
+goes_on_runs ts g h =
+    let r : run (ts ++ g.0) (s_program ∷ []) ≡ Some [] = derives_runs (ts ++ g.0) g.2 g.3 in
+    none_some [] (sym (ap (λ z. run_by z (run g.0)) h) ∙ sym (run_append ts g.0 (s_program ∷ [])) ∙ r)

@@ -1,0 +1,11 @@
+use Rattle.std.proofs.Common.{◌+◌, ◌*◌}
+use Rattle.tick_syntax.proofs.parser.Parser.+expression.Given as goal
+
+abbrev pub decreases-pair : goal.decreases-pair
+decreases-pair l = 3 * l.room + 3
+
+abbrev pub decreases-brackets : goal.decreases-brackets
+decreases-brackets l = 3 * l.room + 1
+
+abbrev pub decreases-expression : goal.decreases-expression
+decreases-expression l = 3 * l.room + 2

@@ -1,0 +1,5 @@
+pub mod Items
+pub mod Extents
+pub mod Reading
+pub mod Printing
+pub mod Coding

@@ -1,0 +1,16 @@
+-- Parts of a program's tokens.
+use Rattle.std.specs.Prelude.{List, [], ◌∷◌, ◌++◌}
+use Rattle.tick_syntax.specs.declared.terminals.Word.TheVariants as W
+use Rattle.tick_syntax.specs.Lexeme.{Lexeme, a_name, a_word}
+use Rattle.tick_syntax.specs.Plain.{Name, WholeProgram}
+use Rattle.tick_syntax.specs.Printed.{section_tokens}
+
+-- each name with a comma before it
+abbrev pub more_names : List Name → List Lexeme
+more_names [] = []
+more_names (x ∷ xs) = a_word W.Comma ∷ a_name x ∷ more_names xs
+
+-- the sections of declarations
+abbrev pub declaration_tokens : WholeProgram Name → List Lexeme
+declaration_tokens p =
+    section_tokens W.Var p.variables ++ (section_tokens W.Scan p.scans ++ section_tokens W.Reg p.registers)

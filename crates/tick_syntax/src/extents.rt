@@ -1,0 +1,90 @@
+// Where a gap, a word, a number and a sign of a text end. Places are byte offsets.
+ghost use Rattle.std.specs.Prelude.{◌≡◌, ◌+◌, ◌<◌, ◌≤◌, length, drop, MatchOption, true};
+ghost use Rattle.std.specs.List.{list_all};
+ghost use Rattle.std.specs.Str.Parse.{digits_value};
+ghost use Rattle.tick_syntax.specs.Characters.{is_digit};
+ghost use Rattle.tick_syntax.specs.prover.Extents.{word_length, number_length, sign_length};
+ghost use Rattle.tick_syntax.specs.Spelling.{gap_length};
+
+use crate::characters::{is_blank, is_lone_sign, is_name_part, may_precede_equals};
+
+const NUMBER_LIMIT: u64 = 4_294_967_295;
+
+/// The end of the blanks and comments at a place.
+pub fn gap_end(bytes: &[u8], from: usize) -> usize
+    requires { from ≤ length bytes.now }
+    ensures within { result ≤ length bytes.now }
+    ensures end { result ≡ from + gap_length (drop from bytes.now) }
+{
+    let mut end = from;
+    let mut in_comment = false;
+    while end < bytes.len() {
+        let byte = bytes[end];
+        if in_comment {
+            in_comment = byte != b'\n';
+        } else if byte == b'#' {
+            in_comment = true;
+        } else if !is_blank(byte) {
+            return end;
+        }
+        end += 1;
+    }
+    end
+}
+
+/// The end of the letters and digits at a place.
+pub fn word_end(bytes: &[u8], from: usize) -> usize
+    requires { from ≤ length bytes.now }
+    ensures within { result ≤ length bytes.now }
+    ensures end { result ≡ from + word_length (drop from bytes.now) }
+{
+    let mut end = from;
+    while end < bytes.len() && is_name_part(bytes[end]) {
+        end += 1;
+    }
+    end
+}
+
+/// The end of the digits at a place.
+pub fn number_end(bytes: &[u8], from: usize) -> usize
+    requires { from ≤ length bytes.now }
+    ensures within { result ≤ length bytes.now }
+    ensures end { result ≡ from + number_length (drop from bytes.now) }
+{
+    let mut end = from;
+    while end < bytes.len() && bytes[end].is_ascii_digit() {
+        end += 1;
+    }
+    end
+}
+
+/// The end of the longest sign at a place, which is the place itself where no sign begins there.
+pub fn sign_end(bytes: &[u8], from: usize) -> usize
+    requires { from < length bytes.now }
+    ensures within { result ≤ length bytes.now }
+    ensures end { result ≡ from + sign_length (drop from bytes.now) }
+{
+    let first = bytes[from];
+    if may_precede_equals(first) && from + 1 < bytes.len() && bytes[from + 1] == b'=' {
+        from + 2
+    } else if is_lone_sign(first) {
+        from + 1
+    } else {
+        from
+    }
+}
+
+/// The number that the digits write, where it is at most 4294967295.
+pub fn number_value(digits: &[u8]) -> Option<u32>
+    requires { list_all is_digit digits.now ≡ true }
+    ensures { MatchOption result (4294967295 < digits_value 10 digits.now) (λ value. (value ≡ digits_value 10 digits.now) × (value ≤ 4294967295)) }
+{
+    let mut value: u64 = 0;
+    for &digit in digits {
+        value = value * 10 + u64::from(digit - b'0');
+        if value > NUMBER_LIMIT {
+            return None;
+        }
+    }
+    Some(value as u32)
+}

@@ -1,0 +1,9 @@
+// Tests of `tick_syntax`, apart from it: each call with ample memory, on each kind of input.
+#![tactic(auto)]
+
+#[cfg(test)]
+mod parse;
+#[cfg(test)]
+mod print;
+#[cfg(test)]
+mod tokens;

@@ -1,7 +1,0 @@
-pub mod ReadingLemmas
-pub mod WritingLemmas
-pub mod OrderLemmas
-pub mod TextLemmas
-pub mod StopLemmas
-pub mod ProgramLemmas
-pub mod AnswerLemmas

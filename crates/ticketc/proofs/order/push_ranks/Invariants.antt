@@ -1,9 +1,0 @@
-use Rattle.std.proofs.Common.{◌≡◌, ◌++◌, drop, map, string_bytes}
-use Rattle.std.specs.Fmt.{decimal}
-use Rattle.label_core.specs.Labels.{label_ranks}
-use Rattle.ticketc.specs.Order.{spaced}
-use Rattle.ticketc.proofs.order.push_ranks.Given as goal
-
-abbrev pub invariant-loop-process : goal.invariant-loop-process
-invariant-loop-process l =
-    string_bytes l.text ++ spaced (map decimal (drop l.process (label_ranks l.word))) ≡ string_bytes l.fn.text ++ spaced (map decimal (label_ranks l.word))

@@ -1,0 +1,16 @@
+-- What the host's answer to a read or a write comes to.
+use Rattle.std.specs.Prelude.{◌≡◌, ◌≢◌, ℕ, Result, Ok, Err}
+use Rattle.std.specs.IoError.{error_kind}
+use Rattle.std.specs.declared.io.Error.{Error}
+use Rattle.std.specs.declared.io.ErrorKind.TheVariants as kind
+use Rattle.engine.specs.declared.ends.Transfer.{Transfer}
+use Rattle.engine.specs.declared.ends.Transfer.TheVariants.{Moved, Interrupted, Failed}
+
+-- an interruption is one by its kind, and any other error is a failure
+pub record IsErrorOf (error : Error) (transfer : Transfer) : Type 0 where
+  pub interrupted : error_kind error ≡ kind.Interrupted → transfer ≡ Interrupted
+  pub failed : error_kind error ≢ kind.Interrupted → transfer ≡ Failed
+
+abbrev pub IsTransferOf : Result ℕ Error → Transfer → Type 0
+IsTransferOf (Ok count) transfer = transfer ≡ Moved count
+IsTransferOf (Err error) transfer = IsErrorOf error transfer

@@ -1,0 +1,7 @@
+mod Examples
+mod Lists
+mod Known
+mod Faultless
+mod Passing
+mod Kept
+pub mod Offered

@@ -1,0 +1,4 @@
+pub mod Instructions
+pub mod Heights
+pub mod Verified
+pub mod prover

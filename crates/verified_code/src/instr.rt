@@ -1,0 +1,45 @@
+use machine_core::Op;
+
+/// One instruction of a process. Values stand on a stack of the process's own; slots of variables,
+/// scans and register rows count from 0, and so do the places of a code.
+#[derive(Clone, Copy, PartialEq, Eq, Debug)]
+pub enum Instr {
+    /// Pushes this value.
+    Push(u32),
+    /// Pushes a variable.
+    Load(u8),
+    /// Pushes the number of the process.
+    Me,
+    /// Pushes the number of processes.
+    Count,
+    /// Takes two values, the right operand on top, and pushes what the operator makes of them.
+    Bin(Op),
+    /// Takes a value into a variable.
+    Store(u8),
+    /// Takes the number of a process, and reads its register of this row into this variable.
+    Get(u8, u8),
+    /// Takes a value into the process's own register of this row.
+    Put(u8),
+    /// Copies the shared labels to the process's scratch.
+    LoadWord,
+    /// Puts beside the scratch the same labels after a stamp of the process.
+    Next,
+    /// Where the shared labels are those of the scratch, puts what stands beside it in their place,
+    /// which is the stamp, and goes on; else goes back to this place.
+    Exchange(u16),
+    /// Copies the shared labels to a scan.
+    Scan(u8),
+    /// Copies the first scan into the second.
+    Copy(u8, u8),
+    /// Takes the numbers of two processes, the second on top, and compares their labels in this
+    /// scan into this variable.
+    Older(u8, u8),
+    /// Takes a value and gives it out.
+    Out,
+    /// Takes a value, and goes to this place where it is 0.
+    JumpZero(u16),
+    /// Goes to this place.
+    Jump(u16),
+    /// Ends the process.
+    Halt,
+}
