@@ -1,24 +1,10 @@
 //! One large input of each kind, and an input that is too large.
 use crate::answering::answered;
+use crate::texts::repeated;
 use std::alloc::{AllocError, Global};
 use std::fmt::Write;
 use std::process::Abort;
 use std::test::Fail;
-
-fn repeated(
-    alloc: Global,
-    front: &str,
-    piece: &str,
-    count: usize,
-    back: &str,
-) -> Result<String, AllocError> {
-    let mut text = String::from_str(alloc, front)?;
-    for _ in 0..count {
-        text.push_str(piece)?;
-    }
-    text.push_str(back)?;
-    Ok(text)
-}
 
 fn answers<R: AllocGlobal + Abort>(
     rt: &R,
@@ -30,6 +16,10 @@ fn answers<R: AllocGlobal + Abort>(
     assert_eq!(rt; status, Ok(0));
     assert!(rt; written.as_slice() == answer.as_bytes());
     Ok(())
+}
+
+fn prints<R: AllocGlobal + Abort>(rt: &R, program: &str, printed: &str) -> Result<(), Fail> {
+    answers(rt, &["ticketc", "check"], program, printed)
 }
 
 #[test]
@@ -82,12 +72,7 @@ fn many_statements(rt: HostRuntime) -> Result<(), Fail> {
         100,
         "end\n",
     )?;
-    answers(
-        &rt,
-        &["ticketc", "check"],
-        program.as_str(),
-        printed.as_str(),
-    )
+    prints(&rt, program.as_str(), printed.as_str())
 }
 
 #[test]
@@ -108,12 +93,7 @@ fn deepest(rt: HostRuntime) -> Result<(), Fail> {
     let program = repeated(rt.alloc(), open.as_str(), "} ", 64, "end")?;
     let printed = repeated(rt.alloc(), "processes 1 ;\nbegin\n", "while 0 {\n", 64, "")?;
     let printed = repeated(rt.alloc(), printed.as_str(), "}\n", 64, "end\n")?;
-    answers(
-        &rt,
-        &["ticketc", "check"],
-        program.as_str(),
-        printed.as_str(),
-    )
+    prints(&rt, program.as_str(), printed.as_str())
 }
 
 #[test]
@@ -123,12 +103,7 @@ fn longest_name(rt: HostRuntime) -> Result<(), Fail> {
     let printed = format!(in rt.alloc();
         "processes 1 ;\nvar {name} ;\nbegin\nout {name} ;\nend\n"
     )?;
-    answers(
-        &rt,
-        &["ticketc", "check"],
-        program.as_str(),
-        printed.as_str(),
-    )
+    prints(&rt, program.as_str(), printed.as_str())
 }
 
 #[test]

@@ -18,3 +18,5 @@ mod orders;
 mod programs;
 #[cfg(test)]
 mod refusals;
+#[cfg(test)]
+mod texts;

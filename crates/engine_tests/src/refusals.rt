@@ -1,5 +1,6 @@
 //! Each refusal of a program, of its kinds and of a schedule.
 use crate::answering::answered;
+use crate::texts::repeated;
 use std::alloc::{AllocError, Global};
 use std::fmt::Write;
 use std::process::Abort;
@@ -109,21 +110,6 @@ fn schedules_are_refused(rt: HostRuntime) -> Result<(), Fail> {
     Ok(())
 }
 
-fn text_of(
-    alloc: Global,
-    front: &str,
-    piece: &str,
-    count: usize,
-    back: &str,
-) -> Result<String, AllocError> {
-    let mut text = String::from_str(alloc, front)?;
-    for _ in 0..count {
-        text.push_str(piece)?;
-    }
-    text.push_str(back)?;
-    Ok(text)
-}
-
 // A text of a front, a piece so many times and a back, and the line that refuses it.
 const DEEP: [(&str, &str, usize, &str, &str); 6] = [
     (
@@ -173,7 +159,7 @@ const DEEP: [(&str, &str, usize, &str, &str); 6] = [
 #[test]
 fn depth_and_length(rt: HostRuntime) -> Result<(), Fail> {
     for (front, piece, count, back, line) in DEEP {
-        let text = text_of(rt.alloc(), front, piece, count, back)?;
+        let text = repeated(rt.alloc(), front, piece, count, back)?;
         refused(&rt, &["ticketc", "check"], text.as_bytes(), line)?;
     }
     Ok(())

@@ -1,3 +1,4 @@
+pub mod Offered
 mod Examples
 mod Fine
 mod Words

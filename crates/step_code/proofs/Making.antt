@@ -39,5 +39,5 @@ module _ (code : StepCode) (one : OneProcess) (of : IsOf code one) (i : Instr) (
   pub scan : (s : ℕ) → nat_lt s code.sizes.scans ≡ true → s < length one.process.scans
   scan s fits = omega (arith, ltb-true s code.sizes.scans fits, of.safe.scans)
 
-  pub scan_labels : (s : ℕ) → nat_lt s code.sizes.scans ≡ true → AreOrdered code.sizes.processes (scan_at one.process s)
+  pub scan_labels : (s : ℕ) → nat_lt s code.sizes.scans ≡ true → AreOrdered code.sizes.processes (scan_at one.process code.sizes.processes s)
   scan_labels s fits = All-get_or (AreOrdered code.sizes.processes) one.process.scans s _ (scan s fits) of.safe.filled

@@ -16,6 +16,7 @@ use Rattle.verified_code.specs.declared.instr.Instr.TheVariants as I
 use Rattle.verified_code.specs.Instructions.{CodeSizes, pops, left, target, goes_on}
 use Rattle.verified_code.specs.Heights.{height_at}
 use Rattle.verified_code.specs.Verified.{is_next, is_exchange}
+use Rattle.word_core.specs.Stamps.{start_labels}
 use Rattle.step_code.specs.declared.ask.Ask.TheVariants as Q
 use Rattle.step_code.specs.declared.ask.Reply.{Reply}
 use Rattle.step_code.specs.declared.ask.Reply.TheVariants as R
@@ -123,9 +124,9 @@ module _ (sizes : CodeSizes) (code : List Instr) (fine : Places sizes code) (p :
   abbrev Safe : Moved → Type 0
   Safe m = IsSafe sizes code p m.process
 
-  in_scans : (i : Instr) → Here i → (s : ℕ) → nat_lt s sizes.scans ≡ true → AreOrdered sizes.processes (M.scan_at q s)
+  in_scans : (i : Instr) → Here i → (s : ℕ) → nat_lt s sizes.scans ≡ true → AreOrdered sizes.processes (M.scan_at q sizes.processes s)
   in_scans i here s slot =
-      All-get_or (AreOrdered sizes.processes) q.scans s [] (omega (arith, safe.scans, ltb-true s sizes.scans slot)) safe.filled
+      All-get_or (AreOrdered sizes.processes) q.scans s (start_labels sizes.processes) (omega (arith, safe.scans, ltb-true s sizes.scans slot)) safe.filled
 
   loads_safe : Here I.LoadWord → (r : Reply) → HasWord sizes.processes r → Safe (M.loads q r)
   loads_safe here (R.Word labels) are =
@@ -213,7 +214,7 @@ module _ (sizes : CodeSizes) (code : List Instr) (fine : Places sizes code) (p :
   does_safe (I.Scan s) here = (tt, scans_safe s here)
   does_safe (I.Copy s t) here =
       let slots = both_true (nat_lt s sizes.scans) (nat_lt t sizes.scans) (fine.slots q.place (I.Copy s t) here) in
-      keeps_safe (I.Copy s t) here t (M.scan_at q s) refl refl (omega arith) (in_scans (I.Copy s t) here s slots.0)
+      keeps_safe (I.Copy s t) here t (M.scan_at q sizes.processes s) refl refl (omega arith) (in_scans (I.Copy s t) here s slots.0)
   does_safe (I.Older s x) here =
       compares_safe s x (slice_index q.stack 1) (slice_index q.stack 0) here (nat_lt (slice_index q.stack 1) sizes.processes && nat_lt (slice_index q.stack 0) sizes.processes) _ _
   does_safe I.Out here = goes_on_safe I.Out here _ refl refl (omega (arith, length-drop 1 q.stack))

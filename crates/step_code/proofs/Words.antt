@@ -31,7 +31,7 @@ label_self : (a : List ℕ) → same_label a a ≡ true
 label_self [] = refl
 label_self (digit ∷ digits) = ap (λ t. t && same_label digits digits) (eq-eqb digit digit refl) ∙ label_self digits
 
-equal_labels : (a b : List (List ℕ)) → same_labels a b ≡ true → a ≡ b
+pub equal_labels : (a b : List (List ℕ)) → same_labels a b ≡ true → a ≡ b
 equal_labels [] [] same = refl
 equal_labels [] (label ∷ labels) same = (cc)
 equal_labels (label ∷ labels) [] same = (cc)
@@ -39,7 +39,7 @@ equal_labels (label ∷ labels) (other ∷ others) same =
     let h = both_true (same_label label other) (same_labels labels others) same in
     λ i. equal_label label other h.0 i ∷ equal_labels labels others h.1 i
 
-labels_self : (a : List (List ℕ)) → same_labels a a ≡ true
+pub labels_self : (a : List (List ℕ)) → same_labels a a ≡ true
 labels_self [] = refl
 labels_self (label ∷ labels) = ap (λ t. t && same_labels labels labels) (label_self label) ∙ labels_self labels
 

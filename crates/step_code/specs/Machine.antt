@@ -83,8 +83,9 @@ module _ (q : CodeProcess) where
   abbrev pub sets : ℕ → ℕ → List ℕ → Option Act → Moved
   sets x v stack act = record { process = record q { place = q.place + 1; stack = stack; variables = slice_set q.variables x v }; act = act }
 
-  abbrev pub scan_at : ℕ → List (List ℕ)
-  scan_at s = slice_index_or q.scans s []
+  -- the labels of `n` processes that a scan holds
+  abbrev pub scan_at : ℕ → ℕ → List (List ℕ)
+  scan_at n s = slice_index_or q.scans s (start_labels n)
 
   -- what a stamp makes of the scratch stands beside it
   abbrev pub stamps : ℕ → Moved
@@ -122,7 +123,7 @@ module _ (q : CodeProcess) where
   abbrev pub compares : ℕ → ℕ → ℕ → ℕ → ℕ → Moved
   compares n s i j x =
       if nat_lt i n && nat_lt j n
-      then sets x (number_of (older_label (scan_at s) i j)) (drop 2 q.stack) (Some (A.Older i j (number_of (older_label (scan_at s) i j))))
+      then sets x (number_of (older_label (scan_at n s) i j)) (drop 2 q.stack) (Some (A.Older i j (number_of (older_label (scan_at n s) i j))))
       else traps T.Index
 
   -- What this instruction does, where the process is process `p` of `n`.
@@ -139,7 +140,7 @@ module _ (q : CodeProcess) where
   does n p I.Next = alone (stamps p)
   does n p (I.Exchange l) = asks (Q.Exchange q.scratch q.beside) (exchanges l)
   does n p (I.Scan s) = asks Q.Scan (scans n s)
-  does n p (I.Copy s t) = alone (keeps t (scan_at s) None)
+  does n p (I.Copy s t) = alone (keeps t (scan_at n s) None)
   does n p (I.Older s x) = alone (compares n s (slice_index q.stack 1) (slice_index q.stack 0) x)
   does n p I.Out = alone (goes_on (drop 1 q.stack) (Some (A.Out (slice_index q.stack 0))))
   does n p (I.JumpZero l) = alone (goes (if slice_index q.stack 0 == 0 then l else q.place + 1) (drop 1 q.stack) None)

@@ -177,7 +177,7 @@ impl Process {
         requires target { t < length self.old.scans.items }
         requires more { self.old.place < 65535 }
         ensures answer { result ≡ Advance.Silent }
-        ensures becomes { Becomes self.old (keeps (process_of self.old) t (scan_at (process_of self.old) s) None).process self.new }
+        ensures becomes { (n : ℕ) → Becomes self.old (keeps (process_of self.old) t (scan_at (process_of self.old) n s) None).process self.new }
     {
         let labels = self.scans[usize::from(s)];
         self.keep(t, labels);
@@ -188,7 +188,7 @@ impl Process {
     fn compare(&mut self, n: u8, s: u8, x: u8) -> Advance
         requires operands { 2 ≤ length (on_stack self.old.stack) }
         requires scan { s < length self.old.scans.items }
-        requires labels { length (scan_at (process_of self.old) s) ≡ n }
+        requires labels { length (scan_at (process_of self.old) n s) ≡ n }
         requires slot { x < length self.old.variables.items }
         requires more { self.old.place < 65535 }
         ensures answer { result ≡ advance_of self.old.me (alone (compares (process_of self.old) n s (slice_index (on_stack self.old.stack) 1) (slice_index (on_stack self.old.stack) 0) x)) }

@@ -1,10 +1,17 @@
 use crate::programs::{instructions, lowered};
 use machine_core::Op;
+use std::process::Abort;
 use std::test::Fail;
+use verified_code::Instr;
 use verified_code::Instr::{
     Bin, Copy, Count, Exchange, Get, Halt, Jump, JumpZero, Load, LoadWord, Me, Next, Older, Out,
     Push, Put, Scan, Store,
 };
+
+fn becomes<R: AllocGlobal + Abort>(rt: &R, text: &str, expected: &[Instr]) -> Result<(), Fail> {
+    assert_eq!(rt; instructions(rt.alloc(), text)?.as_slice(), expected);
+    Ok(())
+}
 
 #[test]
 fn stamps_and_compares(rt: HostRuntime) -> Result<(), Fail> {
@@ -21,10 +28,7 @@ fn stamps_and_compares(rt: HostRuntime) -> Result<(), Fail> {
         Out,
         Halt,
     ];
-    assert_eq!(rt;
-        instructions(rt.alloc(), text)?.as_slice(),
-        expected.as_slice()
-    );
+    becomes(&rt, text, expected.as_slice())?;
     let sizes = lowered(rt.alloc(), text)?.sizes();
     assert_eq!(rt; sizes.processes(), 2);
     assert_eq!(rt; sizes.variables(), 1);
@@ -50,11 +54,7 @@ fn repeats(rt: HostRuntime) -> Result<(), Fail> {
         Out,
         Halt,
     ];
-    assert_eq!(rt;
-        instructions(rt.alloc(), text)?.as_slice(),
-        expected.as_slice()
-    );
-    Ok(())
+    becomes(&rt, text, expected.as_slice())
 }
 
 #[test]
@@ -70,11 +70,7 @@ fn branches(rt: HostRuntime) -> Result<(), Fail> {
         Out,
         Halt,
     ];
-    assert_eq!(rt;
-        instructions(rt.alloc(), text)?.as_slice(),
-        expected.as_slice()
-    );
-    Ok(())
+    becomes(&rt, text, expected.as_slice())
 }
 
 #[test]
@@ -99,11 +95,7 @@ fn branches_to_stamps(rt: HostRuntime) -> Result<(), Fail> {
         Exchange(12),
         Halt,
     ];
-    assert_eq!(rt;
-        instructions(rt.alloc(), text)?.as_slice(),
-        expected.as_slice()
-    );
-    Ok(())
+    becomes(&rt, text, expected.as_slice())
 }
 
 #[test]
@@ -125,16 +117,10 @@ fn takes_each_other_statement(rt: HostRuntime) -> Result<(), Fail> {
         Older(1, 1),
         Halt,
     ];
-    assert_eq!(rt;
-        instructions(rt.alloc(), text)?.as_slice(),
-        expected.as_slice()
-    );
-    Ok(())
+    becomes(&rt, text, expected.as_slice())
 }
 
 #[test]
 fn ends_an_empty_program(rt: HostRuntime) -> Result<(), Fail> {
-    let code = instructions(rt.alloc(), "processes 6; begin end")?;
-    assert_eq!(rt; code.as_slice(), [Halt].as_slice());
-    Ok(())
+    becomes(&rt, "processes 6; begin end", &[Halt])
 }

@@ -1,7 +1,8 @@
-use Rattle.std.proofs.Common.{◌∙◌, ap, sym, refl, arith}
+use Rattle.std.proofs.Common.{◌∙◌, ap, sym, refl, length, arith}
 use Rattle.std.specs.Prelude.{nat_lt, Some}
 use Rattle.verified_code.specs.declared.instr.Instr.TheVariants as I
-use Rattle.step_code.specs.prover.Held.{one_of}
+use Rattle.step_code.specs.Machine.{scan_at}
+use Rattle.step_code.specs.prover.Held.{one_of, process_of}
 use Rattle.step_code.proofs.Fine.{both_true}
 use Rattle.step_code.proofs.Making.{operands, room_after, slots, variable, scan, scan_labels}
 use Rattle.step_code.proofs.process.Process.make.Goals as goal
@@ -79,7 +80,9 @@ compare-requires-clause-scan c =
 pub compare-requires-clause-labels : goal.compare-requires-clause-labels
 compare-requires-clause-labels c =
     let here = c.requires.here ∙ ap Some c.in-Older.is in
-    (scan_labels c.args.code.now (one_of c.args.self.now) c.requires.of (I.Older c.in-Older.s c.in-Older.x) here c.in-Older.s (both_true (nat_lt c.in-Older.s c.args.code.now.sizes.scans) (nat_lt c.in-Older.x c.args.code.now.sizes.variables) (slots c.args.code.now (one_of c.args.self.now) c.requires.of (I.Older c.in-Older.s c.in-Older.x) here)).0).are.count ∙ sym (c.processes-in-Older.ensures.count ∙ ap (λ sizes. sizes.processes) c.sizes-in-Older.ensures.sizes)
+    let many = c.processes-in-Older.ensures.count ∙ ap (λ sizes. sizes.processes) c.sizes-in-Older.ensures.sizes in
+    ap (λ n. length (scan_at (process_of c.args.self.now) n c.in-Older.s)) many
+    ∙ (scan_labels c.args.code.now (one_of c.args.self.now) c.requires.of (I.Older c.in-Older.s c.in-Older.x) here c.in-Older.s (both_true (nat_lt c.in-Older.s c.args.code.now.sizes.scans) (nat_lt c.in-Older.x c.args.code.now.sizes.variables) (slots c.args.code.now (one_of c.args.self.now) c.requires.of (I.Older c.in-Older.s c.in-Older.x) here)).0).are.count ∙ sym many
 
 pub compare-requires-clause-slot : goal.compare-requires-clause-slot
 compare-requires-clause-slot c =

@@ -1,6 +1,6 @@
 //! Ends over a reader and a writer of the standard library, as standard input and output.
 ghost use Rattle.std.specs.Prelude.{◌≡◌};
-ghost use Rattle.ticketc.specs.Host.{IsTransferOf};
+ghost use Rattle.host_ends.specs.Host.{IsTransferOf};
 
 use engine::{ByteSink, ByteSource, Counts, Transfer};
 use std::io;

@@ -1,7 +1,7 @@
 //! How the program ends.
 ghost use Rattle.std.specs.Prelude.{◌≡◌};
 ghost use Rattle.std.specs.Process.{exit_status};
-ghost use Rattle.ticketc.specs.Exit.{exit_of};
+ghost use Rattle.host_ends.specs.Exit.{exit_of};
 
 use engine::EngineFault;
 use std::process::ExitCode;

@@ -1,0 +1,1 @@
+../../ticketc/src/main.rt

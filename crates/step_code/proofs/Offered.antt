@@ -1,0 +1,11 @@
+-- The lemmas on the machine of step code that other crates may cite.
+use Rattle.std.proofs.Common.{◌≡◌, ℕ, true, List}
+use Rattle.step_code.specs.Machine.{same_labels}
+use Rattle.step_code.proofs.Words
+
+-- an exchange is won exactly where it finds the labels that it has
+pub equal_from_same : (a b : List (List ℕ)) → same_labels a b ≡ true → a ≡ b
+equal_from_same = Words.equal_labels
+
+pub same_self : (a : List (List ℕ)) → same_labels a a ≡ true
+same_self = Words.labels_self

@@ -1,0 +1,150 @@
+-- Small programs beside their codes.
+use Rattle.std.proofs.Common.{◌≡◌, ℕ, List, [], ◌∷◌, ◌++◌, refl, map, replicate}
+use Rattle.machine_core.specs.declared.operator.Op.TheVariants as O
+use Rattle.machine_core.specs.declared.status.Status.TheVariants.{Running, Ended, Trapped}
+use Rattle.machine_core.specs.declared.status.Trap.TheVariants as T
+use Rattle.machine_core.specs.declared.event.Act.{Act}
+use Rattle.machine_core.specs.declared.event.Act.TheVariants as A
+use Rattle.machine_core.specs.declared.event.Event.{Event}
+use Rattle.machine_core.specs.Observables.{Observables}
+use Rattle.word_core.specs.Packed.{word}
+use Rattle.tick_syntax.specs.Plain.{number, named, me, binary, assign, stamp, scan, older, out, branch, repeat, Block, nil, cons, WholeProgram}
+use Rattle.step_code.specs.Machine.{run_of}
+use Rattle.tick_lower.specs.Lowered.{lowered, lowered_sizes}
+use Rattle.tick_sim.specs.Maps.{down, up}
+use Rattle.tick_sim.specs.Laws.{seen, seen_of_code, running}
+
+abbrev program : ℕ → List ℕ → List ℕ → List ℕ → Block ℕ → WholeProgram ℕ
+program n variables scans registers body =
+    record { processes = n; span = record { start = 0; end = 0 }; variables = variables; scans = scans; registers = registers; body = body }
+
+abbrev by : ℕ → Act → Event
+by p act = record { process = p; act = act }
+
+abbrev ranks : ℕ → ℕ → ℕ → Act
+ranks a b c = A.Scan (a ∷ b ∷ c ∷ 0 ∷ 0 ∷ 0 ∷ [])
+
+-- a stamp, a scan, a comparison and an output
+abbrev stamps_and_compares : WholeProgram ℕ
+stamps_and_compares =
+    program 2 (0 ∷ []) (0 ∷ []) [] (cons stamp (cons (scan 0) (cons (older 0 0 (number 0) (number 1)) (cons (out (named 0)) nil))))
+
+abbrev one_after_the_other : List ℕ
+one_after_the_other = replicate 5 0 ++ replicate 5 1
+
+abbrev both_whole : Observables
+both_whole = record {
+  events =
+      by 0 A.Stamp ∷ by 0 (ranks 1 0 0) ∷ by 0 (A.Older 0 1 0) ∷ by 0 (A.Out 0) ∷ by 0 A.End
+      ∷ by 1 A.Stamp ∷ by 1 (ranks 0 1 0) ∷ by 1 (A.Older 0 1 1) ∷ by 1 (A.Out 1) ∷ by 1 A.End ∷ [];
+  rows = [];
+  statuses = Ended ∷ Ended ∷ [];
+}
+
+its_run : seen stamps_and_compares one_after_the_other ≡ both_whole
+its_run = refl
+
+-- ten instructions each
+its_steps : up (lowered_sizes stamps_and_compares) (lowered stamps_and_compares) one_after_the_other ≡ replicate 10 0 ++ replicate 10 1
+its_steps = refl
+
+its_code : seen_of_code stamps_and_compares (replicate 10 0 ++ replicate 10 1) ≡ both_whole
+its_code = refl
+
+-- the first exchange of process 1 is lost, its second is won
+abbrev lost_once : List ℕ
+lost_once = 0 ∷ 1 ∷ 0 ∷ 1 ∷ 0 ∷ 1 ∷ 1 ∷ 1 ∷ 1 ∷ []
+
+abbrev two_stamps : Observables
+two_stamps = record { events = by 0 A.Stamp ∷ by 1 A.Stamp ∷ []; rows = []; statuses = Running ∷ Running ∷ [] }
+
+lost_code : seen_of_code stamps_and_compares lost_once ≡ two_stamps
+lost_code = refl
+
+lost_down : down (lowered_sizes stamps_and_compares) (lowered stamps_and_compares) lost_once ≡ 0 ∷ 1 ∷ []
+lost_down = refl
+
+lost_source : seen stamps_and_compares (0 ∷ 1 ∷ []) ≡ two_stamps
+lost_source = refl
+
+-- a loop that counts to two
+abbrev counts_to_two : WholeProgram ℕ
+counts_to_two =
+    program 1 (0 ∷ []) [] []
+    (cons (repeat (binary (named 0) O.Less (number 2)) (cons (assign 0 (binary (named 0) O.Add (number 1))) nil)) (cons (out (named 0)) nil))
+
+abbrev counted : Observables
+counted = record { events = by 0 (A.Out 2) ∷ by 0 A.End ∷ []; rows = []; statuses = Ended ∷ [] }
+
+counts : seen counts_to_two (replicate 7 0) ≡ counted
+counts = refl
+
+counts_up : up (lowered_sizes counts_to_two) (lowered counts_to_two) (replicate 7 0) ≡ replicate 25 0
+counts_up = refl
+
+counts_code : seen_of_code counts_to_two (replicate 25 0) ≡ counted
+counts_code = refl
+
+-- tests, which nobody sees, are steps of the program
+counts_down : down (lowered_sizes counts_to_two) (lowered counts_to_two) (replicate 30 0) ≡ replicate 7 0
+counts_down = refl
+
+-- nothing stands for a step of a process that has stopped, or that there is not
+counts_past : up (lowered_sizes counts_to_two) (lowered counts_to_two) (replicate 9 0 ++ 3 ∷ []) ≡ replicate 25 0
+counts_past = refl
+
+counts_kept : running counts_to_two (replicate 9 0 ++ 3 ∷ []) ≡ replicate 7 0
+counts_kept = refl
+
+-- a trap inside an expression is a step of the program
+abbrev goes_below : WholeProgram ℕ
+goes_below = program 2 (0 ∷ []) [] [] (cons (assign 0 (binary (number 1) O.Add (binary (number 0) O.Sub (number 1)))) nil)
+
+abbrev below : Observables
+below = record { events = by 1 (A.Trap T.Below) ∷ []; rows = []; statuses = Running ∷ Trapped T.Below ∷ [] }
+
+below_code : seen_of_code goes_below (0 ∷ replicate 6 1) ≡ below
+below_code = refl
+
+below_down : down (lowered_sizes goes_below) (lowered goes_below) (0 ∷ replicate 6 1) ≡ 1 ∷ []
+below_down = refl
+
+below_source : seen goes_below (1 ∷ []) ≡ below
+below_source = refl
+
+-- Process 0 loads its labels, six stamps of the others bring the same labels back, and its exchange
+-- is won.
+abbrev stamps_and_scans : WholeProgram ℕ
+stamps_and_scans =
+    program 3 [] (0 ∷ []) []
+    (cons (branch (binary me O.Equal (number 0)) (cons stamp (cons stamp (cons (scan 0) nil))) (cons stamp (cons stamp (cons stamp (cons stamp (cons stamp nil)))))) nil)
+
+abbrev until_back : List ℕ
+until_back =
+    replicate 7 0 ++ replicate 7 1 ++ replicate 7 2 ++ replicate 3 1 ++ replicate 2 0 ++ replicate 3 2 ++ replicate 3 1 ++ replicate 3 2
+    ++ replicate 3 1 ++ replicate 3 2 ++ replicate 3 1
+
+its_word : word (run_of (lowered_sizes stamps_and_scans) (lowered stamps_and_scans) until_back).labels ≡ 2196
+its_word = refl
+
+next_word : word (run_of (lowered_sizes stamps_and_scans) (lowered stamps_and_scans) (until_back ++ 0 ∷ [])).labels ≡ 2192
+next_word = refl
+
+abbrev came_back : Observables
+came_back = record {
+  events = map (λ p. by p A.Stamp) (0 ∷ 1 ∷ 2 ∷ 1 ∷ 2 ∷ 1 ∷ 2 ∷ 1 ∷ 2 ∷ 1 ∷ 0 ∷ []) ++ by 0 (ranks 2 1 0) ∷ [];
+  rows = [];
+  statuses = Running ∷ Running ∷ Running ∷ [];
+}
+
+back_code : seen_of_code stamps_and_scans (until_back ++ replicate 2 0) ≡ came_back
+back_code = refl
+
+abbrev back_steps : List ℕ
+back_steps = replicate 2 0 ++ replicate 2 1 ++ replicate 2 2 ++ 1 ∷ 2 ∷ 1 ∷ 2 ∷ 1 ∷ 2 ∷ 1 ∷ 0 ∷ 0 ∷ []
+
+back_down : down (lowered_sizes stamps_and_scans) (lowered stamps_and_scans) (until_back ++ replicate 2 0) ≡ back_steps
+back_down = refl
+
+back_source : seen stamps_and_scans back_steps ≡ came_back
+back_source = refl

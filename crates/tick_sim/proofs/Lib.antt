@@ -1,0 +1,13 @@
+mod Quiet
+mod Stands
+mod Scans
+mod Match
+mod Statements
+mod Step
+mod Pairs
+mod States
+mod Start
+mod Down
+mod Up
+mod Round
+mod Examples
