@@ -1,9 +1,8 @@
 -- The code stands beside the program under the schedule without the steps that end none.
-use Rattle.std.proofs.Common.{◌≡◌, ℕ, Bool, true, false, if◌then◌else◌, List, [], ◌∷◌, length, refl, ap, sym, ◌∙◌, subst, ⊎_elim, Option, Some, None}
+use Rattle.std.proofs.Common.{◌≡◌, ℕ, Bool, true, false, if◌then◌else◌, List, [], ◌∷◌, length, refl, sym, ◌∙◌, subst, ⊎_elim, Option, Some, None}
 use Rattle.std.specs.Prelude.{slice_get}
 use Rattle.machine_core.specs.declared.status.Status.TheVariants.{Running}
 use Rattle.verified_code.specs.declared.instr.Instr.{Instr}
-use Rattle.tick_syntax.specs.Plain.{WholeProgram}
 use Rattle.tick_source.specs.Source as S
 use Rattle.tick_source.specs.Source.{SourceProcess, SourceState}
 use Rattle.step_code.specs.Machine as C
@@ -11,9 +10,8 @@ use Rattle.step_code.specs.Machine.{CodeProcess, CodeState, made}
 use Rattle.tick_lower.specs.Lowered.{lowered, lowered_sizes}
 use Rattle.tick_sim.specs.Maps.{ended_at, commit_of, is_commit, down_from, down}
 use Rattle.tick_sim.specs.Laws.{DownLaw}
-use Rattle.tick_sim.proofs.Match.{HasStopped}
 use Rattle.tick_sim.proofs.Step.{Follows, follow_between, follow_status, Step, together, apart, process_step}
-use Rattle.tick_sim.proofs.Pairs.{Pairs, map_same, beside}
+use Rattle.tick_sim.proofs.Pairs.{map_same, beside}
 use Rattle.tick_sim.proofs.States.{Beside, seen_same, commit_runs, both_after, code_after, stopped_step, runs_or_not}
 use Rattle.tick_sim.proofs.Start.{start_beside}
 
@@ -49,7 +47,7 @@ module _ (n : ℕ) (code : List Instr) (most : ℕ) where
           → Whole p s (C.code_step n code p d) (is_commit n code p d)
       case source_runs (together some ends agrees rows act between) =
           both_make (ends_is ∙ ends)
-              (both_after n code p s d x y at_x at_y Behind Behind along (λ q x y other h. h) source_runs runs agrees rows act (follow_between code n p most Loaded _ _ between))
+          (both_after n code p s d x y at_x at_y Behind Behind along (λ q x y other h. h) source_runs runs agrees rows act (follow_between code n p most Loaded _ _ between))
       case source_runs (apart ends labels rows act m' left follows) =
           alone_makes (ends_is ∙ ends) (code_after n code p s d x y at_x at_y Behind Behind along (λ q x y other h. h) runs labels rows act (m', follows))
 
@@ -76,7 +74,7 @@ module _ (n : ℕ) (code : List Instr) (most : ℕ) where
       elim (state_step p s d along) as (λ w. Along (S.source_run n (if is_commit n code p d then p ∷ later else later) s) (C.code_run n code schedule next)) [
         | both_make ends after ↦
             subst (λ b. Along (S.source_run n (if b then p ∷ later else later) s) (C.code_run n code schedule next)) (sym ends)
-                (down_runs schedule (S.source_step n p s) next after)
+            (down_runs schedule (S.source_step n p s) next after)
         | alone_makes ends after ↦
             subst (λ b. Along (S.source_run n (if b then p ∷ later else later) s) (C.code_run n code schedule next)) (sym ends) (down_runs schedule s next after)
       ]

@@ -11,3 +11,5 @@ mod Down
 mod Up
 mod Round
 mod Examples
+mod Reached
+mod Maps

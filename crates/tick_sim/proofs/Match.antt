@@ -1,35 +1,24 @@
 -- The step of the code that ends a step of the program does what that step of the program does.
-use Rattle.std.proofs.Common.{◌≡◌, ℕ, zero, suc, ◌+◌, ◌<◌, ◌≤◌, Bool, true, false, if◌then◌else◌, List, [], ◌∷◌, ◌++◌, length, drop, refl, ap, sym, ◌∙◌, subst, arith, Result, Ok, Err, Option, Some, None}
-use Rattle.std.specs.Prelude.{◌==◌, ◌&&◌, nat_lt, slice_get, slice_set, slice_index}
-use Rattle.std.proofs.lemmas.Bool.{ltb-true}
+use Rattle.std.proofs.Common.{◌≡◌, ℕ, ◌+◌, ◌≤◌, true, List, [], ◌∷◌, ◌++◌, refl, ap, sym, ◌∙◌, subst, arith, Result, Ok, Err, Some}
+use Rattle.std.specs.Prelude.{slice_get}
 use Rattle.machine_core.specs.declared.status.Status.{Status}
-use Rattle.machine_core.specs.declared.status.Status.TheVariants.{Running, Ended, Trapped}
+use Rattle.machine_core.specs.declared.status.Status.TheVariants.{Running}
 use Rattle.machine_core.specs.declared.status.Trap.{Trap}
-use Rattle.machine_core.specs.declared.status.Trap.TheVariants as T
-use Rattle.machine_core.specs.declared.event.Act.{Act}
-use Rattle.machine_core.specs.declared.event.Act.TheVariants as A
-use Rattle.machine_core.specs.Operators.{number_of}
-use Rattle.machine_core.specs.Observables.{told_ranks}
-use Rattle.machine_core.specs.Rows.{register_at}
 use Rattle.verified_code.specs.declared.instr.Instr.{Instr}
 use Rattle.verified_code.specs.declared.instr.Instr.TheVariants as I
-use Rattle.ticket_core.specs.Tickets.{ticket_ranks, older_ticket}
-use Rattle.label_core.specs.Labels.{label_ranks}
-use Rattle.word_core.specs.Order.{older_label}
-use Rattle.word_core.specs.Agreement.{Agrees, StandsFor}
-use Rattle.word_core.proofs.Offered.{agreement_law}
-use Rattle.tick_syntax.specs.Plain.{Expression, Statement, assign, get, put, stamp, scan, copy, older, out, branch, repeat, Block, nil, cons, onto}
+use Rattle.word_core.specs.Agreement.{Agrees}
+use Rattle.tick_syntax.specs.Plain.{Expression, stamp, Block, cons}
 use Rattle.tick_source.specs.Values.{value}
 use Rattle.tick_source.specs.Source as S
 use Rattle.tick_source.specs.Source.{SourceProcess}
 use Rattle.step_code.specs.Machine as C
 use Rattle.step_code.specs.Machine.{CodeProcess, Moved, Did, alone, asks, made, labels_left, rows_left}
-use Rattle.tick_lower.specs.Lowered.{expression_length, statement_length, block_length, expression_code, statement_code, block_code}
-use Rattle.tick_lower.proofs.Offered.{expression_long, block_long, HasAt, has_front, has_back}
+use Rattle.tick_lower.specs.Lowered.{expression_length, expression_code}
+use Rattle.tick_lower.proofs.Offered.{expression_long, HasAt, has_front, has_back}
 use Rattle.tick_sim.specs.Maps.{ended}
-use Rattle.tick_sim.proofs.Scans.{ScansAgree, scan_taken}
-use Rattle.tick_sim.proofs.Quiet.{at, Quiet, Traps, Soon, now, later, Gets, expression_soon}
-use Rattle.tick_sim.proofs.Stands.{first_steps, Stands, ends, jumps, begins, block_stands}
+use Rattle.tick_sim.proofs.Scans.{ScansAgree}
+use Rattle.tick_sim.proofs.Quiet.{at, Traps, Soon, now, Gets, expression_soon}
+use Rattle.tick_sim.proofs.Stands.{Stands}
 
 abbrev pub HasStopped : Status → Type 0
 HasStopped Running = ⊥
@@ -110,7 +99,7 @@ module _ (code : List Instr) (n p most : ℕ) (q : CodeProcess) (scans : List (L
       → HasAt code k (expression_code e ++ i ∷ is)
       → ((tickets : List ℕ) (rows : List (List ℕ)) → Source rest tickets rows ≡ With after tickets rows (value n p q.variables e) (then_this tickets rows))
       → ((v : ℕ) (tickets : List ℕ) (labels rows : List (List ℕ)) → Agrees n tickets labels
-          → Matched code n p most labels rows (then_this tickets rows v) (C.does (at q (k + expression_length e) (v ∷ stack)) n p i) i)
+      → Matched code n p most labels rows (then_this tickets rows v) (C.does (at q (k + expression_length e) (v ∷ stack)) n p i) i)
       → Soon code n p q (Goal rest) (expression_length e + 1) k stack
   last_value rest after e i is k stack then_this has source match =
       expression_soon code n p q (Goal rest) e 1 k stack (has_front code k (expression_code e) (i ∷ is) has) (case (value n p q.variables e) refl)
@@ -132,9 +121,9 @@ module _ (code : List Instr) (n p most : ℕ) (q : CodeProcess) (scans : List (L
   pub two_values : (rest after : Block ℕ) (e f : Expression ℕ) (i : Instr) (k : ℕ) (then_this : List ℕ → List (List ℕ) → ℕ → ℕ → S.Did)
       → HasAt code k (expression_code e ++ (expression_code f ++ i ∷ []))
       → ((tickets : List ℕ) (rows : List (List ℕ)) → Source rest tickets rows
-          ≡ With after tickets rows (value n p q.variables e) (λ a. With after tickets rows (value n p q.variables f) (λ b. then_this tickets rows a b)))
+      ≡ With after tickets rows (value n p q.variables e) (λ a. With after tickets rows (value n p q.variables f) (λ b. then_this tickets rows a b)))
       → ((a b : ℕ) (tickets : List ℕ) (labels rows : List (List ℕ)) → Agrees n tickets labels
-          → Matched code n p most labels rows (then_this tickets rows a b) (C.does (at q (k + expression_length e + expression_length f) (b ∷ a ∷ [])) n p i) i)
+      → Matched code n p most labels rows (then_this tickets rows a b) (C.does (at q (k + expression_length e + expression_length f) (b ∷ a ∷ [])) n p i) i)
       → Soon code n p q (Goal rest) (expression_length e + (expression_length f + 1)) k []
   two_values rest after e f i k then_this has source match =
       expression_soon code n p q (Goal rest) e (expression_length f + 1) k [] (has_front code k (expression_code e) (expression_code f ++ i ∷ []) has) (case (value n p q.variables e) refl)
@@ -148,4 +137,4 @@ module _ (code : List Instr) (n p most : ℕ) (q : CodeProcess) (scans : List (L
       case (Err t) same =
           λ k' left stack' some traps.
           commits some (trapped rest after t k' stack' traps
-              (λ tickets rows. source tickets rows ∙ ap (λ r. With after tickets rows r (λ a. With after tickets rows (value n p q.variables f) (λ b. then_this tickets rows a b))) same))
+          (λ tickets rows. source tickets rows ∙ ap (λ r. With after tickets rows r (λ a. With after tickets rows (value n p q.variables f) (λ b. then_this tickets rows a b))) same))

@@ -1,7 +1,7 @@
 -- Two lists side by side.
-use Rattle.std.proofs.Common.{◌≡◌, ℕ, zero, suc, ◌<◌, ◌≤◌, ◌⊎◌, inl, inr, ⊎_elim, List, [], ◌∷◌, length, set, map, replicate, refl, ap, sym, ◌∙◌, subst, arith, Option, Some, None}
+use Rattle.std.proofs.Common.{◌≡◌, ℕ, zero, suc, ◌⊎◌, inl, inr, ⊎_elim, List, [], ◌∷◌, length, set, map, replicate, refl, ap, sym, ◌∙◌, subst, arith, Some, None}
 use Rattle.std.specs.Prelude.{◌≢◌, slice_get}
-use Rattle.std.proofs.lemmas.List.{length-set, length-replicate}
+use Rattle.std.proofs.lemmas.List.{length-set}
 use Rattle.std.proofs.lemmas.Option.{same_Some, none-some}
 
 -- as many in each list, and those at the same place are related
@@ -48,10 +48,10 @@ module _ {X Y : Type 0} (R R' : ℕ → X → Y → Type 0) (p : ℕ) (xs : List
   both_written x' y' related = record {
     many = length-set xs p x' ∙ pairs.many ∙ sym (length-set ys p y');
     each = λ q x y at_x at_y. ⊎_elim
-    (λ (here, same_x). ⊎_elim (λ (here', same_y). subst (λ q. R' q x y) (sym here) (subst (λ x. R' p x y) same_x (subst (λ y. R' p x' y) same_y related)))
-    (λ (other, there). absurd (other here)) (get-set ys p q y' y at_y))
-    (λ (other, there). ⊎_elim (λ (here', same_y). absurd (other here')) (λ (other', there'). keep q x y other (pairs.each q x y there there')) (get-set ys p q y' y at_y))
-    (get-set xs p q x' x at_x);
+        (λ (here, same_x). ⊎_elim (λ (here', same_y). subst (λ q. R' q x y) (sym here) (subst (λ x. R' p x y) same_x (subst (λ y. R' p x' y) same_y related)))
+        (λ (other, there). absurd (other here)) (get-set ys p q y' y at_y))
+        (λ (other, there). ⊎_elim (λ (here', same_y). absurd (other here')) (λ (other', there'). keep q x y other (pairs.each q x y there there')) (get-set ys p q y' y at_y))
+        (get-set xs p q x' x at_x);
   }
 
   -- a write at one place of the second
@@ -59,10 +59,10 @@ module _ {X Y : Type 0} (R R' : ℕ → X → Y → Type 0) (p : ℕ) (xs : List
   second_written x' y' at related = record {
     many = pairs.many ∙ sym (length-set ys p y');
     each = λ q x y at_x at_y. ⊎_elim
-    (λ (here, same_y).
-    let same_x : x' ≡ x = same_Some x' x (sym at ∙ ap (slice_get xs) (sym here) ∙ at_x) in
-    subst (λ q. R' q x y) (sym here) (subst (λ x. R' p x y) same_x (subst (λ y. R' p x' y) same_y related)))
-    (λ (other, there). keep q x y other (pairs.each q x y at_x there)) (get-set ys p q y' y at_y);
+        (λ (here, same_y).
+        let same_x : x' ≡ x = same_Some x' x (sym at ∙ ap (slice_get xs) (sym here) ∙ at_x) in
+        subst (λ q. R' q x y) (sym here) (subst (λ x. R' p x y) same_x (subst (λ y. R' p x' y) same_y related)))
+        (λ (other, there). keep q x y other (pairs.each q x y at_x there)) (get-set ys p q y' y at_y);
   }
 
 -- what is the same of each pair is the same of the lists

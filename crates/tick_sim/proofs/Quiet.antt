@@ -1,5 +1,5 @@
 -- Steps that nobody sees: an expression leaves its value on the stack, whatever others do meanwhile.
-use Rattle.std.proofs.Common.{◌≡◌, ℕ, suc, ◌+◌, ◌≤◌, true, false, List, [], ◌∷◌, ◌++◌, length, drop, refl, ap, sym, ◌∙◌, subst, arith, Result, Ok, Err, Option, Some, None}
+use Rattle.std.proofs.Common.{◌≡◌, ℕ, suc, ◌+◌, ◌≤◌, true, false, List, [], ◌∷◌, ◌++◌, refl, ap, ◌∙◌, subst, arith, Result, Ok, Err, Some, None}
 use Rattle.std.specs.Prelude.{slice_get, slice_index}
 use Rattle.machine_core.specs.declared.operator.Op.{Op}
 use Rattle.machine_core.specs.declared.status.Trap.{Trap}
@@ -60,12 +60,12 @@ module _ (code : List Instr) (n p : ℕ) (q : CodeProcess) where
       case : (r : Result ℕ Trap) → operation op a b ≡ r → Gets Kind m k1 stack r → Soon Kind (1 + m) k (b ∷ a ∷ stack)
       case (Ok v) e soon =
           step_first Kind m k k1 (b ∷ a ∷ stack) (v ∷ stack)
-              (record {
-                instr = I.Bin op;
-                here = here;
-                makes = ap (λ r. alone (C.results (at q k (b ∷ a ∷ stack)) stack r)) e ∙ ap (λ x. alone (record { process = at q x (v ∷ stack); act = None })) next;
-                quiet = refl;
-              }) soon
+          (record {
+            instr = I.Bin op;
+            here = here;
+            makes = ap (λ r. alone (C.results (at q k (b ∷ a ∷ stack)) stack r)) e ∙ ap (λ x. alone (record { process = at q x (v ∷ stack); act = None })) next;
+            quiet = refl;
+          }) soon
       case (Err t) e traps =
           now (traps k (1 + m) (b ∷ a ∷ stack) (omega arith) (record {
             instr = I.Bin op;

@@ -1,19 +1,17 @@
 -- There and back: the steps that stand for an item end just one step, so a schedule of the program
 -- comes back from the code.
-use Rattle.std.proofs.Common.{◌≡◌, ℕ, zero, suc, ◌+◌, ◌*◌, ◌≤◌, Bool, true, false, if◌then◌else◌, List, [], ◌∷◌, ◌++◌, length, replicate, refl, ap, sym, ◌∙◌, subst, arith, Option, Some, None}
-use Rattle.std.specs.Prelude.{slice_get}
+use Rattle.std.proofs.Common.{◌≡◌, ℕ, zero, suc, ◌*◌, ◌≤◌, Bool, true, false, if◌then◌else◌, List, [], ◌∷◌, ◌++◌, length, replicate, refl, ap, sym, ◌∙◌, subst, arith, Option, Some, None}
 use Rattle.std.proofs.lemmas.List.{length-append, length-replicate}
 use Rattle.std.proofs.lemmas.Option.{same_Some, none-some}
 use Rattle.verified_code.specs.declared.instr.Instr.{Instr}
-use Rattle.tick_syntax.specs.Plain.{WholeProgram}
 use Rattle.tick_source.specs.Source as S
 use Rattle.tick_source.specs.Source.{SourceState}
 use Rattle.step_code.specs.Machine as C
 use Rattle.step_code.specs.Machine.{CodeState}
 use Rattle.tick_lower.specs.Lowered.{lowered, lowered_sizes}
 use Rattle.tick_sim.specs.Maps.{is_commit, one_more, steps_to_commit, repeated, steps_of, down_from, up_from}
-use Rattle.tick_sim.specs.Laws.{kept_of, running_from, RoundLaw}
-use Rattle.tick_sim.proofs.Up.{steps_by, AllRest, Turn, moves, stays, turn}
+use Rattle.tick_sim.specs.Laws.{running_from, RoundLaw}
+use Rattle.tick_sim.proofs.Up.{steps_by, AllRest, moves, stays, turn}
 use Rattle.tick_sim.proofs.Start.{start_beside}
 
 module _ (n : ℕ) (code : List Instr) where

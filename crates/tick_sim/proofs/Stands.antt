@@ -1,9 +1,9 @@
 -- The code at a place does the statements that remain.
-use Rattle.std.proofs.Common.{◌≡◌, ℕ, suc, ◌+◌, ◌≤◌, List, length, subst, arith, Some}
+use Rattle.std.proofs.Common.{◌≡◌, ℕ, suc, ◌+◌, ◌≤◌, List, subst, arith, Some}
 use Rattle.std.specs.Prelude.{slice_get}
 use Rattle.verified_code.specs.declared.instr.Instr.{Instr}
 use Rattle.verified_code.specs.declared.instr.Instr.TheVariants as I
-use Rattle.tick_syntax.specs.Plain.{Statement, assign, get, put, stamp, scan, copy, older, out, branch, repeat, Block, nil, cons, onto}
+use Rattle.tick_syntax.specs.Plain.{Statement, branch, repeat, Block, nil, cons, onto}
 use Rattle.tick_lower.specs.Lowered.{expression_length, statement_length, block_length, statement_code, block_code}
 use Rattle.tick_lower.proofs.Offered.{statement_long, HasAt, has_front, has_back}
 

@@ -1,8 +1,6 @@
 -- Before the first step the code of a program stands beside the program.
-use Rattle.std.proofs.Common.{◌≡◌, ℕ, ◌+◌, ◌≤◌, List, [], length, replicate, refl, ap, sym, ◌∙◌, subst, arith, Some}
-use Rattle.std.specs.Prelude.{slice_get}
+use Rattle.std.proofs.Common.{◌≡◌, ℕ, List, length, refl, ap, sym, ◌∙◌, subst, arith}
 use Rattle.std.proofs.lemmas.List.{length-replicate}
-use Rattle.machine_core.specs.declared.status.Status.TheVariants.{Running}
 use Rattle.verified_code.specs.declared.instr.Instr.{Instr}
 use Rattle.word_core.proofs.Offered.{agreement_law}
 use Rattle.tick_syntax.specs.Plain.{Block, nil, cons, onto, WholeProgram}
@@ -13,7 +11,7 @@ use Rattle.tick_lower.proofs.Offered.{lowered_long, lowered_body, lowered_halt}
 use Rattle.tick_sim.proofs.Scans.{scans_start}
 use Rattle.tick_sim.proofs.Stands.{Stands, ends, block_stands}
 use Rattle.tick_sim.proofs.Match.{Between, rests}
-use Rattle.tick_sim.proofs.Pairs.{Pairs, get-replicate}
+use Rattle.tick_sim.proofs.Pairs.{get-replicate}
 use Rattle.tick_sim.proofs.States.{Beside}
 
 onto_nil : (b : Block ℕ) → onto b nil ≡ b
@@ -47,7 +45,7 @@ module _ (a : WholeProgram ℕ) where
     processes = record {
       many = length-replicate a.processes (S.start_process a) ∙ sym (length-replicate a.processes (C.start_process (lowered_sizes a)));
       each = λ p x y at_x at_y.
-      subst (λ x. Between code a.processes p (length code) x y) (get-replicate a.processes p (S.start_process a) x at_x)
-      (subst (λ y. Between code a.processes p (length code) (S.start_process a) y) (get-replicate a.processes p (C.start_process (lowered_sizes a)) y at_y) (process_start p));
+          subst (λ x. Between code a.processes p (length code) x y) (get-replicate a.processes p (S.start_process a) x at_x)
+          (subst (λ y. Between code a.processes p (length code) (S.start_process a) y) (get-replicate a.processes p (C.start_process (lowered_sizes a)) y at_y) (process_start p));
     };
   }

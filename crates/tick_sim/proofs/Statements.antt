@@ -1,11 +1,10 @@
 -- From where the code of the remaining statements begins, quiet steps lead to the instruction that ends
 -- the next step of the program.
-use Rattle.std.proofs.Common.{◌≡◌, ℕ, suc, ◌+◌, ◌<◌, ◌≤◌, Bool, true, false, if◌then◌else◌, List, [], ◌∷◌, ◌++◌, length, drop, refl, ap, sym, ◌∙◌, subst, arith, Option, Some, None}
+use Rattle.std.proofs.Common.{◌≡◌, ℕ, suc, ◌+◌, ◌≤◌, Bool, true, false, if◌then◌else◌, List, [], ◌∷◌, ◌++◌, length, refl, ap, sym, ◌∙◌, subst, arith, Some, None}
 use Rattle.std.specs.Prelude.{◌==◌, ◌&&◌, nat_lt, slice_get, slice_set}
 use Rattle.std.proofs.lemmas.Bool.{ltb-true}
-use Rattle.machine_core.specs.declared.status.Status.TheVariants.{Running, Ended}
+use Rattle.machine_core.specs.declared.status.Status.TheVariants.{Running}
 use Rattle.machine_core.specs.declared.status.Trap.TheVariants as T
-use Rattle.machine_core.specs.declared.event.Act.{Act}
 use Rattle.machine_core.specs.declared.event.Act.TheVariants as A
 use Rattle.machine_core.specs.Operators.{number_of}
 use Rattle.machine_core.specs.Observables.{told_ranks}
@@ -28,7 +27,7 @@ use Rattle.tick_lower.proofs.Offered.{expression_long, block_long, HasAt, has_fr
 use Rattle.tick_sim.proofs.Scans.{ScansAgree, scan_taken}
 use Rattle.tick_sim.proofs.Quiet.{at, Soon, now, later}
 use Rattle.tick_sim.proofs.Stands.{first_steps, Stands, ends, jumps, begins, block_stands}
-use Rattle.tick_sim.proofs.Match.{Resting, Between, over, rests, Matched, Matches, Goal, commits, loads, last_value, two_values}
+use Rattle.tick_sim.proofs.Match.{Between, over, rests, Matched, Goal, commits, loads, last_value, two_values}
 
 -- Process `q` runs, and its scans agree with those of the program.
 module _ (code : List Instr) (n p most : ℕ) (q : CodeProcess) (scans : List (List ℕ)) (runs : q.status ≡ Running) (held : ScansAgree n scans q.scans) where

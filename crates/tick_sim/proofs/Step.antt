@@ -1,9 +1,8 @@
 -- One process of the code beside the same process of the program: each step of the code either ends a
 -- step of the program, and both did the same, or nobody sees it.
-use Rattle.std.proofs.Common.{◌≡◌, ℕ, suc, ◌+◌, ◌-◌, ◌≤◌, ◌⊎◌, inl, inr, Bool, true, false, List, [], ◌∷◌, refl, ap, sym, ◌∙◌, subst, arith, Option, Some, None}
+use Rattle.std.proofs.Common.{◌≡◌, ℕ, suc, ◌+◌, ◌-◌, ◌≤◌, ◌⊎◌, inl, inr, Bool, true, false, List, [], refl, ap, sym, ◌∙◌, subst, arith, Option, Some, None}
 use Rattle.std.specs.Prelude.{slice_get, if◌then◌else◌}
-use Rattle.machine_core.specs.declared.status.Status.{Status}
-use Rattle.machine_core.specs.declared.status.Status.TheVariants.{Running, Ended, Trapped}
+use Rattle.machine_core.specs.declared.status.Status.TheVariants.{Running}
 use Rattle.machine_core.specs.declared.event.Act.TheVariants as A
 use Rattle.verified_code.specs.declared.instr.Instr.{Instr}
 use Rattle.verified_code.specs.declared.instr.Instr.TheVariants as I
@@ -11,7 +10,7 @@ use Rattle.ticket_core.specs.Tickets.{stamp_ticket}
 use Rattle.word_core.specs.Stamps.{stamped}
 use Rattle.word_core.specs.Agreement.{Agrees}
 use Rattle.word_core.proofs.Offered.{agreement_law}
-use Rattle.tick_syntax.specs.Plain.{stamp, Block, nil, cons}
+use Rattle.tick_syntax.specs.Plain.{stamp, cons}
 use Rattle.tick_source.specs.Source as S
 use Rattle.tick_source.specs.Source.{SourceProcess}
 use Rattle.step_code.specs.Machine as C
@@ -21,9 +20,9 @@ use Rattle.step_code.specs.declared.ask.Reply.TheVariants as R
 use Rattle.step_code.proofs.Offered.{equal_from_same}
 use Rattle.tick_sim.specs.Maps.{ended, ended_at}
 use Rattle.tick_sim.proofs.Scans.{ScansAgree}
-use Rattle.tick_sim.proofs.Quiet.{at, Quiet, Soon, now, later}
+use Rattle.tick_sim.proofs.Quiet.{at, Soon, now, later}
 use Rattle.tick_sim.proofs.Stands.{Stands}
-use Rattle.tick_sim.proofs.Match.{HasStopped, Resting, Between, over, rests, Matched, Matches, Loads, Goal, commits, loads}
+use Rattle.tick_sim.proofs.Match.{HasStopped, Between, over, rests, Loads, Goal, commits, loads}
 use Rattle.tick_sim.proofs.Statements.{stands_lead}
 
 -- both run, with the same variables, and with scans that agree
@@ -46,9 +45,11 @@ module _ (code : List Instr) (n p most : ℕ) (Found : List (List ℕ) → Type 
 
   pub follow_between : (x : SourceProcess) (y : CodeProcess) → Between code n p most x y → (m : ℕ) × Follows m x y
   follow_between x y (over same has) = (0, stopped same has)
-  follow_between x y (rests r) =
-      (r.steps, calm y y.place [] (ap (at y y.place) r.stack) (record { runs = r.runs; runs_too = r.runs_too; variables = r.variables; scans = r.scans })
-          (stands_lead code n p most y x.scans r.runs_too r.scans r.steps y.place x.rest r.stands))
+  follow_between x y (rests r) = (
+    r.steps,
+    calm y y.place [] (ap (at y y.place) r.stack) (record { runs = r.runs; runs_too = r.runs_too; variables = r.variables; scans = r.scans })
+        (stands_lead code n p most y x.scans r.runs_too r.scans r.steps y.place x.rest r.stands),
+  )
 
   pub follow_status : (m : ℕ) (x : SourceProcess) (y : CodeProcess) → Follows m x y → x.status ≡ y.status
   follow_status m x y (stopped same has) = same

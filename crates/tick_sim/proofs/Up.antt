@@ -1,12 +1,11 @@
 -- A process that steps alone ends its next step within the length of the code, and both stand between
 -- two steps again.
-use Rattle.std.proofs.Common.{◌≡◌, ℕ, zero, suc, ◌+◌, ◌≤◌, ◌⊎◌, inl, inr, ⊎_elim, Bool, true, false, List, [], ◌∷◌, ◌++◌, length, replicate, refl, ap, sym, ◌∙◌, subst, arith, Option, Some, None}
+use Rattle.std.proofs.Common.{◌≡◌, ℕ, zero, suc, ◌≤◌, inl, inr, ⊎_elim, Bool, true, false, List, [], ◌∷◌, ◌++◌, length, replicate, refl, ap, sym, ◌∙◌, subst, arith, Option, Some, None}
 use Rattle.std.specs.Prelude.{◌≢◌, slice_get}
 use Rattle.std.proofs.lemmas.Bool.{both_ways}
 use Rattle.machine_core.specs.declared.status.Status.{Status}
 use Rattle.machine_core.specs.declared.status.Status.TheVariants.{Running, Ended, Trapped}
 use Rattle.verified_code.specs.declared.instr.Instr.{Instr}
-use Rattle.tick_syntax.specs.Plain.{WholeProgram}
 use Rattle.tick_source.specs.Source as S
 use Rattle.tick_source.specs.Source.{SourceProcess, SourceState}
 use Rattle.step_code.specs.Machine as C
@@ -16,10 +15,10 @@ use Rattle.tick_lower.specs.Lowered.{lowered, lowered_sizes}
 use Rattle.tick_sim.specs.Maps.{ended_at, commit_of, is_commit, one_more, steps_to_commit, repeated, steps_of, up_from, up}
 use Rattle.tick_sim.specs.Laws.{UpLaw, kept_as, kept_of}
 use Rattle.tick_sim.proofs.Match.{HasStopped, Between, over, rests}
-use Rattle.tick_sim.proofs.Step.{Both, Follows, calm, follow_status, Step, together, apart, process_step}
+use Rattle.tick_sim.proofs.Step.{Follows, calm, follow_status, Step, together, apart, process_step}
 use Rattle.tick_sim.proofs.Statements.{stands_lead}
 use Rattle.tick_sim.proofs.Quiet.{at}
-use Rattle.tick_sim.proofs.Pairs.{Pairs, get_set_same, map_same, beside, nothing_beside}
+use Rattle.tick_sim.proofs.Pairs.{get_set_same, map_same, beside, nothing_beside}
 use Rattle.tick_sim.proofs.States.{Beside, seen_same, commit_runs, code_runs, both_after, code_after, stopped_step, stopped_source, runs_or_not}
 use Rattle.tick_sim.proofs.Start.{start_beside}
 
@@ -35,13 +34,13 @@ steps_by n code p most d b is =
     ap (λ b. elim b as (λ _. Option ℕ) [ true ↦ Some 1 | false ↦ one_more (steps_to_commit n code p most (C.code_step n code p d)) ]) is
 
 -- where a step changes nothing and ends none there is no step to a commit
-never_commits : (n : ℕ) (code : List Instr) (p most : ℕ) (d : CodeState) → is_commit n code p d ≡ false → C.code_step n code p d ≡ d → steps_to_commit n code p most d ≡ None
+pub never_commits : (n : ℕ) (code : List Instr) (p most : ℕ) (d : CodeState) → is_commit n code p d ≡ false → C.code_step n code p d ≡ d → steps_to_commit n code p most d ≡ None
 never_commits n code p zero d quiet same = refl
 never_commits n code p (suc most) d quiet same =
     steps_by n code p most d false quiet ∙ ap one_more (ap (steps_to_commit n code p most) same ∙ never_commits n code p most d quiet same)
 
 -- a step that ends one, or one more before it
-commits_now : (n : ℕ) (code : List Instr) (p most : ℕ) (d : CodeState) → is_commit n code p d ≡ true → steps_to_commit n code p (suc most) d ≡ Some 1
+pub commits_now : (n : ℕ) (code : List Instr) (p most : ℕ) (d : CodeState) → is_commit n code p d ≡ true → steps_to_commit n code p (suc most) d ≡ Some 1
 commits_now n code p most d ends = steps_by n code p most d true ends
 
 commits_later : (n : ℕ) (code : List Instr) (p most k : ℕ) (d : CodeState) → is_commit n code p d ≡ false
@@ -61,7 +60,7 @@ module _ (n : ℕ) (code : List Instr) (most : ℕ) where
   Others p q x y = q ≢ p → Between code n q most x y
 
   -- so many steps of process `p` alone end its next step
-  abbrev Ends : ℕ → ℕ → SourceState → CodeState → Type 0
+  abbrev pub Ends : ℕ → ℕ → SourceState → CodeState → Type 0
   Ends p fuel s d = (k : ℕ) × (steps_to_commit n code p fuel d ≡ Some k) × AllRest (S.source_step n p s) (C.code_run n code (replicate k p) d)
 
   -- One step where nobody has written since the stamp loaded its labels, `labels`.
@@ -88,12 +87,14 @@ module _ (n : ℕ) (code : List Instr) (most : ℕ) where
 
     pub at_end : (m fuel : ℕ) → m ≤ fuel → x.status ≡ Running
         → ((m' fuel' : ℕ) (y' : CodeProcess) → suc fuel' ≡ fuel → m' ≤ fuel' → (C.code_step n code p d).labels ≡ labels → slice_get (C.code_step n code p d).processes p ≡ Some y'
-            → Beside n (Others p) s (C.code_step n code p d) → y'.status ≡ Running → Alone m' y' → Ends p fuel' s (C.code_step n code p d))
+        → Beside n (Others p) s (C.code_step n code p d) → y'.status ≡ Running → Alone m' y' → Ends p fuel' s (C.code_step n code p d))
         → Made m → Ends p fuel s d
     at_end m zero few source_runs again (together some ends agrees rows act between) = absurd (omega arith)
-    at_end m (suc fuel) few source_runs again (together some ends agrees rows act between) =
-        (1, commits_now n code p fuel d (ends_is ∙ ends),
-            both_after n code p s d x y at_x at_y (Others p) Resting others (λ q x y other h. h other) source_runs runs agrees rows act between)
+    at_end m (suc fuel) few source_runs again (together some ends agrees rows act between) = (
+      1,
+      commits_now n code p fuel d (ends_is ∙ ends),
+      both_after n code p s d x y at_x at_y (Others p) Resting others (λ q x y other h. h other) source_runs runs agrees rows act between,
+    )
     at_end m zero few source_runs again (apart ends left rows act m' (inl less) follows) = absurd (omega arith)
     at_end m (suc fuel) few source_runs again (apart ends left rows act m' (inl less) follows) =
         let y' : CodeProcess = (made d.labels d.rows (C.did n p code y)).process in
@@ -129,10 +130,10 @@ module _ (n : ℕ) (code : List Instr) (most : ℕ) where
     stays : ((fuel : ℕ) → steps_to_commit n code p fuel d ≡ None) → ((later : List ℕ) → kept_of p (slice_get s.processes p) later ≡ later) → S.source_step n p s ≡ s → Turn p s d
 
   -- a process between two steps that runs
-  running_turn : (p : ℕ) (s : SourceState) (d : CodeState) (x : SourceProcess) (y : CodeProcess) → AllRest s d → slice_get s.processes p ≡ Some x → slice_get d.processes p ≡ Some y
-      → Between code n p most x y → y.status ≡ Running → Turn p s d
-  running_turn p s d x y all at_x at_y (over same has) runs = absurd (subst HasStopped (same ∙ runs) has)
-  running_turn p s d x y all at_x at_y (rests r) runs =
+  pub running_ends : (p : ℕ) (s : SourceState) (d : CodeState) (x : SourceProcess) (y : CodeProcess) → AllRest s d → slice_get s.processes p ≡ Some x → slice_get d.processes p ≡ Some y
+      → Between code n p most x y → y.status ≡ Running → (x.status ≡ Running) × (Ends p most s d)
+  running_ends p s d x y all at_x at_y (over same has) runs = absurd (subst HasStopped (same ∙ runs) has)
+  running_ends p s d x y all at_x at_y (rests r) runs =
       let others : Beside n (Others p) s d = record {
         agrees = all.agrees;
         same_rows = all.same_rows;
@@ -142,8 +143,13 @@ module _ (n : ℕ) (code : List Instr) (most : ℕ) where
       let follows : Follows code n p most (λ found. found ≡ d.labels) r.steps x y =
       calm y y.place [] (ap (at y y.place) r.stack) (record { runs = r.runs; runs_too = r.runs_too; variables = r.variables; scans = r.scans })
       (stands_lead code n p most y x.scans r.runs_too r.scans r.steps y.place x.rest r.stands) in
-      let result = solo p most r.steps d.labels s d x y r.few r.runs refl at_x at_y others runs follows in
-      moves result.0 result.1 (λ later. ap (λ o. kept_of p o later) at_x ∙ ap (λ status. kept_as p status later) r.runs) result.2
+      (r.runs, solo p most r.steps d.labels s d x y r.few r.runs refl at_x at_y others runs follows)
+
+  running_turn : (p : ℕ) (s : SourceState) (d : CodeState) (x : SourceProcess) (y : CodeProcess) → AllRest s d → slice_get s.processes p ≡ Some x → slice_get d.processes p ≡ Some y
+      → Between code n p most x y → y.status ≡ Running → Turn p s d
+  running_turn p s d x y all at_x at_y between runs =
+      let both = running_ends p s d x y all at_x at_y between runs in
+      moves both.1.0 both.1.1 (λ later. ap (λ o. kept_of p o later) at_x ∙ ap (λ status. kept_as p status later) both.0) both.1.2
 
   kept_none : (p : ℕ) (status : Status) (later : List ℕ) → HasStopped status → kept_as p status later ≡ later
   kept_none p Running later has = absurd has
@@ -162,7 +168,7 @@ module _ (n : ℕ) (code : List Instr) (most : ℕ) where
       case None at_y =
           let at_x : slice_get s.processes p ≡ None = nothing_beside s.processes d.processes p all.processes.many at_y in
           stays (λ fuel. never_commits n code p fuel d (ap (commit_of n code p d) at_y) (ap (C.step_of n code p d) at_y))
-              (λ later. ap (λ o. kept_of p o later) at_x) (ap (S.step_of n p s) at_x)
+          (λ later. ap (λ o. kept_of p o later) at_x) (ap (S.step_of n p s) at_x)
       case (Some y) at_y =
           let there = beside s.processes d.processes p y all.processes.many at_y in
           let x : SourceProcess = there.0 in
@@ -187,13 +193,13 @@ module _ (n : ℕ) (code : List Instr) where
             let is : steps_of n code p d ≡ replicate k p = ap (repeated p) steps in
             let next : CodeState = C.code_run n code (replicate k p) d in
             subst (λ t. AllRest n code (length code) (S.source_run n (p ∷ schedule) s) (C.code_run n code (t ++ up_from n code schedule (C.code_run n code t d)) d)) (sym is)
-                (subst (AllRest n code (length code) (S.source_run n (p ∷ schedule) s)) (sym (run_append n code (replicate k p) (up_from n code schedule next) d))
-                (up_runs schedule (S.source_step n p s) next after))
+            (subst (AllRest n code (length code) (S.source_run n (p ∷ schedule) s)) (sym (run_append n code (replicate k p) (up_from n code schedule next) d))
+            (up_runs schedule (S.source_step n p s) next after))
         | stays steps kept same ↦
             let is : steps_of n code p d ≡ [] = ap (repeated p) (steps (length code)) in
             subst (λ t. AllRest n code (length code) (S.source_run n (p ∷ schedule) s) (C.code_run n code (t ++ up_from n code schedule (C.code_run n code t d)) d)) (sym is)
-                (subst (λ s'. AllRest n code (length code) (S.source_run n schedule s') (C.code_run n code (up_from n code schedule d) d)) (sym same)
-                (up_runs schedule s d all))
+            (subst (λ s'. AllRest n code (length code) (S.source_run n schedule s') (C.code_run n code (up_from n code schedule d) d)) (sym same)
+            (up_runs schedule s d all))
       ]
 
   pub rest_seen : (s : SourceState) (d : CodeState) → AllRest n code (length code) s d → C.observables d ≡ S.observables s

@@ -5,4 +5,10 @@
 // schedule that `expand` makes. Contracts see the two maps as `down` and `up`.
 #![tactic(auto)]
 
+mod expansion;
 pub mod laws;
+mod projection;
+mod stepping;
+
+pub use expansion::expand;
+pub use projection::project;

@@ -1,0 +1,10 @@
+-- What has been kept, with what will be kept of the rest of the schedule, is the answer.
+use Rattle.std.proofs.Common.{◌≡◌, ◌++◌, drop}
+use Rattle.tick_sim.specs.Maps.{down_from, down}
+use Rattle.tick_sim.specs.prover.Stepping.{IsReached}
+use Rattle.tick_sim.proofs.projection.project.Given as goal
+
+abbrev pub invariant-loop-p : goal.invariant-loop-p
+invariant-loop-p l =
+    (l.steps.items ++ down_from l.code.sizes.processes l.code.instructions (drop l.p-index l.schedule) l.machine.state ≡ down l.code.sizes l.code.instructions l.schedule)
+    × IsReached l.code l.machine
