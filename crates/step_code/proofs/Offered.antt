@@ -1,7 +1,12 @@
 -- The lemmas on the machine of step code that other crates may cite.
 use Rattle.std.proofs.Common.{◌≡◌, ℕ, true, List}
 use Rattle.step_code.specs.Machine.{same_labels}
+use Rattle.step_code.specs.Laws.{NeverStuckLaw}
+use Rattle.step_code.proofs.Runs
 use Rattle.step_code.proofs.Words
+
+pub never_stuck_law : NeverStuckLaw
+never_stuck_law = Runs.never_stuck_law
 
 -- an exchange is won exactly where it finds the labels that it has
 pub equal_from_same : (a b : List (List ℕ)) → same_labels a b ≡ true → a ≡ b
