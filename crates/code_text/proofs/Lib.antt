@@ -2,3 +2,5 @@ mod Leading
 mod Guessing
 mod Unique
 mod Lines
+mod Readings
+pub mod Offered

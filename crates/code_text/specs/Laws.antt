@@ -5,9 +5,13 @@ use Rattle.verified_code.specs.Instructions.{AreSizes, StepCode}
 use Rattle.verified_code.specs.Verified.{IsVerified}
 use Rattle.code_text.specs.CodeText.{code_text, AllInRange, Reading}
 
--- a text is read as one code, or has one fault
+-- a text is read as one code at most, or has one fault
 abbrev pub OneReadingLaw : Type 0
 OneReadingLaw = (text : List ℕ) (r s : Result StepCode CodeFault) → Reading text r → Reading text s → r ≡ s
+
+-- each text is read as some code, or has some fault
+abbrev pub SomeReadingLaw : Type 0
+SomeReadingLaw = (text : List ℕ) → (r : Result StepCode CodeFault) × Reading text r
 
 -- a verified code that was written is read as itself
 abbrev pub RoundTripLaw : Type 0

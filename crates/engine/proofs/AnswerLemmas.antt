@@ -13,9 +13,14 @@ use Rattle.tick_syntax.specs.Plain.{Name, WholeProgram}
 use Rattle.tick_syntax.specs.Refusal.{IsTextRefused}
 use Rattle.tick_syntax.specs.declared.fault.TextFault.{TextFault}
 use Rattle.tick_syntax.proofs.Offered.{one_program, one_refusal, never_both, never_neither}
+use Rattle.verified_code.specs.Instructions.{StepCode}
+use Rattle.code_text.proofs.Offered.{one_reading, some_reading}
 use Rattle.engine.specs.Answer.{Answer, refused, stopped}
+use Rattle.engine.specs.Codes.{IsCodeAnswer, code_answer, reading_answer}
 use Rattle.engine.specs.Commands.{Answers, Job, JobAnswers, TextAnswers, UnlessRefused, job_of, line_answer}
-use Rattle.engine.specs.Commands.Job.{Order, Check, Source}
+use Rattle.engine.specs.Commands.Job.{Order, Check, Emit, Source, Code, Expand, Project}
+use Rattle.engine.specs.Lowered.{IsEitherAnswer, begins_as_code, emit_answer, lowered_answer}
+use Rattle.engine.specs.Maps.{expand_answer, project_answer}
 use Rattle.engine.specs.Order.{order_answer}
 use Rattle.engine.specs.Programs.{IsProgramText, IsTextAnswer, no_program, not_accepted, accepted, check_answer, source_answer}
 use Rattle.engine.specs.Stop.{kinds_stop, text_stop}
@@ -45,7 +50,7 @@ module _ (by : WholeProgram Name → Answer) (text : List ℕ) (short : length t
       let none : first_refusal p ≡ None = (acceptance_law p).0 fine in
       cc
 
-  one_answer : (a b : Answer) → IsTextAnswer by text a → IsTextAnswer by text b → a ≡ b
+  pub one_answer : (a b : Answer) → IsTextAnswer by text a → IsTextAnswer by text b → a ≡ b
   one_answer a b (no_program f h is) (no_program g k same) =
       is ∙ ap (λ z. stopped (text_stop z)) (one_refusal text f g h k) ∙ sym same
   one_answer a b (no_program f h is) (not_accepted q g s k same) = absurd (never_both text q f (within q s) h)
@@ -75,6 +80,25 @@ module _ (by : WholeProgram Name → Answer) (text : List ℕ) (short : length t
   answered : Answered
   answered = by_text (never_neither text)
 
+-- a text is read in one way
+one_code_answer : (by : StepCode → Answer) (text : List ℕ) (a b : Answer) → IsCodeAnswer by text a → IsCodeAnswer by text b → a ≡ b
+one_code_answer by text a b h k =
+    h.answers ∙ ap (reading_answer by) (one_reading text h.reading k.reading h.reads k.reads) ∙ sym k.answers
+
+some_code_answer : (by : StepCode → Answer) (text : List ℕ) → (a : Answer) × IsCodeAnswer by text a
+some_code_answer by text =
+    let read = some_reading text in
+    (reading_answer by read.0, record { reading = read.0; reads = read.1; answers = refl })
+
+one_either : (is_code : Bool) (by : StepCode → Answer) (text : List ℕ) → length text ≤ 1000000 → (a b : Answer)
+    → IsEitherAnswer is_code by text a → IsEitherAnswer is_code by text b → a ≡ b
+one_either true by text short a b h k = one_code_answer by text a b h k
+one_either false by text short a b h k = one_answer (lowered_answer by) text short a b h k
+
+some_either : (is_code : Bool) (by : StepCode → Answer) (text : List ℕ) → length text ≤ 1000000 → (a : Answer) × IsEitherAnswer is_code by text a
+some_either true by text short = some_code_answer by text
+some_either false by text short = answered (lowered_answer by) text short
+
 -- an input that is a text isn't too long
 short_by : (long utf8 : Bool) (place : ℕ)
     → (let fault : Option Refusal = if long then Some TextTooLong else if utf8 then None else Some (BadCharacter place) in fault) ≡ None
@@ -82,7 +106,7 @@ short_by : (long utf8 : Bool) (place : ℕ)
 short_by true utf8 place h = absurd (cc)
 short_by false utf8 place h = refl
 
-short_input : (input : List ℕ) → text_fault input ≡ None → length input ≤ 1000000
+pub short_input : (input : List ℕ) → text_fault input ≡ None → length input ≤ 1000000
 short_input input h =
     let no : nat_lt 1000000 (length input) ≡ false = short_by (nat_lt 1000000 (length input)) (is_utf8 input) (utf8_valid_len input) h in
     elim (leb_tells 1000001 (length input)) [ inl long ↦ absurd (cc) | inr short ↦ omega (arith, short.1) ]
@@ -90,12 +114,20 @@ short_input input h =
 one_text_answer : (job : Job) (text : List ℕ) → length text ≤ 1000000 → (a b : Answer) → TextAnswers job text a → TextAnswers job text b → a ≡ b
 one_text_answer (Order n) text short a b h k = h ∙ sym k
 one_text_answer Check text short a b h k = one_answer check_answer text short a b h k
+one_text_answer Emit text short a b h k = one_answer (lowered_answer emit_answer) text short a b h k
 one_text_answer (Source schedule) text short a b h k = one_answer (source_answer schedule) text short a b h k
+one_text_answer (Code schedule) text short a b h k = one_either (begins_as_code text) (code_answer schedule) text short a b h k
+one_text_answer (Expand schedule) text short a b h k = one_answer (lowered_answer (expand_answer schedule)) text short a b h k
+one_text_answer (Project schedule) text short a b h k = one_answer (lowered_answer (project_answer schedule)) text short a b h k
 
 some_text_answer : (job : Job) (text : List ℕ) → length text ≤ 1000000 → (a : Answer) × TextAnswers job text a
 some_text_answer (Order n) text short = (order_answer n text, refl)
 some_text_answer Check text short = answered check_answer text short
+some_text_answer Emit text short = answered (lowered_answer emit_answer) text short
 some_text_answer (Source schedule) text short = answered (source_answer schedule) text short
+some_text_answer (Code schedule) text short = some_either (begins_as_code text) (code_answer schedule) text short
+some_text_answer (Expand schedule) text short = answered (lowered_answer (expand_answer schedule)) text short
+some_text_answer (Project schedule) text short = answered (lowered_answer (project_answer schedule)) text short
 
 module _ (job : Job) (input : List ℕ) where
   one_by : (o : Option Refusal) → text_fault input ≡ o → (a b : Answer)

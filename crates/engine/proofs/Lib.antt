@@ -4,5 +4,8 @@ pub mod ServingLemmas
 pub mod OrderLemmas
 pub mod TextLemmas
 pub mod StopLemmas
-pub mod ProgramLemmas
+pub mod ScheduleLemmas
+pub mod Weakening
+pub mod LoweredLemmas
 pub mod AnswerLemmas
+pub mod Reported

@@ -1,5 +1,5 @@
 -- What the writing of `order`'s answer keeps from stamp to stamp.
-use Rattle.std.proofs.Common.{◌≡◌, ◌∙◌, ◌+◌, ◌-◌, ◌<◌, ◌++◌, ℕ, List, [], ap, append_assoc, drop, get_or, length, remove, sym}
+use Rattle.std.proofs.Common.{◌≡◌, ◌∙◌, ◌+◌, ◌<◌, ◌++◌, ℕ, List, ap, append_assoc, drop, get_or, length, sym}
 use Rattle.std.proofs.lemmas.List.{drop_more}
 use Rattle.label_core.specs.Labels.{label_ranks}
 use Rattle.ticket_core.specs.Tickets.{start_tickets, tickets_after, ticket_ranks}

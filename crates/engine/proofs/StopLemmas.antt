@@ -1,6 +1,5 @@
 -- What stops a command is its answer.
 use Rattle.std.proofs.Common.{◌≡◌, ◌≢◌, ℕ, List, Some, Err, ap, refl, subst, sym}
-use Rattle.tick_kinds.specs.Accepted.{IsAccepted}
 use Rattle.tick_kinds.specs.Refusals.{first_refusal}
 use Rattle.tick_kinds.specs.declared.fault.KindFault.{KindFault}
 use Rattle.tick_kinds.specs.declared.fault.KindFault.TheVariants as kinds
@@ -11,10 +10,15 @@ use Rattle.tick_syntax.specs.Plain.{Name, WholeProgram}
 use Rattle.tick_syntax.specs.Refusal.{IsTextRefused}
 use Rattle.tick_syntax.specs.declared.fault.TextFault.{TextFault}
 use Rattle.tick_syntax.specs.declared.fault.TextFault.TheVariants as text
-use Rattle.engine.specs.Answer.{Answer, refused, stopped}
-use Rattle.engine.specs.Order.{order_answer, stamps_answer}
-use Rattle.engine.specs.Programs.{IsProgramText, IsTextAnswer, accepted, no_program, not_accepted, report_answer, source_answer}
-use Rattle.engine.specs.Stop.{kinds_stop, schedule_stop, text_stop}
+use Rattle.verified_code.specs.Instructions.{StepCode}
+use Rattle.verified_code.specs.declared.fault.CodeFault.{CodeFault}
+use Rattle.verified_code.specs.declared.fault.CodeFault.TheVariants as codes
+use Rattle.code_text.specs.CodeText.{Reading}
+use Rattle.engine.specs.Answer.{Answer, refused, scheduled, stopped}
+use Rattle.engine.specs.Codes.{IsCodeAnswer}
+use Rattle.engine.specs.Order.{order_answer, stamps_text}
+use Rattle.engine.specs.Programs.{IsProgramText, IsTextAnswer, no_program, not_accepted}
+use Rattle.engine.specs.Stop.{code_stop, kinds_stop, schedule_stop, text_stop}
 use Rattle.engine.specs.prover.Replies.{IfRefused}
 use Rattle.engine.specs.declared.refusal.Refusal.{Refusal}
 use Rattle.engine.specs.declared.stop.Stop.{Stop}
@@ -40,15 +44,20 @@ kinds_stops by input p fault reads told =
     stop_told (IsTextAnswer by input) (kinds_stop fault)
     (λ differs. not_accepted p fault reads (told (λ same. differs (ap kinds_stop same))) refl)
 
-pub schedule_stops : (s input : List ℕ) (p : WholeProgram Name) (fault : ScheduleFault) → IsProgramText input p → IsAccepted p
-    → (fault ≢ schedule.NoMemory → schedule_of p.processes s ≡ Err fault)
-    → IfRefused (schedule_stop fault) (λ refusal. IsTextAnswer (source_answer s) input (refused refusal))
-schedule_stops s input p fault reads is told =
-    stop_told (IsTextAnswer (source_answer s) input) (schedule_stop fault)
-    (λ differs. accepted p reads is (ap (report_answer p) (sym (told (λ same. differs (ap schedule_stop same))))))
+pub code_stops : (by : StepCode → Answer) (input : List ℕ) (fault : CodeFault) → (fault ≢ codes.NoMemory → Reading input (Err fault))
+    → IfRefused (code_stop fault) (λ refusal. IsCodeAnswer by input (refused refusal))
+code_stops by input fault told =
+    stop_told (IsCodeAnswer by input) (code_stop fault)
+    (λ differs. record { reading = Err fault; reads = told (λ same. differs (ap code_stop same)); answers = refl })
+
+-- where a schedule is what is answered, its fault is told
+pub schedule_stops : (P : Answer → Type 0) (by : List ℕ → List ℕ) (n : ℕ) (s : List ℕ) (fault : ScheduleFault)
+    → P (scheduled by (schedule_of n s)) → (fault ≢ schedule.NoMemory → schedule_of n s ≡ Err fault)
+    → IfRefused (schedule_stop fault) (λ refusal. P (refused refusal))
+schedule_stops P by n s fault answered told =
+    stop_told P (schedule_stop fault)
+    (λ differs. subst (λ read. P (scheduled by read)) (told (λ same. differs (ap schedule_stop same))) answered)
 
 pub stamps_stop : (n : ℕ) (text : List ℕ) (fault : ScheduleFault) → (fault ≢ schedule.NoMemory → schedule_of n text ≡ Err fault)
     → IfRefused (schedule_stop fault) (λ refusal. refused refusal ≡ order_answer n text)
-stamps_stop n text fault told =
-    stop_told (λ a. a ≡ order_answer n text) (schedule_stop fault)
-    (λ differs. ap (stamps_answer n) (sym (told (λ same. differs (ap schedule_stop same)))))
+stamps_stop n text fault told = schedule_stops (λ a. a ≡ order_answer n text) (stamps_text n) n text fault refl told

@@ -1,6 +1,8 @@
 -- An answer is a status and a text.
-use Rattle.std.specs.Prelude.{ℕ, List, [], ◌++◌, codes}
+use Rattle.std.specs.Prelude.{ℕ, List, [], ◌++◌, codes, Result, Ok, Err}
+use Rattle.tick_play.specs.declared.schedule.ScheduleFault.{ScheduleFault}
 use Rattle.engine.specs.Refusal.{line_feed, refusal_line}
+use Rattle.engine.specs.Stop.{schedule_stop}
 use Rattle.engine.specs.declared.refusal.Refusal.{Refusal}
 use Rattle.engine.specs.declared.stop.Stop.{Stop}
 use Rattle.engine.specs.declared.stop.Stop.TheVariants.{Refused, Memory}
@@ -19,6 +21,11 @@ refused refusal = record { status = 1; text = refusal_line refusal }
 abbrev pub stopped : Stop → Answer
 stopped (Refused refusal) = refused refusal
 stopped Memory = record { status = 4; text = [] }
+
+-- the text of the steps that a schedule spells, or why it spells none
+abbrev pub scheduled : (List ℕ → List ℕ) → Result (List ℕ) ScheduleFault → Answer
+scheduled by (Ok steps) = done (by steps)
+scheduled by (Err fault) = stopped (schedule_stop fault)
 
 abbrev pub usage : Answer
 usage = record {

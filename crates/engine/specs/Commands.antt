@@ -1,9 +1,12 @@
 -- What the engine answers, by what the words ask for and by the input.
 use Rattle.std.specs.Prelude.{◌≡◌, ℕ, ◌&&◌, nat_le, nat_lt, Bool, true, false, List, Option, Some, None, Result, Ok, Err, if◌then◌else◌}
 use Rattle.command_line.specs.Line.{Asked}
-use Rattle.command_line.specs.Line.Asked.{Order as AskedOrder, Check as AskedCheck, Source as AskedSource, Emit, Code, Expand, Project, Run}
+use Rattle.command_line.specs.Line.Asked.{Order as AskedOrder, Check as AskedCheck, Source as AskedSource, Code as AskedCode, Emit as AskedEmit, Expand as AskedExpand, Project as AskedProject, Run}
 use Rattle.tick_play.specs.Number.{number_of}
 use Rattle.engine.specs.Answer.{Answer, refused, usage}
+use Rattle.engine.specs.Codes.{code_answer}
+use Rattle.engine.specs.Lowered.{IsRunnableAnswer, emit_answer, lowered_answer}
+use Rattle.engine.specs.Maps.{expand_answer, project_answer}
 use Rattle.engine.specs.Order.{order_answer}
 use Rattle.engine.specs.Programs.{IsTextAnswer, check_answer, source_answer}
 use Rattle.engine.specs.Text.{text_fault}
@@ -16,7 +19,11 @@ use Rattle.engine.specs.declared.refusal.Refusal.TheVariants as refusal
 pub data Job : Type 0 where
   Order : (n : ℕ) → Job
   Check : Job
+  Emit : Job
   Source : (schedule : List ℕ) → Job
+  Code : (schedule : List ℕ) → Job
+  Expand : (schedule : List ℕ) → Job
+  Project : (schedule : List ℕ) → Job
 
 -- a number up to the limit
 abbrev pub lawful : ℕ → Option ℕ → Option ℕ
@@ -37,18 +44,22 @@ abbrev pub job_of : Option Asked → Result Job LineFault
 job_of None = Err Usage
 job_of (Some (AskedOrder text)) = order_job (processes_of (lawful 4294967295 (number_of text)))
 job_of (Some AskedCheck) = Ok Check
-job_of (Some Emit) = Err Usage
+job_of (Some AskedEmit) = Ok Emit
 job_of (Some (AskedSource schedule)) = Ok (Source schedule)
-job_of (Some (Code schedule)) = Err Usage
-job_of (Some (Expand schedule)) = Err Usage
-job_of (Some (Project schedule)) = Err Usage
+job_of (Some (AskedCode schedule)) = Ok (Code schedule)
+job_of (Some (AskedExpand schedule)) = Ok (Expand schedule)
+job_of (Some (AskedProject schedule)) = Ok (Project schedule)
 job_of (Some (Run turns)) = Err Usage
 
 -- what a command answers on a text
 abbrev pub TextAnswers : Job → List ℕ → Answer → Type 0
 TextAnswers (Order n) text a = a ≡ order_answer n text
 TextAnswers Check text a = IsTextAnswer check_answer text a
+TextAnswers Emit text a = IsTextAnswer (lowered_answer emit_answer) text a
 TextAnswers (Source schedule) text a = IsTextAnswer (source_answer schedule) text a
+TextAnswers (Code schedule) text a = IsRunnableAnswer (code_answer schedule) text a
+TextAnswers (Expand schedule) text a = IsTextAnswer (lowered_answer (expand_answer schedule)) text a
+TextAnswers (Project schedule) text a = IsTextAnswer (lowered_answer (project_answer schedule)) text a
 
 abbrev pub UnlessRefused : Option Refusal → (Answer → Type 0) → Answer → Type 0
 UnlessRefused None P a = P a

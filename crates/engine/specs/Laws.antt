@@ -1,8 +1,14 @@
--- Each command line has one answer on each input.
-use Rattle.std.specs.Prelude.{◌≡◌, ℕ, List, Option}
+-- Each command line has one answer on each input; and what a program reports and what its code reports
+-- are the same, under schedules that the commands print.
+use Rattle.std.specs.Prelude.{◌≡◌, ℕ, ◌≤◌, ◌++◌, false, List, length, Option, Some}
 use Rattle.command_line.specs.Line.{Asked}
-use Rattle.engine.specs.Answer.{Answer}
+use Rattle.command_line.specs.Line.Asked.{Source, Code, Expand, Project}
+use Rattle.tick_play.specs.Written.{schedule_text}
+use Rattle.engine.specs.Answer.{Answer, done}
 use Rattle.engine.specs.Commands.{Answers}
+use Rattle.engine.specs.Lowered.{begins_as_code}
+use Rattle.engine.specs.Maps.{schedule_line}
+use Rattle.engine.specs.Refusal.{line_feed}
 
 abbrev pub AtMostOneAnswerLaw : Type 0
 AtMostOneAnswerLaw =
@@ -10,3 +16,18 @@ AtMostOneAnswerLaw =
 
 abbrev pub SomeAnswerLaw : Type 0
 SomeAnswerLaw = (asked : Option Asked) (input : List ℕ) → (a : Answer) × Answers asked input a
+
+-- Where `code` reports on a program, `drop` prints a line, and `source` reports the same under it.
+abbrev pub DropLaw : Type 0
+DropLaw = (schedule input : List ℕ) (reported : Answer) → begins_as_code input ≡ false
+    → Answers (Some (Code schedule)) input reported → reported.status ≡ 0
+    → (line : List ℕ) × Answers (Some (Project schedule)) input (done (line ++ line_feed)) × Answers (Some (Source line)) input reported
+
+-- Where `source` reports, and `lift` prints a line, that is of some steps; and `code` reports the same
+-- under it, where they are no more than a schedule can have.
+abbrev pub LiftLaw : Type 0
+LiftLaw = (schedule input : List ℕ) (reported lifted : Answer) → begins_as_code input ≡ false
+    → Answers (Some (Source schedule)) input reported → reported.status ≡ 0
+    → Answers (Some (Expand schedule)) input lifted → lifted.status ≡ 0
+    → (steps : List ℕ) × (lifted ≡ done (schedule_line steps))
+    × (length steps ≤ 10000000 → Answers (Some (Code (schedule_text steps))) input reported)

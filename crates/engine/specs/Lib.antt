@@ -7,6 +7,9 @@ pub mod Text
 pub mod Order
 pub mod Answer
 pub mod Programs
+pub mod Codes
+pub mod Lowered
+pub mod Maps
 pub mod Commands
 pub mod Serving
 pub mod Laws

@@ -1,16 +1,14 @@
 -- What `order` answers: the labels that a schedule of stamps leaves, beside the ranks of the
 -- whole-number tickets.
-use Rattle.std.specs.Prelude.{ℕ, ◌==◌, List, [], ◌∷◌, ◌++◌, codes, length, map, Result, Ok, Err, if◌then◌else◌}
+use Rattle.std.specs.Prelude.{ℕ, ◌==◌, List, [], ◌∷◌, ◌++◌, codes, length, map, if◌then◌else◌}
 use Rattle.std.specs.Fmt.{decimal}
 use Rattle.std.specs.List.{flat_map}
 use Rattle.ticket_core.specs.Tickets.{start_tickets, tickets_after, ticket_ranks}
 use Rattle.word_core.specs.Stamps.{labels_after, stamped, start_labels}
 use Rattle.word_core.specs.Packed.{word}
 use Rattle.tick_play.specs.Schedule.{schedule_of}
-use Rattle.tick_play.specs.declared.schedule.ScheduleFault.{ScheduleFault}
-use Rattle.engine.specs.Answer.{Answer, done, stopped}
+use Rattle.engine.specs.Answer.{Answer, scheduled}
 use Rattle.engine.specs.Refusal.{line_feed}
-use Rattle.engine.specs.Stop.{schedule_stop}
 
 -- process `p` stamped, which left these labels
 abbrev pub stamp_line : ℕ → List (List ℕ) → List ℕ
@@ -44,10 +42,6 @@ stamps_text n stamps =
     ++ stamp_lines (start_labels n) stamps
     ++ state_lines (labels_after (start_labels n) stamps) (ticket_ranks (tickets_after (start_tickets n) stamps))
 
-abbrev pub stamps_answer : ℕ → Result (List ℕ) ScheduleFault → Answer
-stamps_answer n (Ok stamps) = done (stamps_text n stamps)
-stamps_answer n (Err fault) = stopped (schedule_stop fault)
-
 -- for `n` processes and the schedule that a text spells
 abbrev pub order_answer : ℕ → List ℕ → Answer
-order_answer n text = stamps_answer n (schedule_of n text)
+order_answer n text = scheduled (stamps_text n) (schedule_of n text)

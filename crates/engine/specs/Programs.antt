@@ -1,21 +1,20 @@
 -- What the commands on a program answer, by the text: it is refused, or the program that it is, or that
 -- program is accepted and answered.
-use Rattle.std.specs.Prelude.{◌≡◌, ℕ, ◌≤◌, List, Some, Result, Ok, Err}
+use Rattle.std.specs.Prelude.{◌≡◌, ℕ, ◌≤◌, List, Some}
 use Rattle.tick_kinds.specs.Accepted.{IsAccepted}
 use Rattle.tick_kinds.specs.Refusals.{first_refusal}
 use Rattle.tick_kinds.specs.Resolution.{resolved}
 use Rattle.tick_kinds.specs.declared.fault.KindFault.{KindFault}
 use Rattle.tick_play.specs.Report.{source_report}
 use Rattle.tick_play.specs.Schedule.{schedule_of}
-use Rattle.tick_play.specs.declared.schedule.ScheduleFault.{ScheduleFault}
 use Rattle.tick_syntax.specs.Nesting.{nesting}
 use Rattle.tick_syntax.specs.Plain.{Name, WholeProgram}
 use Rattle.tick_syntax.specs.Printed.{printed}
 use Rattle.tick_syntax.specs.Refusal.{IsTextRefused}
 use Rattle.tick_syntax.specs.RoundTrip.{IsTextOf}
 use Rattle.tick_syntax.specs.declared.fault.TextFault.{TextFault}
-use Rattle.engine.specs.Answer.{Answer, done, stopped}
-use Rattle.engine.specs.Stop.{kinds_stop, schedule_stop, text_stop}
+use Rattle.engine.specs.Answer.{Answer, done, scheduled, stopped}
+use Rattle.engine.specs.Stop.{kinds_stop, text_stop}
 
 -- the text is this program, and within the limits
 pub record IsProgramText (text : List ℕ) (p : WholeProgram Name) : Type 0 where
@@ -32,10 +31,6 @@ pub data IsTextAnswer (by : WholeProgram Name → Answer) (text : List ℕ) (a :
 abbrev pub check_answer : WholeProgram Name → Answer
 check_answer p = done (printed p)
 
-abbrev pub report_answer : WholeProgram Name → Result (List ℕ) ScheduleFault → Answer
-report_answer p (Ok steps) = done (source_report (resolved p) steps)
-report_answer p (Err fault) = stopped (schedule_stop fault)
-
 -- `source` with the text of a schedule
 abbrev pub source_answer : List ℕ → WholeProgram Name → Answer
-source_answer schedule p = report_answer p (schedule_of p.processes schedule)
+source_answer schedule p = scheduled (source_report (resolved p)) (schedule_of p.processes schedule)

@@ -5,7 +5,7 @@ use Rattle.tick_kinds.specs.declared.kind.Kind.{Kind}
 use Rattle.tick_kinds.specs.declared.kind.Kind.TheVariants.{Variable, Scan, Register}
 use Rattle.tick_syntax.specs.declared.span.Span.{Span}
 use Rattle.engine.specs.declared.refusal.Refusal.{Refusal}
-use Rattle.engine.specs.declared.refusal.Refusal.TheVariants.{TextTooLong, BadCharacter, NumberTooBig, NameTooLong, Unexpected, TooDeep, Processes, ProcessesAt, Twice, Unknown, WrongKind, TooMany, BadItem, NoSuchProcess, ScheduleTooLong}
+use Rattle.engine.specs.declared.refusal.Refusal.TheVariants.{TextTooLong, BadCharacter, NumberTooBig, NameTooLong, Unexpected, TooDeep, Processes, ProcessesAt, Twice, Unknown, WrongKind, TooMany, EmptyCode, BadJump, StackShort, HeightsDiffer, BadSlot, FallsOff, CodeTooLong, BadLine, BadStamp, ProgramTooLong, BadItem, NoSuchProcess, ScheduleTooLong}
 
 abbrev pub line_feed : List ℕ
 line_feed = 10 ∷ []
@@ -34,6 +34,16 @@ refusal_line (WrongKind span wanted found) =
     codes "refused 14 WrongKind" ++ codes " " ++ decimal span.start ++ codes " " ++ decimal span.end
     ++ codes " " ++ kind_name wanted ++ codes " " ++ kind_name found ++ line_feed
 refusal_line (TooMany span) = span_line (codes "refused 15 TooMany") span
+refusal_line EmptyCode = codes "refused 21 Empty" ++ line_feed
+refusal_line (BadJump place) = codes "refused 22 BadJump " ++ decimal place ++ line_feed
+refusal_line (StackShort place) = codes "refused 23 StackShort " ++ decimal place ++ line_feed
+refusal_line (HeightsDiffer place) = codes "refused 24 HeightsDiffer " ++ decimal place ++ line_feed
+refusal_line (BadSlot place) = codes "refused 25 BadSlot " ++ decimal place ++ line_feed
+refusal_line (FallsOff place) = codes "refused 26 FallsOff " ++ decimal place ++ line_feed
+refusal_line CodeTooLong = codes "refused 27 TooLong" ++ line_feed
+refusal_line (BadLine line) = codes "refused 29 BadLine " ++ decimal line ++ line_feed
+refusal_line (BadStamp place) = codes "refused 30 BadStamp " ++ decimal place ++ line_feed
+refusal_line ProgramTooLong = codes "refused 31 TooLong" ++ line_feed
 refusal_line (BadItem place) = codes "refused 51 BadItem " ++ decimal place ++ line_feed
 refusal_line (NoSuchProcess place) = codes "refused 52 NoSuchProcess " ++ decimal place ++ line_feed
 refusal_line ScheduleTooLong = codes "refused 53 TooLong" ++ line_feed

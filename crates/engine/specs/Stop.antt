@@ -1,10 +1,14 @@
 -- What each layer's faults are to a command.
 use Rattle.tick_kinds.specs.declared.fault.KindFault.{KindFault}
 use Rattle.tick_kinds.specs.declared.fault.KindFault.TheVariants as kinds
+use Rattle.tick_lower.specs.declared.fault.LowerFault.{LowerFault}
+use Rattle.tick_lower.specs.declared.fault.LowerFault.TheVariants as lowering
 use Rattle.tick_play.specs.declared.schedule.ScheduleFault.{ScheduleFault}
 use Rattle.tick_play.specs.declared.schedule.ScheduleFault.TheVariants as schedule
 use Rattle.tick_syntax.specs.declared.fault.TextFault.{TextFault}
 use Rattle.tick_syntax.specs.declared.fault.TextFault.TheVariants as text
+use Rattle.verified_code.specs.declared.fault.CodeFault.{CodeFault}
+use Rattle.verified_code.specs.declared.fault.CodeFault.TheVariants as code
 use Rattle.engine.specs.declared.refusal.Refusal.TheVariants as refusal
 use Rattle.engine.specs.declared.stop.Stop.{Stop}
 use Rattle.engine.specs.declared.stop.Stop.TheVariants.{Refused, Memory}
@@ -25,6 +29,22 @@ kinds_stop (kinds.Unknown span) = Refused (refusal.Unknown span)
 kinds_stop (kinds.WrongKind span wanted found) = Refused (refusal.WrongKind span wanted found)
 kinds_stop (kinds.TooMany span) = Refused (refusal.TooMany span)
 kinds_stop kinds.NoMemory = Memory
+
+abbrev pub code_stop : CodeFault → Stop
+code_stop code.Empty = Refused refusal.EmptyCode
+code_stop (code.BadJump place) = Refused (refusal.BadJump place)
+code_stop (code.StackShort place) = Refused (refusal.StackShort place)
+code_stop (code.HeightsDiffer place) = Refused (refusal.HeightsDiffer place)
+code_stop (code.BadSlot place) = Refused (refusal.BadSlot place)
+code_stop (code.FallsOff place) = Refused (refusal.FallsOff place)
+code_stop code.TooLong = Refused refusal.CodeTooLong
+code_stop (code.BadLine line) = Refused (refusal.BadLine line)
+code_stop (code.BadStamp place) = Refused (refusal.BadStamp place)
+code_stop code.NoMemory = Memory
+
+abbrev pub lower_stop : LowerFault → Stop
+lower_stop lowering.TooLong = Refused refusal.ProgramTooLong
+lower_stop lowering.NoMemory = Memory
 
 abbrev pub schedule_stop : ScheduleFault → Stop
 schedule_stop (schedule.BadItem place) = Refused (refusal.BadItem place)

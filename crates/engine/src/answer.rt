@@ -6,6 +6,8 @@ ghost use Rattle.engine.specs.prover.Replies.{Fits, IfRefused, IsReply, job};
 
 use crate::command::Command;
 use crate::fault::EngineFault;
+use crate::lowered::{code_report, emit_text};
+use crate::maps::{expand_text, project_text};
 use crate::order::order_text;
 use crate::program::{check_text, source_text};
 use crate::reply::{Reply, refusal_reply};
@@ -42,6 +44,10 @@ fn text_answer(alloc: Global, command: Command<'_>, text: &str) -> Result<String
     match command {
         Command::Order(n) => order_text(alloc, n, text),
         Command::Check => check_text(alloc, text),
+        Command::Emit => emit_text(alloc, text),
         Command::Source(schedule) => source_text(alloc, text, schedule),
+        Command::Code(schedule) => code_report(alloc, text, schedule),
+        Command::Expand(schedule) => expand_text(alloc, text, schedule),
+        Command::Project(schedule) => project_text(alloc, text, schedule),
     }
 }

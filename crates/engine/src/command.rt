@@ -17,8 +17,15 @@ pub enum Command<'a> {
     /// For so many processes, 1 to 6.
     Order(u8),
     Check,
-    /// Under the schedule that this text spells.
+    Emit,
+    /// A program under the schedule that this text spells.
     Source(&'a str),
+    /// A code, or the code of a program, under the schedule that this text spells.
+    Code(&'a str),
+    /// The schedule of its code that leads through this one of a program.
+    Expand(&'a str),
+    /// The schedule of a program that this one of its code stands for.
+    Project(&'a str),
 }
 
 /// Why a command line is refused.
@@ -41,11 +48,11 @@ pub fn command_of<'a>(request: Option<Request<'a>>) -> Result<Command<'a>, LineF
     match request {
         Request::Order(text) => Ok(Command::Order(processes(text)?)),
         Request::Check => Ok(Command::Check),
-        Request::Emit => Err(LineFault::Usage),
+        Request::Emit => Ok(Command::Emit),
         Request::Source(schedule) => Ok(Command::Source(schedule)),
-        Request::Code(_) => Err(LineFault::Usage),
-        Request::Expand(_) => Err(LineFault::Usage),
-        Request::Project(_) => Err(LineFault::Usage),
+        Request::Code(schedule) => Ok(Command::Code(schedule)),
+        Request::Expand(schedule) => Ok(Command::Expand(schedule)),
+        Request::Project(schedule) => Ok(Command::Project(schedule)),
         Request::Run(_) => Err(LineFault::Usage),
     }
 }

@@ -7,10 +7,13 @@
 #![tactic(auto)]
 
 mod answer;
+mod codes;
 mod command;
 mod ends;
 mod fault;
 mod laws;
+mod lowered;
+mod maps;
 mod order;
 mod program;
 mod reading;
@@ -23,5 +26,5 @@ mod writing;
 
 pub use ends::{ByteSink, ByteSource, Counts, Transfer};
 pub use fault::EngineFault;
-pub use laws::law_answers;
+pub use laws::{law_answers, law_reports};
 pub use serving::{Served, engine, serve};

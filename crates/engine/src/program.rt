@@ -33,8 +33,8 @@ pub fn source_text(alloc: Global, text: &str, schedule: &str) -> Result<String, 
     Ok(report)
 }
 
-// The accepted program that a text is.
-fn program_of(alloc: Global, text: &str) -> Result<Program, Stop>
+/// The accepted program that a text is.
+pub fn program_of(alloc: Global, text: &str) -> Result<Program, Stop>
     ensures reads { IfOk result (λ p. IsProgramText text.now p) }
     ensures accepted { IfOk result (λ p. IsAccepted p) }
     ensures refused { (by : WholeProgram Name → Answer) → IfErr result (λ stop. IfRefused stop (λ refusal. IsTextAnswer by text.now (refused refusal))) }

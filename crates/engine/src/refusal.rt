@@ -6,7 +6,8 @@ use std::fmt::Write;
 use tick_kinds::Kind;
 use tick_syntax::span::Span;
 
-/// Why an input is refused. A place is an offset in bytes, and a span one of bytes of the input.
+/// Why an input is refused. A place is an offset in bytes, where nothing else is
+/// said, and a span one of bytes of the input.
 #[derive(Clone, Copy, Debug, PartialEq, Eq)]
 pub enum Refusal {
     TextTooLong,
@@ -27,6 +28,19 @@ pub enum Refusal {
         found: Kind,
     },
     TooMany(Span),
+    EmptyCode,
+    /// From here to `FallsOff`, and in `BadStamp`, the place of an instruction.
+    BadJump(u16),
+    StackShort(u16),
+    HeightsDiffer(u16),
+    BadSlot(u16),
+    FallsOff(u16),
+    CodeTooLong,
+    /// The number of a line, the first being 1.
+    BadLine(usize),
+    BadStamp(u16),
+    /// The code of the program would have more than 65,535 instructions.
+    ProgramTooLong,
     BadItem(usize),
     NoSuchProcess(usize),
     ScheduleTooLong,
@@ -53,6 +67,16 @@ pub fn line_of(alloc: Global, refusal: Refusal) -> Result<String, AllocError>
             found,
         } => kinds_line(alloc, span, wanted, found),
         Refusal::TooMany(span) => line_at(alloc, "refused 15 TooMany", span),
+        Refusal::EmptyCode => String::from_str(alloc, "refused 21 Empty\n"),
+        Refusal::BadJump(place) => format!(in alloc; "refused 22 BadJump {place}\n"),
+        Refusal::StackShort(place) => format!(in alloc; "refused 23 StackShort {place}\n"),
+        Refusal::HeightsDiffer(place) => format!(in alloc; "refused 24 HeightsDiffer {place}\n"),
+        Refusal::BadSlot(place) => format!(in alloc; "refused 25 BadSlot {place}\n"),
+        Refusal::FallsOff(place) => format!(in alloc; "refused 26 FallsOff {place}\n"),
+        Refusal::CodeTooLong => String::from_str(alloc, "refused 27 TooLong\n"),
+        Refusal::BadLine(line) => format!(in alloc; "refused 29 BadLine {line}\n"),
+        Refusal::BadStamp(place) => format!(in alloc; "refused 30 BadStamp {place}\n"),
+        Refusal::ProgramTooLong => String::from_str(alloc, "refused 31 TooLong\n"),
         Refusal::BadItem(place) => format!(in alloc; "refused 51 BadItem {place}\n"),
         Refusal::NoSuchProcess(place) => format!(in alloc; "refused 52 NoSuchProcess {place}\n"),
         Refusal::ScheduleTooLong => String::from_str(alloc, "refused 53 TooLong\n"),

@@ -1,14 +1,16 @@
 //! Why a command comes to no text of its own.
 ghost use Rattle.std.specs.Prelude.{◌≡◌};
-ghost use Rattle.engine.specs.Stop.{kinds_stop, schedule_stop, text_stop};
+ghost use Rattle.engine.specs.Stop.{code_stop, kinds_stop, lower_stop, schedule_stop, text_stop};
 ghost use Rattle.engine.specs.declared.stop.Stop.TheVariants.{Memory, Refused};
 
 use crate::refusal::Refusal;
 use std::alloc::AllocError;
 use tick_kinds::KindFault;
+use tick_lower::LowerFault;
 use tick_play::ScheduleFault;
 use tick_source::NoMemory;
 use tick_syntax::fault::TextFault;
+use verified_code::CodeFault;
 
 /// What stops a command: the input is refused, or memory is.
 #[derive(Clone, Copy, Debug, PartialEq, Eq)]
@@ -60,6 +62,36 @@ impl From<KindFault> for Stop {
             }),
             KindFault::TooMany(span) => Stop::Refused(Refusal::TooMany(span)),
             KindFault::NoMemory => Stop::Memory,
+        }
+    }
+}
+
+impl From<CodeFault> for Stop {
+    ghost from_gives = { λ fault stop. stop ≡ code_stop fault };
+
+    fn from(fault: CodeFault) -> Stop {
+        match fault {
+            CodeFault::Empty => Stop::Refused(Refusal::EmptyCode),
+            CodeFault::BadJump(place) => Stop::Refused(Refusal::BadJump(place)),
+            CodeFault::StackShort(place) => Stop::Refused(Refusal::StackShort(place)),
+            CodeFault::HeightsDiffer(place) => Stop::Refused(Refusal::HeightsDiffer(place)),
+            CodeFault::BadSlot(place) => Stop::Refused(Refusal::BadSlot(place)),
+            CodeFault::FallsOff(place) => Stop::Refused(Refusal::FallsOff(place)),
+            CodeFault::TooLong => Stop::Refused(Refusal::CodeTooLong),
+            CodeFault::BadLine(line) => Stop::Refused(Refusal::BadLine(line)),
+            CodeFault::BadStamp(place) => Stop::Refused(Refusal::BadStamp(place)),
+            CodeFault::NoMemory => Stop::Memory,
+        }
+    }
+}
+
+impl From<LowerFault> for Stop {
+    ghost from_gives = { λ fault stop. stop ≡ lower_stop fault };
+
+    fn from(fault: LowerFault) -> Stop {
+        match fault {
+            LowerFault::TooLong => Stop::Refused(Refusal::ProgramTooLong),
+            LowerFault::NoMemory => Stop::Memory,
         }
     }
 }

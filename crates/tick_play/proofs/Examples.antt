@@ -1,5 +1,5 @@
 -- Small schedules and runs, and their texts.
-use Rattle.std.proofs.Common.{◌≡◌, ℕ, List, [], ◌∷◌, ◌++◌, Ok, Err, codes, refl}
+use Rattle.std.proofs.Common.{◌≡◌, ℕ, List, [], ◌∷◌, ◌++◌, Ok, Err, codes, refl, replicate}
 use Rattle.std.specs.Fmt.{digits}
 use Rattle.machine_core.specs.declared.operator.Op.TheVariants as O
 use Rattle.tick_syntax.specs.Plain.{number, named, me, binary, get, put, stamp, scan, older, out, Block, nil, cons, WholeProgram}
@@ -9,7 +9,9 @@ use Rattle.machine_core.specs.declared.event.Act.TheVariants as A
 use Rattle.tick_play.specs.declared.schedule.ScheduleFault.TheVariants.{BadItem, NoSuchProcess, TooLong}
 use Rattle.tick_play.specs.Schedule.{schedule_of}
 use Rattle.tick_play.specs.Written.{schedule_text}
-use Rattle.tick_play.specs.Report.{line_feed, report, source_report}
+use Rattle.verified_code.specs.declared.instr.Instr.TheVariants as I
+use Rattle.verified_code.specs.Instructions.{StepCode, sizes}
+use Rattle.tick_play.specs.Report.{code_report, line_feed, report, source_report}
 
 no_steps : schedule_text [] ≡ []
 unfolding digits
@@ -80,6 +82,27 @@ trapped : source_report (program 2 [] [] [] (cons (out (binary (number 0) O.Sub 
     ≡ lines (codes "1 trap Below" ∷ codes "status 0 running" ∷ codes "status 1 trapped Below" ∷ [])
 unfolding digits
 trapped = refl
+
+-- the program of `in_turn` as a code
+abbrev in_turn_code : StepCode
+in_turn_code = record {
+  sizes = sizes 2 1 1 0;
+  instructions = I.LoadWord ∷ I.Next ∷ I.Exchange 0 ∷ I.Scan 0 ∷ I.Push 0 ∷ I.Push 1 ∷ I.Older 0 0 ∷ I.Load 0 ∷ I.Out ∷ I.Halt ∷ [];
+}
+
+code_in_turn : code_report in_turn_code (replicate 10 0 ++ replicate 10 1)
+    ≡ lines
+    (codes "0 stamp" ∷ codes "0 scan 1 0" ∷ codes "0 older 0 1 0" ∷ codes "0 out 0" ∷ codes "0 end"
+    ∷ codes "1 stamp" ∷ codes "1 scan 0 1" ∷ codes "1 older 0 1 1" ∷ codes "1 out 1" ∷ codes "1 end"
+    ∷ codes "status 0 ended" ∷ codes "status 1 ended" ∷ [])
+unfolding digits
+code_in_turn = refl
+
+-- the first exchange of process 1 is lost
+exchange_lost : code_report in_turn_code (0 ∷ 1 ∷ 0 ∷ 1 ∷ 0 ∷ 1 ∷ 1 ∷ 1 ∷ 1 ∷ [])
+    ≡ lines (codes "0 stamp" ∷ codes "1 stamp" ∷ codes "status 0 running" ∷ codes "status 1 running" ∷ [])
+unfolding digits
+exchange_lost = refl
 
 -- each kind of event, of three processes
 each_kind : report (record {

@@ -2,7 +2,8 @@
 use Rattle.std.proofs.Common.{◌≡◌, ◌∙◌, ◌+◌, ◌-◌, ◌<◌, ◌≤◌, ◌∷◌, ◌++◌, ℕ, List, [], Ok, Err, Result, Bool, ap, arith, drop, get_or, length, refl, subst, sym, take, true, false, cond, leb-false, replicate, nat_le, nat_lt, Option, Some, None}
 use Rattle.std.specs.List.{All, slice_split}
 use Rattle.std.proofs.Math.ListN.{length-drop, length-take}
-use Rattle.std.proofs.lemmas.List.{drop-drop, drop_more, get_or-drop, get_or-replicate, length-replicate, take-append-drop, take_rest}
+use Rattle.std.proofs.lemmas.Bool.{ltb-false}
+use Rattle.std.proofs.lemmas.List.{drop-drop, drop_more, get_or-drop, get_or-replicate, length-append, length-replicate, take-append-drop, take_rest}
 use Rattle.std.proofs.lemmas.List.Elements.{All-append, All-more, All-nil}
 use Rattle.std.proofs.lemmas.List.Splits.{slice_split_at, slice_split_none}
 use Rattle.tick_syntax.specs.Characters.{is_blank}
@@ -113,36 +114,51 @@ All-replicate n k p below i d within =
     let there : get_or (replicate k p) i d ≡ p = get_or-replicate k i p d (omega (arith, length-replicate k p)) in
     omega arith
 
-with_item-below : (n place : ℕ) (steps more : List ℕ) (item : Option Item) → All (λ p. p < n) steps → with_item n place steps item ≡ Ok more → All (λ p. p < n) more
-with_item-below n place steps more None all is = cc
-with_item-below n place steps more (Some item) all is =
-    in_range (nat_le n item.process) refl is
-  where
-    long_enough : item.process < n → (b : Bool) → cond b (Err TooLong) (Ok (steps ++ replicate item.steps item.process)) ≡ Ok more → All (λ p. p < n) more
-    long_enough below true is = cc
-    long_enough below false is =
-        let same : steps ++ replicate item.steps item.process ≡ more = cc in
-        subst (All (λ (p : ℕ). p < n)) same (All-append (λ (p : ℕ). p < n) steps (replicate item.steps item.process) all (All-replicate n item.steps item.process below))
+-- What items keep, where each is of a process below `n` and leads to no more than 10,000,000 steps.
+module _ (n : ℕ) (P : List ℕ → Type 0)
+    (grows : (steps : List ℕ) (item : Item) → item.process < n → length steps + item.steps ≤ 10000000 → P steps → P (steps ++ replicate item.steps item.process)) where
+  with_item-keeps : (place : ℕ) (steps more : List ℕ) (item : Option Item) → P steps → with_item n place steps item ≡ Ok more → P more
+  with_item-keeps place steps more None held is = cc
+  with_item-keeps place steps more (Some item) held is =
+      in_range (nat_le n item.process) refl is
+    where
+      short_enough : item.process < n → (b : Bool) → nat_lt 10000000 (length steps + item.steps) ≡ b
+          → cond b (Err TooLong) (Ok (steps ++ replicate item.steps item.process)) ≡ Ok more → P more
+      short_enough below true test is = cc
+      short_enough below false test is =
+          let same : steps ++ replicate item.steps item.process ≡ more = cc in
+          subst P same (grows steps item below (ltb-false 10000000 (length steps + item.steps) test) held)
 
-    in_range : (b : Bool) → nat_le n item.process ≡ b
-        → cond b (Err (NoSuchProcess place)) (cond (nat_lt 10000000 (length steps + item.steps)) (Err TooLong) (Ok (steps ++ replicate item.steps item.process))) ≡ Ok more
-        → All (λ p. p < n) more
-    in_range true test is = cc
-    in_range false test is = long_enough (leb-false n item.process test) (nat_lt 10000000 (length steps + item.steps)) is
+      in_range : (b : Bool) → nat_le n item.process ≡ b
+          → cond b (Err (NoSuchProcess place)) (cond (nat_lt 10000000 (length steps + item.steps)) (Err TooLong) (Ok (steps ++ replicate item.steps item.process))) ≡ Ok more
+          → P more
+      in_range true test is = cc
+      in_range false test is = short_enough (leb-false n item.process test) (nat_lt 10000000 (length steps + item.steps)) refl is
 
-with_piece-below : (n place : ℕ) (steps more piece : List ℕ) → All (λ p. p < n) steps → with_piece n place steps piece ≡ Ok more → All (λ p. p < n) more
-with_piece-below n place steps more [] all is = let same : steps ≡ more = cc in subst (All (λ (p : ℕ). p < n)) same all
-with_piece-below n place steps more (byte ∷ bytes) all is = with_item-below n place steps more (item_of (byte ∷ bytes)) all is
+  with_piece-keeps : (place : ℕ) (steps more piece : List ℕ) → P steps → with_piece n place steps piece ≡ Ok more → P more
+  with_piece-keeps place steps more [] held is = let same : steps ≡ more = cc in subst P same held
+  with_piece-keeps place steps more (byte ∷ bytes) held is = with_item-keeps place steps more (item_of (byte ∷ bytes)) held is
 
-with_pieces-below : (n place : ℕ) (steps : Result (List ℕ) ScheduleFault) (pieces : List (List ℕ)) (more : List ℕ)
-    → ((held : List ℕ) → steps ≡ Ok held → All (λ p. p < n) held) → with_pieces n place steps pieces ≡ Ok more → All (λ p. p < n) more
-with_pieces-below n place steps [] more all is = all more is
-with_pieces-below n place (Err fault) (piece ∷ pieces) more all is = cc
-with_pieces-below n place (Ok steps) (piece ∷ pieces) more all is =
-    with_pieces-below n (place + length piece + 1) (with_piece n place steps piece) pieces more
-    (λ held piece_is. with_piece-below n place steps held piece (all steps refl) piece_is) is
+  with_pieces-keeps : (place : ℕ) (steps : Result (List ℕ) ScheduleFault) (pieces : List (List ℕ)) (more : List ℕ)
+      → ((held : List ℕ) → steps ≡ Ok held → P held) → with_pieces n place steps pieces ≡ Ok more → P more
+  with_pieces-keeps place steps [] more held is = held more is
+  with_pieces-keeps place (Err fault) (piece ∷ pieces) more held is = cc
+  with_pieces-keeps place (Ok steps) (piece ∷ pieces) more held is =
+      with_pieces-keeps (place + length piece + 1) (with_piece n place steps piece) pieces more
+      (λ read piece_is. with_piece-keeps place steps read piece (held steps refl) piece_is) is
+
+  schedule_of-keeps : P [] → (text steps : List ℕ) → schedule_of n text ≡ Ok steps → P steps
+  schedule_of-keeps none text steps is =
+      with_pieces-keeps 0 (Ok []) (slice_split is_blank text) steps (λ held empty. let same : [] ≡ held = cc in subst P same none) is
 
 pub schedule_of-below : (n : ℕ) (text steps : List ℕ) → schedule_of n text ≡ Ok steps → All (λ p. p < n) steps
 schedule_of-below n text steps is =
-    with_pieces-below n 0 (Ok []) (slice_split is_blank text) steps
-    (λ held none. let same : [] ≡ held = cc in subst (All (λ (p : ℕ). p < n)) same (All-nil (λ (p : ℕ). p < n))) is
+    schedule_of-keeps n (All (λ (p : ℕ). p < n))
+    (λ held item below short all. All-append (λ (p : ℕ). p < n) held (replicate item.steps item.process) all (All-replicate n item.steps item.process below))
+    (All-nil (λ (p : ℕ). p < n)) text steps is
+
+pub schedule_of-short : (n : ℕ) (text steps : List ℕ) → schedule_of n text ≡ Ok steps → length steps ≤ 10000000
+schedule_of-short n text steps is =
+    schedule_of-keeps n (λ steps. length steps ≤ 10000000)
+    (λ held item below short few. omega (arith, length-append held (replicate item.steps item.process), length-replicate item.steps item.process))
+    (omega arith) text steps is

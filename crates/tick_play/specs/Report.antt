@@ -2,6 +2,7 @@
 use Rattle.std.specs.Prelude.{ℕ, ◌+◌, List, [], ◌∷◌, ◌++◌, codes, length, map, take}
 use Rattle.std.specs.Fmt.{decimal}
 use Rattle.tick_syntax.specs.Plain.{WholeProgram}
+use Rattle.verified_code.specs.Instructions.{StepCode}
 use Rattle.machine_core.specs.declared.status.Trap.{Trap}
 use Rattle.machine_core.specs.declared.status.Trap.TheVariants as T
 use Rattle.machine_core.specs.declared.event.Act.{Act}
@@ -10,6 +11,7 @@ use Rattle.machine_core.specs.declared.event.Event.{Event}
 use Rattle.machine_core.specs.declared.status.Status.{Status}
 use Rattle.machine_core.specs.declared.status.Status.TheVariants as S
 use Rattle.machine_core.specs.Observables.{Observables}
+use Rattle.step_code.specs.Machine.{run_of, observables as observables_of_code}
 use Rattle.tick_source.specs.Source.{source, observables}
 use Rattle.tick_play.specs.Written.{spaced}
 
@@ -67,3 +69,7 @@ report o = event_lines (length o.statuses) o.events ++ register_lines 0 o.rows +
 -- the program under this schedule
 abbrev pub source_report : WholeProgram ℕ → List ℕ → List ℕ
 source_report a schedule = report (observables (source a schedule))
+
+-- the code under this schedule
+abbrev pub code_report : StepCode → List ℕ → List ℕ
+code_report c schedule = report (observables_of_code (run_of c.sizes c.instructions schedule))

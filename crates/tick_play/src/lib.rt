@@ -1,6 +1,7 @@
 // Schedules as texts, and runs told as texts.
 //
-// Start with `read_schedule`, or with `play_source` for the report of a whole run under a schedule.
+// Start with `read_schedule`, or with `play_source` and `play_code` for the report of a whole run
+// under a schedule. Both machines are told by the one report of what a run lets others see.
 #![tactic(auto)]
 
 pub mod laws;
@@ -11,7 +12,7 @@ mod schedule;
 mod writing;
 
 pub use machine_core::{NoMemory, Outcome};
-pub use play::play_source;
+pub use play::{play_code, play_source};
 pub use report::report_of;
 pub use schedule::{ScheduleFault, read_schedule};
 pub use writing::write_schedule;

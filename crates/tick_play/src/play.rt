@@ -1,12 +1,12 @@
 ghost use Rattle.std.specs.Prelude.{◌≡◌, ◌<◌, All, IfOk, string_bytes};
 ghost use Rattle.tick_kinds.specs.Resolution.{resolved};
-ghost use Rattle.tick_play.specs.Report.{source_report};
+ghost use Rattle.tick_play.specs.Report.{code_report, source_report};
 
 use crate::report::report_of;
 use machine_core::NoMemory;
 use std::alloc::Global;
+use step_code::Code;
 use tick_kinds::Program;
-use tick_source::run;
 
 /// The report of the program's run under a schedule, each number of which is below the number of
 /// processes.
@@ -14,6 +14,16 @@ pub fn play_source(alloc: Global, program: &Program, schedule: &[u8]) -> Result<
     requires { All (λ p. p < (resolved program.now).processes) schedule.now }
     ensures { IfOk result (λ text. string_bytes text ≡ source_report (resolved program.now) schedule.now) }
 {
-    let outcome = run(alloc, program, schedule)?;
+    let outcome = tick_source::run(alloc, program, schedule)?;
+    report_of(alloc, &outcome)
+}
+
+/// The report of the code's run on bounded labels under a schedule, each number of which is below
+/// the number of processes.
+pub fn play_code(alloc: Global, code: &Code, schedule: &[u8]) -> Result<String, NoMemory>
+    requires { All (λ p. p < code.now.sizes.processes) schedule.now }
+    ensures { IfOk result (λ text. string_bytes text ≡ code_report code.now schedule.now) }
+{
+    let outcome = step_code::run(alloc, code, schedule)?;
     report_of(alloc, &outcome)
 }

@@ -13,3 +13,4 @@ mod Round
 mod Examples
 mod Reached
 mod Maps
+pub mod Offered

@@ -2,7 +2,7 @@
 use Rattle.std.specs.Prelude.{◌≡◌, ◌≤◌, string_bytes}
 use Rattle.engine.specs.Answer.{Answer}
 use Rattle.engine.specs.Commands.{Job}
-use Rattle.engine.specs.Commands.Job.{Order, Check, Source}
+use Rattle.engine.specs.Commands.Job.{Order, Check, Emit, Source, Code, Expand, Project}
 use Rattle.engine.specs.declared.command.Command.{Command}
 use Rattle.engine.specs.declared.command.Command.TheVariants as command
 use Rattle.engine.specs.declared.refusal.Refusal.{Refusal}
@@ -13,13 +13,21 @@ use Rattle.engine.specs.declared.stop.Stop.TheVariants.{Refused, Memory}
 abbrev pub job : Command → Job
 job (command.Order n) = Order n
 job command.Check = Check
+job command.Emit = Emit
 job (command.Source schedule) = Source schedule.now
+job (command.Code schedule) = Code schedule.now
+job (command.Expand schedule) = Expand schedule.now
+job (command.Project schedule) = Project schedule.now
 
 -- its number of processes is one that a label word can have
 abbrev pub Fits : Job → Type 0
 Fits (Order n) = (1 ≤ n) × (n ≤ 6)
 Fits Check = Unit {0}
+Fits Emit = Unit {0}
 Fits (Source schedule) = Unit {0}
+Fits (Code schedule) = Unit {0}
+Fits (Expand schedule) = Unit {0}
+Fits (Project schedule) = Unit {0}
 
 -- the reply is this answer
 pub record Replies (reply : Reply) (a : Answer) : Type 0 where

@@ -1,9 +1,11 @@
-use Rattle.std.proofs.Common.{◌≡◌, ◌≢◌, Err, subst}
+use Rattle.std.proofs.Common.{◌≡◌, ◌≢◌, Err, refl, subst}
 use Rattle.std.proofs.lemmas.Result.{err_from_is_err_and}
+use Rattle.tick_kinds.specs.Resolution.{resolved}
+use Rattle.tick_play.specs.Report.{source_report}
 use Rattle.tick_play.specs.Schedule.{schedule_of}
 use Rattle.tick_play.specs.declared.schedule.ScheduleFault.TheVariants.{NoMemory}
-use Rattle.engine.specs.Programs.{accepted, source_answer}
-use Rattle.engine.proofs.ProgramLemmas.{reported}
+use Rattle.engine.specs.Programs.{IsTextAnswer, accepted, source_answer}
+use Rattle.engine.proofs.ScheduleLemmas.{schedule_done}
 use Rattle.engine.proofs.StopLemmas.{schedule_stops}
 use Rattle.engine.proofs.program.source_text.Goals as goal
 
@@ -16,12 +18,15 @@ pub returns-in_err-steps-clause-refused : goal.returns-in_err-steps-clause-refus
 returns-in_err-steps-clause-refused c =
     let told = err_from_is_err_and c.from_residual-in_err-steps.result c.from_residual-in_err-steps.ensures.1 in
     let s = c.args.schedule.now in
+    let p = c.in_ok-program.program in
     let fault = c.in_err-steps.field-0.0 in
     let read = subst (λ n. fault ≢ NoMemory → schedule_of n s ≡ Err fault) c.processes.ensures.count c.in_err-steps.ensures.err in
     rw (told.1, told.2)
-    (schedule_stops s _ c.in_ok-program.program fault c.in_ok-program.ensures.reads c.in_ok-program.ensures.accepted read)
+    (schedule_stops (IsTextAnswer (source_answer s) c.args.text.now) (source_report (resolved p)) p.processes s fault
+    (accepted p c.in_ok-program.ensures.reads c.in_ok-program.ensures.accepted refl) read)
 
 pub returns-clause-ok : goal.returns-clause-ok
 returns-clause-ok c =
-    accepted _ c.in_ok-program.ensures.reads c.in_ok-program.ensures.accepted
-    (reported c.in_ok-program.program c.args.schedule.now _ _ _ _ c.processes.ensures.count c.in_ok-steps.ensures.ok c.as_slice.ensures.value c.in_ok-report.ensures)
+    let p = c.in_ok-program.program in
+    accepted p c.in_ok-program.ensures.reads c.in_ok-program.ensures.accepted
+    (schedule_done (source_report (resolved p)) p.processes _ c.args.schedule.now _ _ _ c.processes.ensures.count c.in_ok-steps.ensures.ok c.as_slice.ensures.value c.in_ok-report.ensures)

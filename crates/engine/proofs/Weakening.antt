@@ -1,0 +1,18 @@
+-- What holds of an outcome, where less is asked.
+use Rattle.std.proofs.Common.{Result, Ok, Err, IfOk, IfErr}
+use Rattle.engine.specs.declared.refusal.Refusal.{Refusal}
+use Rattle.engine.specs.declared.stop.Stop.{Stop}
+use Rattle.engine.specs.declared.stop.Stop.TheVariants.{Refused, Memory}
+use Rattle.engine.specs.prover.Replies.{IfRefused}
+
+pub if_ok : {T E : Type 0} (r : Result T E) (P Q : T → Type 0) → ((t : T) → P t → Q t) → IfOk r P → IfOk r Q
+if_ok (Ok t) P Q more held = more t held
+if_ok (Err e) P Q more held = tt
+
+pub if_err : {T E : Type 0} (r : Result T E) (P Q : E → Type 0) → ((e : E) → P e → Q e) → IfErr r P → IfErr r Q
+if_err (Ok t) P Q more held = tt
+if_err (Err e) P Q more held = more e held
+
+pub if_refused : (P Q : Refusal → Type 0) → ((refusal : Refusal) → P refusal → Q refusal) → (stop : Stop) → IfRefused stop P → IfRefused stop Q
+if_refused P Q more (Refused refusal) held = more refusal held
+if_refused P Q more Memory held = tt

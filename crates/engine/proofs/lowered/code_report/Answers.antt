@@ -1,0 +1,23 @@
+use Rattle.std.proofs.Common.{subst, sym}
+use Rattle.std.proofs.lemmas.Result.{err_from_is_err_and}
+use Rattle.engine.specs.Codes.{code_answer}
+use Rattle.engine.specs.Lowered.{IsRunnableAnswer}
+use Rattle.engine.proofs.Weakening.{if_ok, if_err, if_refused}
+use Rattle.engine.proofs.lowered.code_report.Goals as goal
+
+pub returns-in_err-code-clause-refused : goal.returns-in_err-code-clause-refused
+returns-in_err-code-clause-refused c =
+    let told = err_from_is_err_and c.from_residual.result c.from_residual.ensures.1 in
+    rw (told.1, told.2) (c.in_err-code.ensures.refused (code_answer c.args.schedule.now))
+
+pub returns-clause-ok : goal.returns-clause-ok
+returns-clause-ok c =
+    let by = code_answer c.args.schedule.now in
+    if_ok c.report_of_code.result _ _
+    (λ answer is. subst (IsRunnableAnswer by c.args.text.now) (sym is) (c.in_ok-code.ensures.ok by)) c.report_of_code.ensures.ok
+
+pub returns-clause-refused : goal.returns-clause-refused
+returns-clause-refused c =
+    let by = code_answer c.args.schedule.now in
+    if_err c.report_of_code.result _ _
+    (if_refused _ _ (λ refusal is. subst (IsRunnableAnswer by c.args.text.now) (sym is) (c.in_ok-code.ensures.ok by))) c.report_of_code.ensures.refused

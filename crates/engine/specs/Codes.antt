@@ -1,0 +1,24 @@
+-- What the commands on a code answer, by the text: it is read as a code, or it has a fault.
+use Rattle.std.specs.Prelude.{◌≡◌, ℕ, List, Result, Ok, Err}
+use Rattle.code_text.specs.CodeText.{Reading}
+use Rattle.tick_play.specs.Report.{code_report}
+use Rattle.tick_play.specs.Schedule.{schedule_of}
+use Rattle.verified_code.specs.Instructions.{StepCode}
+use Rattle.verified_code.specs.declared.fault.CodeFault.{CodeFault}
+use Rattle.engine.specs.Answer.{Answer, scheduled, stopped}
+use Rattle.engine.specs.Stop.{code_stop}
+
+-- `by` answers a code, and a fault is told
+abbrev pub reading_answer : (StepCode → Answer) → Result StepCode CodeFault → Answer
+reading_answer by (Ok c) = by c
+reading_answer by (Err fault) = stopped (code_stop fault)
+
+-- the text is read so, and this is the answer
+pub record IsCodeAnswer (by : StepCode → Answer) (text : List ℕ) (a : Answer) : Type 0 where
+  pub reading : Result StepCode CodeFault
+  pub reads : Reading text reading
+  pub answers : a ≡ reading_answer by reading
+
+-- `code` with the text of a schedule
+abbrev pub code_answer : List ℕ → StepCode → Answer
+code_answer schedule c = scheduled (code_report c) (schedule_of c.sizes.processes schedule)

@@ -1,0 +1,21 @@
+-- What `drop` and `lift` answer on the code of a program: a schedule in one line.
+use Rattle.std.specs.Prelude.{ℕ, List, ◌++◌}
+use Rattle.tick_play.specs.Schedule.{schedule_of}
+use Rattle.tick_play.specs.Written.{schedule_text}
+use Rattle.tick_sim.specs.Maps.{down, up}
+use Rattle.verified_code.specs.Instructions.{StepCode}
+use Rattle.engine.specs.Answer.{Answer, scheduled}
+use Rattle.engine.specs.Refusal.{line_feed}
+
+abbrev pub schedule_line : List ℕ → List ℕ
+schedule_line steps = schedule_text steps ++ line_feed
+
+-- `drop` with the text of a schedule of the code
+abbrev pub project_answer : List ℕ → StepCode → Answer
+project_answer schedule c =
+    scheduled (λ steps. schedule_line (down c.sizes c.instructions steps)) (schedule_of c.sizes.processes schedule)
+
+-- `lift` with the text of a schedule of the program
+abbrev pub expand_answer : List ℕ → StepCode → Answer
+expand_answer schedule c =
+    scheduled (λ steps. schedule_line (up c.sizes c.instructions steps)) (schedule_of c.sizes.processes schedule)

@@ -1,0 +1,75 @@
+//! The commands on a code and on the code of a program, each as the text that it answers.
+ghost use Rattle.std.specs.Prelude.{◌≡◌, IfErr, IfOk, string_bytes};
+ghost use Rattle.verified_code.specs.Instructions.{StepCode};
+ghost use Rattle.engine.specs.Answer.{Answer, done, refused};
+ghost use Rattle.engine.specs.Codes.{code_answer};
+ghost use Rattle.engine.specs.Lowered.{IsRunnableAnswer, begins_as_code, code_of, emit_answer, lowered_answer};
+ghost use Rattle.engine.specs.Programs.{IsTextAnswer};
+ghost use Rattle.engine.specs.prover.Replies.{IfRefused};
+
+use crate::codes::report_of_code;
+use crate::program::program_of;
+use crate::stop::Stop;
+use code_text::{read_code, write_code};
+use std::alloc::Global;
+use tick_kinds::Program;
+use tick_lower::lower;
+use verified_code::Code;
+
+/// The text of the code that an accepted program becomes.
+pub fn emit_text(alloc: Global, text: &str) -> Result<String, Stop>
+    ensures ok { IfOk result (λ answer. IsTextAnswer (lowered_answer emit_answer) text.now (done (string_bytes answer))) }
+    ensures refused { IfErr result (λ stop. IfRefused stop (λ refusal. IsTextAnswer (lowered_answer emit_answer) text.now (refused refusal))) }
+{
+    let code = lowered_code(alloc, text)?;
+    let emitted = write_code(alloc, &code)?;
+    Ok(emitted)
+}
+
+/// The report of the run of a code, or of the code of a program, under the schedule that a text spells.
+pub fn code_report(alloc: Global, text: &str, schedule: &str) -> Result<String, Stop>
+    ensures ok { IfOk result (λ answer. IsRunnableAnswer (code_answer schedule.now) text.now (done (string_bytes answer))) }
+    ensures refused { IfErr result (λ stop. IfRefused stop (λ refusal. IsRunnableAnswer (code_answer schedule.now) text.now (refused refusal))) }
+{
+    let code = runnable_code(alloc, text)?;
+    report_of_code(alloc, &code, schedule)
+}
+
+// The code that a text is, or the code of the program that it is.
+fn runnable_code(alloc: Global, text: &str) -> Result<Code, Stop>
+    ensures ok { (by : StepCode → Answer) → IfOk result (λ code. IsRunnableAnswer by text.now (by code)) }
+    ensures refused { (by : StepCode → Answer) → IfErr result (λ stop. IfRefused stop (λ refusal. IsRunnableAnswer by text.now (refused refusal))) }
+{
+    if is_code(text) {
+        let code = read_code(alloc, text)?;
+        Ok(code)
+    } else {
+        lowered_code(alloc, text)
+    }
+}
+
+fn is_code(text: &str) -> bool
+    ensures { result ≡ begins_as_code text.now }
+{
+    text.as_bytes().starts_with(b"tickcode ")
+}
+
+// The code of the accepted program that a text is.
+fn lowered_code(alloc: Global, text: &str) -> Result<Code, Stop>
+    ensures ok { (by : StepCode → Answer) → IfOk result (λ code. IsTextAnswer (lowered_answer by) text.now (by code)) }
+    ensures refused { (by : StepCode → Answer) → IfErr result (λ stop. IfRefused stop (λ refusal. IsTextAnswer (lowered_answer by) text.now (refused refusal))) }
+{
+    let (_program, code) = lowering_of(alloc, text)?;
+    Ok(code)
+}
+
+/// The accepted program that a text is, with its code.
+pub fn lowering_of(alloc: Global, text: &str) -> Result<(Program, Code), Stop>
+    ensures code { IfOk result (λ both. both.1 ≡ code_of both.0) }
+    ensures ok { (by : StepCode → Answer) → IfOk result (λ both. IsTextAnswer (lowered_answer by) text.now (by both.1)) }
+    ensures refused { (by : StepCode → Answer) → IfErr result (λ stop. IfRefused stop (λ refusal. IsTextAnswer (lowered_answer by) text.now (refused refusal))) }
+{
+    let program = program_of(alloc, text)?;
+    let code = lower(alloc, &program)?;
+    Ok((program, code))
+}
