@@ -81,10 +81,17 @@ const QUEUE: &[u8] =
     b"processes 2; var x; scan s; begin stamp; s = scan; x = older s 0 1; out x; end";
 
 // Each command, with an input that it answers.
-const COMMANDS: [(&[&str], &[u8]); 3] = [
+const COMMANDS: [(&[&str], &[u8]); 7] = [
     (&["ticketc", "order", "3"], b"0 1 2"),
     (&["ticketc", "check"], QUEUE),
+    (&["ticketc", "emit"], QUEUE),
     (&["ticketc", "source", "0*5 1*5"], QUEUE),
+    (
+        &["ticketc", "code", "0*2"],
+        b"tickcode 1 1 0 0 0\nPush 7\nOut\nHalt\n",
+    ),
+    (&["ticketc", "lift", "0*5 1*5"], QUEUE),
+    (&["ticketc", "drop", "0*3 1*3"], QUEUE),
 ];
 
 // A read that failed is the last one, and nothing is written.
@@ -130,7 +137,7 @@ fn refused_words_read_nothing(rt: HostRuntime) -> Result<(), Fail> {
         (&["ticketc"], 2),
         (&["ticketc", "order", "7"], 1),
         (&["ticketc", "order", "+3"], 2),
-        (&["ticketc", "emit"], 2),
+        (&["ticketc", "run", "5"], 2),
     ];
     for (words, status) in lines {
         let mut reader = Input::new(QUEUE, 1000, Disturbance::Failed(1));

@@ -7,11 +7,15 @@
 #[cfg(test)]
 mod answering;
 #[cfg(test)]
+mod codes;
+#[cfg(test)]
 mod disturbed;
 #[cfg(test)]
 mod ends;
 #[cfg(test)]
 mod large;
+#[cfg(test)]
+mod lowered;
 #[cfg(test)]
 mod orders;
 #[cfg(test)]

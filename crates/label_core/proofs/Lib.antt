@@ -5,4 +5,5 @@ pub mod Greatest
 pub mod Offered
 pub mod Reaching
 pub mod Scanning
+pub mod Sharing
 pub mod Turning

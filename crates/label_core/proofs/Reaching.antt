@@ -5,7 +5,13 @@ use Rattle.std.proofs.lemmas.List.{take_more}
 use Rattle.std.specs.Prelude.{count_by, slice_index}
 use Rattle.std.proofs.lemmas.Bool.{cond-true, cond-false, le-leb, lt-leb}
 use Rattle.std.proofs.lemmas.List.Sums.{sum_by-cons}
-use Rattle.label_core.specs.Labels.{sharing, choice, next_digit, begins}
+use Rattle.label_core.specs.Labels.{sharing, choice, next_digit}
+
+-- whether a label begins with these digits
+abbrev pub begins : List ℕ → List ℕ → Bool
+begins [] label = true
+begins (digit ∷ digits) [] = false
+begins (digit ∷ digits) (first ∷ rest) = (eqb first digit) && begins digits rest
 
 -- what follows these digits in the labels that begin with them
 abbrev pub reach : List ℕ → List (List ℕ) → List (List ℕ)

@@ -1,6 +1,6 @@
 -- Labels as lists of digits 0, 1, 2, the outermost cycle first; which of two dominates; which one
 -- a process takes next.
-use Rattle.std.specs.Prelude.{◌≡◌, ℕ, ◌+◌, ◌-◌, ◌%◌, ◌<◌, ◌≤◌, ◌==◌, nat_le, Bool, true, false, ◌&&◌, ◌||◌, if◌then◌else◌, Option, None, Some, List, [], ◌∷◌, length, map, replicate, All, Contains, find, count_by}
+use Rattle.std.specs.Prelude.{◌≡◌, ℕ, suc, ◌+◌, ◌-◌, ◌%◌, ◌<◌, ◌≤◌, ◌==◌, nat_le, Bool, true, false, ◌&&◌, ◌||◌, if◌then◌else◌, Option, None, Some, List, [], ◌∷◌, length, map, replicate, All, Contains, find, count_by}
 use Rattle.std.specs.List.{list_all}
 
 -- a label of `digits` digits, each below 3
@@ -97,8 +97,8 @@ pub record AreDigits (digits : List ℕ) : Type 0 where
 abbrev pub AreAlike : List (List ℕ) → Type 0
 AreAlike labels = (digits : ℕ) × All (IsLabel digits) labels
 
--- whether a label begins with these digits
-abbrev pub begins : List ℕ → List ℕ → Bool
-begins [] label = true
-begins (digit ∷ digits) [] = false
-begins (digit ∷ digits) (first ∷ rest) = (first == digit) && begins digits rest
+-- with how many of the first label's digits the second begins
+abbrev pub digits_shared : List ℕ → List ℕ → ℕ
+digits_shared [] label = 0
+digits_shared (digit ∷ digits) [] = 0
+digits_shared (digit ∷ digits) (first ∷ rest) = if first == digit then suc (digits_shared digits rest) else 0

@@ -1,7 +1,7 @@
-ghost use Rattle.std.specs.Prelude.{◌≡◌, ◌+◌, ◌-◌, ◌<◌, ◌≤◌, ℕ, List, true, length, take, count_by, All};
-ghost use Rattle.label_core.specs.Labels.{IsLabel, AreAlike, HasGreatest, CanChoose, dominates, begins, greatest, choice, next};
+ghost use Rattle.std.specs.Prelude.{◌≡◌, ◌-◌, ◌<◌, ◌≤◌, ◌++◌, ℕ, nat_le, true, length, map, replicate, count_by, All};
+ghost use Rattle.label_core.specs.Labels.{IsLabel, AreAlike, HasGreatest, CanChoose, dominates, digits_shared, greatest, choice, next};
 
-use crate::digits::Label;
+use crate::digits::{Label, MOST_DIGITS};
 
 /// The label that one of `n` processes takes next, beside the labels of others: at most n - 1 of
 /// them, each of n - 1 digits, and one of them greatest where there are any. It dominates each of
@@ -38,36 +38,49 @@ fn greatest(labels: &[Label]) -> Option<Label>
 
 // The digits of the greatest label, as long as few enough of the labels share them.
 fn choice(top: &Label, labels: &[Label]) -> Label
+    requires { length labels.now ≤ 5 }
     ensures { result ≡ choice top.now labels.now }
 {
     let len = top.len();
+    let shared = shared_with(top, labels);
     for at in 0..len {
-        if count_beginning(top, at + 1, labels) > len - (at + 1) {
+        if count_sharing(&shared, at + 1) > len - (at + 1) {
             return top.turned(at);
         }
     }
     *top
 }
 
-// How many of the labels begin with the first `count` digits of `top`.
-fn count_beginning(top: &Label, count: usize, labels: &[Label]) -> usize
-    requires { count ≤ length top.now }
-    ensures { result ≡ count_by (begins (take count top.now)) labels.now }
+// With how many digits of `top` each of the labels begins, and 0 past the last label.
+fn shared_with(top: &Label, labels: &[Label]) -> [usize; MOST_DIGITS]
+    requires { length labels.now ≤ 5 }
+    ensures { result ≡ map (digits_shared top.now) labels.now ++ replicate (5 - length labels.now) 0 }
 {
-    let digits = &top.held()[..count];
-    labels
-        .iter()
-        .filter(|label| begins(digits, label.held()))
-        .count()
+    let mut shared = [0; MOST_DIGITS];
+    for (place, label) in labels.iter().enumerate() {
+        shared[place] = digits_shared(top.held(), label.held());
+    }
+    shared
 }
 
-fn begins(digits: &[u8], label: &[u8]) -> bool
-    ensures { result ≡ begins digits.now label.now }
+fn digits_shared(digits: &[u8], label: &[u8]) -> usize
+    ensures { result ≡ digits_shared digits.now label.now }
 {
     for (at, &digit) in digits.iter().enumerate() {
         if at >= label.len() || label[at] != digit {
-            return false;
+            return at;
         }
     }
-    true
+    digits.len()
+}
+
+// How many of the numbers are at least `count`.
+fn count_sharing(shared: &[usize], count: usize) -> usize
+    ensures { result ≡ count_by (nat_le count) shared.now }
+{
+    let mut sharing = 0;
+    for &digits in shared {
+        sharing += usize::from(count <= digits);
+    }
+    sharing
 }

@@ -26,5 +26,9 @@ pub fn count_dominated(label: &Label, labels: &[Label]) -> u8
     requires alike { All (λ other. length label.now ≡ length other) labels.now }
     ensures { result ≡ dominated labels.now label.now }
 {
-    labels.iter().filter(|other| label.dominates(other)).count() as u8
+    let mut count = 0;
+    for other in labels {
+        count += u8::from(label.dominates(other));
+    }
+    count
 }

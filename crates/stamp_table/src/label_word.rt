@@ -65,5 +65,5 @@ pub fn found_word(n: u8, bits: u64) -> LabelWord
     requires word { (labels : List (List ℕ)) × IsWordOf n bits labels }
     ensures { IsWordOf n bits result }
 {
-    LabelWord::read(n, bits).unwrap()
+    LabelWord::from_bits(n, bits)
 }

@@ -15,6 +15,7 @@ mod shared;
 mod stack;
 
 pub use ask::{Advance, Ask, Reply};
+pub use code_text::{read_code, write_code};
 pub use machine::{CodeMachine, run};
 pub use machine_core::{Act, Event, NoMemory, Op, Outcome, Status, Trap};
 pub use proc::Proc;

@@ -52,11 +52,12 @@ impl<'a> CodeMachine<'a> {
             };
             processes.push(process)?;
         }
+        let events = Vec::with_capacity(alloc, 1)?;
         Ok(CodeMachine {
             code,
             shared,
             processes,
-            events: Vec::new(alloc),
+            events,
         })
     }
 
@@ -191,6 +192,17 @@ fn step_one(
     }
     if let Some(event) = make(code, shared, process, p) {
         events.push_reserved(event);
+        make_room(events);
     }
     Ok(())
+}
+
+// Takes room for the next event where there is none. With it no step has to find out first whether
+// it gives an event; where memory is refused now, the step that gives the next one asks again.
+fn make_room(events: &mut Vec<Event>)
+    ensures { events.new.items ≡ events.old.items }
+{
+    if events.len() == events.capacity() {
+        let _ = events.reserve(1);
+    }
 }

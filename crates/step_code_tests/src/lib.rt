@@ -3,7 +3,11 @@
 #![tactic(auto)]
 
 #[cfg(test)]
+mod answers;
+#[cfg(test)]
 mod codes;
+#[cfg(test)]
+mod large;
 #[cfg(test)]
 mod machine;
 #[cfg(test)]

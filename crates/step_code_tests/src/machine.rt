@@ -1,6 +1,7 @@
-use crate::codes::{GIVES_SEVEN, STAMPS_AND_COMPARES, code_of};
+use crate::answers::{machine_of, outcome_of, step};
+use crate::codes::{GIVES_SEVEN, STAMPS_AND_COMPARES, WRITES_AND_TRAPS, code_of};
 use std::test::Fail;
-use step_code::{Act, CodeMachine, Event, Instr, Op, Status, Trap, run};
+use step_code::{Act, Event, Instr, Op, Status, Trap};
 
 fn event(process: u8, act: Act) -> Event {
     Event { process, act }
@@ -10,15 +11,15 @@ fn event(process: u8, act: Act) -> Event {
 fn steps_one_by_one(rt: HostRuntime) -> Result<(), Fail> {
     let code = code_of(rt.alloc(), (1, 0, 0, 0), &GIVES_SEVEN)?;
     assert_eq!(rt; code.sizes().processes(), 1);
-    let mut machine = CodeMachine::new(rt.alloc(), &code)?;
-    machine.step(0)?;
+    let mut machine = machine_of(rt.alloc(), &code)?;
+    step(&mut machine, 0)?;
     assert_eq!(rt; machine.events().len(), 0);
     assert_eq!(rt; machine.place(0), 1);
-    machine.step(0)?;
+    step(&mut machine, 0)?;
     assert_eq!(rt; machine.events(), [event(0, Act::Out(7))].as_slice());
     assert_eq!(rt; machine.status(0), Status::Running);
-    machine.step(0)?;
-    machine.step(0)?;
+    step(&mut machine, 0)?;
+    step(&mut machine, 0)?;
     assert_eq!(rt; machine.status(0), Status::Ended);
     assert_eq!(rt; machine.place(0), 2);
     assert_eq!(rt; machine.events().len(), 2);
@@ -27,10 +28,23 @@ fn steps_one_by_one(rt: HostRuntime) -> Result<(), Fail> {
 }
 
 #[test]
+fn gives_seven(rt: HostRuntime) -> Result<(), Fail> {
+    let code = code_of(rt.alloc(), (1, 0, 0, 0), &GIVES_SEVEN)?;
+    assert_eq!(rt; code.sizes().processes(), 1);
+    let outcome = outcome_of(rt.alloc(), &code, &[0, 0])?;
+    assert_eq!(rt;
+        outcome.events.as_slice(),
+        [event(0, Act::Out(7))].as_slice()
+    );
+    assert_eq!(rt; outcome.statuses.as_slice(), [Status::Running].as_slice());
+    Ok(())
+}
+
+#[test]
 fn runs_one_after_the_other(rt: HostRuntime) -> Result<(), Fail> {
     let code = code_of(rt.alloc(), (2, 1, 1, 0), &STAMPS_AND_COMPARES)?;
     assert_eq!(rt; code.sizes().processes(), 2);
-    let outcome = run(
+    let outcome = outcome_of(
         rt.alloc(),
         &code,
         &[0, 0, 0, 0, 0, 0, 0, 0, 0, 0, 1, 1, 1, 1, 1, 1, 1, 1, 1, 1],
@@ -60,7 +74,7 @@ fn runs_one_after_the_other(rt: HostRuntime) -> Result<(), Fail> {
 fn loses_an_exchange(rt: HostRuntime) -> Result<(), Fail> {
     let code = code_of(rt.alloc(), (2, 1, 1, 0), &STAMPS_AND_COMPARES)?;
     assert_eq!(rt; code.sizes().processes(), 2);
-    let outcome = run(rt.alloc(), &code, &[0, 1, 0, 1, 0, 1, 1, 1, 1])?;
+    let outcome = outcome_of(rt.alloc(), &code, &[0, 1, 0, 1, 0, 1, 1, 1, 1])?;
     let expected = [event(0, Act::Stamp), event(1, Act::Stamp)];
     assert_eq!(rt; outcome.events.as_slice(), expected.as_slice());
     assert_eq!(rt;
@@ -72,30 +86,9 @@ fn loses_an_exchange(rt: HostRuntime) -> Result<(), Fail> {
 
 #[test]
 fn writes_copies_and_traps(rt: HostRuntime) -> Result<(), Fail> {
-    let instructions = [
-        Instr::Me,
-        Instr::Count,
-        Instr::Bin(Op::Add),
-        Instr::Put(0),
-        Instr::Scan(0),
-        Instr::Copy(0, 1),
-        Instr::Push(1),
-        Instr::Get(0, 0),
-        Instr::Push(1),
-        Instr::Store(1),
-        Instr::Push(0),
-        Instr::JumpZero(13),
-        Instr::Jump(14),
-        Instr::Jump(14),
-        Instr::Push(0),
-        Instr::Push(1),
-        Instr::Bin(Op::Sub),
-        Instr::Out,
-        Instr::Halt,
-    ];
-    let code = code_of(rt.alloc(), (2, 2, 2, 1), &instructions)?;
+    let code = code_of(rt.alloc(), (2, 2, 2, 1), &WRITES_AND_TRAPS)?;
     assert_eq!(rt; code.sizes().processes(), 2);
-    let outcome = run(
+    let outcome = outcome_of(
         rt.alloc(),
         &code,
         &[1, 1, 1, 1, 1, 1, 1, 1, 1, 1, 1, 1, 1, 1, 1, 1, 1, 1],
@@ -113,5 +106,87 @@ fn writes_copies_and_traps(rt: HostRuntime) -> Result<(), Fail> {
     );
     assert_eq!(rt; outcome.registers.len(), 1);
     assert_eq!(rt; outcome.registers[0].as_slice(), [0, 3].as_slice());
+    Ok(())
+}
+
+// What traps within three steps, where there is one process, and its trap.
+const TRAPS: [([Instr; 5], Trap); 6] = [
+    (
+        [
+            Instr::Push(4294967295),
+            Instr::Push(1),
+            Instr::Bin(Op::Add),
+            Instr::Out,
+            Instr::Halt,
+        ],
+        Trap::Overflow,
+    ),
+    (
+        [
+            Instr::Push(1),
+            Instr::Push(0),
+            Instr::Bin(Op::Div),
+            Instr::Out,
+            Instr::Halt,
+        ],
+        Trap::Zero,
+    ),
+    (
+        [
+            Instr::Push(0),
+            Instr::Push(1),
+            Instr::Bin(Op::Sub),
+            Instr::Out,
+            Instr::Halt,
+        ],
+        Trap::Below,
+    ),
+    (
+        [
+            Instr::Push(0),
+            Instr::Push(1),
+            Instr::Older(0, 0),
+            Instr::Scan(0),
+            Instr::Halt,
+        ],
+        Trap::Index,
+    ),
+    (
+        [
+            Instr::Push(1),
+            Instr::Push(0),
+            Instr::Older(0, 0),
+            Instr::Scan(0),
+            Instr::Halt,
+        ],
+        Trap::Index,
+    ),
+    (
+        [
+            Instr::Push(1),
+            Instr::Get(0, 0),
+            Instr::Scan(0),
+            Instr::Scan(0),
+            Instr::Halt,
+        ],
+        Trap::Index,
+    ),
+];
+
+#[test]
+fn stops_at_each_trap(rt: HostRuntime) -> Result<(), Fail> {
+    for (instructions, trap) in TRAPS {
+        let code = code_of(rt.alloc(), (1, 1, 1, 1), &instructions)?;
+        assert_eq!(rt; code.sizes().processes(), 1);
+        let outcome = outcome_of(rt.alloc(), &code, &[0, 0, 0])?;
+        assert_eq!(rt;
+            outcome.events.as_slice(),
+            [event(0, Act::Trap(trap))].as_slice()
+        );
+        assert_eq!(rt;
+            outcome.statuses.as_slice(),
+            [Status::Trapped(trap)].as_slice()
+        );
+    }
     Ok(())
 }

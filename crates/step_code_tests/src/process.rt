@@ -1,12 +1,13 @@
+use crate::answers::process_of;
 use crate::codes::{GIVES_SEVEN, code_of};
 use std::test::Fail;
-use step_code::{Act, Advance, Ask, Event, Instr, Proc, Reply};
+use step_code::{Act, Advance, Ask, Event, Instr, Reply};
 
 #[test]
 fn gives_seven(rt: HostRuntime) -> Result<(), Fail> {
     let code = code_of(rt.alloc(), (1, 0, 0, 0), &GIVES_SEVEN)?;
     assert_eq!(rt; code.sizes().processes(), 1);
-    let mut process = Proc::new(rt.alloc(), &code, 0)?;
+    let mut process = process_of(rt.alloc(), &code, 0)?;
     assert!(rt; !process.will_out(&code));
     assert_eq!(rt; process.advance(&code), Advance::Silent);
     assert!(rt; process.will_out(&code));
@@ -32,7 +33,7 @@ fn asks_until_it_is_answered(rt: HostRuntime) -> Result<(), Fail> {
         &[Instr::Me, Instr::Put(0), Instr::Halt],
     )?;
     assert_eq!(rt; code.sizes().processes(), 3);
-    let mut process = Proc::new(rt.alloc(), &code, 2)?;
+    let mut process = process_of(rt.alloc(), &code, 2)?;
     assert_eq!(rt; process.advance(&code), Advance::Silent);
     assert_eq!(rt; process.advance(&code), Advance::Ask(Ask::Put(0, 2)));
     assert_eq!(rt; process.advance(&code), Advance::Ask(Ask::Put(0, 2)));

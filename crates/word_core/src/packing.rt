@@ -1,4 +1,4 @@
-ghost use Rattle.std.specs.Prelude.{◌≡◌, ◌↔◌, ◌+◌, ◌-◌, ◌*◌, ◌^◌, ◌<◌, ◌≤◌, ◌++◌, replicate, All, IsSome, IfSome, IsTrue};
+ghost use Rattle.std.specs.Prelude.{◌≡◌, ◌↔◌, ◌+◌, ◌-◌, ◌*◌, ◌/◌, ◌%◌, ◌^◌, ◌<◌, ◌≤◌, ◌++◌, replicate, All, IsSome, IfSome, IsTrue};
 ghost use Rattle.label_core.specs.Labels.{IsLabel};
 ghost use Rattle.word_core.specs.Packed.{field};
 ghost use Rattle.word_core.specs.prover.Packing.{digits_in, label_in, labels_in, word_end, field_set};
@@ -8,16 +8,40 @@ use label_core::{Label, MOST_DIGITS};
 /// The name of the layout that is told here, as texts give it.
 pub const LAYOUT: &str = "layout 1";
 
-// The lowest `count` pairs of bits, the highest first, and 0 past them.
+// The pair of bits that has so many below it.
+fn pair(bits: u64, below: u32) -> u8
+    requires { below < 5 }
+    ensures { result ≡ (bits / 2 ^ (2 * below)) % 4 }
+{
+    ((bits >> (2 * below)) % 4) as u8
+}
+
+// The lowest `count` pairs of bits, the highest first, and 0 past them. All that is done with labels
+// reads digits here, so they are written out: a loop takes twice the time.
 fn digits_of(bits: u64, count: usize) -> [u8; MOST_DIGITS]
     requires { count ≤ 5 }
     ensures { result ≡ digits_in count bits ++ replicate (5 - count) 0 }
 {
-    let mut digits = [0; MOST_DIGITS];
-    for at in 0..count {
-        digits[at] = ((bits >> (2 * (count - (at + 1)))) % 4) as u8;
+    match count {
+        0 => [0; MOST_DIGITS],
+        1 => [pair(bits, 0), 0, 0, 0, 0],
+        2 => [pair(bits, 1), pair(bits, 0), 0, 0, 0],
+        3 => [pair(bits, 2), pair(bits, 1), pair(bits, 0), 0, 0],
+        4 => [
+            pair(bits, 3),
+            pair(bits, 2),
+            pair(bits, 1),
+            pair(bits, 0),
+            0,
+        ],
+        _ => [
+            pair(bits, 4),
+            pair(bits, 3),
+            pair(bits, 2),
+            pair(bits, 1),
+            pair(bits, 0),
+        ],
     }
-    digits
 }
 
 /// Whether no bit is set past the fields of `n` labels.

@@ -71,6 +71,18 @@ impl LabelWord {
         Some(LabelWord::of_bits(n, bits))
     }
 
+    /// The word of `n` processes with these bits, which the caller knows to be a word: nothing is
+    /// tested. `read` is for bits of which nothing is known.
+    #[tactic(auto, using(crate::proofs::Views::is_word, crate::proofs::Views::word_small, crate::proofs::Views::word_each))]
+    pub fn from_bits(n: u8, bits: u64) -> LabelWord
+        requires at_least_one { 1 ≤ n }
+        requires at_most_six { n ≤ 6 }
+        requires word { (labels : List (List ℕ)) × IsWordOf n bits labels }
+        ensures { IsWordOf n bits result }
+    {
+        LabelWord::of_bits(n, bits)
+    }
+
     /// The number of processes, 1 to 6.
     #[tactic(auto, using(crate::proofs::Views::count_in, crate::proofs::Views::are_in))]
     pub fn n(&self) -> u8

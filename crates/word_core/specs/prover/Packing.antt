@@ -1,7 +1,7 @@
 -- What the packing code reads and writes, and that labels and the word that packs them tell each
 -- other.
 use Rattle.std.proofs.Common.{◌≡◌, ℕ, suc, zero, ◌+◌, ◌-◌, ◌*◌, ◌/◌, ◌%◌, ◌^◌, ◌<◌, List, [], ◌∷◌, length, refl, sym, ap, ◌∙◌, subst, arith}
-use Rattle.std.specs.Prelude.{All, slice_index}
+use Rattle.std.specs.Prelude.{All}
 use Rattle.std.proofs.lemmas.Nat.{pow-add, shr-shr, shr_split, shr_high, shr_below, mod_low, mod-pow-add, mul-add-lt}
 use Rattle.std.proofs.lemmas.List.Elements.{All-head, All-tail}
 use Rattle.label_core.specs.Labels.{IsLabel}
@@ -140,10 +140,3 @@ label_at-labels_in (suc n) m bits (suc i) inside =
     let wide : 2 * m + 2 * (m * i) ≡ 2 * (m * suc i) = omega arith in
     label_at-labels_in n m (bits / 2 ^ (2 * m)) i (omega arith)
     ∙ ap (digits_in m) (shr-shr bits (2 * m) (2 * (m * i)) ∙ ap (λ e. bits / 2 ^ e) wide)
-
-pub digit_at-digits_in : (m bits i : ℕ) → i < m → slice_index (digits_in m bits) i ≡ (bits / 2 ^ (2 * (m - (i + 1)))) % 4
-digit_at-digits_in zero bits i inside = absurd (omega arith)
-digit_at-digits_in (suc m) bits zero inside = let all : m ≡ suc m - (0 + 1) = omega arith in ap (λ k. (bits / 2 ^ (2 * k)) % 4) all
-digit_at-digits_in (suc m) bits (suc i) inside =
-    let same : m - (i + 1) ≡ suc m - (suc i + 1) = omega arith in
-    digit_at-digits_in m bits i (omega arith) ∙ ap (λ k. (bits / 2 ^ (2 * k)) % 4) same

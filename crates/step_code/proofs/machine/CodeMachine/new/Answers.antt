@@ -31,4 +31,4 @@ returns-clause-start c =
     let rows = c.in_ok-shared.ensures.rows ∙ ap (λ sizes. start_rows sizes.rows sizes.processes) c.sizes-sizes.ensures.sizes in
     let processes =
     processes_new code c.loop-p.p c.loop-p.processes.items c.loop-p.invariant ∙ ap (λ k. replicate k (start_process code.sizes)) all in
-    λ i. record { labels = labels i; rows = rows i; processes = processes i; events = c.new-2.ensures.items i }
+    λ i. record { labels = labels i; rows = rows i; processes = processes i; events = c.in_ok-events.ensures.items i }

@@ -1,0 +1,65 @@
+use crate::answers::{read, sizes_of, verified, written};
+use std::alloc::{AllocError, Global};
+use std::test::Fail;
+use verified_code::CodeFault::{BadJump, BadLine, FallsOff, TooLong};
+use verified_code::Instr::{Halt, Jump, Push};
+use verified_code::{CodeFault, Instr};
+
+// So many of an instruction, and what is answered of them: the greatest height, or a fault.
+const REPEATED: [(Instr, usize, Result<u16, CodeFault>); 6] = [
+    (Halt, 65535, Ok(0)),
+    (Halt, 65536, Err(TooLong)),
+    (Push(1), 65535, Err(FallsOff(65534))),
+    (Push(1), 65536, Err(TooLong)),
+    (Jump(65534), 65535, Ok(0)),
+    (Jump(65535), 65535, Err(BadJump(0))),
+];
+
+#[test]
+fn longest_codes(rt: HostRuntime) -> Result<(), Fail> {
+    let sizes = sizes_of((1, 0, 0, 0))?;
+    for (instruction, count, answer) in REPEATED {
+        let given = vec![in rt.alloc(); instruction; count]?;
+        let (length, found) = match verified(rt.alloc(), given, sizes) {
+            Ok(code) => (code.len(), Ok(code.height())),
+            Err((back, fault)) => (back.len(), Err(fault)),
+        };
+        assert_eq!(rt; (length, found), (count, answer), "{count} {instruction:?}");
+    }
+    Ok(())
+}
+
+// A line of sizes, a line so many times, and what follows.
+fn repeated(alloc: Global, line: &str, count: usize, back: &str) -> Result<String, AllocError> {
+    let mut text = String::from_str(alloc, "tickcode 1 1 0 0 0\n")?;
+    for _ in 0..count {
+        text.push_str(line)?;
+    }
+    text.push_str(back)?;
+    Ok(text)
+}
+
+// A line, how often it stands in the text, what follows, and the length of the code or its fault.
+const TEXTS: [(&str, usize, &str, Result<usize, CodeFault>); 6] = [
+    ("Push 4294967295\n", 62000, "Halt\n", Ok(62001)),
+    ("Push 4294967295\n", 62000, "Halt", Err(BadLine(62002))),
+    ("Push 4294967295\n", 62000, "", Err(FallsOff(61999))),
+    ("Halt\n", 65534, "Halt\n", Ok(65535)),
+    ("Halt\n", 65535, "Halt\n", Err(TooLong)),
+    ("Halt\n", 65536, "halt\n", Err(BadLine(65538))),
+];
+
+#[test]
+fn longest_texts(rt: HostRuntime) -> Result<(), Fail> {
+    for (line, count, back, answer) in TEXTS {
+        let text = repeated(rt.alloc(), line, count, back)?;
+        match read(rt.alloc(), text.as_str()) {
+            Ok(code) => {
+                assert_eq!(rt; Ok(code.len()), answer);
+                assert!(rt; written(rt.alloc(), &code)?.as_str() == text.as_str());
+            }
+            Err(fault) => assert_eq!(rt; Err(fault), answer),
+        }
+    }
+    Ok(())
+}

@@ -1,0 +1,149 @@
+use crate::answers::{read, written};
+use machine_core::Op;
+use std::str;
+use std::test::Fail;
+use verified_code::CodeFault::BadLine;
+use verified_code::Instr;
+use verified_code::Instr::{
+    Bin, Copy, Count, Exchange, Get, Halt, Jump, JumpZero, Load, LoadWord, Me, Next, Older, Out,
+    Push, Put, Scan, Store,
+};
+
+// Each instruction and each operator, with numbers of one digit and more.
+const EVERY: &str = "tickcode 1 6 64 16 8
+LoadWord
+Next
+Exchange 0
+Scan 15
+Copy 15 7
+Push 4294967295
+Store 63
+Load 63
+Me
+Count
+Push 0
+Push 9
+Push 10
+Push 99
+Push 100
+Push 255
+Push 256
+Bin +
+Bin -
+Bin *
+Bin /
+Bin %
+Bin <
+Bin <=
+Bin ==
+Bin !=
+JumpZero 36
+Me
+Get 7 62
+Count
+Put 6
+Me
+Count
+Older 14 61
+Me
+Out
+Jump 37
+Halt
+";
+
+const INSTRUCTIONS: [Instr; 38] = [
+    LoadWord,
+    Next,
+    Exchange(0),
+    Scan(15),
+    Copy(15, 7),
+    Push(4294967295),
+    Store(63),
+    Load(63),
+    Me,
+    Count,
+    Push(0),
+    Push(9),
+    Push(10),
+    Push(99),
+    Push(100),
+    Push(255),
+    Push(256),
+    Bin(Op::Add),
+    Bin(Op::Sub),
+    Bin(Op::Mul),
+    Bin(Op::Div),
+    Bin(Op::Rem),
+    Bin(Op::Less),
+    Bin(Op::AtMost),
+    Bin(Op::Equal),
+    Bin(Op::Differs),
+    JumpZero(36),
+    Me,
+    Get(7, 62),
+    Count,
+    Put(6),
+    Me,
+    Count,
+    Older(14, 61),
+    Me,
+    Out,
+    Jump(37),
+    Halt,
+];
+
+const TEXTS: [&str; 5] = [
+    EVERY,
+    "tickcode 1 1 0 0 0\nHalt\n",
+    "tickcode 1 1 0 0 0\nPush 7\nOut\nHalt\n",
+    "tickcode 1 2 1 1 0\nLoadWord\nNext\nExchange 0\nScan 0\nPush 0\nPush 1\nOlder 0 0\nLoad 0\nOut\nHalt\n",
+    "tickcode 1 1 1 0 0\nLoad 0\nPush 2\nBin <\nJumpZero 9\nLoad 0\nPush 1\nBin +\nStore 0\nJump 0\nLoad 0\nOut\nHalt\n",
+];
+
+#[test]
+fn each_instruction(rt: HostRuntime) -> Result<(), Fail> {
+    let code = read(rt.alloc(), EVERY)?;
+    assert_eq!(rt; (code.len(), code.height()), (38, 10));
+    for (place, instruction) in INSTRUCTIONS.iter().enumerate() {
+        if place < code.len() {
+            assert_eq!(rt; code.instr(place as u16), *instruction, "at {place}");
+        }
+    }
+    let sizes = code.sizes();
+    assert_eq!(rt;
+        (
+            sizes.processes(),
+            sizes.variables(),
+            sizes.scans(),
+            sizes.registers()
+        ),
+        (6, 64, 16, 8)
+    );
+    Ok(())
+}
+
+#[test]
+fn writes_what_was_read(rt: HostRuntime) -> Result<(), Fail> {
+    for text in TEXTS {
+        let code = read(rt.alloc(), text)?;
+        assert_eq!(rt; written(rt.alloc(), &code)?.as_str(), text);
+    }
+    Ok(())
+}
+
+// Where a text is cut off inside a line, that line is bad.
+#[test]
+fn cut_off(rt: HostRuntime) -> Result<(), Fail> {
+    let bytes = EVERY.as_bytes();
+    let mut number: usize = 1;
+    for length in 0..bytes.len() {
+        let part = str::from_utf8(&bytes[..length])?;
+        let ends = part.ends_with('\n');
+        if ends {
+            number = number.saturating_add(1);
+        }
+        let is_bad = read(rt.alloc(), part).err() == Some(BadLine(number));
+        assert_eq!(rt; is_bad, !ends, "{length}");
+    }
+    Ok(())
+}

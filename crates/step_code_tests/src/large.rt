@@ -1,0 +1,101 @@
+//! The longest code, whose stack is as high as half of it.
+ghost use Rattle.std.specs.Prelude.{◌≡◌, ◌<◌, length};
+ghost use Rattle.step_code.specs.Process.{IsOf};
+
+use crate::answers::{machine_of, outcome_of, process_of, step};
+use crate::codes::code_of;
+use std::alloc::{AllocError, Global};
+use std::process::Abort;
+use std::test::Fail;
+use step_code::{
+    Act, Advance, Code, CodeMachine, Event, Instr, NoMemory, Op, Outcome, Proc, Status,
+};
+
+const DID: [Event; 2] = [
+    Event {
+        process: 0,
+        act: Act::Out(32767),
+    },
+    Event {
+        process: 0,
+        act: Act::End,
+    },
+];
+
+// Adds 1 so many times, once all of them stand on the stack: 65,535 instructions.
+fn adding(alloc: Global) -> Result<Vec<Instr>, AllocError> {
+    let mut instructions = Vec::new(alloc);
+    for _ in 0..32767 {
+        instructions.push(Instr::Push(1))?;
+    }
+    for _ in 0..32766 {
+        instructions.push(Instr::Bin(Op::Add))?;
+    }
+    instructions.push(Instr::Out)?;
+    instructions.push(Instr::Halt)?;
+    Ok(instructions)
+}
+
+fn step_often(machine: &mut CodeMachine<'_>, count: u32) -> Result<(), NoMemory>
+    requires { 0 < length machine.old.state.processes }
+    ensures { 0 < length machine.new.state.processes }
+{
+    for _step in 0..count {
+        step(machine, 0)?;
+    }
+    Ok(())
+}
+
+#[test]
+fn steps(rt: HostRuntime) -> Result<(), Fail> {
+    let code = code_of(rt.alloc(), (1, 0, 0, 0), &adding(rt.alloc())?)?;
+    assert_eq!(rt; (code.sizes().processes(), code.len()), (1, 65535));
+    let mut machine = machine_of(rt.alloc(), &code)?;
+    step_often(&mut machine, 65535)?;
+    assert_eq!(rt; machine.events(), DID.as_slice());
+    assert_eq!(rt;
+        (machine.place(0), machine.status(0)),
+        (65534, Status::Ended)
+    );
+    Ok(())
+}
+
+// Runs process 0 alone.
+fn run_often(alloc: Global, code: &Code, count: usize) -> Result<Outcome, Fail>
+    requires { 0 < code.now.sizes.processes }
+{
+    let schedule = vec![in alloc; 0; count]?;
+    Ok(outcome_of(alloc, code, &schedule)?)
+}
+
+#[test]
+fn runs(rt: HostRuntime) -> Result<(), Fail> {
+    let code = code_of(rt.alloc(), (1, 0, 0, 0), &adding(rt.alloc())?)?;
+    assert_eq!(rt; code.sizes().processes(), 1);
+    let outcome = run_often(rt.alloc(), &code, 65535)?;
+    assert_eq!(rt; outcome.events.as_slice(), DID.as_slice());
+    assert_eq!(rt; outcome.statuses.as_slice(), [Status::Ended].as_slice());
+    Ok(())
+}
+
+fn advance_silently(rt: &impl Abort, process: &mut Proc, code: &Code, count: u32)
+    requires { IsOf code.now process.old }
+    ensures { IsOf code.now process.new }
+{
+    for _step in 0..count {
+        assert_eq!(rt; process.advance(code), Advance::Silent);
+    }
+}
+
+#[test]
+fn advances(rt: HostRuntime) -> Result<(), Fail> {
+    let code = code_of(rt.alloc(), (1, 0, 0, 0), &adding(rt.alloc())?)?;
+    assert_eq!(rt; (code.sizes().processes(), code.height()), (1, 32767));
+    let mut process = process_of(rt.alloc(), &code, 0)?;
+    advance_silently(&rt, &mut process, &code, 65533);
+    assert!(rt; process.will_out(&code));
+    assert_eq!(rt; process.advance(&code), Advance::Did(DID[0]));
+    assert_eq!(rt; process.advance(&code), Advance::Did(DID[1]));
+    assert_eq!(rt; process.advance(&code), Advance::Stopped);
+    Ok(())
+}

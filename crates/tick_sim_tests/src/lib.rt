@@ -1,0 +1,10 @@
+// Tests of the two maps between schedules, on programs and schedules as they are written. They stand in
+// a crate of their own, since a crate with tests is proved twice.
+#![tactic(auto)]
+
+#[cfg(test)]
+mod maps;
+#[cfg(test)]
+mod programs;
+#[cfg(test)]
+mod rounds;

@@ -1,0 +1,33 @@
+use std::alloc::Global;
+use std::test::Fail;
+use tick_kinds::{Program, check};
+use tick_lower::lower;
+use tick_play::{read_schedule, write_schedule};
+use tick_sim::{expand, project};
+use tick_syntax::parse;
+
+/// The program that a text is.
+pub fn accepted(alloc: Global, text: &str) -> Result<Program, Fail> {
+    match check(alloc, parse(alloc, text)?) {
+        Ok(program) => Ok(program),
+        Err((_tree, fault)) => Err(fault)?,
+    }
+}
+
+/// The schedule of its code that leads through a schedule of the program.
+pub fn lifted(alloc: Global, text: &str, schedule: &str) -> Result<String, Fail> {
+    let program = accepted(alloc, text)?;
+    let code = lower(alloc, &program)?;
+    let schedule = read_schedule(alloc, schedule, program.processes())?;
+    let steps = expand(alloc, &program, &code, &schedule)?;
+    Ok(write_schedule(alloc, &steps)?)
+}
+
+/// The schedule of the program that a schedule of its code stands for.
+pub fn dropped(alloc: Global, text: &str, schedule: &str) -> Result<String, Fail> {
+    let program = accepted(alloc, text)?;
+    let code = lower(alloc, &program)?;
+    let schedule = read_schedule(alloc, schedule, program.processes())?;
+    let steps = project(alloc, &program, &code, &schedule)?;
+    Ok(write_schedule(alloc, &steps)?)
+}
