@@ -10,11 +10,13 @@ const QUEUE: &[u8] =
 const COUNT: &[u8] = b"processes 1; var x; begin while (x < 2) { x = (x + 1); } out x; end";
 
 // Six stamps of the others bring the labels back that process 0 has loaded.
-const BACK: &[u8] = b"processes 3; scan s; begin if (me == 0) { stamp; stamp; s = scan; } else { stamp; stamp; stamp; stamp; stamp; } end";
+const BACK: &[u8] =
+    b"processes 3; scan s; begin if (me == 0) { stamp; stamp; s = scan; } else { stamp; stamp; stamp; stamp; stamp; } end";
 
 const UNTIL_BACK: &str = "0*7 1*7 2*7 1*3 0*2 2*3 1*3 2*3 1*3 2*3 1*3 0*2";
 
-const BACK_REPORT: &str = "0 stamp\n1 stamp\n2 stamp\n1 stamp\n2 stamp\n1 stamp\n2 stamp\n1 stamp\n2 stamp\n1 stamp\n0 stamp\n0 scan 2 1 0\nstatus 0 running\nstatus 1 running\nstatus 2 running\n";
+const BACK_REPORT: &str =
+    "0 stamp\n1 stamp\n2 stamp\n1 stamp\n2 stamp\n1 stamp\n2 stamp\n1 stamp\n2 stamp\n1 stamp\n0 stamp\n0 scan 2 1 0\nstatus 0 running\nstatus 1 running\nstatus 2 running\n";
 
 // A command, a schedule where it wants one, a program, the status and the answer.
 const ANSWERS: [(&[&str], &[u8], u8, &str); 19] = [
@@ -110,7 +112,10 @@ fn answers<R: AllocGlobal + Abort>(
     answer: &str,
 ) -> Result<(), Fail> {
     let (served, written) = answered(rt, words, program)?;
-    assert!(rt; served == Ok(status) && written.as_slice() == answer.as_bytes(), "{answer}");
+    assert!(rt;
+        served == Ok(status) && written.as_slice() == answer.as_bytes(),
+        "{answer}"
+    );
     Ok(())
 }
 
@@ -134,7 +139,13 @@ fn longest_code_of_a_program(rt: HostRuntime) -> Result<(), Fail> {
         32_767,
         "Halt\n",
     )?;
-    answers(&rt, &["ticketc", "emit"], program.as_bytes(), 0, code.as_str())?;
+    answers(
+        &rt,
+        &["ticketc", "emit"],
+        program.as_bytes(),
+        0,
+        code.as_str(),
+    )?;
     let program = repeated(rt.alloc(), FRONT, "out 1; ", 32_768, "end")?;
     let too_long: [&[&str]; 4] = [
         &["ticketc", "emit"],
@@ -147,5 +158,11 @@ fn longest_code_of_a_program(rt: HostRuntime) -> Result<(), Fail> {
     }
     // a fault of kinds is told first
     let program = repeated(rt.alloc(), FRONT, "out y; ", 32_768, "end")?;
-    answers(&rt, &["ticketc", "emit"], program.as_bytes(), 1, "refused 13 Unknown 23 24\n")
+    answers(
+        &rt,
+        &["ticketc", "emit"],
+        program.as_bytes(),
+        1,
+        "refused 13 Unknown 23 24\n",
+    )
 }

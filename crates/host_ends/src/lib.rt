@@ -9,10 +9,10 @@ mod host;
 #[cfg(test)]
 mod tests;
 
-pub use exit::exit_code;
-pub use host::{HostReader, HostWriter, transfer_of};
-
 use engine::{EngineFault, engine};
+pub use exit::exit_code;
+pub use host::transfer_of;
+use host::{HostReader, HostWriter};
 use std::process::ExitCode;
 
 /// The whole program: serves the words of the command line over standard input and output.

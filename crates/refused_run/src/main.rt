@@ -1,1 +1,0 @@
-../../ticketc/src/main.rt
