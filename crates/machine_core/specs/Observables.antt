@@ -4,6 +4,8 @@ use Rattle.machine_core.specs.declared.event.Act.{Act}
 use Rattle.machine_core.specs.declared.event.Event.{Event}
 use Rattle.machine_core.specs.declared.status.Status.{Status}
 use Rattle.machine_core.specs.declared.outcome.Outcome.{Outcome}
+use Rattle.machine_core.specs.declared.run_outcome.RunEnd.{RunEnd}
+use Rattle.machine_core.specs.declared.run_outcome.RunOutcome.{RunOutcome}
 
 -- The events in the order of their steps, the register rows, and for each process its status.
 pub record Observables : Type 0 where
@@ -14,6 +16,21 @@ pub record Observables : Type 0 where
 -- what an outcome holds
 abbrev pub observed : Outcome → Observables
 observed o = record { events = o.events.items; rows = map (λ row. row.items) o.registers.items; statuses = o.statuses.items }
+
+-- What a run on threads lets others see, where no order of all events is known: for each process the
+-- values that it gave out and how it came to its end, and the register rows.
+pub record RunObservables : Type 0 where
+  pub outputs : List (List ℕ)
+  pub ends : List RunEnd
+  pub rows : List (List ℕ)
+
+-- what the outcome of such a run holds
+abbrev pub run_observed : RunOutcome → RunObservables
+run_observed o = record {
+  outputs = map (λ values. values.items) o.outputs.items;
+  ends = o.ends.items;
+  rows = map (λ row. row.items) o.registers.items;
+}
 
 -- the events with that of a step of process `p`, where it has one
 abbrev pub told : ℕ → Option Act → List Event → List Event

@@ -11,6 +11,7 @@ mod operator;
 mod outcome;
 mod place;
 mod registers;
+mod run_outcome;
 mod status;
 
 pub use event::{Act, Event};
@@ -19,4 +20,5 @@ pub use operator::Op;
 pub use outcome::Outcome;
 pub use place::set_at;
 pub use registers::Registers;
+pub use run_outcome::{RunEnd, RunOutcome};
 pub use status::{Status, Trap};

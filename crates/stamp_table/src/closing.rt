@@ -4,7 +4,6 @@ ghost use Rattle.std.specs.Mem.Slots.{slots_items, slots_len, IsFull};
 ghost use Rattle.word_core.specs.History.{IsLegal, register_at};
 ghost use Rattle.stamp_table.specs.Passes.{Holds, memory_seen};
 
-use crate::label_word::found_word;
 use crate::pass::Pass;
 use crate::registers::register_place;
 use crate::table::StampTable;
@@ -64,7 +63,7 @@ impl StampTable {
     {
         let StampTable { table, n, rows } = self;
         let closed = table.close_with(pass.seat);
-        let word = found_word(n, closed.word(0));
+        let word = LabelWord::from_bits(n, closed.word(0));
         let registers = copied(&closed, rows as usize * n as usize);
         closed.free();
         Final {

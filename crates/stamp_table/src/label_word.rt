@@ -1,7 +1,7 @@
 // The label word: a load, and an exchange.
-ghost use Rattle.std.specs.Prelude.{◌≡◌, ◌<◌, ◌≤◌, List, ℕ, length};
+ghost use Rattle.std.specs.Prelude.{◌≡◌, ◌<◌, length};
 ghost use Rattle.word_core.specs.Stamps.{stamped};
-ghost use Rattle.word_core.specs.Packed.{IsWordOf, word};
+ghost use Rattle.word_core.specs.Packed.{word};
 ghost use Rattle.word_core.specs.declared.history.SharedAct.TheVariants.{Load};
 ghost use Rattle.stamp_table.specs.Passes.{Holds, by, Appends, memory_seen};
 ghost use Rattle.stamp_table.specs.Ordered.{AreOrdered};
@@ -33,7 +33,7 @@ impl StampTable {
         ensures range { p < length result }
     {
         let found = loaded::<Brand>(&self.table.shared, &mut pass.seat, p);
-        found_word(self.n, found)
+        LabelWord::from_bits(self.n, found)
     }
 
     /// Puts the new word in the place of the old one, if that is the word; then it is a stamp of
@@ -53,17 +53,7 @@ impl StampTable {
         if found == old {
             Swap::Won
         } else {
-            Swap::Lost(found_word(n, found))
+            Swap::Lost(LabelWord::from_bits(n, found))
         }
     }
-}
-
-/// The labels of a word that was found.
-pub fn found_word(n: u8, bits: u64) -> LabelWord
-    requires at_least_one { 1 ≤ n }
-    requires at_most_six { n ≤ 6 }
-    requires word { (labels : List (List ℕ)) × IsWordOf n bits labels }
-    ensures { IsWordOf n bits result }
-{
-    LabelWord::from_bits(n, bits)
 }

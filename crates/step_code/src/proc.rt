@@ -79,7 +79,8 @@ impl Proc {
         self.process.tells(code, labels)
     }
 
-    pub(crate) fn status(&self) -> Status
+    /// Whether it goes on.
+    pub fn status(&self) -> Status
         ensures { result ≡ self.now.process.status }
     {
         self.process.status

@@ -19,8 +19,8 @@ done c =
     finished c.pass.inside c.args.pass c.self.inside of (slots_items c.close_with-closed.result.words) (slots_items c.close_with-closed.result.slots)
     (λ p in_p. c.requires.all p (subst (λ (z : TableView). p < z.n) c.self.view_is in_p)) c.close_with-closed.ensures.values.2
 
-pub found_word-word-requires-clause-word : goal.found_word-word-requires-clause-word
-found_word-word-requires-clause-word c =
+pub from_bits-word-requires-clause-word : goal.from_bits-word-requires-clause-word
+from_bits-word-requires-clause-word c =
     let seen = c.pass.inside.seat.me.0.seen in
     let items = slots_items c.close_with-closed.result.words in (
       (memory_of c.self.inside.n c.self.inside.rows seen).labels,
@@ -39,8 +39,8 @@ returns-clause-memory c =
     let own = c.self.inside in
     let seen = c.pass.inside.seat.me.0.seen in
     let few : own.rows * own.n ≤ 48 = few_registers own.n own.rows c.self.invariant.5 c.self.invariant.6 in
-    closed_memory own.n own.rows seen (slots_items c.close_with-closed.result.words) c.copied-registers.result c.word.result c.found_word-word.result
-    ended.1 ended.0 c.word.ensures c.found_word-word.ensures (omega (arith, few, c.copied-registers.ensures.len)) c.copied-registers.ensures.copied
+    closed_memory own.n own.rows seen (slots_items c.close_with-closed.result.words) c.copied-registers.result c.word.result c.from_bits-word.result
+    ended.1 ended.0 c.word.ensures c.from_bits-word.ensures (omega (arith, few, c.copied-registers.ensures.len)) c.copied-registers.ensures.copied
     ∙ ap (λ k. memory_of k own.rows seen) of.n ∙ ap (λ k. memory_of c.pass.inside.n k seen) of.rows
     ∙ ap memory_seen of.view
 

@@ -38,8 +38,8 @@ lost c =
     (subst (λ b. Extends c.pass.inside.n c.pass.inside.rows c.pass.inside.held before (by c.args.p (exchange_act b old new found)) after)
     (ne_eqb found old c.if-found-old.false) e)).0
 
-pub found_word-requires-clause-word : goal.found_word-requires-clause-word
-found_word-requires-clause-word c =
+pub from_bits-requires-clause-word : goal.from_bits-requires-clause-word
+from_bits-requires-clause-word c =
     let of = is_of c.pass.inside c.args.pass.now c.pass.view_is c.pass.invariant c.self.inside c.args.self.now c.self.view_is c.self.invariant c.requires.here in
     let n_is : c.n-n.result ≡ c.pass.inside.n = c.n-n.ensures.count ∙ c.requires.ordered.count ∙ sym (ap (λ z. z.n) c.self.view_is) ∙ of.n in
     let seen = c.exchanged-found.new.seat.me.0.seen in
@@ -54,7 +54,7 @@ act_is : (c : goal.Joined-found-old) → exchange_act (c.exchanged-found.result 
 act_is c =
     elim c.if-found-old.branch [
       | then-found-old w ↦ rw (eq-eqb c.exchanged-found.result c.bits-old.result w.if-found-old.true, w.result-is, c.bits-old.ensures, c.bits.ensures) refl
-      | else-found-old w ↦ rw (ne_eqb c.exchanged-found.result c.bits-old.result w.if-found-old.false, w.result-is, c.bits-old.ensures, ← w.found_word.ensures.packs) refl
+      | else-found-old w ↦ rw (ne_eqb c.exchanged-found.result c.bits-old.result w.if-found-old.false, w.result-is, c.bits-old.ensures, ← w.from_bits.ensures.packs) refl
     ]
 
 pub returns-clause-step : goal.returns-clause-step
@@ -92,7 +92,7 @@ returns-clause-labels c =
     c.if-found-old.result (subst (λ k. AreLabels k c.args.old) n_is c.n-n.ensures.labels) c.requires.stamped
     (elim c.if-found-old.branch [
       | then-found-old w ↦ subst (LostAre c.pass.inside.n) (sym w.result-is) tt
-      | else-found-old w ↦ subst (LostAre c.pass.inside.n) (sym w.result-is) (subst (λ k. AreLabels k w.found_word.result) n_is w.found_word.ensures.are)
+      | else-found-old w ↦ subst (LostAre c.pass.inside.n) (sym w.result-is) (subst (λ k. AreLabels k w.from_bits.result) n_is w.from_bits.ensures.are)
     ])
     (told c)
 

@@ -28,8 +28,8 @@ found c =
     (is_of c.pass.inside c.args.pass.now c.pass.view_is c.pass.invariant c.self.inside c.args.self.now c.self.view_is c.self.invariant c.requires.here)
     (by c.args.p (Load c.loaded-found.result)) c.loaded-found.new.seat.me c.loaded-found.ensures.did)
 
-pub found_word-requires-clause-word : goal.found_word-requires-clause-word
-found_word-requires-clause-word c =
+pub from_bits-requires-clause-word : goal.from_bits-requires-clause-word
+from_bits-requires-clause-word c =
     let own = is_of c.pass.inside c.args.pass.now c.pass.view_is c.pass.invariant c.self.inside c.args.self.now c.self.view_is c.self.invariant c.requires.here in
     let seen = c.loaded-found.new.seat.me.0.seen in (
       (memory_of c.pass.inside.n c.pass.inside.rows seen).labels,
@@ -45,21 +45,21 @@ returns-clause-step c =
       table = record { id = seat.table_id; n = c.pass.inside.n; rows = c.pass.inside.rows };
       held = c.pass.inside.held;
       seen = seat.me.0.seen;
-    })) (sym c.found_word.ensures.packs)
+    })) (sym c.from_bits.ensures.packs)
     (appended c.pass.inside c.args.pass.now c.self.inside own (by c.args.p (Load c.loaded-found.result)) seat.table_id seat.me
     c.loaded-found.ensures.same c.loaded-found.ensures.did)
 
 pub returns-clause-labels : goal.returns-clause-labels
 returns-clause-labels c =
     let own = is_of c.pass.inside c.args.pass.now c.pass.view_is c.pass.invariant c.self.inside c.args.self.now c.self.view_is c.self.invariant c.requires.here in
-    labels_are c.pass.inside.n c.pass.inside.rows c.loaded-found.new.seat.me.0.seen c.loaded-found.result c.found_word.result
-    (found (goal.at.returns-clause-labels c).After-loaded-found) (subst (λ k. IsWordOf k c.loaded-found.result c.found_word.result) own.n c.found_word.ensures)
+    labels_are c.pass.inside.n c.pass.inside.rows c.loaded-found.new.seat.me.0.seen c.loaded-found.result c.from_bits.result
+    (found (goal.at.returns-clause-labels c).After-loaded-found) (subst (λ k. IsWordOf k c.loaded-found.result c.from_bits.result) own.n c.from_bits.ensures)
 
 pub returns-clause-ordered : goal.returns-clause-ordered
 returns-clause-ordered c =
     let of = is_of c.pass.inside c.args.pass.now c.pass.view_is c.pass.invariant c.self.inside c.args.self.now c.self.view_is c.self.invariant c.requires.here in
-    subst (λ k. AreOrdered k c.found_word.result) (sym of.n ∙ ap (λ z. z.n) c.self.view_is)
-    (ordered_labels c.pass.inside.n c.pass.inside.rows c.loaded-found.new.seat.me.0.seen c.found_word.result (returns-clause-labels c))
+    subst (λ k. AreOrdered k c.from_bits.result) (sym of.n ∙ ap (λ z. z.n) c.self.view_is)
+    (ordered_labels c.pass.inside.n c.pass.inside.rows c.loaded-found.new.seat.me.0.seen c.from_bits.result (returns-clause-labels c))
 
 pub returns-clause-range : goal.returns-clause-range
 returns-clause-range c =
