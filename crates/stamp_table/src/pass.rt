@@ -1,4 +1,4 @@
-ghost use Rattle.std.specs.Prelude.{◌↔◌, IsTrue};
+ghost use Rattle.std.specs.Prelude.{◌↔◌, ◌<◌, IsTrue};
 ghost use Rattle.stamp_table.specs.Passes.{Holds};
 
 use crate::rule::View;
@@ -28,9 +28,10 @@ impl Model for Pass {
 }
 
 impl Pass {
-    /// Whether the pass holds process `p`.
+    /// Whether the pass holds process `p`, which then is one of its table's.
     pub fn holds(&self, p: u8) -> bool
-        ensures { IsTrue result ↔ Holds self.now.held p }
+        ensures held { IsTrue result ↔ Holds self.now.held p }
+        ensures range { Holds self.now.held p → p < self.now.table.n }
     {
         match self.held.get(p as usize) {
             Some(&held) => held,

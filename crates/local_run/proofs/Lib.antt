@@ -1,0 +1,4 @@
+mod Deciding
+mod Beginnings
+mod Examples
+pub mod Offered

@@ -1,0 +1,73 @@
+ghost use Rattle.std.specs.Prelude.{◌≡◌, ◌<◌, length};
+ghost use Rattle.stamp_table.specs.Passes.{Holds};
+
+use stamp_calls::{Caller, Order, Tried, scan, stamp, try_stamp};
+use stamp_table::{Pass, StampTable};
+use std::sync::Wait;
+
+/// A pass after some calls, how many stamps were made, and after how many of them nobody else held a
+/// newer ticket.
+#[derive(Drop)]
+pub struct Worked {
+    pub pass: Pass,
+    pub won: u32,
+    pub newest: u32,
+}
+
+// Whether all other processes are older.
+fn is_newest(order: &Order, p: u8) -> bool
+    requires { p < length order.now }
+{
+    order.rank(p) == order.word().n() - 1
+}
+
+/// Stamps this many times.
+pub fn stamps<R: Wait>(rt: &R, table: &StampTable, pass: Pass, p: u8, count: u32) -> Worked
+    requires here { pass.table ≡ table.now }
+    requires held { Holds pass.held p }
+    ensures table { result.pass.table ≡ table.now }
+    ensures held { result.pass.held ≡ pass.held }
+{
+    let mut caller = Caller::new(pass, p);
+    let mut newest = 0;
+    for _stamp in 0..count {
+        let order = stamp(rt, table, &mut caller);
+        if is_newest(&order, p) {
+            newest += 1;
+        }
+    }
+    Worked {
+        pass: caller.into_pass(),
+        won: count,
+        newest,
+    }
+}
+
+/// Tries to stamp this many times, and writes into its register how often it won.
+pub fn tries(table: &StampTable, pass: Pass, p: u8, count: u32) -> Worked
+    requires here { pass.table ≡ table.now }
+    requires held { Holds pass.held p }
+    requires row { 0 < table.now.rows }
+    ensures table { result.pass.table ≡ table.now }
+    ensures held { result.pass.held ≡ pass.held }
+{
+    let mut caller = Caller::new(pass, p);
+    let mut order = scan(table, &mut caller);
+    let mut won = 0;
+    let mut newest = 0;
+    for _try in 0..count {
+        match try_stamp(table, &mut caller, order) {
+            Tried::Won(after) => {
+                order = after;
+                won += 1;
+                if is_newest(&after, p) {
+                    newest += 1;
+                }
+            }
+            Tried::Lost(found) => order = found,
+        }
+    }
+    let mut pass = caller.into_pass();
+    table.write(&mut pass, p, 0, won);
+    Worked { pass, won, newest }
+}

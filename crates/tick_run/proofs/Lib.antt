@@ -1,0 +1,7 @@
+mod Serving
+mod Turning
+mod Working
+mod Ending
+mod Readying
+mod Together
+mod Final

@@ -1,0 +1,44 @@
+-- A worker after one more turn.
+use Rattle.std.proofs.Common.{◌≡◌, ℕ, ◌+◌, ◌<◌, ◌≤◌, true, List, [], ◌∷◌, ◌++◌, length, sym, subst, arith}
+use Rattle.std.specs.Prelude.{slice_get}
+use Rattle.std.proofs.lemmas.List.{length-append}
+use Rattle.verified_code.specs.Instructions.{StepCode}
+use Rattle.step_code.specs.Process.{OneProcess, IsOf, gives_out}
+use Rattle.stamp_table.specs.Passes.{TableView, PassView, Holds, mine}
+use Rattle.tick_run.specs.declared.worker.Turn.TheVariants as T
+use Rattle.tick_run.specs.prover.Turns.{IsTurn}
+use Rattle.tick_run.specs.prover.Work.{IsWorking}
+
+module _ (t : TableView) (c : StepCode) (p turns outs count : ℕ) (one next : OneProcess) (pass further : PassView) (given : List ℕ) (room : ℕ)
+    (was : IsWorking t c p turns outs count one pass given room) (me : next.me ≡ p) (of : IsOf c next)
+    (here : further.table ≡ t) (held : further.held ≡ pass.held) where
+  pub after_went : IsTurn T.Went c p one.process (mine p pass.seen) next.process (mine p further.seen)
+      → IsWorking t c p turns outs (count + 1) next further given room
+  after_went turn = record {
+    me = me;
+    of = of;
+    here = here;
+    held = subst (λ h. Holds h p) (sym held) was.held;
+    at = turn count given was.at;
+    made = (let made : length given ≤ count = was.made in omega (arith, made));
+    few = was.few;
+    has_room = was.has_room;
+  }
+
+  pub after_gave : (v : ℕ) → IsTurn (T.Gave v) c p one.process (mine p pass.seen) next.process (mine p further.seen)
+      → (gives_out one.process.status (slice_get c.instructions one.process.place) ≡ true → length given < outs)
+      → IsWorking t c p turns outs (count + 1) next further (given ++ v ∷ []) room
+  after_gave v turn more =
+      let made : length given ≤ count = was.made in
+      let few : length given < outs = more turn.0 in
+      let longer : length (given ++ v ∷ []) ≡ length given + 1 = length-append given (v ∷ []) in
+      record {
+        me = me;
+        of = of;
+        here = here;
+        held = subst (λ h. Holds h p) (sym held) was.held;
+        at = turn.1 count given was.at;
+        made = omega (arith, made, longer);
+        few = omega (arith, few, longer);
+        has_room = was.has_room;
+      }

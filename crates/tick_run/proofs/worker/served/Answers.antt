@@ -1,0 +1,18 @@
+use Rattle.std.proofs.Common.{rules}
+use Rattle.tick_run.proofs.Serving.{lost_served, read_served, write_served}
+use Rattle.tick_run.proofs.worker.served.Goals as goal
+
+pub returns-in-Lost-clause-served : goal.returns-in-Lost-clause-served
+returns-in-Lost-clause-served g c =
+    lost_served c.args.table.now c.args.code.now c.args.p c.args.ask c.args.pass.now c.exchange.new.pass c.requires.fits c.requires.here c.requires.held
+    c.in-Exchange.old c.in-Exchange.new c.in-Lost.found c.in-Exchange.is c.in-Lost.ensures.step c.in-Lost.ensures.labels
+
+pub returns-in-Get-clause-served : goal.returns-in-Get-clause-served
+returns-in-Get-clause-served g c =
+    read_served c.args.table.now c.args.code.now c.args.p c.args.ask c.args.pass.now c.read.new.pass c.requires.fits c.requires.here c.requires.held
+    c.in-Get.r c.in-Get.i c.read.result c.in-Get.is (search rules)
+
+pub returns-in-Put-clause-served : goal.returns-in-Put-clause-served
+returns-in-Put-clause-served g c =
+    write_served c.args.table.now c.args.code.now c.args.p c.args.ask c.args.pass.now c.write.new.pass c.requires.fits c.requires.here c.requires.held
+    c.in-Put.r c.in-Put.v c.in-Put.is (search rules)

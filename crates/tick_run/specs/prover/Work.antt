@@ -1,0 +1,60 @@
+-- What workers start with, and what they come back with.
+use Rattle.std.specs.Prelude.{◌≡◌, ◌<◌, ◌≤◌, ℕ, min, List, [], length, slice_get, Some, vec_items, vec_capacity}
+use Rattle.machine_core.specs.declared.run_outcome.RunEnd.{RunEnd}
+use Rattle.verified_code.specs.Instructions.{StepCode}
+use Rattle.step_code.specs.Machine.{start_process}
+use Rattle.step_code.specs.Process.{OneProcess, IsOf}
+use Rattle.stamp_table.specs.Passes.{TableView, PassView, Holds, mine}
+use Rattle.tick_run.specs.Runs.{RanSo}
+use Rattle.tick_run.specs.prover.Turns.{IsAt}
+use Rattle.tick_run.specs.declared.jobs.Job.{Job}
+
+-- process `p` before its first instruction, with a pass that has seen nothing and room for its outputs
+pub record CanWork (t : TableView) (c : StepCode) (p turns outs : ℕ) (one : OneProcess) (pass : PassView) (given : List ℕ) (room : ℕ) : Type 0 where
+  pub me : one.me ≡ p
+  pub of : IsOf c one
+  pub start : one.process ≡ start_process c.sizes
+  pub here : pass.table ≡ t
+  pub held : Holds pass.held p
+  pub unseen : pass.seen ≡ []
+  pub empty : given ≡ []
+  pub has_room : min turns outs ≤ room
+
+-- in the middle of its work, after `count` instructions
+pub record IsWorking (t : TableView) (c : StepCode) (p turns outs count : ℕ) (one : OneProcess) (pass : PassView) (given : List ℕ) (room : ℕ) : Type 0 where
+  pub me : one.me ≡ p
+  pub of : IsOf c one
+  pub here : pass.table ≡ t
+  pub held : Holds pass.held p
+  pub at : IsAt c p count one.process (mine p pass.seen) given
+  pub made : length given ≤ count
+  pub few : length given ≤ outs
+  pub has_room : min turns outs ≤ room
+
+-- it went as far as it was allowed
+pub record IsWork (t : TableView) (c : StepCode) (p turns outs : ℕ) (pass : PassView) (given : List ℕ) (end : RunEnd) : Type 0 where
+  pub here : pass.table ≡ t
+  pub held : Holds pass.held p
+  pub ran : RanSo c p turns outs (mine p pass.seen) given end
+
+-- each process with the job at its place
+abbrev pub AreReady : {G : Type 0} → TableView → StepCode → ℕ → ℕ → List (Job G) → Type 0
+AreReady {G} t c turns outs jobs = (p : ℕ) (job : Job G) → slice_get jobs p ≡ Some job
+    → (job.process ≡ p) × CanWork t c p turns outs job.proc job.pass (vec_items job.outputs) (vec_capacity job.outputs)
+
+-- The first `made` processes have jobs, and the pass that is left holds the others.
+pub record AreSplit {G : Type 0} (t : TableView) (c : StepCode) (turns outs made : ℕ) (left : PassView) (jobs : List (Job G)) : Type 0 where
+  pub here : left.table ≡ t
+  pub held : (p : ℕ) → made ≤ p → p < t.n → Holds left.held p
+  pub unseen : left.seen ≡ []
+  pub count : length jobs ≡ made
+  pub ready : AreReady t c turns outs jobs
+
+-- what the first `n` processes did stands together
+pub record Gathers (t : TableView) (c : StepCode) (turns outs n : ℕ) (pass : PassView) (outputs : List (List ℕ)) (ends : List RunEnd) : Type 0 where
+  pub here : pass.table ≡ t
+  pub held : (p : ℕ) → p < n → Holds pass.held p
+  pub all_outputs : length outputs ≡ n
+  pub all_ends : length ends ≡ n
+  pub each : (p : ℕ) (given : List ℕ) (end : RunEnd) → slice_get outputs p ≡ Some given → slice_get ends p ≡ Some end
+      → RanSo c p turns outs (mine p pass.seen) given end

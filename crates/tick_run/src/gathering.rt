@@ -1,0 +1,100 @@
+// Workers are started, one for each process, and what they come back with is put together.
+
+ghost use Rattle.std.specs.Prelude.{◌≡◌, ◌≤◌, ◌<◌, ◌+◌, ◌++◌, ◌∷◌, [], IfOk, map, vec_len, vec_items, vec_capacity};
+ghost use Rattle.stamp_table.specs.Passes.{Meets};
+ghost use Rattle.tick_run.specs.prover.Turns.{IsFor};
+ghost use Rattle.tick_run.specs.prover.Work.{AreReady, Gathers, IsWork};
+
+use crate::fault::RunFault;
+use crate::gate::Gate;
+use crate::jobs::{Job, Limits};
+use crate::worker::{Worked, work};
+use machine_core::RunEnd;
+use stamp_table::{Pass, StampTable};
+use std::thread::{Promise, Scope, Threads};
+use verified_code::Code;
+
+/// What the workers of the first processes came back with.
+#[derive(Drop)]
+pub struct Gathered {
+    pub pass: Pass,
+    pub outputs: Vec<Vec<u32>>,
+    pub ends: Vec<RunEnd>,
+}
+
+// What a worker of this process keeps.
+#[derive(Clone, Copy)]
+struct WorkOf<'a> {
+    table: &'a StampTable,
+    code: &'a Code,
+    limits: Limits,
+    process: u8,
+}
+
+impl<'a> Promise<Worked> for WorkOf<'a> {
+    ghost use Rattle.tick_run.specs.prover.Work.{IsWork};
+
+    ghost kept_by = { λ w r. IsWork w.table.now w.code.now w.process w.limits.turns w.limits.outs r.pass r.outputs.items r.end };
+}
+
+/// Starts a worker for the last job and, while it is under way, for each of the others, and then joins
+/// it.
+pub fn run_jobs<'s, 'e, G: Gate + Send + 's, R: Threads>(
+    rt: &R,
+    scope: &'s Scope<'s, &'e ()>,
+    table: &'s StampTable,
+    code: &'s Code,
+    limits: Limits,
+    mut jobs: Vec<Job<G>>,
+    none: Gathered,
+) -> Result<Gathered, RunFault>
+    requires fits { IsFor table.now code.now }
+    requires ready { AreReady table.now code.now limits.turns limits.outs jobs.items }
+    requires none { Gathers table.now code.now limits.turns limits.outs 0 none.pass (map (λ values. values.items) none.outputs.items) none.ends.items }
+    requires room { (vec_len jobs ≤ vec_capacity none.outputs) × (vec_len jobs ≤ vec_capacity none.ends) }
+    ensures gathers { IfOk result (λ all. Gathers table.now code.now limits.turns limits.outs (vec_len jobs) all.pass (map (λ values. values.items) all.outputs.items) all.ends.items) }
+    ensures room { IfOk result (λ all. (vec_capacity all.outputs ≡ vec_capacity none.outputs) × (vec_capacity all.ends ≡ vec_capacity none.ends)) }
+{
+    let Some(job) = jobs.pop() else {
+        return Ok(none);
+    };
+    let process = job.process;
+    let promise = WorkOf {
+        table,
+        code,
+        limits,
+        process,
+    };
+    let Ok(worker) = scope.spawn_with(promise, move || work(table, code, limits, job)) else {
+        return Err(RunFault::NoThread);
+    };
+    let others = run_jobs(rt, scope, table, code, limits, jobs, none);
+    let worked = worker.join(rt);
+    Ok(with_worked(table, others?, worked))
+}
+
+// What one more worker came back with is added.
+fn with_worked(table: &StampTable, before: Gathered, worked: Worked) -> Gathered
+    requires first_here { before.pass.table ≡ table.now }
+    requires second_here { worked.pass.table ≡ table.now }
+    requires outputs_room { vec_len before.outputs < vec_capacity before.outputs }
+    requires ends_room { vec_len before.ends < vec_capacity before.ends }
+    ensures meets { Meets before.pass worked.pass result.pass }
+    ensures outputs { map (λ values. values.items) result.outputs.items ≡ map (λ values. values.items) before.outputs.items ++ worked.outputs.items ∷ [] }
+    ensures ends { result.ends.items ≡ before.ends.items ++ worked.end ∷ [] }
+    ensures room { (vec_capacity result.outputs ≡ vec_capacity before.outputs) × (vec_capacity result.ends ≡ vec_capacity before.ends) }
+{
+    let Gathered {
+        pass,
+        mut outputs,
+        mut ends,
+    } = before;
+    outputs.push_reserved(worked.outputs);
+    ends.push_reserved(worked.end);
+    let pass = table.meet(pass, worked.pass);
+    Gathered {
+        pass,
+        outputs,
+        ends,
+    }
+}

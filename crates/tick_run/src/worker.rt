@@ -1,0 +1,149 @@
+// One process on its thread.
+
+ghost use Rattle.std.specs.Prelude.{◌≡◌, vec_items, vec_capacity};
+ghost use Rattle.step_code.specs.Process.{IsOf};
+ghost use Rattle.step_code.specs.Safety.{HasWord, IsLawful};
+ghost use Rattle.stamp_table.specs.Passes.{Holds, mine};
+ghost use Rattle.tick_run.specs.prover.Turns.{IsFor, IsTurn, IsServed, turn_by, end_by};
+ghost use Rattle.tick_run.specs.prover.Work.{CanWork, IsWork};
+
+use crate::gate::Gate;
+use crate::jobs::{Job, Limits};
+use machine_core::{Act, Event, RunEnd, Status};
+use stamp_table::{Pass, StampTable, Swap};
+use step_code::{Advance, Ask, Proc, Reply};
+use verified_code::Code;
+
+/// What a worker comes back with.
+#[derive(Drop)]
+pub struct Worked {
+    pub pass: Pass,
+    pub outputs: Vec<u32>,
+    pub end: RunEnd,
+}
+
+/// What became of a turn.
+pub enum Turn {
+    /// An instruction was made.
+    Went,
+    /// It gave out this value.
+    Gave(u32),
+    /// The process had stopped.
+    Stopped,
+}
+
+/// Runs the process until it stops or has done all that it may.
+pub fn work<G: Gate>(table: &StampTable, code: &Code, limits: Limits, job: Job<G>) -> Worked
+    requires fits { IsFor table.now code.now }
+    requires can { CanWork table.now code.now job.process limits.turns limits.outs job.proc job.pass job.outputs.items (vec_capacity job.outputs) }
+    ensures { IsWork table.now code.now job.process limits.turns limits.outs result.pass result.outputs.items result.end }
+{
+    let Job {
+        process,
+        mut proc,
+        mut pass,
+        mut gate,
+        mut outputs,
+    } = job;
+    for _ in 0..limits.turns {
+        if outputs.len() >= limits.outs as usize && proc.will_out(code) {
+            let end = RunEnd::OutputsFull;
+            return Worked { pass, outputs, end };
+        }
+        match make_one(table, code, process, &mut proc, &mut pass, &mut gate) {
+            Turn::Went => {}
+            Turn::Gave(value) => outputs.push_reserved(value),
+            Turn::Stopped => break,
+        }
+    }
+    let end = end_of(proc.status());
+    Worked { pass, outputs, end }
+}
+
+// How a process of this status ends where it makes no further instruction.
+fn end_of(status: Status) -> RunEnd
+    ensures { result ≡ end_by status }
+{
+    match status {
+        Status::Running => RunEnd::TurnsSpent,
+        Status::Ended => RunEnd::Ended,
+        Status::Trapped(trap) => RunEnd::Trapped(trap),
+    }
+}
+
+// Makes the next instruction, where the process has not stopped.
+fn make_one<G: Gate>(
+    table: &StampTable,
+    code: &Code,
+    process: u8,
+    proc: &mut Proc,
+    pass: &mut Pass,
+    gate: &mut G,
+) -> Turn
+    requires fits { IsFor table.now code.now }
+    requires me { proc.old.me ≡ process }
+    requires of { IsOf code.now proc.old }
+    requires here { pass.old.table ≡ table.now }
+    requires held { Holds pass.old.held process }
+    ensures me { proc.new.me ≡ process }
+    ensures of { IsOf code.now proc.new }
+    ensures here { pass.new.table ≡ table.now }
+    ensures held { pass.new.held ≡ pass.old.held }
+    ensures turn { IsTurn result code.now process proc.old.process (mine process pass.old.seen) proc.new.process (mine process pass.new.seen) }
+{
+    match proc.advance(code) {
+        Advance::Silent => Turn::Went,
+        Advance::Did(event) => turn_of(event),
+        Advance::Ask(ask) => {
+            let reply = served(table, code, process, pass, gate, ask);
+            // An instruction that asks gives nothing out.
+            proc.answer(code, reply);
+            Turn::Went
+        }
+        Advance::Stopped => Turn::Stopped,
+    }
+}
+
+fn turn_of(event: Event) -> Turn
+    ensures { result ≡ turn_by event.act }
+{
+    match event.act {
+        Act::Out(value) => Turn::Gave(value),
+        _ => Turn::Went,
+    }
+}
+
+// Tells the gate, and makes the step that is asked for.
+#[tactic(auto, using(crate::proofs::Serving::load_served, crate::proofs::Serving::won_served))]
+fn served<G: Gate>(
+    table: &StampTable,
+    code: &Code,
+    p: u8,
+    pass: &mut Pass,
+    gate: &mut G,
+    ask: Ask,
+) -> Reply
+    requires fits { IsFor table.now code.now }
+    requires here { pass.old.table ≡ table.now }
+    requires held { Holds pass.old.held p }
+    requires lawful { IsLawful code.now.sizes p ask }
+    ensures here { pass.new.table ≡ table.now }
+    ensures held { pass.new.held ≡ pass.old.held }
+    ensures served { IsServed code.now.sizes.processes p ask result pass.old.seen pass.new.seen }
+    ensures word { HasWord code.now.sizes.processes result }
+{
+    let told = ask;
+    gate.before(p, told);
+    match ask {
+        Ask::LoadWord | Ask::Scan => Reply::Word(table.load(pass, p)),
+        Ask::Exchange(old, new) => match table.exchange(pass, p, old, new) {
+            Swap::Won => Reply::Won,
+            Swap::Lost(found) => Reply::Lost(found),
+        },
+        Ask::Get(r, i) => Reply::Value(table.read(pass, p, r, i)),
+        Ask::Put(r, v) => {
+            table.write(pass, p, r, v);
+            Reply::Written
+        }
+    }
+}
