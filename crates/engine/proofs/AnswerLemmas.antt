@@ -17,8 +17,8 @@ use Rattle.verified_code.specs.Instructions.{StepCode}
 use Rattle.code_text.proofs.Offered.{one_reading, some_reading}
 use Rattle.engine.specs.Answer.{Answer, refused, stopped}
 use Rattle.engine.specs.Codes.{IsCodeAnswer, code_answer, reading_answer}
-use Rattle.engine.specs.Commands.{Answers, Job, JobAnswers, TextAnswers, UnlessRefused, job_of, line_answer}
-use Rattle.engine.specs.Commands.Job.{Order, Check, Emit, Source, Code, Expand, Project}
+use Rattle.engine.specs.Commands.{Answers, Job, JobAnswers, TextAnswers, UnlessRefused, is_run, job_of, line_answer, runs}
+use Rattle.engine.specs.Commands.Job.{Order, Check, Emit, Source, Code, Expand, Project, Run}
 use Rattle.engine.specs.Lowered.{IsEitherAnswer, begins_as_code, emit_answer, lowered_answer}
 use Rattle.engine.specs.Maps.{expand_answer, project_answer}
 use Rattle.engine.specs.Order.{order_answer}
@@ -111,44 +111,48 @@ short_input input h =
     let no : nat_lt 1000000 (length input) ≡ false = short_by (nat_lt 1000000 (length input)) (is_utf8 input) (utf8_valid_len input) h in
     elim (leb_tells 1000001 (length input)) [ inl long ↦ absurd (cc) | inr short ↦ omega (arith, short.1) ]
 
-one_text_answer : (job : Job) (text : List ℕ) → length text ≤ 1000000 → (a b : Answer) → TextAnswers job text a → TextAnswers job text b → a ≡ b
-one_text_answer (Order n) text short a b h k = h ∙ sym k
-one_text_answer Check text short a b h k = one_answer check_answer text short a b h k
-one_text_answer Emit text short a b h k = one_answer (lowered_answer emit_answer) text short a b h k
-one_text_answer (Source schedule) text short a b h k = one_answer (source_answer schedule) text short a b h k
-one_text_answer (Code schedule) text short a b h k = one_either (begins_as_code text) (code_answer schedule) text short a b h k
-one_text_answer (Expand schedule) text short a b h k = one_answer (lowered_answer (expand_answer schedule)) text short a b h k
-one_text_answer (Project schedule) text short a b h k = one_answer (lowered_answer (project_answer schedule)) text short a b h k
+one_text_answer : (job : Job) (text : List ℕ) → length text ≤ 1000000 → runs job ≡ false → (a b : Answer)
+    → TextAnswers job text a → TextAnswers job text b → a ≡ b
+one_text_answer (Order n) text short single a b h k = h ∙ sym k
+one_text_answer Check text short single a b h k = one_answer check_answer text short a b h k
+one_text_answer Emit text short single a b h k = one_answer (lowered_answer emit_answer) text short a b h k
+one_text_answer (Source schedule) text short single a b h k = one_answer (source_answer schedule) text short a b h k
+one_text_answer (Code schedule) text short single a b h k = one_either (begins_as_code text) (code_answer schedule) text short a b h k
+one_text_answer (Expand schedule) text short single a b h k = one_answer (lowered_answer (expand_answer schedule)) text short a b h k
+one_text_answer (Project schedule) text short single a b h k = one_answer (lowered_answer (project_answer schedule)) text short a b h k
+one_text_answer (Run turns) text short single a b h k = absurd (cc)
 
-some_text_answer : (job : Job) (text : List ℕ) → length text ≤ 1000000 → (a : Answer) × TextAnswers job text a
-some_text_answer (Order n) text short = (order_answer n text, refl)
-some_text_answer Check text short = answered check_answer text short
-some_text_answer Emit text short = answered (lowered_answer emit_answer) text short
-some_text_answer (Source schedule) text short = answered (source_answer schedule) text short
-some_text_answer (Code schedule) text short = some_either (begins_as_code text) (code_answer schedule) text short
-some_text_answer (Expand schedule) text short = answered (lowered_answer (expand_answer schedule)) text short
-some_text_answer (Project schedule) text short = answered (lowered_answer (project_answer schedule)) text short
+some_text_answer : (job : Job) (text : List ℕ) → length text ≤ 1000000 → runs job ≡ false → (a : Answer) × TextAnswers job text a
+some_text_answer (Order n) text short single = (order_answer n text, refl)
+some_text_answer Check text short single = answered check_answer text short
+some_text_answer Emit text short single = answered (lowered_answer emit_answer) text short
+some_text_answer (Source schedule) text short single = answered (source_answer schedule) text short
+some_text_answer (Code schedule) text short single = some_either (begins_as_code text) (code_answer schedule) text short
+some_text_answer (Expand schedule) text short single = answered (lowered_answer (expand_answer schedule)) text short
+some_text_answer (Project schedule) text short single = answered (lowered_answer (project_answer schedule)) text short
+some_text_answer (Run turns) text short single = absurd (cc)
 
-module _ (job : Job) (input : List ℕ) where
+module _ (job : Job) (input : List ℕ) (single : runs job ≡ false) where
   one_by : (o : Option Refusal) → text_fault input ≡ o → (a b : Answer)
       → UnlessRefused o (TextAnswers job input) a → UnlessRefused o (TextAnswers job input) b → a ≡ b
-  one_by None is a b h k = one_text_answer job input (short_input input is) a b h k
+  one_by None is a b h k = one_text_answer job input (short_input input is) single a b h k
   one_by (Some refusal) is a b h k = h ∙ sym k
 
   some_by : (o : Option Refusal) → text_fault input ≡ o → (a : Answer) × UnlessRefused o (TextAnswers job input) a
-  some_by None is = some_text_answer job input (short_input input is)
+  some_by None is = some_text_answer job input (short_input input is) single
   some_by (Some refusal) is = (refused refusal, refl)
 
-one_by_job : (job : Result Job LineFault) (input : List ℕ) (a b : Answer) → JobAnswers job input a → JobAnswers job input b → a ≡ b
-one_by_job (Ok job) input a b h k = one_by job input (text_fault input) refl a b h k
-one_by_job (Err fault) input a b h k = h ∙ sym k
+one_by_job : (job : Result Job LineFault) (input : List ℕ) (a b : Answer) → is_run job ≡ false → JobAnswers job input a → JobAnswers job input b → a ≡ b
+one_by_job (Ok job) input a b single h k = one_by job input single (text_fault input) refl a b h k
+one_by_job (Err fault) input a b single h k = h ∙ sym k
 
-some_by_job : (job : Result Job LineFault) (input : List ℕ) → (a : Answer) × JobAnswers job input a
-some_by_job (Ok job) input = some_by job input (text_fault input) refl
-some_by_job (Err fault) input = (line_answer fault, refl)
+some_by_job : (job : Result Job LineFault) (input : List ℕ) → is_run job ≡ false → (a : Answer) × JobAnswers job input a
+some_by_job (Ok job) input single = some_by job input single (text_fault input) refl
+some_by_job (Err fault) input single = (line_answer fault, refl)
 
-pub one_of : (asked : Option Asked) (input : List ℕ) (a b : Answer) → Answers asked input a → Answers asked input b → a ≡ b
-one_of asked input a b h k = one_by_job (job_of asked) input a b h k
+pub one_of : (asked : Option Asked) (input : List ℕ) (a b : Answer) → is_run (job_of asked) ≡ false
+    → Answers asked input a → Answers asked input b → a ≡ b
+one_of asked input a b single h k = one_by_job (job_of asked) input a b single h k
 
-pub some_of : (asked : Option Asked) (input : List ℕ) → (a : Answer) × Answers asked input a
-some_of asked input = some_by_job (job_of asked) input
+pub some_of : (asked : Option Asked) (input : List ℕ) → is_run (job_of asked) ≡ false → (a : Answer) × Answers asked input a
+some_of asked input single = some_by_job (job_of asked) input single

@@ -8,4 +8,5 @@ pub mod ScheduleLemmas
 pub mod Weakening
 pub mod LoweredLemmas
 pub mod AnswerLemmas
+pub mod RunLemmas
 pub mod Reported

@@ -1,16 +1,14 @@
 -- From an input that was read to a reply, and from a reply to what is written.
-use Rattle.std.proofs.Common.{◌≡◌, ℕ, ◌+◌, ◌<◌, ◌≤◌, ◌++◌, ◌⊎◌, false, inl, inr, List, [], length, Option, Some, None, Result, Ok, Err, append-nil, arith, ap, refl, string_bytes, subst, sym, ◌∙◌}
+use Rattle.std.proofs.Common.{◌≡◌, ℕ, ◌+◌, ◌<◌, ◌≤◌, ◌++◌, ◌⊎◌, true, false, inl, inr, List, [], length, Option, Some, None, Result, Ok, Err, IfErr, IfOk, OnErr, OnOk, append-nil, arith, ap, refl, string_bytes, subst, sym, ◌∙◌}
 use Rattle.std.proofs.Math.ListN.{length-append}
 use Rattle.std.proofs.lemmas.Bool.{lt-ltb}
 use Rattle.std.proofs.lemmas.Bool.Decides.{leb_tells}
 use Rattle.std.specs.Io.KnownBytes.{Appends, Consumes}
-use Rattle.command_line.specs.Line.{Asked}
-use Rattle.engine.specs.Answer.{Answer}
-use Rattle.engine.specs.Commands.{InputAnswers, Job, JobAnswers, TextAnswers, UnlessRefused, job_of, line_answer, wants_input}
-use Rattle.engine.specs.Reading.{CountsReads, TakesFew}
-use Rattle.engine.specs.Serving.{OnInput, Serves, Writes, WritesSome, outcome_of}
+use Rattle.engine.specs.Commands.{InputAnswers, Job, JobAnswers, TextAnswers, UnlessRefused, is_run, line_answer, wants_input}
+use Rattle.engine.specs.Reading.{CountsReads, TakesFew, fault_in}
+use Rattle.engine.specs.Serving.{OnInput, ServesJob, UnlessRun}
 use Rattle.engine.specs.Text.{text_fault}
-use Rattle.engine.specs.Writing.{WritesPrefix}
+use Rattle.engine.specs.Writing.{CountsWrites, WritesPrefix}
 use Rattle.engine.specs.declared.command.LineFault.{LineFault}
 use Rattle.engine.specs.declared.ends.Counts.{Counts}
 use Rattle.engine.specs.declared.fault.EngineFault.{EngineFault}
@@ -60,83 +58,129 @@ module _ (job : Job) (reply : Reply) where
     ];
   }
 
--- the reply to a command, by the words
-pub replied_on_read : (asked : Result Job LineFault) (job : Job) (known left : Option (List ℕ)) (read slice : List ℕ) (reply : Reply)
-    → asked ≡ Ok job → slice ≡ read → IsRead known left read → IsReply (InputAnswers job slice) reply
-    → OnInput known (λ input. IsReply (JobAnswers asked input) reply)
-replied_on_read asked job known left read slice reply is same reads answered =
-    let of_read : IsReply (InputAnswers job read) reply = subst (λ (l : List ℕ). IsReply (InputAnswers job l) reply) same answered in
-    subst (λ (j : Result Job LineFault). OnInput known (λ input. IsReply (JobAnswers j input) reply)) (sym is)
-    (on_read job reply known left read reads of_read)
+-- the reply to a command, by the input
+pub replied_on_read : (job : Job) (known left : Option (List ℕ)) (read slice : List ℕ) (reply : Reply)
+    → slice ≡ read → IsRead known left read → IsReply (InputAnswers job slice) reply
+    → OnInput known (λ input. IsReply (JobAnswers (Ok job) input) reply)
+replied_on_read job known left read slice reply same reads answered =
+    on_read job reply known left read reads (subst (λ (l : List ℕ). IsReply (InputAnswers job l) reply) same answered)
 
 -- a reply that no input changes is one on the known input
 pub on_any : (known : Option (List ℕ)) (P : List ℕ → Type 0) → ((input : List ℕ) → P input) → OnInput known P
 on_any None P is = record { input = []; is_known = tt; holds = is [] }
 on_any (Some all) P is = record { input = all; is_known = refl; holds = is all }
 
-pub replied_on_any : (asked : Result Job LineFault) (fault : LineFault) (known : Option (List ℕ)) (reply : Reply)
-    → asked ≡ Err fault → Replies reply (line_answer fault) → OnInput known (λ input. IsReply (JobAnswers asked input) reply)
-replied_on_any asked fault known reply is told =
-    subst (λ (j : Result Job LineFault). OnInput known (λ input. IsReply (JobAnswers j input) reply)) (sym is)
-    (on_any known (λ input. IsReply (JobAnswers (Err fault) input) reply) (λ input. record { answer = line_answer fault; is_allowed = refl; replies = told }))
-
--- where reading or memory ends it, nothing is written
-module _ {R W : Type 0} (asked : Option Asked) (remaining : R → Option (List ℕ)) (reads : R → Counts)
-    (written : W → Option (List ℕ)) (writes : W → Counts) (old new : R) (writer : W) (result : Result Served EngineFault) (told : EngineFault) where
-  pub gave_up : (fault : EngineFault) → result ≡ Err told → told ≡ fault → (fault ≡ Read) ⊎ (fault ≡ Memory)
-      → (wants_input (job_of asked) ≡ false → new ≡ old)
-      → TakesFew (remaining old) (remaining new)
-      → (reads new).calls ≤ (reads old).calls + 2000000
-      → CountsReads (Some fault) (reads old) (reads new)
-      → Serves asked remaining reads written writes old new writer writer (outcome_of result)
-  gave_up Read is same why unread few calls counted = rw (is, same) (record {
-    answers = on_any (remaining old) _ (λ input. refl);
-    unread = unread;
-    few = few;
-    calls = calls;
-    reads_counted = counted;
-    writes_counted = refl;
-  })
-  gave_up Memory is same why unread few calls counted = rw (is, same) (record {
-    answers = on_any (remaining old) _ (λ input. refl);
-    unread = unread;
-    few = few;
-    calls = calls;
-    reads_counted = counted;
-    writes_counted = refl;
-  })
-  gave_up Write is same why unread few calls counted = absurd (elim why [ inl read ↦ cc | inr memory ↦ cc ])
-  gave_up Thread is same why unread few calls counted = absurd (elim why [ inl read ↦ cc | inr memory ↦ cc ])
+pub replied_on_any : (fault : LineFault) (known : Option (List ℕ)) (reply : Reply)
+    → Replies reply (line_answer fault) → OnInput known (λ input. IsReply (JobAnswers (Err fault) input) reply)
+replied_on_any fault known reply told =
+    on_any known (λ input. IsReply (JobAnswers (Err fault) input) reply)
+    (λ input. record { answer = line_answer fault; is_allowed = refl; replies = told })
 
 pub takes_none : (known : Option (List ℕ)) → TakesFew known known
 takes_none known = record { bytes = []; taken = Consumes-nil known; few = omega arith }
 
-module _ (known : Option (List ℕ)) (allowed : List ℕ → Answer → Type 0) (reply : Reply) where
-  abbrev Replied : Type 0
-  Replied = OnInput known (λ input. IsReply (allowed input) reply)
+-- what a command may end by before anything is written
+abbrev EndsBy : Result Job LineFault → EngineFault → Type 0
+EndsBy job fault = (fault ≡ Read) ⊎ (fault ≡ Memory) ⊎ ((fault ≡ Thread) × (is_run job ≡ true))
+
+module _ {R W : Type 0} (job : Result Job LineFault) (remaining : R → Option (List ℕ)) (reads : R → Counts)
+    (written : W → Option (List ℕ)) (writes : W → Counts) (old new : R)
+    (unread : wants_input job ≡ false → new ≡ old)
+    (few : TakesFew (remaining old) (remaining new))
+    (calls : (reads new).calls ≤ (reads old).calls + 2000000) where
+  gives_up : (fault : EngineFault) → EndsBy job fault → (writer : W) → CountsReads (Some fault) (reads old) (reads new)
+      → ServesJob job remaining reads written writes old new writer writer (Err fault)
+  gives_up Read why writer counted = record {
+    answers = on_any (remaining old) _ (λ input. refl);
+    unread = unread;
+    few = few;
+    calls = calls;
+    reads_counted = counted;
+    writes_counted = refl;
+  }
+  gives_up Memory why writer counted = record {
+    answers = on_any (remaining old) _ (λ input. refl);
+    unread = unread;
+    few = few;
+    calls = calls;
+    reads_counted = counted;
+    writes_counted = refl;
+  }
+  gives_up Thread why writer counted = record {
+    answers = on_any (remaining old) _ (λ input. (elim why [ inl read ↦ absurd (cc) | inr other ↦ elim other [ inl memory ↦ absurd (cc) | inr thread ↦ thread.1 ] ], refl));
+    unread = unread;
+    few = few;
+    calls = calls;
+    reads_counted = counted;
+    writes_counted = refl;
+  }
+  gives_up Write why writer counted =
+      absurd (elim why [ inl read ↦ cc | inr other ↦ elim other [ inl memory ↦ cc | inr thread ↦ absurd (let no : Write ≡ Thread = thread.0 in cc) ] ])
+
+  -- where reading, memory or a thread ends it, nothing is written
+  pub gave_up : (result : Result ℕ EngineFault) (told fault : EngineFault) → result ≡ Err told → told ≡ fault → EndsBy job fault → (writer : W)
+      → CountsReads (Some fault) (reads old) (reads new) → ServesJob job remaining reads written writes old new writer writer result
+  gave_up result told fault is same why writer counted = rw (is, same) (gives_up fault why writer counted)
 
   -- a reply that was written is an answer that was
-  pub written : (old new : Option (List ℕ)) → Appends old new (string_bytes reply.text) → Replied
-      → OnInput known (λ input. Writes old new reply.status (allowed input))
-  written old new appends replied = record {
-    input = replied.input;
-    is_known = replied.is_known;
-    holds = record {
-      answer = replied.holds.answer;
-      is_allowed = replied.holds.is_allowed;
-      status_is = replied.holds.replies.status;
-      written = subst (λ (text : List ℕ). Appends old new text) replied.holds.replies.text appends;
+  pub gave_reply : (reply : Reply) (before after : W) (result : Result ℕ EngineFault)
+      → OnInput (remaining old) (λ input. IsReply (JobAnswers job input) reply)
+      → (reads new).failures ≡ (reads old).failures
+      → IfOk result (λ status. status ≡ reply.status)
+      → OnOk result (Appends (written before) (written after) (string_bytes reply.text))
+      → OnErr result (WritesPrefix (written before) (written after) (string_bytes reply.text))
+      → IfErr result (λ fault. fault ≡ Write)
+      → CountsWrites (fault_in result) (writes before) (writes after)
+      → ServesJob job remaining reads written writes old new before after result
+  gave_reply reply before after (Ok status) replied none_failed is all some fault counted = record {
+    answers = record {
+      input = replied.input;
+      is_known = replied.is_known;
+      holds = record {
+        answer = replied.holds.answer;
+        is_allowed = replied.holds.is_allowed;
+        status_is = is ∙ replied.holds.replies.status;
+        written = subst (λ (text : List ℕ). Appends (written before) (written after) text) replied.holds.replies.text all;
+      };
     };
+    unread = unread;
+    few = few;
+    calls = calls;
+    reads_counted = none_failed;
+    writes_counted = counted;
   }
+  gave_reply reply before after (Err Write) replied none_failed is all some fault counted = record {
+    answers = record {
+      input = replied.input;
+      is_known = replied.is_known;
+      holds = record {
+        answer = replied.holds.answer;
+        is_allowed = replied.holds.is_allowed;
+        written = subst (λ (text : List ℕ). WritesPrefix (written before) (written after) text) replied.holds.replies.text some;
+      };
+    };
+    unread = unread;
+    few = few;
+    calls = calls;
+    reads_counted = none_failed;
+    writes_counted = counted;
+  }
+  gave_reply reply before after (Err Read) replied none_failed is all some fault counted = absurd (cc)
+  gave_reply reply before after (Err Memory) replied none_failed is all some fault counted = absurd (cc)
+  gave_reply reply before after (Err Thread) replied none_failed is all some fault counted = absurd (cc)
 
-  pub partly_written : (old new : Option (List ℕ)) → WritesPrefix old new (string_bytes reply.text) → Replied
-      → OnInput known (λ input. WritesSome old new (allowed input))
-  partly_written old new some replied = record {
-    input = replied.input;
-    is_known = replied.is_known;
-    holds = record {
-      answer = replied.holds.answer;
-      is_allowed = replied.holds.is_allowed;
-      written = subst (λ (text : List ℕ). WritesPrefix old new text) replied.holds.replies.text some;
-    };
-  }
+pub unless_run_stopped : (P : Result ℕ EngineFault → Type 0) (result : Result Served EngineFault) (told fault : EngineFault)
+    → result ≡ Err told → told ≡ fault → P (Err fault) → UnlessRun result P
+unless_run_stopped P result told fault is same held = rw (is, same) held
+
+-- what is served from where another call left the ends is served from where that call found them, if it
+-- left them alone
+pub served_from : {R W : Type 0} (job other : Result Job LineFault) (remaining : R → Option (List ℕ)) (reads : R → Counts)
+    (written : W → Option (List ℕ)) (writes : W → Counts) (old between new : R) (first left last : W) (result : Result ℕ EngineFault)
+    → job ≡ other → between ≡ old → left ≡ first
+    → ServesJob other remaining reads written writes between new left last result
+    → ServesJob job remaining reads written writes old new first last result
+served_from job other remaining reads written writes old between new first left last result asks unread unwritten served =
+    subst (λ (j : Result Job LineFault). ServesJob j remaining reads written writes old new first last result) (sym asks)
+    (subst (λ r. ServesJob other remaining reads written writes r new first last result) unread
+    (subst (λ w. ServesJob other remaining reads written writes between new w last result) unwritten served))

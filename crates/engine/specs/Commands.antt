@@ -1,7 +1,7 @@
 -- What the engine answers, by what the words ask for and by the input.
 use Rattle.std.specs.Prelude.{◌≡◌, ℕ, ◌&&◌, nat_le, nat_lt, Bool, true, false, List, Option, Some, None, Result, Ok, Err, if◌then◌else◌}
 use Rattle.command_line.specs.Line.{Asked}
-use Rattle.command_line.specs.Line.Asked.{Order as AskedOrder, Check as AskedCheck, Source as AskedSource, Code as AskedCode, Emit as AskedEmit, Expand as AskedExpand, Project as AskedProject, Run}
+use Rattle.command_line.specs.Line.Asked.{Order as AskedOrder, Check as AskedCheck, Source as AskedSource, Code as AskedCode, Emit as AskedEmit, Expand as AskedExpand, Project as AskedProject, Run as AskedRun}
 use Rattle.tick_play.specs.Number.{number_of}
 use Rattle.engine.specs.Answer.{Answer, refused, usage}
 use Rattle.engine.specs.Codes.{code_answer}
@@ -9,6 +9,7 @@ use Rattle.engine.specs.Lowered.{IsRunnableAnswer, emit_answer, lowered_answer}
 use Rattle.engine.specs.Maps.{expand_answer, project_answer}
 use Rattle.engine.specs.Order.{order_answer}
 use Rattle.engine.specs.Programs.{IsTextAnswer, check_answer, source_answer}
+use Rattle.engine.specs.Runs.{IsRunAnswer}
 use Rattle.engine.specs.Text.{text_fault}
 use Rattle.engine.specs.declared.command.LineFault.{LineFault}
 use Rattle.engine.specs.declared.command.LineFault.TheVariants.{Usage, Processes}
@@ -24,6 +25,7 @@ pub data Job : Type 0 where
   Code : (schedule : List ℕ) → Job
   Expand : (schedule : List ℕ) → Job
   Project : (schedule : List ℕ) → Job
+  Run : (turns : ℕ) → Job
 
 -- a number up to the limit
 abbrev pub lawful : ℕ → Option ℕ → Option ℕ
@@ -39,6 +41,14 @@ abbrev pub order_job : Result ℕ LineFault → Result Job LineFault
 order_job (Ok n) = Ok (Order n)
 order_job (Err fault) = Err fault
 
+abbrev pub turns_of : Option ℕ → Result ℕ LineFault
+turns_of None = Err Usage
+turns_of (Some turns) = Ok turns
+
+abbrev pub run_job : Result ℕ LineFault → Result Job LineFault
+run_job (Ok turns) = Ok (Run turns)
+run_job (Err fault) = Err fault
+
 -- the command that the words ask for, or why they are refused
 abbrev pub job_of : Option Asked → Result Job LineFault
 job_of None = Err Usage
@@ -49,7 +59,7 @@ job_of (Some (AskedSource schedule)) = Ok (Source schedule)
 job_of (Some (AskedCode schedule)) = Ok (Code schedule)
 job_of (Some (AskedExpand schedule)) = Ok (Expand schedule)
 job_of (Some (AskedProject schedule)) = Ok (Project schedule)
-job_of (Some (Run turns)) = Err Usage
+job_of (Some (AskedRun text)) = run_job (turns_of (lawful 1000000000 (number_of text)))
 
 -- what a command answers on a text
 abbrev pub TextAnswers : Job → List ℕ → Answer → Type 0
@@ -60,6 +70,7 @@ TextAnswers (Source schedule) text a = IsTextAnswer (source_answer schedule) tex
 TextAnswers (Code schedule) text a = IsRunnableAnswer (code_answer schedule) text a
 TextAnswers (Expand schedule) text a = IsTextAnswer (lowered_answer (expand_answer schedule)) text a
 TextAnswers (Project schedule) text a = IsTextAnswer (lowered_answer (project_answer schedule)) text a
+TextAnswers (Run turns) text a = IsRunAnswer turns text a
 
 abbrev pub UnlessRefused : Option Refusal → (Answer → Type 0) → Answer → Type 0
 UnlessRefused None P a = P a
@@ -85,3 +96,18 @@ Answers asked input a = JobAnswers (job_of asked) input a
 abbrev pub wants_input : Result Job LineFault → Bool
 wants_input (Ok job) = true
 wants_input (Err fault) = false
+
+abbrev pub runs : Job → Bool
+runs (Order n) = false
+runs Check = false
+runs Emit = false
+runs (Source schedule) = false
+runs (Code schedule) = false
+runs (Expand schedule) = false
+runs (Project schedule) = false
+runs (Run turns) = true
+
+-- whether it is a run on threads, the one command that may have more than one answer
+abbrev pub is_run : Result Job LineFault → Bool
+is_run (Ok job) = runs job
+is_run (Err fault) = false

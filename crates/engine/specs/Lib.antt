@@ -10,6 +10,7 @@ pub mod Programs
 pub mod Codes
 pub mod Lowered
 pub mod Maps
+pub mod Runs
 pub mod Commands
 pub mod Serving
 pub mod Laws

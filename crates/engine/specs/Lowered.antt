@@ -1,14 +1,15 @@
 -- What the commands on the code of a program answer: it is too long, or the code is answered.
-use Rattle.std.specs.Prelude.{ℕ, nat_lt, ◌==◌, Bool, true, false, List, codes}
+use Rattle.std.specs.Prelude.{◌≡◌, ℕ, ◌≤◌, nat_lt, ◌==◌, Bool, true, false, List, Ok, codes}
 use Rattle.std.specs.List.{starts_with}
-use Rattle.code_text.specs.CodeText.{code_text}
+use Rattle.code_text.specs.CodeText.{Reading, code_text}
+use Rattle.tick_kinds.specs.Accepted.{IsAccepted}
 use Rattle.tick_kinds.specs.Resolution.{resolved}
 use Rattle.tick_lower.specs.Lowered.{lowered, lowered_length, lowered_sizes}
 use Rattle.tick_syntax.specs.Plain.{Name, WholeProgram}
 use Rattle.verified_code.specs.Instructions.{StepCode}
 use Rattle.engine.specs.Answer.{Answer, done, refused}
 use Rattle.engine.specs.Codes.{IsCodeAnswer}
-use Rattle.engine.specs.Programs.{IsTextAnswer}
+use Rattle.engine.specs.Programs.{IsProgramText, IsTextAnswer}
 use Rattle.engine.specs.declared.refusal.Refusal.TheVariants as refusal
 
 -- the code that a program becomes
@@ -37,3 +38,19 @@ IsEitherAnswer false by text a = IsTextAnswer (lowered_answer by) text a
 -- `by` answers the code that the text is, or the code of the program that it is
 abbrev pub IsRunnableAnswer : (StepCode → Answer) → List ℕ → Answer → Type 0
 IsRunnableAnswer by text a = IsEitherAnswer (begins_as_code text) by text a
+
+-- the text is an accepted program, and the code is what it becomes
+pub record IsLowered (text : List ℕ) (c : StepCode) : Type 0 where
+  pub program : WholeProgram Name
+  pub reads : IsProgramText text program
+  pub accepted : IsAccepted program
+  pub fits : lowered_length (resolved program) ≤ 65535
+  pub code : c ≡ code_of program
+
+abbrev pub IsEitherCode : Bool → List ℕ → StepCode → Type 0
+IsEitherCode true text c = Reading text (Ok c)
+IsEitherCode false text c = IsLowered text c
+
+-- the code that the text is, or the code of the program that it is
+abbrev pub IsCodeOf : List ℕ → StepCode → Type 0
+IsCodeOf text c = IsEitherCode (begins_as_code text) text c

@@ -1,16 +1,17 @@
 -- What serving a command line does to the two ends.
-use Rattle.std.specs.Prelude.{◌≡◌, ℕ, ◌+◌, ◌≤◌, false, List, Option, IfSome, Result, Ok, Err}
+use Rattle.std.specs.Prelude.{◌≡◌, ℕ, ◌+◌, ◌≤◌, Bool, true, false, List, Option, IfSome, Result, Ok, Err}
 use Rattle.std.specs.Io.KnownBytes.{Appends}
 use Rattle.command_line.specs.Line.{Asked}
 use Rattle.engine.specs.Answer.{Answer}
-use Rattle.engine.specs.Commands.{Answers, job_of, wants_input}
+use Rattle.engine.specs.Commands.{Job, JobAnswers, is_run, job_of, wants_input}
+use Rattle.engine.specs.declared.command.LineFault.{LineFault}
 use Rattle.engine.specs.declared.ends.Counts.{Counts}
 use Rattle.engine.specs.Reading.{CountsReads, TakesFew, fault_in}
 use Rattle.engine.specs.Writing.{CountsWrites, WritesPrefix}
 use Rattle.engine.specs.declared.fault.EngineFault.{EngineFault}
 use Rattle.engine.specs.declared.fault.EngineFault.TheVariants.{Read, Write, Memory, Thread}
 use Rattle.engine.specs.declared.serving.Served.{Served}
-use Rattle.engine.specs.declared.serving.Served.TheVariants.{Status}
+use Rattle.engine.specs.declared.serving.Served.TheVariants.{Status, Run}
 
 -- P of some input, which is the one that is still to come where that is known
 pub record OnInput (known : Option (List ℕ)) (P : List ℕ → Type 0) : Type 0 where
@@ -31,30 +32,35 @@ pub record WritesSome (old new : Option (List ℕ)) (allowed : Answer → Type 0
   pub is_allowed : allowed answer
   pub written : WritesPrefix old new answer.text
 
--- a failed write leaves some of the answer's text; any other fault leaves the writer as it was
-abbrev pub Leaves : {W : Type 0} → (W → Option (List ℕ)) → W → W → Result ℕ EngineFault → (Answer → Type 0) → Type 0
-Leaves written old new (Ok status) allowed = Writes (written old) (written new) status allowed
-Leaves written old new (Err Write) allowed = WritesSome (written old) (written new) allowed
-Leaves written old new (Err Read) allowed = new ≡ old
-Leaves written old new (Err Memory) allowed = new ≡ old
-Leaves written old new (Err Thread) allowed = ⊥
+-- A failed write leaves some of the answer's text; any other fault leaves the writer as it was. Threads
+-- are wanted by a run alone.
+abbrev pub Leaves : {W : Type 0} → (W → Option (List ℕ)) → W → W → Bool → Result ℕ EngineFault → (Answer → Type 0) → Type 0
+Leaves written old new run (Ok status) allowed = Writes (written old) (written new) status allowed
+Leaves written old new run (Err Write) allowed = WritesSome (written old) (written new) allowed
+Leaves written old new run (Err Read) allowed = new ≡ old
+Leaves written old new run (Err Memory) allowed = new ≡ old
+Leaves written old new run (Err Thread) allowed = (run ≡ true) × (new ≡ old)
 
--- A command line was served: `remaining` and `reads` are what is known of the reader, its bytes and its
--- counts, and `written` and `writes` what is known of the writer.
-pub record Serves {R W : Type 0} (asked : Option Asked) (remaining : R → Option (List ℕ)) (reads : R → Counts)
+-- What words ask for was served: `remaining` and `reads` are what is known of the reader, its bytes and
+-- its counts, and `written` and `writes` what is known of the writer.
+pub record ServesJob {R W : Type 0} (job : Result Job LineFault) (remaining : R → Option (List ℕ)) (reads : R → Counts)
     (written : W → Option (List ℕ)) (writes : W → Counts) (reader_old reader_new : R) (writer_old writer_new : W)
     (result : Result ℕ EngineFault) : Type 0 where
-  pub answers : OnInput (remaining reader_old) (λ input. Leaves written writer_old writer_new result (Answers asked input))
-  pub unread : wants_input (job_of asked) ≡ false → reader_new ≡ reader_old
+  pub answers : OnInput (remaining reader_old) (λ input. Leaves written writer_old writer_new (is_run job) result (JobAnswers job input))
+  pub unread : wants_input job ≡ false → reader_new ≡ reader_old
   pub few : TakesFew (remaining reader_old) (remaining reader_new)
   pub calls : (reads reader_new).calls ≤ (reads reader_old).calls + 2000000
   pub reads_counted : CountsReads (fault_in result) (reads reader_old) (reads reader_new)
   pub writes_counted : CountsWrites (fault_in result) (writes writer_old) (writes writer_new)
 
--- what was served, as the engine tells it
-abbrev pub status_of : Served → ℕ
-status_of (Status status) = status
+-- a command line was served
+abbrev pub Serves : {R W : Type 0} → Option Asked → (R → Option (List ℕ)) → (R → Counts) → (W → Option (List ℕ)) → (W → Counts)
+    → R → R → W → W → Result ℕ EngineFault → Type 0
+Serves asked remaining reads written writes reader_old reader_new writer_old writer_new result =
+    ServesJob (job_of asked) remaining reads written writes reader_old reader_new writer_old writer_new result
 
-abbrev pub outcome_of : Result Served EngineFault → Result ℕ EngineFault
-outcome_of (Ok served) = Ok (status_of served)
-outcome_of (Err fault) = Err fault
+-- P of what was served, where no run is handed on
+abbrev pub UnlessRun : Result Served EngineFault → (Result ℕ EngineFault → Type 0) → Type 0
+UnlessRun (Ok (Status status)) P = P (Ok status)
+UnlessRun (Ok (Run turns)) P = Unit {0}
+UnlessRun (Err fault) P = P (Err fault)

@@ -10,7 +10,7 @@ use crate::lowered::{code_report, emit_text};
 use crate::maps::{expand_text, project_text};
 use crate::order::order_text;
 use crate::program::{check_text, source_text};
-use crate::reply::{Reply, refusal_reply};
+use crate::reply::{Reply, stop_reply};
 use crate::stop::Stop;
 use crate::text::text_of;
 use std::alloc::Global;
@@ -23,8 +23,7 @@ pub fn reply_to(alloc: Global, command: Command<'_>, input: &[u8]) -> Result<Rep
 {
     match input_answer(alloc, command, input) {
         Ok(text) => Ok(Reply { status: 0, text }),
-        Err(Stop::Refused(refusal)) => Ok(refusal_reply(alloc, refusal)?),
-        Err(Stop::Memory) => Err(EngineFault::Memory),
+        Err(stop) => stop_reply(alloc, stop),
     }
 }
 

@@ -2,8 +2,8 @@
 ghost use Rattle.std.specs.Prelude.{◌≡◌, ◌<◌, ◌^◌, IfOk, MatchResult, option_map};
 ghost use Rattle.command_line.specs.Line.{asked_by};
 ghost use Rattle.tick_play.specs.Number.{number_of};
-ghost use Rattle.engine.specs.Commands.{job_of, lawful as lawful_number, processes_of};
-ghost use Rattle.engine.specs.prover.Replies.{Fits, job};
+ghost use Rattle.engine.specs.Commands.{job_of, lawful as lawful_number, processes_of, turns_of};
+ghost use Rattle.engine.specs.prover.Replies.{Fits, job_in};
 
 use command_line::Request;
 use tick_play::number::number;
@@ -11,7 +11,18 @@ use tick_play::number::number;
 /// The greatest N that a command line may have.
 const NUMBER_LIMIT: u64 = 4_294_967_295;
 
-/// A command that wants nothing more than an input.
+/// The greatest TURNS.
+const TURNS_LIMIT: u64 = 1_000_000_000;
+
+/// What a command line asks for.
+#[derive(Clone, Copy, Debug, PartialEq, Eq)]
+pub enum Task<'a> {
+    Answer(Command<'a>),
+    /// A run on threads of so many turns, at most 1,000,000,000.
+    Run(u64),
+}
+
+/// A command that wants nothing more than an input, and no threads.
 #[derive(Clone, Copy, Debug, PartialEq, Eq)]
 pub enum Command<'a> {
     /// For so many processes, 1 to 6.
@@ -37,24 +48,25 @@ pub enum LineFault {
     Processes,
 }
 
-/// The command that a command line asks for.
-pub fn command_of<'a>(request: Option<Request<'a>>) -> Result<Command<'a>, LineFault>
-    ensures job { MatchResult result (λ command. job_of (option_map asked_by request.entry) ≡ Ok (job command)) (λ fault. job_of (option_map asked_by request.entry) ≡ Err fault) }
-    ensures fits { IfOk result (λ command. Fits (job command)) }
+/// What a command line asks for.
+pub fn task_of<'a>(request: Option<Request<'a>>) -> Result<Task<'a>, LineFault>
+    ensures job { MatchResult result (λ task. job_of (option_map asked_by request.entry) ≡ Ok (job_in task)) (λ fault. job_of (option_map asked_by request.entry) ≡ Err fault) }
+    ensures fits { IfOk result (λ task. Fits (job_in task)) }
 {
     let Some(request) = request else {
         return Err(LineFault::Usage);
     };
-    match request {
-        Request::Order(text) => Ok(Command::Order(processes(text)?)),
-        Request::Check => Ok(Command::Check),
-        Request::Emit => Ok(Command::Emit),
-        Request::Source(schedule) => Ok(Command::Source(schedule)),
-        Request::Code(schedule) => Ok(Command::Code(schedule)),
-        Request::Expand(schedule) => Ok(Command::Expand(schedule)),
-        Request::Project(schedule) => Ok(Command::Project(schedule)),
-        Request::Run(_) => Err(LineFault::Usage),
-    }
+    let command = match request {
+        Request::Order(text) => Command::Order(processes(text)?),
+        Request::Check => Command::Check,
+        Request::Emit => Command::Emit,
+        Request::Source(schedule) => Command::Source(schedule),
+        Request::Code(schedule) => Command::Code(schedule),
+        Request::Expand(schedule) => Command::Expand(schedule),
+        Request::Project(schedule) => Command::Project(schedule),
+        Request::Run(text) => return Ok(Task::Run(turns(text)?)),
+    };
+    Ok(Task::Answer(command))
 }
 
 // A number of processes, 1 to 6.
@@ -68,6 +80,15 @@ fn processes(text: &str) -> Result<u8, LineFault>
         return Err(LineFault::Processes);
     }
     Ok(n as u8)
+}
+
+fn turns(text: &str) -> Result<u64, LineFault>
+    ensures { result ≡ turns_of (lawful_number 1000000000 (number_of text.now)) }
+{
+    match lawful(text, TURNS_LIMIT) {
+        Some(turns) => Ok(turns),
+        None => Err(LineFault::Usage),
+    }
 }
 
 // The number that a text of digits spells, if it isn't above the limit.

@@ -1,8 +1,11 @@
 ghost use Rattle.std.specs.Prelude.{◌≡◌};
 ghost use Rattle.engine.specs.declared.fault.EngineFault.TheVariants.{Memory};
+ghost use Rattle.engine.specs.prover.Faults.{run_fault};
 
 use std::alloc::{AllocError, AllocFailed};
 use thiserror::Error;
+use tick_play::NoMemory;
+use tick_run::RunFault;
 
 /// Why the engine has no status to give.
 #[derive(Clone, Copy, Debug, PartialEq, Eq, Error)]
@@ -34,5 +37,24 @@ impl<T: Drop> From<AllocFailed<T>> for EngineFault {
 
     fn from(_error: AllocFailed<T>) -> EngineFault {
         EngineFault::Memory
+    }
+}
+
+impl From<NoMemory> for EngineFault {
+    ghost from_gives = { λ _ fault. fault ≡ Memory };
+
+    fn from(_error: NoMemory) -> EngineFault {
+        EngineFault::Memory
+    }
+}
+
+impl From<RunFault> for EngineFault {
+    ghost from_gives = { λ error fault. fault ≡ run_fault error };
+
+    fn from(error: RunFault) -> EngineFault {
+        match error {
+            RunFault::NoMemory => EngineFault::Memory,
+            RunFault::NoThread => EngineFault::Thread,
+        }
     }
 }

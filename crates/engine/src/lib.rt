@@ -4,6 +4,7 @@
 //! Start with `engine`, and with `specs/Commands.antt` for what each command answers. The ends are of
 //! the traits `ByteSource` and `ByteSink`, and nothing here knows of standard input or output. An
 //! input is read once, where the words want one; an answer is built whole before any of it is written.
+//! `serve` does all that needs no threads, and hands a run on; `engine` makes it.
 #![tactic(auto)]
 
 mod answer;
@@ -19,6 +20,7 @@ mod program;
 mod reading;
 mod refusal;
 mod reply;
+mod runs;
 mod serving;
 mod stop;
 mod text;

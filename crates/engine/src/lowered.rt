@@ -3,7 +3,7 @@ ghost use Rattle.std.specs.Prelude.{◌≡◌, IfErr, IfOk, string_bytes};
 ghost use Rattle.verified_code.specs.Instructions.{StepCode};
 ghost use Rattle.engine.specs.Answer.{Answer, done, refused};
 ghost use Rattle.engine.specs.Codes.{code_answer};
-ghost use Rattle.engine.specs.Lowered.{IsRunnableAnswer, begins_as_code, code_of, emit_answer, lowered_answer};
+ghost use Rattle.engine.specs.Lowered.{IsCodeOf, IsLowered, IsRunnableAnswer, begins_as_code, code_of, emit_answer, lowered_answer};
 ghost use Rattle.engine.specs.Programs.{IsTextAnswer};
 ghost use Rattle.engine.specs.prover.Replies.{IfRefused};
 
@@ -35,9 +35,9 @@ pub fn code_report(alloc: Global, text: &str, schedule: &str) -> Result<String, 
     report_of_code(alloc, &code, schedule)
 }
 
-// The code that a text is, or the code of the program that it is.
-fn runnable_code(alloc: Global, text: &str) -> Result<Code, Stop>
-    ensures ok { (by : StepCode → Answer) → IfOk result (λ code. IsRunnableAnswer by text.now (by code)) }
+/// The code that a text is, or the code of the program that it is.
+pub fn runnable_code(alloc: Global, text: &str) -> Result<Code, Stop>
+    ensures code { IfOk result (λ code. IsCodeOf text.now code) }
     ensures refused { (by : StepCode → Answer) → IfErr result (λ stop. IfRefused stop (λ refusal. IsRunnableAnswer by text.now (refused refusal))) }
 {
     if is_code(text) {
@@ -56,7 +56,7 @@ fn is_code(text: &str) -> bool
 
 // The code of the accepted program that a text is.
 fn lowered_code(alloc: Global, text: &str) -> Result<Code, Stop>
-    ensures ok { (by : StepCode → Answer) → IfOk result (λ code. IsTextAnswer (lowered_answer by) text.now (by code)) }
+    ensures code { IfOk result (λ code. IsLowered text.now code) }
     ensures refused { (by : StepCode → Answer) → IfErr result (λ stop. IfRefused stop (λ refusal. IsTextAnswer (lowered_answer by) text.now (refused refusal))) }
 {
     let (_program, code) = lowering_of(alloc, text)?;
@@ -66,7 +66,7 @@ fn lowered_code(alloc: Global, text: &str) -> Result<Code, Stop>
 /// The accepted program that a text is, with its code.
 pub fn lowering_of(alloc: Global, text: &str) -> Result<(Program, Code), Stop>
     ensures code { IfOk result (λ both. both.1 ≡ code_of both.0) }
-    ensures ok { (by : StepCode → Answer) → IfOk result (λ both. IsTextAnswer (lowered_answer by) text.now (by both.1)) }
+    ensures lowered { IfOk result (λ both. IsLowered text.now both.1) }
     ensures refused { (by : StepCode → Answer) → IfErr result (λ stop. IfRefused stop (λ refusal. IsTextAnswer (lowered_answer by) text.now (refused refusal))) }
 {
     let program = program_of(alloc, text)?;

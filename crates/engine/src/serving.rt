@@ -1,20 +1,26 @@
 //! The engine: the words of a command line and two ends in, a status out.
-ghost use Rattle.std.specs.Prelude.{◌≡◌, ◌⊎◌, ◌+◌, ◌≤◌, false, IfErr, IfOk, map, option_map, string_bytes};
-ghost use Rattle.command_line.specs.Line.{asked_by, asked_in};
-ghost use Rattle.engine.specs.Commands.{Answers, job_of, wants_input};
-ghost use Rattle.engine.specs.Reading.{CountsReads, TakesFew, fault_in};
-ghost use Rattle.engine.specs.Serving.{OnInput, Serves, outcome_of};
-ghost use Rattle.engine.specs.prover.Replies.{IsReply};
+ghost use Rattle.std.specs.Prelude.{◌≡◌, ◌↔◌, ◌⊎◌, ℕ, true, IfErr, IfOk, Ok, OnErr, OnOk, map, string_bytes};
+ghost use Rattle.std.specs.Io.KnownBytes.{Appends};
+ghost use Rattle.command_line.specs.Line.{asked_in};
+ghost use Rattle.engine.specs.Commands.{is_run, job_of};
+ghost use Rattle.engine.specs.Commands.Job.{Run};
+ghost use Rattle.engine.specs.Reading.{fault_in};
+ghost use Rattle.engine.specs.Serving.{Serves, ServesJob, UnlessRun};
+ghost use Rattle.engine.specs.Writing.{CountsWrites, WritesPrefix};
+ghost use Rattle.engine.specs.prover.Replies.{Fits, job};
 
 use crate::answer::reply_to;
-use crate::command::command_of;
+use crate::command::{Command, Task, task_of};
 use crate::ends::{ByteSink, ByteSource};
 use crate::fault::EngineFault;
 use crate::reading::read_input;
 use crate::reply::{Reply, line_reply};
+use crate::runs::run_reply;
 use crate::writing::write_text;
-use command_line::{Request, asked};
+use command_line::asked;
 use std::alloc::Global;
+use std::sync::Wait;
+use std::thread::Threads;
 
 /// What came of a command line that was served.
 #[derive(Clone, Copy, Debug, PartialEq, Eq)]
@@ -22,10 +28,13 @@ pub enum Served {
     /// The answer was written, and this is its status: 0 done, 1 the input was refused, 2 the
     /// command line was.
     Status(u8),
+    /// A run on threads of so many turns is asked for, at most 1,000,000,000. Nothing was read or
+    /// written.
+    Run(u64),
 }
 
 /// Serves a command line, and answers its status. The first word is the program's name.
-pub fn engine<A: AllocGlobal, R: ByteSource, W: ByteSink>(
+pub fn engine<A: AllocGlobal + Threads + Wait, R: ByteSource, W: ByteSink>(
     rt: &A,
     words: &[String],
     reader: &mut R,
@@ -35,43 +44,72 @@ pub fn engine<A: AllocGlobal, R: ByteSource, W: ByteSink>(
 {
     match serve(rt.alloc(), words, reader, writer)? {
         Served::Status(status) => Ok(status),
+        Served::Run(turns) => serve_run(rt, turns, reader, writer),
     }
 }
 
 /// Answers a command line: reads the reader where the answer depends on it, and writes the whole
-/// answer to the writer.
+/// answer to the writer. A run on threads is handed on.
 pub fn serve<R: ByteSource, W: ByteSink>(
     alloc: Global,
     words: &[String],
     reader: &mut R,
     writer: &mut W,
 ) -> Result<Served, EngineFault>
-    ensures { Serves (asked_in (map string_bytes words.now)) R.remaining R.counts W.written W.counts reader.old reader.new writer.old writer.new (outcome_of result) }
+    ensures run { IfOk result (λ served. (turns : ℕ) → (served ≡ Served.Run turns) ↔ (job_of (asked_in (map string_bytes words.now)) ≡ Ok (Run turns))) }
+    ensures untouched { is_run (job_of (asked_in (map string_bytes words.now))) ≡ true → (reader.new ≡ reader.old) × (writer.new ≡ writer.old) }
+    ensures memory { is_run (job_of (asked_in (map string_bytes words.now))) ≡ true → IfErr result (λ fault. fault ≡ EngineFault.Memory) }
+    ensures served { UnlessRun result (Serves (asked_in (map string_bytes words.now)) R.remaining R.counts W.written W.counts reader.old reader.new writer.old writer.new) }
 {
     let request = asked(alloc, words)?;
-    let reply = reply_of(alloc, request, reader)?;
-    write_text(writer, reply.text.as_bytes())?;
-    Ok(Served::Status(reply.status))
+    match task_of(request) {
+        Ok(Task::Run(turns)) => Ok(Served::Run(turns)),
+        Ok(Task::Answer(command)) => {
+            let status = serve_command(alloc, command, reader, writer)?;
+            Ok(Served::Status(status))
+        }
+        Err(fault) => {
+            let reply = line_reply(alloc, fault)?;
+            let status = write_reply(writer, &reply)?;
+            Ok(Served::Status(status))
+        }
+    }
 }
 
-// The only place that reads.
-fn reply_of<R: ByteSource>(
+fn serve_command<R: ByteSource, W: ByteSink>(
     alloc: Global,
-    request: Option<Request<'_>>,
+    command: Command<'_>,
     reader: &mut R,
-) -> Result<Reply, EngineFault>
-    ensures replies { IfOk result (λ reply. OnInput (R.remaining reader.old) (λ input. IsReply (Answers (option_map asked_by request.entry) input) reply)) }
-    ensures err { IfErr result (λ fault. (fault ≡ EngineFault.Read) ⊎ (fault ≡ EngineFault.Memory)) }
-    ensures unread { wants_input (job_of (option_map asked_by request.entry)) ≡ false → reader.new ≡ reader.old }
-    ensures few { TakesFew (R.remaining reader.old) (R.remaining reader.new) }
-    ensures calls { (R.counts reader.new).calls ≤ (R.counts reader.old).calls + 2000000 }
-    ensures counted { CountsReads (fault_in result) (R.counts reader.old) (R.counts reader.new) }
+    writer: &mut W,
+) -> Result<u8, EngineFault>
+    requires { Fits (job command) }
+    ensures { ServesJob (Ok (job command.entry)) R.remaining R.counts W.written W.counts reader.old reader.new writer.old writer.new result }
 {
-    match command_of(request) {
-        Ok(command) => {
-            let input = read_input(alloc, reader)?;
-            reply_to(alloc, command, input.as_slice())
-        }
-        Err(fault) => Ok(line_reply(alloc, fault)?),
-    }
+    let input = read_input(alloc, reader)?;
+    let reply = reply_to(alloc, command, input.as_slice())?;
+    write_reply(writer, &reply)
+}
+
+fn serve_run<A: AllocGlobal + Threads + Wait, R: ByteSource, W: ByteSink>(
+    rt: &A,
+    turns: u64,
+    reader: &mut R,
+    writer: &mut W,
+) -> Result<u8, EngineFault>
+    ensures { ServesJob (Ok (Run turns)) R.remaining R.counts W.written W.counts reader.old reader.new writer.old writer.new result }
+{
+    let input = read_input(rt.alloc(), reader)?;
+    let reply = run_reply(rt, turns, input.as_slice())?;
+    write_reply(writer, &reply)
+}
+
+fn write_reply<W: ByteSink>(writer: &mut W, reply: &Reply) -> Result<u8, EngineFault>
+    ensures status { IfOk result (λ status. status ≡ reply.now.status) }
+    ensures ok { OnOk result (Appends (W.written writer.old) (W.written writer.new) (string_bytes reply.now.text)) }
+    ensures err { OnErr result (WritesPrefix (W.written writer.old) (W.written writer.new) (string_bytes reply.now.text)) }
+    ensures fault { IfErr result (λ fault. fault ≡ EngineFault.Write) }
+    ensures counted { CountsWrites (fault_in result) (W.counts writer.old) (W.counts writer.new) }
+{
+    write_text(writer, reply.text.as_bytes())?;
+    Ok(reply.status)
 }

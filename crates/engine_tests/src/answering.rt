@@ -1,14 +1,16 @@
 //! A command line, answered over ends in memory.
 use crate::ends::{Disturbance, Input, Output};
 use engine::{EngineFault, engine};
+use std::sync::Wait;
 use std::test::Fail;
+use std::thread::Threads;
 
 pub const USAGE: &str =
     "usage: ticketc order N | check | emit | source S | code S | lift S | drop S | run TURNS\n";
 
 /// Serves the words over these ends.
-pub fn served<A: AllocGlobal>(
-    rt: &A,
+pub fn served<R: AllocGlobal + Threads + Wait>(
+    rt: &R,
     words: &[&str],
     reader: &mut Input<'_>,
     writer: &mut Output,
@@ -21,8 +23,8 @@ pub fn served<A: AllocGlobal>(
 }
 
 /// What the words come to on an input, and what they write.
-pub fn answered<A: AllocGlobal>(
-    rt: &A,
+pub fn answered<R: AllocGlobal + Threads + Wait>(
+    rt: &R,
     words: &[&str],
     input: &[u8],
 ) -> Result<(Result<u8, EngineFault>, Vec<u8>), Fail> {

@@ -2,7 +2,9 @@
 use crate::answering::answered;
 use crate::texts::repeated;
 use std::process::Abort;
+use std::sync::Wait;
 use std::test::Fail;
+use std::thread::Threads;
 
 const SEVEN: &[u8] = b"tickcode 1 1 0 0 0\nPush 7\nOut\nHalt\n";
 
@@ -109,7 +111,7 @@ const REFUSALS: [(&[u8], &str, &str); 18] = [
     (SEVEN, "0*10000001", "refused 53 TooLong\n"),
 ];
 
-fn answers<R: AllocGlobal + Abort>(
+fn answers<R: AllocGlobal + Abort + Threads + Wait>(
     rt: &R,
     code: &[u8],
     schedule: &str,

@@ -81,7 +81,7 @@ const QUEUE: &[u8] =
     b"processes 2; var x; scan s; begin stamp; s = scan; x = older s 0 1; out x; end";
 
 // Each command, with an input that it answers.
-const COMMANDS: [(&[&str], &[u8]); 7] = [
+const COMMANDS: [(&[&str], &[u8]); 8] = [
     (&["ticketc", "order", "3"], b"0 1 2"),
     (&["ticketc", "check"], QUEUE),
     (&["ticketc", "emit"], QUEUE),
@@ -92,6 +92,10 @@ const COMMANDS: [(&[&str], &[u8]); 7] = [
     ),
     (&["ticketc", "lift", "0*5 1*5"], QUEUE),
     (&["ticketc", "drop", "0*3 1*3"], QUEUE),
+    (
+        &["ticketc", "run", "3"],
+        b"tickcode 1 1 0 0 0\nPush 7\nOut\nHalt\n",
+    ),
 ];
 
 // A read that failed is the last one, and nothing is written.
@@ -133,11 +137,15 @@ fn each_write_failing(rt: HostRuntime) -> Result<(), Fail> {
 // Where the words are refused, no byte is asked for.
 #[test]
 fn refused_words_read_nothing(rt: HostRuntime) -> Result<(), Fail> {
-    let lines: [(&[&str], u8); 4] = [
+    let lines: [(&[&str], u8); 8] = [
         (&["ticketc"], 2),
         (&["ticketc", "order", "7"], 1),
         (&["ticketc", "order", "+3"], 2),
-        (&["ticketc", "run", "5"], 2),
+        (&["ticketc", "run"], 2),
+        (&["ticketc", "run", "+3"], 2),
+        (&["ticketc", "run", "1000000001"], 2),
+        (&["ticketc", "run", "99999999999999999999"], 2),
+        (&["ticketc", "run", "1", "2"], 2),
     ];
     for (words, status) in lines {
         let mut reader = Input::new(QUEUE, 1000, Disturbance::Failed(1));

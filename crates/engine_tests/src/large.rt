@@ -4,9 +4,11 @@ use crate::texts::repeated;
 use std::alloc::{AllocError, Global};
 use std::fmt::Write;
 use std::process::Abort;
+use std::sync::Wait;
 use std::test::Fail;
+use std::thread::Threads;
 
-fn answers<R: AllocGlobal + Abort>(
+fn answers<R: AllocGlobal + Abort + Threads + Wait>(
     rt: &R,
     words: &[&str],
     input: &str,
@@ -18,7 +20,11 @@ fn answers<R: AllocGlobal + Abort>(
     Ok(())
 }
 
-fn prints<R: AllocGlobal + Abort>(rt: &R, program: &str, printed: &str) -> Result<(), Fail> {
+fn prints<R: AllocGlobal + Abort + Threads + Wait>(
+    rt: &R,
+    program: &str,
+    printed: &str,
+) -> Result<(), Fail> {
     answers(rt, &["ticketc", "check"], program, printed)
 }
 
@@ -119,11 +125,15 @@ fn longest_input(rt: HostRuntime) -> Result<(), Fail> {
         b"refused 5 Unexpected 1000000 1000000\n".as_slice()
     );
     text.push(b' ')?;
-    let (served, written) = answered(&rt, &["ticketc", "check"], text.as_slice())?;
-    assert_eq!(rt; served, Ok(1));
-    assert_eq!(rt; written.as_slice(), b"refused 1 TextTooLong\n".as_slice());
-    let (served, written) = answered(&rt, &["ticketc", "source", "x"], text.as_slice())?;
-    assert_eq!(rt; served, Ok(1));
-    assert_eq!(rt; written.as_slice(), b"refused 1 TextTooLong\n".as_slice());
+    let too_long: [&[&str]; 3] = [
+        &["ticketc", "check"],
+        &["ticketc", "source", "x"],
+        &["ticketc", "run", "5"],
+    ];
+    for words in too_long {
+        let (served, written) = answered(&rt, words, text.as_slice())?;
+        assert_eq!(rt; served, Ok(1));
+        assert_eq!(rt; written.as_slice(), b"refused 1 TextTooLong\n".as_slice());
+    }
     Ok(())
 }

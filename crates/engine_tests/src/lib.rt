@@ -23,4 +23,6 @@ mod programs;
 #[cfg(test)]
 mod refusals;
 #[cfg(test)]
+mod runs;
+#[cfg(test)]
 mod texts;

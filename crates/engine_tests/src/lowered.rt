@@ -2,7 +2,9 @@
 use crate::answering::answered;
 use crate::texts::repeated;
 use std::process::Abort;
+use std::sync::Wait;
 use std::test::Fail;
+use std::thread::Threads;
 
 const QUEUE: &[u8] =
     b"processes 2; var x; scan s; begin stamp; s = scan; x = older s 0 1; out x; end";
@@ -104,7 +106,7 @@ const ANSWERS: [(&[&str], &[u8], u8, &str); 19] = [
     ),
 ];
 
-fn answers<R: AllocGlobal + Abort>(
+fn answers<R: AllocGlobal + Abort + Threads + Wait>(
     rt: &R,
     words: &[&str],
     program: &[u8],
@@ -147,11 +149,12 @@ fn longest_code_of_a_program(rt: HostRuntime) -> Result<(), Fail> {
         code.as_str(),
     )?;
     let program = repeated(rt.alloc(), FRONT, "out 1; ", 32_768, "end")?;
-    let too_long: [&[&str]; 4] = [
+    let too_long: [&[&str]; 5] = [
         &["ticketc", "emit"],
         &["ticketc", "code", "x"],
         &["ticketc", "lift", "x"],
         &["ticketc", "drop", "x"],
+        &["ticketc", "run", "0"],
     ];
     for words in too_long {
         answers(&rt, words, program.as_bytes(), 1, "refused 31 TooLong\n")?;

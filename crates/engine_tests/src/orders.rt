@@ -4,7 +4,7 @@ use crate::ends::{Disturbance, Input, Output};
 use std::test::Fail;
 
 // A command line, its input, the status, and how the text ends. A text that isn't cut begins so.
-const ANSWERS: [(&[&str], &[u8], u8, &str); 24] = [
+const ANSWERS: [(&[&str], &[u8], u8, &str); 23] = [
     (
         &["ticketc", "order", "2"],
         b"",
@@ -99,12 +99,6 @@ const ANSWERS: [(&[&str], &[u8], u8, &str); 24] = [
     (&["ticketc", "order", "+3"], b"", 2, USAGE),
     (&["ticketc"], b"", 2, USAGE),
     (&["ticketc", "--help"], b"", 2, USAGE),
-    (
-        &["ticketc", "run", "5"],
-        b"processes 1; begin end",
-        2,
-        USAGE,
-    ),
     (
         &["ticketc", "emit", "5"],
         b"processes 1; begin end",

@@ -4,7 +4,9 @@ use crate::texts::repeated;
 use std::alloc::{AllocError, Global};
 use std::fmt::Write;
 use std::process::Abort;
+use std::sync::Wait;
 use std::test::Fail;
+use std::thread::Threads;
 
 // A program and the line that refuses it.
 const PROGRAMS: [(&[u8], &str); 18] = [
@@ -75,7 +77,7 @@ const SCHEDULES: [(&str, &str); 9] = [
     ("0*99999999999999999999", "refused 53 TooLong\n"),
 ];
 
-fn refused<R: AllocGlobal + Abort>(
+fn refused<R: AllocGlobal + Abort + Threads + Wait>(
     rt: &R,
     words: &[&str],
     input: &[u8],

@@ -65,7 +65,7 @@ fn host_ends(rt: HostRuntime) {
 // The words of a test's run are no command line.
 #[test]
 fn status_of_the_usage_line(rt: HostRuntime) -> Result<(), Fail> {
-    let status = format!(in rt.alloc(); "{:?}", ended(&rt))?;
+    let status = format!(in rt.alloc(); "{:?}", ended(&rt, rt.stdin(), rt.stdout()))?;
     assert_eq!(rt; status.as_str(), "ExitCode(unix_exit_status(2))");
     Ok(())
 }

@@ -11,7 +11,10 @@ use Rattle.tick_play.specs.Schedule.{schedule_of}
 use Rattle.tick_play.specs.Written.{schedule_text}
 use Rattle.verified_code.specs.declared.instr.Instr.TheVariants as I
 use Rattle.verified_code.specs.Instructions.{StepCode, sizes}
-use Rattle.tick_play.specs.Report.{code_report, line_feed, report, source_report}
+use Rattle.machine_core.specs.declared.run_outcome.RunEnd.TheVariants as E
+use Rattle.tick_play.specs.Lines.{line_feed}
+use Rattle.tick_play.specs.Outcome.{outcome_lines}
+use Rattle.tick_play.specs.Report.{code_report, report, source_report}
 
 no_steps : schedule_text [] ≡ []
 unfolding digits
@@ -125,3 +128,21 @@ each_kind : report (record {
     ∷ codes "status 0 ended" ∷ codes "status 1 running" ∷ codes "status 2 trapped Overflow" ∷ [])
 unfolding digits
 each_kind = refl
+
+-- what `processes 1; var x; begin while (x < 2) { x = (x + 1); } out x; end` lets others see when it has ended
+ended_alone : outcome_lines (record { outputs = (2 ∷ []) ∷ []; ends = E.Ended ∷ []; rows = [] })
+    ≡ lines (codes "outputs 0 2" ∷ codes "status 0 ended" ∷ [])
+unfolding digits
+ended_alone = refl
+
+-- each kind of end, of four processes
+each_end : outcome_lines (record {
+  outputs = [] ∷ (7 ∷ 4294967295 ∷ []) ∷ [] ∷ (0 ∷ []) ∷ [];
+  ends = E.TurnsSpent ∷ E.OutputsFull ∷ E.Trapped T.Below ∷ E.Ended ∷ [];
+  rows = (1 ∷ 2 ∷ 3 ∷ 4 ∷ []) ∷ [];
+})
+    ≡ lines
+    (codes "outputs 0" ∷ codes "outputs 1 7 4294967295" ∷ codes "outputs 2" ∷ codes "outputs 3 0" ∷ codes "reg 0 1 2 3 4"
+    ∷ codes "status 0 turns" ∷ codes "status 1 outputs" ∷ codes "status 2 trapped Below" ∷ codes "status 3 ended" ∷ [])
+unfolding digits
+each_end = refl

@@ -1,5 +1,7 @@
 pub mod Number
 pub mod Schedule
 pub mod Written
+pub mod Lines
 pub mod Report
+pub mod Outcome
 pub mod Laws

@@ -1,17 +1,21 @@
 // Schedules as texts, and runs told as texts.
 //
 // Start with `read_schedule`, or with `play_source` and `play_code` for the report of a whole run
-// under a schedule. Both machines are told by the one report of what a run lets others see.
+// under a schedule. Both machines are told by the one report of what a run lets others see, and a run
+// on threads, whose events have no known order, by `outcome_text`.
 #![tactic(auto)]
 
 pub mod laws;
+mod lines;
 pub mod number;
+mod outcome;
 mod play;
 mod report;
 mod schedule;
 mod writing;
 
-pub use machine_core::{NoMemory, Outcome};
+pub use machine_core::{NoMemory, Outcome, RunEnd, RunOutcome};
+pub use outcome::outcome_text;
 pub use play::{play_code, play_source};
 pub use report::report_of;
 pub use schedule::{ScheduleFault, read_schedule};

@@ -1,10 +1,12 @@
 ghost use Rattle.std.specs.Prelude.{◌≡◌, ◌++◌, IfOk, OnOk, map, string_bytes, take};
 ghost use Rattle.std.specs.Fmt.{decimal};
 ghost use Rattle.machine_core.specs.Observables.{observed};
-ghost use Rattle.tick_play.specs.Report.{event_line, event_lines, register_line, register_lines, report, status_line, status_lines, trap_text};
+ghost use Rattle.tick_play.specs.Lines.{status_lines, status_text};
+ghost use Rattle.tick_play.specs.Report.{event_line, event_lines, report};
 ghost use Rattle.tick_play.specs.Written.{spaced};
 
-use machine_core::{Act, Event, NoMemory, Outcome, Status, Trap};
+use crate::lines::{push_rows, push_status, trap_name};
+use machine_core::{Act, Event, NoMemory, Outcome, Status};
 use std::alloc::{AllocError, Global};
 use std::fmt::Write;
 
@@ -14,7 +16,7 @@ pub fn report_of(alloc: Global, outcome: &Outcome) -> Result<String, NoMemory>
 {
     let mut text = String::new(alloc);
     push_events(&mut text, outcome.statuses.len(), &outcome.events)?;
-    push_registers(&mut text, &outcome.registers)?;
+    push_rows(&mut text, "reg", &outcome.registers)?;
     push_statuses(&mut text, &outcome.statuses)?;
     Ok(text)
 }
@@ -59,51 +61,11 @@ fn push_ranks(text: &mut String, n: usize, ranks: &[u8]) -> Result<(), AllocErro
     Ok(())
 }
 
-fn trap_name(trap: Trap) -> &'static str
-    ensures { result.now ≡ trap_text trap }
-{
-    match trap {
-        Trap::Overflow => "Overflow",
-        Trap::Below => "Below",
-        Trap::Zero => "Zero",
-        Trap::Index => "Index",
-    }
-}
-
-fn push_registers(text: &mut String, registers: &[Vec<u32>]) -> Result<(), AllocError>
-    ensures { OnOk result (string_bytes text.new ≡ string_bytes text.old ++ register_lines 0 (map (λ row. row.items) registers.now)) }
-{
-    for (row, values) in registers.iter().enumerate() {
-        push_register(text, row, values)?;
-    }
-    Ok(())
-}
-
-fn push_register(text: &mut String, row: usize, values: &[u32]) -> Result<(), AllocError>
-    ensures { OnOk result (string_bytes text.new ≡ string_bytes text.old ++ register_line row values.now) }
-{
-    write!(text, "reg {row}")?;
-    for value in values {
-        write!(text, " {value}")?;
-    }
-    writeln!(text)
-}
-
 fn push_statuses(text: &mut String, statuses: &[Status]) -> Result<(), AllocError>
-    ensures { OnOk result (string_bytes text.new ≡ string_bytes text.old ++ status_lines 0 statuses.now) }
+    ensures { OnOk result (string_bytes text.new ≡ string_bytes text.old ++ status_lines 0 (map status_text statuses.now)) }
 {
     for (process, status) in statuses.iter().enumerate() {
         push_status(text, process, *status)?;
     }
     Ok(())
-}
-
-fn push_status(text: &mut String, process: usize, status: Status) -> Result<(), AllocError>
-    ensures { OnOk result (string_bytes text.new ≡ string_bytes text.old ++ status_line process status) }
-{
-    match status {
-        Status::Running => writeln!(text, "status {process} running"),
-        Status::Ended => writeln!(text, "status {process} ended"),
-        Status::Trapped(trap) => writeln!(text, "status {process} trapped {}", trap_name(trap)),
-    }
 }

@@ -6,5 +6,5 @@ use host_ends::ended;
 use std::process::ExitCode;
 
 fn main(rt: HostRuntime) -> ExitCode {
-    ended(&rt)
+    ended(&rt, rt.stdin(), rt.stdout())
 }

@@ -2,6 +2,7 @@ use Rattle.std.proofs.Common.{subst, sym}
 use Rattle.std.proofs.lemmas.Result.{err_from_is_err_and}
 use Rattle.engine.specs.Codes.{code_answer}
 use Rattle.engine.specs.Lowered.{IsRunnableAnswer}
+use Rattle.engine.proofs.LoweredLemmas.{runnable_answered}
 use Rattle.engine.proofs.Weakening.{if_ok, if_err, if_refused}
 use Rattle.engine.proofs.lowered.code_report.Goals as goal
 
@@ -14,10 +15,10 @@ pub returns-clause-ok : goal.returns-clause-ok
 returns-clause-ok c =
     let by = code_answer c.args.schedule.now in
     if_ok c.report_of_code.result _ _
-    (λ answer is. subst (IsRunnableAnswer by c.args.text.now) (sym is) (c.in_ok-code.ensures.ok by)) c.report_of_code.ensures.ok
+    (λ answer is. subst (IsRunnableAnswer by c.args.text.now) (sym is) (runnable_answered by c.args.text.now c.in_ok-code.code c.in_ok-code.ensures.code)) c.report_of_code.ensures.ok
 
 pub returns-clause-refused : goal.returns-clause-refused
 returns-clause-refused c =
     let by = code_answer c.args.schedule.now in
     if_err c.report_of_code.result _ _
-    (if_refused _ _ (λ refusal is. subst (IsRunnableAnswer by c.args.text.now) (sym is) (c.in_ok-code.ensures.ok by))) c.report_of_code.ensures.refused
+    (if_refused _ _ (λ refusal is. subst (IsRunnableAnswer by c.args.text.now) (sym is) (runnable_answered by c.args.text.now c.in_ok-code.code c.in_ok-code.ensures.code))) c.report_of_code.ensures.refused

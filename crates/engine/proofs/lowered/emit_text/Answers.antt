@@ -3,6 +3,7 @@ use Rattle.std.proofs.lemmas.Result.{err_from_is_err_and}
 use Rattle.engine.specs.Answer.{done}
 use Rattle.engine.specs.Lowered.{emit_answer, lowered_answer}
 use Rattle.engine.specs.Programs.{IsTextAnswer}
+use Rattle.engine.proofs.LoweredLemmas.{lowered_answered}
 use Rattle.engine.proofs.lowered.emit_text.Goals as goal
 
 pub returns-in_err-code-clause-refused : goal.returns-in_err-code-clause-refused
@@ -12,4 +13,5 @@ returns-in_err-code-clause-refused c =
 
 pub returns-clause-ok : goal.returns-clause-ok
 returns-clause-ok c =
-    subst (IsTextAnswer (lowered_answer emit_answer) c.args.text.now) (ap done (sym c.in_ok-emitted.ensures.text)) (c.in_ok-code.ensures.ok emit_answer)
+    subst (IsTextAnswer (lowered_answer emit_answer) c.args.text.now) (ap done (sym c.in_ok-emitted.ensures.text))
+    (lowered_answered emit_answer c.args.text.now c.in_ok-code.code c.in_ok-code.ensures.code)

@@ -2,7 +2,7 @@ use Rattle.std.proofs.Common.{◌≡◌, Ok, Err, ap}
 use Rattle.std.proofs.lemmas.Result.{err_from_is_err_and}
 use Rattle.tick_lower.specs.declared.fault.LowerFault.TheVariants as lowering
 use Rattle.engine.specs.Lowered.{lowered_answer}
-use Rattle.engine.proofs.LoweredLemmas.{lower_stops, lowered_done}
+use Rattle.engine.proofs.LoweredLemmas.{lower_stops, code_lowered}
 use Rattle.engine.proofs.lowered.lowering_of.Goals as goal
 
 pub returns-in_err-program-clause-refused : goal.returns-in_err-program-clause-refused
@@ -17,8 +17,8 @@ returns-in_err-code-clause-refused c = λ by.
     (lower_stops by c.args.text.now c.in_ok-program.program c.in_ok-program.ensures.reads c.in_ok-program.ensures.accepted
     c.in_err-code.field-0.0 (λ is. c.in_err-code.ensures.too_long.0 (ap Err is)))
 
-pub returns-clause-ok : goal.returns-clause-ok
-returns-clause-ok c = λ by.
-    lowered_done by c.args.text.now c.in_ok-program.program c.in_ok-program.ensures.reads c.in_ok-program.ensures.accepted
+pub returns-clause-lowered : goal.returns-clause-lowered
+returns-clause-lowered c =
+    code_lowered c.args.text.now c.in_ok-program.program c.in_ok-program.ensures.reads c.in_ok-program.ensures.accepted
     c.in_ok-code.code c.in_ok-code.ensures.code
     (λ long. let both : Ok c.in_ok-code.code ≡ Err lowering.TooLong = c.in_ok-code.ensures.too_long.1 long in cc)

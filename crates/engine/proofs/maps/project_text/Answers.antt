@@ -7,6 +7,7 @@ use Rattle.verified_code.specs.Instructions.{StepCode}
 use Rattle.engine.specs.Lowered.{lowered_answer}
 use Rattle.engine.specs.Maps.{project_answer, schedule_line}
 use Rattle.engine.specs.Programs.{IsTextAnswer}
+use Rattle.engine.proofs.LoweredLemmas.{lowered_answered}
 use Rattle.engine.proofs.ScheduleLemmas.{schedule_done}
 use Rattle.engine.proofs.StopLemmas.{schedule_stops}
 use Rattle.engine.proofs.maps.project_text.Goals as goal
@@ -27,7 +28,7 @@ returns-in_err-steps-clause-refused c =
     rw (told.1, told.2)
     (schedule_stops (IsTextAnswer (lowered_answer (project_answer s)) c.args.text.now)
     (λ (steps : List ℕ). schedule_line (down code.sizes code.instructions steps)) code.sizes.processes s fault
-    (c.in_ok-program.ensures.ok (project_answer s)) read)
+    (lowered_answered (project_answer s) c.args.text.now code c.in_ok-program.ensures.lowered) read)
 
 pub returns-clause-ok : goal.returns-clause-ok
 returns-clause-ok c =
@@ -38,4 +39,4 @@ returns-clause-ok c =
     (sym (schedule_done (λ (steps : List ℕ). schedule_line (down code.sizes code.instructions steps)) code.sizes.processes _ s _ _ _ count
     c.in_ok-steps.ensures.ok c.as_slice.ensures.value
     (c.in_ok-line.ensures ∙ ap schedule_line (c.as_slice-2.ensures.value ∙ c.in_ok-kept.ensures.down))))
-    (c.in_ok-program.ensures.ok (project_answer s))
+    (lowered_answered (project_answer s) c.args.text.now code c.in_ok-program.ensures.lowered)

@@ -1,8 +1,9 @@
 use Rattle.std.proofs.Common.{◌≡◌, ◌++◌, codes, drop, map, string_bytes}
 use Rattle.std.specs.Fmt.{decimal}
 use Rattle.tick_play.specs.Written.{spaced}
-use Rattle.tick_play.proofs.report.push_register.Given as goal
+use Rattle.tick_play.proofs.lines.push_row.Given as goal
 
 abbrev pub invariant-loop-value : goal.invariant-loop-value
 invariant-loop-value l =
-    string_bytes l.text ++ spaced (map decimal (drop l.value-index l.values)) ≡ string_bytes l.fn.text ++ codes "reg " ++ decimal l.fn.row ++ spaced (map decimal l.values)
+    string_bytes l.text ++ spaced (map decimal (drop l.value-index l.values))
+    ≡ string_bytes l.fn.text ++ l.fn.name ++ codes " " ++ decimal l.fn.number ++ spaced (map decimal l.values)

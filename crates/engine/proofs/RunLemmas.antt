@@ -1,0 +1,41 @@
+-- From a run, or from what stops one, to what is answered.
+use Rattle.std.proofs.Common.{◌≡◌, ℕ, [], List, Option, Some, None, ap, refl, subst, sym}
+use Rattle.verified_code.specs.Instructions.{StepCode}
+use Rattle.engine.specs.Answer.{Answer, done, refused}
+use Rattle.engine.specs.Codes.{code_answer}
+use Rattle.engine.specs.Commands.{InputAnswers, TextAnswers, UnlessRefused}
+use Rattle.engine.specs.Commands.Job.{Code, Run}
+use Rattle.engine.specs.Lowered.{IsCodeOf, IsRunnableAnswer}
+use Rattle.engine.specs.Runs.{not_run, ran}
+use Rattle.engine.specs.Text.{text_fault}
+use Rattle.engine.specs.declared.refusal.Refusal.{Refusal}
+use Rattle.engine.specs.declared.reply.Reply.{Reply}
+use Rattle.engine.specs.declared.stop.Stop.{Stop}
+use Rattle.engine.specs.declared.stop.Stop.TheVariants.{Refused, Memory}
+use Rattle.engine.specs.prover.Replies.{IfRefused, IsReply, IsRunText, RepliesStop}
+
+pub stop_replies : (allowed : Answer → Type 0) (reply : Reply) (stop : Stop) → RepliesStop reply stop
+    → IfRefused stop (λ refusal. allowed (refused refusal)) → IsReply allowed reply
+stop_replies allowed reply (Refused refusal) told held = record { answer = refused refusal; is_allowed = held; replies = told }
+stop_replies allowed reply Memory told held = absurd told
+
+pub run_done : (turns : ℕ) (input text : List ℕ) (c : StepCode) → text_fault input ≡ None → IsCodeOf input c → IsRunText c turns text
+    → InputAnswers (Run turns) input (done text)
+run_done turns input text c fine is run =
+    subst (λ fault. UnlessRefused fault (TextAnswers (Run turns) input) (done text)) (sym fine)
+    (ran c run.outcome is run.is_run (ap done run.told))
+
+pub code_refused : (input text : List ℕ) (refusal : Refusal) → text_fault input ≡ None → text ≡ input
+    → IsRunnableAnswer (code_answer []) text (refused refusal) → InputAnswers (Code []) input (refused refusal)
+code_refused input text refusal fine same held =
+    subst (λ fault. UnlessRefused fault (TextAnswers (Code []) input) (refused refusal)) (sym fine)
+    (subst (λ (t : List ℕ). IsRunnableAnswer (code_answer []) t (refused refusal)) same held)
+
+refused_by : (turns : ℕ) (input : List ℕ) (refusal : Refusal) (fault : Option Refusal) → UnlessRefused fault (TextAnswers (Code []) input) (refused refusal)
+    → UnlessRefused fault (TextAnswers (Run turns) input) (refused refusal)
+refused_by turns input refusal None told = not_run told refl
+refused_by turns input refusal (Some first) told = told
+
+pub run_refused : (turns : ℕ) (input : List ℕ) (refusal : Refusal) → InputAnswers (Code []) input (refused refusal)
+    → InputAnswers (Run turns) input (refused refusal)
+run_refused turns input refusal told = refused_by turns input refusal (text_fault input) told

@@ -1,0 +1,32 @@
+use Rattle.std.proofs.Common.{◌∙◌, inl, inr, refl}
+use Rattle.std.proofs.lemmas.Result.{err_from_is_err_and}
+use Rattle.engine.specs.Commands.Job.{Run}
+use Rattle.engine.specs.declared.fault.EngineFault.TheVariants.{Memory, Thread}
+use Rattle.engine.proofs.ServingLemmas.{gave_reply, gave_up, replied_on_read}
+use Rattle.engine.proofs.serving.serve_run.Goals as goal
+
+pub returns-in_err-input : goal.returns-in_err-input
+returns-in_err-input g c =
+    let told = err_from_is_err_and c.from_residual.result c.from_residual.ensures.1 in
+    let stopped = c.in_err-input.ensures in
+    gave_up _ _ _ _ _ _ _ (λ none. absurd (cc)) stopped.few stopped.calls _ _ _ told.1 told.2
+    (elim stopped.err [ inl read ↦ inl read | inr memory ↦ inr (inl memory) ]) _ stopped.counted
+
+pub returns-in_err-reply : goal.returns-in_err-reply
+returns-in_err-reply g c =
+    let told = err_from_is_err_and c.from_residual-in_err-reply.result c.from_residual-in_err-reply.ensures.1 in
+    let read = c.in_ok-input.ensures in
+    elim c.in_err-reply.ensures.err [
+      | inl memory ↦
+          gave_up _ _ _ _ _ _ _ (λ none. absurd (cc)) read.few read.calls _ _ Memory told.1 (told.2 ∙ memory) (inr (inl refl)) _ read.counted
+      | inr thread ↦
+          gave_up _ _ _ _ _ _ _ (λ none. absurd (cc)) read.few read.calls _ _ Thread told.1 (told.2 ∙ thread) (inr (inr (refl, refl))) _ read.counted
+    ]
+
+pub returns : goal.returns
+returns g c =
+    let read = c.in_ok-input.ensures in
+    let sent = c.write_reply.ensures in
+    gave_reply _ _ _ _ _ _ _ (λ none. absurd (cc)) read.few read.calls c.in_ok-reply.reply _ _ _
+    (replied_on_read (Run c.args.turns) _ _ _ _ c.in_ok-reply.reply c.as_slice.ensures.value read.ok c.in_ok-reply.ensures.ok)
+    read.counted sent.status sent.ok sent.err sent.fault sent.counted

@@ -1,0 +1,16 @@
+-- What `run` answers on a text: what its code lets others see on threads, or why it has no code.
+use Rattle.std.specs.Prelude.{◌≡◌, ℕ, List, []}
+use Rattle.machine_core.specs.Observables.{RunObservables}
+use Rattle.tick_play.specs.Outcome.{outcome_lines}
+use Rattle.tick_run.specs.Runs.{IsThreadedRun}
+use Rattle.verified_code.specs.Instructions.{StepCode}
+use Rattle.engine.specs.Answer.{Answer, done}
+use Rattle.engine.specs.Codes.{code_answer}
+use Rattle.engine.specs.Lowered.{IsCodeOf, IsRunnableAnswer}
+
+-- The text is refused as `code` refuses it under the empty schedule; or it is answered by a run of its
+-- code, in which each process makes at most `turns` instructions and gives out at most 10,000 values.
+pub data IsRunAnswer (turns : ℕ) (text : List ℕ) (a : Answer) : Type 0 where
+  not_run : IsRunnableAnswer (code_answer []) text a → a.status ≡ 1 → IsRunAnswer turns text a
+  ran : (c : StepCode) (o : RunObservables) → IsCodeOf text c → IsThreadedRun c turns 10000 o
+      → a ≡ done (outcome_lines o) → IsRunAnswer turns text a

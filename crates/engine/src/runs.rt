@@ -1,0 +1,84 @@
+//! A run on threads: from an input to its code, from the code to what it lets others see.
+ghost use Rattle.std.specs.Prelude.{◌≡◌, ◌⊎◌, [], None, IfErr, IfOk, string_bytes, vec_len};
+ghost use Rattle.engine.specs.Answer.{refused};
+ghost use Rattle.engine.specs.Commands.{InputAnswers};
+ghost use Rattle.engine.specs.Commands.Job.{Code as JobCode, Run};
+ghost use Rattle.engine.specs.Lowered.{IsCodeOf};
+ghost use Rattle.engine.specs.Text.{text_fault};
+ghost use Rattle.engine.specs.prover.Replies.{IfRefused, IsReply, IsRunText};
+
+use crate::fault::EngineFault;
+use crate::lowered::runnable_code;
+use crate::reply::{Reply, stop_reply};
+use crate::stop::Stop;
+use crate::text::text_of;
+use std::alloc::{AllocError, Global};
+use std::sync::Wait;
+use std::thread::Threads;
+use step_code::Ask;
+use tick_play::outcome_text;
+use tick_run::{Gate, run};
+use verified_code::Code;
+
+/// How many values a process gives out at most.
+const OUTPUTS: u32 = 10_000;
+
+// Nobody waits at it.
+#[derive(Drop)]
+struct OpenGate;
+
+impl Gate for OpenGate {
+    fn before(&mut self, _p: u8, _ask: Ask) {}
+}
+
+/// The whole reply to a run, by its input.
+pub fn run_reply<E: AllocGlobal + Threads + Wait>(
+    rt: &E,
+    turns: u64,
+    input: &[u8],
+) -> Result<Reply, EngineFault>
+    ensures ok { IfOk result (λ reply. IsReply (InputAnswers (Run turns) input.now) reply) }
+    ensures err { IfErr result (λ fault. (fault ≡ EngineFault.Memory) ⊎ (fault ≡ EngineFault.Thread)) }
+{
+    match input_code(rt.alloc(), input) {
+        Ok(code) => {
+            let text = run_text(rt, &code, turns)?;
+            Ok(Reply { status: 0, text })
+        }
+        Err(stop) => stop_reply(rt.alloc(), stop),
+    }
+}
+
+// The code that an input is, or the code of the program that it is.
+fn input_code(alloc: Global, input: &[u8]) -> Result<Code, Stop>
+    ensures text { IfOk result (λ code. text_fault input.now ≡ None) }
+    ensures code { IfOk result (λ code. IsCodeOf input.now code) }
+    ensures refused { IfErr result (λ stop. IfRefused stop (λ refusal. InputAnswers (JobCode []) input.now (refused refusal))) }
+{
+    runnable_code(alloc, text_of(input)?)
+}
+
+// What a run of the code lets others see.
+fn run_text<E: AllocGlobal + Threads + Wait>(
+    rt: &E,
+    code: &Code,
+    turns: u64,
+) -> Result<String, EngineFault>
+    ensures ok { IfOk result (λ text. IsRunText code.now turns (string_bytes text)) }
+    ensures err { IfErr result (λ fault. (fault ≡ EngineFault.Memory) ⊎ (fault ≡ EngineFault.Thread)) }
+{
+    let gates = open_gates(rt.alloc(), code.sizes().processes())?;
+    let outcome = run(rt, rt.alloc(), code, gates, turns, OUTPUTS)?;
+    let text = outcome_text(rt.alloc(), &outcome)?;
+    Ok(text)
+}
+
+fn open_gates(alloc: Global, count: u8) -> Result<Vec<OpenGate>, AllocError>
+    ensures { IfOk result (λ gates. vec_len gates ≡ count) }
+{
+    let mut gates = Vec::new(alloc);
+    for _ in 0..count {
+        gates.push(OpenGate)?;
+    }
+    Ok(gates)
+}
