@@ -6,7 +6,7 @@ use verified_code::Instr::{Halt, Jump, Push};
 use verified_code::{CodeFault, Instr};
 
 // So many of an instruction, and what is answered of them: the greatest height, or a fault.
-const REPEATED: [(Instr, usize, Result<u16, CodeFault>); 6] = [
+static REPEATED: [(Instr, usize, Result<u16, CodeFault>); 6] = [
     (Halt, 65535, Ok(0)),
     (Halt, 65536, Err(TooLong)),
     (Push(1), 65535, Err(FallsOff(65534))),
@@ -18,7 +18,7 @@ const REPEATED: [(Instr, usize, Result<u16, CodeFault>); 6] = [
 #[test]
 fn longest_codes(rt: HostRuntime) -> Result<(), Fail> {
     let sizes = sizes_of((1, 0, 0, 0))?;
-    for (instruction, count, answer) in REPEATED {
+    for &(instruction, count, answer) in &REPEATED {
         let given = vec![in rt.alloc(); instruction; count]?;
         let (length, found) = match verified(rt.alloc(), given, sizes) {
             Ok(code) => (code.len(), Ok(code.height())),
@@ -40,7 +40,7 @@ fn repeated(alloc: Global, line: &str, count: usize, back: &str) -> Result<Strin
 }
 
 // A line, how often it stands in the text, what follows, and the length of the code or its fault.
-const TEXTS: [(&str, usize, &str, Result<usize, CodeFault>); 6] = [
+static TEXTS: [(&str, usize, &str, Result<usize, CodeFault>); 6] = [
     ("Push 4294967295\n", 62000, "Halt\n", Ok(62001)),
     ("Push 4294967295\n", 62000, "Halt", Err(BadLine(62002))),
     ("Push 4294967295\n", 62000, "", Err(FallsOff(61999))),
@@ -51,7 +51,7 @@ const TEXTS: [(&str, usize, &str, Result<usize, CodeFault>); 6] = [
 
 #[test]
 fn longest_texts(rt: HostRuntime) -> Result<(), Fail> {
-    for (line, count, back, answer) in TEXTS {
+    for &(line, count, back, answer) in &TEXTS {
         let text = repeated(rt.alloc(), line, count, back)?;
         match read(rt.alloc(), text.as_str()) {
             Ok(code) => {

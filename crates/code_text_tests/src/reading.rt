@@ -1,4 +1,5 @@
 use crate::answers::read;
+use std::process::Abort;
 use std::test::Fail;
 use verified_code::CodeFault;
 use verified_code::CodeFault::{
@@ -6,7 +7,7 @@ use verified_code::CodeFault::{
 };
 
 // Texts whose first line is none of sizes.
-const HEADERS: [&str; 32] = [
+static HEADERS: [&str; 32] = [
     "",
     "\n",
     "Halt\n",
@@ -45,7 +46,7 @@ const HEADERS: [&str; 32] = [
 ];
 
 // What follows a line of sizes, and which line of the text is bad first.
-const LINES: [(&str, usize); 80] = [
+static LINES: [(&str, usize); 80] = [
     // the last line has no line feed, or there is one too many
     ("Halt", 2),
     ("Push 1\nOut\nHalt", 4),
@@ -137,7 +138,7 @@ const LINES: [(&str, usize); 80] = [
 ];
 
 // Texts whose lines are all of the form, and the first fault of their instructions.
-const FAULTS: [(&str, CodeFault); 14] = [
+static FAULTS: [(&str, CodeFault); 14] = [
     ("tickcode 1 1 0 0 0\n", Empty),
     ("tickcode 1 2 0 0 0\nNext\nHalt\n", BadStamp(0)),
     ("tickcode 1 1 0 0 0\nOut\nHalt\n", StackShort(0)),
@@ -165,28 +166,30 @@ const FAULTS: [(&str, CodeFault); 14] = [
     ),
 ];
 
+fn refuses<R: AllocGlobal + Abort>(rt: &R, text: &str, fault: CodeFault) {
+    assert_eq!(rt; read(rt.alloc(), text).err(), Some(fault), "{text:?}");
+}
+
 #[test]
 fn first_lines(rt: HostRuntime) {
-    for text in HEADERS {
-        let fault = read(rt.alloc(), text).err();
-        assert_eq!(rt; fault, Some(BadLine(1)), "{text:?}");
+    for &text in &HEADERS {
+        refuses(&rt, text, BadLine(1));
     }
 }
 
 #[test]
 fn later_lines(rt: HostRuntime) -> Result<(), Fail> {
-    for (lines, number) in LINES {
+    for &(lines, number) in &LINES {
         let mut text = String::from_str(rt.alloc(), "tickcode 1 1 0 0 0\n")?;
         text.push_str(lines)?;
-        let fault = read(rt.alloc(), text.as_str()).err();
-        assert_eq!(rt; fault, Some(BadLine(number)), "{lines:?}");
+        refuses(&rt, text.as_str(), BadLine(number));
     }
     Ok(())
 }
 
 #[test]
 fn faults(rt: HostRuntime) {
-    for (text, fault) in FAULTS {
-        assert_eq!(rt; read(rt.alloc(), text).err(), Some(fault), "{text:?}");
+    for &(text, fault) in &FAULTS {
+        refuses(&rt, text, fault);
     }
 }

@@ -51,7 +51,7 @@ Jump 37
 Halt
 ";
 
-const INSTRUCTIONS: [Instr; 38] = [
+static INSTRUCTIONS: [Instr; 38] = [
     LoadWord,
     Next,
     Exchange(0),
@@ -92,7 +92,7 @@ const INSTRUCTIONS: [Instr; 38] = [
     Halt,
 ];
 
-const TEXTS: [&str; 5] = [
+static TEXTS: [&str; 5] = [
     EVERY,
     "tickcode 1 1 0 0 0\nHalt\n",
     "tickcode 1 1 0 0 0\nPush 7\nOut\nHalt\n",
@@ -124,7 +124,7 @@ fn each_instruction(rt: HostRuntime) -> Result<(), Fail> {
 
 #[test]
 fn writes_what_was_read(rt: HostRuntime) -> Result<(), Fail> {
-    for text in TEXTS {
+    for &text in &TEXTS {
         let code = read(rt.alloc(), text)?;
         assert_eq!(rt; written(rt.alloc(), &code)?.as_str(), text);
     }

@@ -11,7 +11,7 @@ use verified_code::Instr::{
 use verified_code::{CodeFault, Instr, Sizes};
 
 // Processes, variables, scans and register rows, and whether a code can have them.
-const SIZES: [(u8, u8, u8, u8, bool); 10] = [
+static SIZES: [(u8, u8, u8, u8, bool); 10] = [
     (1, 0, 0, 0, true),
     (6, 64, 16, 8, true),
     (0, 0, 0, 0, false),
@@ -25,7 +25,7 @@ const SIZES: [(u8, u8, u8, u8, bool); 10] = [
 ];
 
 // Instructions of the greatest sizes, and their first fault.
-const REFUSED: [(&[Instr], CodeFault); 59] = [
+static REFUSED: [(&[Instr], CodeFault); 59] = [
     (&[], Empty),
     // an earlier jump to a place left another height, before the slot is looked at
     (&[Push(1), JumpZero(3), Push(2), Load(64)], HeightsDiffer(3)),
@@ -110,7 +110,7 @@ const REFUSED: [(&[Instr], CodeFault); 59] = [
 ];
 
 // Instructions of the greatest sizes, and the greatest height of their places.
-const ACCEPTED: [(&[Instr], u16); 7] = [
+static ACCEPTED: [(&[Instr], u16); 7] = [
     (&[Halt], 0),
     (&[Jump(0)], 0),
     (&[Jump(1), Halt], 0),
@@ -145,7 +145,7 @@ const ACCEPTED: [(&[Instr], u16); 7] = [
 
 #[test]
 fn sizes(rt: HostRuntime) -> Result<(), Fail> {
-    for (processes, variables, scans, rows, can) in SIZES {
+    for &(processes, variables, scans, rows, can) in &SIZES {
         assert_eq!(rt;
             Sizes::new(processes, variables, scans, rows).is_some(),
             can
@@ -168,7 +168,7 @@ fn sizes(rt: HostRuntime) -> Result<(), Fail> {
 #[test]
 fn refuses(rt: HostRuntime) -> Result<(), Fail> {
     let sizes = sizes_of((6, 64, 16, 8))?;
-    for (instructions, fault) in REFUSED {
+    for &(instructions, fault) in &REFUSED {
         let given = Vec::from_slice(rt.alloc(), instructions)?;
         let Err((back, told)) = verified(rt.alloc(), given, sizes) else {
             return Err(Fail::new("accepted"));
@@ -201,7 +201,7 @@ fn refuses_all_slots(rt: HostRuntime) -> Result<(), Fail> {
 #[test]
 fn accepts(rt: HostRuntime) -> Result<(), Fail> {
     let sizes = sizes_of((6, 64, 16, 8))?;
-    for (instructions, height) in ACCEPTED {
+    for &(instructions, height) in &ACCEPTED {
         let given = Vec::from_slice(rt.alloc(), instructions)?;
         let Ok(code) = verified(rt.alloc(), given, sizes) else {
             return Err(Fail::new("refused"));

@@ -1,5 +1,3 @@
-pub mod ReadingLemmas
-pub mod WritingLemmas
 pub mod ServingLemmas
 pub mod OrderLemmas
 pub mod TextLemmas

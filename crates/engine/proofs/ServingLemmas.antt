@@ -4,20 +4,23 @@ use Rattle.std.proofs.Math.ListN.{length-append}
 use Rattle.std.proofs.lemmas.Bool.{lt-ltb}
 use Rattle.std.proofs.lemmas.Bool.Decides.{leb_tells}
 use Rattle.std.specs.Io.KnownBytes.{Appends, Consumes}
+use Rattle.ends.specs.Reading.{CountsReads, IsRead, TakesFew}
+use Rattle.ends.specs.Writing.{CountsWrites, WritesPrefix}
+use Rattle.ends.specs.declared.counts.Counts.{Counts}
+use Rattle.ends.specs.declared.fault.EndFault.{EndFault}
+use Rattle.ends.specs.declared.fault.EndFault.TheVariants as end
 use Rattle.engine.specs.Commands.{InputAnswers, Job, JobAnswers, TextAnswers, UnlessRefused, is_run, line_answer, wants_input}
-use Rattle.engine.specs.Reading.{CountsReads, TakesFew, fault_in}
+use Rattle.engine.specs.Faults.{end_fault_in}
 use Rattle.engine.specs.Serving.{OnInput, ServesJob, UnlessRun}
 use Rattle.engine.specs.Text.{text_fault}
-use Rattle.engine.specs.Writing.{CountsWrites, WritesPrefix}
 use Rattle.engine.specs.declared.command.LineFault.{LineFault}
-use Rattle.engine.specs.declared.ends.Counts.{Counts}
 use Rattle.engine.specs.declared.fault.EngineFault.{EngineFault}
 use Rattle.engine.specs.declared.fault.EngineFault.TheVariants.{Read, Write, Memory, Thread}
 use Rattle.engine.specs.declared.refusal.Refusal.{Refusal}
 use Rattle.engine.specs.declared.refusal.Refusal.TheVariants.{TextTooLong}
 use Rattle.engine.specs.declared.reply.Reply.{Reply}
 use Rattle.engine.specs.declared.serving.Served.{Served}
-use Rattle.engine.specs.prover.Inputs.{IsRead}
+use Rattle.engine.specs.prover.Faults.{end_fault}
 use Rattle.engine.specs.prover.Replies.{IsReply, Replies}
 
 Consumes-nil : (a : Option (List ℕ)) → Consumes a a []
@@ -88,7 +91,7 @@ module _ {R W : Type 0} (job : Result Job LineFault) (remaining : R → Option (
     (unread : wants_input job ≡ false → new ≡ old)
     (few : TakesFew (remaining old) (remaining new))
     (calls : (reads new).calls ≤ (reads old).calls + 2000000) where
-  gives_up : (fault : EngineFault) → EndsBy job fault → (writer : W) → CountsReads (Some fault) (reads old) (reads new)
+  gives_up : (fault : EngineFault) → EndsBy job fault → (writer : W) → CountsReads (end_fault_in {A = ℕ} (Err fault)) (reads old) (reads new)
       → ServesJob job remaining reads written writes old new writer writer (Err fault)
   gives_up Read why writer counted = record {
     answers = on_any (remaining old) _ (λ input. refl);
@@ -119,8 +122,16 @@ module _ {R W : Type 0} (job : Result Job LineFault) (remaining : R → Option (
 
   -- where reading, memory or a thread ends it, nothing is written
   pub gave_up : (result : Result ℕ EngineFault) (told fault : EngineFault) → result ≡ Err told → told ≡ fault → EndsBy job fault → (writer : W)
-      → CountsReads (Some fault) (reads old) (reads new) → ServesJob job remaining reads written writes old new writer writer result
+      → CountsReads (end_fault_in {A = ℕ} (Err fault)) (reads old) (reads new) → ServesJob job remaining reads written writes old new writer writer result
   gave_up result told fault is same why writer counted = rw (is, same) (gives_up fault why writer counted)
+
+  -- where reading ends it
+  pub gave_up_reading : (result : Result ℕ EngineFault) (told : EngineFault) (fault : EndFault) → result ≡ Err told → told ≡ end_fault fault
+      → (fault ≡ end.Read) ⊎ (fault ≡ end.Memory) → (writer : W)
+      → CountsReads (Some fault) (reads old) (reads new) → ServesJob job remaining reads written writes old new writer writer result
+  gave_up_reading result told end.Read is same why writer counted = gave_up result told Read is same (inl refl) writer counted
+  gave_up_reading result told end.Memory is same why writer counted = gave_up result told Memory is same (inr (inl refl)) writer counted
+  gave_up_reading result told end.Write is same why writer counted = absurd (elim why [ inl read ↦ cc | inr memory ↦ cc ])
 
   -- a reply that was written is an answer that was
   pub gave_reply : (reply : Reply) (before after : W) (result : Result ℕ EngineFault)
@@ -130,7 +141,7 @@ module _ {R W : Type 0} (job : Result Job LineFault) (remaining : R → Option (
       → OnOk result (Appends (written before) (written after) (string_bytes reply.text))
       → OnErr result (WritesPrefix (written before) (written after) (string_bytes reply.text))
       → IfErr result (λ fault. fault ≡ Write)
-      → CountsWrites (fault_in result) (writes before) (writes after)
+      → CountsWrites (end_fault_in result) (writes before) (writes after)
       → ServesJob job remaining reads written writes old new before after result
   gave_reply reply before after (Ok status) replied none_failed is all some fault counted = record {
     answers = record {

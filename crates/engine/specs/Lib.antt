@@ -1,6 +1,4 @@
-pub mod Ends
-pub mod Reading
-pub mod Writing
+pub mod Faults
 pub mod Refusal
 pub mod Stop
 pub mod Text

@@ -10,12 +10,20 @@ use Rattle.engine.specs.Refusal.{line_feed}
 abbrev pub schedule_line : List ℕ → List ℕ
 schedule_line steps = schedule_text steps ++ line_feed
 
+-- what `by` makes of the steps that the text of a schedule spells
+abbrev pub steps_answer : (StepCode → List ℕ → List ℕ) → List ℕ → StepCode → Answer
+steps_answer by schedule c = scheduled (by c) (schedule_of c.sizes.processes schedule)
+
+abbrev pub project_line : StepCode → List ℕ → List ℕ
+project_line c steps = schedule_line (down c.sizes c.instructions steps)
+
+abbrev pub expand_line : StepCode → List ℕ → List ℕ
+expand_line c steps = schedule_line (up c.sizes c.instructions steps)
+
 -- `drop` with the text of a schedule of the code
 abbrev pub project_answer : List ℕ → StepCode → Answer
-project_answer schedule c =
-    scheduled (λ steps. schedule_line (down c.sizes c.instructions steps)) (schedule_of c.sizes.processes schedule)
+project_answer schedule c = steps_answer project_line schedule c
 
 -- `lift` with the text of a schedule of the program
 abbrev pub expand_answer : List ℕ → StepCode → Answer
-expand_answer schedule c =
-    scheduled (λ steps. schedule_line (up c.sizes c.instructions steps)) (schedule_of c.sizes.processes schedule)
+expand_answer schedule c = steps_answer expand_line schedule c

@@ -2,12 +2,13 @@
 use Rattle.std.specs.Prelude.{◌≡◌, ℕ, ◌+◌, ◌≤◌, Bool, true, false, List, Option, IfSome, Result, Ok, Err}
 use Rattle.std.specs.Io.KnownBytes.{Appends}
 use Rattle.command_line.specs.Line.{Asked}
+use Rattle.ends.specs.Reading.{CountsReads, TakesFew}
+use Rattle.ends.specs.Writing.{CountsWrites, WritesPrefix}
+use Rattle.ends.specs.declared.counts.Counts.{Counts}
 use Rattle.engine.specs.Answer.{Answer}
 use Rattle.engine.specs.Commands.{Job, JobAnswers, is_run, job_of, wants_input}
+use Rattle.engine.specs.Faults.{end_fault_in}
 use Rattle.engine.specs.declared.command.LineFault.{LineFault}
-use Rattle.engine.specs.declared.ends.Counts.{Counts}
-use Rattle.engine.specs.Reading.{CountsReads, TakesFew, fault_in}
-use Rattle.engine.specs.Writing.{CountsWrites, WritesPrefix}
 use Rattle.engine.specs.declared.fault.EngineFault.{EngineFault}
 use Rattle.engine.specs.declared.fault.EngineFault.TheVariants.{Read, Write, Memory, Thread}
 use Rattle.engine.specs.declared.serving.Served.{Served}
@@ -50,8 +51,8 @@ pub record ServesJob {R W : Type 0} (job : Result Job LineFault) (remaining : R 
   pub unread : wants_input job ≡ false → reader_new ≡ reader_old
   pub few : TakesFew (remaining reader_old) (remaining reader_new)
   pub calls : (reads reader_new).calls ≤ (reads reader_old).calls + 2000000
-  pub reads_counted : CountsReads (fault_in result) (reads reader_old) (reads reader_new)
-  pub writes_counted : CountsWrites (fault_in result) (writes writer_old) (writes writer_new)
+  pub reads_counted : CountsReads (end_fault_in result) (reads reader_old) (reads reader_new)
+  pub writes_counted : CountsWrites (end_fault_in result) (writes writer_old) (writes writer_new)
 
 -- a command line was served
 abbrev pub Serves : {R W : Type 0} → Option Asked → (R → Option (List ℕ)) → (R → Counts) → (W → Option (List ℕ)) → (W → Counts)

@@ -1,7 +1,8 @@
 ghost use Rattle.std.specs.Prelude.{◌≡◌};
 ghost use Rattle.engine.specs.declared.fault.EngineFault.TheVariants.{Memory};
-ghost use Rattle.engine.specs.prover.Faults.{run_fault};
+ghost use Rattle.engine.specs.prover.Faults.{end_fault, run_fault};
 
+use ends::EndFault;
 use std::alloc::{AllocError, AllocFailed};
 use thiserror::Error;
 use tick_play::NoMemory;
@@ -45,6 +46,18 @@ impl From<NoMemory> for EngineFault {
 
     fn from(_error: NoMemory) -> EngineFault {
         EngineFault::Memory
+    }
+}
+
+impl From<EndFault> for EngineFault {
+    ghost from_gives = { λ error fault. fault ≡ end_fault error };
+
+    fn from(error: EndFault) -> EngineFault {
+        match error {
+            EndFault::Read => EngineFault::Read,
+            EndFault::Write => EngineFault::Write,
+            EndFault::Memory => EngineFault::Memory,
+        }
     }
 }
 

@@ -10,21 +10,18 @@
 mod answer;
 mod codes;
 mod command;
-mod ends;
 mod fault;
 mod laws;
 mod lowered;
 mod maps;
 mod order;
 mod program;
-mod reading;
 mod refusal;
 mod reply;
 mod runs;
 mod serving;
 mod stop;
 mod text;
-mod writing;
 
 pub use ends::{ByteSink, ByteSource, Counts, Transfer};
 pub use fault::EngineFault;

@@ -2,22 +2,20 @@
 ghost use Rattle.std.specs.Prelude.{◌≡◌, ◌↔◌, ◌⊎◌, ℕ, true, IfErr, IfOk, Ok, OnErr, OnOk, map, string_bytes};
 ghost use Rattle.std.specs.Io.KnownBytes.{Appends};
 ghost use Rattle.command_line.specs.Line.{asked_in};
+ghost use Rattle.ends.specs.Writing.{CountsWrites, WritesPrefix};
 ghost use Rattle.engine.specs.Commands.{is_run, job_of};
 ghost use Rattle.engine.specs.Commands.Job.{Run};
-ghost use Rattle.engine.specs.Reading.{fault_in};
+ghost use Rattle.engine.specs.Faults.{end_fault_in};
 ghost use Rattle.engine.specs.Serving.{Serves, ServesJob, UnlessRun};
-ghost use Rattle.engine.specs.Writing.{CountsWrites, WritesPrefix};
 ghost use Rattle.engine.specs.prover.Replies.{Fits, job};
 
 use crate::answer::reply_to;
 use crate::command::{Command, Task, task_of};
-use crate::ends::{ByteSink, ByteSource};
 use crate::fault::EngineFault;
-use crate::reading::read_input;
 use crate::reply::{Reply, line_reply};
 use crate::runs::run_reply;
-use crate::writing::write_text;
 use command_line::asked;
+use ends::{ByteSink, ByteSource, read_input, write_text};
 use std::alloc::Global;
 use std::sync::Wait;
 use std::thread::Threads;
@@ -108,7 +106,7 @@ fn write_reply<W: ByteSink>(writer: &mut W, reply: &Reply) -> Result<u8, EngineF
     ensures ok { OnOk result (Appends (W.written writer.old) (W.written writer.new) (string_bytes reply.now.text)) }
     ensures err { OnErr result (WritesPrefix (W.written writer.old) (W.written writer.new) (string_bytes reply.now.text)) }
     ensures fault { IfErr result (λ fault. fault ≡ EngineFault.Write) }
-    ensures counted { CountsWrites (fault_in result) (W.counts writer.old) (W.counts writer.new) }
+    ensures counted { CountsWrites (end_fault_in result) (W.counts writer.old) (W.counts writer.new) }
 {
     write_text(writer, reply.text.as_bytes())?;
     Ok(reply.status)

@@ -1,7 +1,7 @@
 ghost use Rattle.engine.specs.prover.Inputs.{Decodes};
 
-use crate::reading::INPUT_LIMIT;
 use crate::refusal::Refusal;
+use ends::INPUT_LIMIT;
 use std::str;
 
 /// An input as a text.

@@ -1,6 +1,8 @@
 //! A command line, answered over ends in memory.
 use crate::ends::{Disturbance, Input, Output};
 use engine::{EngineFault, engine};
+use std::alloc::{AllocError, Global};
+use std::process::Abort;
 use std::sync::Wait;
 use std::test::Fail;
 use std::thread::Threads;
@@ -8,28 +10,74 @@ use std::thread::Threads;
 pub const USAGE: &str =
     "usage: ticketc order N | check | emit | source S | code S | lift S | drop S | run TURNS\n";
 
+/// What came of a command line, how many calls its ends had, and what was written.
+#[derive(Drop)]
+pub struct Outcome {
+    pub status: Result<u8, EngineFault>,
+    pub reads: u64,
+    pub writes: u64,
+    pub written: Vec<u8>,
+}
+
+impl Outcome {
+    /// Whether it is this status, with this written.
+    pub fn is(&self, status: Result<u8, EngineFault>, written: &str) -> bool {
+        self.status == status && self.written.as_slice() == written.as_bytes()
+    }
+}
+
+/// The words as a command line.
+pub fn line(alloc: Global, words: &[&str]) -> Result<Vec<String>, AllocError> {
+    let mut line = Vec::new(alloc);
+    for word in words {
+        line.push(String::from_str(alloc, word)?)?;
+    }
+    Ok(line)
+}
+
 /// Serves the words over these ends.
 pub fn served<R: AllocGlobal + Threads + Wait>(
     rt: &R,
     words: &[&str],
-    reader: &mut Input<'_>,
-    writer: &mut Output,
-) -> Result<Result<u8, EngineFault>, Fail> {
-    let mut line = Vec::new(rt.alloc());
-    for word in words {
-        line.push(String::from_str(rt.alloc(), word)?)?;
-    }
-    Ok(engine(rt, line.as_slice(), reader, writer))
+    mut reader: Input<'_>,
+    mut writer: Output,
+) -> Result<Outcome, Fail> {
+    let line = line(rt.alloc(), words)?;
+    let status = engine(rt, line.as_slice(), &mut reader, &mut writer);
+    Ok(Outcome {
+        status,
+        reads: reader.counts.calls,
+        writes: writer.counts.calls,
+        written: writer.bytes,
+    })
 }
 
-/// What the words come to on an input, and what they write.
+/// What the words come to on an input.
 pub fn answered<R: AllocGlobal + Threads + Wait>(
     rt: &R,
     words: &[&str],
     input: &[u8],
-) -> Result<(Result<u8, EngineFault>, Vec<u8>), Fail> {
-    let mut reader = Input::new(input, 1000, Disturbance::Never);
-    let mut writer = Output::new(rt.alloc(), 100, Disturbance::Never);
-    let status = served(rt, words, &mut reader, &mut writer)?;
-    Ok((status, writer.bytes))
+) -> Result<Outcome, Fail> {
+    let reader = Input::new(input, 1000, Disturbance::Never);
+    let writer = Output::new(rt.alloc(), 100, Disturbance::Never);
+    served(rt, words, reader, writer)
+}
+
+/// Asserts what is true of a row, and names the row. The proof of a test that calls this is far
+/// shorter than that of one with assertions of its own.
+pub fn holds<R: Abort>(rt: &R, holds: bool, row: &[&str]) {
+    assert!(rt; holds, "{row:?}");
+}
+
+/// Asserts that the words come to this status on an input, and write this answer.
+pub fn answers<R: AllocGlobal + Abort + Threads + Wait>(
+    rt: &R,
+    words: &[&str],
+    input: &[u8],
+    status: u8,
+    answer: &str,
+) -> Result<(), Fail> {
+    let outcome = answered(rt, words, input)?;
+    assert!(rt; outcome.is(Ok(status), answer), "{words:?}: {answer}");
+    Ok(())
 }

@@ -1,10 +1,7 @@
 //! What `code` answers.
-use crate::answering::answered;
+use crate::answering::answers;
 use crate::texts::repeated;
-use std::process::Abort;
-use std::sync::Wait;
 use std::test::Fail;
-use std::thread::Threads;
 
 const SEVEN: &[u8] = b"tickcode 1 1 0 0 0\nPush 7\nOut\nHalt\n";
 
@@ -16,7 +13,7 @@ const EVERY: &[u8] =
     b"tickcode 1 3 2 2 2\nMe\nCount\nBin +\nPush 2\nBin *\nStore 0\nLoad 0\nPut 0\nMe\nPush 1\nBin +\nCount\nBin %\nGet 0 1\nLoadWord\nNext\nExchange 14\nScan 0\nCopy 0 1\nMe\nPush 0\nOlder 1 1\nLoad 0\nPush 6\nBin ==\nJumpZero 31\nLoad 0\nPush 1\nBin -\nOut\nJump 35\nLoad 0\nPush 4\nBin /\nOut\nLoad 1\nPush 1\nBin <=\nJumpZero 44\nLoad 1\nPush 2\nBin +\nStore 1\nJump 35\nLoad 0\nLoad 1\nBin !=\nOut\nLoad 0\nLoad 1\nBin <\nOut\nHalt\n";
 
 // A code, a schedule, and the report of its run.
-const REPORTS: [(&[u8], &str, &str); 5] = [
+static REPORTS: [(&[u8], &str, &str); 5] = [
     (SEVEN, "0*2", "0 out 7\nstatus 0 running\n"),
     (
         QUEUE,
@@ -41,7 +38,7 @@ const REPORTS: [(&[u8], &str, &str); 5] = [
 ];
 
 // A code or a schedule that is refused, and the line that says so. The schedule is looked at last.
-const REFUSALS: [(&[u8], &str, &str); 18] = [
+static REFUSALS: [(&[u8], &str, &str); 18] = [
     (
         b"tickcode 1 1 0 0 0\nOut\nHalt\n",
         "0*2",
@@ -111,34 +108,18 @@ const REFUSALS: [(&[u8], &str, &str); 18] = [
     (SEVEN, "0*10000001", "refused 53 TooLong\n"),
 ];
 
-fn answers<R: AllocGlobal + Abort + Threads + Wait>(
-    rt: &R,
-    code: &[u8],
-    schedule: &str,
-    status: u8,
-    answer: &str,
-) -> Result<(), Fail> {
-    let (served, written) = answered(rt, &["ticketc", "code", schedule], code)?;
-    assert_eq!(rt;
-        (served, written.as_slice()),
-        (Ok(status), answer.as_bytes()),
-        "{answer}"
-    );
-    Ok(())
-}
-
 #[test]
 fn reports(rt: HostRuntime) -> Result<(), Fail> {
-    for (code, schedule, report) in REPORTS {
-        answers(&rt, code, schedule, 0, report)?;
+    for (code, schedule, report) in &REPORTS {
+        answers(&rt, &["ticketc", "code", schedule], code, 0, report)?;
     }
     Ok(())
 }
 
 #[test]
 fn refusals(rt: HostRuntime) -> Result<(), Fail> {
-    for (code, schedule, line) in REFUSALS {
-        answers(&rt, code, schedule, 1, line)?;
+    for (code, schedule, line) in &REFUSALS {
+        answers(&rt, &["ticketc", "code", schedule], code, 1, line)?;
     }
     Ok(())
 }
@@ -148,7 +129,19 @@ const HEADER: &str = "tickcode 1 1 0 0 0\n";
 #[test]
 fn longest_code(rt: HostRuntime) -> Result<(), Fail> {
     let code = repeated(rt.alloc(), HEADER, "Halt\n", 65_535, "")?;
-    answers(&rt, code.as_bytes(), "0", 0, "0 end\nstatus 0 ended\n")?;
+    answers(
+        &rt,
+        &["ticketc", "code", "0"],
+        code.as_bytes(),
+        0,
+        "0 end\nstatus 0 ended\n",
+    )?;
     let code = repeated(rt.alloc(), HEADER, "Halt\n", 65_536, "")?;
-    answers(&rt, code.as_bytes(), "0", 1, "refused 27 TooLong\n")
+    answers(
+        &rt,
+        &["ticketc", "code", "0"],
+        code.as_bytes(),
+        1,
+        "refused 27 TooLong\n",
+    )
 }

@@ -1,78 +1,106 @@
 //! Ends that fail, are interrupted or go a byte at a time.
-use crate::answering::{answered, served};
+use crate::answering::{Outcome, answered, holds, served};
 use crate::ends::{Disturbance, Input, Output};
 use engine::EngineFault;
+use std::sync::Wait;
 use std::test::Fail;
+use std::thread::Threads;
 
 const ROW: &str =
     "layout 1\nstamp 0 word 4\nstamp 1 word 84\nstamp 2 word 2132\nword 2132\nlabels 10 11 20\nranks 0 1 2\n";
 
+// How the reads are disturbed, what comes of it, what is written, and the row's name.
+static READS: [(Disturbance, Result<u8, EngineFault>, &str, &str); 4] = [
+    (
+        Disturbance::Interrupted {
+            from: 2,
+            below: 5000,
+        },
+        Ok(0),
+        ROW,
+        "interrupted for a while",
+    ),
+    (
+        Disturbance::Failed(1),
+        Err(EngineFault::Read),
+        "",
+        "the first one fails",
+    ),
+    (
+        Disturbance::Failed(4),
+        Err(EngineFault::Read),
+        "",
+        "the fourth one fails",
+    ),
+    (
+        Disturbance::Interrupted {
+            from: 3,
+            below: u64::MAX,
+        },
+        Err(EngineFault::Read),
+        "",
+        "interrupted for ever",
+    ),
+];
+
 #[test]
 fn reads(rt: HostRuntime) -> Result<(), Fail> {
-    let cases = [
-        (
-            Disturbance::Interrupted {
-                from: 2,
-                below: 5000,
-            },
-            Ok(0),
-        ),
-        (Disturbance::Failed(1), Err(EngineFault::Read)),
-        (Disturbance::Failed(4), Err(EngineFault::Read)),
-        (
-            Disturbance::Interrupted {
-                from: 3,
-                below: u64::MAX,
-            },
-            Err(EngineFault::Read),
-        ),
-    ];
-    for (disturbance, outcome) in cases {
-        let mut input = Input::new(b"0 1 2", 1, disturbance);
-        let mut output = Output::new(rt.alloc(), 1000, Disturbance::Never);
-        assert_eq!(rt;
-            served(&rt, &["ticketc", "order", "3"], &mut input, &mut output)?,
-            outcome
-        );
-        let written = if outcome == Ok(0) { ROW } else { "" };
-        assert_eq!(rt; output.bytes.as_slice(), written.as_bytes());
-        assert!(rt; input.counts.calls <= 2_000_000);
+    for (disturbance, status, written, row) in &READS {
+        let input = Input::new(b"0 1 2", 1, *disturbance);
+        let output = Output::new(rt.alloc(), 1000, Disturbance::Never);
+        let outcome = served(&rt, &["ticketc", "order", "3"], input, output)?;
+        let is_so = outcome.is(*status, written) && outcome.reads <= 2_000_000;
+        holds(&rt, is_so, &[row]);
     }
     Ok(())
 }
 
+// How many bytes a write takes, how the writes are disturbed, what comes of it, what is written, and
+// the row's name.
+static WRITES: [(usize, Disturbance, Result<u8, EngineFault>, &str, &str); 4] = [
+    (
+        1,
+        Disturbance::Interrupted {
+            from: 2,
+            below: 1002,
+        },
+        Ok(0),
+        ROW,
+        "interrupted a thousand times",
+    ),
+    (
+        6,
+        Disturbance::Interrupted {
+            from: 2,
+            below: 1003,
+        },
+        Err(EngineFault::Write),
+        "layout",
+        "interrupted once more",
+    ),
+    (
+        6,
+        Disturbance::Failed(2),
+        Err(EngineFault::Write),
+        "layout",
+        "the second one fails",
+    ),
+    (
+        0,
+        Disturbance::Never,
+        Err(EngineFault::Write),
+        "",
+        "no byte is taken",
+    ),
+];
+
 #[test]
 fn writes(rt: HostRuntime) -> Result<(), Fail> {
-    let cases = [
-        (
-            1,
-            Disturbance::Interrupted {
-                from: 2,
-                below: 1002,
-            },
-            Ok(0),
-            ROW,
-        ),
-        (
-            6,
-            Disturbance::Interrupted {
-                from: 2,
-                below: 1003,
-            },
-            Err(EngineFault::Write),
-            "layout",
-        ),
-        (6, Disturbance::Failed(2), Err(EngineFault::Write), "layout"),
-        (0, Disturbance::Never, Err(EngineFault::Write), ""),
-    ];
-    for (step, disturbance, outcome, written) in cases {
-        let mut input = Input::new(b"0 1 2", 1000, Disturbance::Never);
-        let mut output = Output::new(rt.alloc(), step, disturbance);
-        assert_eq!(rt;
-            served(&rt, &["ticketc", "order", "3"], &mut input, &mut output)?,
-            outcome
-        );
-        assert_eq!(rt; output.bytes.as_slice(), written.as_bytes());
+    for (step, disturbance, status, written, row) in &WRITES {
+        let input = Input::new(b"0 1 2", 1000, Disturbance::Never);
+        let output = Output::new(rt.alloc(), *step, *disturbance);
+        let outcome = served(&rt, &["ticketc", "order", "3"], input, output)?;
+        holds(&rt, outcome.is(*status, written), &[row]);
     }
     Ok(())
 }
@@ -81,7 +109,7 @@ const QUEUE: &[u8] =
     b"processes 2; var x; scan s; begin stamp; s = scan; x = older s 0 1; out x; end";
 
 // Each command, with an input that it answers.
-const COMMANDS: [(&[&str], &[u8]); 8] = [
+static COMMANDS: [(&[&str], &[u8]); 8] = [
     (&["ticketc", "order", "3"], b"0 1 2"),
     (&["ticketc", "check"], QUEUE),
     (&["ticketc", "emit"], QUEUE),
@@ -99,59 +127,87 @@ const COMMANDS: [(&[&str], &[u8]); 8] = [
 ];
 
 // A read that failed is the last one, and nothing is written.
+fn ends_reading(outcome: &Outcome, call: u64) -> bool {
+    outcome.is(Err(EngineFault::Read), "") && outcome.reads == call
+}
+
+fn reading<R: AllocGlobal + Threads + Wait>(
+    rt: &R,
+    words: &[&str],
+    text: &[u8],
+    call: u64,
+) -> Result<Outcome, Fail> {
+    let reader = Input::new(text, 1, Disturbance::Failed(call));
+    let writer = Output::new(rt.alloc(), 1000, Disturbance::Never);
+    served(rt, words, reader, writer)
+}
+
 #[test]
 fn each_read_failing(rt: HostRuntime) -> Result<(), Fail> {
-    for (words, text) in COMMANDS {
+    for (words, text) in &COMMANDS {
         for call in 1..5 {
-            let mut reader = Input::new(text, 1, Disturbance::Failed(call));
-            let mut writer = Output::new(rt.alloc(), 1000, Disturbance::Never);
-            let outcome = served(&rt, words, &mut reader, &mut writer)?;
-            assert_eq!(rt;
-                (outcome, reader.counts.calls, writer.bytes.len()),
-                (Err(EngineFault::Read), call, 0)
-            );
+            let outcome = reading(&rt, words, text, call)?;
+            holds(&rt, ends_reading(&outcome, call), words);
         }
     }
     Ok(())
 }
 
 // A write that failed is the last one, and the answer was written up to it.
+fn ends_writing(outcome: &Outcome, call: u64, whole: &Outcome) -> bool {
+    let written = outcome.written.as_slice();
+    outcome.status == Err(EngineFault::Write)
+        && outcome.writes == call
+        && written.len() as u64 + 1 == call
+        && whole.written.as_slice().starts_with(written)
+}
+
+fn writing<R: AllocGlobal + Threads + Wait>(
+    rt: &R,
+    words: &[&str],
+    text: &[u8],
+    call: u64,
+) -> Result<Outcome, Fail> {
+    let reader = Input::new(text, 1000, Disturbance::Never);
+    let writer = Output::new(rt.alloc(), 1, Disturbance::Failed(call));
+    served(rt, words, reader, writer)
+}
+
 #[test]
 fn each_write_failing(rt: HostRuntime) -> Result<(), Fail> {
-    for (words, text) in COMMANDS {
-        let (_, whole) = answered(&rt, words, text)?;
+    for (words, text) in &COMMANDS {
+        let whole = answered(&rt, words, text)?;
         for call in 1..5 {
-            let mut reader = Input::new(text, 1000, Disturbance::Never);
-            let mut writer = Output::new(rt.alloc(), 1, Disturbance::Failed(call));
-            let outcome = served(&rt, words, &mut reader, &mut writer)?;
-            assert_eq!(rt;
-                (outcome, writer.counts.calls, writer.bytes.len() as u64 + 1),
-                (Err(EngineFault::Write), call, call)
-            );
-            assert!(rt; whole.as_slice().starts_with(writer.bytes.as_slice()));
+            let outcome = writing(&rt, words, text, call)?;
+            holds(&rt, ends_writing(&outcome, call, &whole), words);
         }
     }
     Ok(())
 }
 
+static REFUSED: [(&[&str], u8); 8] = [
+    (&["ticketc"], 2),
+    (&["ticketc", "order", "7"], 1),
+    (&["ticketc", "order", "+3"], 2),
+    (&["ticketc", "run"], 2),
+    (&["ticketc", "run", "+3"], 2),
+    (&["ticketc", "run", "1000000001"], 2),
+    (&["ticketc", "run", "99999999999999999999"], 2),
+    (&["ticketc", "run", "1", "2"], 2),
+];
+
 // Where the words are refused, no byte is asked for.
 #[test]
 fn refused_words_read_nothing(rt: HostRuntime) -> Result<(), Fail> {
-    let lines: [(&[&str], u8); 8] = [
-        (&["ticketc"], 2),
-        (&["ticketc", "order", "7"], 1),
-        (&["ticketc", "order", "+3"], 2),
-        (&["ticketc", "run"], 2),
-        (&["ticketc", "run", "+3"], 2),
-        (&["ticketc", "run", "1000000001"], 2),
-        (&["ticketc", "run", "99999999999999999999"], 2),
-        (&["ticketc", "run", "1", "2"], 2),
-    ];
-    for (words, status) in lines {
-        let mut reader = Input::new(QUEUE, 1000, Disturbance::Failed(1));
-        let mut writer = Output::new(rt.alloc(), 1000, Disturbance::Never);
-        let outcome = served(&rt, words, &mut reader, &mut writer)?;
-        assert_eq!(rt; (outcome, reader.counts.calls), (Ok(status), 0));
+    for (words, status) in &REFUSED {
+        let reader = Input::new(QUEUE, 1000, Disturbance::Failed(1));
+        let writer = Output::new(rt.alloc(), 1000, Disturbance::Never);
+        let outcome = served(&rt, words, reader, writer)?;
+        holds(
+            &rt,
+            outcome.status == Ok(*status) && outcome.reads == 0,
+            words,
+        );
     }
     Ok(())
 }

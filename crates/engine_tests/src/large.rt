@@ -1,5 +1,6 @@
 //! One large input of each kind, and an input that is too large.
-use crate::answering::answered;
+use crate::answering;
+use crate::answering::{answered, holds};
 use crate::texts::repeated;
 use std::alloc::{AllocError, Global};
 use std::fmt::Write;
@@ -8,15 +9,15 @@ use std::sync::Wait;
 use std::test::Fail;
 use std::thread::Threads;
 
+// Names the command alone, since the answer is long.
 fn answers<R: AllocGlobal + Abort + Threads + Wait>(
     rt: &R,
     words: &[&str],
     input: &str,
     answer: &str,
 ) -> Result<(), Fail> {
-    let (status, written) = answered(rt, words, input.as_bytes())?;
-    assert_eq!(rt; status, Ok(0));
-    assert!(rt; written.as_slice() == answer.as_bytes());
+    let outcome = answered(rt, words, input.as_bytes())?;
+    holds(rt, outcome.is(Ok(0), answer), words);
     Ok(())
 }
 
@@ -93,12 +94,28 @@ fn hundred_thousand_steps(rt: HostRuntime) -> Result<(), Fail> {
     )
 }
 
+// A front, sixty-four blocks in one another, and an end.
+fn nested(
+    alloc: Global,
+    front: &str,
+    open: &str,
+    close: &str,
+    end: &str,
+) -> Result<String, AllocError> {
+    let opened = repeated(alloc, front, open, 64, "")?;
+    repeated(alloc, opened.as_str(), close, 64, end)
+}
+
 #[test]
 fn deepest(rt: HostRuntime) -> Result<(), Fail> {
-    let open = repeated(rt.alloc(), "processes 1; begin ", "while 0 { ", 64, "")?;
-    let program = repeated(rt.alloc(), open.as_str(), "} ", 64, "end")?;
-    let printed = repeated(rt.alloc(), "processes 1 ;\nbegin\n", "while 0 {\n", 64, "")?;
-    let printed = repeated(rt.alloc(), printed.as_str(), "}\n", 64, "end\n")?;
+    let program = nested(rt.alloc(), "processes 1; begin ", "while 0 { ", "} ", "end")?;
+    let printed = nested(
+        rt.alloc(),
+        "processes 1 ;\nbegin\n",
+        "while 0 {\n",
+        "}\n",
+        "end\n",
+    )?;
     prints(&rt, program.as_str(), printed.as_str())
 }
 
@@ -112,28 +129,20 @@ fn longest_name(rt: HostRuntime) -> Result<(), Fail> {
     prints(&rt, program.as_str(), printed.as_str())
 }
 
+static TOO_LONG: [&[&str]; 3] = [
+    &["ticketc", "check"],
+    &["ticketc", "source", "x"],
+    &["ticketc", "run", "5"],
+];
+
 #[test]
 fn longest_input(rt: HostRuntime) -> Result<(), Fail> {
-    let mut text = Vec::new(rt.alloc());
-    for _ in 0..1_000_000 {
-        text.push(b' ')?;
-    }
-    let (served, written) = answered(&rt, &["ticketc", "check"], text.as_slice())?;
-    assert_eq!(rt; served, Ok(1));
-    assert_eq!(rt;
-        written.as_slice(),
-        b"refused 5 Unexpected 1000000 1000000\n".as_slice()
-    );
-    text.push(b' ')?;
-    let too_long: [&[&str]; 3] = [
-        &["ticketc", "check"],
-        &["ticketc", "source", "x"],
-        &["ticketc", "run", "5"],
-    ];
-    for words in too_long {
-        let (served, written) = answered(&rt, words, text.as_slice())?;
-        assert_eq!(rt; served, Ok(1));
-        assert_eq!(rt; written.as_slice(), b"refused 1 TextTooLong\n".as_slice());
+    let text = repeated(rt.alloc(), "", " ", 1_000_000, "")?;
+    let line = "refused 5 Unexpected 1000000 1000000\n";
+    answering::answers(&rt, &["ticketc", "check"], text.as_bytes(), 1, line)?;
+    let text = repeated(rt.alloc(), "", " ", 1_000_001, "")?;
+    for words in &TOO_LONG {
+        answering::answers(&rt, words, text.as_bytes(), 1, "refused 1 TextTooLong\n")?;
     }
     Ok(())
 }

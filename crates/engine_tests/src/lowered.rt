@@ -1,5 +1,5 @@
 //! What `emit`, `code`, `lift` and `drop` answer on programs.
-use crate::answering::answered;
+use crate::answering::answers;
 use crate::texts::repeated;
 use std::process::Abort;
 use std::sync::Wait;
@@ -21,7 +21,7 @@ const BACK_REPORT: &str =
     "0 stamp\n1 stamp\n2 stamp\n1 stamp\n2 stamp\n1 stamp\n2 stamp\n1 stamp\n2 stamp\n1 stamp\n0 stamp\n0 scan 2 1 0\nstatus 0 running\nstatus 1 running\nstatus 2 running\n";
 
 // A command, a schedule where it wants one, a program, the status and the answer.
-const ANSWERS: [(&[&str], &[u8], u8, &str); 19] = [
+static ANSWERS: [(&[&str], &[u8], u8, &str); 19] = [
     (
         &["ticketc", "emit"],
         QUEUE,
@@ -106,66 +106,45 @@ const ANSWERS: [(&[&str], &[u8], u8, &str); 19] = [
     ),
 ];
 
-fn answers<R: AllocGlobal + Abort + Threads + Wait>(
+#[test]
+fn programs_and_their_codes(rt: HostRuntime) -> Result<(), Fail> {
+    for (words, program, status, answer) in &ANSWERS {
+        answers(&rt, words, program, *status, answer)?;
+    }
+    Ok(())
+}
+
+// The words on a program of one statement so many times.
+fn answers_on<R: AllocGlobal + Abort + Threads + Wait>(
     rt: &R,
     words: &[&str],
-    program: &[u8],
+    statement: &str,
+    count: usize,
     status: u8,
     answer: &str,
 ) -> Result<(), Fail> {
-    let (served, written) = answered(rt, words, program)?;
-    assert!(rt;
-        served == Ok(status) && written.as_slice() == answer.as_bytes(),
-        "{answer}"
-    );
-    Ok(())
+    let program = repeated(rt.alloc(), "processes 1; begin ", statement, count, "end")?;
+    answers(rt, words, program.as_bytes(), status, answer)
 }
 
-#[test]
-fn programs_and_their_codes(rt: HostRuntime) -> Result<(), Fail> {
-    for (words, program, status, answer) in ANSWERS {
-        answers(&rt, words, program, status, answer)?;
-    }
-    Ok(())
-}
-
-const FRONT: &str = "processes 1; begin ";
+static TOO_LONG: [&[&str]; 5] = [
+    &["ticketc", "emit"],
+    &["ticketc", "code", "x"],
+    &["ticketc", "lift", "x"],
+    &["ticketc", "drop", "x"],
+    &["ticketc", "run", "0"],
+];
 
 #[test]
 fn longest_code_of_a_program(rt: HostRuntime) -> Result<(), Fail> {
-    let program = repeated(rt.alloc(), FRONT, "out 1; ", 32_767, "end")?;
-    let code = repeated(
-        rt.alloc(),
-        "tickcode 1 1 0 0 0\n",
-        "Push 1\nOut\n",
-        32_767,
-        "Halt\n",
-    )?;
-    answers(
-        &rt,
-        &["ticketc", "emit"],
-        program.as_bytes(),
-        0,
-        code.as_str(),
-    )?;
-    let program = repeated(rt.alloc(), FRONT, "out 1; ", 32_768, "end")?;
-    let too_long: [&[&str]; 5] = [
-        &["ticketc", "emit"],
-        &["ticketc", "code", "x"],
-        &["ticketc", "lift", "x"],
-        &["ticketc", "drop", "x"],
-        &["ticketc", "run", "0"],
-    ];
-    for words in too_long {
-        answers(&rt, words, program.as_bytes(), 1, "refused 31 TooLong\n")?;
+    let front = "tickcode 1 1 0 0 0\n";
+    let code = repeated(rt.alloc(), front, "Push 1\nOut\n", 32_767, "Halt\n")?;
+    let emit = ["ticketc", "emit"];
+    answers_on(&rt, &emit, "out 1; ", 32_767, 0, code.as_str())?;
+    for words in &TOO_LONG {
+        answers_on(&rt, words, "out 1; ", 32_768, 1, "refused 31 TooLong\n")?;
     }
     // a fault of kinds is told first
-    let program = repeated(rt.alloc(), FRONT, "out y; ", 32_768, "end")?;
-    answers(
-        &rt,
-        &["ticketc", "emit"],
-        program.as_bytes(),
-        1,
-        "refused 13 Unknown 23 24\n",
-    )
+    let line = "refused 13 Unknown 23 24\n";
+    answers_on(&rt, &emit, "out y; ", 32_768, 1, line)
 }

@@ -1,10 +1,10 @@
 //! What `order` answers, and command lines that are refused.
-use crate::answering::{USAGE, served};
+use crate::answering::{Outcome, USAGE, holds, served};
 use crate::ends::{Disturbance, Input, Output};
 use std::test::Fail;
 
 // A command line, its input, the status, and how the text ends. A text that isn't cut begins so.
-const ANSWERS: [(&[&str], &[u8], u8, &str); 23] = [
+static ANSWERS: [(&[&str], &[u8], u8, &str); 23] = [
     (
         &["ticketc", "order", "2"],
         b"",
@@ -110,19 +110,19 @@ const ANSWERS: [(&[&str], &[u8], u8, &str); 23] = [
     (&["ticketc", "source"], b"processes 1; begin end", 2, USAGE),
 ];
 
+fn ends_so(outcome: &Outcome, status: u8, end: &str) -> bool {
+    let written = outcome.written.as_slice();
+    let is_whole = written.len() == end.len() || end.starts_with("word");
+    outcome.status == Ok(status) && written.ends_with(end.as_bytes()) && is_whole
+}
+
 #[test]
 fn answers(rt: HostRuntime) -> Result<(), Fail> {
-    for (words, text, status, end) in ANSWERS {
-        let mut input = Input::new(text, 7, Disturbance::Never);
-        let mut output = Output::new(rt.alloc(), 100, Disturbance::Never);
-        let outcome = served(&rt, words, &mut input, &mut output)?;
-        let written = output.bytes.as_slice();
-        let is_whole = written.len() == end.len() || end.starts_with("word");
-        assert_eq!(rt;
-            (outcome, written.ends_with(end.as_bytes()), is_whole),
-            (Ok(status), true, true),
-            "{end}"
-        );
+    for (words, text, status, end) in &ANSWERS {
+        let input = Input::new(text, 7, Disturbance::Never);
+        let output = Output::new(rt.alloc(), 100, Disturbance::Never);
+        let outcome = served(&rt, words, input, output)?;
+        holds(&rt, ends_so(&outcome, *status, end), &[end]);
     }
     Ok(())
 }

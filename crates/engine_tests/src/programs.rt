@@ -1,5 +1,5 @@
 //! What `check` and `source` answer on programs that are accepted.
-use crate::answering::answered;
+use crate::answering::{answered, answers};
 use std::test::Fail;
 
 const QUEUE: &[u8] =
@@ -20,7 +20,7 @@ const EVERY: &[u8] =
     b"processes 3; var x, y; scan s, t; reg r, q; begin x = ((me + n) * 2); put r x; y = get r ((me + 1) % n); stamp; s = scan; t = copy s; y = older t me 0; if (x == 6) { out (x - 1); } else { out (x / 4); } while (y <= 1) { y = (y + 2); } out (x != y); out (x < y); end";
 
 // A program and its printed form.
-const CHECKS: [(&[u8], &str); 4] = [
+static CHECKS: [(&[u8], &str); 4] = [
     (
         QUEUE,
         "processes 2 ;\nvar x ;\nscan s ;\nbegin\nstamp ;\ns = scan ;\nx = older s 0 1 ;\nout x ;\nend\n",
@@ -40,7 +40,7 @@ const CHECKS: [(&[u8], &str); 4] = [
 ];
 
 // A program, the text of a schedule, and the report.
-const SOURCES: [(&[u8], &str, &str); 14] = [
+static SOURCES: [(&[u8], &str, &str); 14] = [
     (
         QUEUE,
         "0*5 1*5",
@@ -110,25 +110,20 @@ const SOURCES: [(&[u8], &str, &str); 14] = [
     ),
 ];
 
+// What is printed is printed the same again.
 #[test]
 fn checks(rt: HostRuntime) -> Result<(), Fail> {
-    for (text, printed) in CHECKS {
-        let (served, written) = answered(&rt, &["ticketc", "check"], text)?;
-        assert_eq!(rt; served, Ok(0));
-        assert_eq!(rt; written.as_slice(), printed.as_bytes());
-        let (served, again) = answered(&rt, &["ticketc", "check"], written.as_slice())?;
-        assert_eq!(rt; served, Ok(0));
-        assert_eq!(rt; again.as_slice(), printed.as_bytes());
+    for (text, printed) in &CHECKS {
+        answers(&rt, &["ticketc", "check"], text, 0, printed)?;
+        answers(&rt, &["ticketc", "check"], printed.as_bytes(), 0, printed)?;
     }
     Ok(())
 }
 
 #[test]
 fn sources(rt: HostRuntime) -> Result<(), Fail> {
-    for (text, schedule, report) in SOURCES {
-        let (served, written) = answered(&rt, &["ticketc", "source", schedule], text)?;
-        assert_eq!(rt; served, Ok(0));
-        assert_eq!(rt; written.as_slice(), report.as_bytes());
+    for (text, schedule, report) in &SOURCES {
+        answers(&rt, &["ticketc", "source", schedule], text, 0, report)?;
     }
     Ok(())
 }
@@ -137,9 +132,12 @@ fn sources(rt: HostRuntime) -> Result<(), Fail> {
 #[test]
 fn cut_off(rt: HostRuntime) -> Result<(), Fail> {
     for length in 0..QUEUE.len() {
-        let (served, written) = answered(&rt, &["ticketc", "check"], &QUEUE[..length])?;
-        let is_unexpected = written.as_slice().starts_with(b"refused 5 Unexpected ");
-        assert_eq!(rt; (served, is_unexpected), (Ok(1), true), "{length}");
+        let outcome = answered(&rt, &["ticketc", "check"], &QUEUE[..length])?;
+        let is_unexpected = outcome
+            .written
+            .as_slice()
+            .starts_with(b"refused 5 Unexpected ");
+        assert!(rt; outcome.status == Ok(1) && is_unexpected, "{length}");
     }
     Ok(())
 }

@@ -1,15 +1,14 @@
 //! Each refusal of a program, of its kinds and of a schedule.
-use crate::answering::answered;
+use crate::answering::{Outcome, answered, answers, holds};
 use crate::texts::repeated;
 use std::alloc::{AllocError, Global};
 use std::fmt::Write;
-use std::process::Abort;
 use std::sync::Wait;
 use std::test::Fail;
 use std::thread::Threads;
 
 // A program and the line that refuses it.
-const PROGRAMS: [(&[u8], &str); 18] = [
+static PROGRAMS: [(&[u8], &str); 18] = [
     (b"processes 2; begin ? end", "refused 2 BadCharacter 19\n"),
     (
         b"processes 2; begin \xff end",
@@ -65,7 +64,7 @@ const PROGRAMS: [(&[u8], &str); 18] = [
 ];
 
 // A schedule of two processes, and the line that refuses it.
-const SCHEDULES: [(&str, &str); 9] = [
+static SCHEDULES: [(&str, &str); 9] = [
     ("x", "refused 51 BadItem 0\n"),
     ("0 1*", "refused 51 BadItem 2\n"),
     ("0 *2", "refused 51 BadItem 2\n"),
@@ -77,43 +76,34 @@ const SCHEDULES: [(&str, &str); 9] = [
     ("0*99999999999999999999", "refused 53 TooLong\n"),
 ];
 
-fn refused<R: AllocGlobal + Abort + Threads + Wait>(
-    rt: &R,
-    words: &[&str],
-    input: &[u8],
-    line: &str,
-) -> Result<(), Fail> {
-    let (status, written) = answered(rt, words, input)?;
-    assert_eq!(rt;
-        (status, written.as_slice()),
-        (Ok(1), line.as_bytes()),
-        "{line}"
-    );
-    Ok(())
-}
-
 #[test]
 fn programs_are_refused(rt: HostRuntime) -> Result<(), Fail> {
-    for (program, line) in PROGRAMS {
-        refused(&rt, &["ticketc", "check"], program, line)?;
+    for (program, line) in &PROGRAMS {
+        answers(&rt, &["ticketc", "check"], program, 1, line)?;
         // whatever the schedule
-        refused(&rt, &["ticketc", "source", "x"], program, line)?;
+        answers(&rt, &["ticketc", "source", "x"], program, 1, line)?;
     }
     Ok(())
 }
 
 #[test]
 fn schedules_are_refused(rt: HostRuntime) -> Result<(), Fail> {
-    for (schedule, line) in SCHEDULES {
+    for (schedule, line) in &SCHEDULES {
         let program = b"processes 2; begin end";
-        refused(&rt, &["ticketc", "source", schedule], program, line)?;
-        refused(&rt, &["ticketc", "order", "2"], schedule.as_bytes(), line)?;
+        answers(&rt, &["ticketc", "source", schedule], program, 1, line)?;
+        answers(
+            &rt,
+            &["ticketc", "order", "2"],
+            schedule.as_bytes(),
+            1,
+            line,
+        )?;
     }
     Ok(())
 }
 
 // A text of a front, a piece so many times and a back, and the line that refuses it.
-const DEEP: [(&str, &str, usize, &str, &str); 6] = [
+static DEEP: [(&str, &str, usize, &str, &str); 6] = [
     (
         "processes 1; begin out ",
         "(",
@@ -160,15 +150,15 @@ const DEEP: [(&str, &str, usize, &str, &str); 6] = [
 
 #[test]
 fn depth_and_length(rt: HostRuntime) -> Result<(), Fail> {
-    for (front, piece, count, back, line) in DEEP {
-        let text = repeated(rt.alloc(), front, piece, count, back)?;
-        refused(&rt, &["ticketc", "check"], text.as_bytes(), line)?;
+    for (front, piece, count, back, line) in &DEEP {
+        let text = repeated(rt.alloc(), front, piece, *count, back)?;
+        answers(&rt, &["ticketc", "check"], text.as_bytes(), 1, line)?;
     }
     Ok(())
 }
 
 // A section, how many names it may have, and the line that refuses one more.
-const SECTIONS: [(&str, u8, &str); 3] = [
+static SECTIONS: [(&str, u8, &str); 3] = [
     ("var", 64, "refused 15 TooMany 263 266\n"),
     ("scan", 16, "refused 15 TooMany 72 75\n"),
     ("reg", 8, "refused 15 TooMany 41 43\n"),
@@ -184,14 +174,22 @@ fn declaring(alloc: Global, section: &str, names: u8) -> Result<String, AllocErr
     Ok(text)
 }
 
+fn declared<R: AllocGlobal + Threads + Wait>(
+    rt: &R,
+    section: &str,
+    names: u8,
+) -> Result<Outcome, Fail> {
+    let text = declaring(rt.alloc(), section, names)?;
+    answered(rt, &["ticketc", "check"], text.as_bytes())
+}
+
 #[test]
 fn names_in_a_section(rt: HostRuntime) -> Result<(), Fail> {
-    for (section, most, line) in SECTIONS {
-        let text = declaring(rt.alloc(), section, most)?;
-        let (status, _) = answered(&rt, &["ticketc", "check"], text.as_bytes())?;
-        assert_eq!(rt; status, Ok(0), "{section}");
-        let text = declaring(rt.alloc(), section, most + 1)?;
-        refused(&rt, &["ticketc", "check"], text.as_bytes(), line)?;
+    for (section, most, line) in &SECTIONS {
+        let outcome = declared(&rt, section, *most)?;
+        holds(&rt, outcome.status == Ok(0), &[section]);
+        let outcome = declared(&rt, section, most.saturating_add(1))?;
+        holds(&rt, outcome.is(Ok(1), line), &[line]);
     }
     Ok(())
 }

@@ -3,8 +3,8 @@ use Rattle.std.specs.Prelude.{◌≡◌, ◌≢◌, ℕ, Result, Ok, Err}
 use Rattle.std.specs.IoError.{error_kind}
 use Rattle.std.specs.declared.io.Error.{Error}
 use Rattle.std.specs.declared.io.ErrorKind.TheVariants as kind
-use Rattle.engine.specs.declared.ends.Transfer.{Transfer}
-use Rattle.engine.specs.declared.ends.Transfer.TheVariants.{Moved, Interrupted, Failed}
+use Rattle.ends.specs.declared.transfer.Transfer.{Transfer}
+use Rattle.ends.specs.declared.transfer.Transfer.TheVariants.{Moved, Interrupted, Failed}
 
 -- an interruption is one by its kind, and any other error is a failure
 pub record IsErrorOf (error : Error) (transfer : Transfer) : Type 0 where

@@ -1,83 +1,99 @@
+use crate::asserting::{holds, is_same};
 use crate::programs::{accepted, refusal};
 use std::alloc::Global;
 use std::fmt::Write;
+use std::process::Abort;
 use std::test::Fail;
 use tick_kinds::resolved::Statement;
-use tick_kinds::{Kind, KindFault, check};
+use tick_kinds::{Kind, KindFault, Program, check};
 use tick_syntax::parse;
 use tick_syntax::span::Span;
+use tick_syntax::tree::Tree;
 
-#[test]
-fn tells_each_refusal(rt: HostRuntime) -> Result<(), Fail> {
-    let alloc = rt.alloc();
-    assert_eq!(rt;
-        refusal(alloc, "processes 0; begin end")?,
-        KindFault::Processes(Span { start: 10, end: 11 })
-    );
-    assert_eq!(rt;
-        refusal(alloc, "processes 7; begin end")?,
-        KindFault::Processes(Span { start: 10, end: 11 })
-    );
-    assert_eq!(rt;
-        refusal(alloc, "processes 2; var x; reg x; begin end")?,
-        KindFault::Twice(Span { start: 24, end: 25 })
-    );
-    assert_eq!(rt;
-        refusal(alloc, "processes 2; begin out y; end")?,
-        KindFault::Unknown(Span { start: 23, end: 24 })
-    );
-    assert_eq!(rt;
-        refusal(
-            alloc,
-            "processes 2; var x; scan s, t; begin x = older s 0 t; end"
-        )?,
+fn refuses<R: AllocGlobal + Abort>(rt: &R, text: &str, fault: KindFault) -> Result<(), Fail> {
+    let found = refusal(rt.alloc(), text)?;
+    assert_eq!(rt; found, fault, "{text}");
+    Ok(())
+}
+
+// A program, and why it isn't accepted.
+static REFUSALS: [(&str, KindFault); 7] = [
+    (
+        "processes 0; begin end",
+        KindFault::Processes(Span { start: 10, end: 11 }),
+    ),
+    (
+        "processes 7; begin end",
+        KindFault::Processes(Span { start: 10, end: 11 }),
+    ),
+    (
+        "processes 2; var x; reg x; begin end",
+        KindFault::Twice(Span { start: 24, end: 25 }),
+    ),
+    (
+        "processes 2; begin out y; end",
+        KindFault::Unknown(Span { start: 23, end: 24 }),
+    ),
+    (
+        "processes 2; var x; scan s, t; begin x = older s 0 t; end",
         KindFault::WrongKind {
             span: Span { start: 51, end: 52 },
             wanted: Kind::Variable,
             found: Kind::Scan,
-        }
-    );
+        },
+    ),
+    // the first name that is too many
+    (
+        "processes 1; scan a,b,c,d,e,f,g,h,i,j,k,l,m,o,p,q,r; begin end",
+        KindFault::TooMany(Span { start: 50, end: 51 }),
+    ),
+    (
+        "processes 1; reg a,b,c,d,e,f,g,h,i; begin end",
+        KindFault::TooMany(Span { start: 33, end: 34 }),
+    ),
+];
+
+#[test]
+fn tells_each_refusal(rt: HostRuntime) -> Result<(), Fail> {
+    for (text, fault) in &REFUSALS {
+        refuses(&rt, text, *fault)?;
+    }
     Ok(())
 }
 
 #[test]
 fn tells_the_first_name_that_is_too_many(rt: HostRuntime) -> Result<(), Fail> {
-    let alloc = rt.alloc();
-    let variables = variables(alloc, 65)?;
-    assert_eq!(rt;
-        refusal(alloc, &variables)?,
-        KindFault::TooMany(Span {
-            start: 263,
-            end: 266
-        })
-    );
-    assert_eq!(rt;
-        refusal(
-            alloc,
-            "processes 1; scan a,b,c,d,e,f,g,h,i,j,k,l,m,o,p,q,r; begin end"
-        )?,
-        KindFault::TooMany(Span { start: 50, end: 51 })
-    );
-    assert_eq!(rt;
-        refusal(alloc, "processes 1; reg a,b,c,d,e,f,g,h,i; begin end")?,
-        KindFault::TooMany(Span { start: 33, end: 34 })
-    );
+    let text = variables(rt.alloc(), 65)?;
+    let first = Span {
+        start: 263,
+        end: 266,
+    };
+    refuses(&rt, text.as_str(), KindFault::TooMany(first))
+}
+
+fn declares<R: AllocGlobal + Abort>(
+    rt: &R,
+    text: &str,
+    variables: u8,
+    scans: u8,
+    registers: u8,
+) -> Result<(), Fail> {
+    let program = accepted(rt.alloc(), text)?;
+    let is_so = program.variables() == variables
+        && program.scans() == scans
+        && program.registers() == registers;
+    holds(rt, is_so, text);
     Ok(())
 }
 
 #[test]
 fn accepts_as_many_names_as_there_may_be(rt: HostRuntime) -> Result<(), Fail> {
-    let alloc = rt.alloc();
-    let program = accepted(alloc, &variables(alloc, 64)?)?;
-    assert_eq!(rt; program.variables(), 64);
-    let program = accepted(
-        alloc,
-        "processes 6; scan a,b,c,d,e,f,g,h,i,j,k,l,m,o,p,q; begin end",
-    )?;
-    assert_eq!(rt; program.scans(), 16);
-    let program = accepted(alloc, "processes 1; reg a,b,c,d,e,f,g,h; begin end")?;
-    assert_eq!(rt; program.registers(), 8);
-    Ok(())
+    let text = variables(rt.alloc(), 64)?;
+    declares(&rt, text.as_str(), 64, 0, 0)?;
+    let scans = "processes 6; scan a,b,c,d,e,f,g,h,i,j,k,l,m,o,p,q; begin end";
+    declares(&rt, scans, 0, 16, 0)?;
+    let registers = "processes 1; reg a,b,c,d,e,f,g,h; begin end";
+    declares(&rt, registers, 0, 0, 8)
 }
 
 // A program that declares so many variables, at least one.
@@ -90,33 +106,42 @@ fn variables(alloc: Global, count: u32) -> Result<String, Fail> {
     Ok(text)
 }
 
+fn is_numbered(program: &Program) -> bool {
+    program.kind("y") == Some((Kind::Variable, 1))
+        && program.kind("s") == Some((Kind::Scan, 0))
+        && program.kind("r") == Some((Kind::Register, 0))
+        && program.kind("z") == None
+}
+
+fn is_whole(program: &Program) -> bool {
+    program.body().len() == 3
+        && program.tree().body.len() == 3
+        && matches!(program.body().first(), Some(Statement::Scan(0)))
+}
+
 #[test]
 fn numbers_names_by_section(rt: HostRuntime) -> Result<(), Fail> {
-    let program = accepted(
-        rt.alloc(),
-        "processes 2; var x, y; scan s; reg r; begin s = scan; y = older s 0 me; while y { out x; } end",
-    )?;
-    assert_eq!(rt; program.processes(), 2);
-    assert_eq!(rt; program.variables(), 2);
-    assert_eq!(rt; program.scans(), 1);
-    assert_eq!(rt; program.registers(), 1);
-    assert_eq!(rt; program.kind("y"), Some((Kind::Variable, 1)));
-    assert_eq!(rt; program.kind("s"), Some((Kind::Scan, 0)));
-    assert_eq!(rt; program.kind("r"), Some((Kind::Register, 0)));
-    assert_eq!(rt; program.kind("z"), None);
-    assert_eq!(rt; program.body().len(), 3);
-    assert_eq!(rt; program.tree().body.len(), 3);
-    assert!(rt; matches!(program.body().first(), Some(Statement::Scan(0))));
+    let text =
+        "processes 2; var x, y; scan s; reg r; begin s = scan; y = older s 0 me; while y { out x; } end";
+    declares(&rt, text, 2, 1, 1)?;
+    let program = accepted(rt.alloc(), text)?;
+    is_same(&rt, &program.processes(), &2);
+    holds(&rt, is_numbered(&program), "names");
+    holds(&rt, is_whole(&program), "statements");
     Ok(())
+}
+
+fn is_given_back(tree: &Tree, fault: KindFault) -> bool {
+    fault == KindFault::Unknown(Span { start: 33, end: 34 })
+        && tree.variables.len() == 2
+        && tree.body.len() == 2
 }
 
 #[test]
 fn gives_the_tree_back(rt: HostRuntime) -> Result<(), Fail> {
     let tree = parse(rt.alloc(), "processes 2; var x, y; begin out z; out x; end")?;
     let (tree, fault) = check(rt.alloc(), tree).err().ok_or("accepted")?;
-    assert_eq!(rt; fault, KindFault::Unknown(Span { start: 33, end: 34 }));
-    assert_eq!(rt; tree.variables.len(), 2);
-    assert_eq!(rt; tree.body.len(), 2);
+    holds(&rt, is_given_back(&tree, fault), "the tree");
     Ok(())
 }
 
@@ -128,7 +153,7 @@ fn accepts_a_long_program(rt: HostRuntime) -> Result<(), Fail> {
     }
     text.push_str("end")?;
     let program = accepted(rt.alloc(), &text)?;
-    assert_eq!(rt; program.body().len(), 30_000);
+    is_same(&rt, &program.body().len(), &30_000);
     Ok(())
 }
 

@@ -1,4 +1,6 @@
+use crate::asserting::{holds, is_same};
 use crate::programs::{accepted, report};
+use std::process::Abort;
 use std::test::Fail;
 use tick_play::read_schedule;
 use tick_source::{Act, Event, SourceMachine, Status, Trap, run};
@@ -18,47 +20,50 @@ begin
   out x;
 end";
 
+fn reports<R: AllocGlobal + Abort>(
+    rt: &R,
+    text: &str,
+    schedule: &str,
+    expected: &str,
+) -> Result<(), Fail> {
+    let found = report(rt.alloc(), text, schedule)?;
+    assert_eq!(rt; found.as_str(), expected);
+    Ok(())
+}
+
 #[test]
 fn runs_each_statement(rt: HostRuntime) -> Result<(), Fail> {
-    let text = report(rt.alloc(), EACH_STATEMENT, "0*20 1*20")?;
-    assert_eq!(rt;
-        text.as_str(),
+    reports(
+        &rt,
+        EACH_STATEMENT,
+        "0*20 1*20",
         "0 stamp\n0 scan 1 0\n0 older 0 1 0\n0 put 0 5\n0 get 0 0 5\n0 out 5\n0 out 1\n0 out 2\n0 end\n\
 1 stamp\n1 scan 0 1\n1 older 0 1 1\n1 put 0 6\n1 get 0 1 6\n1 out 6\n1 out 1\n1 out 2\n1 end\n\
-reg 0 5 6\nstatus 0 ended\nstatus 1 ended\n"
-    );
-    Ok(())
+reg 0 5 6\nstatus 0 ended\nstatus 1 ended\n",
+    )
 }
 
 // The copy is of the scan as it stood: the second stamp makes process 0 the younger one again.
 #[test]
 fn copies_a_scan(rt: HostRuntime) -> Result<(), Fail> {
-    let text = report(
-        rt.alloc(),
+    reports(
+        &rt,
         "processes 2; var x; scan s, t; begin stamp; s = scan; t = copy s; stamp; s = scan; x = older t 0 1; out x; x = older s 0 1; out x; end",
         "0 1 0*2 1*2 0*20",
-    )?;
-    assert_eq!(rt;
-        text.as_str(),
         "0 stamp\n1 stamp\n0 scan 0 1\n1 scan 0 1\n0 stamp\n0 scan 1 0\n0 older 0 1 1\n0 out 1\n0 older 0 1 0\n0 out 0\n0 end\n\
-status 0 ended\nstatus 1 running\n"
-    );
-    Ok(())
+status 0 ended\nstatus 1 running\n",
+    )
 }
 
 #[test]
 fn stops_at_each_trap(rt: HostRuntime) -> Result<(), Fail> {
-    let text = report(
-        rt.alloc(),
+    reports(
+        &rt,
         "processes 4; var x; reg r; begin if me { } else { out (4294967295 + 1); } if (me == 1) { x = (0 - 1); } else { } if (me == 2) { put r (1 % 0); } else { } x = get r n; end",
         "0*9 1*9 2*9 3*9",
-    )?;
-    assert_eq!(rt;
-        text.as_str(),
         "0 trap Overflow\n1 trap Below\n2 trap Zero\n3 trap Index\nreg 0 0 0 0 0\n\
-status 0 trapped Overflow\nstatus 1 trapped Below\nstatus 2 trapped Zero\nstatus 3 trapped Index\n"
-    );
-    Ok(())
+status 0 trapped Overflow\nstatus 1 trapped Below\nstatus 2 trapped Zero\nstatus 3 trapped Index\n",
+    )
 }
 
 #[test]
@@ -67,19 +72,18 @@ fn steps_one_by_one(rt: HostRuntime) -> Result<(), Fail> {
         rt.alloc(),
         "processes 2; scan s, t; reg r; begin put r (me + 7); t = copy s; end",
     )?;
-    assert_eq!(rt; program.processes(), 2);
-    assert_eq!(rt; program.registers(), 1);
+    assert!(rt; program.processes() == 2 && program.registers() == 1);
     let mut machine = SourceMachine::new(rt.alloc(), &program)?;
     machine.step(1)?;
     machine.step(1)?;
-    assert_eq!(rt; machine.register(0, 0), 0);
-    assert_eq!(rt; machine.register(0, 1), 8);
-    assert_eq!(rt; machine.events().len(), 1);
-    assert_eq!(rt; machine.status(1), Status::Running);
+    is_same(&rt, &machine.register(0, 0), &0);
+    is_same(&rt, &machine.register(0, 1), &8);
+    is_same(&rt, &machine.events().len(), &1);
+    is_same(&rt, &machine.status(1), &Status::Running);
     machine.step(1)?;
     machine.step(1)?;
-    assert_eq!(rt; machine.status(0), Status::Running);
-    assert_eq!(rt; machine.status(1), Status::Ended);
+    is_same(&rt, &machine.status(0), &Status::Running);
+    is_same(&rt, &machine.status(1), &Status::Ended);
     let expected = [
         Event {
             process: 1,
@@ -90,7 +94,7 @@ fn steps_one_by_one(rt: HostRuntime) -> Result<(), Fail> {
             act: Act::End,
         },
     ];
-    assert_eq!(rt; machine.events(), expected.as_slice());
+    holds(&rt, machine.events() == expected.as_slice(), "events");
     Ok(())
 }
 
@@ -109,11 +113,17 @@ fn runs_a_schedule(rt: HostRuntime) -> Result<(), Fail> {
             act: Act::Put(0, 0),
         },
     ];
-    assert_eq!(rt; outcome.events.as_slice(), expected.as_slice());
-    assert_eq!(rt; outcome.registers.len(), 1);
-    assert_eq!(rt;
-        outcome.statuses.as_slice(),
-        [Status::Running, Status::Trapped(Trap::Below)].as_slice()
+    holds(
+        &rt,
+        outcome.events.as_slice() == expected.as_slice(),
+        "events",
+    );
+    is_same(&rt, &outcome.registers.len(), &1);
+    let statuses = [Status::Running, Status::Trapped(Trap::Below)];
+    holds(
+        &rt,
+        outcome.statuses.as_slice() == statuses.as_slice(),
+        "statuses",
     );
     Ok(())
 }
@@ -126,10 +136,12 @@ fn runs_long(rt: HostRuntime) -> Result<(), Fail> {
     )?;
     let steps = read_schedule(rt.alloc(), "0*400002 1*1000000", program.processes())?;
     let outcome = run(rt.alloc(), &program, &steps)?;
-    assert_eq!(rt; outcome.events.len(), 200_002);
-    assert_eq!(rt;
-        outcome.statuses.as_slice(),
-        [Status::Ended, Status::Ended].as_slice()
+    is_same(&rt, &outcome.events.len(), &200_002);
+    let statuses = [Status::Ended, Status::Ended];
+    holds(
+        &rt,
+        outcome.statuses.as_slice() == statuses.as_slice(),
+        "statuses",
     );
     Ok(())
 }

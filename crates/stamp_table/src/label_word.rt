@@ -24,6 +24,7 @@ pub enum Swap {
 
 impl StampTable {
     /// The label word as it is. It is a step of process `p`.
+    #[inline(always)]
     pub fn load(&self, pass: &mut Pass, p: u8) -> LabelWord
         requires here { pass.old.table ≡ self.now }
         requires held { Holds pass.old.held p }
@@ -38,6 +39,7 @@ impl StampTable {
 
     /// Puts the new word in the place of the old one, if that is the word; then it is a stamp of
     /// process `p`, whatever came between. Else nothing changes. It is a step of `p` either way.
+    #[inline(always)]
     pub fn exchange(&self, pass: &mut Pass, p: u8, old: LabelWord, new: LabelWord) -> Swap
         requires here { pass.old.table ≡ self.now }
         requires held { Holds pass.old.held p }

@@ -11,6 +11,7 @@ use std::marker::Brand;
 
 impl StampTable {
     /// The register of process `i` in row `r`. It is a step of process `p`.
+    #[inline(always)]
     pub fn read(&self, pass: &mut Pass, p: u8, r: u8, i: u8) -> u32
         requires here { pass.old.table ≡ self.now }
         requires held { Holds pass.old.held p }
@@ -24,6 +25,7 @@ impl StampTable {
     }
 
     /// Writes the register of process `p` in row `r`. It is a step of `p`.
+    #[inline(always)]
     pub fn write(&self, pass: &mut Pass, p: u8, r: u8, v: u32)
         requires here { pass.old.table ≡ self.now }
         requires held { Holds pass.old.held p }
@@ -37,6 +39,7 @@ impl StampTable {
 }
 
 /// Where the register of process `i` in row `r` stands among all of `n` processes.
+#[inline(always)]
 pub fn register_place(n: u8, r: u8, i: u8) -> usize
     requires few { n ≤ 6 }
     requires row { r < 8 }

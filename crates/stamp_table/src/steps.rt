@@ -14,6 +14,7 @@ pub type Words = Shared<u8, View, Layout, OneHistory>;
 pub type Place = Seat<u8, View>;
 
 /// Loads the label word.
+#[inline(always)]
 pub fn loaded<J: Doing>(words: &Words, seat: &mut Place, _process: u8) -> u64
     requires fits { (seat.old.table_id ≡ words.now.table_id) × (0 < words.now.table_id.words) }
     requires plain { seat.old.me ≡ (plain seat.old.me.0.held seat.old.me.0.seen, []) }
@@ -26,6 +27,7 @@ pub fn loaded<J: Doing>(words: &Words, seat: &mut Place, _process: u8) -> u64
 }
 
 /// Exchanges the label word where it is `old`, and gives the word found.
+#[inline(always)]
 pub fn exchanged<J: Doing>(words: &Words, seat: &mut Place, _process: u8, old: u64, new: u64) -> u64
     requires fits { (seat.old.table_id ≡ words.now.table_id) × (0 < words.now.table_id.words) }
     requires plain { seat.old.me ≡ (plain seat.old.me.0.held seat.old.me.0.seen, []) }
@@ -38,6 +40,7 @@ pub fn exchanged<J: Doing>(words: &Words, seat: &mut Place, _process: u8, old: u
 }
 
 /// Loads the register at this place.
+#[inline(always)]
 pub fn fetched<J: Doing>(
     words: &Words,
     seat: &mut Place,
@@ -58,6 +61,7 @@ pub fn fetched<J: Doing>(
 }
 
 /// Stores a value in the register at this place.
+#[inline(always)]
 pub fn stored<J: Doing>(
     words: &Words,
     seat: &mut Place,

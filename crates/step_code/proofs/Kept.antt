@@ -1,18 +1,18 @@
 -- A process goes on running its code, and asks for nothing else than it may.
-use Rattle.std.proofs.Common.{◌≡◌, ℕ, ◌<◌, ◌≤◌, sym, subst, Option, Some, None}
+use Rattle.std.proofs.Common.{◌≡◌, ℕ, ◌<◌, ◌≤◌, ap, sym, subst, Option, Some, None}
 use Rattle.machine_core.specs.declared.status.Status.{Status}
 use Rattle.machine_core.specs.declared.status.Status.TheVariants.{Running, Ended, Trapped}
 use Rattle.machine_core.specs.declared.event.Event.{Event}
 use Rattle.verified_code.specs.Instructions.{StepCode, CodeSizes}
 use Rattle.verified_code.specs.declared.instr.Instr.{Instr}
 use Rattle.verified_code.specs.Heights.{greatest_height}
-use Rattle.std.specs.Prelude.{List}
+use Rattle.std.specs.Prelude.{List, slice_get}
 use Rattle.step_code.specs.declared.ask.Reply.{Reply}
 use Rattle.step_code.specs.declared.process.Process.{Process}
-use Rattle.step_code.specs.Machine.{CodeProcess, Did, alone, asks}
+use Rattle.step_code.specs.Machine.{CodeProcess, Did, alone, asks, does_at}
 use Rattle.step_code.specs.Safety.{IsSafe, HasWord}
-use Rattle.step_code.specs.Process.{OneProcess, IsOf, next_of, event_of, shown, after_advance_as, answered_as, advance_as, AsksLawfully}
-use Rattle.step_code.specs.prover.Held.{process_of, one_of, Becomes}
+use Rattle.step_code.specs.Process.{OneProcess, IsOf, next_of, event_of, shown, after_advance, after_advance_as, answered_by, answered_as, advance_of, advance_as, AsksLawfully}
+use Rattle.step_code.specs.prover.Held.{process_of, one_of, does_of, Becomes}
 use Rattle.step_code.proofs.Fine.{verified_places}
 use Rattle.step_code.proofs.Safe.{DidSafe, did_safe}
 
@@ -79,3 +79,21 @@ module _ (code : StepCode) (old new : Process) (of : IsOf code (one_of old)) whe
   answer_kept reply has b =
       of_new _ b
       (finished code.sizes code.instructions old.me (process_of old) of.safe old.status (next_of code (one_of old)) reply has (next_safe code (one_of old) of))
+
+  -- the same of the instruction at its place
+  module _ (instruction : Instr) (here : slice_get code.instructions old.place ≡ Some instruction) where
+    does_safe : DidSafe code.sizes code.instructions old.me (does_of code old instruction)
+    does_safe =
+        subst (DidSafe code.sizes code.instructions old.me) (ap (does_at (process_of old) code.sizes.processes old.me) here)
+        (next_safe code (one_of old) of)
+
+    pub make_kept : Becomes old (after_advance (process_of old) (does_of code old instruction)) new → IsOf code (one_of new)
+    make_kept b = of_new _ b (advanced code.sizes code.instructions old.me (process_of old) of.safe Running (does_of code old instruction) does_safe)
+
+    pub make_lawful : AsksLawfully code.sizes old.me (advance_of old.me (does_of code old instruction))
+    make_lawful = asked_lawfully code.sizes code.instructions old.me Running (does_of code old instruction) does_safe
+
+    pub finish_kept : (reply : Reply) → HasWord code.sizes.processes reply
+        → Becomes old (answered_by (process_of old) (does_of code old instruction) reply).process new → IsOf code (one_of new)
+    finish_kept reply has b =
+        of_new _ b (finished code.sizes code.instructions old.me (process_of old) of.safe Running (does_of code old instruction) reply has does_safe)

@@ -1,9 +1,9 @@
 -- What the crate of words offers of labels in order, and when two lists of labels are the same.
-use Rattle.std.proofs.Common.{◌≡◌, ℕ, ◌-◌, ◌<◌, true, List, [], ◌∷◌, length, refl, ap, sym, ◌∙◌, arith}
+use Rattle.std.proofs.Common.{◌≡◌, ℕ, ◌<◌, true, List, [], ◌∷◌, length, refl, ap, sym, ◌∙◌, arith}
 use Rattle.std.specs.Prelude.{◌==◌, ◌&&◌}
 use Rattle.std.specs.Cmp.{both_ways}
 use Rattle.std.proofs.lemmas.Bool.{eqb-true, eq-eqb}
-use Rattle.label_core.specs.Labels.{zeros, same_label}
+use Rattle.label_core.specs.Labels.{same_label}
 use Rattle.word_core.specs.Stamps.{start_labels, stamped}
 use Rattle.word_core.specs.Packed.{AreLabels, word}
 use Rattle.word_core.proofs.Offered.{start_are, start_ordered, stamped_are, stamped_ordered, distinct_law}

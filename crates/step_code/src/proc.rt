@@ -1,8 +1,8 @@
-ghost use Rattle.std.specs.Prelude.{◌≡◌, ◌<◌, ℕ, List, slice_get, is_some, IfOk, IfErr};
+ghost use Rattle.std.specs.Prelude.{◌≡◌, ◌≢◌, ◌<◌, ℕ, List, Some, slice_get, is_some, IfOk, IfErr, IfSome, IfNone};
 ghost use Rattle.verified_code.specs.Heights.{greatest_height};
 ghost use Rattle.step_code.specs.Machine.{start_process};
 ghost use Rattle.step_code.specs.Safety.{AreOrdered, HasWord};
-ghost use Rattle.step_code.specs.Process.{IsOf, event_of, advance_as, after_advance_as, answered_as, AsksLawfully, next_of, gives_out};
+ghost use Rattle.step_code.specs.Process.{IsOf, event_of, advance_of, after_advance, answered_by, advance_as, after_advance_as, answered_as, AsksLawfully, next_of, gives_out};
 ghost use Rattle.step_code.specs.prover.Parts.{moved_as};
 
 use crate::ask::{Advance, Reply};
@@ -10,7 +10,7 @@ use crate::process::Process;
 use machine_core::{Event, Status};
 use std::alloc::Global;
 use std::marker::Model;
-use verified_code::{Code, CodeFault};
+use verified_code::{Code, CodeFault, Instr};
 use word_core::LabelWord;
 
 /// One process of a code, which asks for what it needs of the words that all processes share. It
@@ -70,6 +70,48 @@ impl Proc {
         self.process.answer(code, reply)
     }
 
+    /// The instruction that it makes next; `None` where it has stopped.
+    #[inline(always)]
+    pub fn instruction(&self, code: &Code) -> Option<Instr>
+        requires { IsOf code.now self.now }
+        ensures running { IfSome result (λ instruction. self.now.process.status ≡ Status.Running) }
+        ensures here { IfSome result (λ instruction. slice_get code.now.instructions self.now.process.place ≡ Some instruction) }
+        ensures stopped { IfNone result (self.now.process.status ≢ Status.Running) }
+    {
+        self.process.instruction(code)
+    }
+
+    /// Makes this instruction, the next of a process that has not stopped, as `advance` does. With
+    /// `finish` it is for whoever steps one process as fast as can be: the code is looked at once.
+    #[inline(always)]
+    pub fn make(&mut self, code: &Code, instruction: Instr) -> Advance
+        requires of { IsOf code.now self.old }
+        requires running { self.old.process.status ≡ Status.Running }
+        requires here { slice_get code.now.instructions self.old.process.place ≡ Some instruction }
+        ensures answer { result ≡ advance_of self.old.me (next_of code.now self.old) }
+        ensures process { self.new.process ≡ after_advance self.old.process (next_of code.now self.old) }
+        ensures me { self.new.me ≡ self.old.me }
+        ensures of { IsOf code.now self.new }
+        ensures lawful { AsksLawfully code.now.sizes self.old.me result }
+    {
+        self.process.make(code, instruction)
+    }
+
+    /// Makes this instruction, which asked, by the reply, as `answer` does. What others see of it is
+    /// not told.
+    #[inline(always)]
+    pub fn finish(&mut self, code: &Code, instruction: Instr, reply: Reply)
+        requires of { IsOf code.now self.old }
+        requires running { self.old.process.status ≡ Status.Running }
+        requires here { slice_get code.now.instructions self.old.process.place ≡ Some instruction }
+        requires word { HasWord code.now.sizes.processes reply }
+        ensures process { self.new.process ≡ (answered_by self.old.process (next_of code.now self.old) reply).process }
+        ensures me { self.new.me ≡ self.old.me }
+        ensures of { IsOf code.now self.new }
+    {
+        self.process.finish(code, instruction, reply);
+    }
+
     /// Whether its next step gives an event, where these are the shared labels.
     pub(crate) fn tells(&self, code: &Code, labels: &LabelWord) -> bool
         requires of { IsOf code.now self.now }
@@ -80,6 +122,7 @@ impl Proc {
     }
 
     /// Whether it goes on.
+    #[inline(always)]
     pub fn status(&self) -> Status
         ensures { result ≡ self.now.process.status }
     {
@@ -93,6 +136,7 @@ impl Proc {
     }
 
     /// Whether it runs and its next instruction gives out a value.
+    #[inline(always)]
     pub fn will_out(&self, code: &Code) -> bool
         requires { IsOf code.now self.now }
         ensures { result ≡ gives_out self.now.process.status (slice_get code.now.instructions self.now.process.place) }

@@ -1,5 +1,5 @@
-ghost use Rattle.std.specs.Prelude.{◌≡◌, ◌<◌, ◌≤◌, ◌+◌, ◌==◌, ◌∷◌, ℕ, List, nat_lt, is_some, if◌then◌else◌, length, drop, slice_get, slice_set, slice_index, Some, None, IfOk};
-ghost use Rattle.std.specs.Vec.{vec_capacity};
+ghost use Rattle.std.specs.Prelude.{◌≡◌, ◌≢◌, ◌<◌, ◌≤◌, ◌+◌, ◌==◌, ◌∷◌, ℕ, List, nat_lt, is_some, if◌then◌else◌, length, drop, slice_get, slice_set, slice_index, replicate, Some, None, IfOk, IfSome, IfNone};
+ghost use Rattle.std.specs.Vec.{vec_capacity, vec_items};
 ghost use Rattle.machine_core.specs.Operators.{operation};
 ghost use Rattle.verified_code.specs.Instructions.{fits};
 ghost use Rattle.verified_code.specs.Heights.{greatest_height};
@@ -13,7 +13,7 @@ ghost use Rattle.step_code.specs.prover.Held.{on_stack, process_of, one_of, does
 use crate::ask::{Advance, Ask, Reply};
 use crate::ranks::ranks_of;
 use crate::shared::are_same;
-use crate::stack::Stack;
+use crate::stack::{APART, Stack};
 use machine_core::{Act, Event, Op, Status, Trap};
 use std::alloc::{AllocError, Global};
 use verified_code::{Code, Instr};
@@ -33,6 +33,7 @@ pub struct Process {
 }
 
 // The number of a process as a value says it, where one of `n` processes has it.
+#[inline(always)]
 fn index(n: u8, value: u32) -> Option<u8>
     ensures { result ≡ (if nat_lt value n then Some value else None) }
 {
@@ -43,13 +44,22 @@ fn index(n: u8, value: u32) -> Option<u8>
     }
 }
 
+// So many of the item, away from what another process writes.
+fn apart<T: Copy>(alloc: Global, item: T, count: u8) -> Result<Vec<T>, AllocError>
+    ensures { IfOk result (λ items. vec_items items ≡ replicate count item) }
+{
+    let mut items = Vec::with_capacity(alloc, usize::from(count) + APART)?;
+    items.resize(usize::from(count), item)?;
+    Ok(items)
+}
+
 impl Process {
     /// Process `me` before its first step.
     pub fn new(alloc: Global, code: &Code, me: u8) -> Result<Process, AllocError>
         requires { me < code.now.sizes.processes }
         ensures me { IfOk result (λ q. q.me ≡ me) }
         ensures start { IfOk result (λ q. process_of q ≡ start_process code.now.sizes) }
-        ensures room { IfOk result (λ q. vec_capacity q.stack.values ≡ greatest_height code.now.instructions) }
+        ensures room { IfOk result (λ q. greatest_height code.now.instructions ≤ vec_capacity q.stack.values) }
     {
         let sizes = code.sizes();
         let start = LabelWord::start(sizes.processes());
@@ -57,14 +67,15 @@ impl Process {
             me,
             place: 0,
             stack: Stack::new(alloc, code.height())?,
-            variables: vec![in alloc; 0; usize::from(sizes.variables())]?,
-            scans: vec![in alloc; start; usize::from(sizes.scans())]?,
+            variables: apart(alloc, 0, sizes.variables())?,
+            scans: apart(alloc, start, sizes.scans())?,
             scratch: start,
             beside: start,
             status: Status::Running,
         })
     }
 
+    #[inline(always)]
     fn event(&self, act: Act) -> Event
         ensures { result ≡ record { process = self.now.me; act = act } }
     {
@@ -75,6 +86,7 @@ impl Process {
     }
 
     // Stops, by a trap or at the end.
+    #[inline(always)]
     fn stop(&mut self, status: Status, act: Act) -> Advance
         ensures answer { result ≡ advance_of self.old.me (alone (stops (process_of self.old) status act)) }
         ensures becomes { Becomes self.old (stops (process_of self.old) status act).process self.new }
@@ -83,6 +95,7 @@ impl Process {
         Advance::Did(self.event(act))
     }
 
+    #[inline(always)]
     fn push(&mut self, value: u32) -> Advance
         requires room { length (on_stack self.old.stack) < vec_capacity self.old.stack.values }
         requires more { self.old.place < 65535 }
@@ -95,6 +108,7 @@ impl Process {
     }
 
     // The operator between the two top values.
+    #[inline(always)]
     fn operate(&mut self, op: Op) -> Advance
         requires operands { 2 ≤ length (on_stack self.old.stack) }
         requires room { length (on_stack self.old.stack) ≤ vec_capacity self.old.stack.values }
@@ -114,6 +128,7 @@ impl Process {
     }
 
     // Takes so many values off the stack, and goes on with a value in a variable.
+    #[inline(always)]
     fn set(&mut self, x: u8, value: u32, taken: usize)
         requires operands { taken ≤ length (on_stack self.old.stack) }
         requires slot { x < length self.old.variables.items }
@@ -125,6 +140,7 @@ impl Process {
         self.place += 1;
     }
 
+    #[inline(always)]
     fn store(&mut self, x: u8) -> Advance
         requires operands { 1 ≤ length (on_stack self.old.stack) }
         requires slot { x < length self.old.variables.items }
@@ -138,6 +154,7 @@ impl Process {
     }
 
     // Asks for the register of a row of the process that the top value tells.
+    #[inline(always)]
     fn ask_register(&mut self, n: u8, r: u8, x: u8) -> Advance
         requires { 1 ≤ length (on_stack self.old.stack) }
         ensures answer { result ≡ advance_of self.old.me (gets (process_of self.old) n r (slice_index (on_stack self.old.stack) 0) x) }
@@ -150,6 +167,7 @@ impl Process {
     }
 
     // Puts beside the scratch what a stamp makes of it.
+    #[inline(always)]
     fn stamp(&mut self) -> Advance
         requires in_range { self.old.me < length self.old.scratch }
         requires ordered { IsOrdered self.old.scratch }
@@ -157,12 +175,15 @@ impl Process {
         ensures answer { result ≡ Advance.Silent }
         ensures becomes { Becomes self.old (stamps (process_of self.old) self.old.me).process self.new }
     {
-        self.beside = self.scratch.stamped(self.me);
+        // A copy, so that the process itself is lent to no call.
+        let labels = self.scratch;
+        self.beside = labels.stamped(self.me);
         self.place += 1;
         Advance::Silent
     }
 
     // Puts labels into a scan, and goes on.
+    #[inline(always)]
     fn keep(&mut self, s: u8, labels: LabelWord)
         requires slot { s < length self.old.scans.items }
         requires more { self.old.place < 65535 }
@@ -172,6 +193,7 @@ impl Process {
         self.place += 1;
     }
 
+    #[inline(always)]
     fn copy(&mut self, s: u8, t: u8) -> Advance
         requires source { s < length self.old.scans.items }
         requires target { t < length self.old.scans.items }
@@ -185,6 +207,7 @@ impl Process {
     }
 
     // Compares the labels of the two processes that the top values tell.
+    #[inline(always)]
     fn compare(&mut self, n: u8, s: u8, x: u8) -> Advance
         requires operands { 2 ≤ length (on_stack self.old.stack) }
         requires scan { s < length self.old.scans.items }
@@ -202,6 +225,7 @@ impl Process {
         Advance::Did(self.event(Act::Older(i, j, answer)))
     }
 
+    #[inline(always)]
     fn give_out(&mut self) -> Advance
         requires operands { 1 ≤ length (on_stack self.old.stack) }
         requires more { self.old.place < 65535 }
@@ -214,6 +238,7 @@ impl Process {
         Advance::Did(self.event(Act::Out(value)))
     }
 
+    #[inline(always)]
     fn jump_zero(&mut self, to: u16) -> Advance
         requires operands { 1 ≤ length (on_stack self.old.stack) }
         requires more { self.old.place < 65535 }
@@ -226,6 +251,7 @@ impl Process {
         Advance::Silent
     }
 
+    #[inline(always)]
     fn jump(&mut self, to: u16) -> Advance
         ensures answer { result ≡ Advance.Silent }
         ensures becomes { Becomes self.old (goes (process_of self.old) to (on_stack self.old.stack) None).process self.new }
@@ -234,6 +260,7 @@ impl Process {
         Advance::Silent
     }
 
+    #[inline(always)]
     fn variable(&self, x: u8) -> u32
         requires { x < length self.now.variables.items }
         ensures { result ≡ slice_index self.now.variables.items x }
@@ -241,8 +268,9 @@ impl Process {
         self.variables[usize::from(x)]
     }
 
-    // The instruction at its place: makes it, or asks.
-    fn make(&mut self, code: &Code, instruction: Instr) -> Advance
+    /// The instruction at its place: makes it, or asks.
+    #[inline(always)]
+    pub fn make(&mut self, code: &Code, instruction: Instr) -> Advance
         requires of { IsOf code.now (one_of self.old) }
         requires here { slice_get code.now.instructions self.old.place ≡ Some instruction }
         ensures answer { result ≡ advance_of self.old.me (does_of code.now self.old instruction) }
@@ -271,94 +299,113 @@ impl Process {
     }
 
     // The shared labels go to the scratch.
-    fn finish_load(&mut self, reply: Reply) -> Option<Event>
+    #[inline(always)]
+    fn finish_load(&mut self, reply: Reply)
         requires { self.old.place < 65535 }
-        ensures event { result ≡ event_of self.old.me (loads (process_of self.old) reply).act }
-        ensures becomes { Becomes self.old (loads (process_of self.old) reply).process self.new }
+        ensures { Becomes self.old (loads (process_of self.old) reply).process self.new }
     {
         if let Reply::Word(labels) = reply {
             self.scratch = labels;
             self.place += 1;
         }
-        None
     }
 
-    fn finish_exchange(&mut self, back: u16, reply: Reply) -> Option<Event>
+    #[inline(always)]
+    fn finish_exchange(&mut self, back: u16, reply: Reply)
         requires { self.old.place < 65535 }
-        ensures event { result ≡ event_of self.old.me (exchanges (process_of self.old) back reply).act }
-        ensures becomes { Becomes self.old (exchanges (process_of self.old) back reply).process self.new }
+        ensures { Becomes self.old (exchanges (process_of self.old) back reply).process self.new }
     {
         match reply {
-            Reply::Won => {
-                self.place += 1;
-                Some(self.event(Act::Stamp))
-            }
-            Reply::Lost(_) => {
-                self.place = back;
-                None
-            }
-            _ => None,
+            Reply::Won => self.place += 1,
+            Reply::Lost(_) => self.place = back,
+            _ => {}
         }
     }
 
-    fn finish_scan(&mut self, n: u8, s: u8, reply: Reply) -> Option<Event>
+    #[inline(always)]
+    fn finish_scan(&mut self, s: u8, reply: Reply)
         requires slot { s < length self.old.scans.items }
-        requires word { HasWord n reply }
         requires more { self.old.place < 65535 }
-        ensures event { result ≡ event_of self.old.me (scans (process_of self.old) n s reply).act }
-        ensures becomes { Becomes self.old (scans (process_of self.old) n s reply).process self.new }
+        ensures { (n : ℕ) → Becomes self.old (scans (process_of self.old) n s reply).process self.new }
     {
-        let Reply::Word(labels) = reply else {
-            return None;
-        };
-        self.keep(s, labels);
-        Some(self.event(Act::Scan(ranks_of(&labels))))
+        if let Reply::Word(labels) = reply {
+            self.keep(s, labels);
+        }
     }
 
-    fn finish_get(&mut self, n: u8, r: u8, x: u8, reply: Reply) -> Option<Event>
+    #[inline(always)]
+    fn finish_get(&mut self, n: u8, r: u8, x: u8, reply: Reply)
         requires operands { 1 ≤ length (on_stack self.old.stack) }
         requires slot { x < length self.old.variables.items }
         requires more { self.old.place < 65535 }
-        ensures event { result ≡ event_of self.old.me (answered_by (process_of self.old) (gets (process_of self.old) n r (slice_index (on_stack self.old.stack) 0) x) reply).act }
-        ensures becomes { Becomes self.old (answered_by (process_of self.old) (gets (process_of self.old) n r (slice_index (on_stack self.old.stack) 0) x) reply).process self.new }
+        ensures { Becomes self.old (answered_by (process_of self.old) (gets (process_of self.old) n r (slice_index (on_stack self.old.stack) 0) x) reply).process self.new }
     {
-        let Reply::Value(value) = reply else {
-            return None;
-        };
-        let i = index(n, self.stack.look(0))?;
-        self.set(x, value, 1);
-        Some(self.event(Act::Get(r, i, value)))
+        let asked = self.stack.look(0) < u32::from(n);
+        if let Reply::Value(value) = reply
+            && asked
+        {
+            self.set(x, value, 1);
+        }
     }
 
-    fn finish_put(&mut self, r: u8, reply: Reply) -> Option<Event>
+    #[inline(always)]
+    fn finish_put(&mut self, r: u8, reply: Reply)
         requires operands { 1 ≤ length (on_stack self.old.stack) }
         requires more { self.old.place < 65535 }
-        ensures event { result ≡ event_of self.old.me (writes (process_of self.old) r (slice_index (on_stack self.old.stack) 0) reply).act }
-        ensures becomes { Becomes self.old (writes (process_of self.old) r (slice_index (on_stack self.old.stack) 0) reply).process self.new }
+        ensures { Becomes self.old (writes (process_of self.old) r (slice_index (on_stack self.old.stack) 0) reply).process self.new }
     {
-        let Reply::Written = reply else {
-            return None;
-        };
-        let value = self.stack.look(0);
-        self.stack.pop(1);
-        self.place += 1;
-        Some(self.event(Act::Put(r, value)))
+        if let Reply::Written = reply {
+            self.stack.pop(1);
+            self.place += 1;
+        }
     }
 
-    // The instruction at its place, which asked and has its reply.
-    fn finish(&mut self, code: &Code, instruction: Instr, reply: Reply) -> Option<Event>
+    /// The instruction at its place, which asked and has its reply.
+    #[inline(always)]
+    pub fn finish(&mut self, code: &Code, instruction: Instr, reply: Reply)
         requires of { IsOf code.now (one_of self.old) }
         requires here { slice_get code.now.instructions self.old.place ≡ Some instruction }
-        requires word { HasWord code.now.sizes.processes reply }
-        ensures event { result ≡ event_of self.old.me (answered_by (process_of self.old) (does_of code.now self.old instruction) reply).act }
-        ensures becomes { Becomes self.old (answered_by (process_of self.old) (does_of code.now self.old instruction) reply).process self.new }
+        ensures { Becomes self.old (answered_by (process_of self.old) (does_of code.now self.old instruction) reply).process self.new }
     {
         match instruction {
             Instr::LoadWord => self.finish_load(reply),
             Instr::Exchange(back) => self.finish_exchange(back, reply),
-            Instr::Scan(s) => self.finish_scan(code.sizes().processes(), s, reply),
+            Instr::Scan(s) => self.finish_scan(s, reply),
             Instr::Get(r, x) => self.finish_get(code.sizes().processes(), r, x, reply),
             Instr::Put(r) => self.finish_put(r, reply),
+            _ => {}
+        }
+    }
+
+    // What others see of that instruction.
+    fn told(&self, code: &Code, instruction: Instr, reply: Reply) -> Option<Event>
+        requires of { IsOf code.now (one_of self.now) }
+        requires here { slice_get code.now.instructions self.now.place ≡ Some instruction }
+        requires word { HasWord code.now.sizes.processes reply }
+        ensures { result ≡ event_of self.now.me (answered_by (process_of self.now) (does_of code.now self.now instruction) reply).act }
+    {
+        match (instruction, reply) {
+            (Instr::Exchange(_), Reply::Won) => Some(self.event(Act::Stamp)),
+            (Instr::Scan(_), Reply::Word(labels)) => Some(self.event(Act::Scan(ranks_of(&labels)))),
+            (Instr::Get(r, _), Reply::Value(value)) => {
+                let i = index(code.sizes().processes(), self.stack.look(0))?;
+                Some(self.event(Act::Get(r, i, value)))
+            }
+            (Instr::Put(r), Reply::Written) => Some(self.event(Act::Put(r, self.stack.look(0)))),
+            _ => None,
+        }
+    }
+
+    /// The instruction that it makes next, where it has not stopped.
+    #[inline(always)]
+    pub fn instruction(&self, code: &Code) -> Option<Instr>
+        requires { IsOf code.now (one_of self.now) }
+        ensures running { IfSome result (λ instruction. self.now.status ≡ Status.Running) }
+        ensures here { IfSome result (λ instruction. slice_get code.now.instructions self.now.place ≡ Some instruction) }
+        ensures stopped { IfNone result (self.now.status ≢ Status.Running) }
+    {
+        match self.status {
+            Status::Running => Some(code.instr(self.place)),
             _ => None,
         }
     }
@@ -383,7 +430,13 @@ impl Process {
         ensures becomes { Becomes self.old (answered_as self.old.status (process_of self.old) (next_of code.now (one_of self.old)) reply).process self.new }
     {
         match self.status {
-            Status::Running => self.finish(code, code.instr(self.place), reply),
+            Status::Running => {
+                let again = reply;
+                let instruction = code.instr(self.place);
+                let event = self.told(code, instruction, again);
+                self.finish(code, instruction, reply);
+                event
+            }
             _ => None,
         }
     }
@@ -421,6 +474,7 @@ impl Process {
     }
 
     /// Whether it runs and its next instruction is Out.
+    #[inline(always)]
     pub fn will_out(&self, code: &Code) -> bool
         requires { IsOf code.now (one_of self.now) }
         ensures { result ≡ gives_out self.now.status (slice_get code.now.instructions self.now.place) }

@@ -4,6 +4,10 @@ ghost use Rattle.step_code.specs.prover.Held.{on_stack};
 
 use std::alloc::{AllocError, Global};
 
+/// So many values more than are wanted have room, 128 bytes of them, so that no two processes write to
+/// one cache line.
+pub const APART: usize = 32;
+
 /// The values of a process, in memory that was taken once.
 #[derive(Drop)]
 pub struct Stack {
@@ -14,14 +18,15 @@ impl Stack {
     /// An empty stack with room for so many values.
     pub fn new(alloc: Global, room: u16) -> Result<Stack, AllocError>
         ensures empty { IfOk result (λ stack. on_stack stack ≡ []) }
-        ensures room { IfOk result (λ stack. vec_capacity stack.values ≡ room) }
+        ensures room { IfOk result (λ stack. room ≤ vec_capacity stack.values) }
     {
         Ok(Stack {
-            values: Vec::with_capacity(alloc, usize::from(room))?,
+            values: Vec::with_capacity(alloc, usize::from(room) + APART)?,
         })
     }
 
     /// Puts a value on it.
+    #[inline(always)]
     pub fn push(&mut self, value: u32)
         requires { length (on_stack self.old) < vec_capacity self.old.values }
         ensures stack { on_stack self.new ≡ value ∷ on_stack self.old }
@@ -31,6 +36,7 @@ impl Stack {
     }
 
     /// Takes so many values off it.
+    #[inline(always)]
     pub fn pop(&mut self, count: usize)
         requires { count ≤ length (on_stack self.old) }
         ensures stack { on_stack self.new ≡ drop count (on_stack self.old) }
@@ -41,6 +47,7 @@ impl Stack {
     }
 
     /// The value that so many stand above.
+    #[inline(always)]
     pub fn look(&self, above: usize) -> u32
         requires { above < length (on_stack self.now) }
         ensures { result ≡ slice_index (on_stack self.now) above }

@@ -3,6 +3,7 @@ ghost use Rattle.std.specs.Prelude.{◌≡◌, ◌<◌, length};
 ghost use Rattle.step_code.specs.Process.{IsOf};
 
 use crate::answers::{machine_of, outcome_of, process_of, step};
+use crate::asserting::{holds, is_outcome, is_same};
 use crate::codes::code_of;
 use std::alloc::{AllocError, Global};
 use std::process::Abort;
@@ -49,14 +50,13 @@ fn step_often(machine: &mut CodeMachine<'_>, count: u32) -> Result<(), NoMemory>
 #[test]
 fn steps(rt: HostRuntime) -> Result<(), Fail> {
     let code = code_of(rt.alloc(), (1, 0, 0, 0), &adding(rt.alloc())?)?;
-    assert_eq!(rt; (code.sizes().processes(), code.len()), (1, 65535));
+    assert!(rt; code.sizes().processes() == 1);
+    is_same(&rt, &code.len(), &65535);
     let mut machine = machine_of(rt.alloc(), &code)?;
     step_often(&mut machine, 65535)?;
-    assert_eq!(rt; machine.events(), DID.as_slice());
-    assert_eq!(rt;
-        (machine.place(0), machine.status(0)),
-        (65534, Status::Ended)
-    );
+    holds(&rt, machine.events() == DID.as_slice(), "the events");
+    is_same(&rt, &machine.place(0), &65534);
+    is_same(&rt, &machine.status(0), &Status::Ended);
     Ok(())
 }
 
@@ -71,10 +71,13 @@ fn run_often(alloc: Global, code: &Code, count: usize) -> Result<Outcome, Fail>
 #[test]
 fn runs(rt: HostRuntime) -> Result<(), Fail> {
     let code = code_of(rt.alloc(), (1, 0, 0, 0), &adding(rt.alloc())?)?;
-    assert_eq!(rt; code.sizes().processes(), 1);
+    assert!(rt; code.sizes().processes() == 1);
     let outcome = run_often(rt.alloc(), &code, 65535)?;
-    assert_eq!(rt; outcome.events.as_slice(), DID.as_slice());
-    assert_eq!(rt; outcome.statuses.as_slice(), [Status::Ended].as_slice());
+    holds(
+        &rt,
+        is_outcome(&outcome, &DID, &[Status::Ended]),
+        "the outcome",
+    );
     Ok(())
 }
 
@@ -83,19 +86,24 @@ fn advance_silently(rt: &impl Abort, process: &mut Proc, code: &Code, count: u32
     ensures { IsOf code.now process.new }
 {
     for _step in 0..count {
-        assert_eq!(rt; process.advance(code), Advance::Silent);
+        holds(
+            rt,
+            process.advance(code) == Advance::Silent,
+            "a silent step",
+        );
     }
 }
 
 #[test]
 fn advances(rt: HostRuntime) -> Result<(), Fail> {
     let code = code_of(rt.alloc(), (1, 0, 0, 0), &adding(rt.alloc())?)?;
-    assert_eq!(rt; (code.sizes().processes(), code.height()), (1, 32767));
+    assert!(rt; code.sizes().processes() == 1);
+    is_same(&rt, &code.height(), &32767);
     let mut process = process_of(rt.alloc(), &code, 0)?;
     advance_silently(&rt, &mut process, &code, 65533);
-    assert!(rt; process.will_out(&code));
-    assert_eq!(rt; process.advance(&code), Advance::Did(DID[0]));
-    assert_eq!(rt; process.advance(&code), Advance::Did(DID[1]));
-    assert_eq!(rt; process.advance(&code), Advance::Stopped);
+    holds(&rt, process.will_out(&code), "an output next");
+    is_same(&rt, &process.advance(&code), &Advance::Did(DID[0]));
+    is_same(&rt, &process.advance(&code), &Advance::Did(DID[1]));
+    is_same(&rt, &process.advance(&code), &Advance::Stopped);
     Ok(())
 }

@@ -5,6 +5,8 @@
 #[cfg(test)]
 mod answers;
 #[cfg(test)]
+mod asserting;
+#[cfg(test)]
 mod codes;
 #[cfg(test)]
 mod large;

@@ -1,7 +1,8 @@
 use crate::answers::{machine_of, outcome_of, step};
+use crate::asserting::{holds, is_outcome, is_same};
 use crate::codes::{GIVES_SEVEN, STAMPS_AND_COMPARES, WRITES_AND_TRAPS, code_of};
 use std::test::Fail;
-use step_code::{Act, Event, Instr, Op, Status, Trap};
+use step_code::{Act, Event, Instr, Op, Outcome, Status, Trap};
 
 fn event(process: u8, act: Act) -> Event {
     Event { process, act }
@@ -10,40 +11,39 @@ fn event(process: u8, act: Act) -> Event {
 #[test]
 fn steps_one_by_one(rt: HostRuntime) -> Result<(), Fail> {
     let code = code_of(rt.alloc(), (1, 0, 0, 0), &GIVES_SEVEN)?;
-    assert_eq!(rt; code.sizes().processes(), 1);
+    assert!(rt; code.sizes().processes() == 1);
     let mut machine = machine_of(rt.alloc(), &code)?;
     step(&mut machine, 0)?;
-    assert_eq!(rt; machine.events().len(), 0);
-    assert_eq!(rt; machine.place(0), 1);
+    is_same(&rt, &machine.events().len(), &0);
+    is_same(&rt, &machine.place(0), &1);
     step(&mut machine, 0)?;
-    assert_eq!(rt; machine.events(), [event(0, Act::Out(7))].as_slice());
-    assert_eq!(rt; machine.status(0), Status::Running);
+    let seven = [event(0, Act::Out(7))];
+    holds(&rt, machine.events() == seven.as_slice(), "seven");
+    is_same(&rt, &machine.status(0), &Status::Running);
     step(&mut machine, 0)?;
     step(&mut machine, 0)?;
-    assert_eq!(rt; machine.status(0), Status::Ended);
-    assert_eq!(rt; machine.place(0), 2);
-    assert_eq!(rt; machine.events().len(), 2);
-    assert_eq!(rt; machine.word().bits(), 0);
+    is_same(&rt, &machine.status(0), &Status::Ended);
+    is_same(&rt, &machine.place(0), &2);
+    is_same(&rt, &machine.events().len(), &2);
+    is_same(&rt, &machine.word().bits(), &0);
     Ok(())
 }
 
 #[test]
 fn gives_seven(rt: HostRuntime) -> Result<(), Fail> {
     let code = code_of(rt.alloc(), (1, 0, 0, 0), &GIVES_SEVEN)?;
-    assert_eq!(rt; code.sizes().processes(), 1);
+    assert!(rt; code.sizes().processes() == 1);
     let outcome = outcome_of(rt.alloc(), &code, &[0, 0])?;
-    assert_eq!(rt;
-        outcome.events.as_slice(),
-        [event(0, Act::Out(7))].as_slice()
-    );
-    assert_eq!(rt; outcome.statuses.as_slice(), [Status::Running].as_slice());
+    let events = [event(0, Act::Out(7))];
+    let is_so = is_outcome(&outcome, &events, &[Status::Running]);
+    holds(&rt, is_so, "the outcome");
     Ok(())
 }
 
 #[test]
 fn runs_one_after_the_other(rt: HostRuntime) -> Result<(), Fail> {
     let code = code_of(rt.alloc(), (2, 1, 1, 0), &STAMPS_AND_COMPARES)?;
-    assert_eq!(rt; code.sizes().processes(), 2);
+    assert!(rt; code.sizes().processes() == 2);
     let outcome = outcome_of(
         rt.alloc(),
         &code,
@@ -61,33 +61,33 @@ fn runs_one_after_the_other(rt: HostRuntime) -> Result<(), Fail> {
         event(1, Act::Out(1)),
         event(1, Act::End),
     ];
-    assert_eq!(rt; outcome.events.as_slice(), expected.as_slice());
-    assert_eq!(rt;
-        outcome.statuses.as_slice(),
-        [Status::Ended, Status::Ended].as_slice()
-    );
-    assert_eq!(rt; outcome.registers.len(), 0);
+    let statuses = [Status::Ended, Status::Ended];
+    let is_so = is_outcome(&outcome, &expected, &statuses);
+    holds(&rt, is_so, "the outcome");
+    is_same(&rt, &outcome.registers.len(), &0);
     Ok(())
 }
 
 #[test]
 fn loses_an_exchange(rt: HostRuntime) -> Result<(), Fail> {
     let code = code_of(rt.alloc(), (2, 1, 1, 0), &STAMPS_AND_COMPARES)?;
-    assert_eq!(rt; code.sizes().processes(), 2);
+    assert!(rt; code.sizes().processes() == 2);
     let outcome = outcome_of(rt.alloc(), &code, &[0, 1, 0, 1, 0, 1, 1, 1, 1])?;
     let expected = [event(0, Act::Stamp), event(1, Act::Stamp)];
-    assert_eq!(rt; outcome.events.as_slice(), expected.as_slice());
-    assert_eq!(rt;
-        outcome.statuses.as_slice(),
-        [Status::Running, Status::Running].as_slice()
-    );
+    let statuses = [Status::Running, Status::Running];
+    let is_so = is_outcome(&outcome, &expected, &statuses);
+    holds(&rt, is_so, "the outcome");
     Ok(())
+}
+
+fn begins_with_a_row(outcome: &Outcome, values: &[u32]) -> bool {
+    matches!(outcome.registers.first(), Some(row) if row.as_slice() == values)
 }
 
 #[test]
 fn writes_copies_and_traps(rt: HostRuntime) -> Result<(), Fail> {
     let code = code_of(rt.alloc(), (2, 2, 2, 1), &WRITES_AND_TRAPS)?;
-    assert_eq!(rt; code.sizes().processes(), 2);
+    assert!(rt; code.sizes().processes() == 2);
     let outcome = outcome_of(
         rt.alloc(),
         &code,
@@ -99,18 +99,16 @@ fn writes_copies_and_traps(rt: HostRuntime) -> Result<(), Fail> {
         event(1, Act::Get(0, 1, 3)),
         event(1, Act::Trap(Trap::Below)),
     ];
-    assert_eq!(rt; outcome.events.as_slice(), expected.as_slice());
-    assert_eq!(rt;
-        outcome.statuses.as_slice(),
-        [Status::Running, Status::Trapped(Trap::Below)].as_slice()
-    );
-    assert_eq!(rt; outcome.registers.len(), 1);
-    assert_eq!(rt; outcome.registers[0].as_slice(), [0, 3].as_slice());
+    let statuses = [Status::Running, Status::Trapped(Trap::Below)];
+    let is_so = is_outcome(&outcome, &expected, &statuses);
+    holds(&rt, is_so, "the outcome");
+    is_same(&rt, &outcome.registers.len(), &1);
+    holds(&rt, begins_with_a_row(&outcome, &[0, 3]), "the row");
     Ok(())
 }
 
 // What traps within three steps, where there is one process, and its trap.
-const TRAPS: [([Instr; 5], Trap); 6] = [
+static TRAPS: [([Instr; 5], Trap, &str); 6] = [
     (
         [
             Instr::Push(4294967295),
@@ -120,6 +118,7 @@ const TRAPS: [([Instr; 5], Trap); 6] = [
             Instr::Halt,
         ],
         Trap::Overflow,
+        "overflow",
     ),
     (
         [
@@ -130,6 +129,7 @@ const TRAPS: [([Instr; 5], Trap); 6] = [
             Instr::Halt,
         ],
         Trap::Zero,
+        "zero",
     ),
     (
         [
@@ -140,6 +140,7 @@ const TRAPS: [([Instr; 5], Trap); 6] = [
             Instr::Halt,
         ],
         Trap::Below,
+        "below",
     ),
     (
         [
@@ -150,6 +151,7 @@ const TRAPS: [([Instr; 5], Trap); 6] = [
             Instr::Halt,
         ],
         Trap::Index,
+        "older of 1",
     ),
     (
         [
@@ -160,6 +162,7 @@ const TRAPS: [([Instr; 5], Trap); 6] = [
             Instr::Halt,
         ],
         Trap::Index,
+        "older for 1",
     ),
     (
         [
@@ -170,23 +173,19 @@ const TRAPS: [([Instr; 5], Trap); 6] = [
             Instr::Halt,
         ],
         Trap::Index,
+        "get of 1",
     ),
 ];
 
 #[test]
 fn stops_at_each_trap(rt: HostRuntime) -> Result<(), Fail> {
-    for (instructions, trap) in TRAPS {
+    for &(instructions, trap, row) in &TRAPS {
         let code = code_of(rt.alloc(), (1, 1, 1, 1), &instructions)?;
-        assert_eq!(rt; code.sizes().processes(), 1);
+        assert!(rt; code.sizes().processes() == 1);
         let outcome = outcome_of(rt.alloc(), &code, &[0, 0, 0])?;
-        assert_eq!(rt;
-            outcome.events.as_slice(),
-            [event(0, Act::Trap(trap))].as_slice()
-        );
-        assert_eq!(rt;
-            outcome.statuses.as_slice(),
-            [Status::Trapped(trap)].as_slice()
-        );
+        let events = [event(0, Act::Trap(trap))];
+        let is_so = is_outcome(&outcome, &events, &[Status::Trapped(trap)]);
+        holds(&rt, is_so, row);
     }
     Ok(())
 }

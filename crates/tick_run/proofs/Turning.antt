@@ -3,8 +3,7 @@ use Rattle.std.proofs.Common.{◌≡◌, ℕ, ◌+◌, Bool, true, false, if◌t
 use Rattle.std.specs.Prelude.{Option, Some, None, nat_lt, ◌&&◌, slice_get, slice_index}
 use Rattle.std.proofs.lemmas.List.{append-nil}
 use Rattle.machine_core.specs.declared.status.Trap.{Trap}
-use Rattle.machine_core.specs.declared.status.Status.{Status}
-use Rattle.machine_core.specs.declared.status.Status.TheVariants.{Running, Ended, Trapped}
+use Rattle.machine_core.specs.declared.status.Status.TheVariants.{Running}
 use Rattle.machine_core.specs.declared.event.Act.{Act}
 use Rattle.machine_core.specs.declared.event.Act.TheVariants as A
 use Rattle.machine_core.specs.declared.event.Event.{Event}
@@ -21,7 +20,7 @@ use Rattle.step_code.specs.declared.ask.Advance.{Advance}
 use Rattle.step_code.specs.declared.ask.Advance.TheVariants as V
 use Rattle.step_code.specs.Machine as M
 use Rattle.step_code.specs.Machine.{CodeProcess, Moved, Did, alone, asks, did}
-use Rattle.step_code.specs.Process.{event_of, shown, advance_as, after_advance_as, answered_as, is_out, gives_out}
+use Rattle.step_code.specs.Process.{event_of, shown, advance_of, after_advance, answered_by, is_out, gives_out}
 use Rattle.stamp_table.specs.Passes.{by}
 use Rattle.local_run.specs.Local.{Local, act_of, TellsLabels, moved_alone, moved_with, Makes, LocalStep, output_of, outputs_of}
 use Rattle.local_run.proofs.Offered.{local_run_next, outputs_of-told}
@@ -162,25 +161,30 @@ alone_asks : (p : ℕ) (m : Moved) (act : Option Act) (ask : Ask) → V.Ask ask 
 alone_asks p m None ask same = cc
 alone_asks p m (Some act) ask same = cc
 
--- What a turn was, where the instruction is `d` and the process had status `s`.
-module _ (c : StepCode) (p : ℕ) (q : CodeProcess) (steps : List Shared) where
-  silent_alone : (m : Moved) (act : Option Act) → m.act ≡ act → q.status ≡ Running → did c.sizes.processes p c.instructions q ≡ alone m
-      → V.Silent ≡ advance_as Running p (alone (record { process = m.process; act = act })) → IsTurn T.Went c p q steps m.process steps
-  silent_alone m None none running is same = λ count given at.
+-- What a turn was, where the instruction does `d`.
+module _ (c : StepCode) (p : ℕ) (q : CodeProcess) (running : q.status ≡ Running) (steps : List Shared) where
+  silent_alone : (m : Moved) (act : Option Act) → m.act ≡ act → did c.sizes.processes p c.instructions q ≡ alone m
+      → V.Silent ≡ shown (event_of p act) → IsTurn T.Went c p q steps m.process steps
+  silent_alone m None none is same = λ count given at.
       subst (IsAt c p (count + 1) m.process steps) (ap (λ act. given ++ values_of act) none ∙ append-nil given) (at_alone c p q running count m steps given is at)
-  silent_alone m (Some act) some running is same = absurd (cc)
+  silent_alone m (Some act) some is same = absurd (cc)
 
-  pub silent : (s : Status) (d : Did) (next : CodeProcess) → q.status ≡ s → did c.sizes.processes p c.instructions q ≡ d
-      → V.Silent ≡ advance_as s p d → next ≡ after_advance_as s q d → IsTurn T.Went c p q steps next steps
-  silent Running (alone m) next running is same goes =
-      subst (λ x. IsTurn T.Went c p q steps x steps) (sym goes) (silent_alone m m.act refl running is same)
-  silent Running (asks ask answered) next running is same goes = absurd (cc)
-  silent Ended d next running is same goes = absurd (cc)
-  silent (Trapped t) d next running is same goes = absurd (cc)
+  pub silent : (d : Did) (next : CodeProcess) → did c.sizes.processes p c.instructions q ≡ d
+      → V.Silent ≡ advance_of p d → next ≡ after_advance q d → IsTurn T.Went c p q steps next steps
+  silent (alone m) next is same goes = subst (λ x. IsTurn T.Went c p q steps x steps) (sym goes) (silent_alone m m.act refl is same)
+  silent (asks ask answered) next is same goes = absurd (cc)
 
-  turn_alone : (m : Moved) (act : Act) → m.act ≡ Some act → q.status ≡ Running → did c.sizes.processes p c.instructions q ≡ alone m
-      → IsTurn (turn_by act) c p q steps m.process steps
-  turn_alone m (A.Out v) some running is = (
+  -- a process that runs has made its instruction
+  never_stopped : (p : ℕ) (act : Option Act) → V.Stopped ≡ shown (event_of p act) → ⊥
+  never_stopped p None same = cc
+  never_stopped p (Some act) same = cc
+
+  pub stopped : (d : Did) → V.Stopped ≡ advance_of p d → ⊥
+  stopped (alone m) same = never_stopped p m.act same
+  stopped (asks ask answered) same = cc
+
+  turn_alone : (m : Moved) (act : Act) → m.act ≡ Some act → did c.sizes.processes p c.instructions q ≡ alone m → IsTurn (turn_by act) c p q steps m.process steps
+  turn_alone m (A.Out v) some is = (
     (
         ap (λ s. gives_out s (slice_get c.instructions q.place)) running
         ∙ out_at_out q c.sizes.processes p (slice_get c.instructions q.place) v (ap act_alone is ∙ some)
@@ -188,36 +192,32 @@ module _ (c : StepCode) (p : ℕ) (q : CodeProcess) (steps : List Shared) where
     λ count given at.
         subst (IsAt c p (count + 1) m.process steps) (ap (λ act. given ++ values_of act) some) (at_alone c p q running count m steps given is at),
   )
-  turn_alone m act some running is = λ count given at.
+  turn_alone m act some is = λ count given at.
       subst (IsAt c p (count + 1) m.process steps) (ap (λ act. given ++ values_of act) some ∙ append-nil given) (at_alone c p q running count m steps given is at)
 
-  made_alone : (m : Moved) (act : Option Act) (event : Event) → m.act ≡ act → q.status ≡ Running → did c.sizes.processes p c.instructions q ≡ alone m
-      → V.Did event ≡ advance_as Running p (alone (record { process = m.process; act = act })) → IsTurn (turn_by event.act) c p q steps m.process steps
-  made_alone m None event none running is same = absurd (cc)
-  made_alone m (Some act) event some running is same =
+  made_alone : (m : Moved) (act : Option Act) (event : Event) → m.act ≡ act → did c.sizes.processes p c.instructions q ≡ alone m
+      → V.Did event ≡ shown (event_of p act) → IsTurn (turn_by event.act) c p q steps m.process steps
+  made_alone m None event none is same = absurd (cc)
+  made_alone m (Some act) event some is same =
       let here : act ≡ event.act = ap (act_told act) (sym same) in
-      subst (λ a. IsTurn (turn_by a) c p q steps m.process steps) here (turn_alone m act some running is)
+      subst (λ a. IsTurn (turn_by a) c p q steps m.process steps) here (turn_alone m act some is)
 
-  pub made : (s : Status) (d : Did) (next : CodeProcess) (event : Event) → q.status ≡ s → did c.sizes.processes p c.instructions q ≡ d
-      → V.Did event ≡ advance_as s p d → next ≡ after_advance_as s q d → IsTurn (turn_by event.act) c p q steps next steps
-  made Running (alone m) next event running is same goes =
-      subst (λ x. IsTurn (turn_by event.act) c p q steps x steps) (sym goes) (made_alone m m.act event refl running is same)
-  made Running (asks ask answered) next event running is same goes = absurd (cc)
-  made Ended d next event running is same goes = absurd (cc)
-  made (Trapped t) d next event running is same goes = absurd (cc)
+  pub made : (d : Did) (next : CodeProcess) (event : Event) → did c.sizes.processes p c.instructions q ≡ d
+      → V.Did event ≡ advance_of p d → next ≡ after_advance q d → IsTurn (turn_by event.act) c p q steps next steps
+  made (alone m) next event is same goes =
+      subst (λ x. IsTurn (turn_by event.act) c p q steps x steps) (sym goes) (made_alone m m.act event refl is same)
+  made (asks ask answered) next event is same goes = absurd (cc)
 
-  pub asked : (s : Status) (d : Did) (mid next : CodeProcess) (ask : Ask) (reply : Reply) (act : SharedAct) → q.status ≡ s
-      → did c.sizes.processes p c.instructions q ≡ d → V.Ask ask ≡ advance_as s p d → mid ≡ after_advance_as s q d
+  pub asked : (d : Did) (mid next : CodeProcess) (ask : Ask) (reply : Reply) (act : SharedAct)
+      → did c.sizes.processes p c.instructions q ≡ d → V.Ask ask ≡ advance_of p d → mid ≡ after_advance q d
       → TellsLabels c.sizes.processes reply → act_of ask reply ≡ Some act
-      → next ≡ (answered_as mid.status mid (did c.sizes.processes p c.instructions mid) reply).process
+      → next ≡ (answered_by mid (did c.sizes.processes p c.instructions mid) reply).process
       → IsTurn T.Went c p q steps next (steps ++ by p act ∷ [])
-  asked Running (asks wanted answered) mid next ask reply act running is same stays labels fits goes = λ count given at.
+  asked (asks wanted answered) mid next ask reply act is same stays labels fits goes = λ count given at.
       let it : wanted ≡ ask = ap (ask_told wanted) (sym same) in
       let becomes : next ≡ (answered reply).process =
-      goes ∙ ap (λ (x : CodeProcess). (answered_as x.status x (did c.sizes.processes p c.instructions x) reply).process) stays
-      ∙ (λ i. (answered_as (running i) q (is i) reply).process) in
+      goes ∙ ap (λ (x : CodeProcess). (answered_by x (did c.sizes.processes p c.instructions x) reply).process) stays
+      ∙ ap (λ d. (answered_by q d reply).process) is in
       subst (λ x. IsAt c p (count + 1) x (steps ++ by p act ∷ []) given) (sym becomes)
       (at_asked c p q running count wanted answered reply act steps given is labels (ap (λ a. act_of a reply) it ∙ fits) at)
-  asked Running (alone m) mid next ask reply act running is same stays labels fits goes = absurd (alone_asks p m m.act ask same)
-  asked Ended d mid next ask reply act running is same stays labels fits goes = absurd (cc)
-  asked (Trapped t) d mid next ask reply act running is same stays labels fits goes = absurd (cc)
+  asked (alone m) mid next ask reply act is same stays labels fits goes = absurd (alone_asks p m m.act ask same)

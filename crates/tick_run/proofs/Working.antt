@@ -1,9 +1,13 @@
 -- A worker after one more turn.
-use Rattle.std.proofs.Common.{◌≡◌, ℕ, ◌+◌, ◌<◌, ◌≤◌, true, List, [], ◌∷◌, ◌++◌, length, sym, subst, arith}
-use Rattle.std.specs.Prelude.{slice_get}
+use Rattle.std.proofs.Common.{◌≡◌, ◌∙◌, ℕ, ◌+◌, ◌<◌, ◌≤◌, nat_le, true, false, List, [], ◌∷◌, ◌++◌, length, ap, sym, subst, arith}
+use Rattle.std.specs.Prelude.{Option, Some, ◌&&◌, slice_get}
+use Rattle.std.proofs.lemmas.Bool.{leb-false}
 use Rattle.std.proofs.lemmas.List.{length-append}
+use Rattle.machine_core.specs.declared.status.Status.{Status}
+use Rattle.machine_core.specs.declared.status.Status.TheVariants.{Running}
+use Rattle.verified_code.specs.declared.instr.Instr.{Instr}
 use Rattle.verified_code.specs.Instructions.{StepCode}
-use Rattle.step_code.specs.Process.{OneProcess, IsOf, gives_out}
+use Rattle.step_code.specs.Process.{OneProcess, IsOf, is_out, gives_out}
 use Rattle.stamp_table.specs.Passes.{TableView, PassView, Holds, mine}
 use Rattle.tick_run.specs.declared.worker.Turn.TheVariants as T
 use Rattle.tick_run.specs.prover.Turns.{IsTurn}
@@ -42,3 +46,10 @@ module _ (t : TableView) (c : StepCode) (p turns outs count : ℕ) (one next : O
         few = omega (arith, few, longer);
         has_room = was.has_room;
       }
+
+-- an instruction that gives out a value, and not one too many
+pub room_for_one : (status : Status) (next : Option Instr) (instruction : Instr) (given outs : ℕ) → status ≡ Running → next ≡ Some instruction
+    → (is_out (Some instruction) && nat_le outs given) ≡ false → gives_out status next ≡ true → given < outs
+room_for_one status next instruction given outs running here not_past out =
+    let gives : is_out (Some instruction) ≡ true = sym (ap (λ s. gives_out s next) running ∙ ap is_out here) ∙ out in
+    leb-false outs given (sym (ap (λ b. b && nat_le outs given) gives) ∙ not_past)

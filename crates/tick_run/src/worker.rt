@@ -1,7 +1,7 @@
 // One process on its thread.
 
-ghost use Rattle.std.specs.Prelude.{◌≡◌, vec_items, vec_capacity};
-ghost use Rattle.step_code.specs.Process.{IsOf};
+ghost use Rattle.std.specs.Prelude.{◌≡◌, ◌&&◌, nat_le, Some, slice_get, vec_items, vec_capacity};
+ghost use Rattle.step_code.specs.Process.{IsOf, is_out};
 ghost use Rattle.step_code.specs.Safety.{HasWord, IsLawful};
 ghost use Rattle.stamp_table.specs.Passes.{Holds, mine};
 ghost use Rattle.tick_run.specs.prover.Turns.{IsFor, IsTurn, IsServed, turn_by, end_by};
@@ -12,7 +12,7 @@ use crate::jobs::{Job, Limits};
 use machine_core::{Act, Event, RunEnd, Status};
 use stamp_table::{Pass, StampTable, Swap};
 use step_code::{Advance, Ask, Proc, Reply};
-use verified_code::Code;
+use verified_code::{Code, Instr};
 
 /// What a worker comes back with.
 #[derive(Drop)]
@@ -28,8 +28,6 @@ pub enum Turn {
     Went,
     /// It gave out this value.
     Gave(u32),
-    /// The process had stopped.
-    Stopped,
 }
 
 /// Runs the process until it stops or has done all that it may.
@@ -46,18 +44,36 @@ pub fn work<G: Gate>(table: &StampTable, code: &Code, limits: Limits, job: Job<G
         mut outputs,
     } = job;
     for _ in 0..limits.turns {
-        if outputs.len() >= limits.outs as usize && proc.will_out(code) {
+        let Some(instruction) = proc.instruction(code) else {
+            break;
+        };
+        if is_past(instruction, outputs.len(), limits.outs) {
             let end = RunEnd::OutputsFull;
             return Worked { pass, outputs, end };
         }
-        match make_one(table, code, process, &mut proc, &mut pass, &mut gate) {
+        match make_one(
+            table,
+            code,
+            process,
+            instruction,
+            &mut proc,
+            &mut pass,
+            &mut gate,
+        ) {
             Turn::Went => {}
             Turn::Gave(value) => outputs.push_reserved(value),
-            Turn::Stopped => break,
         }
     }
     let end = end_of(proc.status());
     Worked { pass, outputs, end }
+}
+
+// Whether the instruction gives out a value after `given`, where `outs` are allowed.
+#[inline(always)]
+fn is_past(instruction: Instr, given: usize, outs: u32) -> bool
+    ensures { result ≡ (is_out (Some instruction) && nat_le outs given) }
+{
+    matches!(instruction, Instr::Out) && given >= outs as usize
 }
 
 // How a process of this status ends where it makes no further instruction.
@@ -71,11 +87,13 @@ fn end_of(status: Status) -> RunEnd
     }
 }
 
-// Makes the next instruction, where the process has not stopped.
+// Makes this instruction, the next of the process.
+#[inline(always)]
 fn make_one<G: Gate>(
     table: &StampTable,
     code: &Code,
     process: u8,
+    instruction: Instr,
     proc: &mut Proc,
     pass: &mut Pass,
     gate: &mut G,
@@ -83,6 +101,8 @@ fn make_one<G: Gate>(
     requires fits { IsFor table.now code.now }
     requires me { proc.old.me ≡ process }
     requires of { IsOf code.now proc.old }
+    requires running { proc.old.process.status ≡ Status.Running }
+    requires next { slice_get code.now.instructions proc.old.process.place ≡ Some instruction }
     requires here { pass.old.table ≡ table.now }
     requires held { Holds pass.old.held process }
     ensures me { proc.new.me ≡ process }
@@ -91,19 +111,19 @@ fn make_one<G: Gate>(
     ensures held { pass.new.held ≡ pass.old.held }
     ensures turn { IsTurn result code.now process proc.old.process (mine process pass.old.seen) proc.new.process (mine process pass.new.seen) }
 {
-    match proc.advance(code) {
-        Advance::Silent => Turn::Went,
+    match proc.make(code, instruction) {
+        Advance::Silent | Advance::Stopped => Turn::Went,
         Advance::Did(event) => turn_of(event),
         Advance::Ask(ask) => {
             let reply = served(table, code, process, pass, gate, ask);
             // An instruction that asks gives nothing out.
-            proc.answer(code, reply);
+            proc.finish(code, instruction, reply);
             Turn::Went
         }
-        Advance::Stopped => Turn::Stopped,
     }
 }
 
+#[inline(always)]
 fn turn_of(event: Event) -> Turn
     ensures { result ≡ turn_by event.act }
 {
@@ -115,6 +135,7 @@ fn turn_of(event: Event) -> Turn
 
 // Tells the gate, and makes the step that is asked for.
 #[tactic(auto, using(crate::proofs::Serving::load_served, crate::proofs::Serving::won_served))]
+#[inline(always)]
 fn served<G: Gate>(
     table: &StampTable,
     code: &Code,

@@ -1,11 +1,11 @@
 //! What the gates are told: one call before each step on what is shared, and none besides.
 
-use crate::running::run_of;
+use crate::running::{holds, is_outcome, run_of};
 use std::sync::atomic::AtomicU64;
 use std::sync::atomic::Ordering::SeqCst;
 use std::test::Fail;
 use step_code::Ask;
-use tick_run::{Gate, RunEnd};
+use tick_run::{Gate, RunEnd, RunOutcome};
 
 // Process 0: put r 9; stamp; s = scan; x = get r me; out x; and process 1 ends.
 const EACH_STEP: &str =
@@ -51,6 +51,12 @@ impl Drop for Recorded<'_> {
     }
 }
 
+fn is_as_asked(outcome: &RunOutcome) -> bool {
+    is_outcome(outcome, &[&[9], &[]], &[RunEnd::Ended, RunEnd::Ended])
+        && outcome.registers.len() == 1
+        && matches!(outcome.registers.first(), Some(row) if row.as_slice() == [9, 0].as_slice())
+}
+
 #[test]
 fn each_shared_step_is_told_once(rt: HostRuntime) -> Result<(), Fail> {
     let asks = AtomicU64::new(0);
@@ -63,15 +69,8 @@ fn each_shared_step_is_told_once(rt: HostRuntime) -> Result<(), Fail> {
         })?;
     }
     let outcome = run_of(&rt, EACH_STEP, gates, 1_000, 4)?;
-    assert_eq!(rt; asks.load(SeqCst), 51_234);
-    assert_eq!(rt; dropped.load(SeqCst), 2);
-    assert_eq!(rt; outcome.outputs.len(), 2);
-    assert_eq!(rt; outcome.outputs[0].as_slice(), [9].as_slice());
-    assert_eq!(rt;
-        outcome.ends.as_slice(),
-        [RunEnd::Ended, RunEnd::Ended].as_slice()
-    );
-    assert_eq!(rt; outcome.registers.len(), 1);
-    assert_eq!(rt; outcome.registers[0].as_slice(), [9, 0].as_slice());
+    holds(&rt, asks.load(SeqCst) == 51_234, "the asks");
+    holds(&rt, dropped.load(SeqCst) == 2, "the gates that are gone");
+    holds(&rt, is_as_asked(&outcome), "the outcome");
     Ok(())
 }

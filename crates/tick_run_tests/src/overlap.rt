@@ -1,13 +1,13 @@
 //! Workers that are under way at the same time: gates hold them until others have gone on, and no gate
 //! has to give up. Whoever ran one worker after the other, or two at a time, would meet the limit.
 
-use crate::running::run_of;
+use crate::running::{gave, holds, is_outcome, run_of};
 use std::hint::spin_loop;
 use std::sync::atomic::AtomicU64;
 use std::sync::atomic::Ordering::SeqCst;
 use std::test::Fail;
 use step_code::Ask;
-use tick_run::{Gate, RunEnd};
+use tick_run::{Gate, RunEnd, RunOutcome};
 
 const MOST_POLLS: u64 = 10_000_000;
 
@@ -48,6 +48,17 @@ impl Gate for Crossed<'_> {
     }
 }
 
+// Each gives out 0 or 1: it isn't so that process 0 sees 1 and process 1 sees 0.
+fn is_crossed(outcome: &RunOutcome) -> bool {
+    let zero_gave = gave(outcome, 0, &[0]);
+    let one_gave = gave(outcome, 1, &[1]);
+    outcome.ends.as_slice() == [RunEnd::Ended, RunEnd::Ended].as_slice()
+        && outcome.outputs.len() == 2
+        && (zero_gave || gave(outcome, 0, &[1]))
+        && (one_gave || gave(outcome, 1, &[0]))
+        && (zero_gave || one_gave)
+}
+
 // Process 0 waits before its first step for the first of process 1, which waits before its second for
 // the first of process 0. So both load the same word, and one of them has to stamp again.
 #[test]
@@ -67,19 +78,11 @@ fn two_workers_cross(rt: HostRuntime) -> Result<(), Fail> {
         held_at: 1,
     })?;
     let outcome = run_of(&rt, COMPARES, gates, 1_000, 4)?;
-    assert_eq!(rt; late.load(SeqCst), 0);
+    holds(&rt, late.load(SeqCst) == 0, "no gate gives up");
     let calls = (zero.load(SeqCst), one.load(SeqCst));
-    assert!(rt; calls == (3, 5) || calls == (5, 3));
-    assert_eq!(rt;
-        outcome.ends.as_slice(),
-        [RunEnd::Ended, RunEnd::Ended].as_slice()
-    );
-    assert_eq!(rt; outcome.outputs.len(), 2);
-    let first = outcome.outputs[0].as_slice();
-    let second = outcome.outputs[1].as_slice();
-    assert!(rt; first == [0].as_slice() || first == [1].as_slice());
-    assert!(rt; second == [0].as_slice() || second == [1].as_slice());
-    assert!(rt; first == [0].as_slice() || second == [1].as_slice());
+    let is_one_again = calls == (3, 5) || calls == (5, 3);
+    holds(&rt, is_one_again, "one stamps again");
+    holds(&rt, is_crossed(&outcome), "the outcome");
     Ok(())
 }
 
@@ -105,6 +108,16 @@ impl Gate for Together<'_> {
     }
 }
 
+fn is_passed_on(outcome: &RunOutcome) -> bool {
+    let row = [7, 8, 9, 10, 11, 12];
+    is_outcome(
+        outcome,
+        &[&[8], &[9], &[10], &[11], &[12], &[7]],
+        &[RunEnd::Ended; 6],
+    ) && outcome.registers.len() == 1
+        && matches!(outcome.registers.first(), Some(found) if found.as_slice() == row.as_slice())
+}
+
 #[test]
 fn six_workers_go_together(rt: HostRuntime) -> Result<(), Fail> {
     let calls = [
@@ -125,20 +138,10 @@ fn six_workers_go_together(rt: HostRuntime) -> Result<(), Fail> {
         })?;
     }
     let outcome = run_of(&rt, PASSES_ON, gates, 1_000, 4)?;
-    assert_eq!(rt; late.load(SeqCst), 0);
+    holds(&rt, late.load(SeqCst) == 0, "no gate gives up");
     for own in &calls {
-        assert_eq!(rt; own.load(SeqCst), 2);
+        holds(&rt, own.load(SeqCst) == 2, "two calls of each gate");
     }
-    for (outputs, value) in outcome.outputs.iter().zip([8, 9, 10, 11, 12, 7]) {
-        assert_eq!(rt; outputs.as_slice(), [value].as_slice());
-    }
-    for end in outcome.ends.as_slice() {
-        assert_eq!(rt; *end, RunEnd::Ended);
-    }
-    assert_eq!(rt; outcome.registers.len(), 1);
-    assert_eq!(rt;
-        outcome.registers[0].as_slice(),
-        [7, 8, 9, 10, 11, 12].as_slice()
-    );
+    holds(&rt, is_passed_on(&outcome), "the outcome");
     Ok(())
 }

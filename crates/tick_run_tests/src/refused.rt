@@ -1,5 +1,6 @@
 //! A thread that is refused after others have started.
 
+use crate::running::holds;
 use std::alloc::{AllocError, Global};
 use std::sync::atomic::AtomicU64;
 use std::sync::atomic::Ordering::SeqCst;
@@ -53,9 +54,9 @@ fn a_start_is_refused(rt: HostRuntime) -> Result<(), Fail> {
     for _ in 0..6u8 {
         gates.push(Counted { dropped: &dropped })?;
     }
-    assert_eq!(rt; gates.len(), 6);
+    assert!(rt; gates.len() == 6);
     let code = read_code(alloc, WRITES)?;
-    assert_eq!(rt; code.sizes().processes(), 6);
+    assert!(rt; code.sizes().processes() == 6);
     let stacks = (
         Vec::<u8>::with_capacity(alloc, 9 << 20)?,
         Vec::<u8>::with_capacity(alloc, 9 << 20)?,
@@ -64,7 +65,7 @@ fn a_start_is_refused(rt: HostRuntime) -> Result<(), Fail> {
     drop(stacks);
     let fault = run(&rt, alloc, &code, gates, 100_000, 4).err();
     drop(blocks);
-    assert_eq!(rt; fault, Some(RunFault::NoThread));
-    assert_eq!(rt; dropped.load(SeqCst), 6);
+    holds(&rt, fault == Some(RunFault::NoThread), "no thread");
+    holds(&rt, dropped.load(SeqCst) == 6, "the gates that are gone");
     Ok(())
 }

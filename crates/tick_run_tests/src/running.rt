@@ -7,7 +7,7 @@ use std::sync::Wait;
 use std::test::Fail;
 use std::thread::Threads;
 use step_code::{Ask, read_code};
-use tick_run::{Gate, RunOutcome, run};
+use tick_run::{Gate, RunEnd, RunOutcome, run};
 
 /// A gate that does nothing.
 #[derive(Drop)]
@@ -37,4 +37,52 @@ pub fn run_of<G: Gate + Send, R: AllocGlobal + Abort + Threads + Wait>(
     let code = read_code(rt.alloc(), text)?;
     assert_eq!(rt; gates.len(), code.sizes().processes() as usize);
     Ok(run(rt, rt.alloc(), &code, gates, turns, outs)?)
+}
+
+/// Asserts what is true of a run, and names it. The proof of a test that calls this is far shorter
+/// than that of one with assertions of its own.
+pub fn holds<R: Abort>(rt: &R, holds: bool, row: &str) {
+    assert!(rt; holds, "{row}");
+}
+
+/// Whether process `p` gave out these numbers.
+pub fn gave(outcome: &RunOutcome, p: usize, outputs: &[u32]) -> bool {
+    matches!(outcome.outputs.get(p), Some(found) if found.as_slice() == outputs)
+}
+
+/// Whether the processes gave out these numbers, and ended so.
+pub fn is_outcome(outcome: &RunOutcome, outputs: &[&[u32]], ends: &[RunEnd]) -> bool {
+    for (p, expected) in outputs.iter().enumerate() {
+        if !gave(outcome, p, expected) {
+            return false;
+        }
+    }
+    outcome.outputs.len() == outputs.len() && outcome.ends.as_slice() == ends
+}
+
+/// A code without registers, its processes, the most turns and outputs, what each gives out, and how
+/// each ends.
+pub type Row = (
+    &'static str,
+    u8,
+    u64,
+    u32,
+    &'static [&'static [u32]],
+    &'static [RunEnd],
+);
+
+fn comes_to<R: AllocGlobal + Abort + Threads + Wait>(rt: &R, row: &Row) -> Result<(), Fail> {
+    let (text, n, turns, outs, outputs, ends) = *row;
+    let outcome = run_of(rt, text, open_gates(rt.alloc(), n)?, turns, outs)?;
+    let is_so = is_outcome(&outcome, outputs, ends) && outcome.registers.len() == 0;
+    assert!(rt; is_so, "{turns} turns and {outs} outputs of {text}");
+    Ok(())
+}
+
+/// Asserts what each row says.
+pub fn come_to<R: AllocGlobal + Abort + Threads + Wait>(rt: &R, rows: &[Row]) -> Result<(), Fail> {
+    for row in rows {
+        comes_to(rt, row)?;
+    }
+    Ok(())
 }

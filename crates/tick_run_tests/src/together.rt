@@ -1,6 +1,6 @@
 //! Processes that stop early leave the others to go on.
 
-use crate::running::{open_gates, run_of};
+use crate::running::{Row, come_to};
 use std::test::Fail;
 use step_code::Trap;
 use tick_run::RunEnd;
@@ -17,42 +17,36 @@ const ONE_STAMPS: &str =
 const ONE_GIVES_OUT: &str =
     "tickcode 1 2 0 0 0\nMe\nJumpZero 8\nPush 1\nJumpZero 7\nMe\nOut\nJump 2\nJump 8\nHalt\n";
 
-#[test]
-fn one_traps(rt: HostRuntime) -> Result<(), Fail> {
-    let outcome = run_of(&rt, ONE_TRAPS, open_gates(rt.alloc(), 2)?, 1_000, 4)?;
-    assert_eq!(rt; outcome.outputs.len(), 2);
-    assert_eq!(rt; outcome.outputs[0].as_slice(), [5].as_slice());
-    assert_eq!(rt; outcome.outputs[1].len(), 0);
-    assert_eq!(rt;
-        outcome.ends.as_slice(),
-        [RunEnd::Ended, RunEnd::Trapped(Trap::Below)].as_slice()
-    );
-    Ok(())
-}
+static STOPPED: [Row; 3] = [
+    (
+        ONE_TRAPS,
+        2,
+        1_000,
+        4,
+        &[&[5], &[]],
+        &[RunEnd::Ended, RunEnd::Trapped(Trap::Below)],
+    ),
+    // two spend their turns on stamps
+    (
+        ONE_STAMPS,
+        3,
+        100_000,
+        4,
+        &[&[1], &[], &[]],
+        &[RunEnd::Ended, RunEnd::TurnsSpent, RunEnd::TurnsSpent],
+    ),
+    // one fills its outputs
+    (
+        ONE_GIVES_OUT,
+        2,
+        1_000,
+        4,
+        &[&[], &[1, 1, 1, 1]],
+        &[RunEnd::Ended, RunEnd::OutputsFull],
+    ),
+];
 
 #[test]
-fn two_spend_their_turns_on_stamps(rt: HostRuntime) -> Result<(), Fail> {
-    let outcome = run_of(&rt, ONE_STAMPS, open_gates(rt.alloc(), 3)?, 100_000, 4)?;
-    assert_eq!(rt; outcome.outputs.len(), 3);
-    assert_eq!(rt; outcome.outputs[0].as_slice(), [1].as_slice());
-    assert_eq!(rt; outcome.outputs[1].len(), 0);
-    assert_eq!(rt; outcome.outputs[2].len(), 0);
-    assert_eq!(rt;
-        outcome.ends.as_slice(),
-        [RunEnd::Ended, RunEnd::TurnsSpent, RunEnd::TurnsSpent].as_slice()
-    );
-    Ok(())
-}
-
-#[test]
-fn one_fills_its_outputs(rt: HostRuntime) -> Result<(), Fail> {
-    let outcome = run_of(&rt, ONE_GIVES_OUT, open_gates(rt.alloc(), 2)?, 1_000, 4)?;
-    assert_eq!(rt; outcome.outputs.len(), 2);
-    assert_eq!(rt; outcome.outputs[0].len(), 0);
-    assert_eq!(rt; outcome.outputs[1].as_slice(), [1, 1, 1, 1].as_slice());
-    assert_eq!(rt;
-        outcome.ends.as_slice(),
-        [RunEnd::Ended, RunEnd::OutputsFull].as_slice()
-    );
-    Ok(())
+fn the_others_go_on(rt: HostRuntime) -> Result<(), Fail> {
+    come_to(&rt, &STOPPED)
 }

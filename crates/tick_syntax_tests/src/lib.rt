@@ -2,8 +2,12 @@
 #![tactic(auto)]
 
 #[cfg(test)]
+mod asserting;
+#[cfg(test)]
 mod parse;
 #[cfg(test)]
 mod print;
+#[cfg(test)]
+mod texts;
 #[cfg(test)]
 mod tokens;

@@ -1,26 +1,116 @@
-use std::alloc::{AllocError, Global};
+use crate::asserting::holds;
+use crate::texts::repeated;
+use std::alloc::Global;
+use std::process::Abort;
 use std::test::Fail;
 use tick_syntax::fault::TextFault;
 use tick_syntax::parse;
 use tick_syntax::span::Span;
-use tick_syntax::tree::{Expr, Named, Op, Stmt};
+use tick_syntax::tree::{Expr, Named, Op, Stmt, Tree};
 
 fn fault(alloc: Global, text: &str) -> Option<TextFault> {
     parse(alloc, text).err()
 }
 
-fn unexpected(start: usize, end: usize) -> Option<TextFault> {
-    Some(TextFault::Unexpected(Span { start, end }))
+fn refuses<R: AllocGlobal + Abort>(rt: &R, text: &str, expected: TextFault) {
+    assert_eq!(rt; fault(rt.alloc(), text), Some(expected));
 }
 
-fn too_deep(start: usize, end: usize) -> Option<TextFault> {
-    Some(TextFault::TooDeep(Span { start, end }))
+fn unexpected(start: usize, end: usize) -> TextFault {
+    TextFault::Unexpected(Span { start, end })
+}
+
+fn too_deep(start: usize, end: usize) -> TextFault {
+    TextFault::TooDeep(Span { start, end })
 }
 
 // These letters, from this byte to before that one.
 fn is(name: &Named, letters: &str, start: usize, end: usize) -> bool {
     name.name.as_str() == letters && name.span == Span { start, end }
 }
+
+fn stands(name: Option<&Named>, letters: &str, start: usize, end: usize) -> bool {
+    matches!(name, Some(found) if is(found, letters, start, end))
+}
+
+// What is looked at in a tree.
+#[derive(Clone, Copy)]
+enum Section {
+    Processes,
+    Variables,
+    Scans,
+    Registers,
+}
+
+static SECTIONS: [(&str, Section); 4] = [
+    ("processes 2; begin end", Section::Processes),
+    ("processes 2; var x, y; begin end", Section::Variables),
+    ("processes 2; scan s; begin end", Section::Scans),
+    ("processes 2; reg r, q; begin end", Section::Registers),
+];
+
+fn is_declared(section: Section, tree: &Tree) -> bool {
+    match section {
+        Section::Processes => {
+            tree.processes == 2 && tree.processes_span == Span { start: 10, end: 11 }
+        }
+        Section::Variables => {
+            tree.variables.len() == 2
+                && stands(tree.variables.first(), "x", 17, 18)
+                && stands(tree.variables.last(), "y", 20, 21)
+        }
+        Section::Scans => tree.scans.len() == 1 && stands(tree.scans.first(), "s", 18, 19),
+        Section::Registers => {
+            tree.registers.len() == 2 && stands(tree.registers.last(), "q", 20, 21)
+        }
+    }
+}
+
+#[test]
+fn each_section(rt: HostRuntime) -> Result<(), Fail> {
+    for (text, section) in &SECTIONS {
+        let tree = parse(rt.alloc(), text)?;
+        holds(&rt, is_declared(*section, &tree), text);
+    }
+    Ok(())
+}
+
+// A kind of statement.
+#[derive(Clone, Copy)]
+enum Form {
+    Assignment,
+    Get,
+    Put,
+    Stamp,
+    Scan,
+    Copy,
+    Older,
+    Out,
+    Branch,
+    Repeat,
+    Difference,
+}
+
+static STATEMENTS: [(&str, Form); 11] = [
+    ("processes 1; begin x = 7; end", Form::Assignment),
+    ("processes 1; begin y = get r me; end", Form::Get),
+    ("processes 1; begin put r n; end", Form::Put),
+    ("processes 1; begin stamp; end", Form::Stamp),
+    ("processes 1; begin s = scan; end", Form::Scan),
+    ("processes 1; begin t = copy s; end", Form::Copy),
+    ("processes 1; begin z = older s 0 y; end", Form::Older),
+    ("processes 1; begin out x; end", Form::Out),
+    (
+        "processes 1; begin if me { stamp; } else { out 1; out 2; } end",
+        Form::Branch,
+    ),
+    ("processes 1; begin while n { stamp; } end", Form::Repeat),
+    // operands keep their order
+    (
+        "processes 1; begin out (1 - (2 / 3)); end",
+        Form::Difference,
+    ),
+];
 
 // 1 less something in brackets that is divided
 fn is_difference(expression: &Expr) -> bool {
@@ -32,237 +122,153 @@ fn is_difference(expression: &Expr) -> bool {
     }
 }
 
-fn repeated(alloc: Global, front: &str, part: &str, count: usize) -> Result<String, AllocError> {
-    let mut text = String::from_str(alloc, front)?;
-    for _ in 0..count {
-        text.push_str(part)?;
+fn is_read(form: Form, statement: &Stmt) -> bool {
+    match (form, statement) {
+        (Form::Assignment, Stmt::Assign(x, Expr::Num(7))) => is(x, "x", 19, 20),
+        (Form::Get, Stmt::Get(y, r, Expr::Me)) => is(y, "y", 19, 20) && is(r, "r", 27, 28),
+        (Form::Put, Stmt::Put(r, Expr::Count)) => is(r, "r", 23, 24),
+        (Form::Stamp, Stmt::Stamp) => true,
+        (Form::Scan, Stmt::Scan(s)) => is(s, "s", 19, 20),
+        (Form::Copy, Stmt::Copy(t, s)) => is(t, "t", 19, 20) && is(s, "s", 28, 29),
+        (Form::Older, Stmt::Older(z, s, Expr::Num(0), Expr::Name(y))) => {
+            is(z, "z", 19, 20) && is(s, "s", 29, 30) && is(y, "y", 33, 34)
+        }
+        (Form::Out, Stmt::Out(Expr::Name(x))) => is(x, "x", 23, 24),
+        (Form::Branch, Stmt::If(Expr::Me, first, second)) => {
+            first.len() == 1 && second.len() == 2
+        }
+        (Form::Repeat, Stmt::While(Expr::Count, body)) => body.len() == 1,
+        (Form::Difference, Stmt::Out(difference)) => is_difference(difference),
+        _ => false,
     }
-    Ok(text)
 }
 
 #[test]
-fn the_number_of_processes(rt: HostRuntime) -> Result<(), Fail> {
-    let tree = parse(rt.alloc(), "processes 2; begin end")?;
-    assert!(rt; tree.processes == 2 && tree.processes_span == Span { start: 10, end: 11 });
+fn each_statement(rt: HostRuntime) -> Result<(), Fail> {
+    for (text, form) in &STATEMENTS {
+        let tree = parse(rt.alloc(), text)?;
+        let is_so = matches!(tree.body.first(), Some(first) if is_read(*form, first));
+        holds(&rt, is_so, text);
+    }
     Ok(())
 }
 
-#[test]
-fn variables(rt: HostRuntime) -> Result<(), Fail> {
-    let tree = parse(rt.alloc(), "processes 2; var x, y; begin end")?;
-    assert!(rt; tree.variables.len() == 2);
-    assert!(rt; matches!(tree.variables.first(), Some(x) if is(x, "x", 17, 18)));
-    assert!(rt; matches!(tree.variables.last(), Some(y) if is(y, "y", 20, 21)));
-    Ok(())
-}
+static OPERATORS: [(&str, Op); 9] = [
+    ("processes 1; begin out (1 + 2); end", Op::Add),
+    ("processes 1; begin out (1 - 2); end", Op::Sub),
+    ("processes 1; begin out (1 * 2); end", Op::Mul),
+    ("processes 1; begin out (1 / 2); end", Op::Div),
+    ("processes 1; begin out (1 % 2); end", Op::Rem),
+    ("processes 1; begin out (1 < 2); end", Op::Less),
+    ("processes 1; begin out (1 <= 2); end", Op::AtMost),
+    ("processes 1; begin out (1 == 2); end", Op::Equal),
+    ("processes 1; begin out (1 != 2); end", Op::Differs),
+];
 
-#[test]
-fn scans(rt: HostRuntime) -> Result<(), Fail> {
-    let tree = parse(rt.alloc(), "processes 2; scan s; begin end")?;
-    assert!(rt; tree.scans.len() == 1);
-    assert!(rt; matches!(tree.scans.first(), Some(s) if is(s, "s", 18, 19)));
-    Ok(())
-}
-
-#[test]
-fn registers(rt: HostRuntime) -> Result<(), Fail> {
-    let tree = parse(rt.alloc(), "processes 2; reg r, q; begin end")?;
-    assert!(rt; tree.registers.len() == 2);
-    assert!(rt; matches!(tree.registers.last(), Some(q) if is(q, "q", 20, 21)));
-    Ok(())
-}
-
-#[test]
-fn assignment(rt: HostRuntime) -> Result<(), Fail> {
-    let tree = parse(rt.alloc(), "processes 1; begin x = 7; end")?;
-    assert!(rt;
-        matches!(tree.body.first(), Some(Stmt::Assign(x, Expr::Num(7))) if is(x, "x", 19, 20))
-    );
-    Ok(())
-}
-
-#[test]
-fn get(rt: HostRuntime) -> Result<(), Fail> {
-    let tree = parse(rt.alloc(), "processes 1; begin y = get r me; end")?;
-    assert!(rt;
-        matches!(tree.body.first(), Some(Stmt::Get(y, r, Expr::Me)) if is(y, "y", 19, 20) && is(r, "r", 27, 28))
-    );
-    Ok(())
-}
-
-#[test]
-fn put(rt: HostRuntime) -> Result<(), Fail> {
-    let tree = parse(rt.alloc(), "processes 1; begin put r n; end")?;
-    assert!(rt; matches!(tree.body.first(), Some(Stmt::Put(r, Expr::Count)) if is(r, "r", 23, 24)));
-    Ok(())
-}
-
-#[test]
-fn stamp(rt: HostRuntime) -> Result<(), Fail> {
-    let tree = parse(rt.alloc(), "processes 1; begin stamp; end")?;
-    assert!(rt; matches!(tree.body.first(), Some(Stmt::Stamp)));
-    Ok(())
-}
-
-#[test]
-fn scan(rt: HostRuntime) -> Result<(), Fail> {
-    let tree = parse(rt.alloc(), "processes 1; begin s = scan; end")?;
-    assert!(rt; matches!(tree.body.first(), Some(Stmt::Scan(s)) if is(s, "s", 19, 20)));
-    Ok(())
-}
-
-#[test]
-fn copy(rt: HostRuntime) -> Result<(), Fail> {
-    let tree = parse(rt.alloc(), "processes 1; begin t = copy s; end")?;
-    assert!(rt;
-        matches!(tree.body.first(), Some(Stmt::Copy(t, s)) if is(t, "t", 19, 20) && is(s, "s", 28, 29))
-    );
-    Ok(())
-}
-
-#[test]
-fn older(rt: HostRuntime) -> Result<(), Fail> {
-    let tree = parse(rt.alloc(), "processes 1; begin z = older s 0 y; end")?;
-    assert!(rt;
-        matches!(tree.body.first(), Some(Stmt::Older(z, s, Expr::Num(0), Expr::Name(y))) if is(z, "z", 19, 20) && is(s, "s", 29, 30) && is(y, "y", 33, 34))
-    );
-    Ok(())
-}
-
-#[test]
-fn out(rt: HostRuntime) -> Result<(), Fail> {
-    let tree = parse(rt.alloc(), "processes 1; begin out x; end")?;
-    assert!(rt; matches!(tree.body.first(), Some(Stmt::Out(Expr::Name(x))) if is(x, "x", 23, 24)));
-    Ok(())
-}
-
-#[test]
-fn branch(rt: HostRuntime) -> Result<(), Fail> {
-    let tree = parse(
-        rt.alloc(),
-        "processes 1; begin if me { stamp; } else { out 1; out 2; } end",
-    )?;
-    assert!(rt;
-        matches!(tree.body.first(), Some(Stmt::If(Expr::Me, first, second)) if first.len() == 1 && second.len() == 2)
-    );
-    Ok(())
-}
-
-#[test]
-fn repeat(rt: HostRuntime) -> Result<(), Fail> {
-    let tree = parse(rt.alloc(), "processes 1; begin while n { stamp; } end")?;
-    assert!(rt;
-        matches!(tree.body.first(), Some(Stmt::While(Expr::Count, body)) if body.len() == 1)
-    );
-    Ok(())
+fn gives_out(statement: Option<&Stmt>, op: Op) -> bool {
+    matches!(statement, Some(Stmt::Out(Expr::Bin(_, found, _))) if *found == op)
 }
 
 #[test]
 fn each_operator(rt: HostRuntime) -> Result<(), Fail> {
-    for (sign, op) in [
-        ("+", Op::Add),
-        ("-", Op::Sub),
-        ("*", Op::Mul),
-        ("/", Op::Div),
-        ("%", Op::Rem),
-        ("<", Op::Less),
-        ("<=", Op::AtMost),
-        ("==", Op::Equal),
-        ("!=", Op::Differs),
-    ] {
-        let mut text = String::from_str(rt.alloc(), "processes 1; begin out (1 ")?;
-        text.push_str(sign)?;
-        text.push_str(" 2); end")?;
-        let tree = parse(rt.alloc(), &text)?;
-        assert!(rt;
-            matches!(tree.body.first(), Some(Stmt::Out(Expr::Bin(_, found, _))) if *found == op),
-            "{sign}"
-        );
+    for (text, op) in &OPERATORS {
+        let tree = parse(rt.alloc(), text)?;
+        holds(&rt, gives_out(tree.body.first(), *op), text);
     }
     Ok(())
 }
 
-#[test]
-fn operands_keep_their_order(rt: HostRuntime) -> Result<(), Fail> {
-    let tree = parse(rt.alloc(), "processes 1; begin out (1 - (2 / 3)); end")?;
-    assert!(rt;
-        matches!(tree.body.first(), Some(Stmt::Out(difference)) if is_difference(difference))
-    );
-    Ok(())
-}
+static NO_PROGRAMS: [(&str, usize, usize); 17] = [
+    ("", 0, 0),
+    (" # nothing", 10, 10),
+    ("process 2;", 0, 7),
+    ("processes x;", 10, 11),
+    ("processes 2 begin", 12, 17),
+    ("processes 2; scan s; var x; begin end", 21, 24),
+    ("processes 2; var ; begin end", 17, 18),
+    ("processes 2; var x y; begin end", 19, 20),
+    ("processes 2; begin out ; end", 23, 24),
+    ("processes 2; begin out x", 24, 24),
+    ("processes 2; begin x = get 1 2; end", 27, 28),
+    ("processes 2; begin t = copy s me; end", 30, 32),
+    ("processes 2; begin out (1 ; 2); end", 26, 27),
+    ("processes 2; begin if 1 { } end", 28, 31),
+    ("processes 2; begin while 1 stamp; end", 27, 32),
+    ("processes 2; begin } end", 19, 20),
+    ("processes 2; begin end end", 23, 26),
+];
 
 #[test]
 fn where_no_program_goes_on(rt: HostRuntime) {
-    for (text, start, end) in [
-        ("", 0, 0),
-        (" # nothing", 10, 10),
-        ("process 2;", 0, 7),
-        ("processes x;", 10, 11),
-        ("processes 2 begin", 12, 17),
-        ("processes 2; scan s; var x; begin end", 21, 24),
-        ("processes 2; var ; begin end", 17, 18),
-        ("processes 2; var x y; begin end", 19, 20),
-        ("processes 2; begin out ; end", 23, 24),
-        ("processes 2; begin out x", 24, 24),
-        ("processes 2; begin x = get 1 2; end", 27, 28),
-        ("processes 2; begin t = copy s me; end", 30, 32),
-        ("processes 2; begin out (1 ; 2); end", 26, 27),
-        ("processes 2; begin if 1 { } end", 28, 31),
-        ("processes 2; begin while 1 stamp; end", 27, 32),
-        ("processes 2; begin } end", 19, 20),
-        ("processes 2; begin end end", 23, 26),
-    ] {
-        assert_eq!(rt; fault(rt.alloc(), text), unexpected(start, end), "{text}");
+    for (text, start, end) in &NO_PROGRAMS {
+        let expected = Some(unexpected(*start, *end));
+        holds(&rt, fault(rt.alloc(), text) == expected, text);
     }
 }
 
 #[test]
 fn faults_of_the_tokens(rt: HostRuntime) -> Result<(), Fail> {
-    let alloc = rt.alloc();
-    assert_eq!(rt; fault(alloc, "end end ?"), Some(TextFault::BadCharacter(8)));
+    refuses(&rt, "end end ?", TextFault::BadCharacter(8));
     let big = Span { start: 10, end: 20 };
-    assert_eq!(rt;
-        fault(alloc, "processes 4294967296"),
-        Some(TextFault::NumberTooBig(big))
-    );
+    refuses(&rt, "processes 4294967296", TextFault::NumberTooBig(big));
     let long = Span { start: 4, end: 69 };
-    let name = repeated(alloc, "out ", "a", 65)?;
-    assert_eq!(rt; fault(alloc, &name), Some(TextFault::NameTooLong(long)));
-    let text = repeated(alloc, "", ";", 1_000_001)?;
-    assert_eq!(rt; fault(alloc, &text), Some(TextFault::TextTooLong));
+    let name = repeated(rt.alloc(), "out ", "a", 65, "")?;
+    refuses(&rt, name.as_str(), TextFault::NameTooLong(long));
+    let text = repeated(rt.alloc(), "", ";", 1_000_001, "")?;
+    refuses(&rt, text.as_str(), TextFault::TextTooLong);
+    Ok(())
+}
+
+// A front with so many pieces is refused so.
+fn refuses_so_many<R: AllocGlobal + Abort>(
+    rt: &R,
+    piece: &str,
+    count: usize,
+    expected: TextFault,
+) -> Result<(), Fail> {
+    let text = repeated(rt.alloc(), "processes 1; begin ", piece, count, "")?;
+    refuses(rt, text.as_str(), expected);
     Ok(())
 }
 
 #[test]
 fn brackets(rt: HostRuntime) -> Result<(), Fail> {
-    let mut text = repeated(rt.alloc(), "processes 1; begin out ", "(", 64)?;
-    assert_eq!(rt; fault(rt.alloc(), &text), unexpected(87, 87));
-    text.push('(')?;
-    assert_eq!(rt; fault(rt.alloc(), &text), too_deep(87, 88));
+    let text = repeated(rt.alloc(), "processes 1; begin out ", "(", 64, "")?;
+    refuses(&rt, text.as_str(), unexpected(87, 87));
+    let text = repeated(rt.alloc(), "processes 1; begin out ", "(", 65, "")?;
+    refuses(&rt, text.as_str(), too_deep(87, 88));
     Ok(())
 }
 
 #[test]
 fn braces(rt: HostRuntime) -> Result<(), Fail> {
-    let mut text = repeated(rt.alloc(), "processes 1; begin ", "while 1 { ", 64)?;
-    assert_eq!(rt; fault(rt.alloc(), &text), unexpected(659, 659));
-    let mut whole = String::from_str(rt.alloc(), text.as_str())?;
-    for _ in 0..64 {
-        whole.push_str("}")?;
-    }
-    whole.push_str(" end")?;
-    assert_eq!(rt; parse(rt.alloc(), &whole)?.body.len(), 1);
-    text.push_str("while 1 { ")?;
-    assert_eq!(rt; fault(rt.alloc(), &text), too_deep(667, 668));
+    refuses_so_many(&rt, "while 1 { ", 64, unexpected(659, 659))?;
+    refuses_so_many(&rt, "while 1 { ", 65, too_deep(667, 668))?;
+    let open = repeated(rt.alloc(), "processes 1; begin ", "while 1 { ", 64, "")?;
+    let whole = repeated(rt.alloc(), open.as_str(), "}", 64, " end")?;
+    let tree = parse(rt.alloc(), whole.as_str())?;
+    holds(&rt, tree.body.len() == 1, "sixty-four loops in one another");
     Ok(())
+}
+
+fn ends_in_a_sum(statements: &[Stmt]) -> bool {
+    match statements.last() {
+        Some(Stmt::Out(sum)) => matches!(sum, Expr::Bin(_, Op::Add, _)),
+        _ => false,
+    }
 }
 
 #[test]
 fn many_statements(rt: HostRuntime) -> Result<(), Fail> {
-    let mut text = repeated(rt.alloc(), "processes 6; begin ", "out (me + 1); ", 70_000)?;
-    text.push_str("end")?;
-    let tree = parse(rt.alloc(), &text)?;
-    assert_eq!(rt; tree.body.len(), 70_000);
-    assert!(rt; matches!(tree.body.last(), Some(Stmt::Out(Expr::Bin(_, Op::Add, _)))));
+    let text = repeated(
+        rt.alloc(),
+        "processes 6; begin ",
+        "out (me + 1); ",
+        70_000,
+        "end",
+    )?;
+    let tree = parse(rt.alloc(), text.as_str())?;
+    holds(&rt, tree.body.len() == 70_000, "their number");
+    holds(&rt, ends_in_a_sum(tree.body.as_slice()), "the last one");
     Ok(())
 }

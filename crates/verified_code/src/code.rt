@@ -89,6 +89,7 @@ impl Code {
     }
 
     /// For how many processes, variables, scans and register rows it was accepted.
+    #[inline(always)]
     pub fn sizes(&self) -> Sizes
         ensures sizes { result ≡ self.now.sizes }
         ensures verified { IsVerified self.now.sizes self.now.instructions }
@@ -97,6 +98,7 @@ impl Code {
     }
 
     /// The instruction at a place, which is below `len()`.
+    #[inline(always)]
     pub fn instr(&self, place: u16) -> Instr
         requires { place < length self.now.instructions }
         ensures { slice_get self.now.instructions place ≡ Some result }

@@ -1,15 +1,11 @@
 -- Facts of histories, each by induction from the front with what is shared as accumulator.
-use Rattle.std.proofs.Common.{◌≡◌, ℕ, suc, zero, ◌+◌, ◌-◌, ◌^◌, ◌<◌, List, [], ◌∷◌, ◌++◌, length, refl, sym, ap, ◌∙◌, subst, arith, length-set}
-use Rattle.std.specs.Prelude.{All, replicate, slice_set, slice_index_or}
+use Rattle.std.proofs.Common.{◌≡◌, ℕ, ◌^◌, ◌<◌, List, [], ◌∷◌, ◌++◌, refl, sym, ◌∙◌, subst, arith, length-set}
+use Rattle.std.specs.Prelude.{replicate, slice_set, slice_index_or}
 use Rattle.std.proofs.lemmas.List.Elements.{All-get_or, All-set, All-replicate}
 use Rattle.std.proofs.lemmas.List.{length-replicate}
-use Rattle.label_core.specs.Labels.{IsLabel}
-use Rattle.ticket_core.specs.Tickets.{start_tickets, greatest_ticket, stamp_ticket}
-use Rattle.word_core.specs.Stamps.{start_labels, stamped}
-use Rattle.word_core.specs.Packed.{AreLabels, word}
-use Rattle.word_core.specs.Order.{IsOrdered}
+use Rattle.ticket_core.specs.Tickets.{start_tickets}
 use Rattle.word_core.specs.Agreement.{Agrees, StandsFor}
-use Rattle.word_core.specs.History.{Memory, start_memory, register_set, after, acted, memory_after, memory_of, IsRow, AreRows, MayFollow, IsLegalFrom, IsLegal, ticketed, tickets_from, tickets_of}
+use Rattle.word_core.specs.History.{Memory, start_memory, register_set, after, acted, memory_after, memory_of, IsRow, AreRows, MayFollow, IsLegalFrom, ticketed, tickets_from, tickets_of}
 use Rattle.word_core.specs.HistoryLaws.{HistoryStandsLaw, WordStandsLaw, BeginningLaw, NextStepLaw, OneStepLaw, RowsLaw}
 use Rattle.word_core.specs.declared.history.Shared.{Shared}
 use Rattle.word_core.specs.declared.history.SharedAct.{SharedAct}

@@ -1,9 +1,8 @@
 -- The lemmas on histories that other crates may cite.
-use Rattle.std.proofs.Common.{◌≡◌, ℕ, List, [], ◌∷◌, ◌++◌}
-use Rattle.word_core.specs.Stamps.{start_labels}
+use Rattle.std.proofs.Common.{◌≡◌, ℕ, List}
 use Rattle.word_core.specs.Packed.{AreLabels, word}
 use Rattle.word_core.specs.Order.{IsOrdered}
-use Rattle.word_core.specs.History.{memory_of, after, AreRows, MayFollow, IsLegal, tickets_of}
+use Rattle.word_core.specs.History.{memory_of}
 use Rattle.word_core.specs.HistoryLaws.{HistoryStandsLaw, WordStandsLaw, BeginningLaw, NextStepLaw, OneStepLaw, RowsLaw}
 use Rattle.word_core.specs.declared.history.Shared.{Shared}
 use Rattle.word_core.proofs.Histories as histories

@@ -1,5 +1,5 @@
 -- Histories: the steps of all processes on what they share, in one order, each with its answer.
-use Rattle.std.specs.Prelude.{◌≡◌, ◌≢◌, ℕ, ◌^◌, ◌<◌, List, [], ◌∷◌, length, replicate, All, slice_index, slice_index_or, slice_set}
+use Rattle.std.specs.Prelude.{◌≡◌, ◌≢◌, ℕ, ◌^◌, ◌<◌, List, [], ◌∷◌, length, All}
 use Rattle.machine_core.specs.Rows.{start_rows}
 use Rattle.ticket_core.specs.Tickets.{start_tickets, stamp_ticket}
 pub use Rattle.machine_core.specs.Rows.{register_at, register_set}

@@ -121,6 +121,7 @@ impl LabelWord {
     }
 
     /// The word after process `p` has taken its next label beside those of the others.
+    #[inline(always)]
     pub fn stamped(&self, p: u8) -> LabelWord
         requires in_range { p < length self.now }
         requires ordered { IsOrdered self.now }
@@ -128,8 +129,10 @@ impl LabelWord {
         ensures ordered { IsOrdered result }
         ensures agrees { (tickets : List ℕ) → Agrees (length self.now) tickets self.now → Agrees (length self.now) (stamp_ticket p tickets) result }
     {
-        let next = self.next(p);
-        self.with_next(p, &next)
+        if self.n() == 1 {
+            return *self;
+        }
+        self.stamped_beside(p)
     }
 
     /// How many labels that of process `i` dominates.
@@ -144,6 +147,7 @@ impl LabelWord {
     }
 
     /// Whether the label of process `i` is dominated by that of process `j`.
+    #[inline(never)]
     pub fn older(&self, i: u8, j: u8) -> bool
         requires first_in_range { i < length self.now }
         requires second_in_range { j < length self.now }
@@ -162,6 +166,19 @@ impl LabelWord {
         ensures { result ≡ labels_in n (n - 1) bits }
     {
         LabelWord { count: n, bits }
+    }
+
+    // The same, whether there are others or not.
+    #[inline(never)]
+    fn stamped_beside(&self, p: u8) -> LabelWord
+        requires in_range { p < length self.now }
+        requires ordered { IsOrdered self.now }
+        ensures stamped { result ≡ stamped p self.now }
+        ensures ordered { IsOrdered result }
+        ensures agrees { (tickets : List ℕ) → Agrees (length self.now) tickets self.now → Agrees (length self.now) (stamp_ticket p tickets) result }
+    {
+        let next = self.next(p);
+        self.with_next(p, &next)
     }
 
     // The label that process `p` takes next.

@@ -1,8 +1,15 @@
 -- Faults of a layer below, as those of the engine.
+use Rattle.ends.specs.declared.fault.EndFault.{EndFault}
+use Rattle.ends.specs.declared.fault.EndFault.TheVariants as end
 use Rattle.engine.specs.declared.fault.EngineFault.{EngineFault}
-use Rattle.engine.specs.declared.fault.EngineFault.TheVariants.{Memory, Thread}
+use Rattle.engine.specs.declared.fault.EngineFault.TheVariants.{Read, Write, Memory, Thread}
 use Rattle.tick_run.specs.declared.fault.RunFault.{RunFault}
 use Rattle.tick_run.specs.declared.fault.RunFault.TheVariants as run
+
+abbrev pub end_fault : EndFault → EngineFault
+end_fault end.Read = Read
+end_fault end.Write = Write
+end_fault end.Memory = Memory
 
 abbrev pub run_fault : RunFault → EngineFault
 run_fault run.NoMemory = Memory

@@ -1,5 +1,5 @@
 -- One turn of a worker: one instruction of its process, by itself.
-use Rattle.std.specs.Prelude.{◌≡◌, ◌≢◌, ℕ, ◌+◌, true, List, [], ◌∷◌, ◌++◌, slice_get, Some}
+use Rattle.std.specs.Prelude.{◌≡◌, ℕ, ◌+◌, true, List, [], ◌∷◌, ◌++◌, slice_get, Some}
 use Rattle.machine_core.specs.declared.status.Status.{Status}
 use Rattle.machine_core.specs.declared.status.Status.TheVariants as S
 use Rattle.machine_core.specs.declared.event.Act.{Act}
@@ -39,7 +39,6 @@ IsTurn T.Went c p q steps next further =
 IsTurn (T.Gave v) c p q steps next further =
     (gives_out q.status (slice_get c.instructions q.place) ≡ true)
     × ((count : ℕ) (given : List ℕ) → IsAt c p count q steps given → IsAt c p (count + 1) next further (given ++ v ∷ []))
-IsTurn T.Stopped c p q steps next further = (q.status ≢ S.Running) × (next ≡ q) × (further ≡ steps)
 
 -- Process `p` made the step that it asked for, and has this reply.
 pub record IsServed (n p : ℕ) (ask : Ask) (reply : Reply) (before after : List Shared) : Type 0 where

@@ -1,42 +1,20 @@
-use Rattle.std.proofs.Common.{◌≡◌, ◌≢◌, ◌∙◌, List, ℕ, Err, ap, subst, sym}
+use Rattle.std.proofs.Common.{◌∙◌, ap, subst, sym}
 use Rattle.std.proofs.lemmas.Result.{err_from_is_err_and}
-use Rattle.tick_play.specs.Schedule.{schedule_of}
-use Rattle.tick_play.specs.declared.schedule.ScheduleFault.TheVariants.{NoMemory}
 use Rattle.tick_sim.specs.Maps.{down}
-use Rattle.verified_code.specs.Instructions.{StepCode}
+use Rattle.engine.specs.Answer.{done}
 use Rattle.engine.specs.Lowered.{lowered_answer}
-use Rattle.engine.specs.Maps.{project_answer, schedule_line}
+use Rattle.engine.specs.Maps.{project_answer, project_line, schedule_line}
 use Rattle.engine.specs.Programs.{IsTextAnswer}
-use Rattle.engine.proofs.LoweredLemmas.{lowered_answered}
-use Rattle.engine.proofs.ScheduleLemmas.{schedule_done}
-use Rattle.engine.proofs.StopLemmas.{schedule_stops}
 use Rattle.engine.proofs.maps.project_text.Goals as goal
 
 pub returns-in_err-program-clause-refused : goal.returns-in_err-program-clause-refused
 returns-in_err-program-clause-refused c =
     let told = err_from_is_err_and c.from_residual.result c.from_residual.ensures.1 in
-    rw (told.1, told.2) (c.in_err-program.ensures.refused (project_answer c.args.schedule.now))
-
-pub returns-in_err-steps-clause-refused : goal.returns-in_err-steps-clause-refused
-returns-in_err-steps-clause-refused c =
-    let told = err_from_is_err_and c.from_residual-in_err-steps.result c.from_residual-in_err-steps.ensures.1 in
-    let s = c.args.schedule.now in
-    let code = c.in_ok-program.code in
-    let fault = c.in_err-steps.field-0.0 in
-    let count = c.processes.ensures.count ∙ sym (ap (λ (z : StepCode). z.sizes.processes) c.in_ok-program.ensures.code) in
-    let read = subst (λ n. fault ≢ NoMemory → schedule_of n s ≡ Err fault) count c.in_err-steps.ensures.err in
-    rw (told.1, told.2)
-    (schedule_stops (IsTextAnswer (lowered_answer (project_answer s)) c.args.text.now)
-    (λ (steps : List ℕ). schedule_line (down code.sizes code.instructions steps)) code.sizes.processes s fault
-    (lowered_answered (project_answer s) c.args.text.now code c.in_ok-program.ensures.lowered) read)
+    rw (told.1, told.2) (c.in_err-program.ensures.refused project_line)
 
 pub returns-clause-ok : goal.returns-clause-ok
 returns-clause-ok c =
-    let s = c.args.schedule.now in
-    let code = c.in_ok-program.code in
-    let count = c.processes.ensures.count ∙ sym (ap (λ (z : StepCode). z.sizes.processes) c.in_ok-program.ensures.code) in
-    subst (IsTextAnswer (lowered_answer (project_answer s)) c.args.text.now)
-    (sym (schedule_done (λ (steps : List ℕ). schedule_line (down code.sizes code.instructions steps)) code.sizes.processes _ s _ _ _ count
-    c.in_ok-steps.ensures.ok c.as_slice.ensures.value
-    (c.in_ok-line.ensures ∙ ap schedule_line (c.as_slice-2.ensures.value ∙ c.in_ok-kept.ensures.down))))
-    (lowered_answered (project_answer s) c.args.text.now code c.in_ok-program.ensures.lowered)
+    subst (IsTextAnswer (lowered_answer (project_answer c.args.schedule.now)) c.args.text.now)
+    (sym (ap done (c.in_ok-line.ensures ∙ ap schedule_line (c.as_slice-2.ensures.value ∙ c.in_ok-kept.ensures.down
+    ∙ ap (down c.in_ok-program.code.sizes c.in_ok-program.code.instructions) c.as_slice.ensures.value))))
+    (c.in_ok-program.ensures.ok project_line)

@@ -2,15 +2,14 @@ use Rattle.std.proofs.Common.{◌∙◌, inl, inr, refl}
 use Rattle.std.proofs.lemmas.Result.{err_from_is_err_and}
 use Rattle.engine.specs.Commands.Job.{Run}
 use Rattle.engine.specs.declared.fault.EngineFault.TheVariants.{Memory, Thread}
-use Rattle.engine.proofs.ServingLemmas.{gave_reply, gave_up, replied_on_read}
+use Rattle.engine.proofs.ServingLemmas.{gave_reply, gave_up, gave_up_reading, replied_on_read}
 use Rattle.engine.proofs.serving.serve_run.Goals as goal
 
 pub returns-in_err-input : goal.returns-in_err-input
 returns-in_err-input g c =
     let told = err_from_is_err_and c.from_residual.result c.from_residual.ensures.1 in
     let stopped = c.in_err-input.ensures in
-    gave_up _ _ _ _ _ _ _ (λ none. absurd (cc)) stopped.few stopped.calls _ _ _ told.1 told.2
-    (elim stopped.err [ inl read ↦ inl read | inr memory ↦ inr (inl memory) ]) _ stopped.counted
+    gave_up_reading _ _ _ _ _ _ _ (λ none. absurd (cc)) stopped.few stopped.calls _ _ _ told.1 told.2 stopped.err _ stopped.counted
 
 pub returns-in_err-reply : goal.returns-in_err-reply
 returns-in_err-reply g c =

@@ -1,21 +1,20 @@
 use Rattle.std.proofs.Common.{◌≡◌, ◌<◌, true, vec_items, vec_capacity, length, arith, sym}
-use Rattle.std.specs.Prelude.{slice_get}
-use Rattle.std.proofs.lemmas.Bool.{both_ways}
 use Rattle.std.proofs.lemmas.Grind.{common_steps}
+use Rattle.std.specs.Prelude.{slice_get}
 use Rattle.step_code.specs.Process.{gives_out}
-use Rattle.tick_run.proofs.Working.{after_went, after_gave}
-use Rattle.tick_run.proofs.worker.work.Goals.{else-len-limits-via-then-len-limits+else-will_out, else-len-limits-via-else-len-limits, in-Went, in-Gave}
+use Rattle.tick_run.proofs.Working.{after_went, after_gave, room_for_one}
+use Rattle.tick_run.proofs.worker.work.Goals.{in-Went, in-Gave}
 use Rattle.tick_run.proofs.worker.work.Goals as goal
 
 pub loop-preserved : goal.loop-preserved
 loop-preserved g c =
     let made = c.make_one.ensures in
     let q = c.loop.proc.process in
-    let few : gives_out q.status (slice_get c.args.code.now.instructions q.place) ≡ true → length (vec_items c.loop.outputs) < c.args.limits.outs =
-    elim c.else-len-limits.branch [
-      | else-len-limits-via-then-len-limits+else-will_out w ↦ λ out. absurd (both_ways _ (sym w.if-will_out.ensures) out)
-      | else-len-limits-via-else-len-limits w ↦ λ out. (let short = w.if-len-limits.false in let long = c.len.ensures in grind (arith, common_steps))
-    ]
+    let few : gives_out q.status (slice_get c.args.code.now.instructions q.place) ≡ true → length (vec_items c.loop.outputs) < c.args.limits.outs = λ out. (
+    let few = room_for_one q.status (slice_get c.args.code.now.instructions q.place) c.in-Some.instruction c.len.result c.args.limits.outs
+    c.in-Some.ensures.running c.in-Some.ensures.here (sym c.if-is_past.ensures) out
+    in let long = c.len.ensures in grind (arith, common_steps)
+    )
     in
     elim c.match-make_one.branch [
       | in-Went w ↦ rw w.outputs-is (after_went c.args.table.now c.args.code.now c.args.job.process c.args.limits.turns c.args.limits.outs c.loop.counter c.loop.proc

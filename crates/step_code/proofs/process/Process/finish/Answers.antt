@@ -1,7 +1,8 @@
-use Rattle.std.proofs.Common.{◌∙◌, ap}
+use Rattle.std.proofs.Common.{◌∙◌, ap, sym, subst}
 use Rattle.std.specs.Prelude.{nat_lt, Some}
 use Rattle.verified_code.specs.declared.instr.Instr.TheVariants as I
-use Rattle.step_code.specs.prover.Held.{one_of}
+use Rattle.step_code.specs.Process.{answered_by}
+use Rattle.step_code.specs.prover.Held.{one_of, process_of, does_of, Becomes}
 use Rattle.step_code.proofs.Fine.{both_true}
 use Rattle.step_code.proofs.Making.{operands, slots, variable, scan}
 use Rattle.step_code.proofs.process.Process.finish.Goals as goal
@@ -25,3 +26,8 @@ pub finish_put-requires-clause-operands : goal.finish_put-requires-clause-operan
 finish_put-requires-clause-operands c =
     let here = c.requires.here ∙ ap Some c.in-Put.is in
     operands c.args.code.now (one_of c.args.self.now) c.requires.of (I.Put c.in-Put.r) here
+
+pub returns-in-Scan : goal.returns-in-Scan
+returns-in-Scan c =
+    subst (λ i. Becomes c.args.self.now (answered_by (process_of c.args.self.now) (does_of c.args.code.now c.args.self.now i) c.args.reply).process c.finish_scan.new.self)
+    (sym c.in-Scan.is) (c.finish_scan.ensures c.args.code.now.sizes.processes)

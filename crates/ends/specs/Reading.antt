@@ -1,0 +1,32 @@
+-- What reading an input takes of it, and what its calls come to.
+use Rattle.std.specs.Prelude.{◌≡◌, ℕ, ◌≤◌, ◌⊎◌, List, length, Option, Some, None, Result, Ok, Err}
+use Rattle.std.specs.Io.KnownBytes.{Consumes, IsAtEnd}
+use Rattle.ends.specs.Calls.{counted}
+use Rattle.ends.specs.declared.counts.Counts.{Counts}
+use Rattle.ends.specs.declared.fault.EndFault.{EndFault}
+use Rattle.ends.specs.declared.fault.EndFault.TheVariants.{Read, Write, Memory}
+
+-- the input is all that there was, or the 1,000,001 bytes after which no more are asked for
+pub record IsRead (old new : Option (List ℕ)) (input : List ℕ) : Type 0 where
+  pub taken : Consumes old new input
+  pub short : length input ≤ 1000001
+  pub whole : length input ≤ 1000000 → IsAtEnd new
+
+-- at most 1,000,001 bytes are taken, whatever comes of it
+pub record TakesFew (old new : Option (List ℕ)) : Type 0 where
+  pub bytes : List ℕ
+  pub taken : Consumes old new bytes
+  pub few : length bytes ≤ 1000001
+
+abbrev pub fault_in : {A : Type 0} → Result A EndFault → Option EndFault
+fault_in (Ok a) = None
+fault_in (Err fault) = Some fault
+
+-- The fault is the reading's exactly where a read failed, which was then the last, or where there
+-- was no end after 2,000,000 calls.
+abbrev pub CountsReads : Option EndFault → Counts → Counts → Type 0
+CountsReads None old new = new.failures ≡ old.failures
+CountsReads (Some Read) old new =
+    (new.failures ≡ counted old.failures) ⊎ ((new.failures ≡ old.failures) × (2000000 ≤ new.calls))
+CountsReads (Some Write) old new = new.failures ≡ old.failures
+CountsReads (Some Memory) old new = new.failures ≡ old.failures
