@@ -1,5 +1,5 @@
 //! A command line, answered over ends in memory.
-use crate::ends::{Disturbance, Input, Output};
+use crate::in_memory::{Disturbance, Input, Output};
 use engine::{EngineFault, engine};
 use std::alloc::{AllocError, Global};
 use std::process::Abort;

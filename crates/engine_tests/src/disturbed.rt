@@ -1,6 +1,6 @@
 //! Ends that fail, are interrupted or go a byte at a time.
 use crate::answering::{Outcome, answered, holds, served};
-use crate::ends::{Disturbance, Input, Output};
+use crate::in_memory::{Disturbance, Input, Output};
 use engine::EngineFault;
 use std::sync::Wait;
 use std::test::Fail;

@@ -11,7 +11,7 @@ mod codes;
 #[cfg(test)]
 mod disturbed;
 #[cfg(test)]
-mod ends;
+mod in_memory;
 #[cfg(test)]
 mod large;
 #[cfg(test)]

@@ -1,6 +1,6 @@
 //! What `order` answers, and command lines that are refused.
 use crate::answering::{Outcome, USAGE, holds, served};
-use crate::ends::{Disturbance, Input, Output};
+use crate::in_memory::{Disturbance, Input, Output};
 use std::test::Fail;
 
 // A command line, its input, the status, and how the text ends. A text that isn't cut begins so.

@@ -1,6 +1,6 @@
 //! What `run` answers.
 use crate::answering::{USAGE, answered, answers, holds, line};
-use crate::ends::{Disturbance, Input, Output};
+use crate::in_memory::{Disturbance, Input, Output};
 use crate::texts::repeated;
 use engine::{Served, serve};
 use std::alloc::Global;
