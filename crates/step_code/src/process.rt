@@ -416,9 +416,9 @@ impl Process {
         ensures answer { result ≡ advance_as self.old.status self.old.me (next_of code.now (one_of self.old)) }
         ensures becomes { Becomes self.old (after_advance_as self.old.status (process_of self.old) (next_of code.now (one_of self.old))) self.new }
     {
-        match self.status {
-            Status::Running => self.make(code, code.instr(self.place)),
-            _ => Advance::Stopped,
+        match self.instruction(code) {
+            Some(instruction) => self.make(code, instruction),
+            None => Advance::Stopped,
         }
     }
 
@@ -429,16 +429,11 @@ impl Process {
         ensures event { result ≡ event_of self.old.me (answered_as self.old.status (process_of self.old) (next_of code.now (one_of self.old)) reply).act }
         ensures becomes { Becomes self.old (answered_as self.old.status (process_of self.old) (next_of code.now (one_of self.old)) reply).process self.new }
     {
-        match self.status {
-            Status::Running => {
-                let again = reply;
-                let instruction = code.instr(self.place);
-                let event = self.told(code, instruction, again);
-                self.finish(code, instruction, reply);
-                event
-            }
-            _ => None,
-        }
+        let instruction = self.instruction(code)?;
+        let again = reply;
+        let event = self.told(code, instruction, again);
+        self.finish(code, instruction, reply);
+        event
     }
 
     // Whether the instruction at its place gives an event.
@@ -467,9 +462,9 @@ impl Process {
         requires labels { AreOrdered code.now.sizes.processes labels.now }
         ensures { (rows : List (List ℕ)) → result ≡ is_some (moved_as self.now.status (process_of self.now) labels.now rows (next_of code.now (one_of self.now))).act }
     {
-        match self.status {
-            Status::Running => self.shows(code, code.instr(self.place), labels),
-            _ => false,
+        match self.instruction(code) {
+            Some(instruction) => self.shows(code, instruction, labels),
+            None => false,
         }
     }
 
@@ -479,9 +474,6 @@ impl Process {
         requires { IsOf code.now (one_of self.now) }
         ensures { result ≡ gives_out self.now.status (slice_get code.now.instructions self.now.place) }
     {
-        match self.status {
-            Status::Running => matches!(code.instr(self.place), Instr::Out),
-            _ => false,
-        }
+        matches!(self.instruction(code), Some(Instr::Out))
     }
 }

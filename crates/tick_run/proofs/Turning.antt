@@ -161,6 +161,15 @@ alone_asks : (p : ℕ) (m : Moved) (act : Option Act) (ask : Ask) → V.Ask ask 
 alone_asks p m None ask same = cc
 alone_asks p m (Some act) ask same = cc
 
+-- no instruction that is made tells that its process had stopped
+stopped_shown : (p : ℕ) (act : Option Act) → V.Stopped ≡ shown (event_of p act) → ⊥
+stopped_shown p None same = cc
+stopped_shown p (Some act) same = cc
+
+pub never_stopped : (p : ℕ) (d : Did) → V.Stopped ≡ advance_of p d → ⊥
+never_stopped p (alone m) same = stopped_shown p m.act same
+never_stopped p (asks ask answered) same = cc
+
 -- What a turn was, where the instruction does `d`.
 module _ (c : StepCode) (p : ℕ) (q : CodeProcess) (running : q.status ≡ Running) (steps : List Shared) where
   silent_alone : (m : Moved) (act : Option Act) → m.act ≡ act → did c.sizes.processes p c.instructions q ≡ alone m
@@ -173,15 +182,6 @@ module _ (c : StepCode) (p : ℕ) (q : CodeProcess) (running : q.status ≡ Runn
       → V.Silent ≡ advance_of p d → next ≡ after_advance q d → IsTurn T.Went c p q steps next steps
   silent (alone m) next is same goes = subst (λ x. IsTurn T.Went c p q steps x steps) (sym goes) (silent_alone m m.act refl is same)
   silent (asks ask answered) next is same goes = absurd (cc)
-
-  -- a process that runs has made its instruction
-  never_stopped : (p : ℕ) (act : Option Act) → V.Stopped ≡ shown (event_of p act) → ⊥
-  never_stopped p None same = cc
-  never_stopped p (Some act) same = cc
-
-  pub stopped : (d : Did) → V.Stopped ≡ advance_of p d → ⊥
-  stopped (alone m) same = never_stopped p m.act same
-  stopped (asks ask answered) same = cc
 
   turn_alone : (m : Moved) (act : Act) → m.act ≡ Some act → did c.sizes.processes p c.instructions q ≡ alone m → IsTurn (turn_by act) c p q steps m.process steps
   turn_alone m (A.Out v) some is = (

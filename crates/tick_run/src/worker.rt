@@ -112,6 +112,7 @@ fn make_one<G: Gate>(
     ensures turn { IsTurn result code.now process proc.old.process (mine process pass.old.seen) proc.new.process (mine process pass.new.seen) }
 {
     match proc.make(code, instruction) {
+        // It had not stopped, so it is never told that it had.
         Advance::Silent | Advance::Stopped => Turn::Went,
         Advance::Did(event) => turn_of(event),
         Advance::Ask(ask) => {

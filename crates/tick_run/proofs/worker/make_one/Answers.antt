@@ -4,7 +4,7 @@ use Rattle.step_code.specs.Process.{advance_of, after_advance, answered_by}
 use Rattle.stamp_table.specs.Passes.{mine}
 use Rattle.tick_run.specs.prover.Turns.{IsTurn}
 use Rattle.tick_run.specs.declared.worker.Turn.TheVariants as T
-use Rattle.tick_run.proofs.Turning.{silent, stopped, made, asked}
+use Rattle.tick_run.proofs.Turning.{silent, never_stopped, made, asked}
 use Rattle.tick_run.proofs.worker.make_one.Goals as goal
 
 pub returns-in-Silent-clause-turn : goal.returns-in-Silent-clause-turn
@@ -15,7 +15,7 @@ returns-in-Silent-clause-turn g c =
     ⊎_elim
     (λ is. silent code c.args.process q c.requires.running steps d c.make.new.self.process refl (sym is ∙ answer)
     (c.make.ensures.process ∙ ap (λ k. after_advance q (did n k code.instructions q)) c.requires.me))
-    (λ is. absurd (stopped code c.args.process q c.requires.running steps d (sym is ∙ answer)))
+    (λ is. absurd (never_stopped c.args.process d (sym is ∙ answer)))
     c.in-Silent.is
 
 pub returns-in-Did-clause-turn : goal.returns-in-Did-clause-turn
