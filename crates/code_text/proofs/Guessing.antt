@@ -1,12 +1,13 @@
 -- The instruction whose line begins a text is guessed.
 use Rattle.std.proofs.Common.{◌≡◌, ℕ, ◌%◌, ◌^◌, ◌<◌, List, ◌∷◌, ◌++◌, refl, ap, ◌∙◌, sym, subst, arith, codes, drop, append_assoc}
 use Rattle.std.specs.Fmt.{decimal}
+use Rattle.text_core.specs.Lines.{line_end}
 use Rattle.machine_core.specs.declared.operator.Op.{Op}
 use Rattle.machine_core.specs.declared.operator.Op.TheVariants as O
 use Rattle.verified_code.specs.declared.instr.Instr.{Instr}
 use Rattle.verified_code.specs.declared.instr.Instr.TheVariants as I
 use Rattle.verified_code.specs.Instructions.{CodeSizes, AreSizes}
-use Rattle.code_text.specs.CodeText.{line_feed, instr_line, header_line, InRange, HasNoLine, HasNoHeader}
+use Rattle.code_text.specs.CodeText.{instr_line, header_line, InRange, HasNoLine, HasNoHeader}
 use Rattle.code_text.specs.prover.Guess.{leading, second, guess, guessed_sizes}
 use Rattle.code_text.proofs.Leading.{last_number, number_then}
 
@@ -16,10 +17,10 @@ slot_same x small = omega arith
 place_same : (x : ℕ) → x < 2 ^ 16 → x % 65536 ≡ x
 place_same x small = omega arith
 
-slot_read : (x : ℕ) (more : List ℕ) → x < 2 ^ 8 → (leading 0 ((decimal x ++ line_feed) ++ more)).0 % 256 ≡ x
+slot_read : (x : ℕ) (more : List ℕ) → x < 2 ^ 8 → (leading 0 ((decimal x ++ line_end) ++ more)).0 % 256 ≡ x
 slot_read x more small = ap (λ a. a.0 % 256) (last_number x more (omega arith)) ∙ slot_same x small
 
-place_read : (x : ℕ) (more : List ℕ) → x < 2 ^ 16 → (leading 0 ((decimal x ++ line_feed) ++ more)).0 % 65536 ≡ x
+place_read : (x : ℕ) (more : List ℕ) → x < 2 ^ 16 → (leading 0 ((decimal x ++ line_end) ++ more)).0 % 65536 ≡ x
 place_read x more small = ap (λ a. a.0 % 65536) (last_number x more (omega arith)) ∙ place_same x small
 
 regrouped : (a b c d e : List ℕ) → (((a ++ b) ++ c) ++ d) ++ e ≡ a ++ (b ++ ((c ++ d) ++ e))
@@ -27,12 +28,12 @@ regrouped a b c d e = simp append_assoc
 
 -- two numbers with a space between them
 abbrev pair_text : ℕ → ℕ → List ℕ → List ℕ
-pair_text x y more = (((decimal x ++ codes " ") ++ decimal y) ++ line_feed) ++ more
+pair_text x y more = (((decimal x ++ codes " ") ++ decimal y) ++ line_end) ++ more
 
-pair_read : (x y : ℕ) (more : List ℕ) → x < 2 ^ 8 → leading 0 (pair_text x y more) ≡ (x, 32 ∷ ((decimal y ++ line_feed) ++ more))
+pair_read : (x y : ℕ) (more : List ℕ) → x < 2 ^ 8 → leading 0 (pair_text x y more) ≡ (x, 32 ∷ ((decimal y ++ line_end) ++ more))
 pair_read x y more small =
-    ap (leading 0) (regrouped (decimal x) (codes " ") (decimal y) line_feed more)
-    ∙ number_then x ((decimal y ++ line_feed) ++ more) (omega arith)
+    ap (leading 0) (regrouped (decimal x) (codes " ") (decimal y) line_end more)
+    ∙ number_then x ((decimal y ++ line_end) ++ more) (omega arith)
 
 first_read : (x y : ℕ) (more : List ℕ) → x < 2 ^ 8 → (leading 0 (pair_text x y more)).0 % 256 ≡ x
 first_read x y more small = ap (λ a. a.0 % 256) (pair_read x y more small) ∙ slot_same x small
@@ -83,11 +84,11 @@ regrouped_header a b c d e f g h k = simp append_assoc
 pub guess_header : (z : CodeSizes) (more : List ℕ) → AreSizes z → guessed_sizes (header_line z ++ more) ≡ z
 guess_header z more are =
     let text = header_line z ++ more in
-    let last = (decimal z.rows ++ line_feed) ++ more in
+    let last = (decimal z.rows ++ line_end) ++ more in
     let third = decimal z.scans ++ 32 ∷ last in
     let other = decimal z.variables ++ 32 ∷ third in
     let first : leading 0 (drop 11 text) ≡ (z.processes, 32 ∷ other) =
-    ap (leading 0) (regrouped_header (decimal z.processes) (codes " ") (decimal z.variables) (codes " ") (decimal z.scans) (codes " ") (decimal z.rows) line_feed more)
+    ap (leading 0) (regrouped_header (decimal z.processes) (codes " ") (decimal z.variables) (codes " ") (decimal z.scans) (codes " ") (decimal z.rows) line_end more)
     ∙ number_then z.processes other (omega (arith, are.at_most_six)) in
     let two : leading 0 (drop 1 (leading 0 (drop 11 text)).1) ≡ (z.variables, 32 ∷ third) =
     ap (λ a. leading 0 (drop 1 a.1)) first ∙ number_then z.variables third (omega (arith, are.variables)) in

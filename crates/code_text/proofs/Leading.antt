@@ -4,7 +4,7 @@ use Rattle.std.specs.Char.{is_ascii_digit}
 use Rattle.std.specs.Fmt.{decimal}
 use Rattle.std.proofs.lemmas.Bool.Decides.{nat_tests}
 use Rattle.std.proofs.lemmas.Fmt.{decimal_by_steps}
-use Rattle.code_text.specs.CodeText.{line_feed}
+use Rattle.text_core.specs.Lines.{line_end}
 use Rattle.code_text.specs.prover.Guess.{leading}
 
 digit_of : (n : ℕ) → n < 10 → is_ascii_digit (48 + n) ≡ true
@@ -33,8 +33,8 @@ leading_decimal n rest small =
     decimal_by_steps (λ m ds. (more : List ℕ) → m < 4294967296 → leading 0 (ds ++ more) ≡ leading m more) one_digit more_digits n (omega arith) rest small
 
 -- the last number of a line
-pub last_number : (n : ℕ) (more : List ℕ) → n < 4294967296 → leading 0 ((decimal n ++ line_feed) ++ more) ≡ (n, 10 ∷ more)
-last_number n more small = ap (leading 0) (append_assoc (decimal n) line_feed more) ∙ leading_decimal n (10 ∷ more) small
+pub last_number : (n : ℕ) (more : List ℕ) → n < 4294967296 → leading 0 ((decimal n ++ line_end) ++ more) ≡ (n, 10 ∷ more)
+last_number n more small = ap (leading 0) (append_assoc (decimal n) line_end more) ∙ leading_decimal n (10 ∷ more) small
 
 -- a number before a space
 pub number_then : (n : ℕ) (more : List ℕ) → n < 4294967296 → leading 0 (decimal n ++ 32 ∷ more) ≡ (n, 32 ∷ more)

@@ -3,8 +3,9 @@ use Rattle.std.proofs.Common.{◌≡◌, ℕ, zero, suc, false, ◌+◌, ◌<◌
 use Rattle.std.specs.Prelude.{◌==◌, slice_get}
 use Rattle.std.proofs.lemmas.List.{append-nil, take_more}
 use Rattle.std.proofs.lemmas.Option.{slice_get_within, get_or_from_slice_get}
+use Rattle.text_core.specs.Lines.{line_end}
 use Rattle.verified_code.specs.declared.instr.Instr.{Instr}
-use Rattle.code_text.specs.CodeText.{line_feed, instr_text, instr_line, code_lines, InRange, AllInRange, HasBadLine}
+use Rattle.code_text.specs.CodeText.{instr_text, instr_line, code_lines, InRange, AllInRange, HasBadLine}
 use Rattle.code_text.specs.prover.Guess.{guess}
 use Rattle.code_text.proofs.Guessing.{no_line}
 
@@ -29,7 +30,7 @@ read_more is i rest more text so_far here =
 
 pub shorter : (i : Instr) (more rest : List ℕ) → instr_line i ++ more ≡ rest → length more < length rest
 shorter i more rest here =
-    omega (arith, ap length here, length-append (instr_line i) more, length-append (instr_text i) line_feed)
+    omega (arith, ap length here, length-append (instr_line i) more, length-append (instr_text i) line_end)
 
 -- the line that was guessed does not stand there
 pub bad_line : (is : List Instr) (rest text : List ℕ) → AllInRange is → code_lines is ++ rest ≡ text → 0 < length rest

@@ -2,12 +2,13 @@
 use Rattle.std.proofs.Common.{◌≡◌, ⊎_elim, ℕ, suc, ◌<◌, List, [], ◌∷◌, ◌++◌, length, refl, ap, ◌∙◌, sym, arith, append_assoc, length-append, Ok, Err}
 use Rattle.std.proofs.lemmas.List.{append_cancel_left}
 use Rattle.std.proofs.lemmas.Option.{same_Some, none-some}
+use Rattle.text_core.specs.Lines.{line_end}
 use Rattle.verified_code.specs.declared.instr.Instr.{Instr}
 use Rattle.verified_code.specs.declared.fault.CodeFault.{CodeFault}
 use Rattle.verified_code.specs.declared.fault.CodeFault.TheVariants as F
 use Rattle.verified_code.specs.Instructions.{CodeSizes, AreSizes, StepCode}
 use Rattle.verified_code.specs.Verified.{code_fault, IsVerified}
-use Rattle.code_text.specs.CodeText.{line_feed, instr_text, instr_line, code_lines, header_line, InRange, AllInRange, IsTextOf, HasNoLine, IsBadLine, Reading}
+use Rattle.code_text.specs.CodeText.{instr_text, instr_line, code_lines, header_line, InRange, AllInRange, IsTextOf, HasNoLine, IsBadLine, Reading}
 use Rattle.code_text.specs.Laws.{OneReadingLaw, RoundTripLaw}
 use Rattle.code_text.specs.prover.Guess.{guess, guessed_sizes}
 use Rattle.code_text.proofs.Guessing.{guess_line, guess_header}
@@ -25,7 +26,7 @@ header_unique y z a b are other same =
 no_empty_line : (i : Instr) (more : List ℕ) → instr_line i ++ more ≡ [] → ⊥
 no_empty_line i more e =
     let long : length (instr_line i ++ more) ≡ 0 = ap length e in
-    absurd (omega (arith, length-append (instr_line i) more, length-append (instr_text i) line_feed))
+    absurd (omega (arith, length-append (instr_line i) more, length-append (instr_text i) line_end))
 
 lines_unique : (is js : List Instr) → AllInRange is → AllInRange js → code_lines is ≡ code_lines js → is ≡ js
 lines_unique [] [] a b same = refl

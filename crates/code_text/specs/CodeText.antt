@@ -1,6 +1,7 @@
 -- Codes as texts: how they are written, and what a text is read as.
 use Rattle.std.specs.Prelude.{◌≡◌, ◌⊎◌, ℕ, ◌+◌, ◌<◌, ◌^◌, List, [], ◌∷◌, ◌++◌, codes, length, Some, Result, Ok, Err}
 use Rattle.std.specs.Fmt.{decimal}
+use Rattle.text_core.specs.Lines.{line_end}
 use Rattle.machine_core.specs.Operators.{sign}
 use Rattle.verified_code.specs.declared.instr.Instr.{Instr}
 use Rattle.verified_code.specs.declared.instr.Instr.TheVariants as I
@@ -8,9 +9,6 @@ use Rattle.verified_code.specs.declared.fault.CodeFault.{CodeFault}
 use Rattle.verified_code.specs.declared.fault.CodeFault.TheVariants as F
 use Rattle.verified_code.specs.Instructions.{CodeSizes, AreSizes, StepCode}
 use Rattle.verified_code.specs.Verified.{code_fault, IsVerified}
-
-abbrev pub line_feed : List ℕ
-line_feed = 10 ∷ []
 
 -- an instruction: its name, and its operands after one space each
 abbrev pub instr_text : Instr → List ℕ
@@ -34,7 +32,7 @@ instr_text (I.Jump l) = codes "Jump " ++ decimal l
 instr_text I.Halt = codes "Halt"
 
 abbrev pub instr_line : Instr → List ℕ
-instr_line i = instr_text i ++ line_feed
+instr_line i = instr_text i ++ line_end
 
 abbrev pub code_lines : List Instr → List ℕ
 code_lines [] = []
@@ -44,7 +42,7 @@ code_lines (i ∷ is) = instr_line i ++ code_lines is
 abbrev pub header_line : CodeSizes → List ℕ
 header_line z =
     codes "tickcode 1 " ++ decimal z.processes ++ codes " " ++ decimal z.variables ++ codes " " ++ decimal z.scans
-    ++ codes " " ++ decimal z.rows ++ line_feed
+    ++ codes " " ++ decimal z.rows ++ line_end
 
 abbrev pub code_text : StepCode → List ℕ
 code_text c = header_line c.sizes ++ code_lines c.instructions

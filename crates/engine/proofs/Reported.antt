@@ -1,5 +1,6 @@
 -- A report of a program and one of its code, under schedules that stand for each other.
 use Rattle.std.proofs.Common.{◌≡◌, ◌<◌, ◌≤◌, ◌^◌, ◌++◌, ◌∙◌, ℕ, List, Bool, true, false, nat_lt, length, ap, refl, subst, sym, Option, Some, None, Result, Ok, Err, arith}
+use Rattle.text_core.specs.Lines.{line_end}
 use Rattle.tick_kinds.specs.Accepted.{IsAccepted}
 use Rattle.tick_kinds.specs.Resolution.{resolved}
 use Rattle.tick_lower.specs.Lowered.{lowered, lowered_length, lowered_sizes}
@@ -21,7 +22,6 @@ use Rattle.engine.specs.Laws.{DropLaw, LiftLaw}
 use Rattle.engine.specs.Lowered.{IsEitherAnswer, answer_unless_long, begins_as_code, code_of, lowered_answer}
 use Rattle.engine.specs.Maps.{expand_answer, project_answer, schedule_line}
 use Rattle.engine.specs.Programs.{IsProgramText, IsTextAnswer, no_program, not_accepted, accepted, source_answer}
-use Rattle.engine.specs.Refusal.{line_feed}
 use Rattle.engine.specs.Stop.{kinds_stop, schedule_stop, text_stop}
 use Rattle.engine.specs.Text.{text_fault}
 use Rattle.engine.specs.declared.refusal.Refusal.{Refusal}
@@ -111,7 +111,7 @@ module _ (p : WholeProgram Name) (fine : IsAccepted p) (fits : nat_lt 65535 (low
 
 module _ (schedule text : List ℕ) where
   drop_text : (reported : Answer) → IsTextAnswer (lowered_answer (code_answer schedule)) text reported → reported.status ≡ 0
-      → (line : List ℕ) × IsTextAnswer (lowered_answer (project_answer schedule)) text (done (line ++ line_feed)) × IsTextAnswer (source_answer line) text reported
+      → (line : List ℕ) × IsTextAnswer (lowered_answer (project_answer schedule)) text (done (line ++ line_end)) × IsTextAnswer (source_answer line) text reported
   drop_text reported answers zero =
       let at = accepting (lowered_answer (code_answer schedule)) text reported answers zero in
       let p = at.program in
@@ -152,7 +152,7 @@ refused_not_done refusal a is zero = absurd (stop_not_done (Refused refusal) a i
 
 module _ (schedule input : List ℕ) (program : begins_as_code input ≡ false) where
   drop_by : (o : Option Refusal) (reported : Answer) → UnlessRefused o (TextAnswers (Code schedule) input) reported → reported.status ≡ 0
-      → (line : List ℕ) × UnlessRefused o (TextAnswers (Project schedule) input) (done (line ++ line_feed)) × UnlessRefused o (TextAnswers (Source line) input) reported
+      → (line : List ℕ) × UnlessRefused o (TextAnswers (Project schedule) input) (done (line ++ line_end)) × UnlessRefused o (TextAnswers (Source line) input) reported
   drop_by None reported answers zero =
       drop_text schedule input reported (subst (λ b. IsEitherAnswer b (code_answer schedule) input reported) program answers) zero
   drop_by (Some refusal) reported answers zero = refused_not_done refusal reported answers zero

@@ -1,7 +1,8 @@
 -- An answer is a status and a text.
 use Rattle.std.specs.Prelude.{ℕ, List, [], ◌++◌, codes, Result, Ok, Err}
+use Rattle.text_core.specs.Lines.{line_end}
 use Rattle.tick_play.specs.declared.schedule.ScheduleFault.{ScheduleFault}
-use Rattle.engine.specs.Refusal.{line_feed, refusal_line}
+use Rattle.engine.specs.Refusal.{refusal_line}
 use Rattle.engine.specs.Stop.{schedule_stop}
 use Rattle.engine.specs.declared.refusal.Refusal.{Refusal}
 use Rattle.engine.specs.declared.stop.Stop.{Stop}
@@ -30,5 +31,5 @@ scheduled by (Err fault) = stopped (schedule_stop fault)
 abbrev pub usage : Answer
 usage = record {
   status = 2;
-  text = codes "usage: ticketc order N | check | emit | source S | code S | lift S | drop S | run TURNS" ++ line_feed;
+  text = codes "usage: ticketc order N | check | emit | source S | code S | lift S | drop S | run TURNS" ++ line_end;
 }

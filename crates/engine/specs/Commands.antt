@@ -2,7 +2,7 @@
 use Rattle.std.specs.Prelude.{◌≡◌, ℕ, ◌&&◌, nat_le, nat_lt, Bool, true, false, List, Option, Some, None, Result, Ok, Err, if◌then◌else◌}
 use Rattle.command_line.specs.Line.{Asked}
 use Rattle.command_line.specs.Line.Asked.{Order as AskedOrder, Check as AskedCheck, Source as AskedSource, Code as AskedCode, Emit as AskedEmit, Expand as AskedExpand, Project as AskedProject, Run as AskedRun}
-use Rattle.tick_play.specs.Number.{number_of}
+use Rattle.text_core.specs.Number.{number_of}
 use Rattle.engine.specs.Answer.{Answer, refused, usage}
 use Rattle.engine.specs.Codes.{code_answer}
 use Rattle.engine.specs.Lowered.{IsRunnableAnswer, emit_answer, lowered_answer}

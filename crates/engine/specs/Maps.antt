@@ -1,14 +1,14 @@
 -- What `drop` and `lift` answer on the code of a program: a schedule in one line.
 use Rattle.std.specs.Prelude.{ℕ, List, ◌++◌}
+use Rattle.text_core.specs.Lines.{line_end}
 use Rattle.tick_play.specs.Schedule.{schedule_of}
 use Rattle.tick_play.specs.Written.{schedule_text}
 use Rattle.tick_sim.specs.Maps.{down, up}
 use Rattle.verified_code.specs.Instructions.{StepCode}
 use Rattle.engine.specs.Answer.{Answer, scheduled}
-use Rattle.engine.specs.Refusal.{line_feed}
 
 abbrev pub schedule_line : List ℕ → List ℕ
-schedule_line steps = schedule_text steps ++ line_feed
+schedule_line steps = schedule_text steps ++ line_end
 
 -- what `by` makes of the steps that the text of a schedule spells
 abbrev pub steps_answer : (StepCode → List ℕ → List ℕ) → List ℕ → StepCode → Answer

@@ -1,12 +1,12 @@
 //! Commands, once the numbers in their words are read.
 ghost use Rattle.std.specs.Prelude.{◌≡◌, ◌<◌, ◌^◌, IfOk, MatchResult, option_map};
 ghost use Rattle.command_line.specs.Line.{asked_by};
-ghost use Rattle.tick_play.specs.Number.{number_of};
+ghost use Rattle.text_core.specs.Number.{number_of};
 ghost use Rattle.engine.specs.Commands.{job_of, lawful as lawful_number, processes_of, turns_of};
 ghost use Rattle.engine.specs.prover.Replies.{Fits, job_in};
 
 use command_line::Request;
-use tick_play::number::number;
+use text_core::number;
 
 /// The greatest N that a command line may have.
 const NUMBER_LIMIT: u64 = 4_294_967_295;

@@ -1,11 +1,11 @@
 //! The text that `order` answers.
 ghost use Rattle.std.specs.Prelude.{◌≡◌, ◌<◌, ◌≤◌, ◌++◌, All, IfErr, IfOk, OnOk, codes, length, map, string_bytes};
 ghost use Rattle.std.specs.Fmt.{decimal};
+ghost use Rattle.text_core.specs.Lines.{line_end, spaced};
 ghost use Rattle.label_core.specs.Labels.{label_ranks};
 ghost use Rattle.word_core.specs.Stamps.{label_at, labels_after, start_labels};
 ghost use Rattle.engine.specs.Answer.{done, refused};
-ghost use Rattle.engine.specs.Order.{label_text, order_answer, spaced, stamp_line, stamp_lines, stamps_text as stamps_written, state_lines};
-ghost use Rattle.engine.specs.Refusal.{line_feed};
+ghost use Rattle.engine.specs.Order.{label_text, order_answer, stamp_line, stamp_lines, stamps_text as stamps_written, state_lines};
 ghost use Rattle.engine.specs.prover.Replies.{IfRefused};
 
 use crate::stop::Stop;
@@ -41,7 +41,7 @@ fn stamps_text(alloc: Global, n: u8, stamps: &[u8]) -> Result<String, AllocError
 }
 
 fn layout_line(alloc: Global) -> Result<String, AllocError>
-    ensures { IfOk result (λ line. string_bytes line ≡ codes "layout 1" ++ line_feed) }
+    ensures { IfOk result (λ line. string_bytes line ≡ codes "layout 1" ++ line_end) }
 {
     format!(in alloc; "{LAYOUT}\n")
 }

@@ -1,3 +1,4 @@
 pub mod Operators
 pub mod Rows
 pub mod Observables
+pub mod Refusing

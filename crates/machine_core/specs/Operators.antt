@@ -17,8 +17,8 @@ sign O.Equal = codes "=="
 sign O.Differs = codes "!="
 
 -- 1 for yes, 0 for no
-abbrev pub number_of : Bool → ℕ
-number_of b = if b then 1 else 0
+abbrev pub truth_value : Bool → ℕ
+truth_value b = if b then 1 else 0
 
 -- a number that is a value, else Overflow
 abbrev pub fitting : ℕ → Result ℕ Trap
@@ -31,7 +31,7 @@ operation O.Sub a b = if nat_le b a then Ok (a - b) else Err T.Below
 operation O.Mul a b = fitting (a * b)
 operation O.Div a b = if b == 0 then Err T.Zero else Ok (a / b)
 operation O.Rem a b = if b == 0 then Err T.Zero else Ok (a % b)
-operation O.Less a b = Ok (number_of (nat_lt a b))
-operation O.AtMost a b = Ok (number_of (nat_le a b))
-operation O.Equal a b = Ok (number_of (a == b))
+operation O.Less a b = Ok (truth_value (nat_lt a b))
+operation O.AtMost a b = Ok (truth_value (nat_le a b))
+operation O.Equal a b = Ok (truth_value (a == b))
 operation O.Differs a b = Ok (if a == b then 0 else 1)

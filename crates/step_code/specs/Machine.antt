@@ -10,7 +10,7 @@ use Rattle.machine_core.specs.declared.status.Status.TheVariants.{Running, Ended
 use Rattle.machine_core.specs.declared.event.Act.{Act}
 use Rattle.machine_core.specs.declared.event.Act.TheVariants as A
 use Rattle.machine_core.specs.declared.event.Event.{Event}
-use Rattle.machine_core.specs.Operators.{number_of, operation}
+use Rattle.machine_core.specs.Operators.{truth_value, operation}
 use Rattle.machine_core.specs.Rows.{start_rows, register_at, register_set}
 use Rattle.machine_core.specs.Observables.{Observables, told, told_ranks}
 use Rattle.verified_code.specs.declared.instr.Instr.{Instr}
@@ -123,7 +123,7 @@ module _ (q : CodeProcess) where
   abbrev pub compares : ℕ → ℕ → ℕ → ℕ → ℕ → Moved
   compares n s i j x =
       if nat_lt i n && nat_lt j n
-      then sets x (number_of (older_label (scan_at n s) i j)) (drop 2 q.stack) (Some (A.Older i j (number_of (older_label (scan_at n s) i j))))
+      then sets x (truth_value (older_label (scan_at n s) i j)) (drop 2 q.stack) (Some (A.Older i j (truth_value (older_label (scan_at n s) i j))))
       else traps T.Index
 
   -- What this instruction does, where the process is process `p` of `n`.

@@ -11,7 +11,7 @@ use Rattle.tick_kinds.specs.Accepted.{IsAccepted}
 use Rattle.tick_kinds.specs.prover.Checked.{Fails, checked_program}
 use Rattle.tick_kinds.specs.Declarations.{declarations, numbered, slot_in, section}
 use Rattle.tick_kinds.specs.Refusals.{use_refusals, declarations_refusals, processes_refusals, refusals, first, first_refusal}
-use Rattle.tick_kinds.specs.Resolution.{number_by, number_of, resolved}
+use Rattle.tick_kinds.specs.Resolution.{number_by, slot_number, resolved}
 use Rattle.tick_kinds.specs.Uses.{Use, a_variable, a_scan, a_register, expression_uses, statement_uses, block_uses}
 use Rattle.tick_kinds.specs.Within.{IsExpressionWithin, IsStatementWithin, IsWithin}
 use Rattle.tick_kinds.proofs.Accepting.{IsOnce, IsSmall, front_empty, back_empty, both_empty, kept_empty, pairs_from, once_from, declarations_fine, declarations_clear, smalls, fresh_first, all_left, all_right, all_both, within_limit, numbers_small}
@@ -123,7 +123,7 @@ module _ (p : WholeProgram Name) where
   -- Numbers within their sections.
 
   abbrev number_at : Name → ℕ
-  number_at x = number_of (slot_in (declarations p)) x
+  number_at x = slot_number (slot_in (declarations p)) x
 
   abbrev faults : List Use → List KindFault
   faults us = flat_map (use_refusals (slot_in (declarations p))) us

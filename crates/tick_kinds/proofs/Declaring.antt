@@ -8,12 +8,13 @@ use Rattle.std.specs.Str.{bytes_eq}
 use Rattle.tick_kinds.specs.declared.fault.KindFault.{KindFault}
 use Rattle.tick_kinds.specs.declared.kind.Kind.{Kind}
 use Rattle.tick_kinds.specs.declared.kind.Kind.TheVariants as K
-use Rattle.tick_kinds.specs.prover.Checked.{Checked, Table, ◌>>=◌, Fails, checked_declaration, checked_declarations}
+use Rattle.tick_kinds.specs.prover.Checked.{Checked, Table, Fails, is_memory, checked_declaration, checked_declarations}
 use Rattle.tick_kinds.specs.Declarations.{Slot, Declaration, declarations, numbered, limit}
 use Rattle.tick_kinds.specs.prover.Table.{slot_at}
 use Rattle.indexmap.specs.IndexMap.{IndexMap, IsEmpty}
 use Rattle.tick_syntax.specs.declared.tree.Tree.{Tree}
-use Rattle.tick_kinds.proofs.Steps.{fails_on}
+use Rattle.machine_core.specs.Refusing.{◌>>=◌}
+use Rattle.machine_core.proofs.Offered.{fails_on}
 use Rattle.tick_syntax.specs.declared.tree.Named.{Named}
 use Rattle.tick_syntax.specs.View.{name_of, tree_of}
 
@@ -61,7 +62,7 @@ pub declared_none :
     (d : Declaration) (ds : List Declaration) (old : Table) (e : KindFault)
     → Fails e (checked_declaration d old) → Fails e (checked_declarations (d ∷ ds) old)
 unfolding checked_declarations
-declared_none d ds old e h = fails_on e (checked_declaration d old) (checked_declarations ds) h
+declared_none d ds old e h = fails_on is_memory e (checked_declaration d old) (checked_declarations ds) h
 
 -- two sections, one after the other
 pub checked_declarations-append :
@@ -98,14 +99,14 @@ module _ (a b c : List Declaration) (t0 : Table) where
   pub first_section_fails :
       (e : KindFault) → Fails e (checked_declarations a t0) → Fails e (checked_declarations (a ++ (b ++ c)) t0)
   first_section_fails e h =
-      rw (checked_declarations-append a (b ++ c) t0) (fails_on e (checked_declarations a t0) _ h)
+      rw (checked_declarations-append a (b ++ c) t0) (fails_on is_memory e (checked_declarations a t0) _ h)
 
   module _ (t1 : Table) (ha : checked_declarations a t0 ≡ Ok t1) where
     pub second_section_fails :
         (e : KindFault) → Fails e (checked_declarations b t1) → Fails e (checked_declarations (a ++ (b ++ c)) t0)
     second_section_fails e h =
         rw (checked_declarations-append a (b ++ c) t0, ha, checked_declarations-append b c t1)
-        (fails_on e (checked_declarations b t1) _ h)
+        (fails_on is_memory e (checked_declarations b t1) _ h)
 
     module _ (t2 : Table) (hb : checked_declarations b t1 ≡ Ok t2) where
       sections : checked_declarations (a ++ (b ++ c)) t0 ≡ checked_declarations c t2

@@ -2,11 +2,12 @@
 use Rattle.std.proofs.Common.{◌≡◌, ◌<◌, ◌≤◌, ℕ, suc, List, [], ◌∷◌, ◌++◌, ◌+◌, drop, drop-cons, get_or, length, add-one, Option, Ok, Err, refl, sym, ap, ◌∙◌, Vec, Global}
 use Rattle.std.proofs.Math.ListN.{drop_of_length-le}
 use Rattle.tick_kinds.specs.declared.fault.KindFault.{KindFault}
-use Rattle.tick_kinds.specs.declared.fault.KindFault.TheVariants as F
 use Rattle.tick_kinds.specs.declared.resolved.Expression as R
 use Rattle.tick_kinds.specs.declared.resolved.Statement as T
 use Rattle.tick_kinds.specs.declared.resolved.Statement.TheVariants as Q
-use Rattle.tick_kinds.specs.prover.Checked.{Checked, ◌>>=◌, Fails, checked_expression, checked_statement, checked_block}
+use Rattle.tick_kinds.specs.prover.Checked.{Checked, Fails, is_memory, checked_expression, checked_statement, checked_block}
+use Rattle.machine_core.specs.Refusing.{◌>>=◌}
+use Rattle.machine_core.proofs.Offered.{fails_on}
 use Rattle.tick_kinds.specs.Declarations.{Slot}
 use Rattle.tick_kinds.specs.Resolved.{resolved_expression, resolved_statement, resolved_block}
 use Rattle.tick_kinds.proofs.Offered.{resolved_branch, resolved_repeat}
@@ -16,15 +17,6 @@ use Rattle.tick_syntax.specs.declared.tree.Stmt.{Stmt}
 use Rattle.tick_syntax.specs.declared.tree.Stmt.TheVariants as S
 use Rattle.tick_syntax.specs.Plain.{Name, Expression, Statement, Block, branch, repeat, nil, cons, onto}
 use Rattle.tick_syntax.specs.View.{expression_of, statement_of, block_of}
-
--- what fails first fails the whole
-pub fails_on : {A B : Type 0} (e : KindFault) (r : Checked A) (f : A → Checked B) → Fails e r → Fails e (r >>= f)
-fails_on F.NoMemory r f h = tt
-fails_on (F.Processes s) r f h = ap (λ r. r >>= f) h
-fails_on (F.Twice s) r f h = ap (λ r. r >>= f) h
-fails_on (F.Unknown s) r f h = ap (λ r. r >>= f) h
-fails_on (F.WrongKind s w k) r f h = ap (λ r. r >>= f) h
-fails_on (F.TooMany s) r f h = ap (λ r. r >>= f) h
 
 -- the two statements that hold statements
 abbrev branching : Checked (Expression ℕ) → Checked (Block ℕ) → Checked (Block ℕ) → Checked (Statement ℕ)
@@ -54,7 +46,7 @@ module _ (look : List ℕ → Option Slot) where
       → s ≡ S.If x a b → checked_expression look (expression_of x) ≡ Ok v
       → Fails e (checked_block look (block_of a.items)) → Fails e (checked_statement look (statement_of s))
   first_fails s x a b v e is hx ha =
-      rw (checked_branch s x a b is, hx) (fails_on e (checked_block look (block_of a.items)) _ ha)
+      rw (checked_branch s x a b is, hx) (fails_on is_memory e (checked_block look (block_of a.items)) _ ha)
 
   pub second_fails :
       (s : Stmt) (x : Expr) (a b : Vec Stmt Global) (v : Expression ℕ) (u : Block ℕ) (e : KindFault)
@@ -62,14 +54,14 @@ module _ (look : List ℕ → Option Slot) where
       → checked_block look (block_of a.items) ≡ Ok u
       → Fails e (checked_block look (block_of b.items)) → Fails e (checked_statement look (statement_of s))
   second_fails s x a b v u e is hx ha hb =
-      rw (checked_branch s x a b is, hx, ha) (fails_on e (checked_block look (block_of b.items)) _ hb)
+      rw (checked_branch s x a b is, hx, ha) (fails_on is_memory e (checked_block look (block_of b.items)) _ hb)
 
   pub body_fails :
       (s : Stmt) (x : Expr) (a : Vec Stmt Global) (v : Expression ℕ) (e : KindFault)
       → s ≡ S.While x a → checked_expression look (expression_of x) ≡ Ok v
       → Fails e (checked_block look (block_of a.items)) → Fails e (checked_statement look (statement_of s))
   body_fails s x a v e is hx ha =
-      rw (checked_repeat s x a is, hx) (fails_on e (checked_block look (block_of a.items)) _ ha)
+      rw (checked_repeat s x a is, hx) (fails_on is_memory e (checked_block look (block_of a.items)) _ ha)
 
   pub branch_checked :
       (s : Stmt) (x : Expr) (a b : Vec Stmt Global) (v : R.Expression) (c d : Vec T.Statement Global)
@@ -131,7 +123,7 @@ module _ (look : List ℕ → Option Slot) where
       (before : Block ℕ) (s : Statement Name) (b : Block Name) (e : KindFault)
       → Fails e (checked_statement look s) → Fails e (checked_after look before (cons s b))
   unfolding checked_block
-  stops before s b e h = fails_on e _ _ (fails_on e (checked_statement look s) _ h)
+  stops before s b e h = fails_on is_memory e _ _ (fails_on is_memory e (checked_statement look s) _ h)
 
   pub ends : (before : Block ℕ) → checked_after look before nil ≡ Ok before
   unfolding checked_block

@@ -11,10 +11,11 @@ use Rattle.tick_kinds.specs.declared.fault.KindFault.{KindFault}
 use Rattle.tick_kinds.specs.declared.fault.KindFault.TheVariants as F
 use Rattle.tick_kinds.specs.declared.kind.Kind.{Kind}
 use Rattle.tick_kinds.specs.declared.kind.Kind.TheVariants as K
-use Rattle.tick_kinds.specs.prover.Checked.{Checked, ◌>>=◌, number_if, with_declaration, checked_name, checked_expression, checked_assign, checked_get, checked_put, checked_copy, checked_older, checked_statement, checked_block, checked_declaration, checked_declarations, checked_program}
+use Rattle.machine_core.specs.Refusing.{◌>>=◌}
+use Rattle.tick_kinds.specs.prover.Checked.{Checked, number_if, with_declaration, checked_name, checked_expression, checked_assign, checked_get, checked_put, checked_copy, checked_older, checked_statement, checked_block, checked_declaration, checked_declarations, checked_program}
 use Rattle.tick_kinds.specs.Declarations.{Slot, Declaration, declarations, slot_in, limit}
 use Rattle.tick_kinds.specs.Refusals.{is_kind, use_refusals, use_refusals_by, declaration_refusals, declarations_refusals, refusals}
-use Rattle.tick_kinds.specs.Resolution.{number_by, number_of, resolved}
+use Rattle.tick_kinds.specs.Resolution.{number_by, slot_number, resolved}
 use Rattle.tick_kinds.specs.Uses.{Use, expression_uses, statement_uses, block_uses}
 use Rattle.tick_syntax.specs.Plain.{Name, Expression, number, named, me, count, binary, Statement, assign, get, put, stamp, scan, copy, older, out, branch, repeat, Block, nil, cons, map_expression, map_statement, map_block, WholeProgram}
 
@@ -46,7 +47,7 @@ module _ (look : List ℕ → Option Slot) where
   faults us = flat_map (use_refusals look) us
 
   abbrev num : Name → ℕ
-  num x = number_of look x
+  num x = slot_number look x
 
   split : {A : Type 0} (us vs : List Use) (a : A) → told (faults us ++ faults vs) a ≡ told (faults (us ++ vs)) a
   split us vs a = ap (λ fs. told fs a) (sym (flat_map-append (use_refusals look) us vs))

@@ -8,11 +8,11 @@ abbrev pub number_by : Option Slot → ℕ
 number_by None = 0
 number_by (Some slot) = slot.1
 
-abbrev pub number_of : (List ℕ → Option Slot) → Name → ℕ
-number_of look x = number_by (look x.letters)
+abbrev pub slot_number : (List ℕ → Option Slot) → Name → ℕ
+slot_number look x = number_by (look x.letters)
 
 abbrev pub resolved : WholeProgram Name → WholeProgram ℕ
-resolved p = let number = number_of (slot_in (declarations p)) in record {
+resolved p = let number = slot_number (slot_in (declarations p)) in record {
   processes = p.processes;
   span = p.span;
   variables = map number p.variables;

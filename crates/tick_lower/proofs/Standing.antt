@@ -10,7 +10,7 @@ use Rattle.verified_code.specs.Instructions.{CodeSizes, pops, target, goes_on, f
 use Rattle.verified_code.specs.Heights.{Placed}
 use Rattle.verified_code.specs.Verified.{is_load, is_next, is_exchange, before, bad_stamp, IsVerified}
 use Rattle.tick_kinds.specs.Declarations.{declarations, slot_in}
-use Rattle.tick_kinds.specs.Resolution.{resolved, number_of}
+use Rattle.tick_kinds.specs.Resolution.{resolved, slot_number}
 use Rattle.tick_kinds.specs.Within.{IsExpressionWithin, IsStatementWithin, IsWithin}
 use Rattle.tick_syntax.specs.Plain.{Name, Expression, number, named, me, count, binary, Statement, assign, get, put, stamp, scan, copy, older, out, branch, repeat, Block, nil, cons, WholeProgram}
 use Rattle.tick_lower.specs.Lowered.{expression_length, statement_length, block_length, expression_code, statement_code, block_code, lowered, lowered_length, lowered_sizes}
@@ -296,7 +296,7 @@ lowered_verified p within few = body_verified (lowered_sizes p) p.body within fe
 pub resolved_verified : (p : WholeProgram Name) (b : Block ℕ) → IsWithin (length p.variables) (length p.scans) (length p.registers) b
     → block_length b + 1 ≤ 65535 → IsVerified (lowered_sizes (resolved p)) (block_code 0 b ++ I.Halt ∷ [])
 resolved_verified p b within few =
-    let number : Name → ℕ = number_of (slot_in (declarations p)) in
+    let number : Name → ℕ = slot_number (slot_in (declarations p)) in
     body_verified (lowered_sizes (resolved p)) b
     (subst (λ n. IsWithin (length (resolved p).variables) (length (resolved p).scans) n b) (sym (length-map p.registers number))
     (subst (λ n. IsWithin (length (resolved p).variables) n (length p.registers) b) (sym (length-map p.scans number))

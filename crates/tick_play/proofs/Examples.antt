@@ -1,6 +1,7 @@
 -- Small schedules and runs, and their texts.
 use Rattle.std.proofs.Common.{◌≡◌, ℕ, List, [], ◌∷◌, ◌++◌, Ok, Err, codes, refl, replicate}
 use Rattle.std.specs.Fmt.{digits}
+use Rattle.text_core.specs.Lines.{line_end}
 use Rattle.machine_core.specs.declared.operator.Op.TheVariants as O
 use Rattle.tick_syntax.specs.Plain.{number, named, me, binary, get, put, stamp, scan, older, out, Block, nil, cons, WholeProgram}
 use Rattle.machine_core.specs.declared.status.Trap.TheVariants as T
@@ -12,7 +13,6 @@ use Rattle.tick_play.specs.Written.{schedule_text}
 use Rattle.verified_code.specs.declared.instr.Instr.TheVariants as I
 use Rattle.verified_code.specs.Instructions.{StepCode, sizes}
 use Rattle.machine_core.specs.declared.run_outcome.RunEnd.TheVariants as E
-use Rattle.tick_play.specs.Lines.{line_feed}
 use Rattle.tick_play.specs.Outcome.{outcome_lines}
 use Rattle.tick_play.specs.Report.{code_report, report, source_report}
 
@@ -45,7 +45,7 @@ too_long = refl
 
 abbrev lines : List (List ℕ) → List ℕ
 lines [] = []
-lines (text ∷ texts) = text ++ line_feed ++ lines texts
+lines (text ∷ texts) = text ++ line_end ++ lines texts
 
 abbrev program : ℕ → List ℕ → List ℕ → List ℕ → Block ℕ → WholeProgram ℕ
 program n variables scans registers body = record {

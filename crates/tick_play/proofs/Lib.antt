@@ -1,5 +1,4 @@
 mod Examples
-pub mod NumberLemmas
 pub mod ScheduleLemmas
 pub mod WritingLemmas
 pub mod ReadingBack

@@ -12,10 +12,11 @@ use Rattle.std.proofs.lemmas.Fmt.{decimal_by_steps}
 use Rattle.std.proofs.lemmas.List.{append-nil, length-append, length-replicate, replicate-append-replicate}
 use Rattle.std.proofs.lemmas.List.Elements.{All-append, All-cons, All-head, All-nil, All-push, All-tail, All-weaker}
 use Rattle.std.proofs.lemmas.List.Splits.{slice_split_at, slice_split_none}
-use Rattle.tick_play.specs.Number.{number_from, number_of}
-use Rattle.tick_syntax.specs.Characters.{is_blank}
+use Rattle.text_core.specs.Lines.{spaced}
+use Rattle.text_core.specs.Number.{number_from, number_of}
+use Rattle.text_core.specs.Blanks.{is_blank}
 use Rattle.tick_play.specs.Schedule.{is_star, item_cut, item_of, item_of_numbers, schedule_of, with_item, with_piece, with_pieces}
-use Rattle.tick_play.specs.Written.{item_text, joined, run_onto, runs_of, schedule_text, spaced}
+use Rattle.tick_play.specs.Written.{item_text, joined, run_onto, runs_of, schedule_text}
 use Rattle.tick_play.specs.declared.schedule.Item.{Item}
 use Rattle.tick_play.specs.declared.schedule.ScheduleFault.{ScheduleFault}
 use Rattle.tick_play.proofs.WritingLemmas.{run}

@@ -6,7 +6,7 @@ use Rattle.std.proofs.lemmas.Bool.{ltb-false}
 use Rattle.std.proofs.lemmas.List.{drop-drop, drop_more, get_or-drop, get_or-replicate, length-append, length-replicate, take-append-drop, take_rest}
 use Rattle.std.proofs.lemmas.List.Elements.{All-append, All-more, All-nil}
 use Rattle.std.proofs.lemmas.List.Splits.{slice_split_at, slice_split_none}
-use Rattle.tick_syntax.specs.Characters.{is_blank}
+use Rattle.text_core.specs.Blanks.{is_blank}
 use Rattle.tick_play.specs.Schedule.{item_of, schedule_of, with_item, with_piece, with_pieces}
 use Rattle.tick_play.specs.declared.schedule.Item.{Item}
 use Rattle.tick_play.specs.declared.schedule.ScheduleFault.{ScheduleFault}

@@ -1,4 +1,3 @@
-pub mod Number
 pub mod Schedule
 pub mod Written
 pub mod Lines

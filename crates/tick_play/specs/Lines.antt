@@ -1,18 +1,15 @@
 -- The lines that the texts of every kind of run have: a row of values, and how a process stands.
 use Rattle.std.specs.Prelude.{ℕ, ◌+◌, List, [], ◌∷◌, ◌++◌, codes, map}
 use Rattle.std.specs.Fmt.{decimal}
+use Rattle.text_core.specs.Lines.{line_end, spaced}
 use Rattle.machine_core.specs.declared.status.Trap.{Trap}
 use Rattle.machine_core.specs.declared.status.Trap.TheVariants as T
 use Rattle.machine_core.specs.declared.status.Status.{Status}
 use Rattle.machine_core.specs.declared.status.Status.TheVariants as S
-use Rattle.tick_play.specs.Written.{spaced}
-
-abbrev pub line_feed : List ℕ
-line_feed = 10 ∷ []
 
 -- what the row is, its number, and its values
 abbrev pub row_line : List ℕ → ℕ → List ℕ → List ℕ
-row_line name number values = name ++ codes " " ++ decimal number ++ spaced (map decimal values) ++ line_feed
+row_line name number values = name ++ codes " " ++ decimal number ++ spaced (map decimal values) ++ line_end
 
 -- rows from this number on
 abbrev pub row_lines : List ℕ → ℕ → List (List ℕ) → List ℕ
@@ -34,7 +31,7 @@ status_text S.Ended = codes "ended"
 status_text (S.Trapped t) = codes "trapped " ++ trap_text t
 
 abbrev pub status_line : ℕ → List ℕ → List ℕ
-status_line p text = codes "status " ++ decimal p ++ codes " " ++ text ++ line_feed
+status_line p text = codes "status " ++ decimal p ++ codes " " ++ text ++ line_end
 
 -- processes from number `p` on
 abbrev pub status_lines : ℕ → List (List ℕ) → List ℕ

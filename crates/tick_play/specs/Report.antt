@@ -1,6 +1,7 @@
 -- What a run let others see, as a text: a line for each event, register row and process.
 use Rattle.std.specs.Prelude.{ℕ, List, [], ◌∷◌, ◌++◌, codes, length, map, take}
 use Rattle.std.specs.Fmt.{decimal}
+use Rattle.text_core.specs.Lines.{line_end, spaced}
 use Rattle.tick_syntax.specs.Plain.{WholeProgram}
 use Rattle.verified_code.specs.Instructions.{StepCode}
 use Rattle.machine_core.specs.declared.event.Act.{Act}
@@ -9,8 +10,7 @@ use Rattle.machine_core.specs.declared.event.Event.{Event}
 use Rattle.machine_core.specs.Observables.{Observables}
 use Rattle.step_code.specs.Machine.{run_of, observables as observables_of_code}
 use Rattle.tick_source.specs.Source.{source, observables}
-use Rattle.tick_play.specs.Lines.{line_feed, register_lines, status_lines, status_text, trap_text}
-use Rattle.tick_play.specs.Written.{spaced}
+use Rattle.tick_play.specs.Lines.{register_lines, status_lines, status_text, trap_text}
 
 -- what a process of `n` did; of the ranks of a scan those of the processes that there are
 abbrev pub act_text : ℕ → Act → List ℕ
@@ -24,7 +24,7 @@ act_text n (A.Trap t) = codes " trap " ++ trap_text t
 act_text n A.End = codes " end"
 
 abbrev pub event_line : ℕ → Event → List ℕ
-event_line n event = decimal event.process ++ act_text n event.act ++ line_feed
+event_line n event = decimal event.process ++ act_text n event.act ++ line_end
 
 abbrev pub event_lines : ℕ → List Event → List ℕ
 event_lines n [] = []

@@ -1,6 +1,7 @@
 -- Schedules as they are written.
 use Rattle.std.specs.Prelude.{ℕ, ◌+◌, ◌==◌, List, [], ◌∷◌, ◌++◌, codes, map, if◌then◌else◌}
 use Rattle.std.specs.Fmt.{decimal}
+use Rattle.text_core.specs.Lines.{spaced}
 use Rattle.tick_play.specs.declared.schedule.Item.{Item}
 
 -- a run before others; with the first of them it is one run where both are of one process
@@ -20,11 +21,6 @@ abbrev pub item_text : Item → List ℕ
 item_text run =
     if run.steps == 1 then decimal run.process
     else decimal run.process ++ codes "*" ++ decimal run.steps
-
--- each text after a space
-abbrev pub spaced : List (List ℕ) → List ℕ
-spaced [] = []
-spaced (text ∷ texts) = codes " " ++ text ++ spaced texts
 
 -- the texts, with a space between each two
 abbrev pub joined : List (List ℕ) → List ℕ

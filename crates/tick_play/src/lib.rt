@@ -7,7 +7,6 @@
 
 pub mod laws;
 mod lines;
-pub mod number;
 mod outcome;
 mod play;
 mod report;

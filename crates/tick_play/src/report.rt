@@ -1,9 +1,9 @@
 ghost use Rattle.std.specs.Prelude.{◌≡◌, ◌++◌, IfOk, OnOk, map, string_bytes, take};
 ghost use Rattle.std.specs.Fmt.{decimal};
+ghost use Rattle.text_core.specs.Lines.{spaced};
 ghost use Rattle.machine_core.specs.Observables.{observed};
 ghost use Rattle.tick_play.specs.Lines.{status_lines, status_text};
 ghost use Rattle.tick_play.specs.Report.{event_line, event_lines, report};
-ghost use Rattle.tick_play.specs.Written.{spaced};
 
 use crate::lines::{push_rows, push_status, trap_name};
 use machine_core::{Act, Event, NoMemory, Outcome, Status};

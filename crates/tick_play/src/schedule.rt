@@ -1,11 +1,10 @@
 ghost use Rattle.std.specs.Prelude.{◌≡◌, ◌≢◌, ◌<◌, All, IfErr, IfOk, IfSome, OnOk, length, option_map};
 ghost use Rattle.std.specs.List.{position};
-ghost use Rattle.tick_syntax.specs.Characters.{is_blank as is_blank_byte};
 ghost use Rattle.tick_play.specs.Schedule.{capped_item, is_star, item_of as item_spelled, item_of_numbers, schedule_of, with_item, with_piece};
 ghost use Rattle.tick_play.specs.declared.schedule.ScheduleFault.TheVariants.{NoMemory};
 
-use crate::number::number;
 use std::alloc::{AllocFailed, Global};
+use text_core::{is_blank, number};
 use thiserror::Error;
 
 /// The most steps of a schedule.
@@ -57,12 +56,6 @@ pub fn read_schedule(alloc: Global, text: &str, n: u8) -> Result<Vec<u8>, Schedu
     }
     push_piece(&mut steps, start, &bytes[start..], n)?;
     Ok(steps)
-}
-
-fn is_blank(byte: u8) -> bool
-    ensures { result ≡ is_blank_byte byte }
-{
-    matches!(byte, b' ' | b'\t' | b'\r' | b'\n')
 }
 
 // Adds the steps of what stands between two blanks.

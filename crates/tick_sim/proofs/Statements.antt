@@ -6,7 +6,7 @@ use Rattle.std.proofs.lemmas.Bool.{ltb-true}
 use Rattle.machine_core.specs.declared.status.Status.TheVariants.{Running}
 use Rattle.machine_core.specs.declared.status.Trap.TheVariants as T
 use Rattle.machine_core.specs.declared.event.Act.TheVariants as A
-use Rattle.machine_core.specs.Operators.{number_of}
+use Rattle.machine_core.specs.Operators.{truth_value}
 use Rattle.machine_core.specs.Observables.{told_ranks}
 use Rattle.machine_core.specs.Rows.{register_at, register_set}
 use Rattle.verified_code.specs.declared.instr.Instr.{Instr}
@@ -168,7 +168,7 @@ module _ (code : List Instr) (n p most : ℕ) (q : CodeProcess) (scans : List (L
 
   abbrev Compared : ℕ → ℕ → ℕ → ℕ → Block ℕ → List ℕ → List (List ℕ) → S.Did
   Compared x s i j rest tickets rows =
-      let answer = number_of (older_ticket (S.scan_at n scans s) i j) in
+      let answer = truth_value (older_ticket (S.scan_at n scans s) i j) in
       S.goes n p tickets rows q.variables scans (slice_set q.variables x answer) scans rest (Some (A.Older i j answer))
 
   -- both processes, or a trap
@@ -178,12 +178,12 @@ module _ (code : List Instr) (n p most : ℕ) (q : CodeProcess) (scans : List (L
       (if inside then (if inside' then Compared x s i j rest tickets rows else S.traps n p tickets rows q.variables scans rest T.Index)
       else S.traps n p tickets rows q.variables scans rest T.Index)
       (alone (if inside && inside'
-      then C.sets (at q k (j ∷ i ∷ [])) x (number_of (older_label (C.scan_at q n s) i j)) [] (Some (A.Older i j (number_of (older_label (C.scan_at q n s) i j))))
+      then C.sets (at q k (j ∷ i ∷ [])) x (truth_value (older_label (C.scan_at q n s) i j)) [] (Some (A.Older i j (truth_value (older_label (C.scan_at q n s) i j))))
       else C.traps (at q k (j ∷ i ∷ [])) T.Index)) (I.Older s x)
   older_matched x s i j k rest tickets labels rows agrees after true true i_in j_in =
       let same : older_label (C.scan_at q n s) i j ≡ older_ticket (S.scan_at n scans s) i j =
       (agreement_law.stands n (S.scan_at n scans s) (C.scan_at q n s) (held.each s)).older i j (ltb-true i n i_in) (ltb-true j n j_in) in
-      let answer : ℕ = number_of (older_ticket (S.scan_at n scans s) i j) in
+      let answer : ℕ = truth_value (older_ticket (S.scan_at n scans s) i j) in
       let matched : Matched code n p most labels rows (Compared x s i j rest tickets rows) (alone (C.sets (at q k (j ∷ i ∷ [])) x answer [] (Some (A.Older i j answer)))) (I.Older s x) =
       record {
         agrees = agrees;
@@ -192,7 +192,7 @@ module _ (code : List Instr) (n p most : ℕ) (q : CodeProcess) (scans : List (L
         ends = refl;
         between = resting (slice_set q.variables x answer) scans q.scans (k + 1) rest held after;
       } in
-      subst (λ b. Matched code n p most labels rows (Compared x s i j rest tickets rows) (alone (C.sets (at q k (j ∷ i ∷ [])) x (number_of b) [] (Some (A.Older i j (number_of b))))) (I.Older s x)) (sym same) matched
+      subst (λ b. Matched code n p most labels rows (Compared x s i j rest tickets rows) (alone (C.sets (at q k (j ∷ i ∷ [])) x (truth_value b) [] (Some (A.Older i j (truth_value b))))) (I.Older s x)) (sym same) matched
   older_matched x s i j k rest tickets labels rows agrees after true false i_in j_in =
       record { agrees = agrees; same_rows = refl; same_act = refl; ends = refl; between = over refl tt }
   older_matched x s i j k rest tickets labels rows agrees after false true i_in j_in =

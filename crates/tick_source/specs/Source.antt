@@ -9,7 +9,7 @@ use Rattle.machine_core.specs.declared.status.Status.TheVariants.{Running, Ended
 use Rattle.machine_core.specs.declared.event.Act.{Act}
 use Rattle.machine_core.specs.declared.event.Act.TheVariants as A
 use Rattle.machine_core.specs.declared.event.Event.{Event}
-use Rattle.machine_core.specs.Operators.{number_of}
+use Rattle.machine_core.specs.Operators.{truth_value}
 use Rattle.machine_core.specs.Rows.{start_rows, register_at, register_set}
 use Rattle.machine_core.specs.Observables.{Observables, told, told_ranks}
 use Rattle.tick_source.specs.Values.{value}
@@ -86,7 +86,7 @@ module _ (n p : ℕ) (tickets : List ℕ) (rows : List (List ℕ)) (variables : 
   does (older x s e f) rest =
       with_value rest (value n p variables e) λ i. with_value rest (value n p variables f) λ j.
       with_index rest i (with_index rest j (
-      let answer = number_of (older_ticket (scan_at n scans s) i j) in
+      let answer = truth_value (older_ticket (scan_at n scans s) i j) in
       goes (slice_set variables x answer) scans rest (Some (A.Older i j answer))))
   does (out e) rest = with_value rest (value n p variables e) λ v. goes variables scans rest (Some (A.Out v))
   does (branch e a b) rest =

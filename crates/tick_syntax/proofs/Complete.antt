@@ -1,266 +1,267 @@
 -- What the grammar has the reader reads.
 use Rattle.std.proofs.Common.{◌≡◌, ℕ, zero, suc, ◌<◌, ◌≤◌, false, List, [], ◌∷◌, length, Ok, Bor, refl, sym, ◌∙◌, ap, subst, arith}
 use Rattle.tick_syntax.specs.declared.span.Span.{Span}
-use Rattle.tick_syntax.specs.declared.item.Item.{Item}
-use Rattle.tick_syntax.specs.declared.item.Ending.{Ending}
-use Rattle.tick_syntax.specs.declared.item.Ending.TheVariants as N
-use Rattle.tick_syntax.specs.declared.item.Section.{Section}
-use Rattle.tick_syntax.specs.declared.item.Section.TheVariants as C
-use Rattle.tick_syntax.specs.declared.item.Meaning.{Meaning}
-use Rattle.tick_syntax.specs.declared.item.Meaning.TheVariants as M
+use Rattle.tick_syntax.specs.declared.valued_token.ValuedToken.{ValuedToken}
+use Rattle.tick_syntax.specs.declared.valued_token.Ending.{Ending}
+use Rattle.tick_syntax.specs.declared.valued_token.Ending.TheVariants as N
+use Rattle.tick_syntax.specs.declared.valued_token.Section.{Section}
+use Rattle.tick_syntax.specs.declared.valued_token.Section.TheVariants as C
+use Rattle.tick_syntax.specs.declared.valued_token.Meaning.{Meaning}
+use Rattle.tick_syntax.specs.declared.valued_token.Meaning.TheVariants as M
 use Rattle.machine_core.specs.declared.operator.Op.{Op}
-use Rattle.tick_syntax.specs.declared.terminals.Word.{Word}
-use Rattle.tick_syntax.specs.declared.terminals.Word.TheVariants as W
-use Rattle.tick_syntax.specs.Lexeme.{Lexeme, a_name, a_number, a_word}
+use Rattle.tick_syntax.specs.declared.terminals.Terminal.{Terminal}
+use Rattle.tick_syntax.specs.declared.terminals.Terminal.TheVariants as W
+use Rattle.tick_syntax.specs.Lexeme.{Lexeme, a_name, a_number, a_terminal}
 use Rattle.tick_syntax.specs.Plain.{Name, Expression, number, named, me, count, binary, Statement, assign, get, put, stamp, scan, copy, older, out, branch, repeat, Block, nil, cons, WholeProgram}
 use Rattle.tick_syntax.specs.Grammar.{IsExpression, IsStatement, IsBlock, AreNames, IsSection, Derives}
 use Rattle.tick_syntax.specs.Nesting.{expression_nesting, statement_nesting, block_nesting, nesting}
-use Rattle.tick_syntax.specs.prover.Reading.{Reading, ◌>>=◌, next_at, word_at, number_at, brace_at, operator_at, name_at, pair_at, brackets_at, expression_at, last_at, get_at, scan_at, copy_at, older_at, plain_at, right_at, assignment_at, put_at, stamp_at, out_at, branch_at, repeat_at, statement_with, statement_at, block_by, ends, statements_with, block_at, statements_at, names_at, begins, section_by, section_at, body_at, whole_at, program_at}
+use Rattle.machine_core.specs.Refusing.{◌>>=◌}
+use Rattle.tick_syntax.specs.prover.Reading.{Reading, next_at, terminal_at, number_at, brace_at, operator_at, name_at, pair_at, brackets_at, expression_at, last_at, get_at, scan_at, copy_at, older_at, plain_at, right_at, assignment_at, put_at, stamp_at, out_at, branch_at, repeat_at, statement_with, statement_at, block_by, ends, statements_with, block_at, statements_at, names_at, begins, section_by, section_at, body_at, whole_at, program_at}
 use Rattle.tick_syntax.proofs.Symbols.{said_by, said, says}
 use Rattle.tick_syntax.proofs.Loops.{statement_shorter, branch_gives, repeat_gives}
 
--- the first item and those after it
-item_in : (is : List Item) (x : Lexeme) (t : List Lexeme) → says is ≡ x ∷ t
-    → (i : Item) × (js : List Item) × (is ≡ i ∷ js) × (said i ≡ x) × (says js ≡ t)
-item_in [] x t h = absurd (cc)
-item_in (i ∷ js) x t h = (i, js, refl, cc, cc)
+-- the first token and those after it
+token_in : (is : List ValuedToken) (x : Lexeme) (t : List Lexeme) → says is ≡ x ∷ t
+    → (i : ValuedToken) × (js : List ValuedToken) × (is ≡ i ∷ js) × (said i ≡ x) × (says js ≡ t)
+token_in [] x t h = absurd (cc)
+token_in (i ∷ js) x t h = (i, js, refl, cc, cc)
 
-word_by : (m : Meaning) (span : Span) (w : Word) → said_by m span ≡ a_word w → m ≡ M.Word w
-word_by (M.Name l) span w h = absurd (cc)
-word_by (M.Number v) span w h = absurd (cc)
-word_by (M.Word v) span w h = cc
-word_by M.Nothing span w h = absurd (cc)
+terminal_by : (m : Meaning) (span : Span) (w : Terminal) → said_by m span ≡ a_terminal w → m ≡ M.Terminal w
+terminal_by (M.Name l) span w h = absurd (cc)
+terminal_by (M.Number v) span w h = absurd (cc)
+terminal_by (M.Terminal v) span w h = cc
+terminal_by M.Nothing span w h = absurd (cc)
 
 number_by_ : (m : Meaning) (span : Span) (v : ℕ) (s : Span) → said_by m span ≡ a_number v s → (m ≡ M.Number v) × (span ≡ s)
 number_by_ (M.Name l) span v s h = absurd (cc)
 number_by_ (M.Number u) span v s h = (cc, cc)
-number_by_ (M.Word u) span v s h = absurd (cc)
+number_by_ (M.Terminal u) span v s h = absurd (cc)
 number_by_ M.Nothing span v s h = absurd (cc)
 
 name_by_ : (m : Meaning) (span : Span) (x : Name) → said_by m span ≡ a_name x
     → (l : Bor (List ℕ)) × (m ≡ M.Name l) × (record { letters = l.now; span = span } ≡ x)
 name_by_ (M.Name l) span x h = (l, refl, cc)
 name_by_ (M.Number u) span x h = absurd (cc)
-name_by_ (M.Word u) span x h = absurd (cc)
+name_by_ (M.Terminal u) span x h = absurd (cc)
 name_by_ M.Nothing span x h = absurd (cc)
 
-abbrev item : Meaning → Span → Item
-item m span = record { meaning = m; span = span }
+abbrev token : Meaning → Span → ValuedToken
+token m span = record { meaning = m; span = span }
 
-word_in : (w : Word) (is : List Item) (t : List Lexeme) → says is ≡ a_word w ∷ t
-    → (span : Span) × (js : List Item) × (says js ≡ t) × (is ≡ item (M.Word w) span ∷ js)
-word_in w is t h =
-    let r = item_in is (a_word w) t h in
-    (r.0.span, r.1, r.4, r.2 ∙ ap (λ z. item z r.0.span ∷ r.1) (word_by r.0.meaning r.0.span w r.3))
+terminal_in : (w : Terminal) (is : List ValuedToken) (t : List Lexeme) → says is ≡ a_terminal w ∷ t
+    → (span : Span) × (js : List ValuedToken) × (says js ≡ t) × (is ≡ token (M.Terminal w) span ∷ js)
+terminal_in w is t h =
+    let r = token_in is (a_terminal w) t h in
+    (r.0.span, r.1, r.4, r.2 ∙ ap (λ z. token z r.0.span ∷ r.1) (terminal_by r.0.meaning r.0.span w r.3))
 
-number_in : (v : ℕ) (s : Span) (is : List Item) (t : List Lexeme) → says is ≡ a_number v s ∷ t
-    → (js : List Item) × (says js ≡ t) × (is ≡ item (M.Number v) s ∷ js)
+number_in : (v : ℕ) (s : Span) (is : List ValuedToken) (t : List Lexeme) → says is ≡ a_number v s ∷ t
+    → (js : List ValuedToken) × (says js ≡ t) × (is ≡ token (M.Number v) s ∷ js)
 number_in v s is t h =
-    let r = item_in is (a_number v s) t h in
+    let r = token_in is (a_number v s) t h in
     let n = number_by_ r.0.meaning r.0.span v s r.3 in
-    (r.1, r.4, r.2 ∙ ap (λ z. item z r.0.span ∷ r.1) n.0 ∙ ap (λ z. item (M.Number v) z ∷ r.1) n.1)
+    (r.1, r.4, r.2 ∙ ap (λ z. token z r.0.span ∷ r.1) n.0 ∙ ap (λ z. token (M.Number v) z ∷ r.1) n.1)
 
-name_in : (x : Name) (is : List Item) (t : List Lexeme) → says is ≡ a_name x ∷ t
-    → (l : Bor (List ℕ)) × (span : Span) × (js : List Item) × (says js ≡ t) × (record { letters = l.now; span = span } ≡ x)
-    × (is ≡ item (M.Name l) span ∷ js)
+name_in : (x : Name) (is : List ValuedToken) (t : List Lexeme) → says is ≡ a_name x ∷ t
+    → (l : Bor (List ℕ)) × (span : Span) × (js : List ValuedToken) × (says js ≡ t) × (record { letters = l.now; span = span } ≡ x)
+    × (is ≡ token (M.Name l) span ∷ js)
 name_in x is t h =
-    let r = item_in is (a_name x) t h in
+    let r = token_in is (a_name x) t h in
     let n = name_by_ r.0.meaning r.0.span x r.3 in
-    (n.0, r.0.span, r.1, r.4, n.2, r.2 ∙ ap (λ z. item z r.0.span ∷ r.1) n.1)
+    (n.0, r.0.span, r.1, r.4, n.2, r.2 ∙ ap (λ z. token z r.0.span ∷ r.1) n.1)
 
 module _ (end : ℕ) where
   -- the reading takes the value from the front, and leaves the rest
   abbrev pub Takes : {V : Type 0} → Reading V → V → List Lexeme → Type 0
-  Takes m v rest = (r : List Item) × (says r ≡ rest) × (m ≡ Ok (v, r))
+  Takes m v rest = (r : List ValuedToken) × (says r ≡ rest) × (m ≡ Ok (v, r))
 
-  semicolon_takes : (is : List Item) (rest : List Lexeme) → says is ≡ a_word W.Semicolon ∷ rest → Takes (word_at end W.Semicolon is) tt rest
-  unfolding word_at next_at
-  semicolon_takes is rest h = let r = word_in W.Semicolon is rest h in (r.1, r.2, ap (word_at end W.Semicolon) r.3)
+  semicolon_takes : (is : List ValuedToken) (rest : List Lexeme) → says is ≡ a_terminal W.Semicolon ∷ rest → Takes (terminal_at end W.Semicolon is) tt rest
+  unfolding terminal_at next_at
+  semicolon_takes is rest h = let r = terminal_in W.Semicolon is rest h in (r.1, r.2, ap (terminal_at end W.Semicolon) r.3)
 
-  becomes_takes : (is : List Item) (rest : List Lexeme) → says is ≡ a_word W.Becomes ∷ rest → Takes (word_at end W.Becomes is) tt rest
-  unfolding word_at next_at
-  becomes_takes is rest h = let r = word_in W.Becomes is rest h in (r.1, r.2, ap (word_at end W.Becomes) r.3)
+  becomes_takes : (is : List ValuedToken) (rest : List Lexeme) → says is ≡ a_terminal W.Becomes ∷ rest → Takes (terminal_at end W.Becomes is) tt rest
+  unfolding terminal_at next_at
+  becomes_takes is rest h = let r = terminal_in W.Becomes is rest h in (r.1, r.2, ap (terminal_at end W.Becomes) r.3)
 
-  else_takes : (is : List Item) (rest : List Lexeme) → says is ≡ a_word W.Else ∷ rest → Takes (word_at end W.Else is) tt rest
-  unfolding word_at next_at
-  else_takes is rest h = let r = word_in W.Else is rest h in (r.1, r.2, ap (word_at end W.Else) r.3)
+  else_takes : (is : List ValuedToken) (rest : List Lexeme) → says is ≡ a_terminal W.Else ∷ rest → Takes (terminal_at end W.Else is) tt rest
+  unfolding terminal_at next_at
+  else_takes is rest h = let r = terminal_in W.Else is rest h in (r.1, r.2, ap (terminal_at end W.Else) r.3)
 
-  close_takes : (is : List Item) (rest : List Lexeme) → says is ≡ a_word W.Close ∷ rest → Takes (word_at end W.Close is) tt rest
-  unfolding word_at next_at
-  close_takes is rest h = let r = word_in W.Close is rest h in (r.1, r.2, ap (word_at end W.Close) r.3)
+  close_takes : (is : List ValuedToken) (rest : List Lexeme) → says is ≡ a_terminal W.Close ∷ rest → Takes (terminal_at end W.Close is) tt rest
+  unfolding terminal_at next_at
+  close_takes is rest h = let r = terminal_in W.Close is rest h in (r.1, r.2, ap (terminal_at end W.Close) r.3)
 
-  begin_takes : (is : List Item) (rest : List Lexeme) → says is ≡ a_word W.Begin ∷ rest → Takes (word_at end W.Begin is) tt rest
-  unfolding word_at next_at
-  begin_takes is rest h = let r = word_in W.Begin is rest h in (r.1, r.2, ap (word_at end W.Begin) r.3)
+  begin_takes : (is : List ValuedToken) (rest : List Lexeme) → says is ≡ a_terminal W.Begin ∷ rest → Takes (terminal_at end W.Begin is) tt rest
+  unfolding terminal_at next_at
+  begin_takes is rest h = let r = terminal_in W.Begin is rest h in (r.1, r.2, ap (terminal_at end W.Begin) r.3)
 
-  processes_takes : (is : List Item) (rest : List Lexeme) → says is ≡ a_word W.Processes ∷ rest → Takes (word_at end W.Processes is) tt rest
-  unfolding word_at next_at
-  processes_takes is rest h = let r = word_in W.Processes is rest h in (r.1, r.2, ap (word_at end W.Processes) r.3)
+  processes_takes : (is : List ValuedToken) (rest : List Lexeme) → says is ≡ a_terminal W.Processes ∷ rest → Takes (terminal_at end W.Processes is) tt rest
+  unfolding terminal_at next_at
+  processes_takes is rest h = let r = terminal_in W.Processes is rest h in (r.1, r.2, ap (terminal_at end W.Processes) r.3)
 
-  brace_takes : (room : ℕ) (is : List Item) (rest : List Lexeme) → says is ≡ a_word W.OpenBrace ∷ rest → Takes (brace_at end (suc room) is) tt rest
+  brace_takes : (room : ℕ) (is : List ValuedToken) (rest : List Lexeme) → says is ≡ a_terminal W.OpenBrace ∷ rest → Takes (brace_at end (suc room) is) tt rest
   unfolding brace_at next_at
-  brace_takes room is rest h = let r = word_in W.OpenBrace is rest h in (r.1, r.2, ap (brace_at end (suc room)) r.3)
+  brace_takes room is rest h = let r = terminal_in W.OpenBrace is rest h in (r.1, r.2, ap (brace_at end (suc room)) r.3)
 
-  operator_takes : (op : Op) (is : List Item) (rest : List Lexeme) → says is ≡ a_word (W.Operator op) ∷ rest → Takes (operator_at end is) op rest
+  operator_takes : (op : Op) (is : List ValuedToken) (rest : List Lexeme) → says is ≡ a_terminal (W.Operator op) ∷ rest → Takes (operator_at end is) op rest
   unfolding operator_at next_at
-  operator_takes op is rest h = let r = word_in (W.Operator op) is rest h in (r.1, r.2, ap (operator_at end) r.3)
+  operator_takes op is rest h = let r = terminal_in (W.Operator op) is rest h in (r.1, r.2, ap (operator_at end) r.3)
 
-  name_takes : (x : Name) (is : List Item) (rest : List Lexeme) → says is ≡ a_name x ∷ rest → Takes (name_at end is) x rest
+  name_takes : (x : Name) (is : List ValuedToken) (rest : List Lexeme) → says is ≡ a_name x ∷ rest → Takes (name_at end is) x rest
   unfolding name_at next_at
   name_takes x is rest h = let r = name_in x is rest h in (r.2, r.3, ap (name_at end) r.5 ∙ ap (λ z. Ok (z, r.2)) r.4)
 
-  number_takes : (v : ℕ) (s : Span) (is : List Item) (rest : List Lexeme) → says is ≡ a_number v s ∷ rest → Takes (number_at end is) (v, s) rest
+  number_takes : (v : ℕ) (s : Span) (is : List ValuedToken) (rest : List Lexeme) → says is ≡ a_number v s ∷ rest → Takes (number_at end is) (v, s) rest
   unfolding number_at next_at
   number_takes v s is rest h = let r = number_in v s is rest h in (r.0, r.1, ap (number_at end) r.2)
 
-  pair_gives : (read : List Item → Reading (Expression Name)) (is p q r s : List Item) (a b : Expression Name) (op : Op)
-      → read is ≡ Ok (a, p) → operator_at end p ≡ Ok (op, q) → read q ≡ Ok (b, r) → word_at end W.Close r ≡ Ok (tt, s)
+  pair_gives : (read : List ValuedToken → Reading (Expression Name)) (is p q r s : List ValuedToken) (a b : Expression Name) (op : Op)
+      → read is ≡ Ok (a, p) → operator_at end p ≡ Ok (op, q) → read q ≡ Ok (b, r) → terminal_at end W.Close r ≡ Ok (tt, s)
       → pair_at end read is ≡ Ok (binary a op b, s)
   unfolding pair_at
   pair_gives read is p q r s a b op h k l m = rw (h, k, l, m) refl
 
-  open_gives : (room : ℕ) (span : Span) (js : List Item)
-      → expression_at end (suc room) (item (M.Word W.Open) span ∷ js) ≡ pair_at end (expression_at end room) js
+  open_gives : (room : ℕ) (span : Span) (js : List ValuedToken)
+      → expression_at end (suc room) (token (M.Terminal W.Open) span ∷ js) ≡ pair_at end (expression_at end room) js
   unfolding expression_at brackets_at next_at
   open_gives room span js = refl
 
-  open_takes : (room : ℕ) (span : Span) (is js p q r rest : List Item) (a b : Expression Name) (op : Op)
-      → is ≡ item (M.Word W.Open) span ∷ js → expression_at end room js ≡ Ok (a, p) → operator_at end p ≡ Ok (op, q)
-      → expression_at end room q ≡ Ok (b, r) → word_at end W.Close r ≡ Ok (tt, rest)
+  open_takes : (room : ℕ) (span : Span) (is js p q r rest : List ValuedToken) (a b : Expression Name) (op : Op)
+      → is ≡ token (M.Terminal W.Open) span ∷ js → expression_at end room js ≡ Ok (a, p) → operator_at end p ≡ Ok (op, q)
+      → expression_at end room q ≡ Ok (b, r) → terminal_at end W.Close r ≡ Ok (tt, rest)
       → expression_at end (suc room) is ≡ Ok (binary a op b, rest)
   open_takes room span is js p q r rest a b op first h k l m =
       ap (expression_at end (suc room)) first ∙ open_gives room span js ∙ pair_gives (expression_at end room) js p q r rest a b op h k l m
 
-  pub expression_takes : (room : ℕ) (e : Expression Name) (is : List Item) (rest : List Lexeme)
+  pub expression_takes : (room : ℕ) (e : Expression Name) (is : List ValuedToken) (rest : List Lexeme)
       → IsExpression (says is) e rest → expression_nesting e ≤ room → Takes (expression_at end room is) e rest
   unfolding expression_at next_at
   expression_takes room (number v) is rest d n = let r = number_in v d.0 is rest d.1 in (r.0, r.1, ap (expression_at end room) r.2)
   expression_takes room (named x) is rest d n =
       let r = name_in x is rest d in (r.2, r.3, ap (expression_at end room) r.5 ∙ ap (λ z. Ok (named z, r.2)) r.4)
-  expression_takes room me is rest d n = let r = word_in W.Me is rest d in (r.1, r.2, ap (expression_at end room) r.3)
-  expression_takes room count is rest d n = let r = word_in W.Count is rest d in (r.1, r.2, ap (expression_at end room) r.3)
+  expression_takes room me is rest d n = let r = terminal_in W.Me is rest d in (r.1, r.2, ap (expression_at end room) r.3)
+  expression_takes room count is rest d n = let r = terminal_in W.Count is rest d in (r.1, r.2, ap (expression_at end room) r.3)
   expression_takes zero (binary a op b) is rest d n = absurd (omega arith)
   expression_takes (suc room) (binary a op b) is rest d n =
-      let o = word_in W.Open is d.0 d.2 in
-      let p = expression_takes room a o.1 (a_word (W.Operator op) ∷ d.1) (subst (λ z. IsExpression z a (a_word (W.Operator op) ∷ d.1)) (sym o.2) d.3) (omega arith) in
+      let o = terminal_in W.Open is d.0 d.2 in
+      let p = expression_takes room a o.1 (a_terminal (W.Operator op) ∷ d.1) (subst (λ z. IsExpression z a (a_terminal (W.Operator op) ∷ d.1)) (sym o.2) d.3) (omega arith) in
       let q = operator_takes op p.0 d.1 p.1 in
-      let r = expression_takes room b q.0 (a_word W.Close ∷ rest) (subst (λ z. IsExpression z b (a_word W.Close ∷ rest)) (sym q.1) d.4) (omega arith) in
+      let r = expression_takes room b q.0 (a_terminal W.Close ∷ rest) (subst (λ z. IsExpression z b (a_terminal W.Close ∷ rest)) (sym q.1) d.4) (omega arith) in
       let s = close_takes r.0 rest r.1 in
       (s.0, s.1, open_takes room o.0 is o.1 p.0 q.0 r.0 s.0 a b op o.3 p.2 q.2 r.2 s.2)
 
-  last_gives : (room : ℕ) (is p q : List Item) (e : Expression Name)
-      → expression_at end room is ≡ Ok (e, p) → word_at end W.Semicolon p ≡ Ok (tt, q) → last_at end room is ≡ Ok (e, q)
+  last_gives : (room : ℕ) (is p q : List ValuedToken) (e : Expression Name)
+      → expression_at end room is ≡ Ok (e, p) → terminal_at end W.Semicolon p ≡ Ok (tt, q) → last_at end room is ≡ Ok (e, q)
   unfolding last_at
   last_gives room is p q e h k = rw (h, k) refl
 
-  last_takes : (room : ℕ) (e : Expression Name) (is : List Item) (rest : List Lexeme)
-      → IsExpression (says is) e (a_word W.Semicolon ∷ rest) → expression_nesting e ≤ room → Takes (last_at end room is) e rest
+  last_takes : (room : ℕ) (e : Expression Name) (is : List ValuedToken) (rest : List Lexeme)
+      → IsExpression (says is) e (a_terminal W.Semicolon ∷ rest) → expression_nesting e ≤ room → Takes (last_at end room is) e rest
   last_takes room e is rest d n =
-      let p = expression_takes room e is (a_word W.Semicolon ∷ rest) d n in
+      let p = expression_takes room e is (a_terminal W.Semicolon ∷ rest) d n in
       let q = semicolon_takes p.0 rest p.1 in
       (q.0, q.1, last_gives room is p.0 q.0 e p.2 q.2)
 
-  -- What the first item is, and what then follows.
-  from_first : {V : Type 0} (f : List Item → Reading V) (is : List Item) (i : Item) (js : List Item) (next value : Reading V)
+  -- What the first token is, and what then follows.
+  from_first : {V : Type 0} (f : List ValuedToken → Reading V) (is : List ValuedToken) (i : ValuedToken) (js : List ValuedToken) (next value : Reading V)
       → is ≡ i ∷ js → f (i ∷ js) ≡ next → next ≡ value → f is ≡ value
   from_first f is i js next value first h k = ap f first ∙ h ∙ k
 
   -- an expression on the right-hand side
-  plain_right : (room : ℕ) (x : Name) (e : Expression Name) (is : List Item) (rest : List Lexeme)
+  plain_right : (room : ℕ) (x : Name) (e : Expression Name) (is : List ValuedToken) (rest : List Lexeme)
       → IsExpression (says is) e rest → right_at end room x is ≡ plain_at end room x is
   unfolding right_at next_at
   plain_right room x (number v) is rest d = let r = number_in v d.0 is rest d.1 in subst (λ z. right_at end room x z ≡ plain_at end room x z) (sym r.2) refl
   plain_right room x (named y) is rest d = let r = name_in y is rest d in subst (λ z. right_at end room x z ≡ plain_at end room x z) (sym r.5) refl
-  plain_right room x me is rest d = let r = word_in W.Me is rest d in subst (λ z. right_at end room x z ≡ plain_at end room x z) (sym r.3) refl
-  plain_right room x count is rest d = let r = word_in W.Count is rest d in subst (λ z. right_at end room x z ≡ plain_at end room x z) (sym r.3) refl
-  plain_right room x (binary a op b) is rest d = let r = word_in W.Open is d.0 d.2 in subst (λ z. right_at end room x z ≡ plain_at end room x z) (sym r.3) refl
+  plain_right room x me is rest d = let r = terminal_in W.Me is rest d in subst (λ z. right_at end room x z ≡ plain_at end room x z) (sym r.3) refl
+  plain_right room x count is rest d = let r = terminal_in W.Count is rest d in subst (λ z. right_at end room x z ≡ plain_at end room x z) (sym r.3) refl
+  plain_right room x (binary a op b) is rest d = let r = terminal_in W.Open is d.0 d.2 in subst (λ z. right_at end room x z ≡ plain_at end room x z) (sym r.3) refl
 
-  get_gives : (room : ℕ) (x r : Name) (is p q : List Item) (e : Expression Name)
+  get_gives : (room : ℕ) (x r : Name) (is p q : List ValuedToken) (e : Expression Name)
       → name_at end is ≡ Ok (r, p) → last_at end room p ≡ Ok (e, q) → get_at end room x is ≡ Ok (get x r e, q)
   unfolding get_at
   get_gives room x r is p q e h k = rw (h, k) refl
 
-  scan_gives : (x : Name) (is p : List Item) → word_at end W.Semicolon is ≡ Ok (tt, p) → scan_at end x is ≡ Ok (scan x, p)
+  scan_gives : (x : Name) (is p : List ValuedToken) → terminal_at end W.Semicolon is ≡ Ok (tt, p) → scan_at end x is ≡ Ok (scan x, p)
   unfolding scan_at
   scan_gives x is p h = rw h refl
 
-  copy_gives : (x s : Name) (is p q : List Item) → name_at end is ≡ Ok (s, p) → word_at end W.Semicolon p ≡ Ok (tt, q) → copy_at end x is ≡ Ok (copy x s, q)
+  copy_gives : (x s : Name) (is p q : List ValuedToken) → name_at end is ≡ Ok (s, p) → terminal_at end W.Semicolon p ≡ Ok (tt, q) → copy_at end x is ≡ Ok (copy x s, q)
   unfolding copy_at
   copy_gives x s is p q h k = rw (h, k) refl
 
-  older_gives : (room : ℕ) (x s : Name) (is p q r : List Item) (a b : Expression Name)
+  older_gives : (room : ℕ) (x s : Name) (is p q r : List ValuedToken) (a b : Expression Name)
       → name_at end is ≡ Ok (s, p) → expression_at end room p ≡ Ok (a, q) → last_at end room q ≡ Ok (b, r)
       → older_at end room x is ≡ Ok (older x s a b, r)
   unfolding older_at
   older_gives room x s is p q r a b h k l = rw (h, k, l) refl
 
-  plain_gives : (room : ℕ) (x : Name) (is p : List Item) (e : Expression Name)
+  plain_gives : (room : ℕ) (x : Name) (is p : List ValuedToken) (e : Expression Name)
       → last_at end room is ≡ Ok (e, p) → plain_at end room x is ≡ Ok (assign x e, p)
   unfolding plain_at
   plain_gives room x is p e h = rw h refl
 
-  put_gives : (room : ℕ) (r : Name) (is p q : List Item) (e : Expression Name)
+  put_gives : (room : ℕ) (r : Name) (is p q : List ValuedToken) (e : Expression Name)
       → name_at end is ≡ Ok (r, p) → last_at end room p ≡ Ok (e, q) → put_at end room is ≡ Ok (put r e, q)
   unfolding put_at
   put_gives room r is p q e h k = rw (h, k) refl
 
-  stamp_gives : (is p : List Item) → word_at end W.Semicolon is ≡ Ok (tt, p) → stamp_at end is ≡ Ok (stamp, p)
+  stamp_gives : (is p : List ValuedToken) → terminal_at end W.Semicolon is ≡ Ok (tt, p) → stamp_at end is ≡ Ok (stamp, p)
   unfolding stamp_at
   stamp_gives is p h = rw h refl
 
-  out_gives : (room : ℕ) (is p : List Item) (e : Expression Name) → last_at end room is ≡ Ok (e, p) → out_at end room is ≡ Ok (out e, p)
+  out_gives : (room : ℕ) (is p : List ValuedToken) (e : Expression Name) → last_at end room is ≡ Ok (e, p) → out_at end room is ≡ Ok (out e, p)
   unfolding out_at
   out_gives room is p e h = rw h refl
 
-  -- the right-hand side, by the word that it begins with
-  right_word : (room : ℕ) (x : Name) (is : List Item) (span : Span) (js : List Item) →
-      (right_at end room x (item (M.Word W.Get) span ∷ js) ≡ get_at end room x js)
-      × (right_at end room x (item (M.Word W.Scan) span ∷ js) ≡ scan_at end x js)
-      × (right_at end room x (item (M.Word W.Copy) span ∷ js) ≡ copy_at end x js)
-      × (right_at end room x (item (M.Word W.Older) span ∷ js) ≡ older_at end room x js)
+  -- the right-hand side, by the terminal that it begins with
+  right_terminal : (room : ℕ) (x : Name) (is : List ValuedToken) (span : Span) (js : List ValuedToken) →
+      (right_at end room x (token (M.Terminal W.Get) span ∷ js) ≡ get_at end room x js)
+      × (right_at end room x (token (M.Terminal W.Scan) span ∷ js) ≡ scan_at end x js)
+      × (right_at end room x (token (M.Terminal W.Copy) span ∷ js) ≡ copy_at end x js)
+      × (right_at end room x (token (M.Terminal W.Older) span ∷ js) ≡ older_at end room x js)
   unfolding right_at next_at
-  right_word room x is span js = (refl, refl, refl, refl)
+  right_terminal room x is span js = (refl, refl, refl, refl)
 
-  assignment_gives : (room : ℕ) (x : Name) (is p q : List Item) (s : Statement Name)
-      → word_at end W.Becomes is ≡ Ok (tt, p) → right_at end room x p ≡ Ok (s, q) → assignment_at end room x is ≡ Ok (s, q)
+  assignment_gives : (room : ℕ) (x : Name) (is p q : List ValuedToken) (s : Statement Name)
+      → terminal_at end W.Becomes is ≡ Ok (tt, p) → right_at end room x p ≡ Ok (s, q) → assignment_at end room x is ≡ Ok (s, q)
   unfolding assignment_at
   assignment_gives room x is p q s h k = rw (h, k) refl
 
   -- a statement that begins with a name
-  named_statement : (room : ℕ) (x : Name) (s : Statement Name) (is : List Item) (t rest : List Lexeme)
-      → says is ≡ a_name x ∷ a_word W.Becomes ∷ t
-      → ((js : List Item) → says js ≡ t → Takes (right_at end room x js) s rest)
+  named_statement : (room : ℕ) (x : Name) (s : Statement Name) (is : List ValuedToken) (t rest : List Lexeme)
+      → says is ≡ a_name x ∷ a_terminal W.Becomes ∷ t
+      → ((js : List ValuedToken) → says js ≡ t → Takes (right_at end room x js) s rest)
       → Takes (statement_at end room is) s rest
   unfolding statement_at statement_with next_at
   named_statement room x s is t rest h k =
-      let n = name_in x is (a_word W.Becomes ∷ t) h in
+      let n = name_in x is (a_terminal W.Becomes ∷ t) h in
       let b = becomes_takes n.2 t n.3 in
       let r = k b.0 b.1 in
       (r.0, r.1, ap (statement_at end room) n.5 ∙ ap (λ z. assignment_at end room z n.2) n.4 ∙ assignment_gives room x n.2 b.0 r.0 s b.2 r.2)
 
-  -- a statement by the word that it begins with
-  statement_word : (room : ℕ) (span : Span) (js : List Item) →
-      (statement_at end room (item (M.Word W.Put) span ∷ js) ≡ put_at end room js)
-      × (statement_at end room (item (M.Word W.Stamp) span ∷ js) ≡ stamp_at end js)
-      × (statement_at end room (item (M.Word W.Out) span ∷ js) ≡ out_at end room js)
-      × (statement_at end room (item (M.Word W.If) span ∷ js) ≡ branch_at end (block_at end room) room js)
-      × (statement_at end room (item (M.Word W.While) span ∷ js) ≡ repeat_at end (block_at end room) room js)
+  -- a statement by the terminal that it begins with
+  statement_terminal : (room : ℕ) (span : Span) (js : List ValuedToken) →
+      (statement_at end room (token (M.Terminal W.Put) span ∷ js) ≡ put_at end room js)
+      × (statement_at end room (token (M.Terminal W.Stamp) span ∷ js) ≡ stamp_at end js)
+      × (statement_at end room (token (M.Terminal W.Out) span ∷ js) ≡ out_at end room js)
+      × (statement_at end room (token (M.Terminal W.If) span ∷ js) ≡ branch_at end (block_at end room) room js)
+      × (statement_at end room (token (M.Terminal W.While) span ∷ js) ≡ repeat_at end (block_at end room) room js)
   unfolding statement_at statement_with next_at
-  statement_word room span js = (refl, refl, refl, refl, refl)
+  statement_terminal room span js = (refl, refl, refl, refl, refl)
 
-  -- no statement begins with the word that ends a list
-  not_ended : (room : ℕ) (ending : Ending) (m : Meaning) (span : Span) (js : List Item) (x : Statement Name × List Item)
-      → statement_at end room (item m span ∷ js) ≡ Ok x → ends ending m ≡ false
+  -- no statement begins with the terminal that ends a list
+  not_ended : (room : ℕ) (ending : Ending) (m : Meaning) (span : Span) (js : List ValuedToken) (x : Statement Name × List ValuedToken)
+      → statement_at end room (token m span ∷ js) ≡ Ok x → ends ending m ≡ false
   unfolding statement_at statement_with next_at
-  not_ended room N.Program (M.Word W.End) span js x h = absurd (cc)
-  not_ended room N.Braces (M.Word W.CloseBrace) span js x h = absurd (cc)
+  not_ended room N.Program (M.Terminal W.End) span js x h = absurd (cc)
+  not_ended room N.Braces (M.Terminal W.CloseBrace) span js x h = absurd (cc)
   not_ended room ending m span js x h = refl
 
-  none_left : (room : ℕ) (x : Statement Name × List Item) → statement_at end room [] ≡ Ok x → ⊥
+  none_left : (room : ℕ) (x : Statement Name × List ValuedToken) → statement_at end room [] ≡ Ok x → ⊥
   unfolding statement_at statement_with next_at
   none_left room x h = cc
 
-  list_gives : (room : ℕ) (ending : Ending) (most : ℕ) (is p q : List Item) (s : Statement Name) (b : Block Name)
+  list_gives : (room : ℕ) (ending : Ending) (most : ℕ) (is p q : List ValuedToken) (s : Statement Name) (b : Block Name)
       → statement_at end room is ≡ Ok (s, p) → statements_with end (statement_at end room) ending most p ≡ Ok (b, q)
       → statements_with end (statement_at end room) ending (suc most) is ≡ Ok (cons s b, q)
   unfolding statements_with next_at
@@ -271,206 +272,206 @@ module _ (end : ℕ) where
       ∙ ap (λ z. block_by end false is z (statements_with end (statement_at end room) ending most)) h
       ∙ ap (λ z. z >>= λ c. Ok (cons s c.0, c.1)) k
 
-  abbrev ending_word : Ending → Word
-  ending_word N.Program = W.End
-  ending_word N.Braces = W.CloseBrace
+  abbrev ending_terminal : Ending → Terminal
+  ending_terminal N.Program = W.End
+  ending_terminal N.Braces = W.CloseBrace
 
-  list_ends : (room : ℕ) (ending : Ending) (most : ℕ) (span : Span) (js : List Item)
-      → statements_with end (statement_at end room) ending (suc most) (item (M.Word (ending_word ending)) span ∷ js) ≡ Ok (nil, js)
+  list_ends : (room : ℕ) (ending : Ending) (most : ℕ) (span : Span) (js : List ValuedToken)
+      → statements_with end (statement_at end room) ending (suc most) (token (M.Terminal (ending_terminal ending)) span ∷ js) ≡ Ok (nil, js)
   unfolding statements_with next_at
   list_ends room N.Program most span js = refl
   list_ends room N.Braces most span js = refl
 
-  block_gives : (room : ℕ) (is p q : List Item) (b : Block Name)
+  block_gives : (room : ℕ) (is p q : List ValuedToken) (b : Block Name)
       → brace_at end (suc room) is ≡ Ok (tt, p) → statements_with end (statement_at end room) N.Braces (suc (length p)) p ≡ Ok (b, q)
       → block_at end (suc room) is ≡ Ok (b, q)
   unfolding block_at statement_at
   block_gives room is p q b h k = rw (h, k) refl
 
   mutual
-    pub statement_takes : (room : ℕ) (s : Statement Name) (is : List Item) (rest : List Lexeme)
+    pub statement_takes : (room : ℕ) (s : Statement Name) (is : List ValuedToken) (rest : List Lexeme)
         → IsStatement (says is) s rest → statement_nesting s ≤ room → Takes (statement_at end room is) s rest
     statement_takes room (assign x e) is rest d n = named_statement room x (assign x e) is d.0 rest d.1 (λ js h.
-        let de : IsExpression (says js) e (a_word W.Semicolon ∷ rest) = subst (λ z. IsExpression z e (a_word W.Semicolon ∷ rest)) (sym h) d.2 in
+        let de : IsExpression (says js) e (a_terminal W.Semicolon ∷ rest) = subst (λ z. IsExpression z e (a_terminal W.Semicolon ∷ rest)) (sym h) d.2 in
         let p = last_takes room e js rest de n in
-        (p.0, p.1, plain_right room x e js (a_word W.Semicolon ∷ rest) de ∙ plain_gives room x js p.0 e p.2))
-    statement_takes room (get x r e) is rest d n = named_statement room x (get x r e) is (a_word W.Get ∷ a_name r ∷ d.0) rest d.1 (λ js h.
-        let g = word_in W.Get js (a_name r ∷ d.0) h in
+        (p.0, p.1, plain_right room x e js (a_terminal W.Semicolon ∷ rest) de ∙ plain_gives room x js p.0 e p.2))
+    statement_takes room (get x r e) is rest d n = named_statement room x (get x r e) is (a_terminal W.Get ∷ a_name r ∷ d.0) rest d.1 (λ js h.
+        let g = terminal_in W.Get js (a_name r ∷ d.0) h in
         let m = name_takes r g.1 d.0 g.2 in
-        let p = last_takes room e m.0 rest (subst (λ z. IsExpression z e (a_word W.Semicolon ∷ rest)) (sym m.1) d.2) n in
-        (p.0, p.1, from_first (right_at end room x) js (item (M.Word W.Get) g.0) g.1 (get_at end room x g.1) (Ok (get x r e, p.0)) g.3 (right_word room x js g.0 g.1).0 (get_gives room x r g.1 m.0 p.0 e m.2 p.2)))
+        let p = last_takes room e m.0 rest (subst (λ z. IsExpression z e (a_terminal W.Semicolon ∷ rest)) (sym m.1) d.2) n in
+        (p.0, p.1, from_first (right_at end room x) js (token (M.Terminal W.Get) g.0) g.1 (get_at end room x g.1) (Ok (get x r e, p.0)) g.3 (right_terminal room x js g.0 g.1).0 (get_gives room x r g.1 m.0 p.0 e m.2 p.2)))
     statement_takes room (put r e) is rest d n =
-        let g = word_in W.Put is (a_name r ∷ d.0) d.1 in
+        let g = terminal_in W.Put is (a_name r ∷ d.0) d.1 in
         let m = name_takes r g.1 d.0 g.2 in
-        let p = last_takes room e m.0 rest (subst (λ z. IsExpression z e (a_word W.Semicolon ∷ rest)) (sym m.1) d.2) n in
-        (p.0, p.1, from_first (statement_at end room) is (item (M.Word W.Put) g.0) g.1 (put_at end room g.1) (Ok (put r e, p.0)) g.3 (statement_word room g.0 g.1).0 (put_gives room r g.1 m.0 p.0 e m.2 p.2))
+        let p = last_takes room e m.0 rest (subst (λ z. IsExpression z e (a_terminal W.Semicolon ∷ rest)) (sym m.1) d.2) n in
+        (p.0, p.1, from_first (statement_at end room) is (token (M.Terminal W.Put) g.0) g.1 (put_at end room g.1) (Ok (put r e, p.0)) g.3 (statement_terminal room g.0 g.1).0 (put_gives room r g.1 m.0 p.0 e m.2 p.2))
     statement_takes room stamp is rest d n =
-        let g = word_in W.Stamp is (a_word W.Semicolon ∷ rest) d in
+        let g = terminal_in W.Stamp is (a_terminal W.Semicolon ∷ rest) d in
         let p = semicolon_takes g.1 rest g.2 in
-        (p.0, p.1, from_first (statement_at end room) is (item (M.Word W.Stamp) g.0) g.1 (stamp_at end g.1) (Ok (stamp, p.0)) g.3 (statement_word room g.0 g.1).1 (stamp_gives g.1 p.0 p.2))
-    statement_takes room (scan s) is rest d n = named_statement room s (scan s) is (a_word W.Scan ∷ a_word W.Semicolon ∷ rest) rest d (λ js h.
-        let g = word_in W.Scan js (a_word W.Semicolon ∷ rest) h in
+        (p.0, p.1, from_first (statement_at end room) is (token (M.Terminal W.Stamp) g.0) g.1 (stamp_at end g.1) (Ok (stamp, p.0)) g.3 (statement_terminal room g.0 g.1).1 (stamp_gives g.1 p.0 p.2))
+    statement_takes room (scan s) is rest d n = named_statement room s (scan s) is (a_terminal W.Scan ∷ a_terminal W.Semicolon ∷ rest) rest d (λ js h.
+        let g = terminal_in W.Scan js (a_terminal W.Semicolon ∷ rest) h in
         let p = semicolon_takes g.1 rest g.2 in
-        (p.0, p.1, from_first (right_at end room s) js (item (M.Word W.Scan) g.0) g.1 (scan_at end s g.1) (Ok (scan s, p.0)) g.3 (right_word room s js g.0 g.1).1 (scan_gives s g.1 p.0 p.2)))
-    statement_takes room (copy t s) is rest d n = named_statement room t (copy t s) is (a_word W.Copy ∷ a_name s ∷ a_word W.Semicolon ∷ rest) rest d (λ js h.
-        let g = word_in W.Copy js (a_name s ∷ a_word W.Semicolon ∷ rest) h in
-        let m = name_takes s g.1 (a_word W.Semicolon ∷ rest) g.2 in
+        (p.0, p.1, from_first (right_at end room s) js (token (M.Terminal W.Scan) g.0) g.1 (scan_at end s g.1) (Ok (scan s, p.0)) g.3 (right_terminal room s js g.0 g.1).1 (scan_gives s g.1 p.0 p.2)))
+    statement_takes room (copy t s) is rest d n = named_statement room t (copy t s) is (a_terminal W.Copy ∷ a_name s ∷ a_terminal W.Semicolon ∷ rest) rest d (λ js h.
+        let g = terminal_in W.Copy js (a_name s ∷ a_terminal W.Semicolon ∷ rest) h in
+        let m = name_takes s g.1 (a_terminal W.Semicolon ∷ rest) g.2 in
         let p = semicolon_takes m.0 rest m.1 in
-        (p.0, p.1, from_first (right_at end room t) js (item (M.Word W.Copy) g.0) g.1 (copy_at end t g.1) (Ok (copy t s, p.0)) g.3 (right_word room t js g.0 g.1).2 (copy_gives t s g.1 m.0 p.0 m.2 p.2)))
-    statement_takes room (older x s a b) is rest d n = named_statement room x (older x s a b) is (a_word W.Older ∷ a_name s ∷ d.0) rest d.2 (λ js h.
-        let g = word_in W.Older js (a_name s ∷ d.0) h in
+        (p.0, p.1, from_first (right_at end room t) js (token (M.Terminal W.Copy) g.0) g.1 (copy_at end t g.1) (Ok (copy t s, p.0)) g.3 (right_terminal room t js g.0 g.1).2 (copy_gives t s g.1 m.0 p.0 m.2 p.2)))
+    statement_takes room (older x s a b) is rest d n = named_statement room x (older x s a b) is (a_terminal W.Older ∷ a_name s ∷ d.0) rest d.2 (λ js h.
+        let g = terminal_in W.Older js (a_name s ∷ d.0) h in
         let m = name_takes s g.1 d.0 g.2 in
         let p = expression_takes room a m.0 d.1 (subst (λ z. IsExpression z a d.1) (sym m.1) d.3) (omega arith) in
-        let q = last_takes room b p.0 rest (subst (λ z. IsExpression z b (a_word W.Semicolon ∷ rest)) (sym p.1) d.4) (omega arith) in
-        (q.0, q.1, from_first (right_at end room x) js (item (M.Word W.Older) g.0) g.1 (older_at end room x g.1) (Ok (older x s a b, q.0)) g.3 (right_word room x js g.0 g.1).3 (older_gives room x s g.1 m.0 p.0 q.0 a b m.2 p.2 q.2)))
+        let q = last_takes room b p.0 rest (subst (λ z. IsExpression z b (a_terminal W.Semicolon ∷ rest)) (sym p.1) d.4) (omega arith) in
+        (q.0, q.1, from_first (right_at end room x) js (token (M.Terminal W.Older) g.0) g.1 (older_at end room x g.1) (Ok (older x s a b, q.0)) g.3 (right_terminal room x js g.0 g.1).3 (older_gives room x s g.1 m.0 p.0 q.0 a b m.2 p.2 q.2)))
     statement_takes room (out e) is rest d n =
-        let g = word_in W.Out is d.0 d.1 in
-        let p = last_takes room e g.1 rest (subst (λ z. IsExpression z e (a_word W.Semicolon ∷ rest)) (sym g.2) d.2) n in
-        (p.0, p.1, from_first (statement_at end room) is (item (M.Word W.Out) g.0) g.1 (out_at end room g.1) (Ok (out e, p.0)) g.3 (statement_word room g.0 g.1).2 (out_gives room g.1 p.0 e p.2))
+        let g = terminal_in W.Out is d.0 d.1 in
+        let p = last_takes room e g.1 rest (subst (λ z. IsExpression z e (a_terminal W.Semicolon ∷ rest)) (sym g.2) d.2) n in
+        (p.0, p.1, from_first (statement_at end room) is (token (M.Terminal W.Out) g.0) g.1 (out_at end room g.1) (Ok (out e, p.0)) g.3 (statement_terminal room g.0 g.1).2 (out_gives room g.1 p.0 e p.2))
     statement_takes zero (branch e a b) is rest d n = absurd (omega arith)
     statement_takes (suc room) (branch e a b) is rest d n =
-        let g = word_in W.If is d.0 d.3 in
-        let p = expression_takes (suc room) e g.1 (a_word W.OpenBrace ∷ d.1) (subst (λ z. IsExpression z e (a_word W.OpenBrace ∷ d.1)) (sym g.2) d.4) (omega arith) in
+        let g = terminal_in W.If is d.0 d.3 in
+        let p = expression_takes (suc room) e g.1 (a_terminal W.OpenBrace ∷ d.1) (subst (λ z. IsExpression z e (a_terminal W.OpenBrace ∷ d.1)) (sym g.2) d.4) (omega arith) in
         let o = brace_takes room p.0 d.1 p.1 in
-        let q = list_takes room N.Braces a (suc (length o.0)) o.0 (a_word W.Else ∷ a_word W.OpenBrace ∷ d.2)
-        (subst (λ z. IsBlock W.CloseBrace z a (a_word W.Else ∷ a_word W.OpenBrace ∷ d.2)) (sym o.1) d.5) (omega arith) (omega arith) in
-        let f = else_takes q.0 (a_word W.OpenBrace ∷ d.2) q.1 in
+        let q = list_takes room N.Braces a (suc (length o.0)) o.0 (a_terminal W.Else ∷ a_terminal W.OpenBrace ∷ d.2)
+        (subst (λ z. IsBlock W.CloseBrace z a (a_terminal W.Else ∷ a_terminal W.OpenBrace ∷ d.2)) (sym o.1) d.5) (omega arith) (omega arith) in
+        let f = else_takes q.0 (a_terminal W.OpenBrace ∷ d.2) q.1 in
         let u = brace_takes room f.0 d.2 f.1 in
         let v = list_takes room N.Braces b (suc (length u.0)) u.0 rest (subst (λ z. IsBlock W.CloseBrace z b rest) (sym u.1) d.6) (omega arith) (omega arith) in (
           v.0,
           v.1,
-          from_first (statement_at end (suc room)) is (item (M.Word W.If) g.0) g.1 (branch_at end (block_at end (suc room)) (suc room) g.1) (Ok (branch e a b, v.0)) g.3
-              (statement_word (suc room) g.0 g.1).3
+          from_first (statement_at end (suc room)) is (token (M.Terminal W.If) g.0) g.1 (branch_at end (block_at end (suc room)) (suc room) g.1) (Ok (branch e a b, v.0)) g.3
+              (statement_terminal (suc room) g.0 g.1).3
               (branch_gives end (block_at end (suc room)) (suc room) g.1 p.0 q.0 f.0 v.0 e a b p.2 (block_gives room p.0 o.0 q.0 a o.2 q.2) f.2
               (block_gives room f.0 u.0 v.0 b u.2 v.2)),
         )
     statement_takes zero (repeat e a) is rest d n = absurd (omega arith)
     statement_takes (suc room) (repeat e a) is rest d n =
-        let g = word_in W.While is d.0 d.2 in
-        let p = expression_takes (suc room) e g.1 (a_word W.OpenBrace ∷ d.1) (subst (λ z. IsExpression z e (a_word W.OpenBrace ∷ d.1)) (sym g.2) d.3) (omega arith) in
+        let g = terminal_in W.While is d.0 d.2 in
+        let p = expression_takes (suc room) e g.1 (a_terminal W.OpenBrace ∷ d.1) (subst (λ z. IsExpression z e (a_terminal W.OpenBrace ∷ d.1)) (sym g.2) d.3) (omega arith) in
         let o = brace_takes room p.0 d.1 p.1 in
         let q = list_takes room N.Braces a (suc (length o.0)) o.0 rest (subst (λ z. IsBlock W.CloseBrace z a rest) (sym o.1) d.4) (omega arith) (omega arith) in (
           q.0,
           q.1,
-          from_first (statement_at end (suc room)) is (item (M.Word W.While) g.0) g.1 (repeat_at end (block_at end (suc room)) (suc room) g.1) (Ok (repeat e a, q.0)) g.3
-              (statement_word (suc room) g.0 g.1).4
+          from_first (statement_at end (suc room)) is (token (M.Terminal W.While) g.0) g.1 (repeat_at end (block_at end (suc room)) (suc room) g.1) (Ok (repeat e a, q.0)) g.3
+              (statement_terminal (suc room) g.0 g.1).4
               (repeat_gives end (block_at end (suc room)) (suc room) g.1 p.0 q.0 e a p.2 (block_gives room p.0 o.0 q.0 a o.2 q.2)),
         )
 
-    pub list_takes : (room : ℕ) (ending : Ending) (b : Block Name) (most : ℕ) (is : List Item) (rest : List Lexeme)
-        → IsBlock (ending_word ending) (says is) b rest → block_nesting b ≤ room → length is < most
+    pub list_takes : (room : ℕ) (ending : Ending) (b : Block Name) (most : ℕ) (is : List ValuedToken) (rest : List Lexeme)
+        → IsBlock (ending_terminal ending) (says is) b rest → block_nesting b ≤ room → length is < most
         → Takes (statements_with end (statement_at end room) ending most is) b rest
     list_takes room ending nil zero is rest d n l = absurd (omega arith)
     list_takes room ending nil (suc most) is rest d n l =
-        let g = word_in (ending_word ending) is rest d in
+        let g = terminal_in (ending_terminal ending) is rest d in
         (g.1, g.2, ap (statements_with end (statement_at end room) ending (suc most)) g.3 ∙ list_ends room ending most g.0 g.1)
     list_takes room ending (cons s b) zero is rest d n l = absurd (omega arith)
     list_takes room ending (cons s b) (suc most) is rest d n l =
         let p = statement_takes room s is d.0 d.1 (omega arith) in
         let k : length p.0 < length is = statement_shorter end room is p.0 s p.2 in
-        let q = list_takes room ending b most p.0 rest (subst (λ z. IsBlock (ending_word ending) z b rest) (sym p.1) d.2) (omega arith) (omega arith) in
+        let q = list_takes room ending b most p.0 rest (subst (λ z. IsBlock (ending_terminal ending) z b rest) (sym p.1) d.2) (omega arith) (omega arith) in
         (q.0, q.1, list_gives room ending most is p.0 q.0 s b p.2 q.2)
 
-  names_last_gives : (l : Bor (List ℕ)) (s t : Span) (js : List Item)
-      → names_at end (item (M.Name l) s ∷ item (M.Word W.Semicolon) t ∷ js) ≡ Ok (record { letters = l.now; span = s } ∷ [], js)
+  names_last_gives : (l : Bor (List ℕ)) (s t : Span) (js : List ValuedToken)
+      → names_at end (token (M.Name l) s ∷ token (M.Terminal W.Semicolon) t ∷ js) ≡ Ok (record { letters = l.now; span = s } ∷ [], js)
   unfolding names_at
   names_last_gives l s t js = refl
 
-  names_more_gives : (l : Bor (List ℕ)) (s t : Span) (js r : List Item) (xs : List Name) → names_at end js ≡ Ok (xs, r)
-      → names_at end (item (M.Name l) s ∷ item (M.Word W.Comma) t ∷ js) ≡ Ok (record { letters = l.now; span = s } ∷ xs, r)
+  names_more_gives : (l : Bor (List ℕ)) (s t : Span) (js r : List ValuedToken) (xs : List Name) → names_at end js ≡ Ok (xs, r)
+      → names_at end (token (M.Name l) s ∷ token (M.Terminal W.Comma) t ∷ js) ≡ Ok (record { letters = l.now; span = s } ∷ xs, r)
   unfolding names_at
   names_more_gives l s t js r xs h = ap (λ z. z >>= λ ys. Ok (record { letters = l.now; span = s } ∷ ys.0, ys.1)) h
 
-  names_take : (x : Name) (xs : List Name) (is : List Item) (rest : List Lexeme)
-      → AreNames (says is) x xs (a_word W.Semicolon ∷ rest) → Takes (names_at end is) (x ∷ xs) rest
+  names_take : (x : Name) (xs : List Name) (is : List ValuedToken) (rest : List Lexeme)
+      → AreNames (says is) x xs (a_terminal W.Semicolon ∷ rest) → Takes (names_at end is) (x ∷ xs) rest
   names_take x [] is rest d =
-      let n = name_in x is (a_word W.Semicolon ∷ rest) d in
-      let w = word_in W.Semicolon n.2 rest n.3 in (
+      let n = name_in x is (a_terminal W.Semicolon ∷ rest) d in
+      let w = terminal_in W.Semicolon n.2 rest n.3 in (
         w.1,
         w.2,
-        ap (names_at end) (n.5 ∙ ap (λ z. item (M.Name n.0) n.1 ∷ z) w.3) ∙ names_last_gives n.0 n.1 w.0 w.1
+        ap (names_at end) (n.5 ∙ ap (λ z. token (M.Name n.0) n.1 ∷ z) w.3) ∙ names_last_gives n.0 n.1 w.0 w.1
             ∙ ap (λ z. Ok (z ∷ [], w.1)) n.4,
       )
   names_take x (y ∷ ys) is rest d =
-      let n = name_in x is (a_word W.Comma ∷ d.0) d.1 in
-      let w = word_in W.Comma n.2 d.0 n.3 in
-      let r = names_take y ys w.1 rest (subst (λ z. AreNames z y ys (a_word W.Semicolon ∷ rest)) (sym w.2) d.2) in (
+      let n = name_in x is (a_terminal W.Comma ∷ d.0) d.1 in
+      let w = terminal_in W.Comma n.2 d.0 n.3 in
+      let r = names_take y ys w.1 rest (subst (λ z. AreNames z y ys (a_terminal W.Semicolon ∷ rest)) (sym w.2) d.2) in (
         r.0,
         r.1,
-        ap (names_at end) (n.5 ∙ ap (λ z. item (M.Name n.0) n.1 ∷ z) w.3)
+        ap (names_at end) (n.5 ∙ ap (λ z. token (M.Name n.0) n.1 ∷ z) w.3)
             ∙ names_more_gives n.0 n.1 w.0 w.1 r.0 (y ∷ ys) r.2 ∙ ap (λ z. Ok (z ∷ y ∷ ys, r.0)) n.4,
       )
 
-  abbrev word_of_section : Section → Word
-  word_of_section C.Variables = W.Var
-  word_of_section C.Scans = W.Scan
-  word_of_section C.Registers = W.Reg
+  abbrev terminal_of_section : Section → Terminal
+  terminal_of_section C.Variables = W.Var
+  terminal_of_section C.Scans = W.Scan
+  terminal_of_section C.Registers = W.Reg
 
-  -- what begins with a word that begins no such section
+  -- what begins with a terminal that begins no such section
   abbrev IsLater : Section → List Lexeme → Type 0
-  IsLater section ts = (w : Word) × (t : List Lexeme) × (ts ≡ a_word w ∷ t) × (begins section (M.Word w) ≡ false)
+  IsLater section ts = (w : Terminal) × (t : List Lexeme) × (ts ≡ a_terminal w ∷ t) × (begins section (M.Terminal w) ≡ false)
 
-  section_skips : (section : Section) (w : Word) (span : Span) (js : List Item) → begins section (M.Word w) ≡ false
-      → section_at end section (item (M.Word w) span ∷ js) ≡ Ok ([], item (M.Word w) span ∷ js)
+  section_skips : (section : Section) (w : Terminal) (span : Span) (js : List ValuedToken) → begins section (M.Terminal w) ≡ false
+      → section_at end section (token (M.Terminal w) span ∷ js) ≡ Ok ([], token (M.Terminal w) span ∷ js)
   unfolding section_at next_at
-  section_skips section w span js h = ap (λ z. section_by end z (item (M.Word w) span ∷ js) js) h
+  section_skips section w span js h = ap (λ z. section_by end z (token (M.Terminal w) span ∷ js) js) h
 
-  section_names : (section : Section) (span : Span) (js : List Item)
-      → section_at end section (item (M.Word (word_of_section section)) span ∷ js) ≡ names_at end js
+  section_names : (section : Section) (span : Span) (js : List ValuedToken)
+      → section_at end section (token (M.Terminal (terminal_of_section section)) span ∷ js) ≡ names_at end js
   unfolding section_at next_at
   section_names C.Variables span js = refl
   section_names C.Scans span js = refl
   section_names C.Registers span js = refl
 
-  section_takes : (section : Section) (xs : List Name) (is : List Item) (rest : List Lexeme)
-      → IsSection (word_of_section section) (says is) xs rest → IsLater section rest → Takes (section_at end section is) xs rest
+  section_takes : (section : Section) (xs : List Name) (is : List ValuedToken) (rest : List Lexeme)
+      → IsSection (terminal_of_section section) (says is) xs rest → IsLater section rest → Takes (section_at end section is) xs rest
   section_takes section [] is rest d l =
-      let w = word_in l.0 is l.1 (d ∙ l.2) in
+      let w = terminal_in l.0 is l.1 (d ∙ l.2) in
       (is, d, ap (section_at end section) w.3 ∙ section_skips section l.0 w.0 w.1 l.3 ∙ ap (λ z. Ok ([], z)) (sym w.3))
   section_takes section (x ∷ xs) is rest d l =
-      let w = word_in (word_of_section section) is d.0 d.1 in
-      let n = names_take x xs w.1 rest (subst (λ z. AreNames z x xs (a_word W.Semicolon ∷ rest)) (sym w.2) d.2) in
+      let w = terminal_in (terminal_of_section section) is d.0 d.1 in
+      let n = names_take x xs w.1 rest (subst (λ z. AreNames z x xs (a_terminal W.Semicolon ∷ rest)) (sym w.2) d.2) in
       (n.0, n.1, ap (section_at end section) w.3 ∙ section_names section w.0 w.1 ∙ n.2)
 
-  later_than : (section : Section) (w : Word) (ts : List Lexeme) (xs : List Name) (rest : List Lexeme)
-      → IsSection w ts xs rest → begins section (M.Word w) ≡ false → IsLater section rest → IsLater section ts
+  later_than : (section : Section) (w : Terminal) (ts : List Lexeme) (xs : List Name) (rest : List Lexeme)
+      → IsSection w ts xs rest → begins section (M.Terminal w) ≡ false → IsLater section rest → IsLater section ts
   later_than section w ts [] rest d b l = (l.0, l.1, d ∙ l.2, l.3)
   later_than section w ts (x ∷ xs) rest d b l = (w, d.0, d.1, b)
 
-  body_gives : (room : ℕ) (is p q : List Item) (b : Block Name)
-      → word_at end W.Begin is ≡ Ok (tt, p) → statements_with end (statement_at end room) N.Program (suc (length p)) p ≡ Ok (b, q)
+  body_gives : (room : ℕ) (is p q : List ValuedToken) (b : Block Name)
+      → terminal_at end W.Begin is ≡ Ok (tt, p) → statements_with end (statement_at end room) N.Program (suc (length p)) p ≡ Ok (b, q)
       → body_at end room is ≡ Ok (b, q)
   unfolding body_at statements_at
   body_gives room is p q b h k = rw (h, k) refl
 
-  whole_gives : (room : ℕ) (is i1 i2 i3 i4 i5 i6 i7 : List Item) (p : WholeProgram Name)
-      → word_at end W.Processes is ≡ Ok (tt, i1) → number_at end i1 ≡ Ok ((p.processes, p.span), i2) → word_at end W.Semicolon i2 ≡ Ok (tt, i3)
+  whole_gives : (room : ℕ) (is i1 i2 i3 i4 i5 i6 i7 : List ValuedToken) (p : WholeProgram Name)
+      → terminal_at end W.Processes is ≡ Ok (tt, i1) → number_at end i1 ≡ Ok ((p.processes, p.span), i2) → terminal_at end W.Semicolon i2 ≡ Ok (tt, i3)
       → section_at end C.Variables i3 ≡ Ok (p.variables, i4) → section_at end C.Scans i4 ≡ Ok (p.scans, i5)
       → section_at end C.Registers i5 ≡ Ok (p.registers, i6) → body_at end room i6 ≡ Ok (p.body, i7)
       → whole_at end room is ≡ Ok (p, i7)
   unfolding whole_at
   whole_gives room is i1 i2 i3 i4 i5 i6 i7 p a b c d e f g = rw (a, b, c, d, e, f, g) refl
 
-  finishes : (room : ℕ) (is r : List Item) (p : WholeProgram Name) → whole_at end room is ≡ Ok (p, r) → says r ≡ [] → program_at end room is ≡ Ok p
+  finishes : (room : ℕ) (is r : List ValuedToken) (p : WholeProgram Name) → whole_at end room is ≡ Ok (p, r) → says r ≡ [] → program_at end room is ≡ Ok p
   unfolding program_at
   finishes room is [] p h e = rw h refl
   finishes room is (i ∷ r) p h e = absurd (cc)
 
-  pub program_takes : (room : ℕ) (p : WholeProgram Name) (is : List Item) → Derives (says is) p → nesting p ≤ room → program_at end room is ≡ Ok p
+  pub program_takes : (room : ℕ) (p : WholeProgram Name) (is : List ValuedToken) → Derives (says is) p → nesting p ≤ room → program_at end room is ≡ Ok p
   program_takes room p is d n =
-      let i1 = processes_takes is (a_number p.processes p.span ∷ a_word W.Semicolon ∷ d.0) d.4 in
-      let i2 = number_takes p.processes p.span i1.0 (a_word W.Semicolon ∷ d.0) i1.1 in
+      let i1 = processes_takes is (a_number p.processes p.span ∷ a_terminal W.Semicolon ∷ d.0) d.4 in
+      let i2 = number_takes p.processes p.span i1.0 (a_terminal W.Semicolon ∷ d.0) i1.1 in
       let i3 = semicolon_takes i2.0 d.0 i2.1 in
-      let lr : IsLater C.Registers (a_word W.Begin ∷ d.3) = (W.Begin, d.3, refl, refl) in
-      let ls : IsLater C.Scans (a_word W.Begin ∷ d.3) = (W.Begin, d.3, refl, refl) in
-      let lv : IsLater C.Variables (a_word W.Begin ∷ d.3) = (W.Begin, d.3, refl, refl) in
-      let ls2 : IsLater C.Scans d.2 = later_than C.Scans W.Reg d.2 p.registers (a_word W.Begin ∷ d.3) d.7 refl ls in
-      let lv2 : IsLater C.Variables d.2 = later_than C.Variables W.Reg d.2 p.registers (a_word W.Begin ∷ d.3) d.7 refl lv in
+      let lr : IsLater C.Registers (a_terminal W.Begin ∷ d.3) = (W.Begin, d.3, refl, refl) in
+      let ls : IsLater C.Scans (a_terminal W.Begin ∷ d.3) = (W.Begin, d.3, refl, refl) in
+      let lv : IsLater C.Variables (a_terminal W.Begin ∷ d.3) = (W.Begin, d.3, refl, refl) in
+      let ls2 : IsLater C.Scans d.2 = later_than C.Scans W.Reg d.2 p.registers (a_terminal W.Begin ∷ d.3) d.7 refl ls in
+      let lv2 : IsLater C.Variables d.2 = later_than C.Variables W.Reg d.2 p.registers (a_terminal W.Begin ∷ d.3) d.7 refl lv in
       let lv3 : IsLater C.Variables d.1 = later_than C.Variables W.Scan d.1 p.scans d.2 d.6 refl lv2 in
       let i4 = section_takes C.Variables p.variables i3.0 d.1 (subst (λ z. IsSection W.Var z p.variables d.1) (sym i3.1) d.5) lv3 in
       let i5 = section_takes C.Scans p.scans i4.0 d.2 (subst (λ z. IsSection W.Scan z p.scans d.2) (sym i4.1) d.6) ls2 in
-      let i6 = section_takes C.Registers p.registers i5.0 (a_word W.Begin ∷ d.3)
-      (subst (λ z. IsSection W.Reg z p.registers (a_word W.Begin ∷ d.3)) (sym i5.1) d.7) lr in
+      let i6 = section_takes C.Registers p.registers i5.0 (a_terminal W.Begin ∷ d.3)
+      (subst (λ z. IsSection W.Reg z p.registers (a_terminal W.Begin ∷ d.3)) (sym i5.1) d.7) lr in
       let i7 = begin_takes i6.0 d.3 i6.1 in
       let i8 = list_takes room N.Program p.body (suc (length i7.0)) i7.0 [] (subst (λ z. IsBlock W.End z p.body []) (sym i7.1) d.8) n (omega arith) in
       finishes room is i8.0 p (whole_gives room is i1.0 i2.0 i3.0 i4.0 i5.0 i6.0 i8.0 p i1.2 i2.2 i3.2 i4.2 i5.2 i6.2

@@ -3,12 +3,12 @@ use Rattle.std.proofs.Common.{◌≡◌, ◌≢◌, ℕ, suc, ◌+◌, ◌<◌, 
 use Rattle.std.proofs.lemmas.Bool.{ne_eqb, eqb-true, eqb-false}
 use Rattle.tick_syntax.specs.declared.span.Span.{Span}
 use Rattle.tick_syntax.specs.declared.fault.TextFault.{TextFault}
-use Rattle.tick_syntax.specs.declared.item.Item.{Item}
-use Rattle.tick_syntax.specs.declared.item.Ending.TheVariants as N
-use Rattle.tick_syntax.specs.declared.item.Meaning.TheVariants as M
+use Rattle.tick_syntax.specs.declared.valued_token.ValuedToken.{ValuedToken}
+use Rattle.tick_syntax.specs.declared.valued_token.Ending.TheVariants as N
+use Rattle.tick_syntax.specs.declared.valued_token.Meaning.TheVariants as M
 use Rattle.machine_core.specs.declared.operator.Op.TheVariants as O
-use Rattle.tick_syntax.specs.declared.terminals.Word.TheVariants as W
-use Rattle.tick_syntax.specs.Lexeme.{Lexeme, a_name, a_number, a_word, nothing}
+use Rattle.tick_syntax.specs.declared.terminals.Terminal.TheVariants as W
+use Rattle.tick_syntax.specs.Lexeme.{Lexeme, a_name, a_number, a_terminal, nothing}
 use Rattle.tick_syntax.specs.Plain.{Name, WholeProgram}
 use Rattle.tick_syntax.specs.Grammar.{Derives}
 use Rattle.tick_syntax.specs.Nesting.{nesting, IsOpening, open_by}
@@ -24,81 +24,81 @@ Opens s x None = Unit {0}
 Opens s x (Some new) = (st : List Symbol) → opened (new ++ st) ≡ open_by x (opened (s ∷ st))
 
 opens : (s : Symbol) (x : Lexeme) → Opens s x (step s x)
-opens s_program (a_word W.Processes) = λ st. refl
+opens s_program (a_terminal W.Processes) = λ st. refl
 opens s_program x = tt
 opens s_number (a_number v t) = λ st. refl
 opens s_number x = tt
-opens s_semicolon (a_word W.Semicolon) = λ st. refl
+opens s_semicolon (a_terminal W.Semicolon) = λ st. refl
 opens s_semicolon x = tt
 opens s_names (a_name n) = λ st. refl
 opens s_names x = tt
-opens s_more (a_word W.Comma) = λ st. refl
-opens s_more (a_word W.Semicolon) = λ st. refl
+opens s_more (a_terminal W.Comma) = λ st. refl
+opens s_more (a_terminal W.Semicolon) = λ st. refl
 opens s_more x = tt
 opens s_name (a_name n) = λ st. refl
 opens s_name x = tt
-opens s_becomes (a_word W.Becomes) = λ st. refl
+opens s_becomes (a_terminal W.Becomes) = λ st. refl
 opens s_becomes x = tt
-opens s_else (a_word W.Else) = λ st. refl
+opens s_else (a_terminal W.Else) = λ st. refl
 opens s_else x = tt
-opens s_close (a_word W.Close) = λ st. omega arith
+opens s_close (a_terminal W.Close) = λ st. omega arith
 opens s_close x = tt
-opens s_operator (a_word (W.Operator op)) = λ st. refl
+opens s_operator (a_terminal (W.Operator op)) = λ st. refl
 opens s_operator x = tt
-opens s_block (a_word W.OpenBrace) = λ st. refl
+opens s_block (a_terminal W.OpenBrace) = λ st. refl
 opens s_block x = tt
-opens s_begin (a_word W.Begin) = λ st. refl
+opens s_begin (a_terminal W.Begin) = λ st. refl
 opens s_begin x = tt
-opens s_registers (a_word W.Reg) = λ st. refl
-opens s_registers (a_word W.Begin) = λ st. refl
+opens s_registers (a_terminal W.Reg) = λ st. refl
+opens s_registers (a_terminal W.Begin) = λ st. refl
 opens s_registers x = tt
-opens s_scans (a_word W.Scan) = λ st. refl
-opens s_scans (a_word W.Reg) = λ st. refl
-opens s_scans (a_word W.Begin) = λ st. refl
+opens s_scans (a_terminal W.Scan) = λ st. refl
+opens s_scans (a_terminal W.Reg) = λ st. refl
+opens s_scans (a_terminal W.Begin) = λ st. refl
 opens s_scans x = tt
-opens s_variables (a_word W.Var) = λ st. refl
-opens s_variables (a_word W.Scan) = λ st. refl
-opens s_variables (a_word W.Reg) = λ st. refl
-opens s_variables (a_word W.Begin) = λ st. refl
+opens s_variables (a_terminal W.Var) = λ st. refl
+opens s_variables (a_terminal W.Scan) = λ st. refl
+opens s_variables (a_terminal W.Reg) = λ st. refl
+opens s_variables (a_terminal W.Begin) = λ st. refl
 opens s_variables x = tt
 opens s_expression (a_number v t) = λ st. refl
 opens s_expression (a_name n) = λ st. refl
-opens s_expression (a_word W.Me) = λ st. refl
-opens s_expression (a_word W.Count) = λ st. refl
-opens s_expression (a_word W.Open) = λ st. refl
+opens s_expression (a_terminal W.Me) = λ st. refl
+opens s_expression (a_terminal W.Count) = λ st. refl
+opens s_expression (a_terminal W.Open) = λ st. refl
 opens s_expression x = tt
 opens s_right (a_number v t) = λ st. refl
 opens s_right (a_name n) = λ st. refl
-opens s_right (a_word W.Me) = λ st. refl
-opens s_right (a_word W.Count) = λ st. refl
-opens s_right (a_word W.Open) = λ st. refl
-opens s_right (a_word W.Get) = λ st. refl
-opens s_right (a_word W.Scan) = λ st. refl
-opens s_right (a_word W.Copy) = λ st. refl
-opens s_right (a_word W.Older) = λ st. refl
+opens s_right (a_terminal W.Me) = λ st. refl
+opens s_right (a_terminal W.Count) = λ st. refl
+opens s_right (a_terminal W.Open) = λ st. refl
+opens s_right (a_terminal W.Get) = λ st. refl
+opens s_right (a_terminal W.Scan) = λ st. refl
+opens s_right (a_terminal W.Copy) = λ st. refl
+opens s_right (a_terminal W.Older) = λ st. refl
 opens s_right x = tt
 opens s_statement (a_name n) = λ st. refl
-opens s_statement (a_word W.Put) = λ st. refl
-opens s_statement (a_word W.Stamp) = λ st. refl
-opens s_statement (a_word W.Out) = λ st. refl
-opens s_statement (a_word W.If) = λ st. refl
-opens s_statement (a_word W.While) = λ st. refl
+opens s_statement (a_terminal W.Put) = λ st. refl
+opens s_statement (a_terminal W.Stamp) = λ st. refl
+opens s_statement (a_terminal W.Out) = λ st. refl
+opens s_statement (a_terminal W.If) = λ st. refl
+opens s_statement (a_terminal W.While) = λ st. refl
 opens s_statement x = tt
 opens (s_until N.Program) (a_name n) = λ st. refl
-opens (s_until N.Program) (a_word W.Put) = λ st. refl
-opens (s_until N.Program) (a_word W.Stamp) = λ st. refl
-opens (s_until N.Program) (a_word W.Out) = λ st. refl
-opens (s_until N.Program) (a_word W.If) = λ st. refl
-opens (s_until N.Program) (a_word W.While) = λ st. refl
-opens (s_until N.Program) (a_word W.End) = λ st. refl
+opens (s_until N.Program) (a_terminal W.Put) = λ st. refl
+opens (s_until N.Program) (a_terminal W.Stamp) = λ st. refl
+opens (s_until N.Program) (a_terminal W.Out) = λ st. refl
+opens (s_until N.Program) (a_terminal W.If) = λ st. refl
+opens (s_until N.Program) (a_terminal W.While) = λ st. refl
+opens (s_until N.Program) (a_terminal W.End) = λ st. refl
 opens (s_until N.Program) x = tt
 opens (s_until N.Braces) (a_name n) = λ st. refl
-opens (s_until N.Braces) (a_word W.Put) = λ st. refl
-opens (s_until N.Braces) (a_word W.Stamp) = λ st. refl
-opens (s_until N.Braces) (a_word W.Out) = λ st. refl
-opens (s_until N.Braces) (a_word W.If) = λ st. refl
-opens (s_until N.Braces) (a_word W.While) = λ st. refl
-opens (s_until N.Braces) (a_word W.CloseBrace) = λ st. omega arith
+opens (s_until N.Braces) (a_terminal W.Put) = λ st. refl
+opens (s_until N.Braces) (a_terminal W.Stamp) = λ st. refl
+opens (s_until N.Braces) (a_terminal W.Out) = λ st. refl
+opens (s_until N.Braces) (a_terminal W.If) = λ st. refl
+opens (s_until N.Braces) (a_terminal W.While) = λ st. refl
+opens (s_until N.Braces) (a_terminal W.CloseBrace) = λ st. omega arith
 opens (s_until N.Braces) x = tt
 
 pub opens_to : (s : Symbol) (x : Lexeme) (new : List Symbol) → step s x ≡ Some new → (st : List Symbol)
@@ -106,51 +106,51 @@ pub opens_to : (s : Symbol) (x : Lexeme) (new : List Symbol) → step s x ≡ So
 opens_to s x new h = subst (Opens s x) h (opens s x)
 
 pub full_is : (limit : ℕ) (x : Lexeme) (depth : ℕ) → is_full limit x depth ≡ true → IsOpening x × (depth ≡ limit)
-full_is limit (a_word W.Open) depth h = (tt, eqb-true depth limit h)
-full_is limit (a_word W.OpenBrace) depth h = (tt, eqb-true depth limit h)
+full_is limit (a_terminal W.Open) depth h = (tt, eqb-true depth limit h)
+full_is limit (a_terminal W.OpenBrace) depth h = (tt, eqb-true depth limit h)
 full_is limit x depth h = absurd (cc)
 
 pub fits_by : (x : Lexeme) (depth : ℕ) → depth ≤ 64 → is_full 64 x depth ≡ false → open_by x depth ≤ 64
-fits_by (a_word W.Open) depth l h = let n : depth ≢ 64 = eqb-false depth 64 h in omega arith
-fits_by (a_word W.OpenBrace) depth l h = let n : depth ≢ 64 = eqb-false depth 64 h in omega arith
-fits_by (a_word W.Close) depth l h = omega arith
-fits_by (a_word W.CloseBrace) depth l h = omega arith
+fits_by (a_terminal W.Open) depth l h = let n : depth ≢ 64 = eqb-false depth 64 h in omega arith
+fits_by (a_terminal W.OpenBrace) depth l h = let n : depth ≢ 64 = eqb-false depth 64 h in omega arith
+fits_by (a_terminal W.Close) depth l h = omega arith
+fits_by (a_terminal W.CloseBrace) depth l h = omega arith
 fits_by x depth l h = l
 
 grows_by : (x : Lexeme) (depth : ℕ) → open_by x depth ≤ suc depth
-grows_by (a_word W.Open) depth = omega arith
-grows_by (a_word W.OpenBrace) depth = omega arith
-grows_by (a_word W.Close) depth = omega arith
-grows_by (a_word W.CloseBrace) depth = omega arith
+grows_by (a_terminal W.Open) depth = omega arith
+grows_by (a_terminal W.OpenBrace) depth = omega arith
+grows_by (a_terminal W.Close) depth = omega arith
+grows_by (a_terminal W.CloseBrace) depth = omega arith
 grows_by x depth = omega arith
 
 free_by : (limit : ℕ) (x : Lexeme) (depth : ℕ) → depth < limit → is_full limit x depth ≡ false
-free_by limit (a_word W.Open) depth l = let n : depth ≢ limit = omega arith in ne_eqb depth limit n
-free_by limit (a_word W.OpenBrace) depth l = let n : depth ≢ limit = omega arith in ne_eqb depth limit n
+free_by limit (a_terminal W.Open) depth l = let n : depth ≢ limit = omega arith in ne_eqb depth limit n
+free_by limit (a_terminal W.OpenBrace) depth l = let n : depth ≢ limit = omega arith in ne_eqb depth limit n
 free_by limit x depth l = refl
 
 -- a way to complete each symbol
 abbrev complete : Symbol → List Lexeme
-complete s_program = a_word W.Processes ∷ a_number 1 (record { start = 0; end = 0 }) ∷ a_word W.Semicolon ∷ a_word W.Begin ∷ a_word W.End ∷ []
+complete s_program = a_terminal W.Processes ∷ a_number 1 (record { start = 0; end = 0 }) ∷ a_terminal W.Semicolon ∷ a_terminal W.Begin ∷ a_terminal W.End ∷ []
 complete s_number = a_number 0 (record { start = 0; end = 0 }) ∷ []
-complete s_semicolon = a_word W.Semicolon ∷ []
-complete s_variables = a_word W.Begin ∷ a_word W.End ∷ []
-complete s_scans = a_word W.Begin ∷ a_word W.End ∷ []
-complete s_registers = a_word W.Begin ∷ a_word W.End ∷ []
-complete s_begin = a_word W.Begin ∷ a_word W.End ∷ []
-complete s_names = a_name (record { letters = 120 ∷ []; span = record { start = 0; end = 0 } }) ∷ a_word W.Semicolon ∷ []
-complete s_more = a_word W.Semicolon ∷ []
+complete s_semicolon = a_terminal W.Semicolon ∷ []
+complete s_variables = a_terminal W.Begin ∷ a_terminal W.End ∷ []
+complete s_scans = a_terminal W.Begin ∷ a_terminal W.End ∷ []
+complete s_registers = a_terminal W.Begin ∷ a_terminal W.End ∷ []
+complete s_begin = a_terminal W.Begin ∷ a_terminal W.End ∷ []
+complete s_names = a_name (record { letters = 120 ∷ []; span = record { start = 0; end = 0 } }) ∷ a_terminal W.Semicolon ∷ []
+complete s_more = a_terminal W.Semicolon ∷ []
 complete s_name = a_name (record { letters = 120 ∷ []; span = record { start = 0; end = 0 } }) ∷ []
-complete s_becomes = a_word W.Becomes ∷ []
-complete s_else = a_word W.Else ∷ []
-complete s_close = a_word W.Close ∷ []
-complete s_operator = a_word (W.Operator O.Add) ∷ []
-complete s_expression = a_word W.Me ∷ []
-complete s_right = a_word W.Me ∷ a_word W.Semicolon ∷ []
-complete s_block = a_word W.OpenBrace ∷ a_word W.CloseBrace ∷ []
-complete s_statement = a_word W.Stamp ∷ a_word W.Semicolon ∷ []
-complete (s_until N.Program) = a_word W.End ∷ []
-complete (s_until N.Braces) = a_word W.CloseBrace ∷ []
+complete s_becomes = a_terminal W.Becomes ∷ []
+complete s_else = a_terminal W.Else ∷ []
+complete s_close = a_terminal W.Close ∷ []
+complete s_operator = a_terminal (W.Operator O.Add) ∷ []
+complete s_expression = a_terminal W.Me ∷ []
+complete s_right = a_terminal W.Me ∷ a_terminal W.Semicolon ∷ []
+complete s_block = a_terminal W.OpenBrace ∷ a_terminal W.CloseBrace ∷ []
+complete s_statement = a_terminal W.Stamp ∷ a_terminal W.Semicolon ∷ []
+complete (s_until N.Program) = a_terminal W.End ∷ []
+complete (s_until N.Braces) = a_terminal W.CloseBrace ∷ []
 
 completes : (s : Symbol) (ts : List Lexeme) (st : List Symbol) → run (complete s ++ ts) (s ∷ st) ≡ run ts st
 completes s_program ts st = refl
@@ -228,28 +228,28 @@ run_append (x ∷ xs) ys (s ∷ st) =
     run_by_same (on_stack (step s x) st) (run (xs ++ ys)) (λ z. run_by (run xs z) (run ys)) (λ z. run_append xs ys z)
     ∙ sym (run_by_by (on_stack (step s x) st) (run xs) (run ys))
 
--- items that say these tokens
-abbrev item_for : Lexeme → Item
-item_for (a_name x) = record { meaning = M.Name (record { ref_ptr = (0, 0); now = x.letters }); span = x.span }
-item_for (a_number v s) = record { meaning = M.Number v; span = s }
-item_for (a_word w) = record { meaning = M.Word w; span = record { start = 0; end = 0 } }
-item_for nothing = record { meaning = M.Nothing; span = record { start = 0; end = 0 } }
+-- tokens that say these lexemes
+abbrev token_for : Lexeme → ValuedToken
+token_for (a_name x) = record { meaning = M.Name (record { ref_ptr = (0, 0); now = x.letters }); span = x.span }
+token_for (a_number v s) = record { meaning = M.Number v; span = s }
+token_for (a_terminal w) = record { meaning = M.Terminal w; span = record { start = 0; end = 0 } }
+token_for nothing = record { meaning = M.Nothing; span = record { start = 0; end = 0 } }
 
-abbrev items_for : List Lexeme → List Item
-items_for [] = []
-items_for (x ∷ xs) = item_for x ∷ items_for xs
+abbrev tokens_for : List Lexeme → List ValuedToken
+tokens_for [] = []
+tokens_for (x ∷ xs) = token_for x ∷ tokens_for xs
 
-said_for : (x : Lexeme) → said (item_for x) ≡ x
+said_for : (x : Lexeme) → said (token_for x) ≡ x
 said_for (a_name x) = refl
 said_for (a_number v s) = refl
-said_for (a_word w) = refl
+said_for (a_terminal w) = refl
 said_for nothing = refl
 
-says_for : (xs : List Lexeme) → says (items_for xs) ≡ xs
+says_for : (xs : List Lexeme) → says (tokens_for xs) ≡ xs
 says_for [] = refl
-says_for (x ∷ xs) = ap (λ z. z ∷ says (items_for xs)) (said_for x) ∙ ap (λ z. x ∷ z) (says_for xs)
+says_for (x ∷ xs) = ap (λ z. z ∷ says (tokens_for xs)) (said_for x) ∙ ap (λ z. x ∷ z) (says_for xs)
 
--- where no bracket is one too many, the items are read to their end just where they run out of symbols
+-- where no bracket is one too many, the tokens are read to their end just where they run out of symbols
 module _ (end limit : ℕ) where
   runs_step : (ts : List Lexeme) (st : List Symbol) (span : Span) (more : List Symbol → Option TextFault) (o : Option (List Symbol)) (b : Bool)
       → fault_by (on_stack o st) b span more ≡ None
@@ -259,7 +259,7 @@ module _ (end limit : ℕ) where
   runs_step ts st span more (Some new) true k go = absurd (cc)
   runs_step ts st span more (Some new) false k go = go new k
 
-  runs_out : (is : List Item) (st : List Symbol) → fault end limit is st ≡ None → run (says is) st ≡ Some []
+  runs_out : (is : List ValuedToken) (st : List Symbol) → fault end limit is st ≡ None → run (says is) st ≡ Some []
   runs_out [] [] h = refl
   runs_out [] (s ∷ st) h = absurd (cc)
   runs_out (i ∷ is) [] h = absurd (cc)
@@ -278,7 +278,7 @@ module _ (end limit : ℕ) where
       ap (λ z. fault_by (Some (new ++ st)) z span more) (free_by limit x (opened (s ∷ st)) (omega arith))
       ∙ go new k (omega arith)
 
-  no_fault : (is : List Item) (st : List Symbol) → run (says is) st ≡ Some [] → opened st + length is < limit → fault end limit is st ≡ None
+  no_fault : (is : List ValuedToken) (st : List Symbol) → run (says is) st ≡ Some [] → opened st + length is < limit → fault end limit is st ≡ None
   no_fault [] [] h l = refl
   no_fault [] (s ∷ st) h l = absurd (cc)
   no_fault (i ∷ is) [] h l = absurd (cc)
@@ -295,7 +295,7 @@ derived_by (Err e) ts f g = absurd (g e refl)
 -- tokens that run out of symbols are a program
 pub derives_back : (ts : List Lexeme) → run ts (s_program ∷ []) ≡ Some [] → (p : WholeProgram Name) × Derives ts p
 derives_back ts h =
-    let is : List Item = items_for ts in
+    let is : List ValuedToken = tokens_for ts in
     let limit : ℕ = suc (length is) in
     let same : says is ≡ ts = says_for ts in
     let none : fault 0 limit is (s_program ∷ []) ≡ None =
@@ -310,7 +310,7 @@ derives_back ts h =
 -- and a program's tokens run out of symbols
 pub derives_runs : (ts : List Lexeme) (p : WholeProgram Name) → Derives ts p → run ts (s_program ∷ []) ≡ Some []
 derives_runs ts p d =
-    let is : List Item = items_for ts in
+    let is : List ValuedToken = tokens_for ts in
     let same : says is ≡ ts = says_for ts in
     let ok : program_at 0 (nesting p) is ≡ Ok p = program_takes 0 (nesting p) p is (subst (λ z. Derives z p) (sym same) d) (omega arith) in
     subst (λ z. run z (s_program ∷ []) ≡ Some []) same
@@ -322,7 +322,7 @@ one_value p q h = cc
 -- a list of tokens is one program at most
 pub derives_once : (ts : List Lexeme) (p q : WholeProgram Name) → Derives ts p → Derives ts q → p ≡ q
 derives_once ts p q d f =
-    let is : List Item = items_for ts in
+    let is : List ValuedToken = tokens_for ts in
     let depth : ℕ = max (nesting p) (nesting q) in
     let same : says is ≡ ts = says_for ts in
     let a : program_at 0 depth is ≡ Ok p = program_takes 0 depth p is (subst (λ z. Derives z p) (sym same) d) (omega arith) in

@@ -3,18 +3,18 @@ use Rattle.std.proofs.Common.{◌≡◌, ◌≢◌, ℕ, ◌<◌, ◌≤◌, ◌
 use Rattle.std.proofs.lemmas.Bool.Decides.{leb_tells}
 use Rattle.tick_syntax.specs.declared.fault.TextFault.{TextFault}
 use Rattle.tick_syntax.specs.declared.fault.TextFault.TheVariants as F
-use Rattle.tick_syntax.specs.declared.item.Item.{Item}
-use Rattle.tick_syntax.specs.declared.item.Meaning.TheVariants as M
+use Rattle.tick_syntax.specs.declared.valued_token.ValuedToken.{ValuedToken}
+use Rattle.tick_syntax.specs.declared.valued_token.Meaning.TheVariants as M
 use Rattle.tick_syntax.specs.declared.span.Span.{Span}
 use Rattle.tick_syntax.specs.declared.token.Sort.{Sort}
 use Rattle.tick_syntax.specs.declared.token.Sort.TheVariants as K
 use Rattle.tick_syntax.specs.declared.token.Token.{Token}
-use Rattle.tick_syntax.specs.declared.terminals.Word.{Word}
+use Rattle.tick_syntax.specs.declared.terminals.Terminal.{Terminal}
 use Rattle.tick_syntax.specs.Decided.{IsWithinLimits}
 use Rattle.tick_syntax.specs.declared.tree.Tree.{Tree}
 use Rattle.tick_syntax.specs.Grammar.{Derives}
-use Rattle.tick_syntax.specs.prover.Items.{SayAs}
-use Rattle.tick_syntax.specs.Lexeme.{Lexeme, a_name, a_number, a_word, nothing, lexeme_at, lexeme_of, lexemes, of_word, word_of, bytes_at}
+use Rattle.tick_syntax.specs.prover.ValuedTokens.{SayAs}
+use Rattle.tick_syntax.specs.Lexeme.{Lexeme, a_name, a_number, a_terminal, nothing, lexeme_at, lexeme_of, lexemes, of_terminal, terminal_of, bytes_at}
 use Rattle.tick_syntax.specs.Nesting.{nesting, open_by, IsShallow}
 use Rattle.tick_syntax.specs.Plain.{Name, WholeProgram}
 use Rattle.tick_syntax.specs.prover.Reading.{program_at}
@@ -35,30 +35,30 @@ use Rattle.tick_syntax.proofs.Continuations.{opens_to, fits_by, derives_once}
 use Rattle.tick_syntax.proofs.TokensThatStand.{all_stand}
 use Rattle.tick_syntax.proofs.TokensTold.{is_memory, refusal_of, fault_of}
 
--- an item that says what is said at this place
-abbrev item_at : Lexeme → Span → Item
-item_at (a_name x) span = record { meaning = M.Name (record { ref_ptr = (0, 0); now = x.letters }); span = span }
-item_at (a_number v s) span = record { meaning = M.Number v; span = span }
-item_at (a_word w) span = record { meaning = M.Word w; span = span }
-item_at nothing span = record { meaning = M.Nothing; span = span }
+-- a token that says what is said at this place
+abbrev token_at : Lexeme → Span → ValuedToken
+token_at (a_name x) span = record { meaning = M.Name (record { ref_ptr = (0, 0); now = x.letters }); span = span }
+token_at (a_number v s) span = record { meaning = M.Number v; span = span }
+token_at (a_terminal w) span = record { meaning = M.Terminal w; span = span }
+token_at nothing span = record { meaning = M.Nothing; span = span }
 
-word_said : (o : Option Word) (span : Span) → (said (item_at (of_word o) span) ≡ of_word o) × ((item_at (of_word o) span).span ≡ span)
-word_said None span = (refl, refl)
-word_said (Some w) span = (refl, refl)
+terminal_said : (o : Option Terminal) (span : Span) → (said (token_at (of_terminal o) span) ≡ of_terminal o) × ((token_at (of_terminal o) span).span ≡ span)
+terminal_said None span = (refl, refl)
+terminal_said (Some w) span = (refl, refl)
 
 sort_said : (sort : Sort) (bytes : List ℕ) (span : Span)
-    → (said (item_at (lexeme_at sort bytes span) span) ≡ lexeme_at sort bytes span)
-    × ((item_at (lexeme_at sort bytes span) span).span ≡ span)
+    → (said (token_at (lexeme_at sort bytes span) span) ≡ lexeme_at sort bytes span)
+    × ((token_at (lexeme_at sort bytes span) span).span ≡ span)
 sort_said K.Name bytes span = (refl, refl)
 sort_said (K.Num v) bytes span = (refl, refl)
-sort_said K.Keyword bytes span = word_said (word_of bytes) span
-sort_said K.Sign bytes span = word_said (word_of bytes) span
+sort_said K.Keyword bytes span = terminal_said (terminal_of bytes) span
+sort_said K.Sign bytes span = terminal_said (terminal_of bytes) span
 
-abbrev items_at : List ℕ → List Token → List Item
-items_at text [] = []
-items_at text (t ∷ ts) = item_at (lexeme_of text t) t.span ∷ items_at text ts
+abbrev tokens_at : List ℕ → List Token → List ValuedToken
+tokens_at text [] = []
+tokens_at text (t ∷ ts) = token_at (lexeme_of text t) t.span ∷ tokens_at text ts
 
-say_as : (text : List ℕ) (ts : List Token) → SayAs text (items_at text ts) ts
+say_as : (text : List ℕ) (ts : List Token) → SayAs text (tokens_at text ts) ts
 say_as text [] = tt
 say_as text (t ∷ ts) = (sort_said t.sort (bytes_at text t.span) t.span, say_as text ts)
 
@@ -75,7 +75,7 @@ shallow_step x ts s st span more (Some new) false e f l k go =
     let fits : open_by x (opened (s ∷ st)) ≤ 64 = fits_by x (opened (s ∷ st)) l f in
     (fits, subst (IsShallow ts) d (go new (subst (λ z. z ≤ 64) (sym d) fits) k))
 
-stays_shallow : (end : ℕ) (is : List Item) (st : List Symbol) → opened st ≤ 64 → fault end 64 is st ≡ None → IsShallow (says is) (opened st)
+stays_shallow : (end : ℕ) (is : List ValuedToken) (st : List Symbol) → opened st ≤ 64 → fault end 64 is st ≡ None → IsShallow (says is) (opened st)
 stays_shallow end [] st l h = tt
 stays_shallow end (i ∷ is) [] l h = absurd (cc)
 stays_shallow end (i ∷ is) (s ∷ st) l h =
@@ -86,7 +86,7 @@ module _ (text : List ℕ) where
   -- a program within the limits keeps within them from token to token
   keeps_shallow : (ts : List Token) (p : WholeProgram Name) → Derives (lexemes text ts) p → nesting p ≤ 64 → IsShallow (lexemes text ts) 0
   keeps_shallow ts p d l =
-      let is = items_at text ts in
+      let is = tokens_at text ts in
       let same : says is ≡ lexemes text ts = says_same text is ts (say_as text ts) in
       let ok : program_at 0 64 is ≡ Ok p = program_takes 0 64 p is (subst (λ z. Derives z p) (sym same) d) l in
       let none : fault 0 64 is (s_program ∷ []) ≡ None = (program_ok 0 64 is p ok).2 in
@@ -96,24 +96,24 @@ module _ (text : List ℕ) where
   Read ts =
       ((p : WholeProgram Name) × Derives (lexemes text ts) p × (nesting p ≤ 64)) ⊎ ((e : TextFault) × Stops text ts e)
 
-  stopped : (ts : List Token) (e : TextFault) → fault (length text) 64 (items_at text ts) (s_program ∷ []) ≡ Some e → Read ts
-  stopped ts (F.Unexpected place) h = inr (F.Unexpected place, is_unexpected text (items_at text ts) ts place (say_as text ts) h)
-  stopped ts (F.TooDeep place) h = inr (F.TooDeep place, is_too_deep text (items_at text ts) ts place (say_as text ts) h)
-  stopped ts F.TextTooLong h = absurd (of_fault (length text) 64 (items_at text ts) (s_program ∷ []) F.TextTooLong h)
-  stopped ts (F.BadCharacter place) h = absurd (of_fault (length text) 64 (items_at text ts) (s_program ∷ []) (F.BadCharacter place) h)
-  stopped ts (F.NumberTooBig place) h = absurd (of_fault (length text) 64 (items_at text ts) (s_program ∷ []) (F.NumberTooBig place) h)
-  stopped ts (F.NameTooLong place) h = absurd (of_fault (length text) 64 (items_at text ts) (s_program ∷ []) (F.NameTooLong place) h)
-  stopped ts F.NoMemory h = absurd (no_memory (length text) 64 (items_at text ts) (s_program ∷ []) h)
+  stopped : (ts : List Token) (e : TextFault) → fault (length text) 64 (tokens_at text ts) (s_program ∷ []) ≡ Some e → Read ts
+  stopped ts (F.Unexpected place) h = inr (F.Unexpected place, is_unexpected text (tokens_at text ts) ts place (say_as text ts) h)
+  stopped ts (F.TooDeep place) h = inr (F.TooDeep place, is_too_deep text (tokens_at text ts) ts place (say_as text ts) h)
+  stopped ts F.TextTooLong h = absurd (of_fault (length text) 64 (tokens_at text ts) (s_program ∷ []) F.TextTooLong h)
+  stopped ts (F.BadCharacter place) h = absurd (of_fault (length text) 64 (tokens_at text ts) (s_program ∷ []) (F.BadCharacter place) h)
+  stopped ts (F.NumberTooBig place) h = absurd (of_fault (length text) 64 (tokens_at text ts) (s_program ∷ []) (F.NumberTooBig place) h)
+  stopped ts (F.NameTooLong place) h = absurd (of_fault (length text) 64 (tokens_at text ts) (s_program ∷ []) (F.NameTooLong place) h)
+  stopped ts F.NoMemory h = absurd (no_memory (length text) 64 (tokens_at text ts) (s_program ∷ []) h)
 
-  read_by : (ts : List Token) (r : Result (WholeProgram Name) TextFault) → program_at (length text) 64 (items_at text ts) ≡ r → Read ts
+  read_by : (ts : List Token) (r : Result (WholeProgram Name) TextFault) → program_at (length text) 64 (tokens_at text ts) ≡ r → Read ts
   read_by ts (Ok p) h =
-      let ok = program_ok (length text) 64 (items_at text ts) p h in
-      let same : says (items_at text ts) ≡ lexemes text ts = says_same text (items_at text ts) ts (say_as text ts) in
+      let ok = program_ok (length text) 64 (tokens_at text ts) p h in
+      let same : says (tokens_at text ts) ≡ lexemes text ts = says_same text (tokens_at text ts) ts (say_as text ts) in
       inl (p, subst (λ z. Derives z p) same ok.0, ok.1)
-  read_by ts (Err e) h = stopped ts e (program_err (length text) 64 (items_at text ts) e h)
+  read_by ts (Err e) h = stopped ts e (program_err (length text) 64 (tokens_at text ts) e h)
 
   read : (ts : List Token) → Read ts
-  read ts = read_by ts (program_at (length text) 64 (items_at text ts)) refl
+  read ts = read_by ts (program_at (length text) 64 (tokens_at text ts)) refl
 
   abbrev OfTokens : TextFault → Type 0
   OfTokens fault = (tokens : List Token) × (length text ≤ 1000000) × Spells text tokens × Stops text tokens fault

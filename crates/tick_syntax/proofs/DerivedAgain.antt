@@ -4,10 +4,10 @@
 -- program. Its tokens and the first program's are the same spans aside, and so are the trees: with every name and
 -- number at no place the tokens are the same list, and a list of tokens is one program at most.
 use Rattle.std.proofs.Common.{◌≡◌, List, [], ◌∷◌, ◌++◌, map, Option, Some, None, refl, sym, ap, ◌∙◌, subst, append_assoc}
-use Rattle.tick_syntax.specs.declared.item.Ending.TheVariants as N
-use Rattle.tick_syntax.specs.declared.terminals.Word.{Word}
-use Rattle.tick_syntax.specs.declared.terminals.Word.TheVariants as W
-use Rattle.tick_syntax.specs.Lexeme.{Lexeme, a_name, a_number, a_word, nothing}
+use Rattle.tick_syntax.specs.declared.valued_token.Ending.TheVariants as N
+use Rattle.tick_syntax.specs.declared.terminals.Terminal.{Terminal}
+use Rattle.tick_syntax.specs.declared.terminals.Terminal.TheVariants as W
+use Rattle.tick_syntax.specs.Lexeme.{Lexeme, a_name, a_number, a_terminal, nothing}
 use Rattle.tick_syntax.specs.Grammar.{IsExpression, IsStatement, IsBlock, AreNames, IsSection, Derives}
 use Rattle.tick_syntax.specs.Plain.{Name, Expression, number, named, me, count, binary, map_expression, Statement, assign, get, put, stamp, scan, copy, older, out, branch, repeat, map_statement, Block, nil, cons, map_block, WholeProgram, without_spans}
 use Rattle.tick_syntax.specs.Printed.{nowhere, expression_tokens, statement_tokens, block_tokens, names_tokens, section_tokens, program_tokens}
@@ -24,8 +24,8 @@ expression_own (named x) rest = refl
 expression_own me rest = refl
 expression_own count rest = refl
 expression_own (binary a op b) rest = (
-  expression_tokens a ++ a_word (W.Operator op) ∷ (expression_tokens b ++ a_word W.Close ∷ rest),
-  expression_tokens b ++ a_word W.Close ∷ rest,
+  expression_tokens a ++ a_terminal (W.Operator op) ∷ (expression_tokens b ++ a_terminal W.Close ∷ rest),
+  expression_tokens b ++ a_terminal W.Close ∷ rest,
   simp (append_assoc),
   expression_own a _,
   expression_own b _,
@@ -33,41 +33,41 @@ expression_own (binary a op b) rest = (
 
 mutual
   statement_own : (s : Statement Name) (rest : List Lexeme) → IsStatement (statement_tokens s ++ rest) s rest
-  statement_own (assign x e) rest = (expression_tokens e ++ a_word W.Semicolon ∷ rest, simp (append_assoc), expression_own e _)
-  statement_own (get x r e) rest = (expression_tokens e ++ a_word W.Semicolon ∷ rest, simp (append_assoc), expression_own e _)
-  statement_own (put r e) rest = (expression_tokens e ++ a_word W.Semicolon ∷ rest, simp (append_assoc), expression_own e _)
+  statement_own (assign x e) rest = (expression_tokens e ++ a_terminal W.Semicolon ∷ rest, simp (append_assoc), expression_own e _)
+  statement_own (get x r e) rest = (expression_tokens e ++ a_terminal W.Semicolon ∷ rest, simp (append_assoc), expression_own e _)
+  statement_own (put r e) rest = (expression_tokens e ++ a_terminal W.Semicolon ∷ rest, simp (append_assoc), expression_own e _)
   statement_own stamp rest = refl
   statement_own (scan s) rest = refl
   statement_own (copy t s) rest = refl
   statement_own (older x s a b) rest = (
-    expression_tokens a ++ (expression_tokens b ++ a_word W.Semicolon ∷ rest),
-    expression_tokens b ++ a_word W.Semicolon ∷ rest,
+    expression_tokens a ++ (expression_tokens b ++ a_terminal W.Semicolon ∷ rest),
+    expression_tokens b ++ a_terminal W.Semicolon ∷ rest,
     simp (append_assoc),
     expression_own a _,
     expression_own b _,
   )
-  statement_own (out e) rest = (expression_tokens e ++ a_word W.Semicolon ∷ rest, simp (append_assoc), expression_own e _)
+  statement_own (out e) rest = (expression_tokens e ++ a_terminal W.Semicolon ∷ rest, simp (append_assoc), expression_own e _)
   statement_own (branch e a b) rest =
-      let other = block_tokens b ++ a_word W.CloseBrace ∷ rest in
-      let first = block_tokens a ++ a_word W.CloseBrace ∷ a_word W.Else ∷ a_word W.OpenBrace ∷ other in
-      (expression_tokens e ++ a_word W.OpenBrace ∷ first, first, other, simp (append_assoc), expression_own e _, block_own W.CloseBrace a _, block_own W.CloseBrace b _)
+      let other = block_tokens b ++ a_terminal W.CloseBrace ∷ rest in
+      let first = block_tokens a ++ a_terminal W.CloseBrace ∷ a_terminal W.Else ∷ a_terminal W.OpenBrace ∷ other in
+      (expression_tokens e ++ a_terminal W.OpenBrace ∷ first, first, other, simp (append_assoc), expression_own e _, block_own W.CloseBrace a _, block_own W.CloseBrace b _)
   statement_own (repeat e a) rest =
-      let body = block_tokens a ++ a_word W.CloseBrace ∷ rest in
-      (expression_tokens e ++ a_word W.OpenBrace ∷ body, body, simp (append_assoc), expression_own e _, block_own W.CloseBrace a _)
+      let body = block_tokens a ++ a_terminal W.CloseBrace ∷ rest in
+      (expression_tokens e ++ a_terminal W.OpenBrace ∷ body, body, simp (append_assoc), expression_own e _, block_own W.CloseBrace a _)
 
-  block_own : (last : Word) (b : Block Name) (rest : List Lexeme) → IsBlock last (block_tokens b ++ a_word last ∷ rest) b rest
+  block_own : (last : Terminal) (b : Block Name) (rest : List Lexeme) → IsBlock last (block_tokens b ++ a_terminal last ∷ rest) b rest
   block_own last nil rest = refl
   block_own last (cons s b) rest =
-      let more = block_tokens b ++ a_word last ∷ rest in
-      (more, subst (λ z. IsStatement z s more) (sym (append_assoc (statement_tokens s) (block_tokens b) (a_word last ∷ rest))) (statement_own s more), block_own last b rest)
+      let more = block_tokens b ++ a_terminal last ∷ rest in
+      (more, subst (λ z. IsStatement z s more) (sym (append_assoc (statement_tokens s) (block_tokens b) (a_terminal last ∷ rest))) (statement_own s more), block_own last b rest)
 
 names_own : (x : Name) (xs : List Name) (rest : List Lexeme) → AreNames (names_tokens x xs ++ rest) x xs rest
 names_own x [] rest = refl
 names_own x (y ∷ ys) rest = (names_tokens y ys ++ rest, refl, names_own y ys rest)
 
-section_own : (word : Word) (xs : List Name) (rest : List Lexeme) → IsSection word (section_tokens word xs ++ rest) xs rest
-section_own word [] rest = refl
-section_own word (x ∷ xs) rest = (names_tokens x xs ++ a_word W.Semicolon ∷ rest, simp (append_assoc), names_own x xs _)
+section_own : (terminal : Terminal) (xs : List Name) (rest : List Lexeme) → IsSection terminal (section_tokens terminal xs ++ rest) xs rest
+section_own terminal [] rest = refl
+section_own terminal (x ∷ xs) rest = (names_tokens x xs ++ a_terminal W.Semicolon ∷ rest, simp (append_assoc), names_own x xs _)
 
 derives_own : (p : WholeProgram Name) → Derives (program_tokens p) p
 derives_own p = (_, _, _, _, refl, section_own W.Var p.variables _, section_own W.Scan p.scans _, section_own W.Reg p.registers _, block_own W.End p.body [])
@@ -130,7 +130,7 @@ step_spanless (s_until N.Braces) (a_name x) = refl
 step_spanless (s_until N.Braces) (a_number v span) = refl
 step_spanless s (a_name x) = refl
 step_spanless s (a_number v span) = refl
-step_spanless s (a_word w) = refl
+step_spanless s (a_terminal w) = refl
 step_spanless s nothing = refl
 
 run_by_spanless : (o : Option (List Symbol)) (ts : List Lexeme) → ((st : List Symbol) → run (spanless_all ts) st ≡ run ts st)

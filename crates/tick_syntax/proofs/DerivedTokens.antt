@@ -1,9 +1,9 @@
 -- The tokens that a program was derived from are its printed tokens, spans aside.
 use Rattle.std.proofs.Common.{◌≡◌, List, [], ◌∷◌, ◌++◌, ap, ◌∙◌, append_assoc}
 use Rattle.std.proofs.lemmas.List.{map-append}
-use Rattle.tick_syntax.specs.declared.terminals.Word.{Word}
-use Rattle.tick_syntax.specs.declared.terminals.Word.TheVariants as W
-use Rattle.tick_syntax.specs.Lexeme.{Lexeme, a_name, a_number, a_word}
+use Rattle.tick_syntax.specs.declared.terminals.Terminal.{Terminal}
+use Rattle.tick_syntax.specs.declared.terminals.Terminal.TheVariants as W
+use Rattle.tick_syntax.specs.Lexeme.{Lexeme, a_name, a_number, a_terminal}
 use Rattle.tick_syntax.specs.Grammar.{IsExpression, IsStatement, IsBlock, AreNames, IsSection, Derives}
 use Rattle.tick_syntax.specs.Plain.{Name, Expression, number, named, me, count, binary, Statement, assign, get, put, stamp, scan, copy, older, out, branch, repeat, Block, nil, cons, WholeProgram}
 use Rattle.tick_syntax.specs.Printed.{expression_tokens, statement_tokens, block_tokens, names_tokens, section_tokens, program_tokens}
@@ -15,44 +15,44 @@ expression_derived ts (named x) rest d = ap spanless_all d
 expression_derived ts me rest d = ap spanless_all d
 expression_derived ts count rest d = ap spanless_all d
 expression_derived ts (binary a op b) rest d =
-    ap spanless_all d.2 ∙ ap (λ xs. a_word W.Open ∷ xs) (expression_derived d.0 a (a_word (W.Operator op) ∷ d.1) d.3)
-    ∙ ap (λ xs. a_word W.Open ∷ (spanless_all (expression_tokens a) ++ a_word (W.Operator op) ∷ xs)) (expression_derived d.1 b (a_word W.Close ∷ rest) d.4)
+    ap spanless_all d.2 ∙ ap (λ xs. a_terminal W.Open ∷ xs) (expression_derived d.0 a (a_terminal (W.Operator op) ∷ d.1) d.3)
+    ∙ ap (λ xs. a_terminal W.Open ∷ (spanless_all (expression_tokens a) ++ a_terminal (W.Operator op) ∷ xs)) (expression_derived d.1 b (a_terminal W.Close ∷ rest) d.4)
     ∙ simp (map-append, append_assoc)
 
--- an expression, and a word after it
-then_word : (ts : List Lexeme) (e : Expression Name) (w : Word) (rest : List Lexeme) → IsExpression ts e (a_word w ∷ rest) → spanless_all ts ≡ spanless_all (expression_tokens e ++ a_word w ∷ []) ++ spanless_all rest
-then_word ts e w rest d = expression_derived ts e (a_word w ∷ rest) d ∙ simp (map-append, append_assoc)
+-- an expression, and a terminal after it
+then_terminal : (ts : List Lexeme) (e : Expression Name) (w : Terminal) (rest : List Lexeme) → IsExpression ts e (a_terminal w ∷ rest) → spanless_all ts ≡ spanless_all (expression_tokens e ++ a_terminal w ∷ []) ++ spanless_all rest
+then_terminal ts e w rest d = expression_derived ts e (a_terminal w ∷ rest) d ∙ simp (map-append, append_assoc)
 
 mutual
   pub statement_derived : (ts : List Lexeme) (s : Statement Name) (rest : List Lexeme) → IsStatement ts s rest → spanless_all ts ≡ spanless_all (statement_tokens s) ++ spanless_all rest
   statement_derived ts (assign x e) rest d =
-      ap spanless_all d.1 ∙ ap (λ xs. spanless_all (a_name x ∷ a_word W.Becomes ∷ []) ++ xs) (then_word d.0 e W.Semicolon rest d.2)
+      ap spanless_all d.1 ∙ ap (λ xs. spanless_all (a_name x ∷ a_terminal W.Becomes ∷ []) ++ xs) (then_terminal d.0 e W.Semicolon rest d.2)
   statement_derived ts (get x r e) rest d =
-      ap spanless_all d.1 ∙ ap (λ xs. spanless_all (a_name x ∷ a_word W.Becomes ∷ a_word W.Get ∷ a_name r ∷ []) ++ xs) (then_word d.0 e W.Semicolon rest d.2)
+      ap spanless_all d.1 ∙ ap (λ xs. spanless_all (a_name x ∷ a_terminal W.Becomes ∷ a_terminal W.Get ∷ a_name r ∷ []) ++ xs) (then_terminal d.0 e W.Semicolon rest d.2)
   statement_derived ts (put r e) rest d =
-      ap spanless_all d.1 ∙ ap (λ xs. spanless_all (a_word W.Put ∷ a_name r ∷ []) ++ xs) (then_word d.0 e W.Semicolon rest d.2)
+      ap spanless_all d.1 ∙ ap (λ xs. spanless_all (a_terminal W.Put ∷ a_name r ∷ []) ++ xs) (then_terminal d.0 e W.Semicolon rest d.2)
   statement_derived ts stamp rest d = ap spanless_all d
   statement_derived ts (scan s) rest d = ap spanless_all d
   statement_derived ts (copy t s) rest d = ap spanless_all d
   statement_derived ts (older x s a b) rest d =
       ap spanless_all d.2
-      ∙ ap (λ xs. spanless_all (a_name x ∷ a_word W.Becomes ∷ a_word W.Older ∷ a_name s ∷ []) ++ xs)
-      (expression_derived d.0 a d.1 d.3 ∙ ap (λ xs. spanless_all (expression_tokens a) ++ xs) (then_word d.1 b W.Semicolon rest d.4) ∙ simp (map-append, append_assoc))
+      ∙ ap (λ xs. spanless_all (a_name x ∷ a_terminal W.Becomes ∷ a_terminal W.Older ∷ a_name s ∷ []) ++ xs)
+      (expression_derived d.0 a d.1 d.3 ∙ ap (λ xs. spanless_all (expression_tokens a) ++ xs) (then_terminal d.1 b W.Semicolon rest d.4) ∙ simp (map-append, append_assoc))
   statement_derived ts (out e) rest d =
-      ap spanless_all d.1 ∙ ap (λ xs. spanless_all (a_word W.Out ∷ []) ++ xs) (then_word d.0 e W.Semicolon rest d.2)
+      ap spanless_all d.1 ∙ ap (λ xs. spanless_all (a_terminal W.Out ∷ []) ++ xs) (then_terminal d.0 e W.Semicolon rest d.2)
   statement_derived ts (branch e a b) rest d =
       ap spanless_all d.3
-      ∙ ap (λ xs. a_word W.If ∷ xs) (expression_derived d.0 e (a_word W.OpenBrace ∷ d.1) d.4)
-      ∙ ap (λ xs. a_word W.If ∷ (spanless_all (expression_tokens e) ++ a_word W.OpenBrace ∷ xs)) (block_derived W.CloseBrace d.1 a (a_word W.Else ∷ a_word W.OpenBrace ∷ d.2) d.5)
-      ∙ ap (λ xs. a_word W.If ∷ (spanless_all (expression_tokens e) ++ a_word W.OpenBrace ∷ (spanless_all (block_tokens a) ++ a_word W.CloseBrace ∷ a_word W.Else ∷ a_word W.OpenBrace ∷ xs))) (block_derived W.CloseBrace d.2 b rest d.6)
+      ∙ ap (λ xs. a_terminal W.If ∷ xs) (expression_derived d.0 e (a_terminal W.OpenBrace ∷ d.1) d.4)
+      ∙ ap (λ xs. a_terminal W.If ∷ (spanless_all (expression_tokens e) ++ a_terminal W.OpenBrace ∷ xs)) (block_derived W.CloseBrace d.1 a (a_terminal W.Else ∷ a_terminal W.OpenBrace ∷ d.2) d.5)
+      ∙ ap (λ xs. a_terminal W.If ∷ (spanless_all (expression_tokens e) ++ a_terminal W.OpenBrace ∷ (spanless_all (block_tokens a) ++ a_terminal W.CloseBrace ∷ a_terminal W.Else ∷ a_terminal W.OpenBrace ∷ xs))) (block_derived W.CloseBrace d.2 b rest d.6)
       ∙ simp (map-append, append_assoc)
   statement_derived ts (repeat e a) rest d =
       ap spanless_all d.2
-      ∙ ap (λ xs. a_word W.While ∷ xs) (expression_derived d.0 e (a_word W.OpenBrace ∷ d.1) d.3)
-      ∙ ap (λ xs. a_word W.While ∷ (spanless_all (expression_tokens e) ++ a_word W.OpenBrace ∷ xs)) (block_derived W.CloseBrace d.1 a rest d.4)
+      ∙ ap (λ xs. a_terminal W.While ∷ xs) (expression_derived d.0 e (a_terminal W.OpenBrace ∷ d.1) d.3)
+      ∙ ap (λ xs. a_terminal W.While ∷ (spanless_all (expression_tokens e) ++ a_terminal W.OpenBrace ∷ xs)) (block_derived W.CloseBrace d.1 a rest d.4)
       ∙ simp (map-append, append_assoc)
 
-  pub block_derived : (last : Word) (ts : List Lexeme) (b : Block Name) (rest : List Lexeme) → IsBlock last ts b rest → spanless_all ts ≡ spanless_all (block_tokens b) ++ a_word last ∷ spanless_all rest
+  pub block_derived : (last : Terminal) (ts : List Lexeme) (b : Block Name) (rest : List Lexeme) → IsBlock last ts b rest → spanless_all ts ≡ spanless_all (block_tokens b) ++ a_terminal last ∷ spanless_all rest
   block_derived last ts nil rest d = ap spanless_all d
   block_derived last ts (cons s b) rest d =
       statement_derived ts s d.0 d.1 ∙ ap (λ xs. spanless_all (statement_tokens s) ++ xs) (block_derived last d.0 b rest d.2) ∙ simp (map-append, append_assoc)
@@ -60,22 +60,22 @@ mutual
 names_derived : (ts : List Lexeme) (x : Name) (xs : List Name) (rest : List Lexeme) → AreNames ts x xs rest → spanless_all ts ≡ spanless_all (names_tokens x xs) ++ spanless_all rest
 names_derived ts x [] rest d = ap spanless_all d
 names_derived ts x (y ∷ ys) rest d =
-    ap spanless_all d.1 ∙ ap (λ xs. spanless_all (a_name x ∷ a_word W.Comma ∷ []) ++ xs) (names_derived d.0 y ys rest d.2)
+    ap spanless_all d.1 ∙ ap (λ xs. spanless_all (a_name x ∷ a_terminal W.Comma ∷ []) ++ xs) (names_derived d.0 y ys rest d.2)
 
-section_derived : (word : Word) (ts : List Lexeme) (xs : List Name) (rest : List Lexeme) → IsSection word ts xs rest → spanless_all ts ≡ spanless_all (section_tokens word xs) ++ spanless_all rest
-section_derived word ts [] rest d = ap spanless_all d
-section_derived word ts (x ∷ xs) rest d =
-    ap spanless_all d.1 ∙ ap (λ ys. a_word word ∷ ys) (names_derived d.0 x xs (a_word W.Semicolon ∷ rest) d.2) ∙ simp (map-append, append_assoc)
+section_derived : (terminal : Terminal) (ts : List Lexeme) (xs : List Name) (rest : List Lexeme) → IsSection terminal ts xs rest → spanless_all ts ≡ spanless_all (section_tokens terminal xs) ++ spanless_all rest
+section_derived terminal ts [] rest d = ap spanless_all d
+section_derived terminal ts (x ∷ xs) rest d =
+    ap spanless_all d.1 ∙ ap (λ ys. a_terminal terminal ∷ ys) (names_derived d.0 x xs (a_terminal W.Semicolon ∷ rest) d.2) ∙ simp (map-append, append_assoc)
 
 pub program_derived : (ts : List Lexeme) (p : WholeProgram Name) → Derives ts p → spanless_all ts ≡ spanless_all (program_tokens p)
 program_derived ts p d =
-    let head = spanless_all (a_word W.Processes ∷ a_number p.processes p.span ∷ a_word W.Semicolon ∷ []) in
+    let head = spanless_all (a_terminal W.Processes ∷ a_number p.processes p.span ∷ a_terminal W.Semicolon ∷ []) in
     let var = spanless_all (section_tokens W.Var p.variables) in
     let scans = spanless_all (section_tokens W.Scan p.scans) in
     let reg = spanless_all (section_tokens W.Reg p.registers) in
     ap spanless_all d.4
     ∙ ap (λ xs. head ++ xs) (section_derived W.Var d.0 p.variables d.1 d.5)
     ∙ ap (λ xs. head ++ (var ++ xs)) (section_derived W.Scan d.1 p.scans d.2 d.6)
-    ∙ ap (λ xs. head ++ (var ++ (scans ++ xs))) (section_derived W.Reg d.2 p.registers (a_word W.Begin ∷ d.3) d.7)
-    ∙ ap (λ xs. head ++ (var ++ (scans ++ (reg ++ a_word W.Begin ∷ xs)))) (block_derived W.End d.3 p.body [] d.8)
+    ∙ ap (λ xs. head ++ (var ++ (scans ++ xs))) (section_derived W.Reg d.2 p.registers (a_terminal W.Begin ∷ d.3) d.7)
+    ∙ ap (λ xs. head ++ (var ++ (scans ++ (reg ++ a_terminal W.Begin ∷ xs)))) (block_derived W.End d.3 p.body [] d.8)
     ∙ simp (map-append, append_assoc)

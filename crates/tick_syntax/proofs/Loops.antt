@@ -1,18 +1,20 @@
 -- The reader's loops: what was read so far stands before what the rest gives.
-use Rattle.std.proofs.Common.{◌≡◌, ℕ, zero, suc, ◌<◌, Bool, true, false, List, [], ◌∷◌, ◌++◌, length, Result, Ok, Err, refl, sym, ◌∙◌, ap, subst, append_assoc, arith}
+use Rattle.std.proofs.Common.{◌≡◌, ℕ, zero, suc, ◌<◌, Bool, true, false, List, [], ◌∷◌, ◌++◌, length, Ok, Err, refl, sym, ◌∙◌, ap, subst, append_assoc, arith}
 use Rattle.tick_syntax.specs.declared.span.Span.{Span}
 use Rattle.tick_syntax.specs.declared.fault.TextFault.{TextFault}
 use Rattle.tick_syntax.specs.declared.fault.TextFault.TheVariants as F
-use Rattle.tick_syntax.specs.declared.item.Item.{Item}
-use Rattle.tick_syntax.specs.declared.item.Ending.{Ending}
-use Rattle.tick_syntax.specs.declared.item.Meaning.{Meaning}
-use Rattle.tick_syntax.specs.declared.item.Meaning.TheVariants as M
-use Rattle.tick_syntax.specs.declared.terminals.Word.{Word}
-use Rattle.tick_syntax.specs.declared.terminals.Word.TheVariants as W
+use Rattle.tick_syntax.specs.declared.valued_token.ValuedToken.{ValuedToken}
+use Rattle.tick_syntax.specs.declared.valued_token.Ending.{Ending}
+use Rattle.tick_syntax.specs.declared.valued_token.Meaning.{Meaning}
+use Rattle.tick_syntax.specs.declared.valued_token.Meaning.TheVariants as M
+use Rattle.tick_syntax.specs.declared.terminals.Terminal.{Terminal}
+use Rattle.tick_syntax.specs.declared.terminals.Terminal.TheVariants as W
 use Rattle.tick_syntax.specs.declared.tree.Stmt.{Stmt}
 use Rattle.tick_syntax.specs.Plain.{Name, Expression, Statement, branch, repeat, Block, nil, cons, onto}
 use Rattle.tick_syntax.specs.View.{statement_of, block_of}
-use Rattle.tick_syntax.specs.prover.Reading.{Reading, Fails, ◌>>=◌, next_at, name_at, name_by, names_at, names_by, block_by, ends, statements_with, statements_at, statement_at, expression_at, word_at, branch_at, repeat_at}
+use Rattle.tick_syntax.specs.prover.Reading.{Reading, Fails, is_memory, next_at, name_at, name_by, names_at, names_by, block_by, ends, statements_with, statements_at, statement_at, expression_at, terminal_at, branch_at, repeat_at}
+use Rattle.machine_core.specs.Refusing.{◌>>=◌}
+use Rattle.machine_core.proofs.Offered.{fails_on, fails_with}
 use Rattle.tick_syntax.proofs.Sound.{name_reads}
 use Rattle.tick_syntax.proofs.SoundStatements.{statement_reads}
 
@@ -22,35 +24,14 @@ after_names front r = r >>= λ x. Ok (front ++ x.0, x.1)
 abbrev pub after_block : Block Name → Reading (Block Name) → Reading (Block Name)
 after_block front r = r >>= λ x. Ok (onto front x.0, x.1)
 
--- a step that fails fails what stands on it
-pub fails_on : {U V : Type 0} (e : TextFault) (m : Result U TextFault) (f : U → Result V TextFault)
-    → Fails e m → Fails e (m >>= f)
-fails_on F.NoMemory m f h = tt
-fails_on F.TextTooLong m f h = ap (λ z. z >>= f) h
-fails_on (F.BadCharacter p) m f h = ap (λ z. z >>= f) h
-fails_on (F.NumberTooBig s) m f h = ap (λ z. z >>= f) h
-fails_on (F.NameTooLong s) m f h = ap (λ z. z >>= f) h
-fails_on (F.Unexpected s) m f h = ap (λ z. z >>= f) h
-fails_on (F.TooDeep s) m f h = ap (λ z. z >>= f) h
-
--- where a function takes no memory its refusal is the reading's
-fails_with : {V : Type 0} (e : TextFault) (m : Result V TextFault) → m ≡ Err e → Fails e m
-fails_with F.NoMemory m h = tt
-fails_with F.TextTooLong m h = h
-fails_with (F.BadCharacter p) m h = h
-fails_with (F.NumberTooBig s) m h = h
-fails_with (F.NameTooLong s) m h = h
-fails_with (F.Unexpected s) m h = h
-fails_with (F.TooDeep s) m h = h
-
 module _ (end : ℕ) where
-  -- no word is in no items
-  pub word_none : (word : Word) (is : List Item) → is ≡ [] → word_at end word is ≡ Err (F.Unexpected (record { start = end; end = end }))
-  unfolding word_at next_at
-  word_none word [] h = refl
-  word_none word (i ∷ is) h = absurd (cc)
+  -- no terminal is in no tokens
+  pub terminal_none : (terminal : Terminal) (is : List ValuedToken) → is ≡ [] → terminal_at end terminal is ≡ Err (F.Unexpected (record { start = end; end = end }))
+  unfolding terminal_at next_at
+  terminal_none terminal [] h = refl
+  terminal_none terminal (i ∷ is) h = absurd (cc)
 
-  names_front : (m : Meaning) (span : Span) (rest : List Item)
+  names_front : (m : Meaning) (span : Span) (rest : List ValuedToken)
       → names_at end (record { meaning = m; span = span } ∷ rest)
       ≡ (name_by m span rest >>= λ x. next_at end x.1 >>= λ y. names_by end y.0.meaning y.0.span y.1 x.0 (names_at end y.1))
   unfolding names_at next_at
@@ -58,12 +39,12 @@ module _ (end : ℕ) where
   names_front (M.Name letters) span (j ∷ js) = refl
   names_front (M.Number v) span [] = refl
   names_front (M.Number v) span (j ∷ js) = refl
-  names_front (M.Word w) span [] = refl
-  names_front (M.Word w) span (j ∷ js) = refl
+  names_front (M.Terminal w) span [] = refl
+  names_front (M.Terminal w) span (j ∷ js) = refl
   names_front M.Nothing span [] = refl
   names_front M.Nothing span (j ∷ js) = refl
 
-  pub names_step : (is : List Item)
+  pub names_step : (is : List ValuedToken)
       → names_at end is
       ≡ (name_at end is >>= λ x. next_at end x.1 >>= λ y. names_by end y.0.meaning y.0.span y.1 x.0 (names_at end y.1))
   unfolding names_at name_at next_at
@@ -71,13 +52,13 @@ module _ (end : ℕ) where
   names_step (i ∷ is) = names_front i.meaning i.span is
 
   -- one name was read
-  pub names_one : (is r : List Item) (n : Name) → name_at end is ≡ Ok (n, r)
+  pub names_one : (is r : List ValuedToken) (n : Name) → name_at end is ≡ Ok (n, r)
       → names_at end is ≡ (next_at end r >>= λ y. names_by end y.0.meaning y.0.span y.1 n (names_at end y.1))
   names_one is r n h = names_step is
       ∙ ap (λ z. z >>= λ x. next_at end x.1 >>= λ y. names_by end y.0.meaning y.0.span y.1 x.0 (names_at end y.1)) h
 
   -- and what stands after it
-  pub names_two : (is r : List Item) (n : Name) (y : Item × List Item) → name_at end is ≡ Ok (n, r) → next_at end r ≡ Ok y
+  pub names_two : (is r : List ValuedToken) (n : Name) (y : ValuedToken × List ValuedToken) → name_at end is ≡ Ok (n, r) → next_at end r ≡ Ok y
       → names_at end is ≡ names_by end y.0.meaning y.0.span y.1 n (names_at end y.1)
   names_two is r n y h k = names_one is r n h ∙ ap (λ z. z >>= λ y. names_by end y.0.meaning y.0.span y.1 n (names_at end y.1)) k
 
@@ -103,17 +84,17 @@ module _ (end : ℕ) where
   after_statement front s (Ok x) = ap (λ z. Ok (z, x.1)) (sym (onto_more front s x.0))
   after_statement front s (Err e) = refl
 
-  block_by_same : (b : Bool) (rest : List Item) (o : Reading (Statement Name)) (f g : List Item → Reading (Block Name))
-      → ((x : Statement Name × List Item) → o ≡ Ok x → f x.1 ≡ g x.1)
+  block_by_same : (b : Bool) (rest : List ValuedToken) (o : Reading (Statement Name)) (f g : List ValuedToken → Reading (Block Name))
+      → ((x : Statement Name × List ValuedToken) → o ≡ Ok x → f x.1 ≡ g x.1)
       → block_by end b rest o f ≡ block_by end b rest o g
   block_by_same true rest o f g h = refl
   block_by_same false rest (Ok x) f g h = ap (λ z. z >>= λ b. Ok (cons x.0 b.0, b.1)) (h x refl)
   block_by_same false rest (Err e) f g h = refl
 
-  -- as many steps as there are items are enough
-  enough : (one : List Item → Reading (Statement Name))
-      → ((is : List Item) (x : Statement Name × List Item) → one is ≡ Ok x → length x.1 < length is)
-      → (ending : Ending) (a b : ℕ) (is : List Item) → length is < a → length is < b
+  -- as many steps as there are tokens are enough
+  enough : (one : List ValuedToken → Reading (Statement Name))
+      → ((is : List ValuedToken) (x : Statement Name × List ValuedToken) → one is ≡ Ok x → length x.1 < length is)
+      → (ending : Ending) (a b : ℕ) (is : List ValuedToken) → length is < a → length is < b
       → statements_with end one ending a is ≡ statements_with end one ending b is
   unfolding statements_with next_at
   enough one less ending zero b is l k = absurd (omega arith)
@@ -124,29 +105,29 @@ module _ (end : ℕ) where
       let j : length x.1 < suc (length is) = less (i ∷ is) x h in
       enough one less ending a b x.1 (omega arith) (omega arith))
 
-  statements_step : (room : ℕ) (ending : Ending) (is : List Item) (y : Item × List Item) → next_at end is ≡ Ok y
+  statements_step : (room : ℕ) (ending : Ending) (is : List ValuedToken) (y : ValuedToken × List ValuedToken) → next_at end is ≡ Ok y
       → statements_at end room ending is
       ≡ block_by end (ends ending y.0.meaning) y.1 (statement_at end room is) (statements_with end (statement_at end room) ending (length is))
   unfolding statements_at statements_with
   statements_step room ending is y h =
       ap (λ z. z >>= λ x. block_by end (ends ending x.0.meaning) x.1 (statement_at end room is) (statements_with end (statement_at end room) ending (length is))) h
 
-  -- the word that ends the list
-  pub statements_end : (room : ℕ) (ending : Ending) (is : List Item) (y : Item × List Item) → next_at end is ≡ Ok y
+  -- the terminal that ends the list
+  pub statements_end : (room : ℕ) (ending : Ending) (is : List ValuedToken) (y : ValuedToken × List ValuedToken) → next_at end is ≡ Ok y
       → ends ending y.0.meaning ≡ true → statements_at end room ending is ≡ Ok (nil, y.1)
   statements_end room ending is y h t = statements_step room ending is y h
       ∙ ap (λ z. block_by end z y.1 (statement_at end room is) (statements_with end (statement_at end room) ending (length is))) t
 
   -- a statement that stops the list
-  pub statements_stop : (room : ℕ) (ending : Ending) (is : List Item) (y : Item × List Item) (e : TextFault) → next_at end is ≡ Ok y
+  pub statements_stop : (room : ℕ) (ending : Ending) (is : List ValuedToken) (y : ValuedToken × List ValuedToken) (e : TextFault) → next_at end is ≡ Ok y
       → ends ending y.0.meaning ≡ false → Fails e (statement_at end room is) → Fails e (statements_at end room ending is)
   statements_stop room ending is y e h f k =
       subst (Fails e) (sym (statements_step room ending is y h
       ∙ ap (λ z. block_by end z y.1 (statement_at end room is) (statements_with end (statement_at end room) ending (length is))) f))
-      (fails_on e (statement_at end room is) _ k)
+      (fails_on is_memory e (statement_at end room is) _ k)
 
   -- one statement more
-  pub statements_more : (room : ℕ) (ending : Ending) (is r : List Item) (y : Item × List Item) (s : Statement Name) (front : Block Name)
+  pub statements_more : (room : ℕ) (ending : Ending) (is r : List ValuedToken) (y : ValuedToken × List ValuedToken) (s : Statement Name) (front : Block Name)
       → next_at end is ≡ Ok y → ends ending y.0.meaning ≡ false → statement_at end room is ≡ Ok (s, r)
       → after_block front (statements_at end room ending is) ≡ after_block (onto front (cons s nil)) (statements_at end room ending r)
   unfolding statements_at
@@ -161,74 +142,74 @@ module _ (end : ℕ) where
       ∙ ap (λ z. z >>= λ b. Ok (cons s b.0, b.1)) same)
       ∙ after_statement front s (statements_with end (statement_at end room) ending (suc (length r)) r)
 
-  -- a statement takes an item at least
-  pub statement_shorter : (room : ℕ) (is r : List Item) (s : Statement Name) → statement_at end room is ≡ Ok (s, r) → length r < length is
+  -- a statement takes a token at least
+  pub statement_shorter : (room : ℕ) (is r : List ValuedToken) (s : Statement Name) → statement_at end room is ≡ Ok (s, r) → length r < length is
   statement_shorter room is r s h = (statement_reads end 0 room is).shorter (s, r) h
 
   -- The loops' exits: whole is what the reading gives from where the loop began.
 
-  pub names_fail : (front : List Name) (is : List Item) (whole : Reading (List Name)) (e : TextFault)
+  pub names_fail : (front : List Name) (is : List ValuedToken) (whole : Reading (List Name)) (e : TextFault)
       → after_names front (names_at end is) ≡ whole → Fails e (name_at end is) → Fails e whole
   names_fail front is whole e inv h =
-      subst (Fails e) inv (fails_on e (names_at end is) _ (subst (Fails e) (sym (names_step is)) (fails_on e (name_at end is) _ h)))
+      subst (Fails e) inv (fails_on is_memory e (names_at end is) _ (subst (Fails e) (sym (names_step is)) (fails_on is_memory e (name_at end is) _ h)))
 
-  pub names_fail_next : (front : List Name) (is r : List Item) (n : Name) (whole : Reading (List Name)) (e : TextFault)
+  pub names_fail_next : (front : List Name) (is r : List ValuedToken) (n : Name) (whole : Reading (List Name)) (e : TextFault)
       → after_names front (names_at end is) ≡ whole → name_at end is ≡ Ok (n, r) → next_at end r ≡ Err e → Fails e whole
   names_fail_next front is r n whole e inv h k =
-      subst (Fails e) inv (fails_on e (names_at end is) _ (subst (Fails e) (sym (names_one is r n h)) (fails_on e (next_at end r) _ (fails_with e (next_at end r) k))))
+      subst (Fails e) inv (fails_on is_memory e (names_at end is) _ (subst (Fails e) (sym (names_one is r n h)) (fails_on is_memory e (next_at end r) _ (fails_with is_memory e (next_at end r) k))))
 
-  pub names_last : (front : List Name) (is r : List Item) (n : Name) (whole : Reading (List Name)) (y : Item × List Item)
+  pub names_last : (front : List Name) (is r : List ValuedToken) (n : Name) (whole : Reading (List Name)) (y : ValuedToken × List ValuedToken)
       → after_names front (names_at end is) ≡ whole → name_at end is ≡ Ok (n, r) → next_at end r ≡ Ok y
-      → y.0.meaning ≡ M.Word W.Semicolon → whole ≡ Ok (front ++ n ∷ [], y.1)
+      → y.0.meaning ≡ M.Terminal W.Semicolon → whole ≡ Ok (front ++ n ∷ [], y.1)
   names_last front is r n whole y inv h k s =
       sym inv ∙ ap (after_names front) (names_two is r n y h k ∙ ap (λ z. names_by end z y.0.span y.1 n (names_at end y.1)) s)
 
-  pub names_wrong : (front : List Name) (is r : List Item) (n : Name) (whole : Reading (List Name)) (y : Item × List Item)
+  pub names_wrong : (front : List Name) (is r : List ValuedToken) (n : Name) (whole : Reading (List Name)) (y : ValuedToken × List ValuedToken)
       → after_names front (names_at end is) ≡ whole → name_at end is ≡ Ok (n, r) → next_at end r ≡ Ok y
       → names_by end y.0.meaning y.0.span y.1 n (names_at end y.1) ≡ Err (F.Unexpected y.0.span) → whole ≡ Err (F.Unexpected y.0.span)
   names_wrong front is r n whole y inv h k s = sym inv ∙ ap (after_names front) (names_two is r n y h k ∙ s)
 
-  pub names_on : (front : List Name) (is r : List Item) (n : Name) (whole : Reading (List Name)) (y : Item × List Item)
+  pub names_on : (front : List Name) (is r : List ValuedToken) (n : Name) (whole : Reading (List Name)) (y : ValuedToken × List ValuedToken)
       → after_names front (names_at end is) ≡ whole → name_at end is ≡ Ok (n, r) → next_at end r ≡ Ok y
-      → y.0.meaning ≡ M.Word W.Comma → after_names (front ++ n ∷ []) (names_at end y.1) ≡ whole
+      → y.0.meaning ≡ M.Terminal W.Comma → after_names (front ++ n ∷ []) (names_at end y.1) ≡ whole
   names_on front is r n whole y inv h k s =
       sym (after_more front n (names_at end y.1))
       ∙ sym (ap (after_names front) (names_two is r n y h k ∙ ap (λ z. names_by end z y.0.span y.1 n (names_at end y.1)) s)) ∙ inv
 
-  -- an item is one less
-  pub next_shorter : (is : List Item) (y : Item × List Item) → next_at end is ≡ Ok y → length y.1 < length is
+  -- a token is one less
+  pub next_shorter : (is : List ValuedToken) (y : ValuedToken × List ValuedToken) → next_at end is ≡ Ok y → length y.1 < length is
   unfolding next_at
   next_shorter [] y h = absurd (cc)
   next_shorter (i ∷ is) y h = let e : is ≡ y.1 = cc in let l : length is < suc (length is) = omega arith in subst (λ z. length z < suc (length is)) e l
 
-  pub name_shorter : (is : List Item) (x : Name × List Item) → name_at end is ≡ Ok x → length x.1 < length is
+  pub name_shorter : (is : List ValuedToken) (x : Name × List ValuedToken) → name_at end is ≡ Ok x → length x.1 < length is
   name_shorter is x h = (name_reads end 0 0 is).shorter x h
 
-  pub statements_none : (room : ℕ) (ending : Ending) (front : Block Name) (is : List Item) (whole : Reading (Block Name)) (e : TextFault)
+  pub statements_none : (room : ℕ) (ending : Ending) (front : Block Name) (is : List ValuedToken) (whole : Reading (Block Name)) (e : TextFault)
       → after_block front (statements_at end room ending is) ≡ whole → next_at end is ≡ Err e → Fails e whole
   unfolding statements_at statements_with
   statements_none room ending front is whole e inv h =
-      subst (Fails e) inv (fails_on e (statements_at end room ending is) _ (fails_on e (next_at end is) _ (fails_with e (next_at end is) h)))
+      subst (Fails e) inv (fails_on is_memory e (statements_at end room ending is) _ (fails_on is_memory e (next_at end is) _ (fails_with is_memory e (next_at end is) h)))
 
-  pub statements_fail : (room : ℕ) (ending : Ending) (front : Block Name) (is : List Item) (y : Item × List Item) (whole : Reading (Block Name)) (e : TextFault)
+  pub statements_fail : (room : ℕ) (ending : Ending) (front : Block Name) (is : List ValuedToken) (y : ValuedToken × List ValuedToken) (whole : Reading (Block Name)) (e : TextFault)
       → after_block front (statements_at end room ending is) ≡ whole → next_at end is ≡ Ok y
       → ends ending y.0.meaning ≡ false → Fails e (statement_at end room is) → Fails e whole
   statements_fail room ending front is y whole e inv h f k =
-      subst (Fails e) inv (fails_on e (statements_at end room ending is) _ (statements_stop room ending is y e h f k))
+      subst (Fails e) inv (fails_on is_memory e (statements_at end room ending is) _ (statements_stop room ending is y e h f k))
 
-  pub statements_last : (room : ℕ) (ending : Ending) (front : Block Name) (is : List Item) (y : Item × List Item) (whole : Reading (Block Name))
+  pub statements_last : (room : ℕ) (ending : Ending) (front : Block Name) (is : List ValuedToken) (y : ValuedToken × List ValuedToken) (whole : Reading (Block Name))
       → after_block front (statements_at end room ending is) ≡ whole → next_at end is ≡ Ok y
       → ends ending y.0.meaning ≡ true → whole ≡ Ok (front, y.1)
   statements_last room ending front is y whole inv h t =
       sym inv ∙ ap (after_block front) (statements_end room ending is y h t) ∙ ap (λ z. Ok (z, y.1)) (onto_nil front)
 
-  pub branch_gives : (block : List Item → Reading (Block Name)) (room : ℕ) (is p q r s : List Item) (e : Expression Name) (a b : Block Name)
-      → expression_at end room is ≡ Ok (e, p) → block p ≡ Ok (a, q) → word_at end W.Else q ≡ Ok (tt, r) → block r ≡ Ok (b, s)
+  pub branch_gives : (block : List ValuedToken → Reading (Block Name)) (room : ℕ) (is p q r s : List ValuedToken) (e : Expression Name) (a b : Block Name)
+      → expression_at end room is ≡ Ok (e, p) → block p ≡ Ok (a, q) → terminal_at end W.Else q ≡ Ok (tt, r) → block r ≡ Ok (b, s)
       → branch_at end block room is ≡ Ok (branch e a b, s)
   unfolding branch_at
   branch_gives block room is p q r s e a b h k l m = rw (h, k, l, m) refl
 
-  pub repeat_gives : (block : List Item → Reading (Block Name)) (room : ℕ) (is p q : List Item) (e : Expression Name) (a : Block Name)
+  pub repeat_gives : (block : List ValuedToken → Reading (Block Name)) (room : ℕ) (is p q : List ValuedToken) (e : Expression Name) (a : Block Name)
       → expression_at end room is ≡ Ok (e, p) → block p ≡ Ok (a, q) → repeat_at end block room is ≡ Ok (repeat e a, q)
   unfolding repeat_at
   repeat_gives block room is p q e a h k = rw (h, k) refl

@@ -2,11 +2,11 @@
 use Rattle.std.proofs.Common.{◌≡◌, ℕ, ◌<◌, ◌≤◌, arith, rules, IsOkUnless, MatchResult, length, slice_index_or, List, [], ◌∷◌, ◌++◌, Result, Ok, Err, IfOk, refl, sym, ◌∙◌, ap, subst, zero-add}
 use Rattle.tick_syntax.specs.declared.fault.TextFault.{TextFault}
 use Rattle.tick_syntax.specs.declared.fault.TextFault.TheVariants as F
-use Rattle.tick_syntax.specs.declared.item.Item.{Item}
+use Rattle.tick_syntax.specs.declared.valued_token.ValuedToken.{ValuedToken}
 use Rattle.tick_syntax.specs.declared.token.Token.{Token}
 use Rattle.tick_syntax.specs.declared.tree.Tree.{Tree}
 use Rattle.tick_syntax.specs.Grammar.{Derives}
-use Rattle.tick_syntax.specs.prover.Items.{SayAs, IsInText, IsAsciiName}
+use Rattle.tick_syntax.specs.prover.ValuedTokens.{SayAs, IsInText, IsAsciiName}
 use Rattle.tick_syntax.specs.declared.span.Span.{Span}
 use Rattle.tick_syntax.specs.Spelling.{gap_length, after_gap, Spells, HasToken, IsToken, TokenAt}
 use Rattle.tick_syntax.specs.declared.token.Sort.{Sort}
@@ -23,27 +23,27 @@ use Rattle.tick_syntax.proofs.Symbols.{says}
 use Rattle.tick_syntax.proofs.SoundPrograms.{program_ok}
 use Rattle.tick_syntax.proofs.Continuations.{derives_once}
 
-pub says_same : (text : List ℕ) (is : List Item) (ts : List Token) → SayAs text is ts → says is ≡ lexemes text ts
+pub says_same : (text : List ℕ) (is : List ValuedToken) (ts : List Token) → SayAs text is ts → says is ≡ lexemes text ts
 says_same text [] [] h = refl
 says_same text [] (t ∷ ts) h = absurd h
 says_same text (i ∷ is) [] h = absurd h
 says_same text (i ∷ is) (t ∷ ts) h =
     ap (λ z. z ∷ says is) h.0.0 ∙ ap (λ z. lexeme_of text t ∷ z) (says_same text is ts h.1)
 
-pub same_more : (text : List ℕ) (is : List Item) (ts : List Token) (i : Item) (t : Token)
+pub same_more : (text : List ℕ) (is : List ValuedToken) (ts : List Token) (i : ValuedToken) (t : Token)
     → SayAs text is ts → SayAs text (i ∷ []) (t ∷ []) → SayAs text (is ++ i ∷ []) (ts ++ t ∷ [])
 same_more text [] [] i t h k = k
 same_more text [] (u ∷ ts) i t h k = absurd h
 same_more text (j ∷ is) [] i t h k = absurd h
 same_more text (j ∷ is) (u ∷ ts) i t h k = (h.0, same_more text is ts i t h.1 k)
 
-pub parsed_derived : (end : ℕ) (text : List ℕ) (is : List Item) (ts : List Token) (r : Result Tree TextFault)
+pub parsed_derived : (end : ℕ) (text : List ℕ) (is : List ValuedToken) (ts : List Token) (r : Result Tree TextFault)
     → SayAs text is ts → GivesWhole tree_of r (program_at end 64 is) → IfOk r (λ tree. Derives (lexemes text ts) (tree_of tree))
 parsed_derived end text is ts (Ok tree) same h =
     subst (λ z. Derives z (tree_of tree)) (says_same text is ts same) (program_ok end 64 is (tree_of tree) h).0
 parsed_derived end text is ts (Err e) same h = tt
 
-pub parsed_shallow : (end : ℕ) (is : List Item) (r : Result Tree TextFault)
+pub parsed_shallow : (end : ℕ) (is : List ValuedToken) (r : Result Tree TextFault)
     → GivesWhole tree_of r (program_at end 64 is) → IfOk r (λ tree. nesting (tree_of tree) ≤ 64)
 parsed_shallow end is (Ok tree) h = (program_ok end 64 is (tree_of tree) h).1
 parsed_shallow end is (Err e) h = tt
@@ -63,7 +63,7 @@ in_text text tokens spells i d l =
     record { forward = omega arith; within = s.within; ascii = ascii_name (slice_index_or tokens i d).sort _ _ s.kind }
 
 -- The reader's answer, for each program of these tokens.
-pub parsed_only : (end : ℕ) (text : List ℕ) (is : List Item) (ts : List Token) (r : Result Tree TextFault)
+pub parsed_only : (end : ℕ) (text : List ℕ) (is : List ValuedToken) (ts : List Token) (r : Result Tree TextFault)
     → SayAs text is ts → GivesWhole tree_of r (program_at end 64 is)
     → IfOk r (λ tree. (p : WholeProgram Name) → Derives (lexemes text ts) p → p ≡ tree_of tree)
 parsed_only end text is ts (Ok tree) same h = λ p d.
@@ -73,7 +73,7 @@ parsed_only end text is ts (Err e) same h = tt
 refused_ok : (p : WholeProgram Name) (e : TextFault) → (let r : Result (WholeProgram Name) TextFault = Ok p in r) ≡ Err e → ⊥
 refused_ok p e h = cc
 
-pub parsed_accepted : (end : ℕ) (text : List ℕ) (is : List Item) (ts : List Token) (r : Result Tree TextFault)
+pub parsed_accepted : (end : ℕ) (text : List ℕ) (is : List ValuedToken) (ts : List Token) (r : Result Tree TextFault)
     → SayAs text is ts → GivesWhole tree_of r (program_at end 64 is)
     → (p : WholeProgram Name) → Derives (lexemes text ts) p → nesting p ≤ 64 → IsOkUnless r F.NoMemory
 parsed_accepted end text is ts (Ok tree) same h p d n = search rules
@@ -90,11 +90,11 @@ pub parse_accepted : (text : List ℕ) (own tokens : List Token) → own ≡ tok
 parse_accepted text own tokens same (Ok tree) only accepted p d n = only p (subst (λ z. Derives (lexemes text z) p) (sym same) d)
 parse_accepted text own tokens same (Err e) only accepted p d n = accepted p (subst (λ z. Derives (lexemes text z) p) (sym same) d) n
 
--- No items say no tokens, and tokens that spell a text begin it.
-pub no_items : (text : List ℕ) (is : List Item) (ts : List Token) → SayAs text is ts → ts ≡ [] → is ≡ []
-no_items text [] ts h none = refl
-no_items text (i ∷ is) [] h none = absurd h
-no_items text (i ∷ is) (t ∷ ts) h none = absurd (cc)
+-- No valued tokens say what no tokens say, and tokens that spell a text begin it.
+pub no_tokens : (text : List ℕ) (is : List ValuedToken) (ts : List Token) → SayAs text is ts → ts ≡ [] → is ≡ []
+no_tokens text [] ts h none = refl
+no_tokens text (i ∷ is) [] h none = absurd h
+no_tokens text (i ∷ is) (t ∷ ts) h none = absurd (cc)
 
 pub first_spelled : (text : List ℕ) (ts : List Token) (place : Span) (r : Result Tree TextFault)
     → Spells text ts → (ts ≡ [] → r ≡ Err (F.Unexpected place)) → r ≡ Err F.NoMemory → HasToken text

@@ -4,15 +4,16 @@ use Rattle.std.proofs.lemmas.Bool.{ne_eqb}
 use Rattle.tick_syntax.specs.declared.span.Span.{Span}
 use Rattle.tick_syntax.specs.declared.fault.TextFault.{TextFault}
 use Rattle.tick_syntax.specs.declared.fault.TextFault.TheVariants as F
-use Rattle.tick_syntax.specs.declared.item.Item.{Item}
-use Rattle.tick_syntax.specs.declared.item.Meaning.{Meaning}
-use Rattle.tick_syntax.specs.declared.item.Meaning.TheVariants as M
-use Rattle.tick_syntax.specs.declared.terminals.Word.TheVariants as W
-use Rattle.tick_syntax.specs.Lexeme.{Lexeme, a_name, a_word}
+use Rattle.tick_syntax.specs.declared.valued_token.ValuedToken.{ValuedToken}
+use Rattle.tick_syntax.specs.declared.valued_token.Meaning.{Meaning}
+use Rattle.tick_syntax.specs.declared.valued_token.Meaning.TheVariants as M
+use Rattle.tick_syntax.specs.declared.terminals.Terminal.TheVariants as W
+use Rattle.tick_syntax.specs.Lexeme.{Lexeme, a_name, a_terminal}
 use Rattle.tick_syntax.specs.Plain.{Name, Expression}
 use Rattle.tick_syntax.specs.Grammar.{IsExpression}
 use Rattle.tick_syntax.specs.Nesting.{expression_nesting}
-use Rattle.tick_syntax.specs.prover.Reading.{Reading, ◌>>=◌, next_at, word_at, word_by, operator_at, operator_by, name_at, name_by, pair_at, brackets_at, expression_by, expression_at, last_at}
+use Rattle.machine_core.specs.Refusing.{◌>>=◌}
+use Rattle.tick_syntax.specs.prover.Reading.{Reading, next_at, terminal_at, terminal_by, operator_at, operator_by, name_at, name_by, pair_at, brackets_at, expression_by, expression_at, last_at}
 use Rattle.tick_syntax.proofs.Symbols.{said_by, says, Symbol, s_semicolon, s_name, s_becomes, s_else, s_close, s_operator, s_expression, step, opened, is_full, on_stack, fault_by, fault}
 
 pub bind_ok : {A B : Type 0} (m : Result A TextFault) (f : A → Result B TextFault) (y : B)
@@ -46,19 +47,19 @@ the_err d e h = cc
 module _ (end limit : ℕ) where
   -- The symbols are read from the front, with something that P says of the value and the rest; or the
   -- refusal is the first.
-  pub record Reads {V : Type 0} (syms : List Symbol) (P : V → List Lexeme → Type 0) (room : ℕ) (is : List Item) (m : Reading V) : Type 0 where
-    pub found : (x : V × List Item) → m ≡ Ok x → P x.0 (says x.1)
-    pub shorter : (x : V × List Item) → m ≡ Ok x → length x.1 < length is
-    pub goes : (x : V × List Item) → m ≡ Ok x → (st : List Symbol) → opened (syms ++ st) + room ≡ limit
+  pub record Reads {V : Type 0} (syms : List Symbol) (P : V → List Lexeme → Type 0) (room : ℕ) (is : List ValuedToken) (m : Reading V) : Type 0 where
+    pub found : (x : V × List ValuedToken) → m ≡ Ok x → P x.0 (says x.1)
+    pub shorter : (x : V × List ValuedToken) → m ≡ Ok x → length x.1 < length is
+    pub goes : (x : V × List ValuedToken) → m ≡ Ok x → (st : List Symbol) → opened (syms ++ st) + room ≡ limit
         → fault end limit is (syms ++ st) ≡ fault end limit x.1 st
     pub stops : (e : TextFault) → m ≡ Err e → (st : List Symbol) → opened (syms ++ st) + room ≡ limit
         → fault end limit is (syms ++ st) ≡ Some e
 
   pub reads_bind_shorter : {V U : Type 0} (xs ys : List Symbol) (P : V → List Lexeme → Type 0) (Q : U → List Lexeme → Type 0)
-      (room : ℕ) (is : List Item) (m : Reading V) (f : V × List Item → Reading U)
+      (room : ℕ) (is : List ValuedToken) (m : Reading V) (f : V × List ValuedToken → Reading U)
       → ((st : List Symbol) → opened (xs ++ st) ≡ opened st)
       → Reads xs P room is m
-      → ((x : V × List Item) → P x.0 (says x.1) → length x.1 < length is → Reads ys Q room x.1 (f x))
+      → ((x : V × List ValuedToken) → P x.0 (says x.1) → length x.1 < length is → Reads ys Q room x.1 (f x))
       → Reads (xs ++ ys) Q room is (m >>= f)
   reads_bind_shorter xs ys P Q room is m f none first then_ = record {
     found = λ y h. let b = bind_ok m f y h in (then_ b.0 (first.found b.0 b.1) (first.shorter b.0 b.1)).found y b.2;
@@ -81,15 +82,15 @@ module _ (end limit : ℕ) where
   }
 
   pub reads_bind : {V U : Type 0} (xs ys : List Symbol) (P : V → List Lexeme → Type 0) (Q : U → List Lexeme → Type 0)
-      (room : ℕ) (is : List Item) (m : Reading V) (f : V × List Item → Reading U)
+      (room : ℕ) (is : List ValuedToken) (m : Reading V) (f : V × List ValuedToken → Reading U)
       → ((st : List Symbol) → opened (xs ++ st) ≡ opened st)
       → Reads xs P room is m
-      → ((x : V × List Item) → P x.0 (says x.1) → Reads ys Q room x.1 (f x))
+      → ((x : V × List ValuedToken) → P x.0 (says x.1) → Reads ys Q room x.1 (f x))
       → Reads (xs ++ ys) Q room is (m >>= f)
   reads_bind xs ys P Q room is m f none first then_ = reads_bind_shorter xs ys P Q room is m f none first (λ x p l. then_ x p)
 
   pub reads_map : {V U : Type 0} (xs : List Symbol) (P : V → List Lexeme → Type 0) (Q : U → List Lexeme → Type 0)
-      (room : ℕ) (is : List Item) (m : Reading V) (g : V → U)
+      (room : ℕ) (is : List ValuedToken) (m : Reading V) (g : V → U)
       → Reads xs P room is m
       → ((v : V) (rest : List Lexeme) → P v rest → Q (g v) rest)
       → Reads xs Q room is (m >>= λ x. Ok (g x.0, x.1))
@@ -106,8 +107,8 @@ module _ (end limit : ℕ) where
     ];
   }
 
-  -- An item that no symbol takes.
-  pub refuse : {V : Type 0} (s : Symbol) (P : V → List Lexeme → Type 0) (room : ℕ) (m : Meaning) (span : Span) (rest : List Item)
+  -- A token that no symbol takes.
+  pub refuse : {V : Type 0} (s : Symbol) (P : V → List Lexeme → Type 0) (room : ℕ) (m : Meaning) (span : Span) (rest : List ValuedToken)
       → step s (said_by m span) ≡ None
       → Reads (s ∷ []) P room (record { meaning = m; span = span } ∷ rest) (refusal (F.Unexpected span))
   refuse {V} s P room m span rest none = record {
@@ -116,11 +117,11 @@ module _ (end limit : ℕ) where
     goes = λ x h. absurd (not_ok h);
     stops = λ e h st o.
         ap (λ z. fault_by (on_stack z st) (is_full limit (said_by m span) (opened (s ∷ st))) span (fault end limit rest)) none
-        ∙ ap Some (the_err {A = V × List Item} _ e h);
+        ∙ ap Some (the_err {A = V × List ValuedToken} _ e h);
   }
 
   -- A bracket that is one too many.
-  pub refuse_deep : {V : Type 0} (s : Symbol) (P : V → List Lexeme → Type 0) (m : Meaning) (span : Span) (rest : List Item) (new : List Symbol)
+  pub refuse_deep : {V : Type 0} (s : Symbol) (P : V → List Lexeme → Type 0) (m : Meaning) (span : Span) (rest : List ValuedToken) (new : List Symbol)
       → step s (said_by m span) ≡ Some new
       → ((st : List Symbol) → opened (s ∷ st) + 0 ≡ limit → is_full limit (said_by m span) (opened (s ∷ st)) ≡ true)
       → Reads (s ∷ []) P 0 (record { meaning = m; span = span } ∷ rest) (refusal (F.TooDeep span))
@@ -131,11 +132,11 @@ module _ (end limit : ℕ) where
     stops = λ e h st o.
         ap (λ z. fault_by (on_stack z st) (is_full limit (said_by m span) (opened (s ∷ st))) span (fault end limit rest)) is_some
         ∙ ap (λ z. fault_by (Some (new ++ st)) z span (fault end limit rest)) (full st o)
-        ∙ ap Some (the_err {A = V × List Item} _ e h);
+        ∙ ap Some (the_err {A = V × List ValuedToken} _ e h);
   }
 
-  -- An item that is all that the symbol stands for.
-  pub accept : {V : Type 0} (s : Symbol) (P : V → List Lexeme → Type 0) (room : ℕ) (m : Meaning) (span : Span) (rest : List Item) (v : V)
+  -- A token that is all that the symbol stands for.
+  pub accept : {V : Type 0} (s : Symbol) (P : V → List Lexeme → Type 0) (room : ℕ) (m : Meaning) (span : Span) (rest : List ValuedToken) (v : V)
       → step s (said_by m span) ≡ Some []
       → ((st : List Symbol) → is_full limit (said_by m span) (opened (s ∷ st)) ≡ false)
       → P v (says rest)
@@ -150,8 +151,8 @@ module _ (end limit : ℕ) where
     stops = λ e h. absurd (not_err h);
   }
 
-  -- An item after which other symbols stand in the symbol's place.
-  pub enter : {V : Type 0} (s : Symbol) (P : V → List Lexeme → Type 0) (room inside : ℕ) (m : Meaning) (span : Span) (rest : List Item)
+  -- A token after which other symbols stand in the symbol's place.
+  pub enter : {V : Type 0} (s : Symbol) (P : V → List Lexeme → Type 0) (room inside : ℕ) (m : Meaning) (span : Span) (rest : List ValuedToken)
       (new : List Symbol) (r : Reading V)
       → step s (said_by m span) ≡ Some new
       → ((st : List Symbol) → opened (s ∷ st) + room ≡ limit
@@ -171,48 +172,48 @@ module _ (end limit : ℕ) where
           ap (λ z. fault_by (on_stack z st) (is_full limit (said_by m span) (opened (s ∷ st))) span (fault end limit rest)) is_some
           ∙ ap (λ z. fault_by (Some (new ++ st)) z span (fault end limit rest)) full
 
-  -- No item is left.
+  -- No token is left.
   pub nothing_left : {V : Type 0} (s : Symbol) (P : V → List Lexeme → Type 0) (room : ℕ)
       → Reads (s ∷ []) P room [] (refusal (F.Unexpected (record { start = end; end = end })))
   nothing_left {V} s P room = record {
     found = λ x h. absurd (not_ok h);
     shorter = λ x h. absurd (not_ok h);
     goes = λ x h. absurd (not_ok h);
-    stops = λ e h st o. ap Some (the_err {A = V × List Item} _ e h);
+    stops = λ e h st o. ap Some (the_err {A = V × List ValuedToken} _ e h);
   }
 
-  -- By the next item, if there is one.
-  pub by_next : {V : Type 0} (s : Symbol) (P : List Lexeme → V → List Lexeme → Type 0) (room : ℕ) (f : Meaning → Span → List Item → Reading V)
-      → ((m : Meaning) (span : Span) (rest : List Item)
+  -- By the next token, if there is one.
+  pub by_next : {V : Type 0} (s : Symbol) (P : List Lexeme → V → List Lexeme → Type 0) (room : ℕ) (f : Meaning → Span → List ValuedToken → Reading V)
+      → ((m : Meaning) (span : Span) (rest : List ValuedToken)
       → Reads (s ∷ []) (P (said_by m span ∷ says rest)) room (record { meaning = m; span = span } ∷ rest) (f m span rest))
-      → (is : List Item) → Reads (s ∷ []) (P (says is)) room is (next_at end is >>= λ x. f x.0.meaning x.0.span x.1)
+      → (is : List ValuedToken) → Reads (s ∷ []) (P (says is)) room is (next_at end is >>= λ x. f x.0.meaning x.0.span x.1)
   unfolding next_at
   by_next {V} s P room f h [] = nothing_left s (P []) room
   by_next s P room f h (i ∷ is) = h i.meaning i.span is
 
-  -- The same, where the reading goes back to the item.
+  -- The same, where the reading goes back to the token.
   pub by_next_whole : {V : Type 0} (s : Symbol) (P : List Lexeme → V → List Lexeme → Type 0) (room : ℕ)
-      (f : List Item → Meaning → Span → List Item → Reading V)
-      → ((m : Meaning) (span : Span) (rest : List Item)
+      (f : List ValuedToken → Meaning → Span → List ValuedToken → Reading V)
+      → ((m : Meaning) (span : Span) (rest : List ValuedToken)
       → Reads (s ∷ []) (P (said_by m span ∷ says rest)) room (record { meaning = m; span = span } ∷ rest)
       (f (record { meaning = m; span = span } ∷ rest) m span rest))
-      → (is : List Item) → Reads (s ∷ []) (P (says is)) room is (next_at end is >>= λ x. f is x.0.meaning x.0.span x.1)
+      → (is : List ValuedToken) → Reads (s ∷ []) (P (says is)) room is (next_at end is >>= λ x. f is x.0.meaning x.0.span x.1)
   unfolding next_at
   by_next_whole {V} s P room f h [] = nothing_left s (P []) room
   by_next_whole s P room f h (i ∷ is) = h i.meaning i.span is
 
   -- The same, with what is read after it.
   pub by_next_then : {U V : Type 0} (s : Symbol) (P : List Lexeme → V → List Lexeme → Type 0) (room : ℕ)
-      (f : Meaning → Span → List Item → Reading U) (g : U × List Item → Reading V)
-      → ((m : Meaning) (span : Span) (rest : List Item)
+      (f : Meaning → Span → List ValuedToken → Reading U) (g : U × List ValuedToken → Reading V)
+      → ((m : Meaning) (span : Span) (rest : List ValuedToken)
       → Reads (s ∷ []) (P (said_by m span ∷ says rest)) room (record { meaning = m; span = span } ∷ rest) (f m span rest >>= g))
-      → (is : List Item) → Reads (s ∷ []) (P (says is)) room is ((next_at end is >>= λ x. f x.0.meaning x.0.span x.1) >>= g)
+      → (is : List ValuedToken) → Reads (s ∷ []) (P (says is)) room is ((next_at end is >>= λ x. f x.0.meaning x.0.span x.1) >>= g)
   unfolding next_at
   by_next_then {U} {V} s P room f g h [] = nothing_left s (P []) room
   by_next_then s P room f g h (i ∷ is) = h i.meaning i.span is
 
-  -- A symbol that takes the items as others do.
-  pub stand_in : {V : Type 0} (s : Symbol) (ss : List Symbol) (P : V → List Lexeme → Type 0) (room : ℕ) (is : List Item) (r : Reading V)
+  -- A symbol that takes the tokens as others do.
+  pub stand_in : {V : Type 0} (s : Symbol) (ss : List Symbol) (P : V → List Lexeme → Type 0) (room : ℕ) (is : List ValuedToken) (r : Reading V)
       → ((st : List Symbol) → opened (s ∷ st) ≡ opened (ss ++ st))
       → ((st : List Symbol) → fault end limit is (s ∷ st) ≡ fault end limit is (ss ++ st))
       → Reads ss P room is r → Reads (s ∷ []) P room is r
@@ -223,7 +224,7 @@ module _ (end limit : ℕ) where
     stops = λ e h st o. as_ st ∙ inner.stops e h st (subst (λ z. z + room ≡ limit) (same st) o);
   }
 
-  pub weaken : {V : Type 0} (ss : List Symbol) (P Q : V → List Lexeme → Type 0) (room : ℕ) (is : List Item) (r : Reading V)
+  pub weaken : {V : Type 0} (ss : List Symbol) (P Q : V → List Lexeme → Type 0) (room : ℕ) (is : List ValuedToken) (r : Reading V)
       → Reads ss P room is r → ((v : V) (rest : List Lexeme) → P v rest → Q v rest) → Reads ss Q room is r
   weaken ss P Q room is r inner q = record {
     found = λ x h. q x.0 (says x.1) (inner.found x h);
@@ -232,68 +233,68 @@ module _ (end limit : ℕ) where
     stops = inner.stops;
   }
 
-  semicolon_front : (room : ℕ) (m : Meaning) (span : Span) (rest : List Item)
-      → Reads (s_semicolon ∷ []) (λ v r. said_by m span ∷ says rest ≡ a_word W.Semicolon ∷ r) room
-      (record { meaning = m; span = span } ∷ rest) (word_by W.Semicolon m span rest)
-  semicolon_front room (M.Word W.Semicolon) span rest = accept _ _ room _ span rest tt refl (λ st. refl) refl
+  semicolon_front : (room : ℕ) (m : Meaning) (span : Span) (rest : List ValuedToken)
+      → Reads (s_semicolon ∷ []) (λ v r. said_by m span ∷ says rest ≡ a_terminal W.Semicolon ∷ r) room
+      (record { meaning = m; span = span } ∷ rest) (terminal_by W.Semicolon m span rest)
+  semicolon_front room (M.Terminal W.Semicolon) span rest = accept _ _ room _ span rest tt refl (λ st. refl) refl
   semicolon_front room m span rest = refuse _ _ room m span rest refl
 
-  pub semicolon_reads : (room : ℕ) (is : List Item)
-      → Reads (s_semicolon ∷ []) (λ v r. says is ≡ a_word W.Semicolon ∷ r) room is (word_at end W.Semicolon is)
-  unfolding word_at
-  semicolon_reads room is = by_next s_semicolon (λ ts v r. ts ≡ a_word W.Semicolon ∷ r) room (word_by W.Semicolon) (semicolon_front room) is
+  pub semicolon_reads : (room : ℕ) (is : List ValuedToken)
+      → Reads (s_semicolon ∷ []) (λ v r. says is ≡ a_terminal W.Semicolon ∷ r) room is (terminal_at end W.Semicolon is)
+  unfolding terminal_at
+  semicolon_reads room is = by_next s_semicolon (λ ts v r. ts ≡ a_terminal W.Semicolon ∷ r) room (terminal_by W.Semicolon) (semicolon_front room) is
 
-  becomes_front : (room : ℕ) (m : Meaning) (span : Span) (rest : List Item)
-      → Reads (s_becomes ∷ []) (λ v r. said_by m span ∷ says rest ≡ a_word W.Becomes ∷ r) room
-      (record { meaning = m; span = span } ∷ rest) (word_by W.Becomes m span rest)
-  becomes_front room (M.Word W.Becomes) span rest = accept _ _ room _ span rest tt refl (λ st. refl) refl
+  becomes_front : (room : ℕ) (m : Meaning) (span : Span) (rest : List ValuedToken)
+      → Reads (s_becomes ∷ []) (λ v r. said_by m span ∷ says rest ≡ a_terminal W.Becomes ∷ r) room
+      (record { meaning = m; span = span } ∷ rest) (terminal_by W.Becomes m span rest)
+  becomes_front room (M.Terminal W.Becomes) span rest = accept _ _ room _ span rest tt refl (λ st. refl) refl
   becomes_front room m span rest = refuse _ _ room m span rest refl
 
-  pub becomes_reads : (room : ℕ) (is : List Item)
-      → Reads (s_becomes ∷ []) (λ v r. says is ≡ a_word W.Becomes ∷ r) room is (word_at end W.Becomes is)
-  unfolding word_at
-  becomes_reads room is = by_next s_becomes (λ ts v r. ts ≡ a_word W.Becomes ∷ r) room (word_by W.Becomes) (becomes_front room) is
+  pub becomes_reads : (room : ℕ) (is : List ValuedToken)
+      → Reads (s_becomes ∷ []) (λ v r. says is ≡ a_terminal W.Becomes ∷ r) room is (terminal_at end W.Becomes is)
+  unfolding terminal_at
+  becomes_reads room is = by_next s_becomes (λ ts v r. ts ≡ a_terminal W.Becomes ∷ r) room (terminal_by W.Becomes) (becomes_front room) is
 
-  else_front : (room : ℕ) (m : Meaning) (span : Span) (rest : List Item)
-      → Reads (s_else ∷ []) (λ v r. said_by m span ∷ says rest ≡ a_word W.Else ∷ r) room
-      (record { meaning = m; span = span } ∷ rest) (word_by W.Else m span rest)
-  else_front room (M.Word W.Else) span rest = accept _ _ room _ span rest tt refl (λ st. refl) refl
+  else_front : (room : ℕ) (m : Meaning) (span : Span) (rest : List ValuedToken)
+      → Reads (s_else ∷ []) (λ v r. said_by m span ∷ says rest ≡ a_terminal W.Else ∷ r) room
+      (record { meaning = m; span = span } ∷ rest) (terminal_by W.Else m span rest)
+  else_front room (M.Terminal W.Else) span rest = accept _ _ room _ span rest tt refl (λ st. refl) refl
   else_front room m span rest = refuse _ _ room m span rest refl
 
-  pub else_reads : (room : ℕ) (is : List Item)
-      → Reads (s_else ∷ []) (λ v r. says is ≡ a_word W.Else ∷ r) room is (word_at end W.Else is)
-  unfolding word_at
-  else_reads room is = by_next s_else (λ ts v r. ts ≡ a_word W.Else ∷ r) room (word_by W.Else) (else_front room) is
+  pub else_reads : (room : ℕ) (is : List ValuedToken)
+      → Reads (s_else ∷ []) (λ v r. says is ≡ a_terminal W.Else ∷ r) room is (terminal_at end W.Else is)
+  unfolding terminal_at
+  else_reads room is = by_next s_else (λ ts v r. ts ≡ a_terminal W.Else ∷ r) room (terminal_by W.Else) (else_front room) is
 
-  close_front : (room : ℕ) (m : Meaning) (span : Span) (rest : List Item)
-      → Reads (s_close ∷ []) (λ v r. said_by m span ∷ says rest ≡ a_word W.Close ∷ r) room
-      (record { meaning = m; span = span } ∷ rest) (word_by W.Close m span rest)
-  close_front room (M.Word W.Close) span rest = accept _ _ room _ span rest tt refl (λ st. refl) refl
+  close_front : (room : ℕ) (m : Meaning) (span : Span) (rest : List ValuedToken)
+      → Reads (s_close ∷ []) (λ v r. said_by m span ∷ says rest ≡ a_terminal W.Close ∷ r) room
+      (record { meaning = m; span = span } ∷ rest) (terminal_by W.Close m span rest)
+  close_front room (M.Terminal W.Close) span rest = accept _ _ room _ span rest tt refl (λ st. refl) refl
   close_front room m span rest = refuse _ _ room m span rest refl
 
-  pub close_reads : (room : ℕ) (is : List Item)
-      → Reads (s_close ∷ []) (λ v r. says is ≡ a_word W.Close ∷ r) room is (word_at end W.Close is)
-  unfolding word_at
-  close_reads room is = by_next s_close (λ ts v r. ts ≡ a_word W.Close ∷ r) room (word_by W.Close) (close_front room) is
+  pub close_reads : (room : ℕ) (is : List ValuedToken)
+      → Reads (s_close ∷ []) (λ v r. says is ≡ a_terminal W.Close ∷ r) room is (terminal_at end W.Close is)
+  unfolding terminal_at
+  close_reads room is = by_next s_close (λ ts v r. ts ≡ a_terminal W.Close ∷ r) room (terminal_by W.Close) (close_front room) is
 
-  operator_front : (room : ℕ) (m : Meaning) (span : Span) (rest : List Item)
-      → Reads (s_operator ∷ []) (λ v r. said_by m span ∷ says rest ≡ a_word (W.Operator v) ∷ r) room
+  operator_front : (room : ℕ) (m : Meaning) (span : Span) (rest : List ValuedToken)
+      → Reads (s_operator ∷ []) (λ v r. said_by m span ∷ says rest ≡ a_terminal (W.Operator v) ∷ r) room
       (record { meaning = m; span = span } ∷ rest) (operator_by m span rest)
-  operator_front room (M.Word (W.Operator op)) span rest = accept _ _ room _ span rest op refl (λ st. refl) refl
+  operator_front room (M.Terminal (W.Operator op)) span rest = accept _ _ room _ span rest op refl (λ st. refl) refl
   operator_front room m span rest = refuse _ _ room m span rest refl
 
-  pub operator_reads : (room : ℕ) (is : List Item)
-      → Reads (s_operator ∷ []) (λ v r. says is ≡ a_word (W.Operator v) ∷ r) room is (operator_at end is)
+  pub operator_reads : (room : ℕ) (is : List ValuedToken)
+      → Reads (s_operator ∷ []) (λ v r. says is ≡ a_terminal (W.Operator v) ∷ r) room is (operator_at end is)
   unfolding operator_at
-  operator_reads room is = by_next s_operator (λ ts v r. ts ≡ a_word (W.Operator v) ∷ r) room operator_by (operator_front room) is
+  operator_reads room is = by_next s_operator (λ ts v r. ts ≡ a_terminal (W.Operator v) ∷ r) room operator_by (operator_front room) is
 
-  name_front : (room : ℕ) (m : Meaning) (span : Span) (rest : List Item)
+  name_front : (room : ℕ) (m : Meaning) (span : Span) (rest : List ValuedToken)
       → Reads (s_name ∷ []) (λ v r. said_by m span ∷ says rest ≡ a_name v ∷ r) room
       (record { meaning = m; span = span } ∷ rest) (name_by m span rest)
   name_front room (M.Name letters) span rest = accept _ _ room _ span rest _ refl (λ st. refl) refl
   name_front room m span rest = refuse _ _ room m span rest refl
 
-  pub name_reads : (room : ℕ) (is : List Item)
+  pub name_reads : (room : ℕ) (is : List ValuedToken)
       → Reads (s_name ∷ []) (λ v r. says is ≡ a_name v ∷ r) room is (name_at end is)
   unfolding name_at
   name_reads room is = by_next s_name (λ ts v r. ts ≡ a_name v ∷ r) room name_by (name_front room) is
@@ -302,15 +303,15 @@ module _ (end limit : ℕ) where
   abbrev pub IsExpressionIn : ℕ → List Lexeme → Expression Name → List Lexeme → Type 0
   IsExpressionIn room ts e rest = IsExpression ts e rest × (expression_nesting e ≤ room)
 
-  abbrev ReadsExpressions : ℕ → (List Item → Reading (Expression Name)) → Type 0
-  ReadsExpressions room read = (is : List Item) → Reads (s_expression ∷ []) (IsExpressionIn room (says is)) room is (read is)
+  abbrev ReadsExpressions : ℕ → (List ValuedToken → Reading (Expression Name)) → Type 0
+  ReadsExpressions room read = (is : List ValuedToken) → Reads (s_expression ∷ []) (IsExpressionIn room (says is)) room is (read is)
 
-  pair_reads : (room : ℕ) (read : List Item → Reading (Expression Name)) → ReadsExpressions room read → (is : List Item)
+  pair_reads : (room : ℕ) (read : List ValuedToken → Reading (Expression Name)) → ReadsExpressions room read → (is : List ValuedToken)
       → Reads (s_expression ∷ s_operator ∷ s_expression ∷ s_close ∷ [])
-      (IsExpressionIn (suc room) (a_word W.Open ∷ says is)) room is (pair_at end read is)
+      (IsExpressionIn (suc room) (a_terminal W.Open ∷ says is)) room is (pair_at end read is)
   unfolding pair_at
   pair_reads room read reads is =
-      let Q : Expression Name → List Lexeme → Type 0 = IsExpressionIn (suc room) (a_word W.Open ∷ says is) in
+      let Q : Expression Name → List Lexeme → Type 0 = IsExpressionIn (suc room) (a_terminal W.Open ∷ says is) in
       reads_bind (s_expression ∷ []) (s_operator ∷ s_expression ∷ s_close ∷ []) _ Q room is _ _ (λ st. refl) (reads is) (λ a da.
       reads_bind (s_operator ∷ []) (s_expression ∷ s_close ∷ []) _ Q room a.1 _ _ (λ st. refl) (operator_reads room a.1) (λ op dop.
       reads_bind (s_expression ∷ []) (s_close ∷ []) _ Q room op.1 _ _ (λ st. refl) (reads op.1) (λ b db.
@@ -332,23 +333,23 @@ module _ (end limit : ℕ) where
   pub free_at : (depth room : ℕ) → depth + suc room ≡ limit → nat_eq depth limit ≡ false
   free_at depth room h = let ne : depth ≢ limit = omega arith in ne_eqb depth limit ne
 
-  expression_front : (room : ℕ) (brackets : Span → List Item → Reading (Expression Name))
-      → ((span : Span) (rest : List Item)
-      → Reads (s_expression ∷ []) (IsExpressionIn room (a_word W.Open ∷ says rest)) room
-      (record { meaning = M.Word W.Open; span = span } ∷ rest) (brackets span rest))
-      → (m : Meaning) (span : Span) (rest : List Item)
+  expression_front : (room : ℕ) (brackets : Span → List ValuedToken → Reading (Expression Name))
+      → ((span : Span) (rest : List ValuedToken)
+      → Reads (s_expression ∷ []) (IsExpressionIn room (a_terminal W.Open ∷ says rest)) room
+      (record { meaning = M.Terminal W.Open; span = span } ∷ rest) (brackets span rest))
+      → (m : Meaning) (span : Span) (rest : List ValuedToken)
       → Reads (s_expression ∷ []) (IsExpressionIn room (said_by m span ∷ says rest)) room
       (record { meaning = m; span = span } ∷ rest) (expression_by end m span rest (brackets span rest))
   expression_front room brackets h (M.Number v) span rest = accept _ _ room _ span rest _ refl (λ st. refl) ((span, refl), omega arith)
   expression_front room brackets h (M.Name letters) span rest = accept _ _ room _ span rest _ refl (λ st. refl) (refl, omega arith)
-  expression_front room brackets h (M.Word W.Me) span rest = accept _ _ room _ span rest _ refl (λ st. refl) (refl, omega arith)
-  expression_front room brackets h (M.Word W.Count) span rest = accept _ _ room _ span rest _ refl (λ st. refl) (refl, omega arith)
-  expression_front room brackets h (M.Word W.Open) span rest = h span rest
+  expression_front room brackets h (M.Terminal W.Me) span rest = accept _ _ room _ span rest _ refl (λ st. refl) (refl, omega arith)
+  expression_front room brackets h (M.Terminal W.Count) span rest = accept _ _ room _ span rest _ refl (λ st. refl) (refl, omega arith)
+  expression_front room brackets h (M.Terminal W.Open) span rest = h span rest
   expression_front room brackets h m span rest = refuse _ _ room m span rest refl
 
-  brackets_read : (room : ℕ) (span : Span) (rest : List Item)
-      → Reads (s_expression ∷ []) (IsExpressionIn room (a_word W.Open ∷ says rest)) room
-      (record { meaning = M.Word W.Open; span = span } ∷ rest) (brackets_at end room span rest)
+  brackets_read : (room : ℕ) (span : Span) (rest : List ValuedToken)
+      → Reads (s_expression ∷ []) (IsExpressionIn room (a_terminal W.Open ∷ says rest)) room
+      (record { meaning = M.Terminal W.Open; span = span } ∷ rest) (brackets_at end room span rest)
   unfolding brackets_at
   brackets_read zero span rest = refuse_deep _ _ _ span rest _ refl (λ st o. full_at (opened st) o)
   brackets_read (suc room) span rest =
@@ -357,16 +358,16 @@ module _ (end limit : ℕ) where
       (λ m s r. expression_by end m s r (brackets_at end room s r))
       (expression_front room (brackets_at end room) (brackets_read room)) is) rest)
 
-  pub expression_reads : (room : ℕ) (is : List Item)
+  pub expression_reads : (room : ℕ) (is : List ValuedToken)
       → Reads (s_expression ∷ []) (IsExpressionIn room (says is)) room is (expression_at end room is)
   unfolding expression_at
   expression_reads room is = by_next s_expression (IsExpressionIn room) room
       (λ m s r. expression_by end m s r (brackets_at end room s r))
       (expression_front room (brackets_at end room) (brackets_read room)) is
 
-  pub last_reads : (room : ℕ) (is : List Item)
+  pub last_reads : (room : ℕ) (is : List ValuedToken)
       → Reads (s_expression ∷ s_semicolon ∷ [])
-      (λ e rest. IsExpressionIn room (says is) e (a_word W.Semicolon ∷ rest)) room is (last_at end room is)
+      (λ e rest. IsExpressionIn room (says is) e (a_terminal W.Semicolon ∷ rest)) room is (last_at end room is)
   unfolding last_at
   last_reads room is =
       reads_bind (s_expression ∷ []) (s_semicolon ∷ []) _ _ room is _ _ (λ st. refl) (expression_reads room is) (λ e de.

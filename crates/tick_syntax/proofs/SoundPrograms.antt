@@ -3,19 +3,20 @@ use Rattle.std.proofs.Common.{◌≡◌, ℕ, ◌≤◌, List, [], ◌∷◌, So
 use Rattle.tick_syntax.specs.declared.span.Span.{Span}
 use Rattle.tick_syntax.specs.declared.fault.TextFault.{TextFault}
 use Rattle.tick_syntax.specs.declared.fault.TextFault.TheVariants as F
-use Rattle.tick_syntax.specs.declared.item.Item.{Item}
-use Rattle.tick_syntax.specs.declared.item.Ending.TheVariants as N
-use Rattle.tick_syntax.specs.declared.item.Section.{Section}
-use Rattle.tick_syntax.specs.declared.item.Section.TheVariants as C
-use Rattle.tick_syntax.specs.declared.item.Meaning.{Meaning}
-use Rattle.tick_syntax.specs.declared.item.Meaning.TheVariants as M
-use Rattle.tick_syntax.specs.declared.terminals.Word.{Word}
-use Rattle.tick_syntax.specs.declared.terminals.Word.TheVariants as W
-use Rattle.tick_syntax.specs.Lexeme.{Lexeme, a_name, a_number, a_word}
+use Rattle.tick_syntax.specs.declared.valued_token.ValuedToken.{ValuedToken}
+use Rattle.tick_syntax.specs.declared.valued_token.Ending.TheVariants as N
+use Rattle.tick_syntax.specs.declared.valued_token.Section.{Section}
+use Rattle.tick_syntax.specs.declared.valued_token.Section.TheVariants as C
+use Rattle.tick_syntax.specs.declared.valued_token.Meaning.{Meaning}
+use Rattle.tick_syntax.specs.declared.valued_token.Meaning.TheVariants as M
+use Rattle.tick_syntax.specs.declared.terminals.Terminal.{Terminal}
+use Rattle.tick_syntax.specs.declared.terminals.Terminal.TheVariants as W
+use Rattle.tick_syntax.specs.Lexeme.{Lexeme, a_name, a_number, a_terminal}
 use Rattle.tick_syntax.specs.Plain.{Name, Block, WholeProgram}
 use Rattle.tick_syntax.specs.Grammar.{IsBlock, AreNames, IsSection, Derives}
 use Rattle.tick_syntax.specs.Nesting.{block_nesting, nesting}
-use Rattle.tick_syntax.specs.prover.Reading.{Reading, ◌>>=◌, next_at, word_at, word_by, number_at, number_by, name_by, names_by, names_at, begins, section_by, section_at, statements_at, body_at, whole_at, program_at, nothing_after}
+use Rattle.machine_core.specs.Refusing.{◌>>=◌}
+use Rattle.tick_syntax.specs.prover.Reading.{Reading, next_at, terminal_at, terminal_by, number_at, number_by, name_by, names_by, names_at, begins, section_by, section_at, statements_at, body_at, whole_at, program_at, nothing_after}
 use Rattle.tick_syntax.proofs.Symbols.{said_by, said, says, Symbol, s_program, s_number, s_semicolon, s_variables, s_scans, s_registers, s_begin, s_names, s_more, s_until, fault}
 use Rattle.tick_syntax.proofs.Sound.{bind_ok, bind_err, Reads, reads_bind, reads_map, refuse, accept, enter, by_next, by_next_then, stand_in, weaken, nothing_left, semicolon_reads}
 use Rattle.tick_syntax.proofs.SoundStatements.{statements_reads}
@@ -23,17 +24,17 @@ use Rattle.tick_syntax.proofs.SoundStatements.{statements_reads}
 module _ (end limit : ℕ) where
   -- one name or more, and the `;` after them
   abbrev pub AreSome : List Lexeme → List Name → List Lexeme → Type 0
-  AreSome ts xs rest = (x : Name) × (ys : List Name) × (xs ≡ x ∷ ys) × AreNames ts x ys (a_word W.Semicolon ∷ rest)
+  AreSome ts xs rest = (x : Name) × (ys : List Name) × (xs ≡ x ∷ ys) × AreNames ts x ys (a_terminal W.Semicolon ∷ rest)
 
-  more_front : (room : ℕ) (x : Name) (m : Meaning) (span : Span) (rest : List Item) (more : Reading (List Name))
+  more_front : (room : ℕ) (x : Name) (m : Meaning) (span : Span) (rest : List ValuedToken) (more : Reading (List Name))
       → Reads end limit (s_names ∷ []) (AreSome (says rest)) room rest more
       → Reads end limit (s_more ∷ []) (AreSome (a_name x ∷ said_by m span ∷ says rest)) room
       (record { meaning = m; span = span } ∷ rest) (names_by end m span rest x more)
-  more_front room x (M.Word W.Comma) span rest more h =
+  more_front room x (M.Terminal W.Comma) span rest more h =
       enter end limit _ _ room room _ span rest _ _ refl (λ st o. (refl, o))
       (reads_map end limit (s_names ∷ []) _ _ room rest more (λ xs. x ∷ xs) h
       (λ xs r d. (x, d.0 ∷ d.1, ap (λ z. x ∷ z) d.2, (says rest, refl, d.3))))
-  more_front room x (M.Word W.Semicolon) span rest more h = accept end limit _ _ room _ span rest _ refl (λ st. refl) (x, [], refl, refl)
+  more_front room x (M.Terminal W.Semicolon) span rest more h = accept end limit _ _ room _ span rest _ refl (λ st. refl) (x, [], refl, refl)
   more_front room x m span rest more h = refuse end limit _ _ room m span rest refl
 
   one_name : (room : ℕ) (m : Meaning) (span : Span)
@@ -43,7 +44,7 @@ module _ (end limit : ℕ) where
   one_name room (M.Name letters) span = enter end limit _ _ room room _ span [] (s_more ∷ []) _ refl (λ st o. (refl, o)) (nothing_left end limit s_more _ room)
   one_name room m span = refuse end limit _ _ room m span [] refl
 
-  two_names : (room : ℕ) (m : Meaning) (span : Span) (j : Item) (is : List Item)
+  two_names : (room : ℕ) (m : Meaning) (span : Span) (j : ValuedToken) (is : List ValuedToken)
       → Reads end limit (s_names ∷ []) (AreSome (says is)) room is (names_at end is)
       → Reads end limit (s_names ∷ []) (AreSome (said_by m span ∷ said j ∷ says is)) room (record { meaning = m; span = span } ∷ j ∷ is)
       (name_by m span is >>= λ x. names_by end j.meaning j.span is x.0 (names_at end is))
@@ -51,7 +52,7 @@ module _ (end limit : ℕ) where
       (more_front room _ j.meaning j.span is _ h)
   two_names room m span j is h = refuse end limit _ _ room m span (j ∷ is) refl
 
-  names_reads : (room : ℕ) (is : List Item) → Reads end limit (s_names ∷ []) (AreSome (says is)) room is (names_at end is)
+  names_reads : (room : ℕ) (is : List ValuedToken) → Reads end limit (s_names ∷ []) (AreSome (says is)) room is (names_at end is)
   unfolding names_at next_at
   names_reads room [] = nothing_left end limit s_names _ room
   names_reads room (i ∷ []) = one_name room i.meaning i.span
@@ -67,38 +68,38 @@ module _ (end limit : ℕ) where
   after_section C.Scans = s_registers
   after_section C.Registers = s_begin
 
-  abbrev section_word : Section → Word
-  section_word C.Variables = W.Var
-  section_word C.Scans = W.Scan
-  section_word C.Registers = W.Reg
+  abbrev section_terminal : Section → Terminal
+  section_terminal C.Variables = W.Var
+  section_terminal C.Scans = W.Scan
+  section_terminal C.Registers = W.Reg
 
-  declared : (word : Word) (ts : List Lexeme) (xs : List Name) (rest : List Lexeme) → AreSome ts xs rest → IsSection word (a_word word ∷ ts) xs rest
-  declared word ts xs rest d = subst (λ z. IsSection word (a_word word ∷ ts) z rest) (sym d.2) (ts, refl, d.3)
+  declared : (terminal : Terminal) (ts : List Lexeme) (xs : List Name) (rest : List Lexeme) → AreSome ts xs rest → IsSection terminal (a_terminal terminal ∷ ts) xs rest
+  declared terminal ts xs rest d = subst (λ z. IsSection terminal (a_terminal terminal ∷ ts) z rest) (sym d.2) (ts, refl, d.3)
 
-  section_front : {V : Type 0} (room : ℕ) (section : Section) (Q : V → List Lexeme → Type 0) (F : List Name × List Item → Reading V)
-      (m : Meaning) (span : Span) (rest : List Item)
-      → ((x : List Name × List Item) → IsSection (section_word section) (said_by m span ∷ says rest) x.0 (says x.1)
+  section_front : {V : Type 0} (room : ℕ) (section : Section) (Q : V → List Lexeme → Type 0) (F : List Name × List ValuedToken → Reading V)
+      (m : Meaning) (span : Span) (rest : List ValuedToken)
+      → ((x : List Name × List ValuedToken) → IsSection (section_terminal section) (said_by m span ∷ says rest) x.0 (says x.1)
       → Reads end limit (after_section section ∷ []) Q room x.1 (F x))
       → Reads end limit (section_symbol section ∷ []) Q room (record { meaning = m; span = span } ∷ rest)
       (section_by end (begins section m) (record { meaning = m; span = span } ∷ rest) rest >>= F)
-  section_front room C.Variables Q F (M.Word W.Var) span rest h =
+  section_front room C.Variables Q F (M.Terminal W.Var) span rest h =
       enter end limit _ Q room room _ span rest (s_names ∷ s_scans ∷ []) _ refl (λ st o. (refl, o))
       (reads_bind end limit (s_names ∷ []) (s_scans ∷ []) _ Q room rest _ F (λ st. refl) (names_reads room rest)
       (λ x d. h x (declared W.Var (says rest) x.0 (says x.1) d)))
-  section_front room C.Scans Q F (M.Word W.Scan) span rest h =
+  section_front room C.Scans Q F (M.Terminal W.Scan) span rest h =
       enter end limit _ Q room room _ span rest (s_names ∷ s_registers ∷ []) _ refl (λ st o. (refl, o))
       (reads_bind end limit (s_names ∷ []) (s_registers ∷ []) _ Q room rest _ F (λ st. refl) (names_reads room rest)
       (λ x d. h x (declared W.Scan (says rest) x.0 (says x.1) d)))
-  section_front room C.Registers Q F (M.Word W.Reg) span rest h =
+  section_front room C.Registers Q F (M.Terminal W.Reg) span rest h =
       enter end limit _ Q room room _ span rest (s_names ∷ s_begin ∷ []) _ refl (λ st o. (refl, o))
       (reads_bind end limit (s_names ∷ []) (s_begin ∷ []) _ Q room rest _ F (λ st. refl) (names_reads room rest)
       (λ x d. h x (declared W.Reg (says rest) x.0 (says x.1) d)))
   section_front room section Q F m span rest h =
-      let is : List Item = record { meaning = m; span = span } ∷ rest in
+      let is : List ValuedToken = record { meaning = m; span = span } ∷ rest in
       stand_in end limit (section_symbol section) (after_section section ∷ []) Q room is _ (λ st. refl) (λ st. refl) (h ([], is) refl)
 
-  section_reads : {V : Type 0} (room : ℕ) (section : Section) (Q : V → List Lexeme → Type 0) (F : List Name × List Item → Reading V) (is : List Item)
-      → ((x : List Name × List Item) → IsSection (section_word section) (says is) x.0 (says x.1)
+  section_reads : {V : Type 0} (room : ℕ) (section : Section) (Q : V → List Lexeme → Type 0) (F : List Name × List ValuedToken → Reading V) (is : List ValuedToken)
+      → ((x : List Name × List ValuedToken) → IsSection (section_terminal section) (says is) x.0 (says x.1)
       → Reads end limit (after_section section ∷ []) Q room x.1 (F x))
       → Reads end limit (section_symbol section ∷ []) Q room is (section_at end section is >>= F)
   unfolding section_at next_at
@@ -107,26 +108,26 @@ module _ (end limit : ℕ) where
 
   -- `begin`, a block and `end`
   abbrev pub IsBody : ℕ → List Lexeme → Block Name → List Lexeme → Type 0
-  IsBody room ts b rest = (w : List Lexeme) × (ts ≡ a_word W.Begin ∷ w) × IsBlock W.End w b rest × (block_nesting b ≤ room)
+  IsBody room ts b rest = (w : List Lexeme) × (ts ≡ a_terminal W.Begin ∷ w) × IsBlock W.End w b rest × (block_nesting b ≤ room)
 
-  begin_front : (room : ℕ) (m : Meaning) (span : Span) (rest : List Item)
+  begin_front : (room : ℕ) (m : Meaning) (span : Span) (rest : List ValuedToken)
       → Reads end limit (s_begin ∷ []) (IsBody room (said_by m span ∷ says rest)) room (record { meaning = m; span = span } ∷ rest)
-      (word_by W.Begin m span rest >>= λ b. statements_at end room N.Program b.1)
-  begin_front room (M.Word W.Begin) span rest = enter end limit _ _ room room _ span rest (s_until N.Program ∷ []) _ refl (λ st o. (refl, o))
+      (terminal_by W.Begin m span rest >>= λ b. statements_at end room N.Program b.1)
+  begin_front room (M.Terminal W.Begin) span rest = enter end limit _ _ room room _ span rest (s_until N.Program ∷ []) _ refl (λ st o. (refl, o))
       (weaken end limit _ _ _ room rest _ (statements_reads end limit room N.Program rest) (λ b r d. (says rest, refl, d.0, d.1)))
   begin_front room m span rest = refuse end limit _ _ room m span rest refl
 
-  body_reads : (room : ℕ) (is : List Item) → Reads end limit (s_begin ∷ []) (IsBody room (says is)) room is (body_at end room is)
-  unfolding body_at word_at
-  body_reads room is = by_next_then end limit s_begin (IsBody room) room (word_by W.Begin) (λ b. statements_at end room N.Program b.1) (begin_front room) is
+  body_reads : (room : ℕ) (is : List ValuedToken) → Reads end limit (s_begin ∷ []) (IsBody room (says is)) room is (body_at end room is)
+  unfolding body_at terminal_at
+  body_reads room is = by_next_then end limit s_begin (IsBody room) room (terminal_by W.Begin) (λ b. statements_at end room N.Program b.1) (begin_front room) is
 
-  number_front : (room : ℕ) (m : Meaning) (span : Span) (rest : List Item)
+  number_front : (room : ℕ) (m : Meaning) (span : Span) (rest : List ValuedToken)
       → Reads end limit (s_number ∷ []) (λ v r. said_by m span ∷ says rest ≡ a_number v.0 v.1 ∷ r) room
       (record { meaning = m; span = span } ∷ rest) (number_by m span rest)
   number_front room (M.Number v) span rest = accept end limit _ _ room _ span rest _ refl (λ st. refl) refl
   number_front room m span rest = refuse end limit _ _ room m span rest refl
 
-  number_reads : (room : ℕ) (is : List Item)
+  number_reads : (room : ℕ) (is : List ValuedToken)
       → Reads end limit (s_number ∷ []) (λ v r. says is ≡ a_number v.0 v.1 ∷ r) room is (number_at end is)
   unfolding number_at
   number_reads room is = by_next end limit s_number (λ ts v r. ts ≡ a_number v.0 v.1 ∷ r) room number_by (number_front room) is
@@ -135,10 +136,10 @@ module _ (end limit : ℕ) where
   abbrev pub DerivesThen : List Lexeme → WholeProgram Name → List Lexeme → Type 0
   DerivesThen ts p rest =
       (t u v w : List Lexeme)
-      × (ts ≡ a_word W.Processes ∷ a_number p.processes p.span ∷ a_word W.Semicolon ∷ t)
+      × (ts ≡ a_terminal W.Processes ∷ a_number p.processes p.span ∷ a_terminal W.Semicolon ∷ t)
       × IsSection W.Var t p.variables u
       × IsSection W.Scan u p.scans v
-      × IsSection W.Reg v p.registers (a_word W.Begin ∷ w)
+      × IsSection W.Reg v p.registers (a_terminal W.Begin ∷ w)
       × IsBlock W.End w p.body rest
 
   abbrev pub IsProgram : ℕ → List Lexeme → WholeProgram Name → List Lexeme → Type 0
@@ -148,17 +149,17 @@ module _ (end limit : ℕ) where
   made n variables scans registers body =
       record { processes = n.0; span = n.1; variables = variables; scans = scans; registers = registers; body = body }
 
-  abbrev after_processes : ℕ → Unit {0} × List Item → Reading (WholeProgram Name)
+  abbrev after_processes : ℕ → Unit {0} × List ValuedToken → Reading (WholeProgram Name)
   after_processes room p =
-      number_at end p.1 >>= λ n. word_at end W.Semicolon n.1 >>= λ s. section_at end C.Variables s.1
+      number_at end p.1 >>= λ n. terminal_at end W.Semicolon n.1 >>= λ s. section_at end C.Variables s.1
       >>= λ variables. section_at end C.Scans variables.1 >>= λ scans. section_at end C.Registers scans.1
       >>= λ registers. body_at end room registers.1 >>= λ body. Ok (made n.0 variables.0 scans.0 registers.0 body.0, body.1)
 
-  processes_front : (room : ℕ) (m : Meaning) (span : Span) (rest : List Item)
+  processes_front : (room : ℕ) (m : Meaning) (span : Span) (rest : List ValuedToken)
       → Reads end limit (s_program ∷ []) (IsProgram room (said_by m span ∷ says rest)) room (record { meaning = m; span = span } ∷ rest)
-      (word_by W.Processes m span rest >>= after_processes room)
-  processes_front room (M.Word W.Processes) span rest =
-      let Q : WholeProgram Name → List Lexeme → Type 0 = IsProgram room (a_word W.Processes ∷ says rest) in
+      (terminal_by W.Processes m span rest >>= after_processes room)
+  processes_front room (M.Terminal W.Processes) span rest =
+      let Q : WholeProgram Name → List Lexeme → Type 0 = IsProgram room (a_terminal W.Processes ∷ says rest) in
       enter end limit _ Q room room _ span rest (s_number ∷ s_semicolon ∷ s_variables ∷ []) _ refl (λ st o. (refl, o))
       (reads_bind end limit (s_number ∷ []) (s_semicolon ∷ s_variables ∷ []) _ Q room rest _ _ (λ st. refl) (number_reads room rest) (λ n dn.
       reads_bind end limit (s_semicolon ∷ []) (s_variables ∷ []) _ Q room n.1 _ _ (λ st. refl) (semicolon_reads end limit room n.1) (λ s ds.
@@ -171,7 +172,7 @@ module _ (end limit : ℕ) where
           says variables.1,
           says scans.1,
           db.0,
-          ap (λ z. a_word W.Processes ∷ z) (dn ∙ ap (λ z. a_number n.0.0 n.0.1 ∷ z) ds),
+          ap (λ z. a_terminal W.Processes ∷ z) (dn ∙ ap (λ z. a_number n.0.0 n.0.1 ∷ z) ds),
           dv,
           dc,
           subst (λ z. IsSection W.Reg (says scans.1) registers.0 z) db.1 dr,
@@ -181,22 +182,22 @@ module _ (end limit : ℕ) where
       ))))))))
   processes_front room m span rest = refuse end limit _ _ room m span rest refl
 
-  pub whole_reads : (room : ℕ) (is : List Item) → Reads end limit (s_program ∷ []) (IsProgram room (says is)) room is (whole_at end room is)
-  unfolding whole_at word_at
-  whole_reads room is = by_next_then end limit s_program (IsProgram room) room (word_by W.Processes) (after_processes room) (processes_front room) is
+  pub whole_reads : (room : ℕ) (is : List ValuedToken) → Reads end limit (s_program ∷ []) (IsProgram room (says is)) room is (whole_at end room is)
+  unfolding whole_at terminal_at
+  whole_reads room is = by_next_then end limit s_program (IsProgram room) room (terminal_by W.Processes) (after_processes room) (processes_front room) is
 
 -- what the reader answers, for whatever limit on the brackets
 module _ (end room : ℕ) where
-  at_end : (p : WholeProgram Name) (is : List Item) (q : WholeProgram Name) → nothing_after end p is ≡ Ok q
+  at_end : (p : WholeProgram Name) (is : List ValuedToken) (q : WholeProgram Name) → nothing_after end p is ≡ Ok q
       → (p ≡ q) × (is ≡ []) × (fault end room is [] ≡ None)
   at_end p [] q h = (cc, refl, refl)
   at_end p (i ∷ is) q h = absurd (cc)
 
-  past_end : (p : WholeProgram Name) (is : List Item) (e : TextFault) → nothing_after end p is ≡ Err e → fault end room is [] ≡ Some e
+  past_end : (p : WholeProgram Name) (is : List ValuedToken) (e : TextFault) → nothing_after end p is ≡ Err e → fault end room is [] ≡ Some e
   past_end p [] e h = absurd (cc)
   past_end p (i ∷ is) e h = let k : F.Unexpected i.span ≡ e = cc in ap Some k
 
-  pub program_ok : (is : List Item) (p : WholeProgram Name) → program_at end room is ≡ Ok p
+  pub program_ok : (is : List ValuedToken) (p : WholeProgram Name) → program_at end room is ≡ Ok p
       → Derives (says is) p × (nesting p ≤ room) × (fault end room is (s_program ∷ []) ≡ None)
   unfolding program_at
   program_ok is p h =
@@ -210,7 +211,7 @@ module _ (end room : ℕ) where
         g ∙ a.2,
       )
 
-  pub program_err : (is : List Item) (e : TextFault) → program_at end room is ≡ Err e → fault end room is (s_program ∷ []) ≡ Some e
+  pub program_err : (is : List ValuedToken) (e : TextFault) → program_at end room is ≡ Err e → fault end room is (s_program ∷ []) ≡ Some e
   unfolding program_at
   program_err is e h =
       let r = whole_reads end room room is in

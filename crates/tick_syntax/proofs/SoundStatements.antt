@@ -1,18 +1,19 @@
 -- What the reader reads is what the grammar has: statements.
 use Rattle.std.proofs.Common.{◌≡◌, ℕ, zero, suc, ◌<◌, ◌≤◌, List, [], ◌∷◌, length, Ok, refl, sym, ◌∙◌, ap, subst, arith}
 use Rattle.tick_syntax.specs.declared.span.Span.{Span}
-use Rattle.tick_syntax.specs.declared.item.Item.{Item}
-use Rattle.tick_syntax.specs.declared.item.Ending.{Ending}
-use Rattle.tick_syntax.specs.declared.item.Ending.TheVariants as N
-use Rattle.tick_syntax.specs.declared.item.Meaning.{Meaning}
-use Rattle.tick_syntax.specs.declared.item.Meaning.TheVariants as M
-use Rattle.tick_syntax.specs.declared.terminals.Word.{Word}
-use Rattle.tick_syntax.specs.declared.terminals.Word.TheVariants as W
-use Rattle.tick_syntax.specs.Lexeme.{Lexeme, a_name, a_word}
+use Rattle.tick_syntax.specs.declared.valued_token.ValuedToken.{ValuedToken}
+use Rattle.tick_syntax.specs.declared.valued_token.Ending.{Ending}
+use Rattle.tick_syntax.specs.declared.valued_token.Ending.TheVariants as N
+use Rattle.tick_syntax.specs.declared.valued_token.Meaning.{Meaning}
+use Rattle.tick_syntax.specs.declared.valued_token.Meaning.TheVariants as M
+use Rattle.tick_syntax.specs.declared.terminals.Terminal.{Terminal}
+use Rattle.tick_syntax.specs.declared.terminals.Terminal.TheVariants as W
+use Rattle.tick_syntax.specs.Lexeme.{Lexeme, a_name, a_terminal}
 use Rattle.tick_syntax.specs.Plain.{Name, Statement, Block, nil}
 use Rattle.tick_syntax.specs.Grammar.{IsExpression, IsStatement, IsBlock}
 use Rattle.tick_syntax.specs.Nesting.{expression_nesting, statement_nesting, block_nesting}
-use Rattle.tick_syntax.specs.prover.Reading.{Reading, ◌>>=◌, next_at, brace_at, brace_by, get_at, scan_at, copy_at, older_at, plain_at, right_by, right_at, assignment_at, put_at, stamp_at, out_at, branch_at, repeat_at, statement_by, statement_with, block_by, ends, statements_with, block_at, statement_at, statements_at}
+use Rattle.machine_core.specs.Refusing.{◌>>=◌}
+use Rattle.tick_syntax.specs.prover.Reading.{Reading, next_at, brace_at, brace_by, get_at, scan_at, copy_at, older_at, plain_at, right_by, right_at, assignment_at, put_at, stamp_at, out_at, branch_at, repeat_at, statement_by, statement_with, block_by, ends, statements_with, block_at, statement_at, statements_at}
 use Rattle.tick_syntax.proofs.Symbols.{said_by, says, s_semicolon, s_name, s_becomes, s_else, s_expression, s_right, s_block, s_statement, s_until, opened}
 use Rattle.tick_syntax.proofs.Sound.{Reads, reads_bind, reads_bind_shorter, reads_map, refuse, refuse_deep, accept, enter, by_next, by_next_whole, by_next_then, stand_in, weaken, nothing_left, semicolon_reads, becomes_reads, else_reads, name_reads, expression_reads, last_reads, full_at, free_at}
 
@@ -20,78 +21,78 @@ module _ (end limit : ℕ) where
   abbrev pub IsStatementIn : ℕ → List Lexeme → Statement Name → List Lexeme → Type 0
   IsStatementIn room ts s rest = IsStatement ts s rest × (statement_nesting s ≤ room)
 
-  abbrev pub IsBlockIn : ℕ → Word → List Lexeme → Block Name → List Lexeme → Type 0
+  abbrev pub IsBlockIn : ℕ → Terminal → List Lexeme → Block Name → List Lexeme → Type 0
   IsBlockIn room last ts b rest = IsBlock last ts b rest × (block_nesting b ≤ room)
 
   -- a block with its brace
   abbrev pub IsBraced : ℕ → List Lexeme → Block Name → List Lexeme → Type 0
   IsBraced room ts b rest =
-      (u : List Lexeme) × (ts ≡ a_word W.OpenBrace ∷ u) × IsBlock W.CloseBrace u b rest × (suc (block_nesting b) ≤ room)
+      (u : List Lexeme) × (ts ≡ a_terminal W.OpenBrace ∷ u) × IsBlock W.CloseBrace u b rest × (suc (block_nesting b) ≤ room)
 
-  get_reads : (room : ℕ) (x : Name) (is : List Item)
+  get_reads : (room : ℕ) (x : Name) (is : List ValuedToken)
       → Reads end limit (s_name ∷ s_expression ∷ s_semicolon ∷ [])
-      (IsStatementIn room (a_name x ∷ a_word W.Becomes ∷ a_word W.Get ∷ says is)) room is (get_at end room x is)
+      (IsStatementIn room (a_name x ∷ a_terminal W.Becomes ∷ a_terminal W.Get ∷ says is)) room is (get_at end room x is)
   unfolding get_at
   get_reads room x is =
       reads_bind end limit (s_name ∷ []) (s_expression ∷ s_semicolon ∷ []) _ _ room is _ _ (λ st. refl) (name_reads end limit room is) (λ r dr.
       reads_map end limit (s_expression ∷ s_semicolon ∷ []) _ _ room r.1 _ _ (last_reads end limit room r.1) (λ e rest de.
-      ((says r.1, ap (λ z. a_name x ∷ a_word W.Becomes ∷ a_word W.Get ∷ z) dr, de.0), de.1)))
+      ((says r.1, ap (λ z. a_name x ∷ a_terminal W.Becomes ∷ a_terminal W.Get ∷ z) dr, de.0), de.1)))
 
-  scan_reads : (room : ℕ) (x : Name) (is : List Item)
+  scan_reads : (room : ℕ) (x : Name) (is : List ValuedToken)
       → Reads end limit (s_semicolon ∷ [])
-      (IsStatementIn room (a_name x ∷ a_word W.Becomes ∷ a_word W.Scan ∷ says is)) room is (scan_at end x is)
+      (IsStatementIn room (a_name x ∷ a_terminal W.Becomes ∷ a_terminal W.Scan ∷ says is)) room is (scan_at end x is)
   unfolding scan_at
   scan_reads room x is =
       reads_map end limit (s_semicolon ∷ []) _ _ room is _ _ (semicolon_reads end limit room is) (λ s rest ds.
-      (ap (λ z. a_name x ∷ a_word W.Becomes ∷ a_word W.Scan ∷ z) ds, omega arith))
+      (ap (λ z. a_name x ∷ a_terminal W.Becomes ∷ a_terminal W.Scan ∷ z) ds, omega arith))
 
-  copy_reads : (room : ℕ) (x : Name) (is : List Item)
+  copy_reads : (room : ℕ) (x : Name) (is : List ValuedToken)
       → Reads end limit (s_name ∷ s_semicolon ∷ [])
-      (IsStatementIn room (a_name x ∷ a_word W.Becomes ∷ a_word W.Copy ∷ says is)) room is (copy_at end x is)
+      (IsStatementIn room (a_name x ∷ a_terminal W.Becomes ∷ a_terminal W.Copy ∷ says is)) room is (copy_at end x is)
   unfolding copy_at
   copy_reads room x is =
       reads_bind end limit (s_name ∷ []) (s_semicolon ∷ []) _ _ room is _ _ (λ st. refl) (name_reads end limit room is) (λ n dn.
       reads_map end limit (s_semicolon ∷ []) _ _ room n.1 _ _ (semicolon_reads end limit room n.1) (λ s rest ds.
-      (ap (λ z. a_name x ∷ a_word W.Becomes ∷ a_word W.Copy ∷ z) (dn ∙ ap (λ z. a_name n.0 ∷ z) ds), omega arith)))
+      (ap (λ z. a_name x ∷ a_terminal W.Becomes ∷ a_terminal W.Copy ∷ z) (dn ∙ ap (λ z. a_name n.0 ∷ z) ds), omega arith)))
 
-  older_reads : (room : ℕ) (x : Name) (is : List Item)
+  older_reads : (room : ℕ) (x : Name) (is : List ValuedToken)
       → Reads end limit (s_name ∷ s_expression ∷ s_expression ∷ s_semicolon ∷ [])
-      (IsStatementIn room (a_name x ∷ a_word W.Becomes ∷ a_word W.Older ∷ says is)) room is (older_at end room x is)
+      (IsStatementIn room (a_name x ∷ a_terminal W.Becomes ∷ a_terminal W.Older ∷ says is)) room is (older_at end room x is)
   unfolding older_at
   older_reads room x is =
       reads_bind end limit (s_name ∷ []) (s_expression ∷ s_expression ∷ s_semicolon ∷ []) _ _ room is _ _ (λ st. refl) (name_reads end limit room is) (λ s ds.
       reads_bind end limit (s_expression ∷ []) (s_expression ∷ s_semicolon ∷ []) _ _ room s.1 _ _ (λ st. refl) (expression_reads end limit room s.1) (λ a da.
       reads_map end limit (s_expression ∷ s_semicolon ∷ []) _ _ room a.1 _ _ (last_reads end limit room a.1) (λ b rest db. (
-        (says s.1, says a.1, ap (λ z. a_name x ∷ a_word W.Becomes ∷ a_word W.Older ∷ z) ds, da.0, db.0),
+        (says s.1, says a.1, ap (λ z. a_name x ∷ a_terminal W.Becomes ∷ a_terminal W.Older ∷ z) ds, da.0, db.0),
         (let l : expression_nesting a.0 ≤ room = da.1 in let k : expression_nesting b ≤ room = db.1 in omega arith),
       ))))
 
-  plain_reads : (room : ℕ) (x : Name) (is : List Item)
+  plain_reads : (room : ℕ) (x : Name) (is : List ValuedToken)
       → Reads end limit (s_expression ∷ s_semicolon ∷ [])
-      (IsStatementIn room (a_name x ∷ a_word W.Becomes ∷ says is)) room is (plain_at end room x is)
+      (IsStatementIn room (a_name x ∷ a_terminal W.Becomes ∷ says is)) room is (plain_at end room x is)
   unfolding plain_at
   plain_reads room x is =
       reads_map end limit (s_expression ∷ s_semicolon ∷ []) _ _ room is _ _ (last_reads end limit room is) (λ e rest de.
       ((says is, refl, de.0), de.1))
 
-  right_front : (room : ℕ) (x : Name) (m : Meaning) (span : Span) (rest : List Item)
-      → Reads end limit (s_right ∷ []) (IsStatementIn room (a_name x ∷ a_word W.Becomes ∷ said_by m span ∷ says rest)) room
+  right_front : (room : ℕ) (x : Name) (m : Meaning) (span : Span) (rest : List ValuedToken)
+      → Reads end limit (s_right ∷ []) (IsStatementIn room (a_name x ∷ a_terminal W.Becomes ∷ said_by m span ∷ says rest)) room
       (record { meaning = m; span = span } ∷ rest) (right_by end m room x (record { meaning = m; span = span } ∷ rest) rest)
-  right_front room x (M.Word W.Get) span rest = enter end limit _ _ room room _ span rest _ _ refl (λ st o. (refl, o)) (get_reads room x rest)
-  right_front room x (M.Word W.Scan) span rest = enter end limit _ _ room room _ span rest _ _ refl (λ st o. (refl, o)) (scan_reads room x rest)
-  right_front room x (M.Word W.Copy) span rest = enter end limit _ _ room room _ span rest _ _ refl (λ st o. (refl, o)) (copy_reads room x rest)
-  right_front room x (M.Word W.Older) span rest = enter end limit _ _ room room _ span rest _ _ refl (λ st o. (refl, o)) (older_reads room x rest)
+  right_front room x (M.Terminal W.Get) span rest = enter end limit _ _ room room _ span rest _ _ refl (λ st o. (refl, o)) (get_reads room x rest)
+  right_front room x (M.Terminal W.Scan) span rest = enter end limit _ _ room room _ span rest _ _ refl (λ st o. (refl, o)) (scan_reads room x rest)
+  right_front room x (M.Terminal W.Copy) span rest = enter end limit _ _ room room _ span rest _ _ refl (λ st o. (refl, o)) (copy_reads room x rest)
+  right_front room x (M.Terminal W.Older) span rest = enter end limit _ _ room room _ span rest _ _ refl (λ st o. (refl, o)) (older_reads room x rest)
   right_front room x m span rest =
       stand_in end limit s_right (s_expression ∷ s_semicolon ∷ []) _ room (record { meaning = m; span = span } ∷ rest) _
       (λ st. refl) (λ st. refl) (plain_reads room x (record { meaning = m; span = span } ∷ rest))
 
-  right_reads : (room : ℕ) (x : Name) (is : List Item)
-      → Reads end limit (s_right ∷ []) (IsStatementIn room (a_name x ∷ a_word W.Becomes ∷ says is)) room is (right_at end room x is)
+  right_reads : (room : ℕ) (x : Name) (is : List ValuedToken)
+      → Reads end limit (s_right ∷ []) (IsStatementIn room (a_name x ∷ a_terminal W.Becomes ∷ says is)) room is (right_at end room x is)
   unfolding right_at
-  right_reads room x is = by_next_whole end limit s_right (λ ts. IsStatementIn room (a_name x ∷ a_word W.Becomes ∷ ts)) room
+  right_reads room x is = by_next_whole end limit s_right (λ ts. IsStatementIn room (a_name x ∷ a_terminal W.Becomes ∷ ts)) room
       (λ whole m span rest. right_by end m room x whole rest) (right_front room x) is
 
-  assignment_reads : (room : ℕ) (x : Name) (is : List Item)
+  assignment_reads : (room : ℕ) (x : Name) (is : List ValuedToken)
       → Reads end limit (s_becomes ∷ s_right ∷ []) (IsStatementIn room (a_name x ∷ says is)) room is (assignment_at end room x is)
   unfolding assignment_at
   assignment_reads room x is =
@@ -99,33 +100,33 @@ module _ (end limit : ℕ) where
       subst (λ z. Reads end limit (s_right ∷ []) (IsStatementIn room (a_name x ∷ z)) room b.1 (right_at end room x b.1)) (sym db)
       (right_reads room x b.1))
 
-  put_reads : (room : ℕ) (is : List Item)
-      → Reads end limit (s_name ∷ s_expression ∷ s_semicolon ∷ []) (IsStatementIn room (a_word W.Put ∷ says is)) room is (put_at end room is)
+  put_reads : (room : ℕ) (is : List ValuedToken)
+      → Reads end limit (s_name ∷ s_expression ∷ s_semicolon ∷ []) (IsStatementIn room (a_terminal W.Put ∷ says is)) room is (put_at end room is)
   unfolding put_at
   put_reads room is =
       reads_bind end limit (s_name ∷ []) (s_expression ∷ s_semicolon ∷ []) _ _ room is _ _ (λ st. refl) (name_reads end limit room is) (λ r dr.
       reads_map end limit (s_expression ∷ s_semicolon ∷ []) _ _ room r.1 _ _ (last_reads end limit room r.1) (λ e rest de.
-      ((says r.1, ap (λ z. a_word W.Put ∷ z) dr, de.0), de.1)))
+      ((says r.1, ap (λ z. a_terminal W.Put ∷ z) dr, de.0), de.1)))
 
-  stamp_reads : (room : ℕ) (is : List Item)
-      → Reads end limit (s_semicolon ∷ []) (IsStatementIn room (a_word W.Stamp ∷ says is)) room is (stamp_at end is)
+  stamp_reads : (room : ℕ) (is : List ValuedToken)
+      → Reads end limit (s_semicolon ∷ []) (IsStatementIn room (a_terminal W.Stamp ∷ says is)) room is (stamp_at end is)
   unfolding stamp_at
   stamp_reads room is =
       reads_map end limit (s_semicolon ∷ []) _ _ room is _ _ (semicolon_reads end limit room is) (λ s rest ds.
-      (ap (λ z. a_word W.Stamp ∷ z) ds, omega arith))
+      (ap (λ z. a_terminal W.Stamp ∷ z) ds, omega arith))
 
-  out_reads : (room : ℕ) (is : List Item)
-      → Reads end limit (s_expression ∷ s_semicolon ∷ []) (IsStatementIn room (a_word W.Out ∷ says is)) room is (out_at end room is)
+  out_reads : (room : ℕ) (is : List ValuedToken)
+      → Reads end limit (s_expression ∷ s_semicolon ∷ []) (IsStatementIn room (a_terminal W.Out ∷ says is)) room is (out_at end room is)
   unfolding out_at
   out_reads room is =
       reads_map end limit (s_expression ∷ s_semicolon ∷ []) _ _ room is _ _ (last_reads end limit room is) (λ e rest de.
       ((says is, refl, de.0), de.1))
 
-  abbrev ReadsBlocks : ℕ → (List Item → Reading (Block Name)) → Type 0
-  ReadsBlocks room block = (is : List Item) → Reads end limit (s_block ∷ []) (IsBraced room (says is)) room is (block is)
+  abbrev ReadsBlocks : ℕ → (List ValuedToken → Reading (Block Name)) → Type 0
+  ReadsBlocks room block = (is : List ValuedToken) → Reads end limit (s_block ∷ []) (IsBraced room (says is)) room is (block is)
 
-  branch_reads : (room : ℕ) (block : List Item → Reading (Block Name)) → ReadsBlocks room block → (is : List Item)
-      → Reads end limit (s_expression ∷ s_block ∷ s_else ∷ s_block ∷ []) (IsStatementIn room (a_word W.If ∷ says is)) room is
+  branch_reads : (room : ℕ) (block : List ValuedToken → Reading (Block Name)) → ReadsBlocks room block → (is : List ValuedToken)
+      → Reads end limit (s_expression ∷ s_block ∷ s_else ∷ s_block ∷ []) (IsStatementIn room (a_terminal W.If ∷ says is)) room is
       (branch_at end block room is)
   unfolding branch_at
   branch_reads room block reads is =
@@ -139,15 +140,15 @@ module _ (end limit : ℕ) where
           db.0,
           refl,
           subst (λ z. IsExpression (says is) e.0 z) da.1 de.0,
-          subst (λ z. IsBlock W.CloseBrace da.0 a.0 z) (do_ ∙ ap (λ z. a_word W.Else ∷ z) db.1) da.2,
+          subst (λ z. IsBlock W.CloseBrace da.0 a.0 z) (do_ ∙ ap (λ z. a_terminal W.Else ∷ z) db.1) da.2,
           db.2,
         ),
         (let l : expression_nesting e.0 ≤ room = de.1 in let k : suc (block_nesting a.0) ≤ room = da.3 in
             let j : suc (block_nesting b) ≤ room = db.3 in omega arith),
       )))))
 
-  repeat_reads : (room : ℕ) (block : List Item → Reading (Block Name)) → ReadsBlocks room block → (is : List Item)
-      → Reads end limit (s_expression ∷ s_block ∷ []) (IsStatementIn room (a_word W.While ∷ says is)) room is
+  repeat_reads : (room : ℕ) (block : List ValuedToken → Reading (Block Name)) → ReadsBlocks room block → (is : List ValuedToken)
+      → Reads end limit (s_expression ∷ s_block ∷ []) (IsStatementIn room (a_terminal W.While ∷ says is)) room is
       (repeat_at end block room is)
   unfolding repeat_at
   repeat_reads room block reads is =
@@ -157,47 +158,47 @@ module _ (end limit : ℕ) where
         (let l : expression_nesting e.0 ≤ room = de.1 in let k : suc (block_nesting a) ≤ room = da.3 in omega arith),
       )))
 
-  statement_front : (room : ℕ) (block : List Item → Reading (Block Name)) → ReadsBlocks room block
-      → (m : Meaning) (span : Span) (rest : List Item)
+  statement_front : (room : ℕ) (block : List ValuedToken → Reading (Block Name)) → ReadsBlocks room block
+      → (m : Meaning) (span : Span) (rest : List ValuedToken)
       → Reads end limit (s_statement ∷ []) (IsStatementIn room (said_by m span ∷ says rest)) room
       (record { meaning = m; span = span } ∷ rest) (statement_by end m span block room rest)
   statement_front room block reads (M.Name letters) span rest =
       enter end limit _ _ room room _ span rest _ _ refl (λ st o. (refl, o)) (assignment_reads room _ rest)
-  statement_front room block reads (M.Word W.Put) span rest = enter end limit _ _ room room _ span rest _ _ refl (λ st o. (refl, o)) (put_reads room rest)
-  statement_front room block reads (M.Word W.Stamp) span rest = enter end limit _ _ room room _ span rest _ _ refl (λ st o. (refl, o)) (stamp_reads room rest)
-  statement_front room block reads (M.Word W.Out) span rest = enter end limit _ _ room room _ span rest _ _ refl (λ st o. (refl, o)) (out_reads room rest)
-  statement_front room block reads (M.Word W.If) span rest =
+  statement_front room block reads (M.Terminal W.Put) span rest = enter end limit _ _ room room _ span rest _ _ refl (λ st o. (refl, o)) (put_reads room rest)
+  statement_front room block reads (M.Terminal W.Stamp) span rest = enter end limit _ _ room room _ span rest _ _ refl (λ st o. (refl, o)) (stamp_reads room rest)
+  statement_front room block reads (M.Terminal W.Out) span rest = enter end limit _ _ room room _ span rest _ _ refl (λ st o. (refl, o)) (out_reads room rest)
+  statement_front room block reads (M.Terminal W.If) span rest =
       enter end limit _ _ room room _ span rest _ _ refl (λ st o. (refl, o)) (branch_reads room block reads rest)
-  statement_front room block reads (M.Word W.While) span rest =
+  statement_front room block reads (M.Terminal W.While) span rest =
       enter end limit _ _ room room _ span rest _ _ refl (λ st o. (refl, o)) (repeat_reads room block reads rest)
   statement_front room block reads m span rest = refuse end limit _ _ room m span rest refl
 
-  with_reads : (room : ℕ) (block : List Item → Reading (Block Name)) → ReadsBlocks room block → (is : List Item)
+  with_reads : (room : ℕ) (block : List ValuedToken → Reading (Block Name)) → ReadsBlocks room block → (is : List ValuedToken)
       → Reads end limit (s_statement ∷ []) (IsStatementIn room (says is)) room is (statement_with end block room is)
   unfolding statement_with
   with_reads room block reads is = by_next end limit s_statement (IsStatementIn room) room
       (λ m span rest. statement_by end m span block room rest) (statement_front room block reads) is
 
-  abbrev pub last_word : Ending → Word
-  last_word N.Program = W.End
-  last_word N.Braces = W.CloseBrace
+  abbrev pub last_terminal : Ending → Terminal
+  last_terminal N.Program = W.End
+  last_terminal N.Braces = W.CloseBrace
 
-  abbrev ReadsStatements : ℕ → (List Item → Reading (Statement Name)) → Type 0
-  ReadsStatements room one = (is : List Item) → Reads end limit (s_statement ∷ []) (IsStatementIn room (says is)) room is (one is)
+  abbrev ReadsStatements : ℕ → (List ValuedToken → Reading (Statement Name)) → Type 0
+  ReadsStatements room one = (is : List ValuedToken) → Reads end limit (s_statement ∷ []) (IsStatementIn room (says is)) room is (one is)
 
-  statements_front : (room : ℕ) (one : List Item → Reading (Statement Name)) → ReadsStatements room one
-      → (ending : Ending) (m : Meaning) (span : Span) (rest : List Item) (more : List Item → Reading (Block Name))
-      → ((js : List Item) → length js < suc (length rest)
-      → Reads end limit (s_until ending ∷ []) (IsBlockIn room (last_word ending) (says js)) room js (more js))
-      → Reads end limit (s_until ending ∷ []) (IsBlockIn room (last_word ending) (said_by m span ∷ says rest)) room
+  statements_front : (room : ℕ) (one : List ValuedToken → Reading (Statement Name)) → ReadsStatements room one
+      → (ending : Ending) (m : Meaning) (span : Span) (rest : List ValuedToken) (more : List ValuedToken → Reading (Block Name))
+      → ((js : List ValuedToken) → length js < suc (length rest)
+      → Reads end limit (s_until ending ∷ []) (IsBlockIn room (last_terminal ending) (says js)) room js (more js))
+      → Reads end limit (s_until ending ∷ []) (IsBlockIn room (last_terminal ending) (said_by m span ∷ says rest)) room
       (record { meaning = m; span = span } ∷ rest)
       (block_by end (ends ending m) rest (one (record { meaning = m; span = span } ∷ rest)) more)
-  statements_front room one reads N.Program (M.Word W.End) span rest more go =
+  statements_front room one reads N.Program (M.Terminal W.End) span rest more go =
       accept end limit _ _ room _ span rest nil refl (λ st. refl) (refl, omega arith)
-  statements_front room one reads N.Braces (M.Word W.CloseBrace) span rest more go =
+  statements_front room one reads N.Braces (M.Terminal W.CloseBrace) span rest more go =
       accept end limit _ _ room _ span rest nil refl (λ st. refl) (refl, omega arith)
   statements_front room one reads ending m span rest more go =
-      let is : List Item = record { meaning = m; span = span } ∷ rest in
+      let is : List ValuedToken = record { meaning = m; span = span } ∷ rest in
       stand_in end limit (s_until ending) (s_statement ∷ s_until ending ∷ []) _ room is _ (λ st. refl) (λ st. refl)
       (reads_bind_shorter end limit (s_statement ∷ []) (s_until ending ∷ []) _ _ room is _ _ (λ st. refl) (reads is) (λ s ds l.
       reads_map end limit (s_until ending ∷ []) _ _ room s.1 _ _ (go s.1 l) (λ b tail db. (
@@ -205,9 +206,9 @@ module _ (end limit : ℕ) where
         (let j : statement_nesting s.0 ≤ room = ds.1 in let k : block_nesting b ≤ room = db.1 in omega arith),
       ))))
 
-  list_reads : (room : ℕ) (one : List Item → Reading (Statement Name)) → ReadsStatements room one
-      → (ending : Ending) (most : ℕ) (is : List Item) → length is < most
-      → Reads end limit (s_until ending ∷ []) (IsBlockIn room (last_word ending) (says is)) room is (statements_with end one ending most is)
+  list_reads : (room : ℕ) (one : List ValuedToken → Reading (Statement Name)) → ReadsStatements room one
+      → (ending : Ending) (most : ℕ) (is : List ValuedToken) → length is < most
+      → Reads end limit (s_until ending ∷ []) (IsBlockIn room (last_terminal ending) (says is)) room is (statements_with end one ending most is)
   unfolding statements_with next_at
   list_reads room one reads ending zero is l = absurd (omega arith)
   list_reads room one reads ending (suc most) [] l = nothing_left end limit (s_until ending) _ room
@@ -215,20 +216,20 @@ module _ (end limit : ℕ) where
       statements_front room one reads ending i.meaning i.span is (statements_with end one ending most)
       (λ js k. list_reads room one reads ending most js (omega arith))
 
-  block_front : (room : ℕ) (f : List Item → Reading (Block Name))
-      → ((js : List Item) → Reads end limit (s_until N.Braces ∷ []) (IsBlockIn room W.CloseBrace (says js)) room js (f js))
-      → (m : Meaning) (span : Span) (rest : List Item)
+  block_front : (room : ℕ) (f : List ValuedToken → Reading (Block Name))
+      → ((js : List ValuedToken) → Reads end limit (s_until N.Braces ∷ []) (IsBlockIn room W.CloseBrace (says js)) room js (f js))
+      → (m : Meaning) (span : Span) (rest : List ValuedToken)
       → Reads end limit (s_block ∷ []) (IsBraced (suc room) (said_by m span ∷ says rest)) (suc room)
       (record { meaning = m; span = span } ∷ rest) (brace_by m (suc room) span rest >>= λ x. f x.1)
-  block_front room f reads (M.Word W.OpenBrace) span rest =
+  block_front room f reads (M.Terminal W.OpenBrace) span rest =
       enter end limit _ _ (suc room) room _ span rest _ _ refl (λ st o. (free_at end limit (opened st) room o, omega arith))
       (weaken end limit _ _ _ room rest _ (reads rest) (λ b r d. (says rest, refl, d.0, (let k : block_nesting b ≤ room = d.1 in omega arith))))
   block_front room f reads m span rest = refuse end limit _ _ (suc room) m span rest refl
 
-  block_front_zero : (m : Meaning) (span : Span) (rest : List Item)
+  block_front_zero : (m : Meaning) (span : Span) (rest : List ValuedToken)
       → Reads end limit (s_block ∷ []) (IsBraced 0 (said_by m span ∷ says rest)) 0
       (record { meaning = m; span = span } ∷ rest) (brace_by m 0 span rest >>= λ x. Ok (nil, x.1))
-  block_front_zero (M.Word W.OpenBrace) span rest = refuse_deep end limit _ _ _ span rest _ refl (λ st o. full_at end limit (opened st) o)
+  block_front_zero (M.Terminal W.OpenBrace) span rest = refuse_deep end limit _ _ _ span rest _ refl (λ st o. full_at end limit (opened st) o)
   block_front_zero m span rest = refuse end limit _ _ 0 m span rest refl
 
   block_reads : (room : ℕ) → ReadsBlocks room (block_at end room)
@@ -238,12 +239,12 @@ module _ (end limit : ℕ) where
       (block_front room (λ js. statements_with end (statement_with end (block_at end room) room) N.Braces (suc (length js)) js)
       (λ js. list_reads room _ (with_reads room (block_at end room) (block_reads room)) N.Braces (suc (length js)) js (omega arith))) is
 
-  pub statement_reads : (room : ℕ) (is : List Item)
+  pub statement_reads : (room : ℕ) (is : List ValuedToken)
       → Reads end limit (s_statement ∷ []) (IsStatementIn room (says is)) room is (statement_at end room is)
   unfolding statement_at
   statement_reads room is = with_reads room (block_at end room) (block_reads room) is
 
-  pub statements_reads : (room : ℕ) (ending : Ending) (is : List Item)
-      → Reads end limit (s_until ending ∷ []) (IsBlockIn room (last_word ending) (says is)) room is (statements_at end room ending is)
+  pub statements_reads : (room : ℕ) (ending : Ending) (is : List ValuedToken)
+      → Reads end limit (s_until ending ∷ []) (IsBlockIn room (last_terminal ending) (says is)) room is (statements_at end room ending is)
   unfolding statements_at
   statements_reads room ending is = list_reads room (statement_at end room) (statement_reads room) ending (suc (length is)) is (omega arith)

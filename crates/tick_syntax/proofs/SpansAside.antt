@@ -1,9 +1,9 @@
 -- What of a program does not turn on its spans: its printed form, and how deep its brackets stand.
 use Rattle.std.proofs.Common.{◌≡◌, ℕ, suc, max, List, [], ◌∷◌, ◌++◌, map, refl, sym, ap, ◌∙◌}
 use Rattle.std.proofs.lemmas.List.{map-append}
-use Rattle.tick_syntax.specs.declared.terminals.Word.{Word}
-use Rattle.tick_syntax.specs.declared.terminals.Word.TheVariants as W
-use Rattle.tick_syntax.specs.Lexeme.{Lexeme, a_name, a_number, a_word, nothing}
+use Rattle.tick_syntax.specs.declared.terminals.Terminal.{Terminal}
+use Rattle.tick_syntax.specs.declared.terminals.Terminal.TheVariants as W
+use Rattle.tick_syntax.specs.Lexeme.{Lexeme, a_name, a_number, a_terminal, nothing}
 use Rattle.tick_syntax.specs.Nesting.{expression_nesting, statement_nesting, block_nesting, nesting}
 use Rattle.tick_syntax.specs.Plain.{Name, Expression, number, named, me, count, binary, map_expression, Statement, assign, get, put, stamp, scan, copy, older, out, branch, repeat, map_statement, Block, nil, cons, map_block, WholeProgram, without_spans}
 use Rattle.tick_syntax.specs.Printed.{nowhere, expression_tokens, statement_tokens, block_tokens, names_tokens, section_tokens, program_tokens, printed_token, printed_tokens, printed}
@@ -77,11 +77,11 @@ mutual
 
 names_plain : (x : Name) (xs : List Name) → spanless_all (names_tokens x xs) ≡ names_tokens (name_at_none x.letters) (map name_at_none (map letters_of xs))
 names_plain x [] = refl
-names_plain x (y ∷ ys) = ap (λ ts. a_name (name_at_none x.letters) ∷ a_word W.Comma ∷ ts) (names_plain y ys)
+names_plain x (y ∷ ys) = ap (λ ts. a_name (name_at_none x.letters) ∷ a_terminal W.Comma ∷ ts) (names_plain y ys)
 
-section_plain : (word : Word) (xs : List Name) → spanless_all (section_tokens word xs) ≡ section_tokens word (map name_at_none (map letters_of xs))
-section_plain word [] = refl
-section_plain word (x ∷ xs) = simp (map-append, names_plain x xs)
+section_plain : (terminal : Terminal) (xs : List Name) → spanless_all (section_tokens terminal xs) ≡ section_tokens terminal (map name_at_none (map letters_of xs))
+section_plain terminal [] = refl
+section_plain terminal (x ∷ xs) = simp (map-append, names_plain x xs)
 
 abbrev pub program_at_none : WholeProgram (List ℕ) → WholeProgram Name
 program_at_none w = record {
@@ -101,7 +101,7 @@ program_plain p =
 token_plain : (t : Lexeme) → printed_token (spanless t) ≡ printed_token t
 token_plain (a_name x) = refl
 token_plain (a_number v span) = refl
-token_plain (a_word w) = refl
+token_plain (a_terminal w) = refl
 token_plain nothing = refl
 
 tokens_plain : (ts : List Lexeme) → printed_tokens (spanless_all ts) ≡ printed_tokens ts

@@ -8,7 +8,7 @@ use Rattle.tick_syntax.specs.declared.token.Sort.{Sort}
 use Rattle.tick_syntax.specs.declared.token.Sort.TheVariants.{Name, Num, Keyword, Sign}
 use Rattle.tick_syntax.specs.declared.token.Token.{Token}
 
-starts_some : (test : ℕ → Bool) (piece : List ℕ) → starts test piece ≡ true → 0 < length piece
+pub starts_some : (test : ℕ → Bool) (piece : List ℕ) → starts test piece ≡ true → 0 < length piece
 starts_some test [] begins = absurd (false≢true begins)
 starts_some test (b ∷ piece) begins = omega arith
 

@@ -3,10 +3,10 @@ use Rattle.std.proofs.Common.{◌≡◌, ℕ, ◌≤◌, ◌⊎◌, inl, inr, Bo
 use Rattle.tick_syntax.specs.declared.span.Span.{Span}
 use Rattle.tick_syntax.specs.declared.fault.TextFault.{TextFault}
 use Rattle.tick_syntax.specs.declared.fault.TextFault.TheVariants as F
-use Rattle.tick_syntax.specs.declared.item.Item.{Item}
+use Rattle.tick_syntax.specs.declared.valued_token.ValuedToken.{ValuedToken}
 use Rattle.tick_syntax.specs.declared.token.Token.{Token}
 use Rattle.tick_syntax.specs.declared.tree.Tree.{Tree}
-use Rattle.tick_syntax.specs.prover.Items.{SayAs}
+use Rattle.tick_syntax.specs.prover.ValuedTokens.{SayAs}
 use Rattle.tick_syntax.specs.Lexeme.{lexeme_of, lexemes}
 use Rattle.tick_syntax.specs.Nesting.{IsOpening, open_by, open_after, IsShallow}
 use Rattle.tick_syntax.specs.prover.Reading.{GivesWhole, program_at}
@@ -85,7 +85,7 @@ module _ (end : ℕ) (text : List ℕ) where
         stop = r.stop;
       }
 
-  stopped : (is : List Item) (ts : List Token) (st : List Symbol) (e : TextFault) → SayAs text is ts → opened st ≤ 64
+  stopped : (is : List ValuedToken) (ts : List Token) (st : List Symbol) (e : TextFault) → SayAs text is ts → opened st ≤ 64
       → fault end 64 is st ≡ Some e → Stopped ts st e
   stopped [] [] [] e same l h = absurd (no_option e h)
   stopped [] [] (s ∷ st) e same l h = record {
@@ -150,7 +150,7 @@ unexpected_here text front (t ∷ rest) left place r (inl h) =
     (same_place _ _ h.0, λ g. goes_on_runs (lexemes text (front ++ t ∷ [])) g (runs_more text front t left r ∙ h.1))
 unexpected_here text front (t ∷ rest) left place r (inr h) = absurd (not_deep _ _ h.0)
 
-pub is_unexpected : (text : List ℕ) (is : List Item) (ts : List Token) (place : Span) → SayAs text is ts
+pub is_unexpected : (text : List ℕ) (is : List ValuedToken) (ts : List Token) (place : Span) → SayAs text is ts
     → fault (length text) 64 is (s_program ∷ []) ≡ Some (F.Unexpected place) → IsUnexpected text ts place
 is_unexpected text is ts place same h =
     let r = stopped (length text) text is ts (s_program ∷ []) (F.Unexpected place) same (omega arith) h in (
@@ -180,7 +180,7 @@ deep_here text ts front (t ∷ rest) left place e b o r (inr h) = (
   same_deep _ _ h.0,
 )
 
-pub is_too_deep : (text : List ℕ) (is : List Item) (ts : List Token) (place : Span) → SayAs text is ts
+pub is_too_deep : (text : List ℕ) (is : List ValuedToken) (ts : List Token) (place : Span) → SayAs text is ts
     → fault (length text) 64 is (s_program ∷ []) ≡ Some (F.TooDeep place) → IsTooDeep text ts place
 is_too_deep text is ts place same h =
     let r = stopped (length text) text is ts (s_program ∷ []) (F.TooDeep place) same (omega arith) h in
@@ -189,17 +189,17 @@ is_too_deep text is ts place same h =
 the_error : (d e : TextFault) → (let r : Result Tree TextFault = Err d in r) ≡ Err e → d ≡ e
 the_error d e h = cc
 
-gave : (text : List ℕ) (is : List Item) (r : Result Tree TextFault) (e : TextFault) → GivesWhole tree_of r (program_at (length text) 64 is)
+gave : (text : List ℕ) (is : List ValuedToken) (r : Result Tree TextFault) (e : TextFault) → GivesWhole tree_of r (program_at (length text) 64 is)
     → r ≡ Err e → (e ≡ F.NoMemory → ⊥) → fault (length text) 64 is (s_program ∷ []) ≡ Some e
 gave text is (Ok tree) e h k n = absurd (cc)
 gave text is (Err F.NoMemory) e h k n = absurd (n (sym (the_error _ e k)))
 gave text is (Err d) e h k n = program_err (length text) 64 is d h ∙ ap Some (the_error d e k)
 
-pub parsed_unexpected : (text : List ℕ) (is : List Item) (ts : List Token) (r : Result Tree TextFault) (place : Span)
+pub parsed_unexpected : (text : List ℕ) (is : List ValuedToken) (ts : List Token) (r : Result Tree TextFault) (place : Span)
     → SayAs text is ts → GivesWhole tree_of r (program_at (length text) 64 is) → r ≡ Err (F.Unexpected place) → IsUnexpected text ts place
 parsed_unexpected text is ts r place same h k = is_unexpected text is ts place same (gave text is r _ h k (λ e. cc))
 
-pub parsed_too_deep : (text : List ℕ) (is : List Item) (ts : List Token) (r : Result Tree TextFault) (place : Span)
+pub parsed_too_deep : (text : List ℕ) (is : List ValuedToken) (ts : List Token) (r : Result Tree TextFault) (place : Span)
     → SayAs text is ts → GivesWhole tree_of r (program_at (length text) 64 is) → r ≡ Err (F.TooDeep place) → IsTooDeep text ts place
 parsed_too_deep text is ts r place same h k = is_too_deep text is ts place same (gave text is r _ h k (λ e. cc))
 
@@ -248,7 +248,7 @@ of_step None b span more e h go = subst IsOfGrammar (some_same (F.Unexpected spa
 of_step (Some new) true span more e h go = subst IsOfGrammar (some_same (F.TooDeep span) e h) tt
 of_step (Some new) false span more e h go = go new h
 
-pub of_fault : (end limit : ℕ) (is : List Item) (st : List Symbol) (e : TextFault) → fault end limit is st ≡ Some e → IsOfGrammar e
+pub of_fault : (end limit : ℕ) (is : List ValuedToken) (st : List Symbol) (e : TextFault) → fault end limit is st ≡ Some e → IsOfGrammar e
 of_fault end limit [] [] e h = absurd (cc)
 of_fault end limit [] (s ∷ st) e h = subst IsOfGrammar (some_same (F.Unexpected (record { start = end; end = end })) e h) tt
 of_fault end limit (i ∷ is) [] e h = subst IsOfGrammar (some_same (F.Unexpected i.span) e h) tt
@@ -256,7 +256,7 @@ of_fault end limit (i ∷ is) (s ∷ st) e h =
     of_step (on_stack (step s (said i)) st) (is_full limit (said i) (opened (s ∷ st))) i.span (fault end limit is) e h
     (λ new k. of_fault end limit is new e k)
 
-pub parsed_others : (end : ℕ) (is : List Item) (r : Result Tree TextFault) → GivesWhole tree_of r (program_at end 64 is) → IfErr r IsOfGrammar
+pub parsed_others : (end : ℕ) (is : List ValuedToken) (r : Result Tree TextFault) → GivesWhole tree_of r (program_at end 64 is) → IfErr r IsOfGrammar
 parsed_others end is (Ok tree) h = tt
 parsed_others end is (Err F.NoMemory) h = tt
 parsed_others end is (Err e) h = of_fault end 64 is (s_program ∷ []) _ (program_err end 64 is _ h)
@@ -271,7 +271,7 @@ memory_step None b span more h go = unexpected_is_not span (some_same (F.Unexpec
 memory_step (Some new) true span more h go = deep_is_not span (some_same (F.TooDeep span) F.NoMemory h)
 memory_step (Some new) false span more h go = go new h
 
-pub no_memory : (end limit : ℕ) (is : List Item) (st : List Symbol) → fault end limit is st ≡ Some F.NoMemory → ⊥
+pub no_memory : (end limit : ℕ) (is : List ValuedToken) (st : List Symbol) → fault end limit is st ≡ Some F.NoMemory → ⊥
 no_memory end limit [] [] h = cc
 no_memory end limit [] (s ∷ st) h = unexpected_is_not (record { start = end; end = end }) (some_same _ F.NoMemory h)
 no_memory end limit (i ∷ is) [] h = unexpected_is_not i.span (some_same (F.Unexpected i.span) F.NoMemory h)

@@ -1,16 +1,16 @@
--- What may still come, as a stack of symbols, and the first item at which nothing does.
+-- What may still come, as a stack of symbols, and the first token at which nothing does.
 use Rattle.std.proofs.Common.{ℕ, suc, Bool, true, false, List, [], ◌∷◌, ◌++◌, Option, Some, None, nat_eq}
 use Rattle.tick_syntax.specs.declared.span.Span.{Span}
 use Rattle.tick_syntax.specs.declared.fault.TextFault.{TextFault}
 use Rattle.tick_syntax.specs.declared.fault.TextFault.TheVariants as F
-use Rattle.tick_syntax.specs.declared.item.Item.{Item}
-use Rattle.tick_syntax.specs.declared.item.Ending.{Ending}
-use Rattle.tick_syntax.specs.declared.item.Ending.TheVariants as N
-use Rattle.tick_syntax.specs.declared.terminals.Word.TheVariants as W
-use Rattle.tick_syntax.specs.Lexeme.{Lexeme, a_name, a_number, a_word}
-pub use Rattle.tick_syntax.specs.prover.Items.{said_by, said}
+use Rattle.tick_syntax.specs.declared.valued_token.ValuedToken.{ValuedToken}
+use Rattle.tick_syntax.specs.declared.valued_token.Ending.{Ending}
+use Rattle.tick_syntax.specs.declared.valued_token.Ending.TheVariants as N
+use Rattle.tick_syntax.specs.declared.terminals.Terminal.TheVariants as W
+use Rattle.tick_syntax.specs.Lexeme.{Lexeme, a_name, a_number, a_terminal}
+pub use Rattle.tick_syntax.specs.prover.ValuedTokens.{said_by, said}
 
-abbrev pub says : List Item → List Lexeme
+abbrev pub says : List ValuedToken → List Lexeme
 says [] = []
 says (i ∷ is) = said i ∷ says is
 
@@ -42,68 +42,68 @@ after (Some ss) s = Some (ss ++ s ∷ [])
 abbrev pub expression_step : Lexeme → Option (List Symbol)
 expression_step (a_number v span) = Some []
 expression_step (a_name x) = Some []
-expression_step (a_word W.Me) = Some []
-expression_step (a_word W.Count) = Some []
-expression_step (a_word W.Open) = Some (s_expression ∷ s_operator ∷ s_expression ∷ s_close ∷ [])
+expression_step (a_terminal W.Me) = Some []
+expression_step (a_terminal W.Count) = Some []
+expression_step (a_terminal W.Open) = Some (s_expression ∷ s_operator ∷ s_expression ∷ s_close ∷ [])
 expression_step _ = None
 
 abbrev pub right_step : Lexeme → Option (List Symbol)
-right_step (a_word W.Get) = Some (s_name ∷ s_expression ∷ s_semicolon ∷ [])
-right_step (a_word W.Scan) = Some (s_semicolon ∷ [])
-right_step (a_word W.Copy) = Some (s_name ∷ s_semicolon ∷ [])
-right_step (a_word W.Older) = Some (s_name ∷ s_expression ∷ s_expression ∷ s_semicolon ∷ [])
+right_step (a_terminal W.Get) = Some (s_name ∷ s_expression ∷ s_semicolon ∷ [])
+right_step (a_terminal W.Scan) = Some (s_semicolon ∷ [])
+right_step (a_terminal W.Copy) = Some (s_name ∷ s_semicolon ∷ [])
+right_step (a_terminal W.Older) = Some (s_name ∷ s_expression ∷ s_expression ∷ s_semicolon ∷ [])
 right_step x = after (expression_step x) s_semicolon
 
 abbrev pub statement_step : Lexeme → Option (List Symbol)
 statement_step (a_name x) = Some (s_becomes ∷ s_right ∷ [])
-statement_step (a_word W.Put) = Some (s_name ∷ s_expression ∷ s_semicolon ∷ [])
-statement_step (a_word W.Stamp) = Some (s_semicolon ∷ [])
-statement_step (a_word W.Out) = Some (s_expression ∷ s_semicolon ∷ [])
-statement_step (a_word W.If) = Some (s_expression ∷ s_block ∷ s_else ∷ s_block ∷ [])
-statement_step (a_word W.While) = Some (s_expression ∷ s_block ∷ [])
+statement_step (a_terminal W.Put) = Some (s_name ∷ s_expression ∷ s_semicolon ∷ [])
+statement_step (a_terminal W.Stamp) = Some (s_semicolon ∷ [])
+statement_step (a_terminal W.Out) = Some (s_expression ∷ s_semicolon ∷ [])
+statement_step (a_terminal W.If) = Some (s_expression ∷ s_block ∷ s_else ∷ s_block ∷ [])
+statement_step (a_terminal W.While) = Some (s_expression ∷ s_block ∷ [])
 statement_step _ = None
 
 abbrev pub until_step : Ending → Lexeme → Option (List Symbol)
-until_step N.Program (a_word W.End) = Some []
-until_step N.Braces (a_word W.CloseBrace) = Some []
+until_step N.Program (a_terminal W.End) = Some []
+until_step N.Braces (a_terminal W.CloseBrace) = Some []
 until_step e x = after (statement_step x) (s_until e)
 
 abbrev pub begin_step : Lexeme → Option (List Symbol)
-begin_step (a_word W.Begin) = Some (s_until N.Program ∷ [])
+begin_step (a_terminal W.Begin) = Some (s_until N.Program ∷ [])
 begin_step _ = None
 
 abbrev pub registers_step : Lexeme → Option (List Symbol)
-registers_step (a_word W.Reg) = Some (s_names ∷ s_begin ∷ [])
+registers_step (a_terminal W.Reg) = Some (s_names ∷ s_begin ∷ [])
 registers_step x = begin_step x
 
 abbrev pub scans_step : Lexeme → Option (List Symbol)
-scans_step (a_word W.Scan) = Some (s_names ∷ s_registers ∷ [])
+scans_step (a_terminal W.Scan) = Some (s_names ∷ s_registers ∷ [])
 scans_step x = registers_step x
 
 abbrev pub variables_step : Lexeme → Option (List Symbol)
-variables_step (a_word W.Var) = Some (s_names ∷ s_scans ∷ [])
+variables_step (a_terminal W.Var) = Some (s_names ∷ s_scans ∷ [])
 variables_step x = scans_step x
 
 -- what stands in the symbol's place once this was read
 abbrev pub step : Symbol → Lexeme → Option (List Symbol)
-step s_program (a_word W.Processes) = Some (s_number ∷ s_semicolon ∷ s_variables ∷ [])
+step s_program (a_terminal W.Processes) = Some (s_number ∷ s_semicolon ∷ s_variables ∷ [])
 step s_number (a_number v span) = Some []
-step s_semicolon (a_word W.Semicolon) = Some []
+step s_semicolon (a_terminal W.Semicolon) = Some []
 step s_variables x = variables_step x
 step s_scans x = scans_step x
 step s_registers x = registers_step x
 step s_begin x = begin_step x
 step s_names (a_name x) = Some (s_more ∷ [])
-step s_more (a_word W.Comma) = Some (s_names ∷ [])
-step s_more (a_word W.Semicolon) = Some []
+step s_more (a_terminal W.Comma) = Some (s_names ∷ [])
+step s_more (a_terminal W.Semicolon) = Some []
 step s_name (a_name x) = Some []
-step s_becomes (a_word W.Becomes) = Some []
-step s_else (a_word W.Else) = Some []
-step s_close (a_word W.Close) = Some []
-step s_operator (a_word (W.Operator op)) = Some []
+step s_becomes (a_terminal W.Becomes) = Some []
+step s_else (a_terminal W.Else) = Some []
+step s_close (a_terminal W.Close) = Some []
+step s_operator (a_terminal (W.Operator op)) = Some []
 step s_expression x = expression_step x
 step s_right x = right_step x
-step s_block (a_word W.OpenBrace) = Some (s_until N.Braces ∷ [])
+step s_block (a_terminal W.OpenBrace) = Some (s_until N.Braces ∷ [])
 step s_statement x = statement_step x
 step (s_until e) x = until_step e x
 step _ _ = None
@@ -117,8 +117,8 @@ opened (_ ∷ st) = opened st
 
 -- whether an opening bracket is one too many
 abbrev pub is_full : ℕ → Lexeme → ℕ → Bool
-is_full limit (a_word W.Open) depth = nat_eq depth limit
-is_full limit (a_word W.OpenBrace) depth = nat_eq depth limit
+is_full limit (a_terminal W.Open) depth = nat_eq depth limit
+is_full limit (a_terminal W.OpenBrace) depth = nat_eq depth limit
 is_full _ _ _ = false
 
 abbrev pub on_stack : Option (List Symbol) → List Symbol → Option (List Symbol)
@@ -141,9 +141,9 @@ fault_by None full span more = Some (F.Unexpected span)
 fault_by (Some new) true span more = Some (F.TooDeep span)
 fault_by (Some new) false span more = more new
 
--- the first item that may not stand where it does
+-- the first token that may not stand where it does
 module _ (end limit : ℕ) where
-  abbrev pub fault : List Item → List Symbol → Option TextFault
+  abbrev pub fault : List ValuedToken → List Symbol → Option TextFault
   fault [] [] = None
   fault [] (s ∷ st) = Some (F.Unexpected (record { start = end; end = end }))
   fault (i ∷ is) [] = Some (F.Unexpected i.span)

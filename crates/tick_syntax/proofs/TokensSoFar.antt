@@ -3,8 +3,6 @@ use Rattle.std.proofs.Common.{◌≡◌, ℕ, ◌<◌, ◌≤◌, ◌⊎◌, inl
 use Rattle.std.specs.Str.Parse.{digits_value}
 use Rattle.std.proofs.lemmas.List.{drop-drop, at_drop_more, length-take-le, length-drop, append-nil, drop_all}
 use Rattle.std.proofs.lemmas.List.Folds.{drop_split}
-use Rattle.std.proofs.lemmas.Bool.{and_parts}
-use Rattle.std.specs.List.{list_all}
 use Rattle.tick_syntax.specs.Characters.{is_letter, is_digit}
 use Rattle.tick_syntax.specs.prover.Extents.{word_length, number_length, sign_length, IsReadAt}
 use Rattle.tick_syntax.specs.Spelling.{starts, gap_length, after_gap, span_of, IsWord, IsNumber, IsSign, IsToken, HasToken, TokenAt, FaultAt, SpellsFrom, Spells, FaultAfter, FirstFault}
@@ -75,9 +73,6 @@ number_in bytes from end within digit e =
 pub number_after : (bytes : List ℕ) (from end : ℕ) → from < length bytes → is_digit (get_or bytes from 0) ≡ true → end ≡ from + number_length (drop from bytes) → from < end
 number_after bytes from end within digit e =
     omega (arith, number_positive (drop from bytes) (starts_at is_digit bytes from within digit))
-
-pub all_digits : (bytes : List ℕ) (from end : ℕ) → IsNumber (slice_range bytes from end) (drop end bytes) → list_all is_digit (slice_range bytes from end) ≡ true
-all_digits bytes from end number = (and_parts _ _ number.number).1
 
 pub big_number : (bytes : List ℕ) (from end : ℕ) → from < end → end ≤ length bytes → IsNumber (slice_range bytes from end) (drop end bytes) → 4294967295 < digits_value 10 (slice_range bytes from end) → FaultAt from (drop from bytes) (NumberTooBig (record { start = from; end = end }))
 big_number bytes from end order within number big = (

@@ -10,11 +10,12 @@ use Rattle.tick_syntax.specs.declared.token.Sort.{Sort}
 use Rattle.tick_syntax.specs.declared.token.Sort.TheVariants as K
 use Rattle.tick_syntax.specs.declared.token.Token.{Token}
 use Rattle.machine_core.specs.declared.operator.Op.TheVariants as O
-use Rattle.tick_syntax.specs.declared.terminals.Word.{Word}
-use Rattle.tick_syntax.specs.declared.terminals.Word.TheVariants as W
-use Rattle.tick_syntax.specs.Characters.{is_blank, is_keyword, lone_signs, before_equals, is_sign}
-use Rattle.tick_syntax.specs.Lexeme.{Lexeme, a_name, a_number, a_word, nothing, word_of, of_word, lexeme_at, lexemes}
-use Rattle.tick_syntax.specs.Printed.{after_word, printed_token}
+use Rattle.tick_syntax.specs.declared.terminals.Terminal.{Terminal}
+use Rattle.tick_syntax.specs.declared.terminals.Terminal.TheVariants as W
+use Rattle.text_core.specs.Blanks.{is_blank}
+use Rattle.tick_syntax.specs.Characters.{is_keyword, lone_signs, before_equals, is_sign}
+use Rattle.tick_syntax.specs.Lexeme.{Lexeme, a_name, a_number, a_terminal, nothing, terminal_of, of_terminal, lexeme_at, lexemes}
+use Rattle.tick_syntax.specs.Printed.{after_terminal, printed_token}
 use Rattle.tick_syntax.specs.Refusal.{CanStand, AllCanStand}
 use Rattle.tick_syntax.specs.Spelling.{IsToken, StandInOrder}
 use Rattle.tick_syntax.specs.Terminals.{spelling, keywords}
@@ -23,24 +24,24 @@ use Rattle.tick_syntax.proofs.LongestPieces.{among}
 use Rattle.tick_syntax.proofs.Spanless.{spanless, spanless_all}
 use Rattle.tick_syntax.proofs.SpelledPieces.{name_token, number_token, keyword_token, sign_token}
 
--- some word is spelled so
+-- some terminal is spelled so
 abbrev is_spelling : List ℕ → Bool
-is_spelling bytes = is_some (word_of bytes)
+is_spelling bytes = is_some (terminal_of bytes)
 
-word_stands : (found : Option Word) → is_some found ≡ true → CanStand (of_word found)
-word_stands None some = false≢true some
-word_stands (Some w) some = tt
+terminal_stands : (found : Option Terminal) → is_some found ≡ true → CanStand (of_terminal found)
+terminal_stands None some = false≢true some
+terminal_stands (Some w) some = tt
 
 keyword_spelled : (bytes : List ℕ) → is_keyword bytes ≡ true → is_spelling bytes ≡ true
-unfolding word_of
+unfolding terminal_of
 keyword_spelled bytes keyword = among_words is_spelling bytes (map spelling keywords) refl keyword
 
 lone_spelled : (a : ℕ) → list_any (λ sign. a == sign) lone_signs ≡ true → is_spelling (a ∷ []) ≡ true
-unfolding word_of
+unfolding terminal_of
 lone_spelled a lone = among (λ b. is_spelling (b ∷ [])) a lone_signs refl lone
 
 pair_spelled : (a : ℕ) → list_any (λ sign. a == sign) before_equals ≡ true → is_spelling (a ∷ 61 ∷ []) ≡ true
-unfolding word_of
+unfolding terminal_of
 pair_spelled a first = among (λ b. is_spelling (b ∷ 61 ∷ [])) a before_equals refl first
 
 sign_spelled : (bytes : List ℕ) → is_sign bytes ≡ true → is_spelling bytes ≡ true
@@ -54,8 +55,8 @@ sign_spelled (a ∷ b ∷ c ∷ bytes) sign = absurd (false≢true sign)
 sort_stands : (sort : Sort) (bytes more : List ℕ) (span : Span) → IsToken bytes more sort → CanStand (lexeme_at sort bytes span)
 sort_stands K.Name bytes more span kind = (kind.0.word, kind.1, kind.2)
 sort_stands (K.Num v) bytes more span kind = kind.2
-sort_stands K.Keyword bytes more span kind = word_stands (word_of bytes) (keyword_spelled bytes kind.1)
-sort_stands K.Sign bytes more span kind = word_stands (word_of bytes) (sign_spelled bytes kind.sign)
+sort_stands K.Keyword bytes more span kind = terminal_stands (terminal_of bytes) (keyword_spelled bytes kind.1)
+sort_stands K.Sign bytes more span kind = terminal_stands (terminal_of bytes) (sign_spelled bytes kind.sign)
 
 -- each token of a spelled text says what a text can have
 pub all_stand : (text : List ℕ) (from : ℕ) (tokens : List Token) → StandInOrder text from tokens → AllCanStand (lexemes text tokens)
@@ -69,13 +70,13 @@ all_stand text from (token ∷ tokens) order = (
 stands_spanless : (t : Lexeme) → CanStand t → CanStand (spanless t)
 stands_spanless (a_name x) c = c
 stands_spanless (a_number v span) c = c
-stands_spanless (a_word w) c = c
+stands_spanless (a_terminal w) c = c
 stands_spanless nothing c = c
 
 spanless_stands : (t : Lexeme) → CanStand (spanless t) → CanStand t
 spanless_stands (a_name x) c = c
 spanless_stands (a_number v span) c = c
-spanless_stands (a_word w) c = c
+spanless_stands (a_terminal w) c = c
 spanless_stands nothing c = c
 
 pub same_stand : (ts us : List Lexeme) → spanless_all ts ≡ spanless_all us → AllCanStand ts → AllCanStand us
@@ -88,26 +89,26 @@ same_stand (t ∷ ts) (u ∷ us) same all =
     (spanless_stands u (subst CanStand first (stands_spanless t all.0)), same_stand ts us others all.1)
 
 -- each word is spelled by letters as a keyword is, or as a sign is, and is told from its spelling
-word_shape : (w : Word) → (is_keyword (spelling w) ≡ true) ⊎ (is_sign (spelling w) ≡ true)
-word_shape W.Semicolon = inr refl
-word_shape W.Comma = inr refl
-word_shape W.Open = inr refl
-word_shape W.Close = inr refl
-word_shape W.OpenBrace = inr refl
-word_shape W.CloseBrace = inr refl
-word_shape W.Becomes = inr refl
-word_shape (W.Operator O.Add) = inr refl
-word_shape (W.Operator _) = inr refl
-word_shape _ = inl refl
+terminal_shape : (w : Terminal) → (is_keyword (spelling w) ≡ true) ⊎ (is_sign (spelling w) ≡ true)
+terminal_shape W.Semicolon = inr refl
+terminal_shape W.Comma = inr refl
+terminal_shape W.Open = inr refl
+terminal_shape W.Close = inr refl
+terminal_shape W.OpenBrace = inr refl
+terminal_shape W.CloseBrace = inr refl
+terminal_shape W.Becomes = inr refl
+terminal_shape (W.Operator O.Add) = inr refl
+terminal_shape (W.Operator _) = inr refl
+terminal_shape _ = inl refl
 
-word_told : (w : Word) → word_of (spelling w) ≡ Some w
-unfolding word_of
-word_told W.Semicolon = refl
-word_told (W.Operator O.Add) = refl
-word_told (W.Operator _) = refl
-word_told _ = refl
+terminal_told : (w : Terminal) → terminal_of (spelling w) ≡ Some w
+unfolding terminal_of
+terminal_told W.Semicolon = refl
+terminal_told (W.Operator O.Add) = refl
+terminal_told (W.Operator _) = refl
+terminal_told _ = refl
 
-blank_after : (w : Word) → is_blank (after_word w) ≡ true
+blank_after : (w : Terminal) → is_blank (after_terminal w) ≡ true
 blank_after W.Semicolon = refl
 blank_after _ = refl
 
@@ -140,25 +141,25 @@ written (a_number v s) more c = record {
   kind = number_token v 32 more c refl;
   says = λ span. refl;
 }
-written (a_word w) more c =
-    elim (word_shape w) [
+written (a_terminal w) more c =
+    elim (terminal_shape w) [
       | inl keyword ↦ record {
         piece = spelling w;
-        blank = after_word w;
+        blank = after_terminal w;
         sort = K.Keyword;
         text = refl;
         ends = blank_after w;
-        kind = keyword_token (spelling w) (after_word w) more keyword (blank_after w);
-        says = λ span. ap (λ found. spanless (of_word found)) (word_told w);
+        kind = keyword_token (spelling w) (after_terminal w) more keyword (blank_after w);
+        says = λ span. ap (λ found. spanless (of_terminal found)) (terminal_told w);
       }
       | inr sign ↦ record {
         piece = spelling w;
-        blank = after_word w;
+        blank = after_terminal w;
         sort = K.Sign;
         text = refl;
         ends = blank_after w;
-        kind = sign_token (spelling w) (after_word w) more sign (blank_after w);
-        says = λ span. ap (λ found. spanless (of_word found)) (word_told w);
+        kind = sign_token (spelling w) (after_terminal w) more sign (blank_after w);
+        says = λ span. ap (λ found. spanless (of_terminal found)) (terminal_told w);
       }
     ]
 written nothing more c = absurd c

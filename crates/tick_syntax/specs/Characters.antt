@@ -13,10 +13,6 @@ line_feed = 10
 abbrev pub hash : ℕ
 hash = 35
 
--- space, tab, carriage return and line feed
-abbrev pub is_blank : ℕ → Bool
-is_blank b = (b == 32) || (b == 9) || (b == 13) || (b == line_feed)
-
 -- `A` to `Z`, `a` to `z` and `_`
 abbrev pub is_letter : ℕ → Bool
 is_letter b = is_ascii_alphabetic b || (b == 95)

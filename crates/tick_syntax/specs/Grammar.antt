@@ -1,69 +1,69 @@
 -- The grammar: which tokens are which program. Each relation ends with the tokens that follow.
 use Rattle.std.specs.Prelude.{◌≡◌, List, [], ◌∷◌}
 use Rattle.tick_syntax.specs.declared.span.Span.{Span}
-use Rattle.tick_syntax.specs.declared.terminals.Word.{Word}
-use Rattle.tick_syntax.specs.declared.terminals.Word.TheVariants as W
-use Rattle.tick_syntax.specs.Lexeme.{Lexeme, a_name, a_number, a_word}
+use Rattle.tick_syntax.specs.declared.terminals.Terminal.{Terminal}
+use Rattle.tick_syntax.specs.declared.terminals.Terminal.TheVariants as W
+use Rattle.tick_syntax.specs.Lexeme.{Lexeme, a_name, a_number, a_terminal}
 use Rattle.tick_syntax.specs.Plain.{Name, Expression, number, named, me, count, binary, Statement, assign, get, put, stamp, scan, copy, older, out, branch, repeat, Block, nil, cons, WholeProgram}
 
 -- NUM, NAME, `me`, `n`, or two expressions about an operator, all in brackets
 abbrev pub IsExpression : List Lexeme → Expression Name → List Lexeme → Type 0
 IsExpression ts (number v) rest = (s : Span) × (ts ≡ a_number v s ∷ rest)
 IsExpression ts (named x) rest = ts ≡ a_name x ∷ rest
-IsExpression ts me rest = ts ≡ a_word W.Me ∷ rest
-IsExpression ts count rest = ts ≡ a_word W.Count ∷ rest
+IsExpression ts me rest = ts ≡ a_terminal W.Me ∷ rest
+IsExpression ts count rest = ts ≡ a_terminal W.Count ∷ rest
 IsExpression ts (binary a op b) rest =
-    (t u : List Lexeme) × (ts ≡ a_word W.Open ∷ t) × IsExpression t a (a_word (W.Operator op) ∷ u)
-    × IsExpression u b (a_word W.Close ∷ rest)
+    (t u : List Lexeme) × (ts ≡ a_terminal W.Open ∷ t) × IsExpression t a (a_terminal (W.Operator op) ∷ u)
+    × IsExpression u b (a_terminal W.Close ∷ rest)
 
 abbrev mutual
   pub IsStatement : List Lexeme → Statement Name → List Lexeme → Type 0
   IsStatement ts (assign x e) rest =
-      (t : List Lexeme) × (ts ≡ a_name x ∷ a_word W.Becomes ∷ t) × IsExpression t e (a_word W.Semicolon ∷ rest)
+      (t : List Lexeme) × (ts ≡ a_name x ∷ a_terminal W.Becomes ∷ t) × IsExpression t e (a_terminal W.Semicolon ∷ rest)
   IsStatement ts (get x r e) rest =
-      (t : List Lexeme) × (ts ≡ a_name x ∷ a_word W.Becomes ∷ a_word W.Get ∷ a_name r ∷ t)
-      × IsExpression t e (a_word W.Semicolon ∷ rest)
+      (t : List Lexeme) × (ts ≡ a_name x ∷ a_terminal W.Becomes ∷ a_terminal W.Get ∷ a_name r ∷ t)
+      × IsExpression t e (a_terminal W.Semicolon ∷ rest)
   IsStatement ts (put r e) rest =
-      (t : List Lexeme) × (ts ≡ a_word W.Put ∷ a_name r ∷ t) × IsExpression t e (a_word W.Semicolon ∷ rest)
-  IsStatement ts stamp rest = ts ≡ a_word W.Stamp ∷ a_word W.Semicolon ∷ rest
+      (t : List Lexeme) × (ts ≡ a_terminal W.Put ∷ a_name r ∷ t) × IsExpression t e (a_terminal W.Semicolon ∷ rest)
+  IsStatement ts stamp rest = ts ≡ a_terminal W.Stamp ∷ a_terminal W.Semicolon ∷ rest
   IsStatement ts (scan s) rest =
-      ts ≡ a_name s ∷ a_word W.Becomes ∷ a_word W.Scan ∷ a_word W.Semicolon ∷ rest
+      ts ≡ a_name s ∷ a_terminal W.Becomes ∷ a_terminal W.Scan ∷ a_terminal W.Semicolon ∷ rest
   IsStatement ts (copy t s) rest =
-      ts ≡ a_name t ∷ a_word W.Becomes ∷ a_word W.Copy ∷ a_name s ∷ a_word W.Semicolon ∷ rest
+      ts ≡ a_name t ∷ a_terminal W.Becomes ∷ a_terminal W.Copy ∷ a_name s ∷ a_terminal W.Semicolon ∷ rest
   IsStatement ts (older x s a b) rest =
-      (t u : List Lexeme) × (ts ≡ a_name x ∷ a_word W.Becomes ∷ a_word W.Older ∷ a_name s ∷ t)
-      × IsExpression t a u × IsExpression u b (a_word W.Semicolon ∷ rest)
+      (t u : List Lexeme) × (ts ≡ a_name x ∷ a_terminal W.Becomes ∷ a_terminal W.Older ∷ a_name s ∷ t)
+      × IsExpression t a u × IsExpression u b (a_terminal W.Semicolon ∷ rest)
   IsStatement ts (out e) rest =
-      (t : List Lexeme) × (ts ≡ a_word W.Out ∷ t) × IsExpression t e (a_word W.Semicolon ∷ rest)
+      (t : List Lexeme) × (ts ≡ a_terminal W.Out ∷ t) × IsExpression t e (a_terminal W.Semicolon ∷ rest)
   IsStatement ts (branch e a b) rest =
-      (t u v : List Lexeme) × (ts ≡ a_word W.If ∷ t) × IsExpression t e (a_word W.OpenBrace ∷ u)
-      × IsBlock W.CloseBrace u a (a_word W.Else ∷ a_word W.OpenBrace ∷ v) × IsBlock W.CloseBrace v b rest
+      (t u v : List Lexeme) × (ts ≡ a_terminal W.If ∷ t) × IsExpression t e (a_terminal W.OpenBrace ∷ u)
+      × IsBlock W.CloseBrace u a (a_terminal W.Else ∷ a_terminal W.OpenBrace ∷ v) × IsBlock W.CloseBrace v b rest
   IsStatement ts (repeat e a) rest =
-      (t u : List Lexeme) × (ts ≡ a_word W.While ∷ t) × IsExpression t e (a_word W.OpenBrace ∷ u)
+      (t u : List Lexeme) × (ts ≡ a_terminal W.While ∷ t) × IsExpression t e (a_terminal W.OpenBrace ∷ u)
       × IsBlock W.CloseBrace u a rest
 
-  -- statements, and the word that ends them
-  pub IsBlock : Word → List Lexeme → Block Name → List Lexeme → Type 0
-  IsBlock last ts nil rest = ts ≡ a_word last ∷ rest
+  -- statements, and the terminal that ends them
+  pub IsBlock : Terminal → List Lexeme → Block Name → List Lexeme → Type 0
+  IsBlock last ts nil rest = ts ≡ a_terminal last ∷ rest
   IsBlock last ts (cons s b) rest = (t : List Lexeme) × IsStatement ts s t × IsBlock last t b rest
 
 -- names with a comma between two
 abbrev pub AreNames : List Lexeme → Name → List Name → List Lexeme → Type 0
 AreNames ts x [] rest = ts ≡ a_name x ∷ rest
-AreNames ts x (y ∷ ys) rest = (t : List Lexeme) × (ts ≡ a_name x ∷ a_word W.Comma ∷ t) × AreNames t y ys rest
+AreNames ts x (y ∷ ys) rest = (t : List Lexeme) × (ts ≡ a_name x ∷ a_terminal W.Comma ∷ t) × AreNames t y ys rest
 
 -- a section of declarations, which is left out where it has no names
-abbrev pub IsSection : Word → List Lexeme → List Name → List Lexeme → Type 0
-IsSection word ts [] rest = ts ≡ rest
-IsSection word ts (x ∷ xs) rest =
-    (t : List Lexeme) × (ts ≡ a_word word ∷ t) × AreNames t x xs (a_word W.Semicolon ∷ rest)
+abbrev pub IsSection : Terminal → List Lexeme → List Name → List Lexeme → Type 0
+IsSection terminal ts [] rest = ts ≡ rest
+IsSection terminal ts (x ∷ xs) rest =
+    (t : List Lexeme) × (ts ≡ a_terminal terminal ∷ t) × AreNames t x xs (a_terminal W.Semicolon ∷ rest)
 
 -- the tokens are this program
 abbrev pub Derives : List Lexeme → WholeProgram Name → Type 0
 Derives ts p =
     (t u v w : List Lexeme)
-    × (ts ≡ a_word W.Processes ∷ a_number p.processes p.span ∷ a_word W.Semicolon ∷ t)
+    × (ts ≡ a_terminal W.Processes ∷ a_number p.processes p.span ∷ a_terminal W.Semicolon ∷ t)
     × IsSection W.Var t p.variables u
     × IsSection W.Scan u p.scans v
-    × IsSection W.Reg v p.registers (a_word W.Begin ∷ w)
+    × IsSection W.Reg v p.registers (a_terminal W.Begin ∷ w)
     × IsBlock W.End w p.body []

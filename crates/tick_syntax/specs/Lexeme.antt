@@ -6,7 +6,7 @@ use Rattle.tick_syntax.specs.declared.span.Span.{Span}
 use Rattle.tick_syntax.specs.declared.token.Sort.{Sort}
 use Rattle.tick_syntax.specs.declared.token.Sort.TheVariants as K
 use Rattle.tick_syntax.specs.declared.token.Token.{Token}
-use Rattle.tick_syntax.specs.declared.terminals.Word.{Word}
+use Rattle.tick_syntax.specs.declared.terminals.Terminal.{Terminal}
 use Rattle.tick_syntax.specs.Plain.{Name}
 use Rattle.tick_syntax.specs.Terminals.{spelling, signs, keywords}
 
@@ -14,23 +14,23 @@ use Rattle.tick_syntax.specs.Terminals.{spelling, signs, keywords}
 pub data Lexeme : Type 0 where
   a_name : Name → Lexeme
   a_number : ℕ → Span → Lexeme
-  a_word : Word → Lexeme
+  a_terminal : Terminal → Lexeme
   nothing : Lexeme
 
--- the word that is spelled so, if one is
-unfoldable pub word_of : List ℕ → Option Word
-word_of bytes = find (λ w. bytes_eq (spelling w) bytes) (signs ++ keywords)
+-- the terminal that is spelled so, if one is
+unfoldable pub terminal_of : List ℕ → Option Terminal
+terminal_of bytes = find (λ w. bytes_eq (spelling w) bytes) (signs ++ keywords)
 
-abbrev pub of_word : Option Word → Lexeme
-of_word None = nothing
-of_word (Some w) = a_word w
+abbrev pub of_terminal : Option Terminal → Lexeme
+of_terminal None = nothing
+of_terminal (Some w) = a_terminal w
 
 -- what a token of this sort says at these bytes
 abbrev pub lexeme_at : Sort → List ℕ → Span → Lexeme
 lexeme_at K.Name bytes span = a_name (record { letters = bytes; span = span })
 lexeme_at (K.Num v) bytes span = a_number v span
-lexeme_at K.Keyword bytes span = of_word (word_of bytes)
-lexeme_at K.Sign bytes span = of_word (word_of bytes)
+lexeme_at K.Keyword bytes span = of_terminal (terminal_of bytes)
+lexeme_at K.Sign bytes span = of_terminal (terminal_of bytes)
 
 -- the bytes of a token
 abbrev pub bytes_at : List ℕ → Span → List ℕ

@@ -3,10 +3,10 @@ use Rattle.std.specs.Prelude.{ℕ, List, [], ◌∷◌, ◌++◌}
 use Rattle.std.specs.List.{flat_map}
 use Rattle.std.specs.Fmt.{decimal}
 use Rattle.tick_syntax.specs.declared.span.Span.{Span}
-use Rattle.tick_syntax.specs.declared.terminals.Word.{Word}
-use Rattle.tick_syntax.specs.declared.terminals.Word.TheVariants as W
+use Rattle.tick_syntax.specs.declared.terminals.Terminal.{Terminal}
+use Rattle.tick_syntax.specs.declared.terminals.Terminal.TheVariants as W
 use Rattle.tick_syntax.specs.Terminals.{spelling}
-use Rattle.tick_syntax.specs.Lexeme.{Lexeme, a_name, a_number, a_word, nothing}
+use Rattle.tick_syntax.specs.Lexeme.{Lexeme, a_name, a_number, a_terminal, nothing}
 use Rattle.tick_syntax.specs.Plain.{Name, Expression, number, named, me, count, binary, Statement, assign, get, put, stamp, scan, copy, older, out, branch, repeat, Block, nil, cons, WholeProgram}
 
 -- a number stands at no place of a text yet
@@ -16,29 +16,29 @@ nowhere = record { start = 0; end = 0 }
 abbrev pub expression_tokens : Expression Name → List Lexeme
 expression_tokens (number v) = a_number v nowhere ∷ []
 expression_tokens (named x) = a_name x ∷ []
-expression_tokens me = a_word W.Me ∷ []
-expression_tokens count = a_word W.Count ∷ []
+expression_tokens me = a_terminal W.Me ∷ []
+expression_tokens count = a_terminal W.Count ∷ []
 expression_tokens (binary a op b) =
-    a_word W.Open ∷ (expression_tokens a ++ (a_word (W.Operator op) ∷ (expression_tokens b ++ a_word W.Close ∷ [])))
+    a_terminal W.Open ∷ (expression_tokens a ++ (a_terminal (W.Operator op) ∷ (expression_tokens b ++ a_terminal W.Close ∷ [])))
 
 abbrev mutual
   pub statement_tokens : Statement Name → List Lexeme
-  statement_tokens (assign x e) = a_name x ∷ a_word W.Becomes ∷ (expression_tokens e ++ a_word W.Semicolon ∷ [])
+  statement_tokens (assign x e) = a_name x ∷ a_terminal W.Becomes ∷ (expression_tokens e ++ a_terminal W.Semicolon ∷ [])
   statement_tokens (get x r e) =
-      a_name x ∷ a_word W.Becomes ∷ a_word W.Get ∷ a_name r ∷ (expression_tokens e ++ a_word W.Semicolon ∷ [])
-  statement_tokens (put r e) = a_word W.Put ∷ a_name r ∷ (expression_tokens e ++ a_word W.Semicolon ∷ [])
-  statement_tokens stamp = a_word W.Stamp ∷ a_word W.Semicolon ∷ []
-  statement_tokens (scan s) = a_name s ∷ a_word W.Becomes ∷ a_word W.Scan ∷ a_word W.Semicolon ∷ []
-  statement_tokens (copy t s) = a_name t ∷ a_word W.Becomes ∷ a_word W.Copy ∷ a_name s ∷ a_word W.Semicolon ∷ []
+      a_name x ∷ a_terminal W.Becomes ∷ a_terminal W.Get ∷ a_name r ∷ (expression_tokens e ++ a_terminal W.Semicolon ∷ [])
+  statement_tokens (put r e) = a_terminal W.Put ∷ a_name r ∷ (expression_tokens e ++ a_terminal W.Semicolon ∷ [])
+  statement_tokens stamp = a_terminal W.Stamp ∷ a_terminal W.Semicolon ∷ []
+  statement_tokens (scan s) = a_name s ∷ a_terminal W.Becomes ∷ a_terminal W.Scan ∷ a_terminal W.Semicolon ∷ []
+  statement_tokens (copy t s) = a_name t ∷ a_terminal W.Becomes ∷ a_terminal W.Copy ∷ a_name s ∷ a_terminal W.Semicolon ∷ []
   statement_tokens (older x s a b) =
-      a_name x ∷ a_word W.Becomes ∷ a_word W.Older ∷ a_name s
-      ∷ (expression_tokens a ++ (expression_tokens b ++ a_word W.Semicolon ∷ []))
-  statement_tokens (out e) = a_word W.Out ∷ (expression_tokens e ++ a_word W.Semicolon ∷ [])
+      a_name x ∷ a_terminal W.Becomes ∷ a_terminal W.Older ∷ a_name s
+      ∷ (expression_tokens a ++ (expression_tokens b ++ a_terminal W.Semicolon ∷ []))
+  statement_tokens (out e) = a_terminal W.Out ∷ (expression_tokens e ++ a_terminal W.Semicolon ∷ [])
   statement_tokens (branch e a b) =
-      a_word W.If ∷ (expression_tokens e ++ (a_word W.OpenBrace ∷ (block_tokens a
-      ++ (a_word W.CloseBrace ∷ a_word W.Else ∷ a_word W.OpenBrace ∷ (block_tokens b ++ a_word W.CloseBrace ∷ [])))))
+      a_terminal W.If ∷ (expression_tokens e ++ (a_terminal W.OpenBrace ∷ (block_tokens a
+      ++ (a_terminal W.CloseBrace ∷ a_terminal W.Else ∷ a_terminal W.OpenBrace ∷ (block_tokens b ++ a_terminal W.CloseBrace ∷ [])))))
   statement_tokens (repeat e a) =
-      a_word W.While ∷ (expression_tokens e ++ (a_word W.OpenBrace ∷ (block_tokens a ++ a_word W.CloseBrace ∷ [])))
+      a_terminal W.While ∷ (expression_tokens e ++ (a_terminal W.OpenBrace ∷ (block_tokens a ++ a_terminal W.CloseBrace ∷ [])))
 
   pub block_tokens : Block Name → List Lexeme
   block_tokens nil = []
@@ -47,33 +47,33 @@ abbrev mutual
 -- names with a comma between two
 abbrev pub names_tokens : Name → List Name → List Lexeme
 names_tokens x [] = a_name x ∷ []
-names_tokens x (y ∷ ys) = a_name x ∷ a_word W.Comma ∷ names_tokens y ys
+names_tokens x (y ∷ ys) = a_name x ∷ a_terminal W.Comma ∷ names_tokens y ys
 
 -- a section without names is left out
-abbrev pub section_tokens : Word → List Name → List Lexeme
-section_tokens word [] = []
-section_tokens word (x ∷ xs) = a_word word ∷ (names_tokens x xs ++ a_word W.Semicolon ∷ [])
+abbrev pub section_tokens : Terminal → List Name → List Lexeme
+section_tokens terminal [] = []
+section_tokens terminal (x ∷ xs) = a_terminal terminal ∷ (names_tokens x xs ++ a_terminal W.Semicolon ∷ [])
 
 abbrev pub program_tokens : WholeProgram Name → List Lexeme
 program_tokens p =
-    a_word W.Processes ∷ a_number p.processes p.span ∷ a_word W.Semicolon
+    a_terminal W.Processes ∷ a_number p.processes p.span ∷ a_terminal W.Semicolon
     ∷ (section_tokens W.Var p.variables ++ (section_tokens W.Scan p.scans ++ (section_tokens W.Reg p.registers
-    ++ (a_word W.Begin ∷ (block_tokens p.body ++ a_word W.End ∷ [])))))
+    ++ (a_terminal W.Begin ∷ (block_tokens p.body ++ a_terminal W.End ∷ [])))))
 
--- a line feed after these words, and a space after all others
-abbrev pub after_word : Word → ℕ
-after_word W.Semicolon = 10
-after_word W.OpenBrace = 10
-after_word W.CloseBrace = 10
-after_word W.Begin = 10
-after_word W.End = 10
-after_word _ = 32
+-- a line feed after these terminals, and a space after all others
+abbrev pub after_terminal : Terminal → ℕ
+after_terminal W.Semicolon = 10
+after_terminal W.OpenBrace = 10
+after_terminal W.CloseBrace = 10
+after_terminal W.Begin = 10
+after_terminal W.End = 10
+after_terminal _ = 32
 
 -- a token as it is printed
 abbrev pub printed_token : Lexeme → List ℕ
 printed_token (a_name x) = x.letters ++ 32 ∷ []
 printed_token (a_number v span) = decimal v ++ 32 ∷ []
-printed_token (a_word w) = spelling w ++ after_word w ∷ []
+printed_token (a_terminal w) = spelling w ++ after_terminal w ∷ []
 printed_token nothing = []
 
 abbrev pub printed_tokens : List Lexeme → List ℕ

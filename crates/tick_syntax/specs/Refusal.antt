@@ -5,7 +5,7 @@ use Rattle.tick_syntax.specs.declared.fault.TextFault.{TextFault}
 use Rattle.tick_syntax.specs.declared.fault.TextFault.TheVariants as F
 use Rattle.tick_syntax.specs.declared.token.Token.{Token}
 use Rattle.tick_syntax.specs.Characters.{is_keyword}
-use Rattle.tick_syntax.specs.Lexeme.{Lexeme, a_name, a_number, a_word, nothing, lexeme_of, lexemes}
+use Rattle.tick_syntax.specs.Lexeme.{Lexeme, a_name, a_number, a_terminal, nothing, lexeme_of, lexemes}
 use Rattle.tick_syntax.specs.Grammar.{Derives}
 use Rattle.tick_syntax.specs.Nesting.{IsOpening, IsShallow, open_after}
 use Rattle.tick_syntax.specs.Plain.{Name, WholeProgram}
@@ -15,7 +15,7 @@ use Rattle.tick_syntax.specs.Spelling.{is_word, Spells, FirstRefusal}
 abbrev pub CanStand : Lexeme → Type 0
 CanStand (a_name x) = (is_word x.letters ≡ true) × (is_keyword x.letters ≡ false) × (length x.letters ≤ 64)
 CanStand (a_number v span) = v ≤ 4294967295
-CanStand (a_word w) = Unit {0}
+CanStand (a_terminal w) = Unit {0}
 CanStand nothing = ⊥
 
 abbrev pub AllCanStand : List Lexeme → Type 0

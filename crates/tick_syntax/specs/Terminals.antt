@@ -2,10 +2,10 @@
 use Rattle.std.specs.Prelude.{ℕ, List, [], ◌∷◌, codes}
 use Rattle.machine_core.specs.declared.operator.Op.TheVariants as O
 use Rattle.machine_core.specs.Operators.{sign}
-use Rattle.tick_syntax.specs.declared.terminals.Word.{Word}
-use Rattle.tick_syntax.specs.declared.terminals.Word.TheVariants as W
+use Rattle.tick_syntax.specs.declared.terminals.Terminal.{Terminal}
+use Rattle.tick_syntax.specs.declared.terminals.Terminal.TheVariants as W
 
-abbrev pub spelling : Word → List ℕ
+abbrev pub spelling : Terminal → List ℕ
 spelling W.Processes = codes "processes"
 spelling W.Var = codes "var"
 spelling W.Scan = codes "scan"
@@ -32,13 +32,13 @@ spelling W.CloseBrace = codes "}"
 spelling W.Becomes = codes "="
 spelling (W.Operator op) = sign op
 
-abbrev pub signs : List Word
+abbrev pub signs : List Terminal
 signs =
     W.Semicolon ∷ W.Becomes ∷ W.Open ∷ W.Close ∷ W.OpenBrace ∷ W.CloseBrace ∷ W.Comma ∷
     W.Operator O.Add ∷ W.Operator O.Sub ∷ W.Operator O.Mul ∷ W.Operator O.Div ∷ W.Operator O.Rem ∷
     W.Operator O.Less ∷ W.Operator O.AtMost ∷ W.Operator O.Equal ∷ W.Operator O.Differs ∷ []
 
-abbrev pub keywords : List Word
+abbrev pub keywords : List Terminal
 keywords =
     W.Me ∷ W.Count ∷ W.Put ∷ W.Get ∷ W.Out ∷ W.If ∷ W.Else ∷ W.While ∷ W.Stamp ∷ W.Scan ∷ W.Copy ∷ W.Older ∷
     W.Processes ∷ W.Var ∷ W.Reg ∷ W.Begin ∷ W.End ∷ []

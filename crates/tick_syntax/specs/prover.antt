@@ -1,4 +1,4 @@
-pub mod Items
+pub mod ValuedTokens
 pub mod Extents
 pub mod Reading
 pub mod Printing

@@ -1,12 +1,6 @@
 // What single bytes of a text are.
 ghost use Rattle.std.specs.Prelude.{◌≡◌};
-ghost use Rattle.tick_syntax.specs.Characters.{is_blank, is_letter, is_name_part, is_lone_sign, may_precede_equals};
-
-pub fn is_blank(byte: u8) -> bool
-    ensures { result ≡ is_blank byte }
-{
-    matches!(byte, b' ' | b'\t' | b'\r' | b'\n')
-}
+ghost use Rattle.tick_syntax.specs.Characters.{is_letter, is_name_part, is_lone_sign, may_precede_equals};
 
 pub fn is_letter(byte: u8) -> bool
     ensures { result ≡ is_letter byte }

@@ -1,12 +1,11 @@
 // Where a gap, a word, a number and a sign of a text end. Places are byte offsets.
 ghost use Rattle.std.specs.Prelude.{◌≡◌, ◌+◌, ◌<◌, ◌≤◌, length, drop, MatchOption, true};
-ghost use Rattle.std.specs.List.{list_all};
 ghost use Rattle.std.specs.Str.Parse.{digits_value};
-ghost use Rattle.tick_syntax.specs.Characters.{is_digit};
 ghost use Rattle.tick_syntax.specs.prover.Extents.{word_length, number_length, sign_length};
-ghost use Rattle.tick_syntax.specs.Spelling.{gap_length};
+ghost use Rattle.tick_syntax.specs.Spelling.{gap_length, is_number};
 
-use crate::characters::{is_blank, is_lone_sign, is_name_part, may_precede_equals};
+use crate::characters::{is_lone_sign, is_name_part, may_precede_equals};
+use text_core::{is_blank, number};
 
 const NUMBER_LIMIT: u64 = 4_294_967_295;
 
@@ -74,17 +73,15 @@ pub fn sign_end(bytes: &[u8], from: usize) -> usize
     }
 }
 
-/// The number that the digits write, where it is at most 4294967295.
+/// The number that one or more digits write, where it is at most 4294967295.
 pub fn number_value(digits: &[u8]) -> Option<u32>
-    requires { list_all is_digit digits.now ≡ true }
+    requires { is_number digits.now ≡ true }
     ensures { MatchOption result (4294967295 < digits_value 10 digits.now) (λ value. (value ≡ digits_value 10 digits.now) × (value ≤ 4294967295)) }
 {
-    let mut value: u64 = 0;
-    for &digit in digits {
-        value = value * 10 + u64::from(digit - b'0');
-        if value > NUMBER_LIMIT {
-            return None;
-        }
+    let value = number(digits)?;
+    if value > NUMBER_LIMIT {
+        None
+    } else {
+        Some(value as u32)
     }
-    Some(value as u32)
 }

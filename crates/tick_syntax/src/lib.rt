@@ -6,7 +6,6 @@
 mod characters;
 mod extents;
 pub mod fault;
-mod item;
 pub mod laws;
 mod lexer;
 mod parser;
@@ -15,6 +14,7 @@ pub mod span;
 pub mod terminals;
 pub mod token;
 pub mod tree;
+mod valued_token;
 
 pub use fault::TextFault;
 pub use lexer::tokens;

@@ -1,7 +1,7 @@
 // From the tokens of a text to its tree: a descent by the grammar, one method for each of its rules.
 ghost use Rattle.std.specs.Prelude.{◌≡◌, ◌≢◌, ◌<◌, ◌≤◌, ◌⊎◌, ℕ, List, [], length, drop, map, IfOk, IfErr, IsOkUnless, MatchResult};
 ghost use Rattle.tick_syntax.specs.Grammar.{Derives};
-ghost use Rattle.tick_syntax.specs.prover.Reading.{Gives, GivesAlways, GivesWhole, IsOkUnlessMemory, next_at, word_at, brace_at, operator_at, name_at, number_at, pair_at, brackets_at, expression_at, last_at, get_at, scan_at, copy_at, older_at, plain_at, right_at, assignment_at, put_at, stamp_at, out_at, branch_at, repeat_at, block_at, statement_at, statements_at, names_at, section_at, body_at, whole_at, program_at};
+ghost use Rattle.tick_syntax.specs.prover.Reading.{Gives, GivesAlways, GivesWhole, IsOkUnlessMemory, next_at, terminal_at, brace_at, operator_at, name_at, number_at, pair_at, brackets_at, expression_at, last_at, get_at, scan_at, copy_at, older_at, plain_at, right_at, assignment_at, put_at, stamp_at, out_at, branch_at, repeat_at, block_at, statement_at, statements_at, names_at, section_at, body_at, whole_at, program_at};
 ghost use Rattle.tick_syntax.specs.Lexeme.{lexemes};
 ghost use Rattle.tick_syntax.specs.Nesting.{nesting};
 ghost use Rattle.tick_syntax.specs.Plain.{Name, WholeProgram};
@@ -15,12 +15,12 @@ ghost use Rattle.tick_syntax.specs.declared.span.Span.{Span};
 ghost use Rattle.tick_syntax.specs.View.{name_of, expression_of, statement_of, block_of, tree_of};
 
 use crate::fault::TextFault;
-use crate::item::{Ending, Item, Meaning, Section, items_of};
 use crate::lexer::tokens;
 use crate::span::Span;
-use crate::terminals::Word;
+use crate::terminals::Terminal;
 use crate::token::Token;
 use crate::tree::{Expr, Named, Op, Stmt, Tree};
+use crate::valued_token::{Ending, Meaning, Section, ValuedToken, valued_tokens};
 use std::alloc::Global;
 
 /// The tree of a text, which is the only one that it has; else the first refusal of the text: its
@@ -52,35 +52,35 @@ pub fn parse_tokens(alloc: Global, text: &str, tokens: &[Token]) -> Result<Tree,
     ensures others { IfErr result IsOfGrammar }
     ensures none { tokens.now ≡ [] → result ≡ Err (Unexpected (record { start = length text.now; end = length text.now })) }
 {
-    let items = items_of(alloc, text, tokens)?;
+    let valued = valued_tokens(alloc, text, tokens)?;
     let parser = Parser {
         alloc,
-        items: &items,
+        tokens: &valued,
         end: text.len(),
     };
     parser.program()
 }
 
-/// What was read, and the place of the item after it.
+/// What was read, and the place of the token after it.
 type Read<T> = Result<(T, usize), TextFault>;
 
-/// Parses a program from a list of items. `at` is the place of the next item,
+/// Parses a program from a list of tokens. `at` is the place of the next token,
 /// and `room` is how many brackets may still be opened.
 #[derive(Clone, Copy)]
 pub struct Parser<'a> {
     pub alloc: Global,
-    pub items: &'a [Item<'a>],
+    pub tokens: &'a [ValuedToken<'a>],
     /// How many bytes the text has.
     pub end: usize,
 }
 
 impl Parser<'_> {
     #[tactic(auto, unfolding(crate::specs::prover::Reading::next_at))]
-    fn next(&self, at: usize) -> Read<Item<'_>>
-        ensures { GivesAlways (λ x. x) self.now.items.now result (next_at self.now.end (drop at self.now.items.now)) }
+    fn next(&self, at: usize) -> Read<ValuedToken<'_>>
+        ensures { GivesAlways (λ x. x) self.now.tokens.now result (next_at self.now.end (drop at self.now.tokens.now)) }
     {
-        if at < self.items.len() {
-            Ok((self.items[at], at + 1))
+        if at < self.tokens.len() {
+            Ok((self.tokens[at], at + 1))
         } else {
             Err(TextFault::Unexpected(Span {
                 start: self.end,
@@ -89,46 +89,46 @@ impl Parser<'_> {
         }
     }
 
-    // This word, of those that a rule has alone.
-    #[tactic(auto, unfolding(crate::specs::prover::Reading::word_at))]
-    fn word(&self, word: Word, at: usize) -> Read<()>
-        ensures { GivesAlways (λ x. x) self.now.items.now result (word_at self.now.end word (drop at self.now.items.now)) }
+    // This terminal, of those that a rule has alone.
+    #[tactic(auto, unfolding(crate::specs::prover::Reading::terminal_at))]
+    fn terminal(&self, terminal: Terminal, at: usize) -> Read<()>
+        ensures { GivesAlways (λ x. x) self.now.tokens.now result (terminal_at self.now.end terminal (drop at self.now.tokens.now)) }
     {
-        let (item, at) = self.next(at)?;
-        match (word, item.meaning) {
-            (Word::Processes, Meaning::Word(Word::Processes))
-            | (Word::Begin, Meaning::Word(Word::Begin))
-            | (Word::Else, Meaning::Word(Word::Else))
-            | (Word::Semicolon, Meaning::Word(Word::Semicolon))
-            | (Word::Becomes, Meaning::Word(Word::Becomes))
-            | (Word::Close, Meaning::Word(Word::Close)) => Ok(((), at)),
-            _ => Err(TextFault::Unexpected(item.span)),
+        let (token, at) = self.next(at)?;
+        match (terminal, token.meaning) {
+            (Terminal::Processes, Meaning::Terminal(Terminal::Processes))
+            | (Terminal::Begin, Meaning::Terminal(Terminal::Begin))
+            | (Terminal::Else, Meaning::Terminal(Terminal::Else))
+            | (Terminal::Semicolon, Meaning::Terminal(Terminal::Semicolon))
+            | (Terminal::Becomes, Meaning::Terminal(Terminal::Becomes))
+            | (Terminal::Close, Meaning::Terminal(Terminal::Close)) => Ok(((), at)),
+            _ => Err(TextFault::Unexpected(token.span)),
         }
     }
 
     // `{`, unless it is one too many.
     #[tactic(auto, unfolding(crate::specs::prover::Reading::brace_at))]
     fn brace(&self, room: usize, at: usize) -> Read<()>
-        ensures { GivesAlways (λ x. x) self.now.items.now result (brace_at self.now.end room (drop at self.now.items.now)) }
+        ensures { GivesAlways (λ x. x) self.now.tokens.now result (brace_at self.now.end room (drop at self.now.tokens.now)) }
     {
-        let (item, at) = self.next(at)?;
-        match item.meaning {
-            Meaning::Word(Word::OpenBrace) => match room {
-                0 => Err(TextFault::TooDeep(item.span)),
+        let (token, at) = self.next(at)?;
+        match token.meaning {
+            Meaning::Terminal(Terminal::OpenBrace) => match room {
+                0 => Err(TextFault::TooDeep(token.span)),
                 _ => Ok(((), at)),
             },
-            _ => Err(TextFault::Unexpected(item.span)),
+            _ => Err(TextFault::Unexpected(token.span)),
         }
     }
 
     #[tactic(auto, unfolding(crate::specs::prover::Reading::operator_at))]
     fn operator(&self, at: usize) -> Read<Op>
-        ensures { GivesAlways (λ x. x) self.now.items.now result (operator_at self.now.end (drop at self.now.items.now)) }
+        ensures { GivesAlways (λ x. x) self.now.tokens.now result (operator_at self.now.end (drop at self.now.tokens.now)) }
     {
-        let (item, at) = self.next(at)?;
-        match item.meaning {
-            Meaning::Word(Word::Operator(op)) => Ok((op, at)),
-            _ => Err(TextFault::Unexpected(item.span)),
+        let (token, at) = self.next(at)?;
+        match token.meaning {
+            Meaning::Terminal(Terminal::Operator(op)) => Ok((op, at)),
+            _ => Err(TextFault::Unexpected(token.span)),
         }
     }
 
@@ -141,23 +141,23 @@ impl Parser<'_> {
 
     #[tactic(auto, unfolding(crate::specs::prover::Reading::name_at))]
     fn name(&self, at: usize) -> Read<Named>
-        ensures { Gives name_of self.now.items.now result (name_at self.now.end (drop at self.now.items.now)) }
+        ensures { Gives name_of self.now.tokens.now result (name_at self.now.end (drop at self.now.tokens.now)) }
     {
-        let (item, at) = self.next(at)?;
-        match item.meaning {
-            Meaning::Name(letters) => Ok((self.named(letters, item.span)?, at)),
-            _ => Err(TextFault::Unexpected(item.span)),
+        let (token, at) = self.next(at)?;
+        match token.meaning {
+            Meaning::Name(letters) => Ok((self.named(letters, token.span)?, at)),
+            _ => Err(TextFault::Unexpected(token.span)),
         }
     }
 
     #[tactic(auto, unfolding(crate::specs::prover::Reading::number_at))]
     fn number(&self, at: usize) -> Read<(u32, Span)>
-        ensures { GivesAlways (λ x. (x.0, x.1)) self.now.items.now result (number_at self.now.end (drop at self.now.items.now)) }
+        ensures { GivesAlways (λ x. (x.0, x.1)) self.now.tokens.now result (number_at self.now.end (drop at self.now.tokens.now)) }
     {
-        let (item, at) = self.next(at)?;
-        match item.meaning {
-            Meaning::Number(value) => Ok(((value, item.span), at)),
-            _ => Err(TextFault::Unexpected(item.span)),
+        let (token, at) = self.next(at)?;
+        match token.meaning {
+            Meaning::Number(value) => Ok(((value, token.span), at)),
+            _ => Err(TextFault::Unexpected(token.span)),
         }
     }
 
@@ -165,12 +165,12 @@ impl Parser<'_> {
     #[cycle(expression)]
     #[tactic(auto, unfolding(crate::specs::prover::Reading::pair_at))]
     fn pair(&self, room: usize, at: usize) -> Read<Expr>
-        ensures { Gives expression_of self.now.items.now result (pair_at self.now.end (expression_at self.now.end room) (drop at self.now.items.now)) }
+        ensures { Gives expression_of self.now.tokens.now result (pair_at self.now.end (expression_at self.now.end room) (drop at self.now.tokens.now)) }
     {
         let (left, at) = self.expression(room, at)?;
         let (op, at) = self.operator(at)?;
         let (right, at) = self.expression(room, at)?;
-        let (_, at) = self.word(Word::Close, at)?;
+        let (_, at) = self.terminal(Terminal::Close, at)?;
         let left = Box::new(self.alloc, left)?;
         let right = Box::new(self.alloc, right)?;
         Ok((Expr::Bin(left, op, right), at))
@@ -180,7 +180,7 @@ impl Parser<'_> {
     #[cycle(expression)]
     #[tactic(auto, unfolding(crate::specs::prover::Reading::brackets_at, crate::specs::prover::Reading::expression_at))]
     fn brackets(&self, room: usize, span: Span, at: usize) -> Read<Expr>
-        ensures { Gives expression_of self.now.items.now result (brackets_at self.now.end room span (drop at self.now.items.now)) }
+        ensures { Gives expression_of self.now.tokens.now result (brackets_at self.now.end room span (drop at self.now.tokens.now)) }
     {
         match room {
             0 => Err(TextFault::TooDeep(span)),
@@ -191,32 +191,32 @@ impl Parser<'_> {
     #[cycle(expression)]
     #[tactic(auto, unfolding(crate::specs::prover::Reading::expression_at))]
     fn expression(&self, room: usize, at: usize) -> Read<Expr>
-        ensures { Gives expression_of self.now.items.now result (expression_at self.now.end room (drop at self.now.items.now)) }
+        ensures { Gives expression_of self.now.tokens.now result (expression_at self.now.end room (drop at self.now.tokens.now)) }
     {
-        let (item, at) = self.next(at)?;
-        match item.meaning {
+        let (token, at) = self.next(at)?;
+        match token.meaning {
             Meaning::Number(value) => Ok((Expr::Num(value), at)),
-            Meaning::Name(letters) => Ok((Expr::Name(self.named(letters, item.span)?), at)),
-            Meaning::Word(Word::Me) => Ok((Expr::Me, at)),
-            Meaning::Word(Word::Count) => Ok((Expr::Count, at)),
-            Meaning::Word(Word::Open) => self.brackets(room, item.span, at),
-            _ => Err(TextFault::Unexpected(item.span)),
+            Meaning::Name(letters) => Ok((Expr::Name(self.named(letters, token.span)?), at)),
+            Meaning::Terminal(Terminal::Me) => Ok((Expr::Me, at)),
+            Meaning::Terminal(Terminal::Count) => Ok((Expr::Count, at)),
+            Meaning::Terminal(Terminal::Open) => self.brackets(room, token.span, at),
+            _ => Err(TextFault::Unexpected(token.span)),
         }
     }
 
     // An expression and the `;` after it.
     #[tactic(auto, unfolding(crate::specs::prover::Reading::last_at))]
     fn last(&self, room: usize, at: usize) -> Read<Expr>
-        ensures { Gives expression_of self.now.items.now result (last_at self.now.end room (drop at self.now.items.now)) }
+        ensures { Gives expression_of self.now.tokens.now result (last_at self.now.end room (drop at self.now.tokens.now)) }
     {
         let (value, at) = self.expression(room, at)?;
-        let (_, at) = self.word(Word::Semicolon, at)?;
+        let (_, at) = self.terminal(Terminal::Semicolon, at)?;
         Ok((value, at))
     }
 
     #[tactic(auto, unfolding(crate::specs::prover::Reading::get_at))]
     fn get(&self, room: usize, target: Named, at: usize) -> Read<Stmt>
-        ensures { Gives statement_of self.now.items.now result (get_at self.now.end room (name_of target) (drop at self.now.items.now)) }
+        ensures { Gives statement_of self.now.tokens.now result (get_at self.now.end room (name_of target) (drop at self.now.tokens.now)) }
     {
         let (register, at) = self.name(at)?;
         let (process, at) = self.last(room, at)?;
@@ -225,24 +225,24 @@ impl Parser<'_> {
 
     #[tactic(auto, unfolding(crate::specs::prover::Reading::scan_at))]
     fn scan(&self, target: Named, at: usize) -> Read<Stmt>
-        ensures { Gives statement_of self.now.items.now result (scan_at self.now.end (name_of target) (drop at self.now.items.now)) }
+        ensures { Gives statement_of self.now.tokens.now result (scan_at self.now.end (name_of target) (drop at self.now.tokens.now)) }
     {
-        let (_, at) = self.word(Word::Semicolon, at)?;
+        let (_, at) = self.terminal(Terminal::Semicolon, at)?;
         Ok((Stmt::Scan(target), at))
     }
 
     #[tactic(auto, unfolding(crate::specs::prover::Reading::copy_at))]
     fn copy(&self, target: Named, at: usize) -> Read<Stmt>
-        ensures { Gives statement_of self.now.items.now result (copy_at self.now.end (name_of target) (drop at self.now.items.now)) }
+        ensures { Gives statement_of self.now.tokens.now result (copy_at self.now.end (name_of target) (drop at self.now.tokens.now)) }
     {
         let (source, at) = self.name(at)?;
-        let (_, at) = self.word(Word::Semicolon, at)?;
+        let (_, at) = self.terminal(Terminal::Semicolon, at)?;
         Ok((Stmt::Copy(target, source), at))
     }
 
     #[tactic(auto, unfolding(crate::specs::prover::Reading::older_at))]
     fn older(&self, room: usize, target: Named, at: usize) -> Read<Stmt>
-        ensures { Gives statement_of self.now.items.now result (older_at self.now.end room (name_of target) (drop at self.now.items.now)) }
+        ensures { Gives statement_of self.now.tokens.now result (older_at self.now.end room (name_of target) (drop at self.now.tokens.now)) }
     {
         let (scan, at) = self.name(at)?;
         let (first, at) = self.expression(room, at)?;
@@ -252,7 +252,7 @@ impl Parser<'_> {
 
     #[tactic(auto, unfolding(crate::specs::prover::Reading::plain_at))]
     fn plain(&self, room: usize, target: Named, at: usize) -> Read<Stmt>
-        ensures { Gives statement_of self.now.items.now result (plain_at self.now.end room (name_of target) (drop at self.now.items.now)) }
+        ensures { Gives statement_of self.now.tokens.now result (plain_at self.now.end room (name_of target) (drop at self.now.tokens.now)) }
     {
         let (value, at) = self.last(room, at)?;
         Ok((Stmt::Assign(target, value), at))
@@ -261,14 +261,14 @@ impl Parser<'_> {
     // What stands after `=`.
     #[tactic(auto, unfolding(crate::specs::prover::Reading::right_at))]
     fn right(&self, room: usize, target: Named, at: usize) -> Read<Stmt>
-        ensures { Gives statement_of self.now.items.now result (right_at self.now.end room (name_of target) (drop at self.now.items.now)) }
+        ensures { Gives statement_of self.now.tokens.now result (right_at self.now.end room (name_of target) (drop at self.now.tokens.now)) }
     {
-        let (item, after) = self.next(at)?;
-        match item.meaning {
-            Meaning::Word(Word::Get) => self.get(room, target, after),
-            Meaning::Word(Word::Scan) => self.scan(target, after),
-            Meaning::Word(Word::Copy) => self.copy(target, after),
-            Meaning::Word(Word::Older) => self.older(room, target, after),
+        let (token, after) = self.next(at)?;
+        match token.meaning {
+            Meaning::Terminal(Terminal::Get) => self.get(room, target, after),
+            Meaning::Terminal(Terminal::Scan) => self.scan(target, after),
+            Meaning::Terminal(Terminal::Copy) => self.copy(target, after),
+            Meaning::Terminal(Terminal::Older) => self.older(room, target, after),
             _ => self.plain(room, target, at),
         }
     }
@@ -276,15 +276,15 @@ impl Parser<'_> {
     // What stands after the name that a statement begins with.
     #[tactic(auto, unfolding(crate::specs::prover::Reading::assignment_at))]
     fn assignment(&self, room: usize, target: Named, at: usize) -> Read<Stmt>
-        ensures { Gives statement_of self.now.items.now result (assignment_at self.now.end room (name_of target) (drop at self.now.items.now)) }
+        ensures { Gives statement_of self.now.tokens.now result (assignment_at self.now.end room (name_of target) (drop at self.now.tokens.now)) }
     {
-        let (_, at) = self.word(Word::Becomes, at)?;
+        let (_, at) = self.terminal(Terminal::Becomes, at)?;
         self.right(room, target, at)
     }
 
     #[tactic(auto, unfolding(crate::specs::prover::Reading::put_at))]
     fn put(&self, room: usize, at: usize) -> Read<Stmt>
-        ensures { Gives statement_of self.now.items.now result (put_at self.now.end room (drop at self.now.items.now)) }
+        ensures { Gives statement_of self.now.tokens.now result (put_at self.now.end room (drop at self.now.tokens.now)) }
     {
         let (register, at) = self.name(at)?;
         let (value, at) = self.last(room, at)?;
@@ -293,15 +293,15 @@ impl Parser<'_> {
 
     #[tactic(auto, unfolding(crate::specs::prover::Reading::stamp_at))]
     fn stamp(&self, at: usize) -> Read<Stmt>
-        ensures { Gives statement_of self.now.items.now result (stamp_at self.now.end (drop at self.now.items.now)) }
+        ensures { Gives statement_of self.now.tokens.now result (stamp_at self.now.end (drop at self.now.tokens.now)) }
     {
-        let (_, at) = self.word(Word::Semicolon, at)?;
+        let (_, at) = self.terminal(Terminal::Semicolon, at)?;
         Ok((Stmt::Stamp, at))
     }
 
     #[tactic(auto, unfolding(crate::specs::prover::Reading::out_at))]
     fn out(&self, room: usize, at: usize) -> Read<Stmt>
-        ensures { Gives statement_of self.now.items.now result (out_at self.now.end room (drop at self.now.items.now)) }
+        ensures { Gives statement_of self.now.tokens.now result (out_at self.now.end room (drop at self.now.tokens.now)) }
     {
         let (value, at) = self.last(room, at)?;
         Ok((Stmt::Out(value), at))
@@ -311,11 +311,11 @@ impl Parser<'_> {
     #[cycle(statement)]
     #[tactic(auto, unfolding(crate::specs::prover::Reading::branch_at))]
     fn branch(&self, room: usize, at: usize) -> Read<Stmt>
-        ensures { Gives statement_of self.now.items.now result (branch_at self.now.end (block_at self.now.end room) room (drop at self.now.items.now)) }
+        ensures { Gives statement_of self.now.tokens.now result (branch_at self.now.end (block_at self.now.end room) room (drop at self.now.tokens.now)) }
     {
         let (value, at) = self.expression(room, at)?;
         let (first, at) = self.block(room, at)?;
-        let (_, at) = self.word(Word::Else, at)?;
+        let (_, at) = self.terminal(Terminal::Else, at)?;
         let (second, at) = self.block(room, at)?;
         Ok((Stmt::If(value, first, second), at))
     }
@@ -324,7 +324,7 @@ impl Parser<'_> {
     #[cycle(statement)]
     #[tactic(auto, unfolding(crate::specs::prover::Reading::repeat_at))]
     fn repeat(&self, room: usize, at: usize) -> Read<Stmt>
-        ensures { Gives statement_of self.now.items.now result (repeat_at self.now.end (block_at self.now.end room) room (drop at self.now.items.now)) }
+        ensures { Gives statement_of self.now.tokens.now result (repeat_at self.now.end (block_at self.now.end room) room (drop at self.now.tokens.now)) }
     {
         let (value, at) = self.expression(room, at)?;
         let (body, at) = self.block(room, at)?;
@@ -334,30 +334,30 @@ impl Parser<'_> {
     #[cycle(statement)]
     #[tactic(auto, unfolding(crate::specs::prover::Reading::statement_at, crate::specs::prover::Reading::statement_with))]
     fn statement(&self, room: usize, at: usize) -> Read<Stmt>
-        ensures { Gives statement_of self.now.items.now result (statement_at self.now.end room (drop at self.now.items.now)) }
+        ensures { Gives statement_of self.now.tokens.now result (statement_at self.now.end room (drop at self.now.tokens.now)) }
     {
-        let (item, at) = self.next(at)?;
-        match item.meaning {
-            Meaning::Name(letters) => self.assignment(room, self.named(letters, item.span)?, at),
-            Meaning::Word(Word::Put) => self.put(room, at),
-            Meaning::Word(Word::Stamp) => self.stamp(at),
-            Meaning::Word(Word::Out) => self.out(room, at),
-            Meaning::Word(Word::If) => self.branch(room, at),
-            Meaning::Word(Word::While) => self.repeat(room, at),
-            _ => Err(TextFault::Unexpected(item.span)),
+        let (token, at) = self.next(at)?;
+        match token.meaning {
+            Meaning::Name(letters) => self.assignment(room, self.named(letters, token.span)?, at),
+            Meaning::Terminal(Terminal::Put) => self.put(room, at),
+            Meaning::Terminal(Terminal::Stamp) => self.stamp(at),
+            Meaning::Terminal(Terminal::Out) => self.out(room, at),
+            Meaning::Terminal(Terminal::If) => self.branch(room, at),
+            Meaning::Terminal(Terminal::While) => self.repeat(room, at),
+            _ => Err(TextFault::Unexpected(token.span)),
         }
     }
 
-    // Statements, and the word that ends them.
+    // Statements, and the terminal that ends them.
     #[cycle(statement)]
     fn statements(&self, room: usize, ending: Ending, start: usize) -> Read<Vec<Stmt>>
-        ensures { Gives (λ v. block_of v.items) self.now.items.now result (statements_at self.now.end room ending (drop start self.now.items.now)) }
+        ensures { Gives (λ v. block_of v.items) self.now.tokens.now result (statements_at self.now.end room ending (drop start self.now.tokens.now)) }
     {
         let mut statements = Vec::new(self.alloc);
         let mut at = start;
         loop {
-            let (item, after) = self.next(at)?;
-            if ending.ends(item.meaning) {
+            let (token, after) = self.next(at)?;
+            if ending.ends(token.meaning) {
                 return Ok((statements, after));
             }
             let (statement, after) = self.statement(room, at)?;
@@ -370,7 +370,7 @@ impl Parser<'_> {
     #[cycle(statement)]
     #[tactic(auto, unfolding(crate::specs::prover::Reading::block_at, crate::specs::prover::Reading::statements_at, crate::specs::prover::Reading::statement_at))]
     fn block(&self, room: usize, at: usize) -> Read<Vec<Stmt>>
-        ensures { Gives (λ v. block_of v.items) self.now.items.now result (block_at self.now.end room (drop at self.now.items.now)) }
+        ensures { Gives (λ v. block_of v.items) self.now.tokens.now result (block_at self.now.end room (drop at self.now.tokens.now)) }
     {
         let (_, at) = self.brace(room, at)?;
         match room {
@@ -381,18 +381,18 @@ impl Parser<'_> {
 
     // Names with a comma between two, and the `;` after them.
     fn names(&self, start: usize) -> Read<Vec<Named>>
-        ensures { Gives (λ v. map name_of v.items) self.now.items.now result (names_at self.now.end (drop start self.now.items.now)) }
+        ensures { Gives (λ v. map name_of v.items) self.now.tokens.now result (names_at self.now.end (drop start self.now.tokens.now)) }
     {
         let mut names = Vec::new(self.alloc);
         let mut at = start;
         loop {
             let (name, after) = self.name(at)?;
             names.push(name)?;
-            let (item, after) = self.next(after)?;
-            match item.meaning {
-                Meaning::Word(Word::Comma) => at = after,
-                Meaning::Word(Word::Semicolon) => return Ok((names, after)),
-                _ => return Err(TextFault::Unexpected(item.span)),
+            let (token, after) = self.next(after)?;
+            match token.meaning {
+                Meaning::Terminal(Terminal::Comma) => at = after,
+                Meaning::Terminal(Terminal::Semicolon) => return Ok((names, after)),
+                _ => return Err(TextFault::Unexpected(token.span)),
             }
         }
     }
@@ -400,10 +400,10 @@ impl Parser<'_> {
     // A section of declarations, which may be left out.
     #[tactic(auto, unfolding(crate::specs::prover::Reading::section_at))]
     fn section(&self, section: Section, at: usize) -> Read<Vec<Named>>
-        ensures { Gives (λ v. map name_of v.items) self.now.items.now result (section_at self.now.end section (drop at self.now.items.now)) }
+        ensures { Gives (λ v. map name_of v.items) self.now.tokens.now result (section_at self.now.end section (drop at self.now.tokens.now)) }
     {
-        let (item, after) = self.next(at)?;
-        if section.begins(item.meaning) {
+        let (token, after) = self.next(at)?;
+        if section.begins(token.meaning) {
             self.names(after)
         } else {
             Ok((Vec::new(self.alloc), at))
@@ -412,20 +412,20 @@ impl Parser<'_> {
 
     #[tactic(auto, unfolding(crate::specs::prover::Reading::body_at))]
     fn body(&self, room: usize, at: usize) -> Read<Vec<Stmt>>
-        ensures { Gives (λ v. block_of v.items) self.now.items.now result (body_at self.now.end room (drop at self.now.items.now)) }
+        ensures { Gives (λ v. block_of v.items) self.now.tokens.now result (body_at self.now.end room (drop at self.now.tokens.now)) }
     {
-        let (_, at) = self.word(Word::Begin, at)?;
+        let (_, at) = self.terminal(Terminal::Begin, at)?;
         self.statements(room, Ending::Program, at)
     }
 
-    #[tactic(auto, using(crate::proofs::Loops::word_none), unfolding(crate::specs::prover::Reading::whole_at))]
+    #[tactic(auto, using(crate::proofs::Loops::terminal_none), unfolding(crate::specs::prover::Reading::whole_at))]
     fn whole(&self, room: usize, at: usize) -> Read<Tree>
-        ensures read { Gives tree_of self.now.items.now result (whole_at self.now.end room (drop at self.now.items.now)) }
-        ensures none { drop at self.now.items.now ≡ [] → result ≡ Err (Unexpected (record { start = self.now.end; end = self.now.end })) }
+        ensures read { Gives tree_of self.now.tokens.now result (whole_at self.now.end room (drop at self.now.tokens.now)) }
+        ensures none { drop at self.now.tokens.now ≡ [] → result ≡ Err (Unexpected (record { start = self.now.end; end = self.now.end })) }
     {
-        let (_, at) = self.word(Word::Processes, at)?;
+        let (_, at) = self.terminal(Terminal::Processes, at)?;
         let ((processes, processes_span), at) = self.number(at)?;
-        let (_, at) = self.word(Word::Semicolon, at)?;
+        let (_, at) = self.terminal(Terminal::Semicolon, at)?;
         let (variables, at) = self.section(Section::Variables, at)?;
         let (scans, at) = self.section(Section::Scans, at)?;
         let (registers, at) = self.section(Section::Registers, at)?;
@@ -441,16 +441,16 @@ impl Parser<'_> {
         Ok((tree, at))
     }
 
-    /// Reads a program of all the items.
+    /// Reads a program of all the tokens.
     #[tactic(auto, unfolding(crate::specs::prover::Reading::program_at))]
     pub fn program(&self) -> Result<Tree, TextFault>
-        ensures read { GivesWhole tree_of result (program_at self.now.end 64 self.now.items.now) }
-        ensures none { self.now.items.now ≡ [] → result ≡ Err (Unexpected (record { start = self.now.end; end = self.now.end })) }
+        ensures read { GivesWhole tree_of result (program_at self.now.end 64 self.now.tokens.now) }
+        ensures none { self.now.tokens.now ≡ [] → result ≡ Err (Unexpected (record { start = self.now.end; end = self.now.end })) }
     {
         let (tree, at) = self.whole(64, 0)?;
-        match self.items.get(at) {
+        match self.tokens.get(at) {
             None => Ok(tree),
-            Some(item) => Err(TextFault::Unexpected(item.span)),
+            Some(token) => Err(TextFault::Unexpected(token.span)),
         }
     }
 }

@@ -2,32 +2,36 @@
 // follows it, all written to the end of one buffer.
 ghost use Rattle.std.specs.Prelude.{◌≡◌, ℕ, List, ◌++◌, ◌∷◌, [], map, OnOk, IfOk, IfErr, string_bytes};
 ghost use Rattle.std.specs.Fmt.{decimal};
-ghost use Rattle.tick_syntax.specs.Lexeme.{a_name, a_number, a_word};
+ghost use Rattle.tick_syntax.specs.Lexeme.{a_name, a_number, a_terminal};
 ghost use Rattle.tick_syntax.specs.Plain.{get, copy, older};
-ghost use Rattle.tick_syntax.specs.Printed.{nowhere, after_word, printed_token, printed_tokens, expression_tokens, statement_tokens, block_tokens, section_tokens, printed};
+ghost use Rattle.tick_syntax.specs.Printed.{nowhere, after_terminal, printed_token, printed_tokens, expression_tokens, statement_tokens, block_tokens, section_tokens, printed};
 ghost use Rattle.tick_syntax.specs.prover.Printing.{more_names, declaration_tokens};
 ghost use Rattle.tick_syntax.specs.RoundTrip.{IsTextOf, ReadsAs};
 ghost use Rattle.tick_syntax.specs.View.{name_of, expression_of, statement_of, block_of, tree_of};
 
 use crate::fault::TextFault;
-use crate::terminals::Word;
+use crate::terminals::Terminal;
 use crate::tree::{Expr, Named, Stmt, Tree};
 use std::alloc::{AllocError, Global};
 
-fn after(word: Word) -> &'static str
-    ensures { result.now ≡ after_word word ∷ [] }
+fn after(terminal: Terminal) -> &'static str
+    ensures { result.now ≡ after_terminal terminal ∷ [] }
 {
-    match word {
-        Word::Semicolon | Word::OpenBrace | Word::CloseBrace | Word::Begin | Word::End => "\n",
+    match terminal {
+        Terminal::Semicolon
+        | Terminal::OpenBrace
+        | Terminal::CloseBrace
+        | Terminal::Begin
+        | Terminal::End => "\n",
         _ => " ",
     }
 }
 
-fn push_word(out: &mut String, word: Word) -> Result<(), AllocError>
-    ensures { OnOk result (string_bytes out.new ≡ string_bytes out.old ++ printed_token (a_word word)) }
+fn push_terminal(out: &mut String, terminal: Terminal) -> Result<(), AllocError>
+    ensures { OnOk result (string_bytes out.new ≡ string_bytes out.old ++ printed_token (a_terminal terminal)) }
 {
-    out.push_str(word.text())?;
-    out.push_str(after(word))
+    out.push_str(terminal.text())?;
+    out.push_str(after(terminal))
 }
 
 fn push_name(out: &mut String, name: &Named) -> Result<(), AllocError>
@@ -49,32 +53,32 @@ fn push_expression(out: &mut String, expression: &Expr) -> Result<(), AllocError
     match expression {
         Expr::Num(value) => push_number(out, *value),
         Expr::Name(name) => push_name(out, name),
-        Expr::Me => push_word(out, Word::Me),
-        Expr::Count => push_word(out, Word::Count),
+        Expr::Me => push_terminal(out, Terminal::Me),
+        Expr::Count => push_terminal(out, Terminal::Count),
         Expr::Bin(left, op, right) => {
-            push_word(out, Word::Open)?;
+            push_terminal(out, Terminal::Open)?;
             push_expression(out, left)?;
-            push_word(out, Word::Operator(*op))?;
+            push_terminal(out, Terminal::Operator(*op))?;
             push_expression(out, right)?;
-            push_word(out, Word::Close)
+            push_terminal(out, Terminal::Close)
         }
     }
 }
 
 /// An expression and the `;` after it.
 fn push_last(out: &mut String, expression: &Expr) -> Result<(), AllocError>
-    ensures { OnOk result (string_bytes out.new ≡ string_bytes out.old ++ printed_tokens (expression_tokens (expression_of expression.now) ++ a_word Word.Semicolon ∷ [])) }
+    ensures { OnOk result (string_bytes out.new ≡ string_bytes out.old ++ printed_tokens (expression_tokens (expression_of expression.now) ++ a_terminal Terminal.Semicolon ∷ [])) }
 {
     push_expression(out, expression)?;
-    push_word(out, Word::Semicolon)
+    push_terminal(out, Terminal::Semicolon)
 }
 
 /// The name that takes a value, and `=`.
 fn push_target(out: &mut String, name: &Named) -> Result<(), AllocError>
-    ensures { OnOk result (string_bytes out.new ≡ string_bytes out.old ++ printed_tokens (a_name (name_of name.now) ∷ a_word Word.Becomes ∷ [])) }
+    ensures { OnOk result (string_bytes out.new ≡ string_bytes out.old ++ printed_tokens (a_name (name_of name.now) ∷ a_terminal Terminal.Becomes ∷ [])) }
 {
     push_name(out, name)?;
-    push_word(out, Word::Becomes)
+    push_terminal(out, Terminal::Becomes)
 }
 
 /// `x = get r e;`.
@@ -87,7 +91,7 @@ fn push_get(
     ensures { OnOk result (string_bytes out.new ≡ string_bytes out.old ++ printed_tokens (statement_tokens (get (name_of target.now) (name_of register.now) (expression_of process.now)))) }
 {
     push_target(out, target)?;
-    push_word(out, Word::Get)?;
+    push_terminal(out, Terminal::Get)?;
     push_name(out, register)?;
     push_last(out, process)
 }
@@ -97,9 +101,9 @@ fn push_copy(out: &mut String, target: &Named, source: &Named) -> Result<(), All
     ensures { OnOk result (string_bytes out.new ≡ string_bytes out.old ++ printed_tokens (statement_tokens (copy (name_of target.now) (name_of source.now)))) }
 {
     push_target(out, target)?;
-    push_word(out, Word::Copy)?;
+    push_terminal(out, Terminal::Copy)?;
     push_name(out, source)?;
-    push_word(out, Word::Semicolon)
+    push_terminal(out, Terminal::Semicolon)
 }
 
 /// `x = older s e f;`.
@@ -113,7 +117,7 @@ fn push_older(
     ensures { OnOk result (string_bytes out.new ≡ string_bytes out.old ++ printed_tokens (statement_tokens (older (name_of target.now) (name_of scan.now) (expression_of first.now) (expression_of second.now)))) }
 {
     push_target(out, target)?;
-    push_word(out, Word::Older)?;
+    push_terminal(out, Terminal::Older)?;
     push_name(out, scan)?;
     push_expression(out, first)?;
     push_last(out, second)
@@ -130,34 +134,34 @@ fn push_statement(out: &mut String, statement: &Stmt) -> Result<(), AllocError>
         }
         Stmt::Get(target, register, process) => push_get(out, target, register, process),
         Stmt::Put(register, value) => {
-            push_word(out, Word::Put)?;
+            push_terminal(out, Terminal::Put)?;
             push_name(out, register)?;
             push_last(out, value)
         }
         Stmt::Stamp => {
-            push_word(out, Word::Stamp)?;
-            push_word(out, Word::Semicolon)
+            push_terminal(out, Terminal::Stamp)?;
+            push_terminal(out, Terminal::Semicolon)
         }
         Stmt::Scan(target) => {
             push_target(out, target)?;
-            push_word(out, Word::Scan)?;
-            push_word(out, Word::Semicolon)
+            push_terminal(out, Terminal::Scan)?;
+            push_terminal(out, Terminal::Semicolon)
         }
         Stmt::Copy(target, source) => push_copy(out, target, source),
         Stmt::Older(target, scan, first, second) => { push_older(out, target, scan, first, second) }
         Stmt::Out(value) => {
-            push_word(out, Word::Out)?;
+            push_terminal(out, Terminal::Out)?;
             push_last(out, value)
         }
         Stmt::If(condition, then, otherwise) => {
-            push_word(out, Word::If)?;
+            push_terminal(out, Terminal::If)?;
             push_expression(out, condition)?;
             push_braces(out, then)?;
-            push_word(out, Word::Else)?;
+            push_terminal(out, Terminal::Else)?;
             push_braces(out, otherwise)
         }
         Stmt::While(condition, body) => {
-            push_word(out, Word::While)?;
+            push_terminal(out, Terminal::While)?;
             push_expression(out, condition)?;
             push_braces(out, body)
         }
@@ -167,11 +171,11 @@ fn push_statement(out: &mut String, statement: &Stmt) -> Result<(), AllocError>
 /// A block in its braces.
 #[cycle(statement)]
 fn push_braces(out: &mut String, block: &Vec<Stmt>) -> Result<(), AllocError>
-    ensures { OnOk result (string_bytes out.new ≡ string_bytes out.old ++ printed_tokens (a_word Word.OpenBrace ∷ (block_tokens (block_of block.now.items) ++ a_word Word.CloseBrace ∷ []))) }
+    ensures { OnOk result (string_bytes out.new ≡ string_bytes out.old ++ printed_tokens (a_terminal Terminal.OpenBrace ∷ (block_tokens (block_of block.now.items) ++ a_terminal Terminal.CloseBrace ∷ []))) }
 {
-    push_word(out, Word::OpenBrace)?;
+    push_terminal(out, Terminal::OpenBrace)?;
     push_block(out, block)?;
-    push_word(out, Word::CloseBrace)
+    push_terminal(out, Terminal::CloseBrace)
 }
 
 #[cycle(statement)]
@@ -189,50 +193,50 @@ fn push_more_names(out: &mut String, names: &[Named]) -> Result<(), AllocError>
     ensures { OnOk result (string_bytes out.new ≡ string_bytes out.old ++ printed_tokens (more_names (map name_of names.now))) }
 {
     for name in names {
-        push_word(out, Word::Comma)?;
+        push_terminal(out, Terminal::Comma)?;
         push_name(out, name)?;
     }
     Ok(())
 }
 
 /// A section of declarations, or nothing where it has no names.
-fn push_section(out: &mut String, section: Word, names: &[Named]) -> Result<(), AllocError>
+fn push_section(out: &mut String, section: Terminal, names: &[Named]) -> Result<(), AllocError>
     ensures { OnOk result (string_bytes out.new ≡ string_bytes out.old ++ printed_tokens (section_tokens section (map name_of names.now))) }
 {
     let [first, others @ ..] = names else {
         return Ok(());
     };
-    push_word(out, section)?;
+    push_terminal(out, section)?;
     push_name(out, first)?;
     push_more_names(out, others)?;
-    push_word(out, Word::Semicolon)
+    push_terminal(out, Terminal::Semicolon)
 }
 
 /// The number of processes.
 fn push_head(out: &mut String, processes: u32) -> Result<(), AllocError>
-    ensures { OnOk result (string_bytes out.new ≡ string_bytes out.old ++ printed_tokens (a_word Word.Processes ∷ a_number processes nowhere ∷ a_word Word.Semicolon ∷ [])) }
+    ensures { OnOk result (string_bytes out.new ≡ string_bytes out.old ++ printed_tokens (a_terminal Terminal.Processes ∷ a_number processes nowhere ∷ a_terminal Terminal.Semicolon ∷ [])) }
 {
-    push_word(out, Word::Processes)?;
+    push_terminal(out, Terminal::Processes)?;
     push_number(out, processes)?;
-    push_word(out, Word::Semicolon)
+    push_terminal(out, Terminal::Semicolon)
 }
 
 /// The three sections of declarations.
 fn push_declarations(out: &mut String, tree: &Tree) -> Result<(), AllocError>
     ensures { OnOk result (string_bytes out.new ≡ string_bytes out.old ++ printed_tokens (declaration_tokens (tree_of tree.now))) }
 {
-    push_section(out, Word::Var, &tree.variables)?;
-    push_section(out, Word::Scan, &tree.scans)?;
-    push_section(out, Word::Reg, &tree.registers)
+    push_section(out, Terminal::Var, &tree.variables)?;
+    push_section(out, Terminal::Scan, &tree.scans)?;
+    push_section(out, Terminal::Reg, &tree.registers)
 }
 
 /// The statements of the program between `begin` and `end`.
 fn push_body(out: &mut String, body: &Vec<Stmt>) -> Result<(), AllocError>
-    ensures { OnOk result (string_bytes out.new ≡ string_bytes out.old ++ printed_tokens (a_word Word.Begin ∷ (block_tokens (block_of body.now.items) ++ a_word Word.End ∷ []))) }
+    ensures { OnOk result (string_bytes out.new ≡ string_bytes out.old ++ printed_tokens (a_terminal Terminal.Begin ∷ (block_tokens (block_of body.now.items) ++ a_terminal Terminal.End ∷ []))) }
 {
-    push_word(out, Word::Begin)?;
+    push_terminal(out, Terminal::Begin)?;
     push_block(out, body)?;
-    push_word(out, Word::End)
+    push_terminal(out, Terminal::End)
 }
 
 /// The tree as a text: its tokens in order, numbers in decimal without leading

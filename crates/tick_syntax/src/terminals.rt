@@ -1,13 +1,13 @@
 ghost use Rattle.std.specs.Prelude.{◌≡◌};
 ghost use Rattle.tick_syntax.specs.Characters.{is_keyword};
-ghost use Rattle.tick_syntax.specs.Lexeme.{word_of};
+ghost use Rattle.tick_syntax.specs.Lexeme.{terminal_of};
 ghost use Rattle.tick_syntax.specs.Terminals.{spelling};
 
 use crate::tree::Op;
 
 /// A keyword or a sign.
 #[derive(Clone, Copy, PartialEq, Eq, Debug)]
-pub enum Word {
+pub enum Terminal {
     Processes,
     Var,
     Scan,
@@ -35,91 +35,91 @@ pub enum Word {
     Operator(Op),
 }
 
-impl Word {
-    /// The word as a text spells it.
+impl Terminal {
+    /// The terminal as a text spells it.
     pub fn text(self) -> &'static str
         ensures { result.now ≡ spelling self }
     {
         match self {
-            Word::Processes => "processes",
-            Word::Var => "var",
-            Word::Scan => "scan",
-            Word::Reg => "reg",
-            Word::Begin => "begin",
-            Word::End => "end",
-            Word::Get => "get",
-            Word::Put => "put",
-            Word::Stamp => "stamp",
-            Word::Copy => "copy",
-            Word::Older => "older",
-            Word::Out => "out",
-            Word::If => "if",
-            Word::Else => "else",
-            Word::While => "while",
-            Word::Me => "me",
-            Word::Count => "n",
-            Word::Semicolon => ";",
-            Word::Comma => ",",
-            Word::Open => "(",
-            Word::Close => ")",
-            Word::OpenBrace => "{",
-            Word::CloseBrace => "}",
-            Word::Becomes => "=",
-            Word::Operator(op) => op.text(),
+            Terminal::Processes => "processes",
+            Terminal::Var => "var",
+            Terminal::Scan => "scan",
+            Terminal::Reg => "reg",
+            Terminal::Begin => "begin",
+            Terminal::End => "end",
+            Terminal::Get => "get",
+            Terminal::Put => "put",
+            Terminal::Stamp => "stamp",
+            Terminal::Copy => "copy",
+            Terminal::Older => "older",
+            Terminal::Out => "out",
+            Terminal::If => "if",
+            Terminal::Else => "else",
+            Terminal::While => "while",
+            Terminal::Me => "me",
+            Terminal::Count => "n",
+            Terminal::Semicolon => ";",
+            Terminal::Comma => ",",
+            Terminal::Open => "(",
+            Terminal::Close => ")",
+            Terminal::OpenBrace => "{",
+            Terminal::CloseBrace => "}",
+            Terminal::Becomes => "=",
+            Terminal::Operator(op) => op.text(),
         }
     }
 }
 
 // Those that programs have most of stand first.
-const SIGNS: [Word; 16] = [
-    Word::Semicolon,
-    Word::Becomes,
-    Word::Open,
-    Word::Close,
-    Word::OpenBrace,
-    Word::CloseBrace,
-    Word::Comma,
-    Word::Operator(Op::Add),
-    Word::Operator(Op::Sub),
-    Word::Operator(Op::Mul),
-    Word::Operator(Op::Div),
-    Word::Operator(Op::Rem),
-    Word::Operator(Op::Less),
-    Word::Operator(Op::AtMost),
-    Word::Operator(Op::Equal),
-    Word::Operator(Op::Differs),
+const SIGNS: [Terminal; 16] = [
+    Terminal::Semicolon,
+    Terminal::Becomes,
+    Terminal::Open,
+    Terminal::Close,
+    Terminal::OpenBrace,
+    Terminal::CloseBrace,
+    Terminal::Comma,
+    Terminal::Operator(Op::Add),
+    Terminal::Operator(Op::Sub),
+    Terminal::Operator(Op::Mul),
+    Terminal::Operator(Op::Div),
+    Terminal::Operator(Op::Rem),
+    Terminal::Operator(Op::Less),
+    Terminal::Operator(Op::AtMost),
+    Terminal::Operator(Op::Equal),
+    Terminal::Operator(Op::Differs),
 ];
 
-const KEYWORDS: [Word; 17] = [
-    Word::Me,
-    Word::Count,
-    Word::Put,
-    Word::Get,
-    Word::Out,
-    Word::If,
-    Word::Else,
-    Word::While,
-    Word::Stamp,
-    Word::Scan,
-    Word::Copy,
-    Word::Older,
-    Word::Processes,
-    Word::Var,
-    Word::Reg,
-    Word::Begin,
-    Word::End,
+const KEYWORDS: [Terminal; 17] = [
+    Terminal::Me,
+    Terminal::Count,
+    Terminal::Put,
+    Terminal::Get,
+    Terminal::Out,
+    Terminal::If,
+    Terminal::Else,
+    Terminal::While,
+    Terminal::Stamp,
+    Terminal::Scan,
+    Terminal::Copy,
+    Terminal::Older,
+    Terminal::Processes,
+    Terminal::Var,
+    Terminal::Reg,
+    Terminal::Begin,
+    Terminal::End,
 ];
 
 /// The keyword or sign that is spelled so, if one is.
-#[tactic(auto, unfolding(crate::specs::Lexeme::word_of))]
-pub fn word_of(bytes: &[u8]) -> Option<Word>
-    ensures { result ≡ word_of bytes.now }
+#[tactic(auto, unfolding(crate::specs::Lexeme::terminal_of))]
+pub fn terminal_of(bytes: &[u8]) -> Option<Terminal>
+    ensures { result ≡ terminal_of bytes.now }
 {
     SIGNS
         .iter()
         .chain(KEYWORDS.iter())
         .copied()
-        .find(|word| word.text().as_bytes() == bytes)
+        .find(|terminal| terminal.text().as_bytes() == bytes)
 }
 
 /// Whether the letters are one of the language's own words, and so no name.

@@ -1,8 +1,9 @@
 -- Names replaced by their numbers from the front of a program on, up to the first fault: what each
 -- function of `check` gives. What it comes to is told by `refusals` and `resolved`.
-use Rattle.std.specs.Prelude.{◌≡◌, ℕ, List, [], ◌∷◌, Option, Some, None, Result, Ok, Err, if◌then◌else◌, is_some, ◌&&◌, nat_lt, nat_le}
+use Rattle.std.specs.Prelude.{ℕ, Bool, true, false, List, [], ◌∷◌, Option, Some, None, Result, Ok, Err, if◌then◌else◌, is_some, ◌&&◌, nat_lt, nat_le}
 use Rattle.std.specs.Map.{update}
 use Rattle.std.specs.Str.{bytes_eq}
+use Rattle.machine_core.specs.Refusing.{◌>>=◌, FailsBut, GivesBut}
 use Rattle.tick_kinds.specs.declared.fault.KindFault.{KindFault}
 use Rattle.tick_kinds.specs.declared.fault.KindFault.TheVariants as F
 use Rattle.tick_kinds.specs.declared.kind.Kind.{Kind}
@@ -15,19 +16,17 @@ use Rattle.tick_syntax.specs.Plain.{Name, Expression, number, named, me, count, 
 abbrev pub Checked : Type 0 → Type 0
 Checked A = Result A KindFault
 
-infixl 10 ◌>>=◌
-abbrev pub ◌>>=◌ : {A B : Type 0} → Checked A → (A → Checked B) → Checked B
-(Ok x) >>= f = f x
-(Err e) >>= f = Err e
+-- whether a refusal is of memory
+abbrev pub is_memory : KindFault → Bool
+is_memory F.NoMemory = true
+is_memory _ = false
 
 -- A function answers what was checked, seen by view, unless memory was refused.
 abbrev pub Fails : {A : Type 0} → KindFault → Checked A → Type 0
-Fails F.NoMemory checked = Unit {0}
-Fails e checked = checked ≡ Err e
+Fails e checked = FailsBut is_memory e checked
 
 abbrev pub Gives : {X A : Type 0} → (X → A) → Result X KindFault → Checked A → Type 0
-Gives view (Ok x) checked = checked ≡ Ok (view x)
-Gives view (Err e) checked = Fails e checked
+Gives view result checked = GivesBut is_memory view result checked
 
 abbrev pub number_if : Kind → Span → Option Slot → Checked ℕ
 number_if wanted span None = Err (F.Unknown span)

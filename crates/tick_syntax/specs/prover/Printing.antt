@@ -1,14 +1,14 @@
 -- Parts of a program's tokens.
 use Rattle.std.specs.Prelude.{List, [], ◌∷◌, ◌++◌}
-use Rattle.tick_syntax.specs.declared.terminals.Word.TheVariants as W
-use Rattle.tick_syntax.specs.Lexeme.{Lexeme, a_name, a_word}
+use Rattle.tick_syntax.specs.declared.terminals.Terminal.TheVariants as W
+use Rattle.tick_syntax.specs.Lexeme.{Lexeme, a_name, a_terminal}
 use Rattle.tick_syntax.specs.Plain.{Name, WholeProgram}
 use Rattle.tick_syntax.specs.Printed.{section_tokens}
 
 -- each name with a comma before it
 abbrev pub more_names : List Name → List Lexeme
 more_names [] = []
-more_names (x ∷ xs) = a_word W.Comma ∷ a_name x ∷ more_names xs
+more_names (x ∷ xs) = a_terminal W.Comma ∷ a_name x ∷ more_names xs
 
 -- the sections of declarations
 abbrev pub declaration_tokens : WholeProgram Name → List Lexeme

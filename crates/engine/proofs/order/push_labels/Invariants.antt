@@ -1,5 +1,6 @@
 use Rattle.std.proofs.Common.{◌≡◌, ◌++◌, drop, map, string_bytes}
-use Rattle.engine.specs.Order.{label_text, spaced}
+use Rattle.text_core.specs.Lines.{spaced}
+use Rattle.engine.specs.Order.{label_text}
 use Rattle.engine.proofs.order.push_labels.Given as goal
 
 abbrev pub invariant-loop-process : goal.invariant-loop-process

@@ -1,7 +1,25 @@
-use Rattle.std.proofs.Common.{arith}
-use Rattle.tick_syntax.proofs.NumberValues.{value_at_least}
+use Rattle.std.proofs.Common.{◌≡◌, ◌∙◌, arith, Some, None}
+use Rattle.std.specs.Str.Parse.{digits_value}
+use Rattle.text_core.specs.Number.{capped}
+use Rattle.tick_syntax.proofs.NumberValues.{capped_value}
 use Rattle.tick_syntax.proofs.extents.number_value.Goals as goal
+
+pub returns-in_err-value : goal.returns-in_err-value
+returns-in_err-value c =
+    let e : None ≡ Some (capped (digits_value 10 c.args.digits.now)) =
+    c.in_err-value.ensures ∙ capped_value c.args.digits.now c.requires in
+    absurd (cc)
 
 pub returns-then-value-gt-NUMBER_LIMIT : goal.returns-then-value-gt-NUMBER_LIMIT
 returns-then-value-gt-NUMBER_LIMIT c =
-    omega (arith, value_at_least c.loop-digit.value c.loop-digit.digit-index c.args.digits.now c.loop-digit-test.true c.loop-digit.invariant.1)
+    let e : Some c.in_ok-value.value ≡ Some (capped (digits_value 10 c.args.digits.now)) =
+    c.in_ok-value.ensures ∙ capped_value c.args.digits.now c.requires in
+    let same : c.in_ok-value.value ≡ capped (digits_value 10 c.args.digits.now) = cc in
+    omega (arith, same, c.if-value-gt-NUMBER_LIMIT.true)
+
+pub returns-else-value-gt-NUMBER_LIMIT : goal.returns-else-value-gt-NUMBER_LIMIT
+returns-else-value-gt-NUMBER_LIMIT c =
+    let e : Some c.in_ok-value.value ≡ Some (capped (digits_value 10 c.args.digits.now)) =
+    c.in_ok-value.ensures ∙ capped_value c.args.digits.now c.requires in
+    let same : c.in_ok-value.value ≡ capped (digits_value 10 c.args.digits.now) = cc in
+    (omega (arith, same, c.if-value-gt-NUMBER_LIMIT.false), omega (arith, same, c.if-value-gt-NUMBER_LIMIT.false))

@@ -1,11 +1,11 @@
 use Rattle.std.proofs.Common.{sym}
 use Rattle.tick_syntax.specs.declared.token.Sort.TheVariants.{Num}
-use Rattle.tick_syntax.proofs.TokensSoFar.{read_at, number_in, number_after, all_digits, big_number}
+use Rattle.tick_syntax.proofs.TokensSoFar.{read_at, number_in, number_after, big_number}
 use Rattle.tick_syntax.proofs.lexer.number_at.Goals as goal
 
 pub number_value-requires : goal.number_value-requires
 number_value-requires c =
-    all_digits c.args.bytes.now c.args.from _ (number_in c.args.bytes.now c.args.from _ c.requires.within c.requires.digit c.number_end-end.ensures.end)
+    (number_in c.args.bytes.now c.args.from _ c.requires.within c.requires.digit c.number_end-end.ensures.end).number
 
 pub returns-in-Some : goal.returns-in-Some
 returns-in-Some c =

@@ -21,8 +21,8 @@ decreases-block l = 4 * l.room
 
 abbrev pub invariant-statements-loop-statements : goal.invariant-statements-loop-statements
 invariant-statements-loop-statements l =
-    after_block (block_of l.statements.items) (statements_at l.self.end l.room l.ending (drop l.at l.self.items.now))
-    ≡ statements_at l.self.end l.room l.ending (drop l.fn.start l.self.items.now)
+    after_block (block_of l.statements.items) (statements_at l.self.end l.room l.ending (drop l.at l.self.tokens.now))
+    ≡ statements_at l.self.end l.room l.ending (drop l.fn.start l.self.tokens.now)
 
 abbrev pub decreases-statements-loop-statements : goal.decreases-statements-loop-statements
-decreases-statements-loop-statements l = length (drop l.at l.self.items.now)
+decreases-statements-loop-statements l = length (drop l.at l.self.tokens.now)

@@ -1,6 +1,6 @@
 use Rattle.std.proofs.Common.{◌∙◌, arith, rules, sym}
-use Rattle.tick_play.proofs.NumberLemmas.{number_from-next}
-use Rattle.tick_play.proofs.number.number.Goals as goal
+use Rattle.text_core.proofs.NumberLemmas.{number_from-next}
+use Rattle.text_core.proofs.decimal.number.Goals as goal
 
 pub loop-byte-preserved : goal.loop-byte-preserved
 loop-byte-preserved c = (

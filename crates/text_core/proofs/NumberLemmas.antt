@@ -2,7 +2,7 @@
 use Rattle.std.proofs.Common.{◌≡◌, ◌∙◌, ◌+◌, ◌-◌, ◌*◌, ℕ, Bool, true, false, List, [], ◌∷◌, Option, Some, None, add-one, ap, arith, cond, drop, get_or, length, option_map, refl, sym, ◌<◌}
 use Rattle.std.proofs.Math.Seq.{drop-cons}
 use Rattle.std.specs.Char.{is_ascii_digit}
-use Rattle.tick_play.specs.Number.{capped, number_from}
+use Rattle.text_core.specs.Number.{capped, number_from}
 
 pub number_from-capped : (value : ℕ) (bytes : List ℕ)
     → option_map capped (number_from (capped value) bytes) ≡ option_map capped (number_from value bytes)

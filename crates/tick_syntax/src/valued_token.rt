@@ -1,15 +1,15 @@
 // What each token of a text says.
 ghost use Rattle.std.specs.Prelude.{◌≡◌, [], IfOk, IsOk, IsOkUnless};
 ghost use Rattle.std.specs.Str.{IsAscii};
-ghost use Rattle.tick_syntax.specs.Lexeme.{of_word, word_of};
+ghost use Rattle.tick_syntax.specs.Lexeme.{of_terminal, terminal_of};
 ghost use Rattle.tick_syntax.specs.Spelling.{Spells};
 ghost use Rattle.tick_syntax.specs.declared.fault.TextFault.TheVariants.{NoMemory};
 ghost use Rattle.tick_syntax.specs.declared.span.Span.{Span};
-ghost use Rattle.tick_syntax.specs.prover.Items.{SayAs, SaysAs, IsInText, said_by};
+ghost use Rattle.tick_syntax.specs.prover.ValuedTokens.{SayAs, SaysAs, IsInText, said_by};
 
 use crate::fault::TextFault;
 use crate::span::Span;
-use crate::terminals::{Word, word_of};
+use crate::terminals::{Terminal, terminal_of};
 use crate::token::{Sort, Token};
 use std::alloc::Global;
 
@@ -19,14 +19,14 @@ pub enum Meaning<'a> {
     /// A name, with its letters.
     Name(&'a str),
     Number(u32),
-    Word(Word),
+    Terminal(Terminal),
     /// Nothing that the language has.
     Nothing,
 }
 
-/// A token that was read: what it says, and where.
+/// A token with its value: what it says, and where.
 #[derive(Clone, Copy)]
-pub struct Item<'a> {
+pub struct ValuedToken<'a> {
     pub meaning: Meaning<'a>,
     pub span: Span,
 }
@@ -58,8 +58,8 @@ impl Ending {
     {
         matches!(
             (self, meaning),
-            (Ending::Program, Meaning::Word(Word::End))
-                | (Ending::Braces, Meaning::Word(Word::CloseBrace))
+            (Ending::Program, Meaning::Terminal(Terminal::End))
+                | (Ending::Braces, Meaning::Terminal(Terminal::CloseBrace))
         )
     }
 }
@@ -74,32 +74,32 @@ impl Section {
     {
         matches!(
             (self, meaning),
-            (Section::Variables, Meaning::Word(Word::Var))
-                | (Section::Scans, Meaning::Word(Word::Scan))
-                | (Section::Registers, Meaning::Word(Word::Reg))
+            (Section::Variables, Meaning::Terminal(Terminal::Var))
+                | (Section::Scans, Meaning::Terminal(Terminal::Scan))
+                | (Section::Registers, Meaning::Terminal(Terminal::Reg))
         )
     }
 }
 
 /// What each token says.
-pub fn items_of<'a>(
+pub fn valued_tokens<'a>(
     alloc: Global,
     text: &'a str,
     tokens: &[Token],
-) -> Result<Vec<Item<'a>>, TextFault>
+) -> Result<Vec<ValuedToken<'a>>, TextFault>
     requires { Spells text.now tokens.now }
-    ensures said { IfOk result (λ items. SayAs text.now items.items tokens.now) }
+    ensures said { IfOk result (λ valued. SayAs text.now valued.items tokens.now) }
     ensures err { IsOkUnless result NoMemory }
     ensures none { tokens.now ≡ [] → IsOk result }
 {
-    let mut items = Vec::new(alloc);
+    let mut valued = Vec::new(alloc);
     for token in tokens {
-        items.push(item_of(text, *token))?;
+        valued.push(valued_token(text, *token))?;
     }
-    Ok(items)
+    Ok(valued)
 }
 
-fn item_of<'a>(text: &'a str, token: Token) -> Item<'a>
+fn valued_token<'a>(text: &'a str, token: Token) -> ValuedToken<'a>
     requires { IsInText text.now token }
     ensures { SaysAs text.now result token }
 {
@@ -107,19 +107,19 @@ fn item_of<'a>(text: &'a str, token: Token) -> Item<'a>
     let meaning = match token.sort {
         Sort::Name => Meaning::Name(letters(bytes)),
         Sort::Num(value) => Meaning::Number(value),
-        Sort::Keyword | Sort::Sign => word_meaning(bytes),
+        Sort::Keyword | Sort::Sign => terminal_meaning(bytes),
     };
-    Item {
+    ValuedToken {
         meaning,
         span: token.span,
     }
 }
 
-fn word_meaning(bytes: &[u8]) -> Meaning<'_>
-    ensures { (span : Span) → said_by result span ≡ of_word (word_of bytes.now) }
+fn terminal_meaning(bytes: &[u8]) -> Meaning<'_>
+    ensures { (span : Span) → said_by result span ≡ of_terminal (terminal_of bytes.now) }
 {
-    match word_of(bytes) {
-        Some(word) => Meaning::Word(word),
+    match terminal_of(bytes) {
+        Some(terminal) => Meaning::Terminal(terminal),
         None => Meaning::Nothing,
     }
 }

@@ -1,6 +1,6 @@
 use Rattle.std.proofs.Common.{◌≡◌, ◌≤◌, ◌^◌, drop, option_map}
-use Rattle.tick_play.specs.Number.{capped, number_from}
-use Rattle.tick_play.proofs.number.number.Given as goal
+use Rattle.text_core.specs.Number.{capped, number_from}
+use Rattle.text_core.proofs.decimal.number.Given as goal
 
 -- the value so far and the bytes to come make the number
 abbrev pub invariant-loop-byte : goal.invariant-loop-byte

@@ -1,5 +1,5 @@
 ghost use Rattle.std.specs.Prelude.{◌≡◌, option_map};
-ghost use Rattle.tick_play.specs.Number.{capped, number_of};
+ghost use Rattle.text_core.specs.Number.{capped, number_of};
 
 /// What every greater number is read as. No number that is compared here reaches it.
 const CAP: u64 = 1 << 32;

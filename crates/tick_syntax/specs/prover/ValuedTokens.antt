@@ -1,31 +1,31 @@
--- What items say, and of which tokens they are.
+-- What valued tokens say, and of which tokens they are.
 use Rattle.std.specs.Prelude.{◌≡◌, ◌≤◌, ℕ, List, [], ◌∷◌, length, slice_range}
 use Rattle.std.specs.Str.{IsAscii}
 use Rattle.tick_syntax.specs.declared.token.Sort.{Sort}
 use Rattle.tick_syntax.specs.declared.token.Sort.TheVariants as K
 use Rattle.tick_syntax.specs.declared.span.Span.{Span}
-use Rattle.tick_syntax.specs.declared.item.Item.{Item}
-use Rattle.tick_syntax.specs.declared.item.Meaning.{Meaning}
-use Rattle.tick_syntax.specs.declared.item.Meaning.TheVariants as M
+use Rattle.tick_syntax.specs.declared.valued_token.ValuedToken.{ValuedToken}
+use Rattle.tick_syntax.specs.declared.valued_token.Meaning.{Meaning}
+use Rattle.tick_syntax.specs.declared.valued_token.Meaning.TheVariants as M
 use Rattle.tick_syntax.specs.declared.token.Token.{Token}
-use Rattle.tick_syntax.specs.Lexeme.{Lexeme, a_name, a_number, a_word, nothing, lexeme_of}
+use Rattle.tick_syntax.specs.Lexeme.{Lexeme, a_name, a_number, a_terminal, nothing, lexeme_of}
 
 abbrev pub said_by : Meaning → Span → Lexeme
 said_by (M.Name letters) span = a_name (record { letters = letters.now; span = span })
 said_by (M.Number v) span = a_number v span
-said_by (M.Word w) span = a_word w
+said_by (M.Terminal w) span = a_terminal w
 said_by M.Nothing span = nothing
 
--- what an item says
-abbrev pub said : Item → Lexeme
+-- what a valued token says
+abbrev pub said : ValuedToken → Lexeme
 said i = said_by i.meaning i.span
 
--- the item says what the token says, at its place
-abbrev pub SaysAs : List ℕ → Item → Token → Type 0
-SaysAs text item token = (said item ≡ lexeme_of text token) × (item.span ≡ token.span)
+-- it says what the token says, at its place
+abbrev pub SaysAs : List ℕ → ValuedToken → Token → Type 0
+SaysAs text valued token = (said valued ≡ lexeme_of text token) × (valued.span ≡ token.span)
 
--- the items say what the tokens say
-abbrev pub SayAs : List ℕ → List Item → List Token → Type 0
+-- each says what its token says
+abbrev pub SayAs : List ℕ → List ValuedToken → List Token → Type 0
 SayAs text [] [] = Unit {0}
 SayAs text (i ∷ is) (t ∷ ts) = SaysAs text i t × SayAs text is ts
 SayAs text _ _ = ⊥

@@ -1,0 +1,6 @@
+-- The bytes that separate what stands beside them.
+use Rattle.std.specs.Prelude.{ℕ, Bool, ◌||◌, ◌==◌}
+
+-- space, tab, carriage return and line feed
+abbrev pub is_blank : ℕ → Bool
+is_blank b = (b == 32) || (b == 9) || (b == 13) || (b == 10)
