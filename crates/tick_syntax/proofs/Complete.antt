@@ -10,7 +10,7 @@ use Rattle.tick_syntax.specs.declared.valued_token.Meaning.{Meaning}
 use Rattle.tick_syntax.specs.declared.valued_token.Meaning.TheVariants as M
 use Rattle.machine_core.specs.declared.operator.Op.{Op}
 use Rattle.tick_syntax.specs.declared.terminals.Terminal.{Terminal}
-use Rattle.tick_syntax.specs.declared.terminals.Terminal.TheVariants as W
+use Rattle.tick_syntax.specs.declared.terminals.Terminal.TheVariants as T
 use Rattle.tick_syntax.specs.Lexeme.{Lexeme, a_name, a_number, a_terminal}
 use Rattle.tick_syntax.specs.Plain.{Name, Expression, number, named, me, count, binary, Statement, assign, get, put, stamp, scan, copy, older, out, branch, repeat, Block, nil, cons, WholeProgram}
 use Rattle.tick_syntax.specs.Grammar.{IsExpression, IsStatement, IsBlock, AreNames, IsSection, Derives}
@@ -74,37 +74,37 @@ module _ (end : ℕ) where
   abbrev pub Takes : {V : Type 0} → Reading V → V → List Lexeme → Type 0
   Takes m v rest = (r : List ValuedToken) × (says r ≡ rest) × (m ≡ Ok (v, r))
 
-  semicolon_takes : (is : List ValuedToken) (rest : List Lexeme) → says is ≡ a_terminal W.Semicolon ∷ rest → Takes (terminal_at end W.Semicolon is) tt rest
+  semicolon_takes : (is : List ValuedToken) (rest : List Lexeme) → says is ≡ a_terminal T.Semicolon ∷ rest → Takes (terminal_at end T.Semicolon is) tt rest
   unfolding terminal_at next_at
-  semicolon_takes is rest h = let r = terminal_in W.Semicolon is rest h in (r.1, r.2, ap (terminal_at end W.Semicolon) r.3)
+  semicolon_takes is rest h = let r = terminal_in T.Semicolon is rest h in (r.1, r.2, ap (terminal_at end T.Semicolon) r.3)
 
-  becomes_takes : (is : List ValuedToken) (rest : List Lexeme) → says is ≡ a_terminal W.Becomes ∷ rest → Takes (terminal_at end W.Becomes is) tt rest
+  becomes_takes : (is : List ValuedToken) (rest : List Lexeme) → says is ≡ a_terminal T.Becomes ∷ rest → Takes (terminal_at end T.Becomes is) tt rest
   unfolding terminal_at next_at
-  becomes_takes is rest h = let r = terminal_in W.Becomes is rest h in (r.1, r.2, ap (terminal_at end W.Becomes) r.3)
+  becomes_takes is rest h = let r = terminal_in T.Becomes is rest h in (r.1, r.2, ap (terminal_at end T.Becomes) r.3)
 
-  else_takes : (is : List ValuedToken) (rest : List Lexeme) → says is ≡ a_terminal W.Else ∷ rest → Takes (terminal_at end W.Else is) tt rest
+  else_takes : (is : List ValuedToken) (rest : List Lexeme) → says is ≡ a_terminal T.Else ∷ rest → Takes (terminal_at end T.Else is) tt rest
   unfolding terminal_at next_at
-  else_takes is rest h = let r = terminal_in W.Else is rest h in (r.1, r.2, ap (terminal_at end W.Else) r.3)
+  else_takes is rest h = let r = terminal_in T.Else is rest h in (r.1, r.2, ap (terminal_at end T.Else) r.3)
 
-  close_takes : (is : List ValuedToken) (rest : List Lexeme) → says is ≡ a_terminal W.Close ∷ rest → Takes (terminal_at end W.Close is) tt rest
+  close_takes : (is : List ValuedToken) (rest : List Lexeme) → says is ≡ a_terminal T.Close ∷ rest → Takes (terminal_at end T.Close is) tt rest
   unfolding terminal_at next_at
-  close_takes is rest h = let r = terminal_in W.Close is rest h in (r.1, r.2, ap (terminal_at end W.Close) r.3)
+  close_takes is rest h = let r = terminal_in T.Close is rest h in (r.1, r.2, ap (terminal_at end T.Close) r.3)
 
-  begin_takes : (is : List ValuedToken) (rest : List Lexeme) → says is ≡ a_terminal W.Begin ∷ rest → Takes (terminal_at end W.Begin is) tt rest
+  begin_takes : (is : List ValuedToken) (rest : List Lexeme) → says is ≡ a_terminal T.Begin ∷ rest → Takes (terminal_at end T.Begin is) tt rest
   unfolding terminal_at next_at
-  begin_takes is rest h = let r = terminal_in W.Begin is rest h in (r.1, r.2, ap (terminal_at end W.Begin) r.3)
+  begin_takes is rest h = let r = terminal_in T.Begin is rest h in (r.1, r.2, ap (terminal_at end T.Begin) r.3)
 
-  processes_takes : (is : List ValuedToken) (rest : List Lexeme) → says is ≡ a_terminal W.Processes ∷ rest → Takes (terminal_at end W.Processes is) tt rest
+  processes_takes : (is : List ValuedToken) (rest : List Lexeme) → says is ≡ a_terminal T.Processes ∷ rest → Takes (terminal_at end T.Processes is) tt rest
   unfolding terminal_at next_at
-  processes_takes is rest h = let r = terminal_in W.Processes is rest h in (r.1, r.2, ap (terminal_at end W.Processes) r.3)
+  processes_takes is rest h = let r = terminal_in T.Processes is rest h in (r.1, r.2, ap (terminal_at end T.Processes) r.3)
 
-  brace_takes : (room : ℕ) (is : List ValuedToken) (rest : List Lexeme) → says is ≡ a_terminal W.OpenBrace ∷ rest → Takes (brace_at end (suc room) is) tt rest
+  brace_takes : (room : ℕ) (is : List ValuedToken) (rest : List Lexeme) → says is ≡ a_terminal T.OpenBrace ∷ rest → Takes (brace_at end (suc room) is) tt rest
   unfolding brace_at next_at
-  brace_takes room is rest h = let r = terminal_in W.OpenBrace is rest h in (r.1, r.2, ap (brace_at end (suc room)) r.3)
+  brace_takes room is rest h = let r = terminal_in T.OpenBrace is rest h in (r.1, r.2, ap (brace_at end (suc room)) r.3)
 
-  operator_takes : (op : Op) (is : List ValuedToken) (rest : List Lexeme) → says is ≡ a_terminal (W.Operator op) ∷ rest → Takes (operator_at end is) op rest
+  operator_takes : (op : Op) (is : List ValuedToken) (rest : List Lexeme) → says is ≡ a_terminal (T.Operator op) ∷ rest → Takes (operator_at end is) op rest
   unfolding operator_at next_at
-  operator_takes op is rest h = let r = terminal_in (W.Operator op) is rest h in (r.1, r.2, ap (operator_at end) r.3)
+  operator_takes op is rest h = let r = terminal_in (T.Operator op) is rest h in (r.1, r.2, ap (operator_at end) r.3)
 
   name_takes : (x : Name) (is : List ValuedToken) (rest : List Lexeme) → says is ≡ a_name x ∷ rest → Takes (name_at end is) x rest
   unfolding name_at next_at
@@ -115,19 +115,19 @@ module _ (end : ℕ) where
   number_takes v s is rest h = let r = number_in v s is rest h in (r.0, r.1, ap (number_at end) r.2)
 
   pair_gives : (read : List ValuedToken → Reading (Expression Name)) (is p q r s : List ValuedToken) (a b : Expression Name) (op : Op)
-      → read is ≡ Ok (a, p) → operator_at end p ≡ Ok (op, q) → read q ≡ Ok (b, r) → terminal_at end W.Close r ≡ Ok (tt, s)
+      → read is ≡ Ok (a, p) → operator_at end p ≡ Ok (op, q) → read q ≡ Ok (b, r) → terminal_at end T.Close r ≡ Ok (tt, s)
       → pair_at end read is ≡ Ok (binary a op b, s)
   unfolding pair_at
   pair_gives read is p q r s a b op h k l m = rw (h, k, l, m) refl
 
   open_gives : (room : ℕ) (span : Span) (js : List ValuedToken)
-      → expression_at end (suc room) (token (M.Terminal W.Open) span ∷ js) ≡ pair_at end (expression_at end room) js
+      → expression_at end (suc room) (token (M.Terminal T.Open) span ∷ js) ≡ pair_at end (expression_at end room) js
   unfolding expression_at brackets_at next_at
   open_gives room span js = refl
 
   open_takes : (room : ℕ) (span : Span) (is js p q r rest : List ValuedToken) (a b : Expression Name) (op : Op)
-      → is ≡ token (M.Terminal W.Open) span ∷ js → expression_at end room js ≡ Ok (a, p) → operator_at end p ≡ Ok (op, q)
-      → expression_at end room q ≡ Ok (b, r) → terminal_at end W.Close r ≡ Ok (tt, rest)
+      → is ≡ token (M.Terminal T.Open) span ∷ js → expression_at end room js ≡ Ok (a, p) → operator_at end p ≡ Ok (op, q)
+      → expression_at end room q ≡ Ok (b, r) → terminal_at end T.Close r ≡ Ok (tt, rest)
       → expression_at end (suc room) is ≡ Ok (binary a op b, rest)
   open_takes room span is js p q r rest a b op first h k l m =
       ap (expression_at end (suc room)) first ∙ open_gives room span js ∙ pair_gives (expression_at end room) js p q r rest a b op h k l m
@@ -138,26 +138,26 @@ module _ (end : ℕ) where
   expression_takes room (number v) is rest d n = let r = number_in v d.0 is rest d.1 in (r.0, r.1, ap (expression_at end room) r.2)
   expression_takes room (named x) is rest d n =
       let r = name_in x is rest d in (r.2, r.3, ap (expression_at end room) r.5 ∙ ap (λ z. Ok (named z, r.2)) r.4)
-  expression_takes room me is rest d n = let r = terminal_in W.Me is rest d in (r.1, r.2, ap (expression_at end room) r.3)
-  expression_takes room count is rest d n = let r = terminal_in W.Count is rest d in (r.1, r.2, ap (expression_at end room) r.3)
+  expression_takes room me is rest d n = let r = terminal_in T.Me is rest d in (r.1, r.2, ap (expression_at end room) r.3)
+  expression_takes room count is rest d n = let r = terminal_in T.Count is rest d in (r.1, r.2, ap (expression_at end room) r.3)
   expression_takes zero (binary a op b) is rest d n = absurd (omega arith)
   expression_takes (suc room) (binary a op b) is rest d n =
-      let o = terminal_in W.Open is d.0 d.2 in
-      let p = expression_takes room a o.1 (a_terminal (W.Operator op) ∷ d.1) (subst (λ z. IsExpression z a (a_terminal (W.Operator op) ∷ d.1)) (sym o.2) d.3) (omega arith) in
+      let o = terminal_in T.Open is d.0 d.2 in
+      let p = expression_takes room a o.1 (a_terminal (T.Operator op) ∷ d.1) (subst (λ z. IsExpression z a (a_terminal (T.Operator op) ∷ d.1)) (sym o.2) d.3) (omega arith) in
       let q = operator_takes op p.0 d.1 p.1 in
-      let r = expression_takes room b q.0 (a_terminal W.Close ∷ rest) (subst (λ z. IsExpression z b (a_terminal W.Close ∷ rest)) (sym q.1) d.4) (omega arith) in
+      let r = expression_takes room b q.0 (a_terminal T.Close ∷ rest) (subst (λ z. IsExpression z b (a_terminal T.Close ∷ rest)) (sym q.1) d.4) (omega arith) in
       let s = close_takes r.0 rest r.1 in
       (s.0, s.1, open_takes room o.0 is o.1 p.0 q.0 r.0 s.0 a b op o.3 p.2 q.2 r.2 s.2)
 
   last_gives : (room : ℕ) (is p q : List ValuedToken) (e : Expression Name)
-      → expression_at end room is ≡ Ok (e, p) → terminal_at end W.Semicolon p ≡ Ok (tt, q) → last_at end room is ≡ Ok (e, q)
+      → expression_at end room is ≡ Ok (e, p) → terminal_at end T.Semicolon p ≡ Ok (tt, q) → last_at end room is ≡ Ok (e, q)
   unfolding last_at
   last_gives room is p q e h k = rw (h, k) refl
 
   last_takes : (room : ℕ) (e : Expression Name) (is : List ValuedToken) (rest : List Lexeme)
-      → IsExpression (says is) e (a_terminal W.Semicolon ∷ rest) → expression_nesting e ≤ room → Takes (last_at end room is) e rest
+      → IsExpression (says is) e (a_terminal T.Semicolon ∷ rest) → expression_nesting e ≤ room → Takes (last_at end room is) e rest
   last_takes room e is rest d n =
-      let p = expression_takes room e is (a_terminal W.Semicolon ∷ rest) d n in
+      let p = expression_takes room e is (a_terminal T.Semicolon ∷ rest) d n in
       let q = semicolon_takes p.0 rest p.1 in
       (q.0, q.1, last_gives room is p.0 q.0 e p.2 q.2)
 
@@ -172,20 +172,20 @@ module _ (end : ℕ) where
   unfolding right_at next_at
   plain_right room x (number v) is rest d = let r = number_in v d.0 is rest d.1 in subst (λ z. right_at end room x z ≡ plain_at end room x z) (sym r.2) refl
   plain_right room x (named y) is rest d = let r = name_in y is rest d in subst (λ z. right_at end room x z ≡ plain_at end room x z) (sym r.5) refl
-  plain_right room x me is rest d = let r = terminal_in W.Me is rest d in subst (λ z. right_at end room x z ≡ plain_at end room x z) (sym r.3) refl
-  plain_right room x count is rest d = let r = terminal_in W.Count is rest d in subst (λ z. right_at end room x z ≡ plain_at end room x z) (sym r.3) refl
-  plain_right room x (binary a op b) is rest d = let r = terminal_in W.Open is d.0 d.2 in subst (λ z. right_at end room x z ≡ plain_at end room x z) (sym r.3) refl
+  plain_right room x me is rest d = let r = terminal_in T.Me is rest d in subst (λ z. right_at end room x z ≡ plain_at end room x z) (sym r.3) refl
+  plain_right room x count is rest d = let r = terminal_in T.Count is rest d in subst (λ z. right_at end room x z ≡ plain_at end room x z) (sym r.3) refl
+  plain_right room x (binary a op b) is rest d = let r = terminal_in T.Open is d.0 d.2 in subst (λ z. right_at end room x z ≡ plain_at end room x z) (sym r.3) refl
 
   get_gives : (room : ℕ) (x r : Name) (is p q : List ValuedToken) (e : Expression Name)
       → name_at end is ≡ Ok (r, p) → last_at end room p ≡ Ok (e, q) → get_at end room x is ≡ Ok (get x r e, q)
   unfolding get_at
   get_gives room x r is p q e h k = rw (h, k) refl
 
-  scan_gives : (x : Name) (is p : List ValuedToken) → terminal_at end W.Semicolon is ≡ Ok (tt, p) → scan_at end x is ≡ Ok (scan x, p)
+  scan_gives : (x : Name) (is p : List ValuedToken) → terminal_at end T.Semicolon is ≡ Ok (tt, p) → scan_at end x is ≡ Ok (scan x, p)
   unfolding scan_at
   scan_gives x is p h = rw h refl
 
-  copy_gives : (x s : Name) (is p q : List ValuedToken) → name_at end is ≡ Ok (s, p) → terminal_at end W.Semicolon p ≡ Ok (tt, q) → copy_at end x is ≡ Ok (copy x s, q)
+  copy_gives : (x s : Name) (is p q : List ValuedToken) → name_at end is ≡ Ok (s, p) → terminal_at end T.Semicolon p ≡ Ok (tt, q) → copy_at end x is ≡ Ok (copy x s, q)
   unfolding copy_at
   copy_gives x s is p q h k = rw (h, k) refl
 
@@ -205,7 +205,7 @@ module _ (end : ℕ) where
   unfolding put_at
   put_gives room r is p q e h k = rw (h, k) refl
 
-  stamp_gives : (is p : List ValuedToken) → terminal_at end W.Semicolon is ≡ Ok (tt, p) → stamp_at end is ≡ Ok (stamp, p)
+  stamp_gives : (is p : List ValuedToken) → terminal_at end T.Semicolon is ≡ Ok (tt, p) → stamp_at end is ≡ Ok (stamp, p)
   unfolding stamp_at
   stamp_gives is p h = rw h refl
 
@@ -215,37 +215,37 @@ module _ (end : ℕ) where
 
   -- the right-hand side, by the terminal that it begins with
   right_terminal : (room : ℕ) (x : Name) (is : List ValuedToken) (span : Span) (js : List ValuedToken) →
-      (right_at end room x (token (M.Terminal W.Get) span ∷ js) ≡ get_at end room x js)
-      × (right_at end room x (token (M.Terminal W.Scan) span ∷ js) ≡ scan_at end x js)
-      × (right_at end room x (token (M.Terminal W.Copy) span ∷ js) ≡ copy_at end x js)
-      × (right_at end room x (token (M.Terminal W.Older) span ∷ js) ≡ older_at end room x js)
+      (right_at end room x (token (M.Terminal T.Get) span ∷ js) ≡ get_at end room x js)
+      × (right_at end room x (token (M.Terminal T.Scan) span ∷ js) ≡ scan_at end x js)
+      × (right_at end room x (token (M.Terminal T.Copy) span ∷ js) ≡ copy_at end x js)
+      × (right_at end room x (token (M.Terminal T.Older) span ∷ js) ≡ older_at end room x js)
   unfolding right_at next_at
   right_terminal room x is span js = (refl, refl, refl, refl)
 
   assignment_gives : (room : ℕ) (x : Name) (is p q : List ValuedToken) (s : Statement Name)
-      → terminal_at end W.Becomes is ≡ Ok (tt, p) → right_at end room x p ≡ Ok (s, q) → assignment_at end room x is ≡ Ok (s, q)
+      → terminal_at end T.Becomes is ≡ Ok (tt, p) → right_at end room x p ≡ Ok (s, q) → assignment_at end room x is ≡ Ok (s, q)
   unfolding assignment_at
   assignment_gives room x is p q s h k = rw (h, k) refl
 
   -- a statement that begins with a name
   named_statement : (room : ℕ) (x : Name) (s : Statement Name) (is : List ValuedToken) (t rest : List Lexeme)
-      → says is ≡ a_name x ∷ a_terminal W.Becomes ∷ t
+      → says is ≡ a_name x ∷ a_terminal T.Becomes ∷ t
       → ((js : List ValuedToken) → says js ≡ t → Takes (right_at end room x js) s rest)
       → Takes (statement_at end room is) s rest
   unfolding statement_at statement_with next_at
   named_statement room x s is t rest h k =
-      let n = name_in x is (a_terminal W.Becomes ∷ t) h in
+      let n = name_in x is (a_terminal T.Becomes ∷ t) h in
       let b = becomes_takes n.2 t n.3 in
       let r = k b.0 b.1 in
       (r.0, r.1, ap (statement_at end room) n.5 ∙ ap (λ z. assignment_at end room z n.2) n.4 ∙ assignment_gives room x n.2 b.0 r.0 s b.2 r.2)
 
   -- a statement by the terminal that it begins with
   statement_terminal : (room : ℕ) (span : Span) (js : List ValuedToken) →
-      (statement_at end room (token (M.Terminal W.Put) span ∷ js) ≡ put_at end room js)
-      × (statement_at end room (token (M.Terminal W.Stamp) span ∷ js) ≡ stamp_at end js)
-      × (statement_at end room (token (M.Terminal W.Out) span ∷ js) ≡ out_at end room js)
-      × (statement_at end room (token (M.Terminal W.If) span ∷ js) ≡ branch_at end (block_at end room) room js)
-      × (statement_at end room (token (M.Terminal W.While) span ∷ js) ≡ repeat_at end (block_at end room) room js)
+      (statement_at end room (token (M.Terminal T.Put) span ∷ js) ≡ put_at end room js)
+      × (statement_at end room (token (M.Terminal T.Stamp) span ∷ js) ≡ stamp_at end js)
+      × (statement_at end room (token (M.Terminal T.Out) span ∷ js) ≡ out_at end room js)
+      × (statement_at end room (token (M.Terminal T.If) span ∷ js) ≡ branch_at end (block_at end room) room js)
+      × (statement_at end room (token (M.Terminal T.While) span ∷ js) ≡ repeat_at end (block_at end room) room js)
   unfolding statement_at statement_with next_at
   statement_terminal room span js = (refl, refl, refl, refl, refl)
 
@@ -253,8 +253,8 @@ module _ (end : ℕ) where
   not_ended : (room : ℕ) (ending : Ending) (m : Meaning) (span : Span) (js : List ValuedToken) (x : Statement Name × List ValuedToken)
       → statement_at end room (token m span ∷ js) ≡ Ok x → ends ending m ≡ false
   unfolding statement_at statement_with next_at
-  not_ended room N.Program (M.Terminal W.End) span js x h = absurd (cc)
-  not_ended room N.Braces (M.Terminal W.CloseBrace) span js x h = absurd (cc)
+  not_ended room N.Program (M.Terminal T.End) span js x h = absurd (cc)
+  not_ended room N.Braces (M.Terminal T.CloseBrace) span js x h = absurd (cc)
   not_ended room ending m span js x h = refl
 
   none_left : (room : ℕ) (x : Statement Name × List ValuedToken) → statement_at end room [] ≡ Ok x → ⊥
@@ -273,8 +273,8 @@ module _ (end : ℕ) where
       ∙ ap (λ z. z >>= λ c. Ok (cons s c.0, c.1)) k
 
   abbrev ending_terminal : Ending → Terminal
-  ending_terminal N.Program = W.End
-  ending_terminal N.Braces = W.CloseBrace
+  ending_terminal N.Program = T.End
+  ending_terminal N.Braces = T.CloseBrace
 
   list_ends : (room : ℕ) (ending : Ending) (most : ℕ) (span : Span) (js : List ValuedToken)
       → statements_with end (statement_at end room) ending (suc most) (token (M.Terminal (ending_terminal ending)) span ∷ js) ≡ Ok (nil, js)
@@ -292,68 +292,68 @@ module _ (end : ℕ) where
     pub statement_takes : (room : ℕ) (s : Statement Name) (is : List ValuedToken) (rest : List Lexeme)
         → IsStatement (says is) s rest → statement_nesting s ≤ room → Takes (statement_at end room is) s rest
     statement_takes room (assign x e) is rest d n = named_statement room x (assign x e) is d.0 rest d.1 (λ js h.
-        let de : IsExpression (says js) e (a_terminal W.Semicolon ∷ rest) = subst (λ z. IsExpression z e (a_terminal W.Semicolon ∷ rest)) (sym h) d.2 in
+        let de : IsExpression (says js) e (a_terminal T.Semicolon ∷ rest) = subst (λ z. IsExpression z e (a_terminal T.Semicolon ∷ rest)) (sym h) d.2 in
         let p = last_takes room e js rest de n in
-        (p.0, p.1, plain_right room x e js (a_terminal W.Semicolon ∷ rest) de ∙ plain_gives room x js p.0 e p.2))
-    statement_takes room (get x r e) is rest d n = named_statement room x (get x r e) is (a_terminal W.Get ∷ a_name r ∷ d.0) rest d.1 (λ js h.
-        let g = terminal_in W.Get js (a_name r ∷ d.0) h in
+        (p.0, p.1, plain_right room x e js (a_terminal T.Semicolon ∷ rest) de ∙ plain_gives room x js p.0 e p.2))
+    statement_takes room (get x r e) is rest d n = named_statement room x (get x r e) is (a_terminal T.Get ∷ a_name r ∷ d.0) rest d.1 (λ js h.
+        let g = terminal_in T.Get js (a_name r ∷ d.0) h in
         let m = name_takes r g.1 d.0 g.2 in
-        let p = last_takes room e m.0 rest (subst (λ z. IsExpression z e (a_terminal W.Semicolon ∷ rest)) (sym m.1) d.2) n in
-        (p.0, p.1, from_first (right_at end room x) js (token (M.Terminal W.Get) g.0) g.1 (get_at end room x g.1) (Ok (get x r e, p.0)) g.3 (right_terminal room x js g.0 g.1).0 (get_gives room x r g.1 m.0 p.0 e m.2 p.2)))
+        let p = last_takes room e m.0 rest (subst (λ z. IsExpression z e (a_terminal T.Semicolon ∷ rest)) (sym m.1) d.2) n in
+        (p.0, p.1, from_first (right_at end room x) js (token (M.Terminal T.Get) g.0) g.1 (get_at end room x g.1) (Ok (get x r e, p.0)) g.3 (right_terminal room x js g.0 g.1).0 (get_gives room x r g.1 m.0 p.0 e m.2 p.2)))
     statement_takes room (put r e) is rest d n =
-        let g = terminal_in W.Put is (a_name r ∷ d.0) d.1 in
+        let g = terminal_in T.Put is (a_name r ∷ d.0) d.1 in
         let m = name_takes r g.1 d.0 g.2 in
-        let p = last_takes room e m.0 rest (subst (λ z. IsExpression z e (a_terminal W.Semicolon ∷ rest)) (sym m.1) d.2) n in
-        (p.0, p.1, from_first (statement_at end room) is (token (M.Terminal W.Put) g.0) g.1 (put_at end room g.1) (Ok (put r e, p.0)) g.3 (statement_terminal room g.0 g.1).0 (put_gives room r g.1 m.0 p.0 e m.2 p.2))
+        let p = last_takes room e m.0 rest (subst (λ z. IsExpression z e (a_terminal T.Semicolon ∷ rest)) (sym m.1) d.2) n in
+        (p.0, p.1, from_first (statement_at end room) is (token (M.Terminal T.Put) g.0) g.1 (put_at end room g.1) (Ok (put r e, p.0)) g.3 (statement_terminal room g.0 g.1).0 (put_gives room r g.1 m.0 p.0 e m.2 p.2))
     statement_takes room stamp is rest d n =
-        let g = terminal_in W.Stamp is (a_terminal W.Semicolon ∷ rest) d in
+        let g = terminal_in T.Stamp is (a_terminal T.Semicolon ∷ rest) d in
         let p = semicolon_takes g.1 rest g.2 in
-        (p.0, p.1, from_first (statement_at end room) is (token (M.Terminal W.Stamp) g.0) g.1 (stamp_at end g.1) (Ok (stamp, p.0)) g.3 (statement_terminal room g.0 g.1).1 (stamp_gives g.1 p.0 p.2))
-    statement_takes room (scan s) is rest d n = named_statement room s (scan s) is (a_terminal W.Scan ∷ a_terminal W.Semicolon ∷ rest) rest d (λ js h.
-        let g = terminal_in W.Scan js (a_terminal W.Semicolon ∷ rest) h in
+        (p.0, p.1, from_first (statement_at end room) is (token (M.Terminal T.Stamp) g.0) g.1 (stamp_at end g.1) (Ok (stamp, p.0)) g.3 (statement_terminal room g.0 g.1).1 (stamp_gives g.1 p.0 p.2))
+    statement_takes room (scan s) is rest d n = named_statement room s (scan s) is (a_terminal T.Scan ∷ a_terminal T.Semicolon ∷ rest) rest d (λ js h.
+        let g = terminal_in T.Scan js (a_terminal T.Semicolon ∷ rest) h in
         let p = semicolon_takes g.1 rest g.2 in
-        (p.0, p.1, from_first (right_at end room s) js (token (M.Terminal W.Scan) g.0) g.1 (scan_at end s g.1) (Ok (scan s, p.0)) g.3 (right_terminal room s js g.0 g.1).1 (scan_gives s g.1 p.0 p.2)))
-    statement_takes room (copy t s) is rest d n = named_statement room t (copy t s) is (a_terminal W.Copy ∷ a_name s ∷ a_terminal W.Semicolon ∷ rest) rest d (λ js h.
-        let g = terminal_in W.Copy js (a_name s ∷ a_terminal W.Semicolon ∷ rest) h in
-        let m = name_takes s g.1 (a_terminal W.Semicolon ∷ rest) g.2 in
+        (p.0, p.1, from_first (right_at end room s) js (token (M.Terminal T.Scan) g.0) g.1 (scan_at end s g.1) (Ok (scan s, p.0)) g.3 (right_terminal room s js g.0 g.1).1 (scan_gives s g.1 p.0 p.2)))
+    statement_takes room (copy t s) is rest d n = named_statement room t (copy t s) is (a_terminal T.Copy ∷ a_name s ∷ a_terminal T.Semicolon ∷ rest) rest d (λ js h.
+        let g = terminal_in T.Copy js (a_name s ∷ a_terminal T.Semicolon ∷ rest) h in
+        let m = name_takes s g.1 (a_terminal T.Semicolon ∷ rest) g.2 in
         let p = semicolon_takes m.0 rest m.1 in
-        (p.0, p.1, from_first (right_at end room t) js (token (M.Terminal W.Copy) g.0) g.1 (copy_at end t g.1) (Ok (copy t s, p.0)) g.3 (right_terminal room t js g.0 g.1).2 (copy_gives t s g.1 m.0 p.0 m.2 p.2)))
-    statement_takes room (older x s a b) is rest d n = named_statement room x (older x s a b) is (a_terminal W.Older ∷ a_name s ∷ d.0) rest d.2 (λ js h.
-        let g = terminal_in W.Older js (a_name s ∷ d.0) h in
+        (p.0, p.1, from_first (right_at end room t) js (token (M.Terminal T.Copy) g.0) g.1 (copy_at end t g.1) (Ok (copy t s, p.0)) g.3 (right_terminal room t js g.0 g.1).2 (copy_gives t s g.1 m.0 p.0 m.2 p.2)))
+    statement_takes room (older x s a b) is rest d n = named_statement room x (older x s a b) is (a_terminal T.Older ∷ a_name s ∷ d.0) rest d.2 (λ js h.
+        let g = terminal_in T.Older js (a_name s ∷ d.0) h in
         let m = name_takes s g.1 d.0 g.2 in
         let p = expression_takes room a m.0 d.1 (subst (λ z. IsExpression z a d.1) (sym m.1) d.3) (omega arith) in
-        let q = last_takes room b p.0 rest (subst (λ z. IsExpression z b (a_terminal W.Semicolon ∷ rest)) (sym p.1) d.4) (omega arith) in
-        (q.0, q.1, from_first (right_at end room x) js (token (M.Terminal W.Older) g.0) g.1 (older_at end room x g.1) (Ok (older x s a b, q.0)) g.3 (right_terminal room x js g.0 g.1).3 (older_gives room x s g.1 m.0 p.0 q.0 a b m.2 p.2 q.2)))
+        let q = last_takes room b p.0 rest (subst (λ z. IsExpression z b (a_terminal T.Semicolon ∷ rest)) (sym p.1) d.4) (omega arith) in
+        (q.0, q.1, from_first (right_at end room x) js (token (M.Terminal T.Older) g.0) g.1 (older_at end room x g.1) (Ok (older x s a b, q.0)) g.3 (right_terminal room x js g.0 g.1).3 (older_gives room x s g.1 m.0 p.0 q.0 a b m.2 p.2 q.2)))
     statement_takes room (out e) is rest d n =
-        let g = terminal_in W.Out is d.0 d.1 in
-        let p = last_takes room e g.1 rest (subst (λ z. IsExpression z e (a_terminal W.Semicolon ∷ rest)) (sym g.2) d.2) n in
-        (p.0, p.1, from_first (statement_at end room) is (token (M.Terminal W.Out) g.0) g.1 (out_at end room g.1) (Ok (out e, p.0)) g.3 (statement_terminal room g.0 g.1).2 (out_gives room g.1 p.0 e p.2))
+        let g = terminal_in T.Out is d.0 d.1 in
+        let p = last_takes room e g.1 rest (subst (λ z. IsExpression z e (a_terminal T.Semicolon ∷ rest)) (sym g.2) d.2) n in
+        (p.0, p.1, from_first (statement_at end room) is (token (M.Terminal T.Out) g.0) g.1 (out_at end room g.1) (Ok (out e, p.0)) g.3 (statement_terminal room g.0 g.1).2 (out_gives room g.1 p.0 e p.2))
     statement_takes zero (branch e a b) is rest d n = absurd (omega arith)
     statement_takes (suc room) (branch e a b) is rest d n =
-        let g = terminal_in W.If is d.0 d.3 in
-        let p = expression_takes (suc room) e g.1 (a_terminal W.OpenBrace ∷ d.1) (subst (λ z. IsExpression z e (a_terminal W.OpenBrace ∷ d.1)) (sym g.2) d.4) (omega arith) in
+        let g = terminal_in T.If is d.0 d.3 in
+        let p = expression_takes (suc room) e g.1 (a_terminal T.OpenBrace ∷ d.1) (subst (λ z. IsExpression z e (a_terminal T.OpenBrace ∷ d.1)) (sym g.2) d.4) (omega arith) in
         let o = brace_takes room p.0 d.1 p.1 in
-        let q = list_takes room N.Braces a (suc (length o.0)) o.0 (a_terminal W.Else ∷ a_terminal W.OpenBrace ∷ d.2)
-        (subst (λ z. IsBlock W.CloseBrace z a (a_terminal W.Else ∷ a_terminal W.OpenBrace ∷ d.2)) (sym o.1) d.5) (omega arith) (omega arith) in
-        let f = else_takes q.0 (a_terminal W.OpenBrace ∷ d.2) q.1 in
+        let q = list_takes room N.Braces a (suc (length o.0)) o.0 (a_terminal T.Else ∷ a_terminal T.OpenBrace ∷ d.2)
+        (subst (λ z. IsBlock T.CloseBrace z a (a_terminal T.Else ∷ a_terminal T.OpenBrace ∷ d.2)) (sym o.1) d.5) (omega arith) (omega arith) in
+        let f = else_takes q.0 (a_terminal T.OpenBrace ∷ d.2) q.1 in
         let u = brace_takes room f.0 d.2 f.1 in
-        let v = list_takes room N.Braces b (suc (length u.0)) u.0 rest (subst (λ z. IsBlock W.CloseBrace z b rest) (sym u.1) d.6) (omega arith) (omega arith) in (
+        let v = list_takes room N.Braces b (suc (length u.0)) u.0 rest (subst (λ z. IsBlock T.CloseBrace z b rest) (sym u.1) d.6) (omega arith) (omega arith) in (
           v.0,
           v.1,
-          from_first (statement_at end (suc room)) is (token (M.Terminal W.If) g.0) g.1 (branch_at end (block_at end (suc room)) (suc room) g.1) (Ok (branch e a b, v.0)) g.3
+          from_first (statement_at end (suc room)) is (token (M.Terminal T.If) g.0) g.1 (branch_at end (block_at end (suc room)) (suc room) g.1) (Ok (branch e a b, v.0)) g.3
               (statement_terminal (suc room) g.0 g.1).3
               (branch_gives end (block_at end (suc room)) (suc room) g.1 p.0 q.0 f.0 v.0 e a b p.2 (block_gives room p.0 o.0 q.0 a o.2 q.2) f.2
               (block_gives room f.0 u.0 v.0 b u.2 v.2)),
         )
     statement_takes zero (repeat e a) is rest d n = absurd (omega arith)
     statement_takes (suc room) (repeat e a) is rest d n =
-        let g = terminal_in W.While is d.0 d.2 in
-        let p = expression_takes (suc room) e g.1 (a_terminal W.OpenBrace ∷ d.1) (subst (λ z. IsExpression z e (a_terminal W.OpenBrace ∷ d.1)) (sym g.2) d.3) (omega arith) in
+        let g = terminal_in T.While is d.0 d.2 in
+        let p = expression_takes (suc room) e g.1 (a_terminal T.OpenBrace ∷ d.1) (subst (λ z. IsExpression z e (a_terminal T.OpenBrace ∷ d.1)) (sym g.2) d.3) (omega arith) in
         let o = brace_takes room p.0 d.1 p.1 in
-        let q = list_takes room N.Braces a (suc (length o.0)) o.0 rest (subst (λ z. IsBlock W.CloseBrace z a rest) (sym o.1) d.4) (omega arith) (omega arith) in (
+        let q = list_takes room N.Braces a (suc (length o.0)) o.0 rest (subst (λ z. IsBlock T.CloseBrace z a rest) (sym o.1) d.4) (omega arith) (omega arith) in (
           q.0,
           q.1,
-          from_first (statement_at end (suc room)) is (token (M.Terminal W.While) g.0) g.1 (repeat_at end (block_at end (suc room)) (suc room) g.1) (Ok (repeat e a, q.0)) g.3
+          from_first (statement_at end (suc room)) is (token (M.Terminal T.While) g.0) g.1 (repeat_at end (block_at end (suc room)) (suc room) g.1) (Ok (repeat e a, q.0)) g.3
               (statement_terminal (suc room) g.0 g.1).4
               (repeat_gives end (block_at end (suc room)) (suc room) g.1 p.0 q.0 e a p.2 (block_gives room p.0 o.0 q.0 a o.2 q.2)),
         )
@@ -373,29 +373,29 @@ module _ (end : ℕ) where
         (q.0, q.1, list_gives room ending most is p.0 q.0 s b p.2 q.2)
 
   names_last_gives : (l : Bor (List ℕ)) (s t : Span) (js : List ValuedToken)
-      → names_at end (token (M.Name l) s ∷ token (M.Terminal W.Semicolon) t ∷ js) ≡ Ok (record { letters = l.now; span = s } ∷ [], js)
+      → names_at end (token (M.Name l) s ∷ token (M.Terminal T.Semicolon) t ∷ js) ≡ Ok (record { letters = l.now; span = s } ∷ [], js)
   unfolding names_at
   names_last_gives l s t js = refl
 
   names_more_gives : (l : Bor (List ℕ)) (s t : Span) (js r : List ValuedToken) (xs : List Name) → names_at end js ≡ Ok (xs, r)
-      → names_at end (token (M.Name l) s ∷ token (M.Terminal W.Comma) t ∷ js) ≡ Ok (record { letters = l.now; span = s } ∷ xs, r)
+      → names_at end (token (M.Name l) s ∷ token (M.Terminal T.Comma) t ∷ js) ≡ Ok (record { letters = l.now; span = s } ∷ xs, r)
   unfolding names_at
   names_more_gives l s t js r xs h = ap (λ z. z >>= λ ys. Ok (record { letters = l.now; span = s } ∷ ys.0, ys.1)) h
 
   names_take : (x : Name) (xs : List Name) (is : List ValuedToken) (rest : List Lexeme)
-      → AreNames (says is) x xs (a_terminal W.Semicolon ∷ rest) → Takes (names_at end is) (x ∷ xs) rest
+      → AreNames (says is) x xs (a_terminal T.Semicolon ∷ rest) → Takes (names_at end is) (x ∷ xs) rest
   names_take x [] is rest d =
-      let n = name_in x is (a_terminal W.Semicolon ∷ rest) d in
-      let w = terminal_in W.Semicolon n.2 rest n.3 in (
+      let n = name_in x is (a_terminal T.Semicolon ∷ rest) d in
+      let w = terminal_in T.Semicolon n.2 rest n.3 in (
         w.1,
         w.2,
         ap (names_at end) (n.5 ∙ ap (λ z. token (M.Name n.0) n.1 ∷ z) w.3) ∙ names_last_gives n.0 n.1 w.0 w.1
             ∙ ap (λ z. Ok (z ∷ [], w.1)) n.4,
       )
   names_take x (y ∷ ys) is rest d =
-      let n = name_in x is (a_terminal W.Comma ∷ d.0) d.1 in
-      let w = terminal_in W.Comma n.2 d.0 n.3 in
-      let r = names_take y ys w.1 rest (subst (λ z. AreNames z y ys (a_terminal W.Semicolon ∷ rest)) (sym w.2) d.2) in (
+      let n = name_in x is (a_terminal T.Comma ∷ d.0) d.1 in
+      let w = terminal_in T.Comma n.2 d.0 n.3 in
+      let r = names_take y ys w.1 rest (subst (λ z. AreNames z y ys (a_terminal T.Semicolon ∷ rest)) (sym w.2) d.2) in (
         r.0,
         r.1,
         ap (names_at end) (n.5 ∙ ap (λ z. token (M.Name n.0) n.1 ∷ z) w.3)
@@ -403,9 +403,9 @@ module _ (end : ℕ) where
       )
 
   abbrev terminal_of_section : Section → Terminal
-  terminal_of_section C.Variables = W.Var
-  terminal_of_section C.Scans = W.Scan
-  terminal_of_section C.Registers = W.Reg
+  terminal_of_section C.Variables = T.Var
+  terminal_of_section C.Scans = T.Scan
+  terminal_of_section C.Registers = T.Reg
 
   -- what begins with a terminal that begins no such section
   abbrev IsLater : Section → List Lexeme → Type 0
@@ -430,7 +430,7 @@ module _ (end : ℕ) where
       (is, d, ap (section_at end section) w.3 ∙ section_skips section l.0 w.0 w.1 l.3 ∙ ap (λ z. Ok ([], z)) (sym w.3))
   section_takes section (x ∷ xs) is rest d l =
       let w = terminal_in (terminal_of_section section) is d.0 d.1 in
-      let n = names_take x xs w.1 rest (subst (λ z. AreNames z x xs (a_terminal W.Semicolon ∷ rest)) (sym w.2) d.2) in
+      let n = names_take x xs w.1 rest (subst (λ z. AreNames z x xs (a_terminal T.Semicolon ∷ rest)) (sym w.2) d.2) in
       (n.0, n.1, ap (section_at end section) w.3 ∙ section_names section w.0 w.1 ∙ n.2)
 
   later_than : (section : Section) (w : Terminal) (ts : List Lexeme) (xs : List Name) (rest : List Lexeme)
@@ -439,13 +439,13 @@ module _ (end : ℕ) where
   later_than section w ts (x ∷ xs) rest d b l = (w, d.0, d.1, b)
 
   body_gives : (room : ℕ) (is p q : List ValuedToken) (b : Block Name)
-      → terminal_at end W.Begin is ≡ Ok (tt, p) → statements_with end (statement_at end room) N.Program (suc (length p)) p ≡ Ok (b, q)
+      → terminal_at end T.Begin is ≡ Ok (tt, p) → statements_with end (statement_at end room) N.Program (suc (length p)) p ≡ Ok (b, q)
       → body_at end room is ≡ Ok (b, q)
   unfolding body_at statements_at
   body_gives room is p q b h k = rw (h, k) refl
 
   whole_gives : (room : ℕ) (is i1 i2 i3 i4 i5 i6 i7 : List ValuedToken) (p : WholeProgram Name)
-      → terminal_at end W.Processes is ≡ Ok (tt, i1) → number_at end i1 ≡ Ok ((p.processes, p.span), i2) → terminal_at end W.Semicolon i2 ≡ Ok (tt, i3)
+      → terminal_at end T.Processes is ≡ Ok (tt, i1) → number_at end i1 ≡ Ok ((p.processes, p.span), i2) → terminal_at end T.Semicolon i2 ≡ Ok (tt, i3)
       → section_at end C.Variables i3 ≡ Ok (p.variables, i4) → section_at end C.Scans i4 ≡ Ok (p.scans, i5)
       → section_at end C.Registers i5 ≡ Ok (p.registers, i6) → body_at end room i6 ≡ Ok (p.body, i7)
       → whole_at end room is ≡ Ok (p, i7)
@@ -459,20 +459,20 @@ module _ (end : ℕ) where
 
   pub program_takes : (room : ℕ) (p : WholeProgram Name) (is : List ValuedToken) → Derives (says is) p → nesting p ≤ room → program_at end room is ≡ Ok p
   program_takes room p is d n =
-      let i1 = processes_takes is (a_number p.processes p.span ∷ a_terminal W.Semicolon ∷ d.0) d.4 in
-      let i2 = number_takes p.processes p.span i1.0 (a_terminal W.Semicolon ∷ d.0) i1.1 in
+      let i1 = processes_takes is (a_number p.processes p.span ∷ a_terminal T.Semicolon ∷ d.0) d.4 in
+      let i2 = number_takes p.processes p.span i1.0 (a_terminal T.Semicolon ∷ d.0) i1.1 in
       let i3 = semicolon_takes i2.0 d.0 i2.1 in
-      let lr : IsLater C.Registers (a_terminal W.Begin ∷ d.3) = (W.Begin, d.3, refl, refl) in
-      let ls : IsLater C.Scans (a_terminal W.Begin ∷ d.3) = (W.Begin, d.3, refl, refl) in
-      let lv : IsLater C.Variables (a_terminal W.Begin ∷ d.3) = (W.Begin, d.3, refl, refl) in
-      let ls2 : IsLater C.Scans d.2 = later_than C.Scans W.Reg d.2 p.registers (a_terminal W.Begin ∷ d.3) d.7 refl ls in
-      let lv2 : IsLater C.Variables d.2 = later_than C.Variables W.Reg d.2 p.registers (a_terminal W.Begin ∷ d.3) d.7 refl lv in
-      let lv3 : IsLater C.Variables d.1 = later_than C.Variables W.Scan d.1 p.scans d.2 d.6 refl lv2 in
-      let i4 = section_takes C.Variables p.variables i3.0 d.1 (subst (λ z. IsSection W.Var z p.variables d.1) (sym i3.1) d.5) lv3 in
-      let i5 = section_takes C.Scans p.scans i4.0 d.2 (subst (λ z. IsSection W.Scan z p.scans d.2) (sym i4.1) d.6) ls2 in
-      let i6 = section_takes C.Registers p.registers i5.0 (a_terminal W.Begin ∷ d.3)
-      (subst (λ z. IsSection W.Reg z p.registers (a_terminal W.Begin ∷ d.3)) (sym i5.1) d.7) lr in
+      let lr : IsLater C.Registers (a_terminal T.Begin ∷ d.3) = (T.Begin, d.3, refl, refl) in
+      let ls : IsLater C.Scans (a_terminal T.Begin ∷ d.3) = (T.Begin, d.3, refl, refl) in
+      let lv : IsLater C.Variables (a_terminal T.Begin ∷ d.3) = (T.Begin, d.3, refl, refl) in
+      let ls2 : IsLater C.Scans d.2 = later_than C.Scans T.Reg d.2 p.registers (a_terminal T.Begin ∷ d.3) d.7 refl ls in
+      let lv2 : IsLater C.Variables d.2 = later_than C.Variables T.Reg d.2 p.registers (a_terminal T.Begin ∷ d.3) d.7 refl lv in
+      let lv3 : IsLater C.Variables d.1 = later_than C.Variables T.Scan d.1 p.scans d.2 d.6 refl lv2 in
+      let i4 = section_takes C.Variables p.variables i3.0 d.1 (subst (λ z. IsSection T.Var z p.variables d.1) (sym i3.1) d.5) lv3 in
+      let i5 = section_takes C.Scans p.scans i4.0 d.2 (subst (λ z. IsSection T.Scan z p.scans d.2) (sym i4.1) d.6) ls2 in
+      let i6 = section_takes C.Registers p.registers i5.0 (a_terminal T.Begin ∷ d.3)
+      (subst (λ z. IsSection T.Reg z p.registers (a_terminal T.Begin ∷ d.3)) (sym i5.1) d.7) lr in
       let i7 = begin_takes i6.0 d.3 i6.1 in
-      let i8 = list_takes room N.Program p.body (suc (length i7.0)) i7.0 [] (subst (λ z. IsBlock W.End z p.body []) (sym i7.1) d.8) n (omega arith) in
+      let i8 = list_takes room N.Program p.body (suc (length i7.0)) i7.0 [] (subst (λ z. IsBlock T.End z p.body []) (sym i7.1) d.8) n (omega arith) in
       finishes room is i8.0 p (whole_gives room is i1.0 i2.0 i3.0 i4.0 i5.0 i6.0 i8.0 p i1.2 i2.2 i3.2 i4.2 i5.2 i6.2
       (body_gives room i6.0 i7.0 i8.0 p.body i7.2 i8.2)) i8.1

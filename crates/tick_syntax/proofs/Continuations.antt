@@ -7,7 +7,7 @@ use Rattle.tick_syntax.specs.declared.valued_token.ValuedToken.{ValuedToken}
 use Rattle.tick_syntax.specs.declared.valued_token.Ending.TheVariants as N
 use Rattle.tick_syntax.specs.declared.valued_token.Meaning.TheVariants as M
 use Rattle.machine_core.specs.declared.operator.Op.TheVariants as O
-use Rattle.tick_syntax.specs.declared.terminals.Terminal.TheVariants as W
+use Rattle.tick_syntax.specs.declared.terminals.Terminal.TheVariants as T
 use Rattle.tick_syntax.specs.Lexeme.{Lexeme, a_name, a_number, a_terminal, nothing}
 use Rattle.tick_syntax.specs.Plain.{Name, WholeProgram}
 use Rattle.tick_syntax.specs.Grammar.{Derives}
@@ -24,81 +24,81 @@ Opens s x None = Unit {0}
 Opens s x (Some new) = (st : List Symbol) → opened (new ++ st) ≡ open_by x (opened (s ∷ st))
 
 opens : (s : Symbol) (x : Lexeme) → Opens s x (step s x)
-opens s_program (a_terminal W.Processes) = λ st. refl
+opens s_program (a_terminal T.Processes) = λ st. refl
 opens s_program x = tt
 opens s_number (a_number v t) = λ st. refl
 opens s_number x = tt
-opens s_semicolon (a_terminal W.Semicolon) = λ st. refl
+opens s_semicolon (a_terminal T.Semicolon) = λ st. refl
 opens s_semicolon x = tt
 opens s_names (a_name n) = λ st. refl
 opens s_names x = tt
-opens s_more (a_terminal W.Comma) = λ st. refl
-opens s_more (a_terminal W.Semicolon) = λ st. refl
+opens s_more (a_terminal T.Comma) = λ st. refl
+opens s_more (a_terminal T.Semicolon) = λ st. refl
 opens s_more x = tt
 opens s_name (a_name n) = λ st. refl
 opens s_name x = tt
-opens s_becomes (a_terminal W.Becomes) = λ st. refl
+opens s_becomes (a_terminal T.Becomes) = λ st. refl
 opens s_becomes x = tt
-opens s_else (a_terminal W.Else) = λ st. refl
+opens s_else (a_terminal T.Else) = λ st. refl
 opens s_else x = tt
-opens s_close (a_terminal W.Close) = λ st. omega arith
+opens s_close (a_terminal T.Close) = λ st. omega arith
 opens s_close x = tt
-opens s_operator (a_terminal (W.Operator op)) = λ st. refl
+opens s_operator (a_terminal (T.Operator op)) = λ st. refl
 opens s_operator x = tt
-opens s_block (a_terminal W.OpenBrace) = λ st. refl
+opens s_block (a_terminal T.OpenBrace) = λ st. refl
 opens s_block x = tt
-opens s_begin (a_terminal W.Begin) = λ st. refl
+opens s_begin (a_terminal T.Begin) = λ st. refl
 opens s_begin x = tt
-opens s_registers (a_terminal W.Reg) = λ st. refl
-opens s_registers (a_terminal W.Begin) = λ st. refl
+opens s_registers (a_terminal T.Reg) = λ st. refl
+opens s_registers (a_terminal T.Begin) = λ st. refl
 opens s_registers x = tt
-opens s_scans (a_terminal W.Scan) = λ st. refl
-opens s_scans (a_terminal W.Reg) = λ st. refl
-opens s_scans (a_terminal W.Begin) = λ st. refl
+opens s_scans (a_terminal T.Scan) = λ st. refl
+opens s_scans (a_terminal T.Reg) = λ st. refl
+opens s_scans (a_terminal T.Begin) = λ st. refl
 opens s_scans x = tt
-opens s_variables (a_terminal W.Var) = λ st. refl
-opens s_variables (a_terminal W.Scan) = λ st. refl
-opens s_variables (a_terminal W.Reg) = λ st. refl
-opens s_variables (a_terminal W.Begin) = λ st. refl
+opens s_variables (a_terminal T.Var) = λ st. refl
+opens s_variables (a_terminal T.Scan) = λ st. refl
+opens s_variables (a_terminal T.Reg) = λ st. refl
+opens s_variables (a_terminal T.Begin) = λ st. refl
 opens s_variables x = tt
 opens s_expression (a_number v t) = λ st. refl
 opens s_expression (a_name n) = λ st. refl
-opens s_expression (a_terminal W.Me) = λ st. refl
-opens s_expression (a_terminal W.Count) = λ st. refl
-opens s_expression (a_terminal W.Open) = λ st. refl
+opens s_expression (a_terminal T.Me) = λ st. refl
+opens s_expression (a_terminal T.Count) = λ st. refl
+opens s_expression (a_terminal T.Open) = λ st. refl
 opens s_expression x = tt
 opens s_right (a_number v t) = λ st. refl
 opens s_right (a_name n) = λ st. refl
-opens s_right (a_terminal W.Me) = λ st. refl
-opens s_right (a_terminal W.Count) = λ st. refl
-opens s_right (a_terminal W.Open) = λ st. refl
-opens s_right (a_terminal W.Get) = λ st. refl
-opens s_right (a_terminal W.Scan) = λ st. refl
-opens s_right (a_terminal W.Copy) = λ st. refl
-opens s_right (a_terminal W.Older) = λ st. refl
+opens s_right (a_terminal T.Me) = λ st. refl
+opens s_right (a_terminal T.Count) = λ st. refl
+opens s_right (a_terminal T.Open) = λ st. refl
+opens s_right (a_terminal T.Get) = λ st. refl
+opens s_right (a_terminal T.Scan) = λ st. refl
+opens s_right (a_terminal T.Copy) = λ st. refl
+opens s_right (a_terminal T.Older) = λ st. refl
 opens s_right x = tt
 opens s_statement (a_name n) = λ st. refl
-opens s_statement (a_terminal W.Put) = λ st. refl
-opens s_statement (a_terminal W.Stamp) = λ st. refl
-opens s_statement (a_terminal W.Out) = λ st. refl
-opens s_statement (a_terminal W.If) = λ st. refl
-opens s_statement (a_terminal W.While) = λ st. refl
+opens s_statement (a_terminal T.Put) = λ st. refl
+opens s_statement (a_terminal T.Stamp) = λ st. refl
+opens s_statement (a_terminal T.Out) = λ st. refl
+opens s_statement (a_terminal T.If) = λ st. refl
+opens s_statement (a_terminal T.While) = λ st. refl
 opens s_statement x = tt
 opens (s_until N.Program) (a_name n) = λ st. refl
-opens (s_until N.Program) (a_terminal W.Put) = λ st. refl
-opens (s_until N.Program) (a_terminal W.Stamp) = λ st. refl
-opens (s_until N.Program) (a_terminal W.Out) = λ st. refl
-opens (s_until N.Program) (a_terminal W.If) = λ st. refl
-opens (s_until N.Program) (a_terminal W.While) = λ st. refl
-opens (s_until N.Program) (a_terminal W.End) = λ st. refl
+opens (s_until N.Program) (a_terminal T.Put) = λ st. refl
+opens (s_until N.Program) (a_terminal T.Stamp) = λ st. refl
+opens (s_until N.Program) (a_terminal T.Out) = λ st. refl
+opens (s_until N.Program) (a_terminal T.If) = λ st. refl
+opens (s_until N.Program) (a_terminal T.While) = λ st. refl
+opens (s_until N.Program) (a_terminal T.End) = λ st. refl
 opens (s_until N.Program) x = tt
 opens (s_until N.Braces) (a_name n) = λ st. refl
-opens (s_until N.Braces) (a_terminal W.Put) = λ st. refl
-opens (s_until N.Braces) (a_terminal W.Stamp) = λ st. refl
-opens (s_until N.Braces) (a_terminal W.Out) = λ st. refl
-opens (s_until N.Braces) (a_terminal W.If) = λ st. refl
-opens (s_until N.Braces) (a_terminal W.While) = λ st. refl
-opens (s_until N.Braces) (a_terminal W.CloseBrace) = λ st. omega arith
+opens (s_until N.Braces) (a_terminal T.Put) = λ st. refl
+opens (s_until N.Braces) (a_terminal T.Stamp) = λ st. refl
+opens (s_until N.Braces) (a_terminal T.Out) = λ st. refl
+opens (s_until N.Braces) (a_terminal T.If) = λ st. refl
+opens (s_until N.Braces) (a_terminal T.While) = λ st. refl
+opens (s_until N.Braces) (a_terminal T.CloseBrace) = λ st. omega arith
 opens (s_until N.Braces) x = tt
 
 pub opens_to : (s : Symbol) (x : Lexeme) (new : List Symbol) → step s x ≡ Some new → (st : List Symbol)
@@ -106,51 +106,51 @@ pub opens_to : (s : Symbol) (x : Lexeme) (new : List Symbol) → step s x ≡ So
 opens_to s x new h = subst (Opens s x) h (opens s x)
 
 pub full_is : (limit : ℕ) (x : Lexeme) (depth : ℕ) → is_full limit x depth ≡ true → IsOpening x × (depth ≡ limit)
-full_is limit (a_terminal W.Open) depth h = (tt, eqb-true depth limit h)
-full_is limit (a_terminal W.OpenBrace) depth h = (tt, eqb-true depth limit h)
+full_is limit (a_terminal T.Open) depth h = (tt, eqb-true depth limit h)
+full_is limit (a_terminal T.OpenBrace) depth h = (tt, eqb-true depth limit h)
 full_is limit x depth h = absurd (cc)
 
 pub fits_by : (x : Lexeme) (depth : ℕ) → depth ≤ 64 → is_full 64 x depth ≡ false → open_by x depth ≤ 64
-fits_by (a_terminal W.Open) depth l h = let n : depth ≢ 64 = eqb-false depth 64 h in omega arith
-fits_by (a_terminal W.OpenBrace) depth l h = let n : depth ≢ 64 = eqb-false depth 64 h in omega arith
-fits_by (a_terminal W.Close) depth l h = omega arith
-fits_by (a_terminal W.CloseBrace) depth l h = omega arith
+fits_by (a_terminal T.Open) depth l h = let n : depth ≢ 64 = eqb-false depth 64 h in omega arith
+fits_by (a_terminal T.OpenBrace) depth l h = let n : depth ≢ 64 = eqb-false depth 64 h in omega arith
+fits_by (a_terminal T.Close) depth l h = omega arith
+fits_by (a_terminal T.CloseBrace) depth l h = omega arith
 fits_by x depth l h = l
 
 grows_by : (x : Lexeme) (depth : ℕ) → open_by x depth ≤ suc depth
-grows_by (a_terminal W.Open) depth = omega arith
-grows_by (a_terminal W.OpenBrace) depth = omega arith
-grows_by (a_terminal W.Close) depth = omega arith
-grows_by (a_terminal W.CloseBrace) depth = omega arith
+grows_by (a_terminal T.Open) depth = omega arith
+grows_by (a_terminal T.OpenBrace) depth = omega arith
+grows_by (a_terminal T.Close) depth = omega arith
+grows_by (a_terminal T.CloseBrace) depth = omega arith
 grows_by x depth = omega arith
 
 free_by : (limit : ℕ) (x : Lexeme) (depth : ℕ) → depth < limit → is_full limit x depth ≡ false
-free_by limit (a_terminal W.Open) depth l = let n : depth ≢ limit = omega arith in ne_eqb depth limit n
-free_by limit (a_terminal W.OpenBrace) depth l = let n : depth ≢ limit = omega arith in ne_eqb depth limit n
+free_by limit (a_terminal T.Open) depth l = let n : depth ≢ limit = omega arith in ne_eqb depth limit n
+free_by limit (a_terminal T.OpenBrace) depth l = let n : depth ≢ limit = omega arith in ne_eqb depth limit n
 free_by limit x depth l = refl
 
 -- a way to complete each symbol
 abbrev complete : Symbol → List Lexeme
-complete s_program = a_terminal W.Processes ∷ a_number 1 (record { start = 0; end = 0 }) ∷ a_terminal W.Semicolon ∷ a_terminal W.Begin ∷ a_terminal W.End ∷ []
+complete s_program = a_terminal T.Processes ∷ a_number 1 (record { start = 0; end = 0 }) ∷ a_terminal T.Semicolon ∷ a_terminal T.Begin ∷ a_terminal T.End ∷ []
 complete s_number = a_number 0 (record { start = 0; end = 0 }) ∷ []
-complete s_semicolon = a_terminal W.Semicolon ∷ []
-complete s_variables = a_terminal W.Begin ∷ a_terminal W.End ∷ []
-complete s_scans = a_terminal W.Begin ∷ a_terminal W.End ∷ []
-complete s_registers = a_terminal W.Begin ∷ a_terminal W.End ∷ []
-complete s_begin = a_terminal W.Begin ∷ a_terminal W.End ∷ []
-complete s_names = a_name (record { letters = 120 ∷ []; span = record { start = 0; end = 0 } }) ∷ a_terminal W.Semicolon ∷ []
-complete s_more = a_terminal W.Semicolon ∷ []
+complete s_semicolon = a_terminal T.Semicolon ∷ []
+complete s_variables = a_terminal T.Begin ∷ a_terminal T.End ∷ []
+complete s_scans = a_terminal T.Begin ∷ a_terminal T.End ∷ []
+complete s_registers = a_terminal T.Begin ∷ a_terminal T.End ∷ []
+complete s_begin = a_terminal T.Begin ∷ a_terminal T.End ∷ []
+complete s_names = a_name (record { letters = 120 ∷ []; span = record { start = 0; end = 0 } }) ∷ a_terminal T.Semicolon ∷ []
+complete s_more = a_terminal T.Semicolon ∷ []
 complete s_name = a_name (record { letters = 120 ∷ []; span = record { start = 0; end = 0 } }) ∷ []
-complete s_becomes = a_terminal W.Becomes ∷ []
-complete s_else = a_terminal W.Else ∷ []
-complete s_close = a_terminal W.Close ∷ []
-complete s_operator = a_terminal (W.Operator O.Add) ∷ []
-complete s_expression = a_terminal W.Me ∷ []
-complete s_right = a_terminal W.Me ∷ a_terminal W.Semicolon ∷ []
-complete s_block = a_terminal W.OpenBrace ∷ a_terminal W.CloseBrace ∷ []
-complete s_statement = a_terminal W.Stamp ∷ a_terminal W.Semicolon ∷ []
-complete (s_until N.Program) = a_terminal W.End ∷ []
-complete (s_until N.Braces) = a_terminal W.CloseBrace ∷ []
+complete s_becomes = a_terminal T.Becomes ∷ []
+complete s_else = a_terminal T.Else ∷ []
+complete s_close = a_terminal T.Close ∷ []
+complete s_operator = a_terminal (T.Operator O.Add) ∷ []
+complete s_expression = a_terminal T.Me ∷ []
+complete s_right = a_terminal T.Me ∷ a_terminal T.Semicolon ∷ []
+complete s_block = a_terminal T.OpenBrace ∷ a_terminal T.CloseBrace ∷ []
+complete s_statement = a_terminal T.Stamp ∷ a_terminal T.Semicolon ∷ []
+complete (s_until N.Program) = a_terminal T.End ∷ []
+complete (s_until N.Braces) = a_terminal T.CloseBrace ∷ []
 
 completes : (s : Symbol) (ts : List Lexeme) (st : List Symbol) → run (complete s ++ ts) (s ∷ st) ≡ run ts st
 completes s_program ts st = refl

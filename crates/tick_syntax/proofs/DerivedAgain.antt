@@ -6,7 +6,7 @@
 use Rattle.std.proofs.Common.{◌≡◌, List, [], ◌∷◌, ◌++◌, map, Option, Some, None, refl, sym, ap, ◌∙◌, subst, append_assoc}
 use Rattle.tick_syntax.specs.declared.valued_token.Ending.TheVariants as N
 use Rattle.tick_syntax.specs.declared.terminals.Terminal.{Terminal}
-use Rattle.tick_syntax.specs.declared.terminals.Terminal.TheVariants as W
+use Rattle.tick_syntax.specs.declared.terminals.Terminal.TheVariants as T
 use Rattle.tick_syntax.specs.Lexeme.{Lexeme, a_name, a_number, a_terminal, nothing}
 use Rattle.tick_syntax.specs.Grammar.{IsExpression, IsStatement, IsBlock, AreNames, IsSection, Derives}
 use Rattle.tick_syntax.specs.Plain.{Name, Expression, number, named, me, count, binary, map_expression, Statement, assign, get, put, stamp, scan, copy, older, out, branch, repeat, map_statement, Block, nil, cons, map_block, WholeProgram, without_spans}
@@ -24,8 +24,8 @@ expression_own (named x) rest = refl
 expression_own me rest = refl
 expression_own count rest = refl
 expression_own (binary a op b) rest = (
-  expression_tokens a ++ a_terminal (W.Operator op) ∷ (expression_tokens b ++ a_terminal W.Close ∷ rest),
-  expression_tokens b ++ a_terminal W.Close ∷ rest,
+  expression_tokens a ++ a_terminal (T.Operator op) ∷ (expression_tokens b ++ a_terminal T.Close ∷ rest),
+  expression_tokens b ++ a_terminal T.Close ∷ rest,
   simp (append_assoc),
   expression_own a _,
   expression_own b _,
@@ -33,27 +33,27 @@ expression_own (binary a op b) rest = (
 
 mutual
   statement_own : (s : Statement Name) (rest : List Lexeme) → IsStatement (statement_tokens s ++ rest) s rest
-  statement_own (assign x e) rest = (expression_tokens e ++ a_terminal W.Semicolon ∷ rest, simp (append_assoc), expression_own e _)
-  statement_own (get x r e) rest = (expression_tokens e ++ a_terminal W.Semicolon ∷ rest, simp (append_assoc), expression_own e _)
-  statement_own (put r e) rest = (expression_tokens e ++ a_terminal W.Semicolon ∷ rest, simp (append_assoc), expression_own e _)
+  statement_own (assign x e) rest = (expression_tokens e ++ a_terminal T.Semicolon ∷ rest, simp (append_assoc), expression_own e _)
+  statement_own (get x r e) rest = (expression_tokens e ++ a_terminal T.Semicolon ∷ rest, simp (append_assoc), expression_own e _)
+  statement_own (put r e) rest = (expression_tokens e ++ a_terminal T.Semicolon ∷ rest, simp (append_assoc), expression_own e _)
   statement_own stamp rest = refl
   statement_own (scan s) rest = refl
   statement_own (copy t s) rest = refl
   statement_own (older x s a b) rest = (
-    expression_tokens a ++ (expression_tokens b ++ a_terminal W.Semicolon ∷ rest),
-    expression_tokens b ++ a_terminal W.Semicolon ∷ rest,
+    expression_tokens a ++ (expression_tokens b ++ a_terminal T.Semicolon ∷ rest),
+    expression_tokens b ++ a_terminal T.Semicolon ∷ rest,
     simp (append_assoc),
     expression_own a _,
     expression_own b _,
   )
-  statement_own (out e) rest = (expression_tokens e ++ a_terminal W.Semicolon ∷ rest, simp (append_assoc), expression_own e _)
+  statement_own (out e) rest = (expression_tokens e ++ a_terminal T.Semicolon ∷ rest, simp (append_assoc), expression_own e _)
   statement_own (branch e a b) rest =
-      let other = block_tokens b ++ a_terminal W.CloseBrace ∷ rest in
-      let first = block_tokens a ++ a_terminal W.CloseBrace ∷ a_terminal W.Else ∷ a_terminal W.OpenBrace ∷ other in
-      (expression_tokens e ++ a_terminal W.OpenBrace ∷ first, first, other, simp (append_assoc), expression_own e _, block_own W.CloseBrace a _, block_own W.CloseBrace b _)
+      let other = block_tokens b ++ a_terminal T.CloseBrace ∷ rest in
+      let first = block_tokens a ++ a_terminal T.CloseBrace ∷ a_terminal T.Else ∷ a_terminal T.OpenBrace ∷ other in
+      (expression_tokens e ++ a_terminal T.OpenBrace ∷ first, first, other, simp (append_assoc), expression_own e _, block_own T.CloseBrace a _, block_own T.CloseBrace b _)
   statement_own (repeat e a) rest =
-      let body = block_tokens a ++ a_terminal W.CloseBrace ∷ rest in
-      (expression_tokens e ++ a_terminal W.OpenBrace ∷ body, body, simp (append_assoc), expression_own e _, block_own W.CloseBrace a _)
+      let body = block_tokens a ++ a_terminal T.CloseBrace ∷ rest in
+      (expression_tokens e ++ a_terminal T.OpenBrace ∷ body, body, simp (append_assoc), expression_own e _, block_own T.CloseBrace a _)
 
   block_own : (last : Terminal) (b : Block Name) (rest : List Lexeme) → IsBlock last (block_tokens b ++ a_terminal last ∷ rest) b rest
   block_own last nil rest = refl
@@ -67,10 +67,10 @@ names_own x (y ∷ ys) rest = (names_tokens y ys ++ rest, refl, names_own y ys r
 
 section_own : (terminal : Terminal) (xs : List Name) (rest : List Lexeme) → IsSection terminal (section_tokens terminal xs ++ rest) xs rest
 section_own terminal [] rest = refl
-section_own terminal (x ∷ xs) rest = (names_tokens x xs ++ a_terminal W.Semicolon ∷ rest, simp (append_assoc), names_own x xs _)
+section_own terminal (x ∷ xs) rest = (names_tokens x xs ++ a_terminal T.Semicolon ∷ rest, simp (append_assoc), names_own x xs _)
 
 derives_own : (p : WholeProgram Name) → Derives (program_tokens p) p
-derives_own p = (_, _, _, _, refl, section_own W.Var p.variables _, section_own W.Scan p.scans _, section_own W.Reg p.registers _, block_own W.End p.body [])
+derives_own p = (_, _, _, _, refl, section_own T.Var p.variables _, section_own T.Scan p.scans _, section_own T.Reg p.registers _, block_own T.End p.body [])
 
 -- Names changed twice are changed once by both.
 module _ {A B C : Type 0} (f : A → B) (g : B → C) where

@@ -4,7 +4,7 @@ use Rattle.std.specs.Fmt.{decimal}
 use Rattle.tick_syntax.specs.declared.span.Span.{Span}
 use Rattle.tick_syntax.specs.declared.token.Sort.TheVariants as K
 use Rattle.machine_core.specs.declared.operator.Op.TheVariants as O
-use Rattle.tick_syntax.specs.declared.terminals.Terminal.TheVariants as W
+use Rattle.tick_syntax.specs.declared.terminals.Terminal.TheVariants as T
 use Rattle.tick_syntax.specs.Lexeme.{Lexeme, a_name, a_number, a_terminal, terminal_of, lexemes}
 use Rattle.tick_syntax.specs.Plain.{Name, named, me, count, binary, out, repeat, nil, cons, WholeProgram}
 use Rattle.tick_syntax.specs.Grammar.{Derives}
@@ -14,8 +14,8 @@ use Rattle.tick_syntax.specs.Printed.{printed}
 abbrev span : ℕ → ℕ → Span
 span a b = record { start = a; end = b }
 
-terminals : (terminal_of (codes "processes") ≡ Some W.Processes) × (terminal_of (codes "n") ≡ Some W.Count)
-    × (terminal_of (codes "<=") ≡ Some (W.Operator O.AtMost)) × (terminal_of (codes "!") ≡ None)
+terminals : (terminal_of (codes "processes") ≡ Some T.Processes) × (terminal_of (codes "n") ≡ Some T.Count)
+    × (terminal_of (codes "<=") ≡ Some (T.Operator O.AtMost)) × (terminal_of (codes "!") ≡ None)
 unfolding terminal_of
 terminals = (refl, refl, refl, refl)
 
@@ -23,7 +23,7 @@ terminals = (refl, refl, refl, refl)
 line : lexemes (codes "x<=1 # y")
     (record { sort = K.Name; span = span 0 1 } ∷ record { sort = K.Sign; span = span 1 3 }
     ∷ record { sort = K.Num 1; span = span 3 4 } ∷ [])
-    ≡ a_name (record { letters = codes "x"; span = span 0 1 }) ∷ a_terminal (W.Operator O.AtMost)
+    ≡ a_name (record { letters = codes "x"; span = span 0 1 }) ∷ a_terminal (T.Operator O.AtMost)
     ∷ a_number 1 (span 3 4) ∷ []
 unfolding terminal_of
 line = refl
@@ -44,10 +44,10 @@ small = record {
 
 abbrev small_tokens : List Lexeme
 small_tokens =
-    a_terminal W.Processes ∷ a_number 2 (span 10 11) ∷ a_terminal W.Semicolon
-    ∷ a_terminal W.Var ∷ a_name (x 17 18) ∷ a_terminal W.Semicolon ∷ a_terminal W.Begin
-    ∷ a_terminal W.While ∷ a_terminal W.Open ∷ a_name (x 33 34) ∷ a_terminal (W.Operator O.Less) ∷ a_terminal W.Count ∷ a_terminal W.Close
-    ∷ a_terminal W.OpenBrace ∷ a_terminal W.Out ∷ a_terminal W.Me ∷ a_terminal W.Semicolon ∷ a_terminal W.CloseBrace ∷ a_terminal W.End ∷ []
+    a_terminal T.Processes ∷ a_number 2 (span 10 11) ∷ a_terminal T.Semicolon
+    ∷ a_terminal T.Var ∷ a_name (x 17 18) ∷ a_terminal T.Semicolon ∷ a_terminal T.Begin
+    ∷ a_terminal T.While ∷ a_terminal T.Open ∷ a_name (x 33 34) ∷ a_terminal (T.Operator O.Less) ∷ a_terminal T.Count ∷ a_terminal T.Close
+    ∷ a_terminal T.OpenBrace ∷ a_terminal T.Out ∷ a_terminal T.Me ∷ a_terminal T.Semicolon ∷ a_terminal T.CloseBrace ∷ a_terminal T.End ∷ []
 
 small_derived : Derives small_tokens small
 small_derived = (

@@ -8,7 +8,7 @@ use Rattle.tick_syntax.specs.declared.valued_token.Ending.{Ending}
 use Rattle.tick_syntax.specs.declared.valued_token.Meaning.{Meaning}
 use Rattle.tick_syntax.specs.declared.valued_token.Meaning.TheVariants as M
 use Rattle.tick_syntax.specs.declared.terminals.Terminal.{Terminal}
-use Rattle.tick_syntax.specs.declared.terminals.Terminal.TheVariants as W
+use Rattle.tick_syntax.specs.declared.terminals.Terminal.TheVariants as T
 use Rattle.tick_syntax.specs.declared.tree.Stmt.{Stmt}
 use Rattle.tick_syntax.specs.Plain.{Name, Expression, Statement, branch, repeat, Block, nil, cons, onto}
 use Rattle.tick_syntax.specs.View.{statement_of, block_of}
@@ -160,7 +160,7 @@ module _ (end : ℕ) where
 
   pub names_last : (front : List Name) (is r : List ValuedToken) (n : Name) (whole : Reading (List Name)) (y : ValuedToken × List ValuedToken)
       → after_names front (names_at end is) ≡ whole → name_at end is ≡ Ok (n, r) → next_at end r ≡ Ok y
-      → y.0.meaning ≡ M.Terminal W.Semicolon → whole ≡ Ok (front ++ n ∷ [], y.1)
+      → y.0.meaning ≡ M.Terminal T.Semicolon → whole ≡ Ok (front ++ n ∷ [], y.1)
   names_last front is r n whole y inv h k s =
       sym inv ∙ ap (after_names front) (names_two is r n y h k ∙ ap (λ z. names_by end z y.0.span y.1 n (names_at end y.1)) s)
 
@@ -171,7 +171,7 @@ module _ (end : ℕ) where
 
   pub names_on : (front : List Name) (is r : List ValuedToken) (n : Name) (whole : Reading (List Name)) (y : ValuedToken × List ValuedToken)
       → after_names front (names_at end is) ≡ whole → name_at end is ≡ Ok (n, r) → next_at end r ≡ Ok y
-      → y.0.meaning ≡ M.Terminal W.Comma → after_names (front ++ n ∷ []) (names_at end y.1) ≡ whole
+      → y.0.meaning ≡ M.Terminal T.Comma → after_names (front ++ n ∷ []) (names_at end y.1) ≡ whole
   names_on front is r n whole y inv h k s =
       sym (after_more front n (names_at end y.1))
       ∙ sym (ap (after_names front) (names_two is r n y h k ∙ ap (λ z. names_by end z y.0.span y.1 n (names_at end y.1)) s)) ∙ inv
@@ -204,7 +204,7 @@ module _ (end : ℕ) where
       sym inv ∙ ap (after_block front) (statements_end room ending is y h t) ∙ ap (λ z. Ok (z, y.1)) (onto_nil front)
 
   pub branch_gives : (block : List ValuedToken → Reading (Block Name)) (room : ℕ) (is p q r s : List ValuedToken) (e : Expression Name) (a b : Block Name)
-      → expression_at end room is ≡ Ok (e, p) → block p ≡ Ok (a, q) → terminal_at end W.Else q ≡ Ok (tt, r) → block r ≡ Ok (b, s)
+      → expression_at end room is ≡ Ok (e, p) → block p ≡ Ok (a, q) → terminal_at end T.Else q ≡ Ok (tt, r) → block r ≡ Ok (b, s)
       → branch_at end block room is ≡ Ok (branch e a b, s)
   unfolding branch_at
   branch_gives block room is p q r s e a b h k l m = rw (h, k, l, m) refl

@@ -5,7 +5,7 @@ use Rattle.tick_syntax.specs.declared.span.Span.{Span}
 use Rattle.tick_syntax.specs.declared.fault.TextFault.{TextFault}
 use Rattle.tick_syntax.specs.declared.fault.TextFault.TheVariants as F
 use Rattle.tick_syntax.specs.declared.token.Token.{Token}
-use Rattle.tick_syntax.specs.declared.terminals.Terminal.TheVariants as W
+use Rattle.tick_syntax.specs.declared.terminals.Terminal.TheVariants as T
 use Rattle.tick_syntax.specs.Grammar.{Derives}
 use Rattle.tick_syntax.specs.Lexeme.{Lexeme, a_terminal, lexeme_of, lexemes}
 use Rattle.tick_syntax.specs.Nesting.{IsOpening, open_by, open_after, IsShallow}
@@ -46,8 +46,8 @@ program_goes_on ts p d = ([], tt, p, subst (λ z. Derives z p) (sym (append-nil 
 
 -- a bracket after 64 open ones is one too many
 not_shallow : (a b : List Lexeme) (x : Lexeme) (depth : ℕ) → open_after a depth ≡ 64 → IsOpening x → IsShallow (a ++ x ∷ b) depth → ⊥
-not_shallow [] b (a_terminal W.Open) depth full opening shallow = omega (arith, full, shallow.0)
-not_shallow [] b (a_terminal W.OpenBrace) depth full opening shallow = omega (arith, full, shallow.0)
+not_shallow [] b (a_terminal T.Open) depth full opening shallow = omega (arith, full, shallow.0)
+not_shallow [] b (a_terminal T.OpenBrace) depth full opening shallow = omega (arith, full, shallow.0)
 not_shallow [] b x depth full opening shallow = absurd opening
 not_shallow (y ∷ a) b x depth full opening shallow = not_shallow a b x (open_by y depth) full opening shallow.1
 

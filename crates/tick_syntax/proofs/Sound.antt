@@ -7,7 +7,7 @@ use Rattle.tick_syntax.specs.declared.fault.TextFault.TheVariants as F
 use Rattle.tick_syntax.specs.declared.valued_token.ValuedToken.{ValuedToken}
 use Rattle.tick_syntax.specs.declared.valued_token.Meaning.{Meaning}
 use Rattle.tick_syntax.specs.declared.valued_token.Meaning.TheVariants as M
-use Rattle.tick_syntax.specs.declared.terminals.Terminal.TheVariants as W
+use Rattle.tick_syntax.specs.declared.terminals.Terminal.TheVariants as T
 use Rattle.tick_syntax.specs.Lexeme.{Lexeme, a_name, a_terminal}
 use Rattle.tick_syntax.specs.Plain.{Name, Expression}
 use Rattle.tick_syntax.specs.Grammar.{IsExpression}
@@ -234,59 +234,59 @@ module _ (end limit : ℕ) where
   }
 
   semicolon_front : (room : ℕ) (m : Meaning) (span : Span) (rest : List ValuedToken)
-      → Reads (s_semicolon ∷ []) (λ v r. said_by m span ∷ says rest ≡ a_terminal W.Semicolon ∷ r) room
-      (record { meaning = m; span = span } ∷ rest) (terminal_by W.Semicolon m span rest)
-  semicolon_front room (M.Terminal W.Semicolon) span rest = accept _ _ room _ span rest tt refl (λ st. refl) refl
+      → Reads (s_semicolon ∷ []) (λ v r. said_by m span ∷ says rest ≡ a_terminal T.Semicolon ∷ r) room
+      (record { meaning = m; span = span } ∷ rest) (terminal_by T.Semicolon m span rest)
+  semicolon_front room (M.Terminal T.Semicolon) span rest = accept _ _ room _ span rest tt refl (λ st. refl) refl
   semicolon_front room m span rest = refuse _ _ room m span rest refl
 
   pub semicolon_reads : (room : ℕ) (is : List ValuedToken)
-      → Reads (s_semicolon ∷ []) (λ v r. says is ≡ a_terminal W.Semicolon ∷ r) room is (terminal_at end W.Semicolon is)
+      → Reads (s_semicolon ∷ []) (λ v r. says is ≡ a_terminal T.Semicolon ∷ r) room is (terminal_at end T.Semicolon is)
   unfolding terminal_at
-  semicolon_reads room is = by_next s_semicolon (λ ts v r. ts ≡ a_terminal W.Semicolon ∷ r) room (terminal_by W.Semicolon) (semicolon_front room) is
+  semicolon_reads room is = by_next s_semicolon (λ ts v r. ts ≡ a_terminal T.Semicolon ∷ r) room (terminal_by T.Semicolon) (semicolon_front room) is
 
   becomes_front : (room : ℕ) (m : Meaning) (span : Span) (rest : List ValuedToken)
-      → Reads (s_becomes ∷ []) (λ v r. said_by m span ∷ says rest ≡ a_terminal W.Becomes ∷ r) room
-      (record { meaning = m; span = span } ∷ rest) (terminal_by W.Becomes m span rest)
-  becomes_front room (M.Terminal W.Becomes) span rest = accept _ _ room _ span rest tt refl (λ st. refl) refl
+      → Reads (s_becomes ∷ []) (λ v r. said_by m span ∷ says rest ≡ a_terminal T.Becomes ∷ r) room
+      (record { meaning = m; span = span } ∷ rest) (terminal_by T.Becomes m span rest)
+  becomes_front room (M.Terminal T.Becomes) span rest = accept _ _ room _ span rest tt refl (λ st. refl) refl
   becomes_front room m span rest = refuse _ _ room m span rest refl
 
   pub becomes_reads : (room : ℕ) (is : List ValuedToken)
-      → Reads (s_becomes ∷ []) (λ v r. says is ≡ a_terminal W.Becomes ∷ r) room is (terminal_at end W.Becomes is)
+      → Reads (s_becomes ∷ []) (λ v r. says is ≡ a_terminal T.Becomes ∷ r) room is (terminal_at end T.Becomes is)
   unfolding terminal_at
-  becomes_reads room is = by_next s_becomes (λ ts v r. ts ≡ a_terminal W.Becomes ∷ r) room (terminal_by W.Becomes) (becomes_front room) is
+  becomes_reads room is = by_next s_becomes (λ ts v r. ts ≡ a_terminal T.Becomes ∷ r) room (terminal_by T.Becomes) (becomes_front room) is
 
   else_front : (room : ℕ) (m : Meaning) (span : Span) (rest : List ValuedToken)
-      → Reads (s_else ∷ []) (λ v r. said_by m span ∷ says rest ≡ a_terminal W.Else ∷ r) room
-      (record { meaning = m; span = span } ∷ rest) (terminal_by W.Else m span rest)
-  else_front room (M.Terminal W.Else) span rest = accept _ _ room _ span rest tt refl (λ st. refl) refl
+      → Reads (s_else ∷ []) (λ v r. said_by m span ∷ says rest ≡ a_terminal T.Else ∷ r) room
+      (record { meaning = m; span = span } ∷ rest) (terminal_by T.Else m span rest)
+  else_front room (M.Terminal T.Else) span rest = accept _ _ room _ span rest tt refl (λ st. refl) refl
   else_front room m span rest = refuse _ _ room m span rest refl
 
   pub else_reads : (room : ℕ) (is : List ValuedToken)
-      → Reads (s_else ∷ []) (λ v r. says is ≡ a_terminal W.Else ∷ r) room is (terminal_at end W.Else is)
+      → Reads (s_else ∷ []) (λ v r. says is ≡ a_terminal T.Else ∷ r) room is (terminal_at end T.Else is)
   unfolding terminal_at
-  else_reads room is = by_next s_else (λ ts v r. ts ≡ a_terminal W.Else ∷ r) room (terminal_by W.Else) (else_front room) is
+  else_reads room is = by_next s_else (λ ts v r. ts ≡ a_terminal T.Else ∷ r) room (terminal_by T.Else) (else_front room) is
 
   close_front : (room : ℕ) (m : Meaning) (span : Span) (rest : List ValuedToken)
-      → Reads (s_close ∷ []) (λ v r. said_by m span ∷ says rest ≡ a_terminal W.Close ∷ r) room
-      (record { meaning = m; span = span } ∷ rest) (terminal_by W.Close m span rest)
-  close_front room (M.Terminal W.Close) span rest = accept _ _ room _ span rest tt refl (λ st. refl) refl
+      → Reads (s_close ∷ []) (λ v r. said_by m span ∷ says rest ≡ a_terminal T.Close ∷ r) room
+      (record { meaning = m; span = span } ∷ rest) (terminal_by T.Close m span rest)
+  close_front room (M.Terminal T.Close) span rest = accept _ _ room _ span rest tt refl (λ st. refl) refl
   close_front room m span rest = refuse _ _ room m span rest refl
 
   pub close_reads : (room : ℕ) (is : List ValuedToken)
-      → Reads (s_close ∷ []) (λ v r. says is ≡ a_terminal W.Close ∷ r) room is (terminal_at end W.Close is)
+      → Reads (s_close ∷ []) (λ v r. says is ≡ a_terminal T.Close ∷ r) room is (terminal_at end T.Close is)
   unfolding terminal_at
-  close_reads room is = by_next s_close (λ ts v r. ts ≡ a_terminal W.Close ∷ r) room (terminal_by W.Close) (close_front room) is
+  close_reads room is = by_next s_close (λ ts v r. ts ≡ a_terminal T.Close ∷ r) room (terminal_by T.Close) (close_front room) is
 
   operator_front : (room : ℕ) (m : Meaning) (span : Span) (rest : List ValuedToken)
-      → Reads (s_operator ∷ []) (λ v r. said_by m span ∷ says rest ≡ a_terminal (W.Operator v) ∷ r) room
+      → Reads (s_operator ∷ []) (λ v r. said_by m span ∷ says rest ≡ a_terminal (T.Operator v) ∷ r) room
       (record { meaning = m; span = span } ∷ rest) (operator_by m span rest)
-  operator_front room (M.Terminal (W.Operator op)) span rest = accept _ _ room _ span rest op refl (λ st. refl) refl
+  operator_front room (M.Terminal (T.Operator op)) span rest = accept _ _ room _ span rest op refl (λ st. refl) refl
   operator_front room m span rest = refuse _ _ room m span rest refl
 
   pub operator_reads : (room : ℕ) (is : List ValuedToken)
-      → Reads (s_operator ∷ []) (λ v r. says is ≡ a_terminal (W.Operator v) ∷ r) room is (operator_at end is)
+      → Reads (s_operator ∷ []) (λ v r. says is ≡ a_terminal (T.Operator v) ∷ r) room is (operator_at end is)
   unfolding operator_at
-  operator_reads room is = by_next s_operator (λ ts v r. ts ≡ a_terminal (W.Operator v) ∷ r) room operator_by (operator_front room) is
+  operator_reads room is = by_next s_operator (λ ts v r. ts ≡ a_terminal (T.Operator v) ∷ r) room operator_by (operator_front room) is
 
   name_front : (room : ℕ) (m : Meaning) (span : Span) (rest : List ValuedToken)
       → Reads (s_name ∷ []) (λ v r. said_by m span ∷ says rest ≡ a_name v ∷ r) room
@@ -308,10 +308,10 @@ module _ (end limit : ℕ) where
 
   pair_reads : (room : ℕ) (read : List ValuedToken → Reading (Expression Name)) → ReadsExpressions room read → (is : List ValuedToken)
       → Reads (s_expression ∷ s_operator ∷ s_expression ∷ s_close ∷ [])
-      (IsExpressionIn (suc room) (a_terminal W.Open ∷ says is)) room is (pair_at end read is)
+      (IsExpressionIn (suc room) (a_terminal T.Open ∷ says is)) room is (pair_at end read is)
   unfolding pair_at
   pair_reads room read reads is =
-      let Q : Expression Name → List Lexeme → Type 0 = IsExpressionIn (suc room) (a_terminal W.Open ∷ says is) in
+      let Q : Expression Name → List Lexeme → Type 0 = IsExpressionIn (suc room) (a_terminal T.Open ∷ says is) in
       reads_bind (s_expression ∷ []) (s_operator ∷ s_expression ∷ s_close ∷ []) _ Q room is _ _ (λ st. refl) (reads is) (λ a da.
       reads_bind (s_operator ∷ []) (s_expression ∷ s_close ∷ []) _ Q room a.1 _ _ (λ st. refl) (operator_reads room a.1) (λ op dop.
       reads_bind (s_expression ∷ []) (s_close ∷ []) _ Q room op.1 _ _ (λ st. refl) (reads op.1) (λ b db.
@@ -335,21 +335,21 @@ module _ (end limit : ℕ) where
 
   expression_front : (room : ℕ) (brackets : Span → List ValuedToken → Reading (Expression Name))
       → ((span : Span) (rest : List ValuedToken)
-      → Reads (s_expression ∷ []) (IsExpressionIn room (a_terminal W.Open ∷ says rest)) room
-      (record { meaning = M.Terminal W.Open; span = span } ∷ rest) (brackets span rest))
+      → Reads (s_expression ∷ []) (IsExpressionIn room (a_terminal T.Open ∷ says rest)) room
+      (record { meaning = M.Terminal T.Open; span = span } ∷ rest) (brackets span rest))
       → (m : Meaning) (span : Span) (rest : List ValuedToken)
       → Reads (s_expression ∷ []) (IsExpressionIn room (said_by m span ∷ says rest)) room
       (record { meaning = m; span = span } ∷ rest) (expression_by end m span rest (brackets span rest))
   expression_front room brackets h (M.Number v) span rest = accept _ _ room _ span rest _ refl (λ st. refl) ((span, refl), omega arith)
   expression_front room brackets h (M.Name letters) span rest = accept _ _ room _ span rest _ refl (λ st. refl) (refl, omega arith)
-  expression_front room brackets h (M.Terminal W.Me) span rest = accept _ _ room _ span rest _ refl (λ st. refl) (refl, omega arith)
-  expression_front room brackets h (M.Terminal W.Count) span rest = accept _ _ room _ span rest _ refl (λ st. refl) (refl, omega arith)
-  expression_front room brackets h (M.Terminal W.Open) span rest = h span rest
+  expression_front room brackets h (M.Terminal T.Me) span rest = accept _ _ room _ span rest _ refl (λ st. refl) (refl, omega arith)
+  expression_front room brackets h (M.Terminal T.Count) span rest = accept _ _ room _ span rest _ refl (λ st. refl) (refl, omega arith)
+  expression_front room brackets h (M.Terminal T.Open) span rest = h span rest
   expression_front room brackets h m span rest = refuse _ _ room m span rest refl
 
   brackets_read : (room : ℕ) (span : Span) (rest : List ValuedToken)
-      → Reads (s_expression ∷ []) (IsExpressionIn room (a_terminal W.Open ∷ says rest)) room
-      (record { meaning = M.Terminal W.Open; span = span } ∷ rest) (brackets_at end room span rest)
+      → Reads (s_expression ∷ []) (IsExpressionIn room (a_terminal T.Open ∷ says rest)) room
+      (record { meaning = M.Terminal T.Open; span = span } ∷ rest) (brackets_at end room span rest)
   unfolding brackets_at
   brackets_read zero span rest = refuse_deep _ _ _ span rest _ refl (λ st o. full_at (opened st) o)
   brackets_read (suc room) span rest =
@@ -367,7 +367,7 @@ module _ (end limit : ℕ) where
 
   pub last_reads : (room : ℕ) (is : List ValuedToken)
       → Reads (s_expression ∷ s_semicolon ∷ [])
-      (λ e rest. IsExpressionIn room (says is) e (a_terminal W.Semicolon ∷ rest)) room is (last_at end room is)
+      (λ e rest. IsExpressionIn room (says is) e (a_terminal T.Semicolon ∷ rest)) room is (last_at end room is)
   unfolding last_at
   last_reads room is =
       reads_bind (s_expression ∷ []) (s_semicolon ∷ []) _ _ room is _ _ (λ st. refl) (expression_reads room is) (λ e de.

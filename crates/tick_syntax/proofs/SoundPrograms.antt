@@ -10,7 +10,7 @@ use Rattle.tick_syntax.specs.declared.valued_token.Section.TheVariants as C
 use Rattle.tick_syntax.specs.declared.valued_token.Meaning.{Meaning}
 use Rattle.tick_syntax.specs.declared.valued_token.Meaning.TheVariants as M
 use Rattle.tick_syntax.specs.declared.terminals.Terminal.{Terminal}
-use Rattle.tick_syntax.specs.declared.terminals.Terminal.TheVariants as W
+use Rattle.tick_syntax.specs.declared.terminals.Terminal.TheVariants as T
 use Rattle.tick_syntax.specs.Lexeme.{Lexeme, a_name, a_number, a_terminal}
 use Rattle.tick_syntax.specs.Plain.{Name, Block, WholeProgram}
 use Rattle.tick_syntax.specs.Grammar.{IsBlock, AreNames, IsSection, Derives}
@@ -24,17 +24,17 @@ use Rattle.tick_syntax.proofs.SoundStatements.{statements_reads}
 module _ (end limit : ℕ) where
   -- one name or more, and the `;` after them
   abbrev pub AreSome : List Lexeme → List Name → List Lexeme → Type 0
-  AreSome ts xs rest = (x : Name) × (ys : List Name) × (xs ≡ x ∷ ys) × AreNames ts x ys (a_terminal W.Semicolon ∷ rest)
+  AreSome ts xs rest = (x : Name) × (ys : List Name) × (xs ≡ x ∷ ys) × AreNames ts x ys (a_terminal T.Semicolon ∷ rest)
 
   more_front : (room : ℕ) (x : Name) (m : Meaning) (span : Span) (rest : List ValuedToken) (more : Reading (List Name))
       → Reads end limit (s_names ∷ []) (AreSome (says rest)) room rest more
       → Reads end limit (s_more ∷ []) (AreSome (a_name x ∷ said_by m span ∷ says rest)) room
       (record { meaning = m; span = span } ∷ rest) (names_by end m span rest x more)
-  more_front room x (M.Terminal W.Comma) span rest more h =
+  more_front room x (M.Terminal T.Comma) span rest more h =
       enter end limit _ _ room room _ span rest _ _ refl (λ st o. (refl, o))
       (reads_map end limit (s_names ∷ []) _ _ room rest more (λ xs. x ∷ xs) h
       (λ xs r d. (x, d.0 ∷ d.1, ap (λ z. x ∷ z) d.2, (says rest, refl, d.3))))
-  more_front room x (M.Terminal W.Semicolon) span rest more h = accept end limit _ _ room _ span rest _ refl (λ st. refl) (x, [], refl, refl)
+  more_front room x (M.Terminal T.Semicolon) span rest more h = accept end limit _ _ room _ span rest _ refl (λ st. refl) (x, [], refl, refl)
   more_front room x m span rest more h = refuse end limit _ _ room m span rest refl
 
   one_name : (room : ℕ) (m : Meaning) (span : Span)
@@ -69,9 +69,9 @@ module _ (end limit : ℕ) where
   after_section C.Registers = s_begin
 
   abbrev section_terminal : Section → Terminal
-  section_terminal C.Variables = W.Var
-  section_terminal C.Scans = W.Scan
-  section_terminal C.Registers = W.Reg
+  section_terminal C.Variables = T.Var
+  section_terminal C.Scans = T.Scan
+  section_terminal C.Registers = T.Reg
 
   declared : (terminal : Terminal) (ts : List Lexeme) (xs : List Name) (rest : List Lexeme) → AreSome ts xs rest → IsSection terminal (a_terminal terminal ∷ ts) xs rest
   declared terminal ts xs rest d = subst (λ z. IsSection terminal (a_terminal terminal ∷ ts) z rest) (sym d.2) (ts, refl, d.3)
@@ -82,18 +82,18 @@ module _ (end limit : ℕ) where
       → Reads end limit (after_section section ∷ []) Q room x.1 (F x))
       → Reads end limit (section_symbol section ∷ []) Q room (record { meaning = m; span = span } ∷ rest)
       (section_by end (begins section m) (record { meaning = m; span = span } ∷ rest) rest >>= F)
-  section_front room C.Variables Q F (M.Terminal W.Var) span rest h =
+  section_front room C.Variables Q F (M.Terminal T.Var) span rest h =
       enter end limit _ Q room room _ span rest (s_names ∷ s_scans ∷ []) _ refl (λ st o. (refl, o))
       (reads_bind end limit (s_names ∷ []) (s_scans ∷ []) _ Q room rest _ F (λ st. refl) (names_reads room rest)
-      (λ x d. h x (declared W.Var (says rest) x.0 (says x.1) d)))
-  section_front room C.Scans Q F (M.Terminal W.Scan) span rest h =
+      (λ x d. h x (declared T.Var (says rest) x.0 (says x.1) d)))
+  section_front room C.Scans Q F (M.Terminal T.Scan) span rest h =
       enter end limit _ Q room room _ span rest (s_names ∷ s_registers ∷ []) _ refl (λ st o. (refl, o))
       (reads_bind end limit (s_names ∷ []) (s_registers ∷ []) _ Q room rest _ F (λ st. refl) (names_reads room rest)
-      (λ x d. h x (declared W.Scan (says rest) x.0 (says x.1) d)))
-  section_front room C.Registers Q F (M.Terminal W.Reg) span rest h =
+      (λ x d. h x (declared T.Scan (says rest) x.0 (says x.1) d)))
+  section_front room C.Registers Q F (M.Terminal T.Reg) span rest h =
       enter end limit _ Q room room _ span rest (s_names ∷ s_begin ∷ []) _ refl (λ st o. (refl, o))
       (reads_bind end limit (s_names ∷ []) (s_begin ∷ []) _ Q room rest _ F (λ st. refl) (names_reads room rest)
-      (λ x d. h x (declared W.Reg (says rest) x.0 (says x.1) d)))
+      (λ x d. h x (declared T.Reg (says rest) x.0 (says x.1) d)))
   section_front room section Q F m span rest h =
       let is : List ValuedToken = record { meaning = m; span = span } ∷ rest in
       stand_in end limit (section_symbol section) (after_section section ∷ []) Q room is _ (λ st. refl) (λ st. refl) (h ([], is) refl)
@@ -108,18 +108,18 @@ module _ (end limit : ℕ) where
 
   -- `begin`, a block and `end`
   abbrev pub IsBody : ℕ → List Lexeme → Block Name → List Lexeme → Type 0
-  IsBody room ts b rest = (w : List Lexeme) × (ts ≡ a_terminal W.Begin ∷ w) × IsBlock W.End w b rest × (block_nesting b ≤ room)
+  IsBody room ts b rest = (w : List Lexeme) × (ts ≡ a_terminal T.Begin ∷ w) × IsBlock T.End w b rest × (block_nesting b ≤ room)
 
   begin_front : (room : ℕ) (m : Meaning) (span : Span) (rest : List ValuedToken)
       → Reads end limit (s_begin ∷ []) (IsBody room (said_by m span ∷ says rest)) room (record { meaning = m; span = span } ∷ rest)
-      (terminal_by W.Begin m span rest >>= λ b. statements_at end room N.Program b.1)
-  begin_front room (M.Terminal W.Begin) span rest = enter end limit _ _ room room _ span rest (s_until N.Program ∷ []) _ refl (λ st o. (refl, o))
+      (terminal_by T.Begin m span rest >>= λ b. statements_at end room N.Program b.1)
+  begin_front room (M.Terminal T.Begin) span rest = enter end limit _ _ room room _ span rest (s_until N.Program ∷ []) _ refl (λ st o. (refl, o))
       (weaken end limit _ _ _ room rest _ (statements_reads end limit room N.Program rest) (λ b r d. (says rest, refl, d.0, d.1)))
   begin_front room m span rest = refuse end limit _ _ room m span rest refl
 
   body_reads : (room : ℕ) (is : List ValuedToken) → Reads end limit (s_begin ∷ []) (IsBody room (says is)) room is (body_at end room is)
   unfolding body_at terminal_at
-  body_reads room is = by_next_then end limit s_begin (IsBody room) room (terminal_by W.Begin) (λ b. statements_at end room N.Program b.1) (begin_front room) is
+  body_reads room is = by_next_then end limit s_begin (IsBody room) room (terminal_by T.Begin) (λ b. statements_at end room N.Program b.1) (begin_front room) is
 
   number_front : (room : ℕ) (m : Meaning) (span : Span) (rest : List ValuedToken)
       → Reads end limit (s_number ∷ []) (λ v r. said_by m span ∷ says rest ≡ a_number v.0 v.1 ∷ r) room
@@ -136,11 +136,11 @@ module _ (end limit : ℕ) where
   abbrev pub DerivesThen : List Lexeme → WholeProgram Name → List Lexeme → Type 0
   DerivesThen ts p rest =
       (t u v w : List Lexeme)
-      × (ts ≡ a_terminal W.Processes ∷ a_number p.processes p.span ∷ a_terminal W.Semicolon ∷ t)
-      × IsSection W.Var t p.variables u
-      × IsSection W.Scan u p.scans v
-      × IsSection W.Reg v p.registers (a_terminal W.Begin ∷ w)
-      × IsBlock W.End w p.body rest
+      × (ts ≡ a_terminal T.Processes ∷ a_number p.processes p.span ∷ a_terminal T.Semicolon ∷ t)
+      × IsSection T.Var t p.variables u
+      × IsSection T.Scan u p.scans v
+      × IsSection T.Reg v p.registers (a_terminal T.Begin ∷ w)
+      × IsBlock T.End w p.body rest
 
   abbrev pub IsProgram : ℕ → List Lexeme → WholeProgram Name → List Lexeme → Type 0
   IsProgram room ts p rest = DerivesThen ts p rest × (nesting p ≤ room)
@@ -151,15 +151,15 @@ module _ (end limit : ℕ) where
 
   abbrev after_processes : ℕ → Unit {0} × List ValuedToken → Reading (WholeProgram Name)
   after_processes room p =
-      number_at end p.1 >>= λ n. terminal_at end W.Semicolon n.1 >>= λ s. section_at end C.Variables s.1
+      number_at end p.1 >>= λ n. terminal_at end T.Semicolon n.1 >>= λ s. section_at end C.Variables s.1
       >>= λ variables. section_at end C.Scans variables.1 >>= λ scans. section_at end C.Registers scans.1
       >>= λ registers. body_at end room registers.1 >>= λ body. Ok (made n.0 variables.0 scans.0 registers.0 body.0, body.1)
 
   processes_front : (room : ℕ) (m : Meaning) (span : Span) (rest : List ValuedToken)
       → Reads end limit (s_program ∷ []) (IsProgram room (said_by m span ∷ says rest)) room (record { meaning = m; span = span } ∷ rest)
-      (terminal_by W.Processes m span rest >>= after_processes room)
-  processes_front room (M.Terminal W.Processes) span rest =
-      let Q : WholeProgram Name → List Lexeme → Type 0 = IsProgram room (a_terminal W.Processes ∷ says rest) in
+      (terminal_by T.Processes m span rest >>= after_processes room)
+  processes_front room (M.Terminal T.Processes) span rest =
+      let Q : WholeProgram Name → List Lexeme → Type 0 = IsProgram room (a_terminal T.Processes ∷ says rest) in
       enter end limit _ Q room room _ span rest (s_number ∷ s_semicolon ∷ s_variables ∷ []) _ refl (λ st o. (refl, o))
       (reads_bind end limit (s_number ∷ []) (s_semicolon ∷ s_variables ∷ []) _ Q room rest _ _ (λ st. refl) (number_reads room rest) (λ n dn.
       reads_bind end limit (s_semicolon ∷ []) (s_variables ∷ []) _ Q room n.1 _ _ (λ st. refl) (semicolon_reads end limit room n.1) (λ s ds.
@@ -172,10 +172,10 @@ module _ (end limit : ℕ) where
           says variables.1,
           says scans.1,
           db.0,
-          ap (λ z. a_terminal W.Processes ∷ z) (dn ∙ ap (λ z. a_number n.0.0 n.0.1 ∷ z) ds),
+          ap (λ z. a_terminal T.Processes ∷ z) (dn ∙ ap (λ z. a_number n.0.0 n.0.1 ∷ z) ds),
           dv,
           dc,
-          subst (λ z. IsSection W.Reg (says scans.1) registers.0 z) db.1 dr,
+          subst (λ z. IsSection T.Reg (says scans.1) registers.0 z) db.1 dr,
           db.2,
         ),
         db.3,
@@ -184,7 +184,7 @@ module _ (end limit : ℕ) where
 
   pub whole_reads : (room : ℕ) (is : List ValuedToken) → Reads end limit (s_program ∷ []) (IsProgram room (says is)) room is (whole_at end room is)
   unfolding whole_at terminal_at
-  whole_reads room is = by_next_then end limit s_program (IsProgram room) room (terminal_by W.Processes) (after_processes room) (processes_front room) is
+  whole_reads room is = by_next_then end limit s_program (IsProgram room) room (terminal_by T.Processes) (after_processes room) (processes_front room) is
 
 -- what the reader answers, for whatever limit on the brackets
 module _ (end room : ℕ) where

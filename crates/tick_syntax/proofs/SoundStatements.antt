@@ -7,7 +7,7 @@ use Rattle.tick_syntax.specs.declared.valued_token.Ending.TheVariants as N
 use Rattle.tick_syntax.specs.declared.valued_token.Meaning.{Meaning}
 use Rattle.tick_syntax.specs.declared.valued_token.Meaning.TheVariants as M
 use Rattle.tick_syntax.specs.declared.terminals.Terminal.{Terminal}
-use Rattle.tick_syntax.specs.declared.terminals.Terminal.TheVariants as W
+use Rattle.tick_syntax.specs.declared.terminals.Terminal.TheVariants as T
 use Rattle.tick_syntax.specs.Lexeme.{Lexeme, a_name, a_terminal}
 use Rattle.tick_syntax.specs.Plain.{Name, Statement, Block, nil}
 use Rattle.tick_syntax.specs.Grammar.{IsExpression, IsStatement, IsBlock}
@@ -27,69 +27,69 @@ module _ (end limit : ℕ) where
   -- a block with its brace
   abbrev pub IsBraced : ℕ → List Lexeme → Block Name → List Lexeme → Type 0
   IsBraced room ts b rest =
-      (u : List Lexeme) × (ts ≡ a_terminal W.OpenBrace ∷ u) × IsBlock W.CloseBrace u b rest × (suc (block_nesting b) ≤ room)
+      (u : List Lexeme) × (ts ≡ a_terminal T.OpenBrace ∷ u) × IsBlock T.CloseBrace u b rest × (suc (block_nesting b) ≤ room)
 
   get_reads : (room : ℕ) (x : Name) (is : List ValuedToken)
       → Reads end limit (s_name ∷ s_expression ∷ s_semicolon ∷ [])
-      (IsStatementIn room (a_name x ∷ a_terminal W.Becomes ∷ a_terminal W.Get ∷ says is)) room is (get_at end room x is)
+      (IsStatementIn room (a_name x ∷ a_terminal T.Becomes ∷ a_terminal T.Get ∷ says is)) room is (get_at end room x is)
   unfolding get_at
   get_reads room x is =
       reads_bind end limit (s_name ∷ []) (s_expression ∷ s_semicolon ∷ []) _ _ room is _ _ (λ st. refl) (name_reads end limit room is) (λ r dr.
       reads_map end limit (s_expression ∷ s_semicolon ∷ []) _ _ room r.1 _ _ (last_reads end limit room r.1) (λ e rest de.
-      ((says r.1, ap (λ z. a_name x ∷ a_terminal W.Becomes ∷ a_terminal W.Get ∷ z) dr, de.0), de.1)))
+      ((says r.1, ap (λ z. a_name x ∷ a_terminal T.Becomes ∷ a_terminal T.Get ∷ z) dr, de.0), de.1)))
 
   scan_reads : (room : ℕ) (x : Name) (is : List ValuedToken)
       → Reads end limit (s_semicolon ∷ [])
-      (IsStatementIn room (a_name x ∷ a_terminal W.Becomes ∷ a_terminal W.Scan ∷ says is)) room is (scan_at end x is)
+      (IsStatementIn room (a_name x ∷ a_terminal T.Becomes ∷ a_terminal T.Scan ∷ says is)) room is (scan_at end x is)
   unfolding scan_at
   scan_reads room x is =
       reads_map end limit (s_semicolon ∷ []) _ _ room is _ _ (semicolon_reads end limit room is) (λ s rest ds.
-      (ap (λ z. a_name x ∷ a_terminal W.Becomes ∷ a_terminal W.Scan ∷ z) ds, omega arith))
+      (ap (λ z. a_name x ∷ a_terminal T.Becomes ∷ a_terminal T.Scan ∷ z) ds, omega arith))
 
   copy_reads : (room : ℕ) (x : Name) (is : List ValuedToken)
       → Reads end limit (s_name ∷ s_semicolon ∷ [])
-      (IsStatementIn room (a_name x ∷ a_terminal W.Becomes ∷ a_terminal W.Copy ∷ says is)) room is (copy_at end x is)
+      (IsStatementIn room (a_name x ∷ a_terminal T.Becomes ∷ a_terminal T.Copy ∷ says is)) room is (copy_at end x is)
   unfolding copy_at
   copy_reads room x is =
       reads_bind end limit (s_name ∷ []) (s_semicolon ∷ []) _ _ room is _ _ (λ st. refl) (name_reads end limit room is) (λ n dn.
       reads_map end limit (s_semicolon ∷ []) _ _ room n.1 _ _ (semicolon_reads end limit room n.1) (λ s rest ds.
-      (ap (λ z. a_name x ∷ a_terminal W.Becomes ∷ a_terminal W.Copy ∷ z) (dn ∙ ap (λ z. a_name n.0 ∷ z) ds), omega arith)))
+      (ap (λ z. a_name x ∷ a_terminal T.Becomes ∷ a_terminal T.Copy ∷ z) (dn ∙ ap (λ z. a_name n.0 ∷ z) ds), omega arith)))
 
   older_reads : (room : ℕ) (x : Name) (is : List ValuedToken)
       → Reads end limit (s_name ∷ s_expression ∷ s_expression ∷ s_semicolon ∷ [])
-      (IsStatementIn room (a_name x ∷ a_terminal W.Becomes ∷ a_terminal W.Older ∷ says is)) room is (older_at end room x is)
+      (IsStatementIn room (a_name x ∷ a_terminal T.Becomes ∷ a_terminal T.Older ∷ says is)) room is (older_at end room x is)
   unfolding older_at
   older_reads room x is =
       reads_bind end limit (s_name ∷ []) (s_expression ∷ s_expression ∷ s_semicolon ∷ []) _ _ room is _ _ (λ st. refl) (name_reads end limit room is) (λ s ds.
       reads_bind end limit (s_expression ∷ []) (s_expression ∷ s_semicolon ∷ []) _ _ room s.1 _ _ (λ st. refl) (expression_reads end limit room s.1) (λ a da.
       reads_map end limit (s_expression ∷ s_semicolon ∷ []) _ _ room a.1 _ _ (last_reads end limit room a.1) (λ b rest db. (
-        (says s.1, says a.1, ap (λ z. a_name x ∷ a_terminal W.Becomes ∷ a_terminal W.Older ∷ z) ds, da.0, db.0),
+        (says s.1, says a.1, ap (λ z. a_name x ∷ a_terminal T.Becomes ∷ a_terminal T.Older ∷ z) ds, da.0, db.0),
         (let l : expression_nesting a.0 ≤ room = da.1 in let k : expression_nesting b ≤ room = db.1 in omega arith),
       ))))
 
   plain_reads : (room : ℕ) (x : Name) (is : List ValuedToken)
       → Reads end limit (s_expression ∷ s_semicolon ∷ [])
-      (IsStatementIn room (a_name x ∷ a_terminal W.Becomes ∷ says is)) room is (plain_at end room x is)
+      (IsStatementIn room (a_name x ∷ a_terminal T.Becomes ∷ says is)) room is (plain_at end room x is)
   unfolding plain_at
   plain_reads room x is =
       reads_map end limit (s_expression ∷ s_semicolon ∷ []) _ _ room is _ _ (last_reads end limit room is) (λ e rest de.
       ((says is, refl, de.0), de.1))
 
   right_front : (room : ℕ) (x : Name) (m : Meaning) (span : Span) (rest : List ValuedToken)
-      → Reads end limit (s_right ∷ []) (IsStatementIn room (a_name x ∷ a_terminal W.Becomes ∷ said_by m span ∷ says rest)) room
+      → Reads end limit (s_right ∷ []) (IsStatementIn room (a_name x ∷ a_terminal T.Becomes ∷ said_by m span ∷ says rest)) room
       (record { meaning = m; span = span } ∷ rest) (right_by end m room x (record { meaning = m; span = span } ∷ rest) rest)
-  right_front room x (M.Terminal W.Get) span rest = enter end limit _ _ room room _ span rest _ _ refl (λ st o. (refl, o)) (get_reads room x rest)
-  right_front room x (M.Terminal W.Scan) span rest = enter end limit _ _ room room _ span rest _ _ refl (λ st o. (refl, o)) (scan_reads room x rest)
-  right_front room x (M.Terminal W.Copy) span rest = enter end limit _ _ room room _ span rest _ _ refl (λ st o. (refl, o)) (copy_reads room x rest)
-  right_front room x (M.Terminal W.Older) span rest = enter end limit _ _ room room _ span rest _ _ refl (λ st o. (refl, o)) (older_reads room x rest)
+  right_front room x (M.Terminal T.Get) span rest = enter end limit _ _ room room _ span rest _ _ refl (λ st o. (refl, o)) (get_reads room x rest)
+  right_front room x (M.Terminal T.Scan) span rest = enter end limit _ _ room room _ span rest _ _ refl (λ st o. (refl, o)) (scan_reads room x rest)
+  right_front room x (M.Terminal T.Copy) span rest = enter end limit _ _ room room _ span rest _ _ refl (λ st o. (refl, o)) (copy_reads room x rest)
+  right_front room x (M.Terminal T.Older) span rest = enter end limit _ _ room room _ span rest _ _ refl (λ st o. (refl, o)) (older_reads room x rest)
   right_front room x m span rest =
       stand_in end limit s_right (s_expression ∷ s_semicolon ∷ []) _ room (record { meaning = m; span = span } ∷ rest) _
       (λ st. refl) (λ st. refl) (plain_reads room x (record { meaning = m; span = span } ∷ rest))
 
   right_reads : (room : ℕ) (x : Name) (is : List ValuedToken)
-      → Reads end limit (s_right ∷ []) (IsStatementIn room (a_name x ∷ a_terminal W.Becomes ∷ says is)) room is (right_at end room x is)
+      → Reads end limit (s_right ∷ []) (IsStatementIn room (a_name x ∷ a_terminal T.Becomes ∷ says is)) room is (right_at end room x is)
   unfolding right_at
-  right_reads room x is = by_next_whole end limit s_right (λ ts. IsStatementIn room (a_name x ∷ a_terminal W.Becomes ∷ ts)) room
+  right_reads room x is = by_next_whole end limit s_right (λ ts. IsStatementIn room (a_name x ∷ a_terminal T.Becomes ∷ ts)) room
       (λ whole m span rest. right_by end m room x whole rest) (right_front room x) is
 
   assignment_reads : (room : ℕ) (x : Name) (is : List ValuedToken)
@@ -101,22 +101,22 @@ module _ (end limit : ℕ) where
       (right_reads room x b.1))
 
   put_reads : (room : ℕ) (is : List ValuedToken)
-      → Reads end limit (s_name ∷ s_expression ∷ s_semicolon ∷ []) (IsStatementIn room (a_terminal W.Put ∷ says is)) room is (put_at end room is)
+      → Reads end limit (s_name ∷ s_expression ∷ s_semicolon ∷ []) (IsStatementIn room (a_terminal T.Put ∷ says is)) room is (put_at end room is)
   unfolding put_at
   put_reads room is =
       reads_bind end limit (s_name ∷ []) (s_expression ∷ s_semicolon ∷ []) _ _ room is _ _ (λ st. refl) (name_reads end limit room is) (λ r dr.
       reads_map end limit (s_expression ∷ s_semicolon ∷ []) _ _ room r.1 _ _ (last_reads end limit room r.1) (λ e rest de.
-      ((says r.1, ap (λ z. a_terminal W.Put ∷ z) dr, de.0), de.1)))
+      ((says r.1, ap (λ z. a_terminal T.Put ∷ z) dr, de.0), de.1)))
 
   stamp_reads : (room : ℕ) (is : List ValuedToken)
-      → Reads end limit (s_semicolon ∷ []) (IsStatementIn room (a_terminal W.Stamp ∷ says is)) room is (stamp_at end is)
+      → Reads end limit (s_semicolon ∷ []) (IsStatementIn room (a_terminal T.Stamp ∷ says is)) room is (stamp_at end is)
   unfolding stamp_at
   stamp_reads room is =
       reads_map end limit (s_semicolon ∷ []) _ _ room is _ _ (semicolon_reads end limit room is) (λ s rest ds.
-      (ap (λ z. a_terminal W.Stamp ∷ z) ds, omega arith))
+      (ap (λ z. a_terminal T.Stamp ∷ z) ds, omega arith))
 
   out_reads : (room : ℕ) (is : List ValuedToken)
-      → Reads end limit (s_expression ∷ s_semicolon ∷ []) (IsStatementIn room (a_terminal W.Out ∷ says is)) room is (out_at end room is)
+      → Reads end limit (s_expression ∷ s_semicolon ∷ []) (IsStatementIn room (a_terminal T.Out ∷ says is)) room is (out_at end room is)
   unfolding out_at
   out_reads room is =
       reads_map end limit (s_expression ∷ s_semicolon ∷ []) _ _ room is _ _ (last_reads end limit room is) (λ e rest de.
@@ -126,7 +126,7 @@ module _ (end limit : ℕ) where
   ReadsBlocks room block = (is : List ValuedToken) → Reads end limit (s_block ∷ []) (IsBraced room (says is)) room is (block is)
 
   branch_reads : (room : ℕ) (block : List ValuedToken → Reading (Block Name)) → ReadsBlocks room block → (is : List ValuedToken)
-      → Reads end limit (s_expression ∷ s_block ∷ s_else ∷ s_block ∷ []) (IsStatementIn room (a_terminal W.If ∷ says is)) room is
+      → Reads end limit (s_expression ∷ s_block ∷ s_else ∷ s_block ∷ []) (IsStatementIn room (a_terminal T.If ∷ says is)) room is
       (branch_at end block room is)
   unfolding branch_at
   branch_reads room block reads is =
@@ -140,7 +140,7 @@ module _ (end limit : ℕ) where
           db.0,
           refl,
           subst (λ z. IsExpression (says is) e.0 z) da.1 de.0,
-          subst (λ z. IsBlock W.CloseBrace da.0 a.0 z) (do_ ∙ ap (λ z. a_terminal W.Else ∷ z) db.1) da.2,
+          subst (λ z. IsBlock T.CloseBrace da.0 a.0 z) (do_ ∙ ap (λ z. a_terminal T.Else ∷ z) db.1) da.2,
           db.2,
         ),
         (let l : expression_nesting e.0 ≤ room = de.1 in let k : suc (block_nesting a.0) ≤ room = da.3 in
@@ -148,7 +148,7 @@ module _ (end limit : ℕ) where
       )))))
 
   repeat_reads : (room : ℕ) (block : List ValuedToken → Reading (Block Name)) → ReadsBlocks room block → (is : List ValuedToken)
-      → Reads end limit (s_expression ∷ s_block ∷ []) (IsStatementIn room (a_terminal W.While ∷ says is)) room is
+      → Reads end limit (s_expression ∷ s_block ∷ []) (IsStatementIn room (a_terminal T.While ∷ says is)) room is
       (repeat_at end block room is)
   unfolding repeat_at
   repeat_reads room block reads is =
@@ -164,12 +164,12 @@ module _ (end limit : ℕ) where
       (record { meaning = m; span = span } ∷ rest) (statement_by end m span block room rest)
   statement_front room block reads (M.Name letters) span rest =
       enter end limit _ _ room room _ span rest _ _ refl (λ st o. (refl, o)) (assignment_reads room _ rest)
-  statement_front room block reads (M.Terminal W.Put) span rest = enter end limit _ _ room room _ span rest _ _ refl (λ st o. (refl, o)) (put_reads room rest)
-  statement_front room block reads (M.Terminal W.Stamp) span rest = enter end limit _ _ room room _ span rest _ _ refl (λ st o. (refl, o)) (stamp_reads room rest)
-  statement_front room block reads (M.Terminal W.Out) span rest = enter end limit _ _ room room _ span rest _ _ refl (λ st o. (refl, o)) (out_reads room rest)
-  statement_front room block reads (M.Terminal W.If) span rest =
+  statement_front room block reads (M.Terminal T.Put) span rest = enter end limit _ _ room room _ span rest _ _ refl (λ st o. (refl, o)) (put_reads room rest)
+  statement_front room block reads (M.Terminal T.Stamp) span rest = enter end limit _ _ room room _ span rest _ _ refl (λ st o. (refl, o)) (stamp_reads room rest)
+  statement_front room block reads (M.Terminal T.Out) span rest = enter end limit _ _ room room _ span rest _ _ refl (λ st o. (refl, o)) (out_reads room rest)
+  statement_front room block reads (M.Terminal T.If) span rest =
       enter end limit _ _ room room _ span rest _ _ refl (λ st o. (refl, o)) (branch_reads room block reads rest)
-  statement_front room block reads (M.Terminal W.While) span rest =
+  statement_front room block reads (M.Terminal T.While) span rest =
       enter end limit _ _ room room _ span rest _ _ refl (λ st o. (refl, o)) (repeat_reads room block reads rest)
   statement_front room block reads m span rest = refuse end limit _ _ room m span rest refl
 
@@ -180,8 +180,8 @@ module _ (end limit : ℕ) where
       (λ m span rest. statement_by end m span block room rest) (statement_front room block reads) is
 
   abbrev pub last_terminal : Ending → Terminal
-  last_terminal N.Program = W.End
-  last_terminal N.Braces = W.CloseBrace
+  last_terminal N.Program = T.End
+  last_terminal N.Braces = T.CloseBrace
 
   abbrev ReadsStatements : ℕ → (List ValuedToken → Reading (Statement Name)) → Type 0
   ReadsStatements room one = (is : List ValuedToken) → Reads end limit (s_statement ∷ []) (IsStatementIn room (says is)) room is (one is)
@@ -193,9 +193,9 @@ module _ (end limit : ℕ) where
       → Reads end limit (s_until ending ∷ []) (IsBlockIn room (last_terminal ending) (said_by m span ∷ says rest)) room
       (record { meaning = m; span = span } ∷ rest)
       (block_by end (ends ending m) rest (one (record { meaning = m; span = span } ∷ rest)) more)
-  statements_front room one reads N.Program (M.Terminal W.End) span rest more go =
+  statements_front room one reads N.Program (M.Terminal T.End) span rest more go =
       accept end limit _ _ room _ span rest nil refl (λ st. refl) (refl, omega arith)
-  statements_front room one reads N.Braces (M.Terminal W.CloseBrace) span rest more go =
+  statements_front room one reads N.Braces (M.Terminal T.CloseBrace) span rest more go =
       accept end limit _ _ room _ span rest nil refl (λ st. refl) (refl, omega arith)
   statements_front room one reads ending m span rest more go =
       let is : List ValuedToken = record { meaning = m; span = span } ∷ rest in
@@ -217,11 +217,11 @@ module _ (end limit : ℕ) where
       (λ js k. list_reads room one reads ending most js (omega arith))
 
   block_front : (room : ℕ) (f : List ValuedToken → Reading (Block Name))
-      → ((js : List ValuedToken) → Reads end limit (s_until N.Braces ∷ []) (IsBlockIn room W.CloseBrace (says js)) room js (f js))
+      → ((js : List ValuedToken) → Reads end limit (s_until N.Braces ∷ []) (IsBlockIn room T.CloseBrace (says js)) room js (f js))
       → (m : Meaning) (span : Span) (rest : List ValuedToken)
       → Reads end limit (s_block ∷ []) (IsBraced (suc room) (said_by m span ∷ says rest)) (suc room)
       (record { meaning = m; span = span } ∷ rest) (brace_by m (suc room) span rest >>= λ x. f x.1)
-  block_front room f reads (M.Terminal W.OpenBrace) span rest =
+  block_front room f reads (M.Terminal T.OpenBrace) span rest =
       enter end limit _ _ (suc room) room _ span rest _ _ refl (λ st o. (free_at end limit (opened st) room o, omega arith))
       (weaken end limit _ _ _ room rest _ (reads rest) (λ b r d. (says rest, refl, d.0, (let k : block_nesting b ≤ room = d.1 in omega arith))))
   block_front room f reads m span rest = refuse end limit _ _ (suc room) m span rest refl
@@ -229,7 +229,7 @@ module _ (end limit : ℕ) where
   block_front_zero : (m : Meaning) (span : Span) (rest : List ValuedToken)
       → Reads end limit (s_block ∷ []) (IsBraced 0 (said_by m span ∷ says rest)) 0
       (record { meaning = m; span = span } ∷ rest) (brace_by m 0 span rest >>= λ x. Ok (nil, x.1))
-  block_front_zero (M.Terminal W.OpenBrace) span rest = refuse_deep end limit _ _ _ span rest _ refl (λ st o. full_at end limit (opened st) o)
+  block_front_zero (M.Terminal T.OpenBrace) span rest = refuse_deep end limit _ _ _ span rest _ refl (λ st o. full_at end limit (opened st) o)
   block_front_zero m span rest = refuse end limit _ _ 0 m span rest refl
 
   block_reads : (room : ℕ) → ReadsBlocks room (block_at end room)

@@ -2,7 +2,7 @@
 use Rattle.std.proofs.Common.{◌≡◌, ℕ, suc, max, List, [], ◌∷◌, ◌++◌, map, refl, sym, ap, ◌∙◌}
 use Rattle.std.proofs.lemmas.List.{map-append}
 use Rattle.tick_syntax.specs.declared.terminals.Terminal.{Terminal}
-use Rattle.tick_syntax.specs.declared.terminals.Terminal.TheVariants as W
+use Rattle.tick_syntax.specs.declared.terminals.Terminal.TheVariants as T
 use Rattle.tick_syntax.specs.Lexeme.{Lexeme, a_name, a_number, a_terminal, nothing}
 use Rattle.tick_syntax.specs.Nesting.{expression_nesting, statement_nesting, block_nesting, nesting}
 use Rattle.tick_syntax.specs.Plain.{Name, Expression, number, named, me, count, binary, map_expression, Statement, assign, get, put, stamp, scan, copy, older, out, branch, repeat, map_statement, Block, nil, cons, map_block, WholeProgram, without_spans}
@@ -77,7 +77,7 @@ mutual
 
 names_plain : (x : Name) (xs : List Name) → spanless_all (names_tokens x xs) ≡ names_tokens (name_at_none x.letters) (map name_at_none (map letters_of xs))
 names_plain x [] = refl
-names_plain x (y ∷ ys) = ap (λ ts. a_name (name_at_none x.letters) ∷ a_terminal W.Comma ∷ ts) (names_plain y ys)
+names_plain x (y ∷ ys) = ap (λ ts. a_name (name_at_none x.letters) ∷ a_terminal T.Comma ∷ ts) (names_plain y ys)
 
 section_plain : (terminal : Terminal) (xs : List Name) → spanless_all (section_tokens terminal xs) ≡ section_tokens terminal (map name_at_none (map letters_of xs))
 section_plain terminal [] = refl
@@ -95,7 +95,7 @@ program_at_none w = record {
 
 pub program_plain : (p : WholeProgram Name) → spanless_all (program_tokens p) ≡ program_tokens (program_at_none (without_spans p))
 program_plain p =
-    simp (map-append, section_plain W.Var p.variables, section_plain W.Scan p.scans, section_plain W.Reg p.registers, block_plain p.body)
+    simp (map-append, section_plain T.Var p.variables, section_plain T.Scan p.scans, section_plain T.Reg p.registers, block_plain p.body)
 
 -- tokens are printed without regard to their spans
 token_plain : (t : Lexeme) → printed_token (spanless t) ≡ printed_token t

@@ -6,7 +6,7 @@ use Rattle.tick_syntax.specs.declared.fault.TextFault.TheVariants as F
 use Rattle.tick_syntax.specs.declared.valued_token.ValuedToken.{ValuedToken}
 use Rattle.tick_syntax.specs.declared.valued_token.Ending.{Ending}
 use Rattle.tick_syntax.specs.declared.valued_token.Ending.TheVariants as N
-use Rattle.tick_syntax.specs.declared.terminals.Terminal.TheVariants as W
+use Rattle.tick_syntax.specs.declared.terminals.Terminal.TheVariants as T
 use Rattle.tick_syntax.specs.Lexeme.{Lexeme, a_name, a_number, a_terminal}
 pub use Rattle.tick_syntax.specs.prover.ValuedTokens.{said_by, said}
 
@@ -42,68 +42,68 @@ after (Some ss) s = Some (ss ++ s ∷ [])
 abbrev pub expression_step : Lexeme → Option (List Symbol)
 expression_step (a_number v span) = Some []
 expression_step (a_name x) = Some []
-expression_step (a_terminal W.Me) = Some []
-expression_step (a_terminal W.Count) = Some []
-expression_step (a_terminal W.Open) = Some (s_expression ∷ s_operator ∷ s_expression ∷ s_close ∷ [])
+expression_step (a_terminal T.Me) = Some []
+expression_step (a_terminal T.Count) = Some []
+expression_step (a_terminal T.Open) = Some (s_expression ∷ s_operator ∷ s_expression ∷ s_close ∷ [])
 expression_step _ = None
 
 abbrev pub right_step : Lexeme → Option (List Symbol)
-right_step (a_terminal W.Get) = Some (s_name ∷ s_expression ∷ s_semicolon ∷ [])
-right_step (a_terminal W.Scan) = Some (s_semicolon ∷ [])
-right_step (a_terminal W.Copy) = Some (s_name ∷ s_semicolon ∷ [])
-right_step (a_terminal W.Older) = Some (s_name ∷ s_expression ∷ s_expression ∷ s_semicolon ∷ [])
+right_step (a_terminal T.Get) = Some (s_name ∷ s_expression ∷ s_semicolon ∷ [])
+right_step (a_terminal T.Scan) = Some (s_semicolon ∷ [])
+right_step (a_terminal T.Copy) = Some (s_name ∷ s_semicolon ∷ [])
+right_step (a_terminal T.Older) = Some (s_name ∷ s_expression ∷ s_expression ∷ s_semicolon ∷ [])
 right_step x = after (expression_step x) s_semicolon
 
 abbrev pub statement_step : Lexeme → Option (List Symbol)
 statement_step (a_name x) = Some (s_becomes ∷ s_right ∷ [])
-statement_step (a_terminal W.Put) = Some (s_name ∷ s_expression ∷ s_semicolon ∷ [])
-statement_step (a_terminal W.Stamp) = Some (s_semicolon ∷ [])
-statement_step (a_terminal W.Out) = Some (s_expression ∷ s_semicolon ∷ [])
-statement_step (a_terminal W.If) = Some (s_expression ∷ s_block ∷ s_else ∷ s_block ∷ [])
-statement_step (a_terminal W.While) = Some (s_expression ∷ s_block ∷ [])
+statement_step (a_terminal T.Put) = Some (s_name ∷ s_expression ∷ s_semicolon ∷ [])
+statement_step (a_terminal T.Stamp) = Some (s_semicolon ∷ [])
+statement_step (a_terminal T.Out) = Some (s_expression ∷ s_semicolon ∷ [])
+statement_step (a_terminal T.If) = Some (s_expression ∷ s_block ∷ s_else ∷ s_block ∷ [])
+statement_step (a_terminal T.While) = Some (s_expression ∷ s_block ∷ [])
 statement_step _ = None
 
 abbrev pub until_step : Ending → Lexeme → Option (List Symbol)
-until_step N.Program (a_terminal W.End) = Some []
-until_step N.Braces (a_terminal W.CloseBrace) = Some []
+until_step N.Program (a_terminal T.End) = Some []
+until_step N.Braces (a_terminal T.CloseBrace) = Some []
 until_step e x = after (statement_step x) (s_until e)
 
 abbrev pub begin_step : Lexeme → Option (List Symbol)
-begin_step (a_terminal W.Begin) = Some (s_until N.Program ∷ [])
+begin_step (a_terminal T.Begin) = Some (s_until N.Program ∷ [])
 begin_step _ = None
 
 abbrev pub registers_step : Lexeme → Option (List Symbol)
-registers_step (a_terminal W.Reg) = Some (s_names ∷ s_begin ∷ [])
+registers_step (a_terminal T.Reg) = Some (s_names ∷ s_begin ∷ [])
 registers_step x = begin_step x
 
 abbrev pub scans_step : Lexeme → Option (List Symbol)
-scans_step (a_terminal W.Scan) = Some (s_names ∷ s_registers ∷ [])
+scans_step (a_terminal T.Scan) = Some (s_names ∷ s_registers ∷ [])
 scans_step x = registers_step x
 
 abbrev pub variables_step : Lexeme → Option (List Symbol)
-variables_step (a_terminal W.Var) = Some (s_names ∷ s_scans ∷ [])
+variables_step (a_terminal T.Var) = Some (s_names ∷ s_scans ∷ [])
 variables_step x = scans_step x
 
 -- what stands in the symbol's place once this was read
 abbrev pub step : Symbol → Lexeme → Option (List Symbol)
-step s_program (a_terminal W.Processes) = Some (s_number ∷ s_semicolon ∷ s_variables ∷ [])
+step s_program (a_terminal T.Processes) = Some (s_number ∷ s_semicolon ∷ s_variables ∷ [])
 step s_number (a_number v span) = Some []
-step s_semicolon (a_terminal W.Semicolon) = Some []
+step s_semicolon (a_terminal T.Semicolon) = Some []
 step s_variables x = variables_step x
 step s_scans x = scans_step x
 step s_registers x = registers_step x
 step s_begin x = begin_step x
 step s_names (a_name x) = Some (s_more ∷ [])
-step s_more (a_terminal W.Comma) = Some (s_names ∷ [])
-step s_more (a_terminal W.Semicolon) = Some []
+step s_more (a_terminal T.Comma) = Some (s_names ∷ [])
+step s_more (a_terminal T.Semicolon) = Some []
 step s_name (a_name x) = Some []
-step s_becomes (a_terminal W.Becomes) = Some []
-step s_else (a_terminal W.Else) = Some []
-step s_close (a_terminal W.Close) = Some []
-step s_operator (a_terminal (W.Operator op)) = Some []
+step s_becomes (a_terminal T.Becomes) = Some []
+step s_else (a_terminal T.Else) = Some []
+step s_close (a_terminal T.Close) = Some []
+step s_operator (a_terminal (T.Operator op)) = Some []
 step s_expression x = expression_step x
 step s_right x = right_step x
-step s_block (a_terminal W.OpenBrace) = Some (s_until N.Braces ∷ [])
+step s_block (a_terminal T.OpenBrace) = Some (s_until N.Braces ∷ [])
 step s_statement x = statement_step x
 step (s_until e) x = until_step e x
 step _ _ = None
@@ -117,8 +117,8 @@ opened (_ ∷ st) = opened st
 
 -- whether an opening bracket is one too many
 abbrev pub is_full : ℕ → Lexeme → ℕ → Bool
-is_full limit (a_terminal W.Open) depth = nat_eq depth limit
-is_full limit (a_terminal W.OpenBrace) depth = nat_eq depth limit
+is_full limit (a_terminal T.Open) depth = nat_eq depth limit
+is_full limit (a_terminal T.OpenBrace) depth = nat_eq depth limit
 is_full _ _ _ = false
 
 abbrev pub on_stack : Option (List Symbol) → List Symbol → Option (List Symbol)

@@ -11,7 +11,7 @@ use Rattle.tick_syntax.specs.declared.token.Sort.TheVariants as K
 use Rattle.tick_syntax.specs.declared.token.Token.{Token}
 use Rattle.machine_core.specs.declared.operator.Op.TheVariants as O
 use Rattle.tick_syntax.specs.declared.terminals.Terminal.{Terminal}
-use Rattle.tick_syntax.specs.declared.terminals.Terminal.TheVariants as W
+use Rattle.tick_syntax.specs.declared.terminals.Terminal.TheVariants as T
 use Rattle.text_core.specs.Blanks.{is_blank}
 use Rattle.tick_syntax.specs.Characters.{is_keyword, lone_signs, before_equals, is_sign}
 use Rattle.tick_syntax.specs.Lexeme.{Lexeme, a_name, a_number, a_terminal, nothing, terminal_of, of_terminal, lexeme_at, lexemes}
@@ -90,26 +90,26 @@ same_stand (t ∷ ts) (u ∷ us) same all =
 
 -- each word is spelled by letters as a keyword is, or as a sign is, and is told from its spelling
 terminal_shape : (w : Terminal) → (is_keyword (spelling w) ≡ true) ⊎ (is_sign (spelling w) ≡ true)
-terminal_shape W.Semicolon = inr refl
-terminal_shape W.Comma = inr refl
-terminal_shape W.Open = inr refl
-terminal_shape W.Close = inr refl
-terminal_shape W.OpenBrace = inr refl
-terminal_shape W.CloseBrace = inr refl
-terminal_shape W.Becomes = inr refl
-terminal_shape (W.Operator O.Add) = inr refl
-terminal_shape (W.Operator _) = inr refl
+terminal_shape T.Semicolon = inr refl
+terminal_shape T.Comma = inr refl
+terminal_shape T.Open = inr refl
+terminal_shape T.Close = inr refl
+terminal_shape T.OpenBrace = inr refl
+terminal_shape T.CloseBrace = inr refl
+terminal_shape T.Becomes = inr refl
+terminal_shape (T.Operator O.Add) = inr refl
+terminal_shape (T.Operator _) = inr refl
 terminal_shape _ = inl refl
 
 terminal_told : (w : Terminal) → terminal_of (spelling w) ≡ Some w
 unfolding terminal_of
-terminal_told W.Semicolon = refl
-terminal_told (W.Operator O.Add) = refl
-terminal_told (W.Operator _) = refl
+terminal_told T.Semicolon = refl
+terminal_told (T.Operator O.Add) = refl
+terminal_told (T.Operator _) = refl
 terminal_told _ = refl
 
 blank_after : (w : Terminal) → is_blank (after_terminal w) ≡ true
-blank_after W.Semicolon = refl
+blank_after T.Semicolon = refl
 blank_after _ = refl
 
 -- how a token is printed before more text: its bytes and a blank, of which a token that says the same is read

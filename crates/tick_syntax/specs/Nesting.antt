@@ -1,6 +1,6 @@
 -- How deep brackets stand within one another.
 use Rattle.std.specs.Prelude.{ℕ, suc, ◌-◌, ◌≤◌, List, [], ◌∷◌, max}
-use Rattle.tick_syntax.specs.declared.terminals.Terminal.TheVariants as W
+use Rattle.tick_syntax.specs.declared.terminals.Terminal.TheVariants as T
 use Rattle.tick_syntax.specs.Lexeme.{Lexeme, a_terminal}
 use Rattle.tick_syntax.specs.Plain.{Expression, number, named, me, count, binary, Statement, assign, get, put, stamp, scan, copy, older, out, branch, repeat, Block, nil, cons, WholeProgram}
 
@@ -35,16 +35,16 @@ nesting p = block_nesting p.body
 
 -- an opening `(` or `{`
 abbrev pub IsOpening : Lexeme → Type 0
-IsOpening (a_terminal W.Open) = Unit {0}
-IsOpening (a_terminal W.OpenBrace) = Unit {0}
+IsOpening (a_terminal T.Open) = Unit {0}
+IsOpening (a_terminal T.OpenBrace) = Unit {0}
 IsOpening _ = ⊥
 
 -- how many brackets are open after a token, where so many were before
 abbrev pub open_by : Lexeme → ℕ → ℕ
-open_by (a_terminal W.Open) depth = suc depth
-open_by (a_terminal W.OpenBrace) depth = suc depth
-open_by (a_terminal W.Close) depth = depth - 1
-open_by (a_terminal W.CloseBrace) depth = depth - 1
+open_by (a_terminal T.Open) depth = suc depth
+open_by (a_terminal T.OpenBrace) depth = suc depth
+open_by (a_terminal T.Close) depth = depth - 1
+open_by (a_terminal T.CloseBrace) depth = depth - 1
 open_by _ depth = depth
 
 abbrev pub open_after : List Lexeme → ℕ → ℕ

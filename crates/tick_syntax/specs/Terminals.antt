@@ -3,42 +3,42 @@ use Rattle.std.specs.Prelude.{ℕ, List, [], ◌∷◌, codes}
 use Rattle.machine_core.specs.declared.operator.Op.TheVariants as O
 use Rattle.machine_core.specs.Operators.{sign}
 use Rattle.tick_syntax.specs.declared.terminals.Terminal.{Terminal}
-use Rattle.tick_syntax.specs.declared.terminals.Terminal.TheVariants as W
+use Rattle.tick_syntax.specs.declared.terminals.Terminal.TheVariants as T
 
 abbrev pub spelling : Terminal → List ℕ
-spelling W.Processes = codes "processes"
-spelling W.Var = codes "var"
-spelling W.Scan = codes "scan"
-spelling W.Reg = codes "reg"
-spelling W.Begin = codes "begin"
-spelling W.End = codes "end"
-spelling W.Get = codes "get"
-spelling W.Put = codes "put"
-spelling W.Stamp = codes "stamp"
-spelling W.Copy = codes "copy"
-spelling W.Older = codes "older"
-spelling W.Out = codes "out"
-spelling W.If = codes "if"
-spelling W.Else = codes "else"
-spelling W.While = codes "while"
-spelling W.Me = codes "me"
-spelling W.Count = codes "n"
-spelling W.Semicolon = codes ";"
-spelling W.Comma = codes ","
-spelling W.Open = codes "("
-spelling W.Close = codes ")"
-spelling W.OpenBrace = codes "{"
-spelling W.CloseBrace = codes "}"
-spelling W.Becomes = codes "="
-spelling (W.Operator op) = sign op
+spelling T.Processes = codes "processes"
+spelling T.Var = codes "var"
+spelling T.Scan = codes "scan"
+spelling T.Reg = codes "reg"
+spelling T.Begin = codes "begin"
+spelling T.End = codes "end"
+spelling T.Get = codes "get"
+spelling T.Put = codes "put"
+spelling T.Stamp = codes "stamp"
+spelling T.Copy = codes "copy"
+spelling T.Older = codes "older"
+spelling T.Out = codes "out"
+spelling T.If = codes "if"
+spelling T.Else = codes "else"
+spelling T.While = codes "while"
+spelling T.Me = codes "me"
+spelling T.Count = codes "n"
+spelling T.Semicolon = codes ";"
+spelling T.Comma = codes ","
+spelling T.Open = codes "("
+spelling T.Close = codes ")"
+spelling T.OpenBrace = codes "{"
+spelling T.CloseBrace = codes "}"
+spelling T.Becomes = codes "="
+spelling (T.Operator op) = sign op
 
 abbrev pub signs : List Terminal
 signs =
-    W.Semicolon ∷ W.Becomes ∷ W.Open ∷ W.Close ∷ W.OpenBrace ∷ W.CloseBrace ∷ W.Comma ∷
-    W.Operator O.Add ∷ W.Operator O.Sub ∷ W.Operator O.Mul ∷ W.Operator O.Div ∷ W.Operator O.Rem ∷
-    W.Operator O.Less ∷ W.Operator O.AtMost ∷ W.Operator O.Equal ∷ W.Operator O.Differs ∷ []
+    T.Semicolon ∷ T.Becomes ∷ T.Open ∷ T.Close ∷ T.OpenBrace ∷ T.CloseBrace ∷ T.Comma ∷
+    T.Operator O.Add ∷ T.Operator O.Sub ∷ T.Operator O.Mul ∷ T.Operator O.Div ∷ T.Operator O.Rem ∷
+    T.Operator O.Less ∷ T.Operator O.AtMost ∷ T.Operator O.Equal ∷ T.Operator O.Differs ∷ []
 
 abbrev pub keywords : List Terminal
 keywords =
-    W.Me ∷ W.Count ∷ W.Put ∷ W.Get ∷ W.Out ∷ W.If ∷ W.Else ∷ W.While ∷ W.Stamp ∷ W.Scan ∷ W.Copy ∷ W.Older ∷
-    W.Processes ∷ W.Var ∷ W.Reg ∷ W.Begin ∷ W.End ∷ []
+    T.Me ∷ T.Count ∷ T.Put ∷ T.Get ∷ T.Out ∷ T.If ∷ T.Else ∷ T.While ∷ T.Stamp ∷ T.Scan ∷ T.Copy ∷ T.Older ∷
+    T.Processes ∷ T.Var ∷ T.Reg ∷ T.Begin ∷ T.End ∷ []

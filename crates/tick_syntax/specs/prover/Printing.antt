@@ -1,6 +1,6 @@
 -- Parts of a program's tokens.
 use Rattle.std.specs.Prelude.{List, [], ◌∷◌, ◌++◌}
-use Rattle.tick_syntax.specs.declared.terminals.Terminal.TheVariants as W
+use Rattle.tick_syntax.specs.declared.terminals.Terminal.TheVariants as T
 use Rattle.tick_syntax.specs.Lexeme.{Lexeme, a_name, a_terminal}
 use Rattle.tick_syntax.specs.Plain.{Name, WholeProgram}
 use Rattle.tick_syntax.specs.Printed.{section_tokens}
@@ -8,9 +8,9 @@ use Rattle.tick_syntax.specs.Printed.{section_tokens}
 -- each name with a comma before it
 abbrev pub more_names : List Name → List Lexeme
 more_names [] = []
-more_names (x ∷ xs) = a_terminal W.Comma ∷ a_name x ∷ more_names xs
+more_names (x ∷ xs) = a_terminal T.Comma ∷ a_name x ∷ more_names xs
 
 -- the sections of declarations
 abbrev pub declaration_tokens : WholeProgram Name → List Lexeme
 declaration_tokens p =
-    section_tokens W.Var p.variables ++ (section_tokens W.Scan p.scans ++ section_tokens W.Reg p.registers)
+    section_tokens T.Var p.variables ++ (section_tokens T.Scan p.scans ++ section_tokens T.Reg p.registers)

@@ -14,7 +14,7 @@ use Rattle.tick_syntax.specs.declared.valued_token.Meaning.TheVariants as M
 use Rattle.machine_core.specs.declared.operator.Op.{Op}
 use Rattle.machine_core.specs.Refusing.{◌>>=◌, FailsBut, GivesBut}
 use Rattle.tick_syntax.specs.declared.terminals.Terminal.{Terminal}
-use Rattle.tick_syntax.specs.declared.terminals.Terminal.TheVariants as W
+use Rattle.tick_syntax.specs.declared.terminals.Terminal.TheVariants as T
 use Rattle.tick_syntax.specs.Plain.{Name, Expression, number, named, me, count, binary, Statement, assign, get, put, stamp, scan, copy, older, out, branch, repeat, Block, nil, cons, WholeProgram}
 
 -- what was read and the tokens after it, or a refusal
@@ -55,22 +55,22 @@ next_at end (i ∷ is) = Ok (i, is)
 
 -- this terminal, of those that a rule has alone
 abbrev pub terminal_by : Terminal → Meaning → Span → List ValuedToken → Reading (Unit {0})
-terminal_by W.Processes (M.Terminal W.Processes) span rest = Ok (tt, rest)
-terminal_by W.Begin (M.Terminal W.Begin) span rest = Ok (tt, rest)
-terminal_by W.Else (M.Terminal W.Else) span rest = Ok (tt, rest)
-terminal_by W.Semicolon (M.Terminal W.Semicolon) span rest = Ok (tt, rest)
-terminal_by W.Becomes (M.Terminal W.Becomes) span rest = Ok (tt, rest)
-terminal_by W.Close (M.Terminal W.Close) span rest = Ok (tt, rest)
+terminal_by T.Processes (M.Terminal T.Processes) span rest = Ok (tt, rest)
+terminal_by T.Begin (M.Terminal T.Begin) span rest = Ok (tt, rest)
+terminal_by T.Else (M.Terminal T.Else) span rest = Ok (tt, rest)
+terminal_by T.Semicolon (M.Terminal T.Semicolon) span rest = Ok (tt, rest)
+terminal_by T.Becomes (M.Terminal T.Becomes) span rest = Ok (tt, rest)
+terminal_by T.Close (M.Terminal T.Close) span rest = Ok (tt, rest)
 terminal_by _ _ span rest = Err (F.Unexpected span)
 
 -- `{`, where so many brackets may still be opened
 abbrev pub brace_by : Meaning → ℕ → Span → List ValuedToken → Reading (Unit {0})
-brace_by (M.Terminal W.OpenBrace) zero span rest = Err (F.TooDeep span)
-brace_by (M.Terminal W.OpenBrace) (suc room) span rest = Ok (tt, rest)
+brace_by (M.Terminal T.OpenBrace) zero span rest = Err (F.TooDeep span)
+brace_by (M.Terminal T.OpenBrace) (suc room) span rest = Ok (tt, rest)
 brace_by _ room span rest = Err (F.Unexpected span)
 
 abbrev pub operator_by : Meaning → Span → List ValuedToken → Reading Op
-operator_by (M.Terminal (W.Operator op)) span rest = Ok (op, rest)
+operator_by (M.Terminal (T.Operator op)) span rest = Ok (op, rest)
 operator_by _ span rest = Err (F.Unexpected span)
 
 abbrev pub name_by : Meaning → Span → List ValuedToken → Reading Name
@@ -82,14 +82,14 @@ number_by (M.Number v) span rest = Ok ((v, span), rest)
 number_by _ span rest = Err (F.Unexpected span)
 
 abbrev pub ends : Ending → Meaning → Bool
-ends N.Program (M.Terminal W.End) = true
-ends N.Braces (M.Terminal W.CloseBrace) = true
+ends N.Program (M.Terminal T.End) = true
+ends N.Braces (M.Terminal T.CloseBrace) = true
 ends _ _ = false
 
 abbrev pub begins : Section → Meaning → Bool
-begins C.Variables (M.Terminal W.Var) = true
-begins C.Scans (M.Terminal W.Scan) = true
-begins C.Registers (M.Terminal W.Reg) = true
+begins C.Variables (M.Terminal T.Var) = true
+begins C.Scans (M.Terminal T.Scan) = true
+begins C.Registers (M.Terminal T.Reg) = true
 begins _ _ = false
 
 module _ (end : ℕ) where
@@ -111,9 +111,9 @@ module _ (end : ℕ) where
   abbrev pub expression_by : Meaning → Span → List ValuedToken → Reading (Expression Name) → Reading (Expression Name)
   expression_by (M.Number v) span rest brackets = Ok (number v, rest)
   expression_by (M.Name letters) span rest brackets = Ok (named (record { letters = letters.now; span = span }), rest)
-  expression_by (M.Terminal W.Me) span rest brackets = Ok (me, rest)
-  expression_by (M.Terminal W.Count) span rest brackets = Ok (count, rest)
-  expression_by (M.Terminal W.Open) span rest brackets = brackets
+  expression_by (M.Terminal T.Me) span rest brackets = Ok (me, rest)
+  expression_by (M.Terminal T.Count) span rest brackets = Ok (count, rest)
+  expression_by (M.Terminal T.Open) span rest brackets = brackets
   expression_by _ span rest brackets = Err (F.Unexpected span)
 
   -- two expressions about an operator, and the bracket that closes them
@@ -122,7 +122,7 @@ module _ (end : ℕ) where
     a ← expression is
     op ← operator_at a.1
     b ← expression op.1
-    c ← terminal_at W.Close b.1
+    c ← terminal_at T.Close b.1
     Ok (binary a.0 op.0 b.0, c.1)
 
   -- what stands after the bracket at this place, where so many may be opened with it
@@ -140,7 +140,7 @@ module _ (end : ℕ) where
   unfoldable pub last_at : ℕ → List ValuedToken → Reading (Expression Name)
   last_at room is = do
     e ← expression_at room is
-    s ← terminal_at W.Semicolon e.1
+    s ← terminal_at T.Semicolon e.1
     Ok (e.0, s.1)
 
   unfoldable pub get_at : ℕ → Name → List ValuedToken → Reading (Statement Name)
@@ -151,13 +151,13 @@ module _ (end : ℕ) where
 
   unfoldable pub scan_at : Name → List ValuedToken → Reading (Statement Name)
   scan_at x is = do
-    s ← terminal_at W.Semicolon is
+    s ← terminal_at T.Semicolon is
     Ok (scan x, s.1)
 
   unfoldable pub copy_at : Name → List ValuedToken → Reading (Statement Name)
   copy_at x is = do
     n ← name_at is
-    s ← terminal_at W.Semicolon n.1
+    s ← terminal_at T.Semicolon n.1
     Ok (copy x n.0, s.1)
 
   unfoldable pub older_at : ℕ → Name → List ValuedToken → Reading (Statement Name)
@@ -174,10 +174,10 @@ module _ (end : ℕ) where
 
   -- the right-hand side from its first token on, which stands before rest
   abbrev pub right_by : Meaning → ℕ → Name → List ValuedToken → List ValuedToken → Reading (Statement Name)
-  right_by (M.Terminal W.Get) room x is rest = get_at room x rest
-  right_by (M.Terminal W.Scan) room x is rest = scan_at x rest
-  right_by (M.Terminal W.Copy) room x is rest = copy_at x rest
-  right_by (M.Terminal W.Older) room x is rest = older_at room x rest
+  right_by (M.Terminal T.Get) room x is rest = get_at room x rest
+  right_by (M.Terminal T.Scan) room x is rest = scan_at x rest
+  right_by (M.Terminal T.Copy) room x is rest = copy_at x rest
+  right_by (M.Terminal T.Older) room x is rest = older_at room x rest
   right_by _ room x is rest = plain_at room x is
 
   unfoldable pub right_at : ℕ → Name → List ValuedToken → Reading (Statement Name)
@@ -185,7 +185,7 @@ module _ (end : ℕ) where
 
   -- the rest of a statement that begins with a name
   unfoldable pub assignment_at : ℕ → Name → List ValuedToken → Reading (Statement Name)
-  assignment_at room x is = terminal_at W.Becomes is >>= λ b. right_at room x b.1
+  assignment_at room x is = terminal_at T.Becomes is >>= λ b. right_at room x b.1
 
   unfoldable pub put_at : ℕ → List ValuedToken → Reading (Statement Name)
   put_at room is = do
@@ -195,7 +195,7 @@ module _ (end : ℕ) where
 
   unfoldable pub stamp_at : List ValuedToken → Reading (Statement Name)
   stamp_at is = do
-    s ← terminal_at W.Semicolon is
+    s ← terminal_at T.Semicolon is
     Ok (stamp, s.1)
 
   unfoldable pub out_at : ℕ → List ValuedToken → Reading (Statement Name)
@@ -207,7 +207,7 @@ module _ (end : ℕ) where
   branch_at block room is = do
     e ← expression_at room is
     a ← block e.1
-    o ← terminal_at W.Else a.1
+    o ← terminal_at T.Else a.1
     b ← block o.1
     Ok (branch e.0 a.0 b.0, b.1)
 
@@ -219,11 +219,11 @@ module _ (end : ℕ) where
 
   abbrev pub statement_by : Meaning → Span → (List ValuedToken → Reading (Block Name)) → ℕ → List ValuedToken → Reading (Statement Name)
   statement_by (M.Name letters) span block room rest = assignment_at room (record { letters = letters.now; span = span }) rest
-  statement_by (M.Terminal W.Put) span block room rest = put_at room rest
-  statement_by (M.Terminal W.Stamp) span block room rest = stamp_at rest
-  statement_by (M.Terminal W.Out) span block room rest = out_at room rest
-  statement_by (M.Terminal W.If) span block room rest = branch_at block room rest
-  statement_by (M.Terminal W.While) span block room rest = repeat_at block room rest
+  statement_by (M.Terminal T.Put) span block room rest = put_at room rest
+  statement_by (M.Terminal T.Stamp) span block room rest = stamp_at rest
+  statement_by (M.Terminal T.Out) span block room rest = out_at room rest
+  statement_by (M.Terminal T.If) span block room rest = branch_at block room rest
+  statement_by (M.Terminal T.While) span block room rest = repeat_at block room rest
   statement_by _ span block room rest = Err (F.Unexpected span)
 
   -- a statement, where block reads one in braces
@@ -259,8 +259,8 @@ module _ (end : ℕ) where
 
   -- one name more, or the end of a list of names
   abbrev pub names_by : Meaning → Span → List ValuedToken → Name → Reading (List Name) → Reading (List Name)
-  names_by (M.Terminal W.Comma) span rest x more = more >>= λ xs. Ok (x ∷ xs.0, xs.1)
-  names_by (M.Terminal W.Semicolon) span rest x more = Ok (x ∷ [], rest)
+  names_by (M.Terminal T.Comma) span rest x more = more >>= λ xs. Ok (x ∷ xs.0, xs.1)
+  names_by (M.Terminal T.Semicolon) span rest x more = Ok (x ∷ [], rest)
   names_by _ span rest x more = Err (F.Unexpected span)
 
   -- names with a comma between two, and the `;` after them
@@ -282,14 +282,14 @@ module _ (end : ℕ) where
 
   -- the body of the program
   unfoldable pub body_at : ℕ → List ValuedToken → Reading (Block Name)
-  body_at room is = terminal_at W.Begin is >>= λ b. statements_at room N.Program b.1
+  body_at room is = terminal_at T.Begin is >>= λ b. statements_at room N.Program b.1
 
   -- a program, where so many brackets may be open at once
   unfoldable pub whole_at : ℕ → List ValuedToken → Reading (WholeProgram Name)
   whole_at room is = do
-    p ← terminal_at W.Processes is
+    p ← terminal_at T.Processes is
     n ← number_at p.1
-    s ← terminal_at W.Semicolon n.1
+    s ← terminal_at T.Semicolon n.1
     variables ← section_at C.Variables s.1
     scans ← section_at C.Scans variables.1
     registers ← section_at C.Registers scans.1

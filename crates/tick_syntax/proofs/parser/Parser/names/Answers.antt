@@ -4,7 +4,7 @@ use Rattle.std.proofs.lemmas.List.{map_push}
 use Rattle.tick_syntax.specs.prover.Reading.{names_at, names_by}
 use Rattle.tick_syntax.specs.declared.fault.TextFault.TheVariants.{Unexpected}
 use Rattle.tick_syntax.specs.declared.valued_token.Meaning.TheVariants as M
-use Rattle.tick_syntax.specs.declared.terminals.Terminal.TheVariants as W
+use Rattle.tick_syntax.specs.declared.terminals.Terminal.TheVariants as T
 use Rattle.tick_syntax.specs.View.{name_of}
 use Rattle.tick_syntax.proofs.Loops.{names_fail, names_fail_next, names_last, names_wrong, names_on, next_shorter, name_shorter}
 use Rattle.tick_syntax.proofs.parser.Parser.names.Goals as goal
@@ -26,14 +26,14 @@ pub loop-names-preserved : goal.loop-names-preserved
 loop-names-preserved c =
     let e : map name_of c.push.new.self.items ≡ map name_of c.loop-names.names.items ++ name_of c.in_ok-name.name ∷ [] =
     rw c.in_ok-push.ensures.items (map_push _ c.loop-names.names.items c.in_ok-name.name) in
-    let k : c.in_ok-token.token.meaning ≡ M.Terminal W.Comma = search rules in
+    let k : c.in_ok-token.token.meaning ≡ M.Terminal T.Comma = search rules in
     rw e (names_on c.args.self.now.end _ _ _ _ _ _ c.loop-names.invariant c.in_ok-name.ensures c.in_ok-token.ensures k)
 
 pub returns-in-Terminal-Semicolon : goal.returns-in-Terminal-Semicolon
 returns-in-Terminal-Semicolon c =
     let e : map name_of c.push.new.self.items ≡ map name_of c.loop-names.names.items ++ name_of c.in_ok-name.name ∷ [] =
     rw c.in_ok-push.ensures.items (map_push _ c.loop-names.names.items c.in_ok-name.name) in
-    let k : c.in_ok-token.token.meaning ≡ M.Terminal W.Semicolon = search rules in
+    let k : c.in_ok-token.token.meaning ≡ M.Terminal T.Semicolon = search rules in
     rw e (names_last c.args.self.now.end _ _ _ _ _ _ c.loop-names.invariant c.in_ok-name.ensures c.in_ok-token.ensures k)
 
 pub returns-in_default : goal.returns-in_default
