@@ -1,9 +1,8 @@
-use crate::asserting::{holds, is_same};
-use crate::programs::{accepted, refusal};
 use std::alloc::Global;
 use std::fmt::Write;
 use std::process::Abort;
 use std::test::Fail;
+use testing::{accepted, holds, is_same, refusal};
 use tick_kinds::resolved::Statement;
 use tick_kinds::{Kind, KindFault, Program, check};
 use tick_syntax::parse;
@@ -82,7 +81,7 @@ fn declares<R: AllocGlobal + Abort>(
     let is_so = program.variables() == variables
         && program.scans() == scans
         && program.registers() == registers;
-    holds(rt, is_so, text);
+    holds(is_so, text)?;
     Ok(())
 }
 
@@ -125,9 +124,9 @@ fn numbers_names_by_section(rt: HostRuntime) -> Result<(), Fail> {
         "processes 2; var x, y; scan s; reg r; begin s = scan; y = older s 0 me; while y { out x; } end";
     declares(&rt, text, 2, 1, 1)?;
     let program = accepted(rt.alloc(), text)?;
-    is_same(&rt, &program.processes(), &2);
-    holds(&rt, is_numbered(&program), "names");
-    holds(&rt, is_whole(&program), "statements");
+    is_same(&program.processes(), &2)?;
+    holds(is_numbered(&program), "names")?;
+    holds(is_whole(&program), "statements")?;
     Ok(())
 }
 
@@ -141,7 +140,7 @@ fn is_given_back(tree: &Tree, fault: KindFault) -> bool {
 fn gives_the_tree_back(rt: HostRuntime) -> Result<(), Fail> {
     let tree = parse(rt.alloc(), "processes 2; var x, y; begin out z; out x; end")?;
     let (tree, fault) = check(rt.alloc(), tree).err().ok_or("accepted")?;
-    holds(&rt, is_given_back(&tree, fault), "the tree");
+    holds(is_given_back(&tree, fault), "the tree")?;
     Ok(())
 }
 
@@ -153,7 +152,7 @@ fn accepts_a_long_program(rt: HostRuntime) -> Result<(), Fail> {
     }
     text.push_str("end")?;
     let program = accepted(rt.alloc(), &text)?;
-    is_same(&rt, &program.body().len(), &30_000);
+    is_same(&program.body().len(), &30_000)?;
     Ok(())
 }
 

@@ -1,7 +1,7 @@
-use crate::asserting::{holds, is_same};
 use machine_core::{Act, Event, Op, Outcome, Registers, Status, Trap, set_at};
 use std::alloc::Global;
 use std::test::Fail;
+use testing::{holds, is_same};
 use tick_play::report_of;
 
 // An operator, its operands, what it comes to, and the row's name.
@@ -15,11 +15,12 @@ static OPERATORS: [(Op, u32, u32, Result<u32, Trap>, &str); 6] = [
 ];
 
 #[test]
-fn applies_operators(rt: HostRuntime) {
+fn applies_operators() -> Result<(), Fail> {
     for (op, left, right, result, row) in &OPERATORS {
-        holds(&rt, op.apply(*left, *right) == *result, row);
+        holds(op.apply(*left, *right) == *result, row)?;
     }
-    holds(&rt, Op::Differs.text() == "!=", "!=");
+    holds(Op::Differs.text() == "!=", "!=")?;
+    Ok(())
 }
 
 #[test]
@@ -27,10 +28,10 @@ fn holds_registers(rt: HostRuntime) -> Result<(), Fail> {
     let mut registers = Registers::new(rt.alloc(), 2, 3)?;
     registers.set(1, 2, 9);
     registers.set(2, 0, 8);
-    is_same(&rt, &registers.get(1, 2), &9);
-    is_same(&rt, &registers.get(2, 0), &0);
+    is_same(&registers.get(1, 2), &9)?;
+    is_same(&registers.get(2, 0), &0)?;
     let rows = registers.into_rows();
-    is_same(&rt, &rows.len(), &2);
+    is_same(&rows.len(), &2)?;
     Ok(())
 }
 

@@ -1,6 +1,6 @@
-use crate::asserting::is_same;
 use std::process::Abort;
 use std::test::Fail;
+use testing::is_same;
 use tick_play::{ScheduleFault, read_schedule, write_schedule};
 
 fn reads<R: AllocGlobal + Abort>(rt: &R, text: &str, n: u8, steps: &[u8]) -> Result<(), Fail> {
@@ -48,6 +48,6 @@ fn writes_longest_runs(rt: HostRuntime) -> Result<(), Fail> {
 #[test]
 fn reads_and_writes_the_longest_schedule(rt: HostRuntime) -> Result<(), Fail> {
     let steps = read_schedule(rt.alloc(), "0*4 5*9999995 0", 6)?;
-    is_same(&rt, &steps.len(), &10_000_000);
+    is_same(&steps.len(), &10_000_000)?;
     writes(&rt, steps.as_slice(), "0*4 5*9999995 0")
 }

@@ -1,7 +1,7 @@
-use crate::asserting::{holds, is_same};
-use crate::programs::{accepted, report};
+use crate::programs::report;
 use std::process::Abort;
 use std::test::Fail;
+use testing::{accepted, holds, is_same};
 use tick_play::read_schedule;
 use tick_source::{Act, Event, SourceMachine, Status, Trap, run};
 
@@ -76,14 +76,14 @@ fn steps_one_by_one(rt: HostRuntime) -> Result<(), Fail> {
     let mut machine = SourceMachine::new(rt.alloc(), &program)?;
     machine.step(1)?;
     machine.step(1)?;
-    is_same(&rt, &machine.register(0, 0), &0);
-    is_same(&rt, &machine.register(0, 1), &8);
-    is_same(&rt, &machine.events().len(), &1);
-    is_same(&rt, &machine.status(1), &Status::Running);
+    is_same(&machine.register(0, 0), &0)?;
+    is_same(&machine.register(0, 1), &8)?;
+    is_same(&machine.events().len(), &1)?;
+    is_same(&machine.status(1), &Status::Running)?;
     machine.step(1)?;
     machine.step(1)?;
-    is_same(&rt, &machine.status(0), &Status::Running);
-    is_same(&rt, &machine.status(1), &Status::Ended);
+    is_same(&machine.status(0), &Status::Running)?;
+    is_same(&machine.status(1), &Status::Ended)?;
     let expected = [
         Event {
             process: 1,
@@ -94,7 +94,7 @@ fn steps_one_by_one(rt: HostRuntime) -> Result<(), Fail> {
             act: Act::End,
         },
     ];
-    holds(&rt, machine.events() == expected.as_slice(), "events");
+    holds(machine.events() == expected.as_slice(), "events")?;
     Ok(())
 }
 
@@ -113,18 +113,13 @@ fn runs_a_schedule(rt: HostRuntime) -> Result<(), Fail> {
             act: Act::Put(0, 0),
         },
     ];
-    holds(
-        &rt,
-        outcome.events.as_slice() == expected.as_slice(),
-        "events",
-    );
-    is_same(&rt, &outcome.registers.len(), &1);
+    holds(outcome.events.as_slice() == expected.as_slice(), "events")?;
+    is_same(&outcome.registers.len(), &1)?;
     let statuses = [Status::Running, Status::Trapped(Trap::Below)];
     holds(
-        &rt,
         outcome.statuses.as_slice() == statuses.as_slice(),
         "statuses",
-    );
+    )?;
     Ok(())
 }
 
@@ -136,12 +131,11 @@ fn runs_long(rt: HostRuntime) -> Result<(), Fail> {
     )?;
     let steps = read_schedule(rt.alloc(), "0*400002 1*1000000", program.processes())?;
     let outcome = run(rt.alloc(), &program, &steps)?;
-    is_same(&rt, &outcome.events.len(), &200_002);
+    is_same(&outcome.events.len(), &200_002)?;
     let statuses = [Status::Ended, Status::Ended];
     holds(
-        &rt,
         outcome.statuses.as_slice() == statuses.as_slice(),
         "statuses",
-    );
+    )?;
     Ok(())
 }
