@@ -1,5 +1,6 @@
 use crate::programs::lowered;
 use std::test::Fail;
+use testing::{holds, is_same};
 use tick_lower::commit;
 
 #[test]
@@ -34,10 +35,10 @@ fn ends_a_step_where_a_statement_is_done(rt: HostRuntime) -> Result<(), Fail> {
         (false, "Jump"),
         (true, "Halt"),
     ];
-    assert_eq!(rt; code.len(), expected.len());
+    is_same(&code.len(), &expected.len())?;
     for (place, (ends, kind)) in expected.iter().enumerate() {
         if place < code.len() {
-            assert_eq!(rt; commit(&code, place as u16), *ends, "at {kind}");
+            holds(commit(&code, place as u16) == *ends, kind)?;
         }
     }
     Ok(())

@@ -1,16 +1,16 @@
 use crate::programs::{instructions, lowered};
 use machine_core::Op;
-use std::process::Abort;
+use std::alloc::Global;
 use std::test::Fail;
+use testing::is_same;
 use verified_code::Instr;
 use verified_code::Instr::{
     Bin, Copy, Count, Exchange, Get, Halt, Jump, JumpZero, Load, LoadWord, Me, Next, Older, Out,
     Push, Put, Scan, Store,
 };
 
-fn becomes<R: AllocGlobal + Abort>(rt: &R, text: &str, expected: &[Instr]) -> Result<(), Fail> {
-    assert_eq!(rt; instructions(rt.alloc(), text)?.as_slice(), expected);
-    Ok(())
+fn becomes(alloc: Global, text: &str, expected: &[Instr]) -> Result<(), Fail> {
+    is_same(&instructions(alloc, text)?.as_slice(), &expected)
 }
 
 #[test]
@@ -28,12 +28,12 @@ fn stamps_and_compares(rt: HostRuntime) -> Result<(), Fail> {
         Out,
         Halt,
     ];
-    becomes(&rt, text, expected.as_slice())?;
+    becomes(rt.alloc(), text, expected.as_slice())?;
     let sizes = lowered(rt.alloc(), text)?.sizes();
-    assert_eq!(rt; sizes.processes(), 2);
-    assert_eq!(rt; sizes.variables(), 1);
-    assert_eq!(rt; sizes.scans(), 1);
-    assert_eq!(rt; sizes.registers(), 0);
+    is_same(&sizes.processes(), &2)?;
+    is_same(&sizes.variables(), &1)?;
+    is_same(&sizes.scans(), &1)?;
+    is_same(&sizes.registers(), &0)?;
     Ok(())
 }
 
@@ -54,7 +54,7 @@ fn repeats(rt: HostRuntime) -> Result<(), Fail> {
         Out,
         Halt,
     ];
-    becomes(&rt, text, expected.as_slice())
+    becomes(rt.alloc(), text, expected.as_slice())
 }
 
 #[test]
@@ -70,7 +70,7 @@ fn branches(rt: HostRuntime) -> Result<(), Fail> {
         Out,
         Halt,
     ];
-    becomes(&rt, text, expected.as_slice())
+    becomes(rt.alloc(), text, expected.as_slice())
 }
 
 #[test]
@@ -95,7 +95,7 @@ fn branches_to_stamps(rt: HostRuntime) -> Result<(), Fail> {
         Exchange(12),
         Halt,
     ];
-    becomes(&rt, text, expected.as_slice())
+    becomes(rt.alloc(), text, expected.as_slice())
 }
 
 #[test]
@@ -117,10 +117,10 @@ fn takes_each_other_statement(rt: HostRuntime) -> Result<(), Fail> {
         Older(1, 1),
         Halt,
     ];
-    becomes(&rt, text, expected.as_slice())
+    becomes(rt.alloc(), text, expected.as_slice())
 }
 
 #[test]
 fn ends_an_empty_program(rt: HostRuntime) -> Result<(), Fail> {
-    becomes(&rt, "processes 6; begin end", &[Halt])
+    becomes(rt.alloc(), "processes 6; begin end", &[Halt])
 }

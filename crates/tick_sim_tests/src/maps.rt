@@ -1,5 +1,7 @@
 use crate::programs::{dropped, lifted};
+use std::alloc::Global;
 use std::test::Fail;
+use testing::is_same;
 
 const STAMPS_AND_COMPARES: &str =
     "processes 2; var x; scan s; begin stamp; s = scan; x = older s 0 1; out x; end";
@@ -9,53 +11,54 @@ const COUNTS_TO_TWO: &str = "processes 1; var x; begin while (x < 2) { x = (x + 
 const COMES_BACK: &str = "processes 3; scan s; begin if (me == 0) { stamp; stamp; s = scan; } \
     else { stamp; stamp; stamp; stamp; stamp; } end";
 
-#[test]
-fn leads_through_the_code(rt: HostRuntime) -> Result<(), Fail> {
-    let steps = lifted(rt.alloc(), STAMPS_AND_COMPARES, "0*5 1*5")?;
-    assert_eq!(rt; steps.as_str(), "0*10 1*10");
-    let steps = lifted(rt.alloc(), COUNTS_TO_TWO, "0*7")?;
-    assert_eq!(rt; steps.as_str(), "0*25");
-    Ok(())
-}
+const TRAPS: &str = "processes 2; var x; begin x = (1 + (0 - 1)); end";
 
-#[test]
-fn leads_through_nothing_after_the_end(rt: HostRuntime) -> Result<(), Fail> {
-    let steps = lifted(rt.alloc(), COUNTS_TO_TWO, "0*9")?;
-    assert_eq!(rt; steps.as_str(), "0*25");
-    let steps = lifted(rt.alloc(), "processes 2; begin end", "1*2 0 1")?;
-    assert_eq!(rt; steps.as_str(), "1 0");
-    let steps = lifted(rt.alloc(), COUNTS_TO_TWO, " ")?;
-    assert_eq!(rt; steps.as_str(), "");
-    Ok(())
-}
+// A program, a schedule of it, and the one that leads through its code.
+static LIFTED: [(&str, &str, &str); 6] = [
+    (STAMPS_AND_COMPARES, "0*5 1*5", "0*10 1*10"),
+    (COUNTS_TO_TWO, "0*7", "0*25"),
+    // nothing leads on after the end
+    (COUNTS_TO_TWO, "0*9", "0*25"),
+    ("processes 2; begin end", "1*2 0 1", "1 0"),
+    (COUNTS_TO_TWO, " ", ""),
+    (TRAPS, "0 1*2", "0*4 1*4"),
+];
 
-#[test]
-fn drops_a_lost_exchange(rt: HostRuntime) -> Result<(), Fail> {
-    let steps = dropped(rt.alloc(), STAMPS_AND_COMPARES, "0 1 0 1 0 1 1 1 1")?;
-    assert_eq!(rt; steps.as_str(), "0 1");
-    Ok(())
-}
-
-#[test]
-fn keeps_tests_and_traps(rt: HostRuntime) -> Result<(), Fail> {
-    let steps = dropped(rt.alloc(), COUNTS_TO_TWO, "0*30")?;
-    assert_eq!(rt; steps.as_str(), "0*7");
-    let text = "processes 2; var x; begin x = (1 + (0 - 1)); end";
-    let steps = dropped(rt.alloc(), text, "0 1*6")?;
-    assert_eq!(rt; steps.as_str(), "1");
-    let steps = lifted(rt.alloc(), text, "0 1*2")?;
-    assert_eq!(rt; steps.as_str(), "0*4 1*4");
-    Ok(())
-}
-
-// While process 0 stamps, six stamps of the others bring the same labels back.
-#[test]
-fn keeps_an_exchange_of_labels_that_came_back(rt: HostRuntime) -> Result<(), Fail> {
-    let steps = dropped(
-        rt.alloc(),
+// A program, a schedule of its code, and the one that it stands for.
+static DROPPED: [(&str, &str, &str); 4] = [
+    // process 1 loses its first exchange
+    (STAMPS_AND_COMPARES, "0 1 0 1 0 1 1 1 1", "0 1"),
+    // tests stay, though no event tells of them, and so do traps
+    (COUNTS_TO_TWO, "0*30", "0*7"),
+    (TRAPS, "0 1*6", "1"),
+    // while process 0 stamps, six stamps of the others bring the same labels back
+    (
         COMES_BACK,
         "0*7 1*7 2*7 1*3 0*2 2*3 1*3 2*3 1*3 2*3 1*3 0*2",
-    )?;
-    assert_eq!(rt; steps.as_str(), "0*2 1*2 2*2 1 2 1 2 1 2 1 0*2");
+        "0*2 1*2 2*2 1 2 1 2 1 2 1 0*2",
+    ),
+];
+
+fn lifts(alloc: Global, text: &str, schedule: &str, expected: &str) -> Result<(), Fail> {
+    is_same(&lifted(alloc, text, schedule)?.as_str(), &expected)
+}
+
+fn drops(alloc: Global, text: &str, schedule: &str, expected: &str) -> Result<(), Fail> {
+    is_same(&dropped(alloc, text, schedule)?.as_str(), &expected)
+}
+
+#[test]
+fn leads_through_the_code(rt: HostRuntime) -> Result<(), Fail> {
+    for (text, schedule, expected) in &LIFTED {
+        lifts(rt.alloc(), text, schedule, expected)?;
+    }
+    Ok(())
+}
+
+#[test]
+fn stands_for_steps_of_the_program(rt: HostRuntime) -> Result<(), Fail> {
+    for (text, schedule, expected) in &DROPPED {
+        drops(rt.alloc(), text, schedule, expected)?;
+    }
     Ok(())
 }

@@ -1,18 +1,9 @@
 use std::alloc::Global;
 use std::test::Fail;
-use tick_kinds::{Program, check};
+use testing::accepted;
 use tick_lower::lower;
 use tick_play::{read_schedule, write_schedule};
 use tick_sim::{expand, project};
-use tick_syntax::parse;
-
-/// The program that a text is.
-pub fn accepted(alloc: Global, text: &str) -> Result<Program, Fail> {
-    match check(alloc, parse(alloc, text)?) {
-        Ok(program) => Ok(program),
-        Err((_tree, fault)) => Err(fault)?,
-    }
-}
 
 /// The schedule of its code that leads through a schedule of the program.
 pub fn lifted(alloc: Global, text: &str, schedule: &str) -> Result<String, Fail> {

@@ -1,7 +1,8 @@
-use crate::programs::{accepted, dropped, lifted};
+use crate::programs::{dropped, lifted};
 use machine_core::Outcome;
 use std::alloc::Global;
 use std::test::Fail;
+use testing::{accepted, is_same};
 use tick_lower::lower;
 use tick_play::read_schedule;
 use tick_sim::expand;
@@ -16,8 +17,7 @@ fn comes_back(rt: HostRuntime) -> Result<(), Fail> {
     let schedule = "0*2 1 2*5 0 1*7 2 0*30 1*2 2*40 1*50 0 1 2";
     let steps = lifted(rt.alloc(), GOES_ROUND, schedule)?;
     let back = dropped(rt.alloc(), GOES_ROUND, steps.as_str())?;
-    assert_eq!(rt; back.as_str(), schedule);
-    Ok(())
+    is_same(&back.as_str(), &schedule)
 }
 
 #[test]
@@ -26,8 +26,7 @@ fn shows_the_same(rt: HostRuntime) -> Result<(), Fail> {
         rt.alloc(),
         "0*2 1 2*5 0 1*7 2 0*30 1*2 2*40 1*50 0 1 2 0*9 1*9 2*9",
     )?;
-    assert_eq!(rt; source, code);
-    Ok(())
+    is_same(&source, &code)
 }
 
 #[test]
@@ -35,8 +34,7 @@ fn comes_back_from_many_steps(rt: HostRuntime) -> Result<(), Fail> {
     let schedule = "0*40000 1*30000 2*30000";
     let steps = lifted(rt.alloc(), GOES_ROUND, schedule)?;
     let back = dropped(rt.alloc(), GOES_ROUND, steps.as_str())?;
-    assert_eq!(rt; back.as_str(), schedule);
-    Ok(())
+    is_same(&back.as_str(), &schedule)
 }
 
 // What the program shows under a schedule, and what its code shows under the one that leads through it.
