@@ -6,7 +6,6 @@
 #![tactic(auto)]
 
 mod event;
-mod no_memory;
 mod operator;
 mod outcome;
 mod place;
@@ -14,8 +13,8 @@ mod registers;
 mod run_outcome;
 mod status;
 
+pub use base::NoMemory;
 pub use event::{Act, Event};
-pub use no_memory::NoMemory;
 pub use operator::Op;
 pub use outcome::Outcome;
 pub use place::set_at;

@@ -1,5 +1,8 @@
-ghost use Rattle.std.specs.Prelude.{◌≡◌, option_map};
+ghost use Rattle.std.specs.Prelude.{◌≡◌, ◌++◌, OnOk, decimal, option_map, string_bytes};
 ghost use Rattle.text_core.specs.Number.{capped, number_of};
+
+use itoa::Buffer;
+use std::alloc::AllocError;
 
 /// What every greater number is read as. No number that is compared here reaches it.
 const CAP: u64 = 1 << 32;
@@ -19,4 +22,15 @@ pub fn number(text: &[u8]) -> Option<u64>
         value = (10 * value + u64::from(byte - b'0')).min(CAP);
     }
     Some(value)
+}
+
+/// Adds the digits of a number to a text, without the formatter.
+pub fn push_number(text: &mut String, value: u64) -> Result<(), AllocError>
+    ensures { OnOk result (string_bytes text.new ≡ string_bytes text.old ++ decimal value) }
+{
+    // Most numbers of a report have one digit.
+    if value < 10 {
+        return text.push(char::from(b'0' + value as u8));
+    }
+    text.push_str(Buffer::new().format(value))
 }

@@ -1,9 +1,9 @@
 // What the texts of programs, codes, schedules and answers share: blanks, decimal numbers, and what
-// lines are made of. Start with `number`.
+// lines are made of. Start with `number` and `push_number`.
 #![tactic(auto)]
 
 mod blank;
 mod decimal;
 
 pub use blank::is_blank;
-pub use decimal::number;
+pub use decimal::{number, push_number};

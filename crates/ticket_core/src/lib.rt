@@ -8,10 +8,8 @@
 ghost use Rattle.std.specs.Prelude.{◌≡◌, ◌+◌, ◌-◌, ◌^◌, ◌<◌, ◌≤◌, ℕ, List, ◌++◌, length, take, drop, replicate};
 ghost use Rattle.ticket_core.specs.Tickets.{start_tickets, greatest_ticket, stamp_ticket, tickets_below, ticket_ranks, older_ticket};
 
+pub use base::MOST_PROCESSES;
 use std::marker::Model;
-
-/// The most processes that a ticket object has.
-pub const MOST_PROCESSES: usize = 6;
 
 /// One ticket for each of one to six processes, in order of process number.
 #[derive(Clone, Copy, PartialEq, Eq, Debug)]
@@ -23,8 +21,8 @@ pub struct Tickets {
 impl Model for Tickets {
     ghost use Rattle.std.specs.Prelude.{◌≡◌, ◌-◌, ◌≤◌, ℕ, List, length, take, drop, replicate};
     ghost use Rattle.std.proofs.Common.{arith, length-take-le};
-    ghost use Rattle.padded_row.specs.Rows.{padded};
-    ghost use Rattle.padded_row.proofs.Offered.{padded_back};
+    ghost use Rattle.base.specs.Rows.{padded};
+    ghost use Rattle.base.proofs.Offered.{padded_back};
 
     ghost Value = { List ℕ };
 

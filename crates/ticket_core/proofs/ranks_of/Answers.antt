@@ -2,7 +2,7 @@ use Rattle.std.proofs.Common.{◌≡◌, ◌<◌, arith, ap, ◌∙◌, sym, get
 use Rattle.std.proofs.lemmas.List.{get_or-map}
 use Rattle.ticket_core.specs.Tickets.{tickets_below, ticket_ranks}
 use Rattle.ticket_core.proofs.Offered.{length-ticket_ranks}
-use Rattle.padded_row.proofs.Offered.{padded_next, padded_end}
+use Rattle.base.proofs.Offered.{padded_next, padded_end}
 use Rattle.ticket_core.proofs.ranks_of.Goals as goal
 
 pub loop-process-preserved : goal.loop-process-preserved
