@@ -1,11 +1,9 @@
 -- No two labels dominate each other; of two different labels of one length just one dominates the
 -- other.
-use Rattle.std.proofs.Common.{◌≡◌, ℕ, suc, zero, ◌-◌, ◌<◌, ◌≤◌, Bool, true, false, not, ◌&&◌, cond, eqb, List, [], ◌∷◌, ◌++◌, length, take, drop, replicate, refl, sym, ap, subst, ◌∙◌, arith}
+use Rattle.std.proofs.Common.{◌≡◌, ℕ, suc, zero, ◌<◌, Bool, true, false, not, ◌&&◌, cond, eqb, List, [], ◌∷◌, length, refl, sym, ◌∙◌, arith}
 use Rattle.std.specs.Prelude.{All}
 use Rattle.std.proofs.lemmas.Bool.{cond-true, cond-false, eqb-true, eq-eqb, ne_eqb}
-use Rattle.std.proofs.lemmas.List.Elements.{All-head, All-tail, All-append, All-replicate}
-use Rattle.padded_row.specs.Rows.{padded}
-use Rattle.padded_row.proofs.Offered.{padded_back}
+use Rattle.std.proofs.lemmas.List.Elements.{All-head, All-tail}
 use Rattle.label_core.specs.Labels.{next_digit, dominates, same_label}
 
 -- of two different digits just one is the next one of the other
@@ -74,30 +72,3 @@ dominates_turn (d ∷ a) (e ∷ b) len small_a small_b differ =
           ∙ turn d e (All-head (λ digit. digit < 3) d a small_a) (All-head (λ digit. digit < 3) e b small_b) here
     ] in
     by (eqb d e) refl differ
-
--- equal digits past two labels of one length change nothing
-dominates_further : (a b rest : List ℕ) → length a ≡ length b → dominates (a ++ rest) (b ++ rest) ≡ dominates a b
-dominates_further [] [] rest len = dominates_self rest
-dominates_further [] (e ∷ b) rest len = let bad : 0 ≡ suc (length b) = len in absurd (omega arith)
-dominates_further (d ∷ a) [] rest len = let bad : suc (length a) ≡ 0 = len in absurd (omega arith)
-dominates_further (d ∷ a) (e ∷ b) rest len =
-    let len' : suc (length a) ≡ suc (length b) = len in
-    ap (λ t. cond (eqb d e) t (eqb d (next_digit e))) (dominates_further a b rest (omega arith))
-
--- of two rows the labels in front decide
-pub dominates_rows : (m n : ℕ) (a b : List ℕ) → length a ≡ 5 → length b ≡ 5 → m ≤ 5 → n ≤ 5
-    → drop m a ≡ replicate (5 - m) 0 → drop n b ≡ replicate (5 - n) 0 → length (take m a) ≡ length (take n b)
-    → dominates a b ≡ dominates (take m a) (take n b)
-dominates_rows m n a b len_a len_b few_a few_b zeros_a zeros_b same =
-    sym (ap (λ row. dominates row b) (padded_back 5 m 0 a len_a few_a zeros_a))
-    ∙ sym (ap (dominates (padded 5 0 (take m a))) (padded_back 5 n 0 b len_b few_b zeros_b))
-    ∙ ap (λ k. dominates (padded 5 0 (take m a)) (take n b ++ replicate (5 - k) 0)) (sym same)
-    ∙ dominates_further (take m a) (take n b) (replicate (5 - length (take m a)) 0) same
-
--- all digits of a row are small where those of its label are
-pub small_row : (n : ℕ) (row : List ℕ) → length row ≡ 5 → n ≤ 5 → drop n row ≡ replicate (5 - n) 0
-    → All (λ digit. digit < 3) (take n row) → All (λ digit. digit < 3) row
-small_row n row len few zeros small =
-    subst (All (λ digit. digit < 3)) (padded_back 5 n 0 row len few zeros)
-    (All-append (λ digit. digit < 3) (take n row) (replicate (5 - length (take n row)) 0) small
-    (All-replicate (λ digit. digit < 3) (5 - length (take n row)) 0 (omega arith)))

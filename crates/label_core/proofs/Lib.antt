@@ -2,8 +2,11 @@ pub mod Choices
 pub mod Domination
 pub mod Examples
 pub mod Greatest
+pub mod Held
 pub mod Offered
+pub mod Pairs
 pub mod Reaching
+pub mod Rows
 pub mod Scanning
 pub mod Sharing
 pub mod Turning

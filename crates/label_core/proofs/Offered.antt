@@ -1,13 +1,37 @@
 -- The lemmas on labels that other crates may cite.
-use Rattle.std.specs.Prelude.{◌≡◌, ℕ, true, false, List, All, Contains}
+use Rattle.std.proofs.Common.{subst}
+use Rattle.std.specs.Prelude.{◌≡◌, ℕ, ◌^◌, ◌<◌, ◌≤◌, true, false, List, All, Contains}
 use Rattle.std.proofs.lemmas.List.Elements.{All-from_recursion}
-use Rattle.label_core.specs.Labels.{IsLabel, HasGreatest, dominates, next, zeros}
+use Rattle.label_core.specs.Labels.{IsLabel, IsNumbered, HasGreatest, dominates, label_number, digits_in, next, zeros}
 use Rattle.label_core.specs.Laws.{NextLaw}
+use Rattle.label_core.specs.prover.Numbers
 use Rattle.label_core.proofs.Domination
 use Rattle.label_core.proofs.Greatest
+use Rattle.label_core.proofs.Held
 
 pub zeros_label : (digits : ℕ) → IsLabel digits (zeros digits)
 zeros_label = Greatest.zeros_label
+
+-- the digits of a number are the label that is read as it
+pub numbered : (digits read : ℕ) → read < 3 ^ digits → IsNumbered digits read (digits_in digits read)
+numbered = Held.numbered
+
+-- and a label is the digits of its number
+pub numbered_back : (digits : ℕ) (label : List ℕ) → IsLabel digits label → digits_in digits (label_number label) ≡ label
+numbered_back digits label is = subst (λ k. digits_in k (label_number label) ≡ label) is.len (Numbers.digits_in-number label is.small)
+
+pub number_fits : (digits : ℕ) (label : List ℕ) → IsLabel digits label → label_number label < 3 ^ digits
+number_fits digits label is = subst (λ k. label_number label < 3 ^ k) is.len (Numbers.number_fits label is.small)
+
+-- at most five digits fit a byte
+pub numbers_fit : (digits read : ℕ) → digits ≤ 5 → read < 3 ^ digits → read < 243
+numbers_fit = Held.number_in_table
+
+pub some_numbers : (digits : ℕ) → 0 < 3 ^ digits
+some_numbers = Numbers.some_labels
+
+pub zeros_numbered : (digits : ℕ) → digits_in digits 0 ≡ zeros digits
+zeros_numbered = Held.zeros_held
 
 -- no label dominates itself
 pub dominates_self : (label : List ℕ) → dominates label label ≡ false

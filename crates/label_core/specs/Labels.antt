@@ -1,12 +1,27 @@
 -- Labels as lists of digits 0, 1, 2, the outermost cycle first; which of two dominates; which one
 -- a process takes next.
-use Rattle.std.specs.Prelude.{◌≡◌, ℕ, suc, ◌+◌, ◌-◌, ◌%◌, ◌<◌, ◌≤◌, ◌==◌, nat_le, Bool, true, false, ◌&&◌, ◌||◌, if◌then◌else◌, Option, None, Some, List, [], ◌∷◌, length, map, replicate, All, Contains, find, count_by}
+use Rattle.std.specs.Prelude.{◌≡◌, ℕ, suc, zero, ◌+◌, ◌-◌, ◌*◌, ◌/◌, ◌%◌, ◌^◌, ◌<◌, ◌≤◌, ◌==◌, nat_le, Bool, true, false, ◌&&◌, ◌||◌, if◌then◌else◌, Option, None, Some, List, [], ◌∷◌, length, map, replicate, All, Contains, find, count_by}
 use Rattle.std.specs.List.{list_all}
 
 -- a label of `digits` digits, each below 3
 pub record IsLabel (digits : ℕ) (label : List ℕ) : Type 0 where
   pub len : length label ≡ digits
   pub small : All (λ digit. digit < 3) label
+
+-- a label read as a number in base 3, its first digit highest
+abbrev pub label_number : List ℕ → ℕ
+label_number [] = 0
+label_number (digit ∷ digits) = digit * 3 ^ length digits + label_number digits
+
+-- the `count` digits of a number below `3 ^ count` in base 3, the highest first
+abbrev pub digits_in : ℕ → ℕ → List ℕ
+digits_in zero read = []
+digits_in (suc count) read = read / 3 ^ count ∷ digits_in count (read % 3 ^ count)
+
+-- the label of `digits` digits that is read as this number
+pub record IsNumbered (digits read : ℕ) (label : List ℕ) : Type 0 where
+  pub is : IsLabel digits label
+  pub reads : label_number label ≡ read
 
 -- the digit that dominates this one: 1 over 0, 2 over 1, 0 over 2
 abbrev pub next_digit : ℕ → ℕ

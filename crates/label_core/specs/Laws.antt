@@ -1,6 +1,11 @@
--- What holds of every next label.
-use Rattle.std.specs.Prelude.{◌≡◌, ℕ, ◌-◌, true, List, All}
-use Rattle.label_core.specs.Labels.{IsLabel, CanChoose, dominates, next}
+-- What holds of every label and every next one.
+use Rattle.std.specs.Prelude.{◌≡◌, ℕ, ◌-◌, ◌<◌, true, List, [], All, slice_index_or}
+use Rattle.label_core.specs.Labels.{IsLabel, IsNumbered, CanChoose, dominates, next}
+use Rattle.label_core.specs.declared.table.TheConstants.{DIGITS}
+
+-- each row of the table is the label of five digits that is read as the row's number
+abbrev pub DigitsLaw : Type 0
+DigitsLaw = (read : ℕ) → read < 243 → IsNumbered 5 read (slice_index_or DIGITS read [])
 
 -- a label of `digits` digits that dominates each of these
 pub record IsAbove (digits : ℕ) (labels : List (List ℕ)) (label : List ℕ) : Type 0 where

@@ -1,36 +1,36 @@
-ghost use Rattle.std.specs.Prelude.{◌≡◌, ◌↔◌, ◌+◌, ◌-◌, ◌<◌, ◌≤◌, ℕ, List, ◌∷◌, ◌++◌, length, take, drop, replicate, slice_index, All, IsSome, IfSome, IsTrue, ◌==◌};
-ghost use Rattle.padded_row.specs.Rows.{padded};
-ghost use Rattle.label_core.specs.Labels.{AreDigits, dominates, next_digit, zeros};
+ghost use Rattle.std.specs.Prelude.{◌≡◌, ◌↔◌, ◌+◌, ◌-◌, ◌^◌, ◌<◌, ◌≤◌, ◌∷◌, ◌++◌, length, take, replicate, slice_index, All, IsSome, IfSome, MatchOption, ◌==◌};
+ghost use Rattle.label_core.specs.Labels.{AreDigits, IsNumbered, dominates, next_digit, zeros, label_number, digits_in};
 
+use crate::table::{COUNTS, DIGITS};
 use std::marker::Model;
 
 /// The most digits that a label has: those of six processes.
 pub const MOST_DIGITS: usize = 5;
 
-/// Up to five digits 0, 1, 2, the outermost cycle first. One of n processes has n - 1.
+/// Up to five digits 0, 1, 2, the outermost cycle first. One of n processes has n - 1. They are kept
+/// as the number that they are in base 3.
 #[derive(Clone, Copy, PartialEq, Eq, Debug)]
 pub struct Label {
     len: u8,
-    digits: [u8; MOST_DIGITS],
+    number: u8,
 }
 
 impl Model for Label {
-    ghost use Rattle.std.specs.Prelude.{◌≡◌, ◌-◌, ◌<◌, ◌≤◌, ℕ, List, length, take, drop, replicate, All};
-    ghost use Rattle.std.proofs.Common.{arith, length-take-le};
-    ghost use Rattle.padded_row.specs.Rows.{padded};
-    ghost use Rattle.padded_row.proofs.Offered.{padded_back};
+    ghost use Rattle.std.specs.Prelude.{◌^◌, ◌<◌, ◌≤◌, ℕ, List, length};
+    ghost use Rattle.label_core.specs.Labels.{label_number, digits_in};
+    ghost use Rattle.label_core.specs.prover.Numbers.{length-digits_in, number-digits_in};
 
     ghost Value = { List ℕ };
 
-    ghost view = { λ fields. take fields.len fields.digits };
+    ghost view = { λ fields. digits_in fields.len fields.number };
 
-    ghost invariant = { λ fields. (fields.len ≤ 5) × (length fields.digits ≡ 5) × (drop fields.len fields.digits ≡ replicate (5 - fields.len) 0) × All (λ digit. digit < 3) (take fields.len fields.digits) };
+    ghost invariant = { λ fields. (fields.len ≤ 5) × (fields.number < 3 ^ fields.len) };
 
-    ghost inverse = { λ label. record { len = length label; digits = padded 5 0 label } };
+    ghost inverse = { λ label. record { len = length label; number = label_number label } };
 
     ghost inverse_ok = { λ fields kept i. record {
-      len = length-take-le fields.len fields.digits (omega (arith, kept.0, kept.1)) i;
-      digits = padded_back 5 fields.len 0 fields.digits kept.1 kept.0 kept.2 i;
+      len = length-digits_in fields.len fields.number i;
+      number = number-digits_in fields.len fields.number kept.1 i;
     } };
 }
 
@@ -48,32 +48,55 @@ impl Label {
         }
         Some(Label {
             len: digits.len() as u8,
-            digits: padded(digits),
+            number: number_of(digits),
         })
     }
 
-    /// The label of the first `len` of these digits, which are 0, 1 or 2; the others are 0.
-    pub fn from_row(len: u8, row: [u8; MOST_DIGITS]) -> Label
+    /// The label of `len` digits that is this number in base 3.
+    #[tactic(auto, using(crate::proofs::Held::numbered))]
+    pub fn numbered(len: u8, number: u8) -> Label
         requires few { len ≤ 5 }
-        requires small { All (λ digit. digit < 3) (take len row) }
-        requires rest { drop len row ≡ replicate (5 - len) 0 }
-        ensures { result ≡ take len row }
+        requires small { number < 3 ^ len }
+        ensures digits { result ≡ digits_in len number }
+        ensures numbered { IsNumbered len number result }
     {
-        Label { len, digits: row }
+        Label { len, number }
+    }
+
+    /// The label of one of `n` processes that is this number in base 3; `None` where the number needs
+    /// more than n - 1 digits.
+    pub fn of_number(n: u8, number: u8) -> Option<Label>
+        requires at_least_one { 1 ≤ n }
+        requires at_most_six { n ≤ 6 }
+        ensures { MatchOption result (3 ^ (n - 1) ≤ number) (IsNumbered (n - 1) number) }
+    {
+        let len = n - 1;
+        if number >= COUNTS[len as usize] {
+            return None;
+        }
+        Some(Label::numbered(len, number))
     }
 
     /// The label of `len` digits that are all 0.
+    #[tactic(auto, using(crate::specs::prover::Numbers::some_labels, crate::proofs::Held::zeros_held))]
     pub fn zeros(len: u8) -> Label
         requires { len ≤ 5 }
         ensures { result ≡ zeros len }
     {
-        Label {
-            len,
-            digits: [0; MOST_DIGITS],
-        }
+        Label::numbered(len, 0)
+    }
+
+    /// The label read as a number in base 3, the outermost cycle's digit highest.
+    #[tactic(auto, using(crate::proofs::Held::number_held, crate::proofs::Held::digits_held))]
+    pub fn number(&self) -> u8
+        ensures number { result ≡ label_number self.now }
+        ensures digits { AreDigits self.now }
+    {
+        self.number
     }
 
     /// The number of digits, 0 to 5.
+    #[tactic(auto, using(crate::proofs::Held::length_held, crate::proofs::Held::digits_held))]
     pub fn len(&self) -> usize
         ensures len { result ≡ length self.now }
         ensures digits { AreDigits self.now }
@@ -94,7 +117,7 @@ impl Label {
         ensures digit { result ≡ slice_index self.now i }
         ensures small { result < 3 }
     {
-        self.digits[i]
+        self.held()[i]
     }
 
     /// Whether this label dominates the other, of the same length: at the first place at which
@@ -103,8 +126,8 @@ impl Label {
         requires { length self.now ≡ length other.now }
         ensures { result ≡ dominates self.now other.now }
     {
-        // The digits past both are equal, and rows of a known length take half the time.
-        dominates_digits(&self.digits, &other.digits)
+        // The zeros in front of both are equal, and rows of a known length take half the time.
+        dominates_digits(self.row(), other.row())
     }
 
     // The digits before place `at`, the next digit there, and 0 from there on.
@@ -112,11 +135,11 @@ impl Label {
         requires { at < length self.now }
         ensures { result ≡ take at self.now ++ next_digit (slice_index self.now at) ∷ replicate (length self.now - (at + 1)) 0 }
     {
-        let mut digits = padded(&self.held()[..at]);
-        digits[at] = next_digit(self.digit(at));
+        let weight = COUNTS[self.len() - (at + 1)];
+        let before = self.number / weight / 3;
         Label {
             len: self.len,
-            digits,
+            number: (before * 3 + next_digit(self.digit(at))) * weight,
         }
     }
 
@@ -125,7 +148,17 @@ impl Label {
         ensures held { result.now ≡ self.now }
         ensures digits { AreDigits result.now }
     {
-        &self.digits[..self.len as usize]
+        let row: &[u8] = self.row();
+        &row[MOST_DIGITS - self.len as usize..]
+    }
+
+    // The digits below as many zeros as make them five.
+    #[tactic(auto, using(crate::proofs::Held::row_held, crate::proofs::Held::digits_held))]
+    fn row(&self) -> &[u8; MOST_DIGITS]
+        ensures row { result.now ≡ replicate (5 - length self.now) 0 ++ self.now }
+        ensures digits { AreDigits self.now }
+    {
+        &DIGITS[self.number as usize]
     }
 }
 
@@ -151,14 +184,16 @@ pub(crate) fn next_digit(digit: u8) -> u8
     (digit + 1) % 3
 }
 
-// The digits, and 0 past them.
-fn padded(digits: &[u8]) -> [u8; MOST_DIGITS]
-    requires { length digits.now ≤ 5 }
-    ensures { result ≡ padded 5 0 digits.now }
+// The number that up to five digits are in base 3.
+fn number_of(digits: &[u8]) -> u8
+    requires few { length digits.now ≤ 5 }
+    requires small { All (λ digit. digit < 3) digits.now }
+    ensures small { result < 3 ^ length digits.now }
+    ensures digits { digits_in (length digits.now) result ≡ digits.now }
 {
-    let mut row = [0; MOST_DIGITS];
-    for (at, &digit) in digits.iter().enumerate() {
-        row[at] = digit;
+    let mut number = 0;
+    for &digit in digits {
+        number = number * 3 + digit;
     }
-    row
+    number
 }

@@ -1,4 +1,4 @@
-ghost use Rattle.std.specs.Prelude.{◌≡◌, ◌-◌, ◌≤◌, ℕ, List, ◌++◌, length, replicate, All};
+ghost use Rattle.std.specs.Prelude.{◌≡◌, ◌-◌, ◌≤◌, ◌∷◌, ◌++◌, length, map, replicate};
 ghost use Rattle.label_core.specs.Labels.{AreAlike, dominated, label_ranks};
 
 use crate::digits::Label;
@@ -15,20 +15,28 @@ pub fn ranks(labels: &[Label]) -> [u8; MOST_LABELS]
 {
     let mut ranks = [0; MOST_LABELS];
     for (process, label) in labels.iter().enumerate() {
-        ranks[process] = count_dominated(label, labels);
+        let rank = rank_beside(label, &labels[..process], &mut ranks[..process]);
+        ranks[process] = rank;
     }
     ranks
 }
 
-/// How many of up to six labels of one length this one, of the same length, dominates.
-pub fn count_dominated(label: &Label, labels: &[Label]) -> u8
-    requires few { length labels.now ≤ 6 }
-    requires alike { All (λ other. length label.now ≡ length other) labels.now }
-    ensures { result ≡ dominated labels.now label.now }
+// Ranks a label beside others whose ranks these are, and counts it in theirs. Each pair is compared
+// once: of two labels that differ just one dominates the other.
+fn rank_beside(label: &Label, others: &[Label], ranks: &mut [u8]) -> u8
+    requires few { length others.now ≤ 5 }
+    requires alike { AreAlike (label.now ∷ others.now) }
+    requires ranks { ranks.old ≡ label_ranks others.now }
+    ensures ranks { ranks.new ≡ map (dominated (label.now ∷ others.now)) others.now }
+    ensures rank { result ≡ dominated others.now label.now }
 {
-    let mut count = 0;
-    for other in labels {
-        count += u8::from(label.dominates(other));
+    let mut rank = 0;
+    for (place, other) in others.iter().enumerate() {
+        if label.dominates(other) {
+            rank += 1;
+        } else if label.number() != other.number() {
+            ranks[place] += 1;
+        }
     }
-    count
+    rank
 }

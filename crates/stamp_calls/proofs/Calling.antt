@@ -1,5 +1,5 @@
 -- What the calls make of their caller, from the steps of its pass.
-use Rattle.std.proofs.Common.{◌≡◌, ℕ, List, [], ◌∷◌, ◌++◌, refl, sym, ap, ◌∙◌, subst, append_assoc}
+use Rattle.std.proofs.Common.{◌≡◌, ◌≤◌, ℕ, List, [], ◌∷◌, ◌++◌, refl, sym, ap, ◌∙◌, subst, append_assoc}
 use Rattle.std.specs.Prelude.{All}
 use Rattle.std.proofs.lemmas.List.Elements.{All-append, All-cons, All-nil}
 use Rattle.word_core.specs.Stamps.{stamped}
@@ -75,17 +75,17 @@ next_try table old mid now given found t stands goes own =
     }
 
 -- an exchange that is won found the labels that it was given
-won_found : (n rows : ℕ) (front : List Shared) (p : ℕ) (old new : List (List ℕ)) → AreLabels n old → IsLegal n rows (front ++ by p (Won (word old) (word new)) ∷ [])
+won_found : (n rows : ℕ) → n ≤ 6 → (front : List Shared) (p : ℕ) (old new : List (List ℕ)) → AreLabels n old → IsLegal n rows (front ++ by p (Won (word old) (word new)) ∷ [])
     → old ≡ (memory_of n rows front).labels
-won_found n rows front p old new are legal =
-    labels_of_word n old (memory_of n rows front).labels are (history_labels n rows front)
+won_found n rows few front p old new are legal =
+    labels_of_word n few old (memory_of n rows front).labels are (history_labels n rows front)
     ((next_step n rows front (by p (Won (word old) (word new)))).0 legal).1.1.0
 
 -- the try that is won
-pub last_try : (table : TableView) (old mid now : CallerView) (given order : List (List ℕ)) → old.pass.table ≡ table → Trying table old given mid
+pub last_try : (table : TableView) (old mid now : CallerView) (given order : List (List ℕ)) → old.pass.table ≡ table → table.n ≤ 6 → Trying table old given mid
     → order ≡ stamped mid.process given → Appends mid.pass (by mid.process (Won (word given) (word order))) now.pass
     → Stamps old order now
-last_try table old mid now given order here t stamps step =
+last_try table old mid now given order here few t stamps step =
     let goes = t.goes in
     let n : ℕ = old.pass.table.n in
     let rows : ℕ = old.pass.table.rows in
@@ -106,7 +106,7 @@ last_try table old mid now given order here t stamps step =
       tried = before p (subst (Holds mid.pass.held) goes.process goes.holds) ∙ own_mid;
       others = λ q holds other. before q (subst (λ h. Holds h q) (sym goes.held) holds) ∙ goes.others q holds other;
       found = given;
-      finds = won_found n rows front p given order
+      finds = won_found n rows (subst (λ (z : TableView). z.n ≤ 6) (sym here) few) front p given order
           (subst (λ (z : TableView). AreLabels z.n given) (sym here) t.are) (subst (IsLegal n rows) e.is e.legal);
       stamps = stamps ∙ ap (λ k. stamped k given) goes.process;
       last = e.is;

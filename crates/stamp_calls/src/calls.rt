@@ -73,6 +73,7 @@ pub fn stamp<R: Wait>(rt: &R, table: &StampTable, caller: &mut Caller) -> Order
     ensures range { caller.old.process < length result }
 {
     let mut order = scan(table, caller);
+    let _n = order.word.n();
     for _ in rt.forever() {
         match try_stamp(table, caller, order) {
             Tried::Won(won) => return won,

@@ -1,5 +1,5 @@
 -- What the answer of a step says of the history that it ends.
-use Rattle.std.proofs.Common.{◌≡◌, ◌≢◌, ℕ, ◌^◌, ◌<◌, Bool, List, [], ◌∷◌, ◌++◌, sym, ap, ◌∙◌, subst, arith}
+use Rattle.std.proofs.Common.{◌≡◌, ◌≢◌, ℕ, ◌^◌, ◌<◌, ◌≤◌, Bool, List, [], ◌∷◌, ◌++◌, sym, ap, ◌∙◌, subst, arith}
 use Rattle.std.specs.Prelude.{slice_index_or}
 use Rattle.std.proofs.lemmas.List.Elements.{All-get_or}
 use Rattle.word_core.specs.Stamps.{stamped}
@@ -10,7 +10,7 @@ use Rattle.word_core.specs.declared.history.SharedAct.{SharedAct}
 use Rattle.word_core.specs.declared.history.SharedAct.TheVariants.{Load, Won, Lost, Read}
 use Rattle.word_core.proofs.OfferedHistory.{history_labels, history_ordered, labels_of_word, history_rows, next_step, one_step}
 use Rattle.stamp_table.specs.Passes.{by, Extends}
-use Rattle.stamp_table.specs.Ordered.{AreOrdered}
+use Rattle.stamp_table.specs.Ordered.{AreInOrder}
 
 -- the answer fits what stood there, and what the step leaves is what stands there now
 pub answered : (n rows : ℕ) (held : List Bool) (before after : List Shared) (p : ℕ) (act : SharedAct) → Extends n rows held before (by p act) after
@@ -35,11 +35,11 @@ module _ (n rows : ℕ) (held : List Bool) (before after : List Shared) (p : ℕ
       let a = answered n rows held before after p (Lost old found) e in
       (ap (λ (m : Memory). word m.labels) a.2 ∙ sym a.1.0, a.1.1)
 
-  pub won_labels : (old new : List (List ℕ)) → AreLabels n old → new ≡ stamped p old → Extends n rows held before (by p (Won (word old) (word new))) after
+  pub won_labels : (old new : List (List ℕ)) → n ≤ 6 → AreLabels n old → new ≡ stamped p old → Extends n rows held before (by p (Won (word old) (word new))) after
       → new ≡ (memory_of n rows after).labels
-  won_labels old new are stamps e =
+  won_labels old new few are stamps e =
       let a = answered n rows held before after p (Won (word old) (word new)) e in
-      let same : old ≡ (memory_of n rows a.0).labels = labels_of_word n old (memory_of n rows a.0).labels are (history_labels n rows a.0) a.1.0 in
+      let same : old ≡ (memory_of n rows a.0).labels = labels_of_word n few old (memory_of n rows a.0).labels are (history_labels n rows a.0) a.1.0 in
       stamps ∙ ap (stamped p) same ∙ ap (λ (m : Memory). m.labels) (sym a.2)
 
   pub read_found : (r i v : ℕ) → Extends n rows held before (by p (Read r i v)) after → v ≡ register_at (memory_of n rows after).rows r i
@@ -62,11 +62,11 @@ pub word_is : (n rows : ℕ) (history : List Shared) (found : ℕ) → word (mem
 word_is n rows history found is = record { are = history_labels n rows history; packs = is }
 
 -- and there are no others
-pub labels_are : (n rows : ℕ) (history : List Shared) (found : ℕ) (labels : List (List ℕ)) → word (memory_of n rows history).labels ≡ found
+pub labels_are : (n rows : ℕ) → n ≤ 6 → (history : List Shared) (found : ℕ) (labels : List (List ℕ)) → word (memory_of n rows history).labels ≡ found
     → IsWordOf n found labels → labels ≡ (memory_of n rows history).labels
-labels_are n rows history found labels is word_of =
-    labels_of_word n labels (memory_of n rows history).labels word_of.are (history_labels n rows history) (word_of.packs ∙ sym is)
+labels_are n rows few history found labels is word_of =
+    labels_of_word n few labels (memory_of n rows history).labels word_of.are (history_labels n rows history) (word_of.packs ∙ sym is)
 
-pub ordered_labels : (n rows : ℕ) (history : List Shared) (labels : List (List ℕ)) → labels ≡ (memory_of n rows history).labels → AreOrdered n labels
+pub ordered_labels : (n rows : ℕ) (history : List Shared) (labels : List (List ℕ)) → labels ≡ (memory_of n rows history).labels → AreInOrder n labels
 ordered_labels n rows history labels is =
-    subst (AreOrdered n) (sym is) (record { count = (history_labels n rows history).count; ordered = history_ordered n rows history })
+    subst (AreInOrder n) (sym is) (record { count = (history_labels n rows history).count; ordered = history_ordered n rows history })

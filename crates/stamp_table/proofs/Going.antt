@@ -1,5 +1,5 @@
 -- What each kind of step asks of the rule.
-use Rattle.std.proofs.Common.{◌≡◌, ℕ, suc, ◌+◌, ◌*◌, ◌^◌, ◌<◌, ◌==◌, Bool, List, ◌∷◌, sym, ap, ◌∙◌, subst, ⊎_elim, arith}
+use Rattle.std.proofs.Common.{◌≡◌, ℕ, suc, ◌+◌, ◌*◌, ◌^◌, ◌<◌, ◌≤◌, ◌==◌, Bool, List, ◌∷◌, sym, ap, ◌∙◌, subst, ⊎_elim, arith}
 use Rattle.std.specs.Prelude.{slice_index, slice_set}
 use Rattle.std.specs.List.{concat}
 use Rattle.std.proofs.lemmas.Bool.{cases_eq, eq-eqb, ne_eqb}
@@ -19,9 +19,9 @@ pub load_goes : (n rows : ℕ) (held : List Bool) (p : ℕ) → p < n → Holds 
 load_goes n rows held p in_p holds history legal found is =
     ((in_p, is), ap (λ (x : ℕ). x ∷ concat (memory_of n rows history).rows) is, holds)
 
-pub exchange_goes : (n rows : ℕ) (held : List Bool) (p : ℕ) (old new : List (List ℕ)) → p < n → Holds held p → AreLabels n old → new ≡ stamped p old
+pub exchange_goes : (n rows : ℕ) (held : List Bool) (p : ℕ) (old new : List (List ℕ)) → n ≤ 6 → p < n → Holds held p → AreLabels n old → new ≡ stamped p old
     → Goes n rows held 0 (λ found. either (found == word old) (word new) found) (λ found. by p (exchange_act (found == word old) (word old) (word new) found))
-exchange_goes n rows held p old new in_p holds are stamps history legal found is =
+exchange_goes n rows held p old new few in_p holds are stamps history legal found is =
     let m : Memory = memory_of n rows history in
     let Right : Bool → Type 0 = λ same.
     MayFollow n rows m (by p (exchange_act same (word old) (word new) found))
@@ -29,7 +29,7 @@ exchange_goes n rows held p old new in_p holds are stamps history legal found is
     × Holds held p in
     ⊎_elim
     (λ same.
-    let labels : old ≡ m.labels = labels_of_word n old m.labels are (history_labels n rows history) (sym same ∙ is) in
+    let labels : old ≡ m.labels = labels_of_word n few old m.labels are (history_labels n rows history) (sym same ∙ is) in
     let next : word new ≡ word (stamped p m.labels) = ap word (stamps ∙ ap (stamped p) labels) in
     subst Right (sym (eq-eqb found (word old) same))
     ((in_p, (sym same ∙ is, next)), ap (λ (x : ℕ). x ∷ concat m.rows) next, holds))

@@ -5,7 +5,7 @@ use Rattle.atomic_table.specs.Seated.{TableId}
 use Rattle.word_core.specs.declared.history.Shared.{Shared}
 use Rattle.stamp_table.specs.Passes.{Holds, together, longer, TableView, PassView, Meets}
 use Rattle.stamp_table.specs.Rule.{plain}
-use Rattle.stamp_table.specs.prover.Steps.{joined, settled, Agrees, Settles}
+use Rattle.stamp_table.specs.prover.Steps.{joined, settled, Learns, Settles}
 use Rattle.stamp_table.specs.declared.rule.View.{View}
 use Rattle.stamp_table.specs.declared.pass.Pass.TheInside as P
 use Rattle.stamp_table.specs.declared.table.StampTable.TheInside as T
@@ -34,11 +34,11 @@ module _ (first second : P.Inside) (v w : PassView) (own : T.Inside) (of_first :
         ∙ ap (λ h. let r : Me ℕ View = (plain (together h second.seat.me.0.held) long, []) in r) first_held
         ∙ ap (λ h. let r : Me ℕ View = (plain (together first.held h) long, []) in r) second_held
 
-    learned : Agrees first.n first.rows (joined first.seat.me.0 second.seat.me.0)
+    learned : Learns first.n first.rows (joined first.seat.me.0 second.seat.me.0)
     learned =
-        subst (λ k. Agrees k first.rows (joined first.seat.me.0 second.seat.me.0)) of_first.key_n
-        (subst (λ k. Agrees own.table.shared.key.n k (joined first.seat.me.0 second.seat.me.0)) of_first.key_rows
-        (subst (λ (m : Me ℕ View). Agrees own.table.shared.key.n own.table.shared.key.rows m.0) both_is did.1))
+        subst (λ k. Learns k first.rows (joined first.seat.me.0 second.seat.me.0)) of_first.key_n
+        (subst (λ k. Learns own.table.shared.key.n k (joined first.seat.me.0 second.seat.me.0)) of_first.key_rows
+        (subst (λ (m : Me ℕ View). Learns own.table.shared.key.n own.table.shared.key.rows m.0) both_is did.1))
 
     pub met : (new_id : TableId) → new_id ≡ first.seat.table_id
         → Meets v w (record { table = record { id = new_id; n = first.n; rows = first.rows }; held = together first.held second.held; seen = new.0.seen })

@@ -12,7 +12,7 @@ use Rattle.word_core.specs.declared.history.Shared.{Shared}
 use Rattle.word_core.proofs.OfferedHistory.{beginning}
 use Rattle.stamp_table.specs.Passes.{Holds, StartsWith, longer}
 use Rattle.stamp_table.specs.Rule.{plain, HoldsOne, At, Knows, Apart, IsKept}
-use Rattle.stamp_table.specs.prover.Steps.{without, alone, joined, nobody, settled, Agrees, Settles}
+use Rattle.stamp_table.specs.prover.Steps.{without, alone, joined, nobody, settled, Learns, Settles}
 use Rattle.stamp_table.specs.declared.rule.View.{View}
 use Rattle.stamp_table.proofs.Prefixes.{mine-middle, starts_whole, longer_starts, longer_first, longer_second, longer_whole}
 use Rattle.stamp_table.proofs.Sets.{none_holds, holds_without, holds_alone, holds_together}
@@ -217,7 +217,7 @@ joins n rows id v other w v_is w_is s kept at_v differ at_w =
     join_kept n rows id other v w v_is w_is s kept at_v differ (sym (set_else s.views id other (joined v w) differ) ∙ at_w)
 
 -- What a pass that has taken in another learns when it looks at the table.
-learns : (n rows : ℕ) (history : List Shared) (v : View) → IsLegal n rows history → Knows history v → Agrees n rows v
+learns : (n rows : ℕ) (history : List Shared) (v : View) → IsLegal n rows history → Knows history v → Learns n rows v
 learns n rows history v legal knows =
     let long : StartsWith history (longer v.seen v.told) = longer_starts history v.seen v.told knows.seen knows.told in
     let over_first : StartsWith (longer v.seen v.told) v.seen = longer_first history v.seen v.told knows.seen knows.told in

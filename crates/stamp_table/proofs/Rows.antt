@@ -84,15 +84,15 @@ concat_fits n rows k are in_k =
     All-get_or (λ x. x < 2 ^ 32) (concat rows) k 0 (omega (arith, length-concat n rows are)) (all_fit n rows are)
 
 -- what is read from the words of a closed table is what its history leaves
-pub closed_memory : (n rows : ℕ) (seen : List Shared) (words registers : List ℕ) (bits : ℕ) (labels : List (List ℕ)) → IsLegal n rows seen
+pub closed_memory : (n rows : ℕ) → n ≤ 6 → (seen : List Shared) (words registers : List ℕ) (bits : ℕ) (labels : List (List ℕ)) → IsLegal n rows seen
     → words ≡ table_words (memory_of n rows seen) → get_elem? words 0 ≡ some bits → IsWordOf n bits labels → rows * n ≤ length registers
     → ((k : ℕ) → k < rows * n → slice_index registers k ≡ slice_index words (1 + k))
     → record { labels = labels; rows = rows_in rows n registers } ≡ memory_of n rows seen
-closed_memory n rows seen words registers bits labels legal is at word_of long same =
+closed_memory n rows few seen words registers bits labels legal is at word_of long same =
     let m : Memory = memory_of n rows seen in
     let are = history_rows n rows seen legal in
     let stands : word m.labels ≡ bits = sym (ap (λ (l : List ℕ). get_or l 0 0) is) ∙ got words 0 bits at in
-    let labels_is : labels ≡ m.labels = labels_are n rows seen bits labels stands word_of in
+    let labels_is : labels ≡ m.labels = labels_are n rows few seen bits labels stands word_of in
     let count : length m.rows ≡ rows = are.rows_count in
     let each : rows_in (length m.rows) n registers ≡ m.rows = rows_in-from n m.rows registers are.each (subst (λ k. k * n ≤ length registers) (sym count) long)
     (λ k in_k.

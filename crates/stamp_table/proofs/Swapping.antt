@@ -1,5 +1,5 @@
 -- What the answer of an exchange says of the history that it ends.
-use Rattle.std.proofs.Common.{◌≡◌, ℕ, Bool, List, ap}
+use Rattle.std.proofs.Common.{◌≡◌, ◌≤◌, ℕ, Bool, List, ap}
 use Rattle.word_core.specs.Stamps.{stamped}
 use Rattle.word_core.specs.Packed.{AreLabels, word}
 use Rattle.word_core.specs.History.{memory_of}
@@ -16,12 +16,12 @@ LostAre n Won = Unit {0}
 LostAre n (Lost found) = AreLabels n found
 
 module _ (n rows : ℕ) (held : List Bool) (before after : List Shared) (p : ℕ) (old new : List (List ℕ)) where
-  pub leaves : (answer : Swap) → AreLabels n old → new ≡ stamped p old → LostAre n answer → Extends n rows held before (by p (swap_act old new answer)) after
+  pub leaves : (answer : Swap) → n ≤ 6 → AreLabels n old → new ≡ stamped p old → LostAre n answer → Extends n rows held before (by p (swap_act old new answer)) after
       → swap_leaves new answer ≡ (memory_of n rows after).labels
-  leaves Won are stamps lost e = won_labels n rows held before after p old new are stamps e
-  leaves (Lost found) are stamps lost e =
+  leaves Won few are stamps lost e = won_labels n rows held before after p old new few are stamps e
+  leaves (Lost found) few are stamps lost e =
       let is = (lost_found n rows held before after p (word old) (word found) e).0 in
-      labels_are n rows after (word found) found is (record { are = lost; packs = λ i. word found })
+      labels_are n rows few after (word found) found is (record { are = lost; packs = λ i. word found })
 
   pub differs : (answer : Swap) → Extends n rows held before (by p (swap_act old new answer)) after → swap_leaves new answer ≡ (memory_of n rows after).labels
       → LostToOthers n old answer

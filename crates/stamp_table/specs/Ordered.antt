@@ -3,6 +3,6 @@ use Rattle.std.specs.Prelude.{◌≡◌, ℕ, List, length}
 use Rattle.word_core.specs.Order.{IsOrdered}
 
 -- labels of `n` processes that are in the order of numbers
-pub record AreOrdered (n : ℕ) (labels : List (List ℕ)) : Type 0 where
+pub record AreInOrder (n : ℕ) (labels : List (List ℕ)) : Type 0 where
   pub count : length labels ≡ n
   pub ordered : IsOrdered labels

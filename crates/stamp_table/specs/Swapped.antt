@@ -3,7 +3,7 @@ use Rattle.std.specs.Prelude.{◌≢◌, ℕ, List}
 use Rattle.word_core.specs.Packed.{word}
 use Rattle.word_core.specs.declared.history.SharedAct.{SharedAct}
 use Rattle.word_core.specs.declared.history.SharedAct.TheVariants as A
-use Rattle.stamp_table.specs.Ordered.{AreOrdered}
+use Rattle.stamp_table.specs.Ordered.{AreInOrder}
 use Rattle.stamp_table.specs.declared.label_word.Swap.{Swap}
 use Rattle.stamp_table.specs.declared.label_word.Swap.TheVariants.{Won, Lost}
 
@@ -20,4 +20,4 @@ swap_leaves new (Lost found) = found
 -- where an exchange is lost, other labels than the old ones were found
 abbrev pub LostToOthers : ℕ → List (List ℕ) → Swap → Type 0
 LostToOthers n old Won = Unit {0}
-LostToOthers n old (Lost found) = (found ≢ old) × AreOrdered n found
+LostToOthers n old (Lost found) = (found ≢ old) × AreInOrder n found

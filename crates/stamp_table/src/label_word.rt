@@ -4,7 +4,7 @@ ghost use Rattle.word_core.specs.Stamps.{stamped};
 ghost use Rattle.word_core.specs.Packed.{word};
 ghost use Rattle.word_core.specs.declared.history.SharedAct.TheVariants.{Load};
 ghost use Rattle.stamp_table.specs.Passes.{Holds, by, Appends, memory_seen};
-ghost use Rattle.stamp_table.specs.Ordered.{AreOrdered};
+ghost use Rattle.stamp_table.specs.Ordered.{AreInOrder};
 ghost use Rattle.stamp_table.specs.Swapped.{swap_act, swap_leaves, LostToOthers};
 
 use crate::pass::Pass;
@@ -30,7 +30,7 @@ impl StampTable {
         requires held { Holds pass.old.held p }
         ensures step { Appends pass.old (by p (Load (word result))) pass.new }
         ensures labels { result ≡ (memory_seen pass.new).labels }
-        ensures ordered { AreOrdered self.now.n result }
+        ensures ordered { AreInOrder self.now.n result }
         ensures range { p < length result }
     {
         let found = loaded::<Brand>(&self.table.shared, &mut pass.seat, p);
@@ -43,7 +43,7 @@ impl StampTable {
     pub fn exchange(&self, pass: &mut Pass, p: u8, old: LabelWord, new: LabelWord) -> Swap
         requires here { pass.old.table ≡ self.now }
         requires held { Holds pass.old.held p }
-        requires ordered { AreOrdered self.now.n old }
+        requires ordered { AreInOrder self.now.n old }
         requires stamped { new ≡ stamped p old }
         ensures step { Appends pass.old (by p (swap_act old new result)) pass.new }
         ensures labels { swap_leaves new result ≡ (memory_seen pass.new).labels }

@@ -57,9 +57,9 @@ pub history_stands : HistoryStandsLaw
 history_stands n rows history = agreement_law.stands n (tickets_of n history) (memory_of n rows history).labels (history_agrees n rows history)
 
 pub word_stands : WordStandsLaw
-word_stands n rows history labels are same =
+word_stands n rows few history labels are same =
     subst (StandsFor n (tickets_of n history))
-    (sym (distinct_law n labels (memory_of n rows history).labels are (history_stands n rows history).are same))
+    (sym (distinct_law n few labels (memory_of n rows history).labels are (history_stands n rows history).are same))
     (history_stands n rows history)
 
 pub beginning : BeginningLaw

@@ -1,5 +1,5 @@
 -- The lemmas on histories that other crates may cite.
-use Rattle.std.proofs.Common.{◌≡◌, ℕ, List}
+use Rattle.std.proofs.Common.{◌≡◌, ◌≤◌, ℕ, List}
 use Rattle.word_core.specs.Packed.{AreLabels, word}
 use Rattle.word_core.specs.Order.{IsOrdered}
 use Rattle.word_core.specs.History.{memory_of}
@@ -34,6 +34,6 @@ history_labels n rows history = (histories.history_stands n rows history).are
 pub history_ordered : (n rows : ℕ) (history : List Shared) → IsOrdered (memory_of n rows history).labels
 history_ordered n rows history = (histories.history_stands n rows history).ordered
 
--- labels of one number of processes with one word are the same
-pub labels_of_word : (n : ℕ) (a b : List (List ℕ)) → AreLabels n a → AreLabels n b → word a ≡ word b → a ≡ b
+-- labels of one number of processes, at most six, with one word are the same
+pub labels_of_word : (n : ℕ) → n ≤ 6 → (a b : List (List ℕ)) → AreLabels n a → AreLabels n b → word a ≡ word b → a ≡ b
 labels_of_word = distinct_law

@@ -1,5 +1,5 @@
 -- What holds of all labels of processes and all stamps.
-use Rattle.std.specs.Prelude.{◌≡◌, ℕ, List}
+use Rattle.std.specs.Prelude.{◌≡◌, ◌≤◌, ℕ, List}
 use Rattle.ticket_core.specs.Tickets.{start_tickets, stamp_ticket, tickets_after}
 use Rattle.word_core.specs.Stamps.{start_labels, stamped, labels_after}
 use Rattle.word_core.specs.Packed.{AreLabels, word}
@@ -18,6 +18,6 @@ abbrev pub StampsLaw : Type 0
 StampsLaw = (n : ℕ) (stamps : List ℕ)
     → StandsFor n (tickets_after (start_tickets n) stamps) (labels_after (start_labels n) stamps)
 
--- two lists of labels of one number of processes with the same word are the same list
+-- two lists of labels of one number of processes, at most six, with the same word are the same list
 abbrev pub DistinctLaw : Type 0
-DistinctLaw = (n : ℕ) (a b : List (List ℕ)) → AreLabels n a → AreLabels n b → word a ≡ word b → a ≡ b
+DistinctLaw = (n : ℕ) → n ≤ 6 → (a b : List (List ℕ)) → AreLabels n a → AreLabels n b → word a ≡ word b → a ≡ b

@@ -15,13 +15,14 @@ pub fn law_stamps()
     ensures { StampsLaw }
 {}
 
-/// Two lists of labels of one number of processes with the same word are the same list.
+/// Two lists of labels of one number of processes, at most six, with the same word are the same list:
+/// with more of them a label would need more than a byte.
 pub fn law_words()
     ensures { DistinctLaw }
 {}
 
-/// Over every history of steps on shared words: its labels stand for its tickets, also where they are
-/// read off a word that has come back; a beginning of a legal one is legal; one more step is legal
+/// Over every history of steps on shared words: its labels stand for its tickets, also where those of
+/// at most six processes are read off a word that has come back; a beginning of a legal one is legal; one more step is legal
 /// exactly where it can come next, and adds what it says.
 pub fn law_histories()
     ensures stands { HistoryStandsLaw }

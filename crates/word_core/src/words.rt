@@ -3,13 +3,13 @@ ghost use Rattle.label_core.specs.Labels.{IsLabel, label_ranks, next};
 ghost use Rattle.ticket_core.specs.Tickets.{start_tickets, stamp_ticket};
 ghost use Rattle.word_core.specs.Stamps.{start_labels, label_at, stamped};
 ghost use Rattle.word_core.specs.Packed.{AreLabels, IsWordOf, word};
-ghost use Rattle.word_core.specs.prover.Packing.{labels_in, word_end};
+ghost use Rattle.word_core.specs.prover.Packing.{Counts, bytes_in, labels_in, word_end};
 ghost use Rattle.word_core.specs.Order.{IsOrdered, older_label};
 ghost use Rattle.word_core.specs.Agreement.{Agrees};
 
 use crate::order::are_ordered;
-use crate::packing::{are_labels, fits, label_in, with_field};
-use label_core::{Label, MOST_DIGITS, MOST_LABELS, count_dominated, next_label};
+use crate::packing::{are_labels, fits, label_in, with_label};
+use label_core::{Label, MOST_DIGITS, MOST_LABELS, next_label, ranks};
 use std::marker::Model;
 
 /// What is written for a label of no digits, that of a single process.
@@ -24,27 +24,26 @@ pub struct LabelWord {
 
 impl Model for LabelWord {
     ghost use Rattle.std.specs.Prelude.{◌≡◌, ◌-◌, ◌<◌, ◌≤◌, ℕ, List, length, All};
-    ghost use Rattle.label_core.specs.Labels.{IsLabel};
     ghost use Rattle.word_core.specs.Packed.{word};
-    ghost use Rattle.word_core.specs.prover.Packing.{labels_in, word_end, length-labels_in, word-labels_in};
+    ghost use Rattle.word_core.specs.prover.Packing.{Counts, bytes_in, labels_in, word_end, length-labels_in, word-labels_in};
 
     ghost Value = { List (List ℕ) };
 
     ghost view = { λ fields. labels_in fields.count (fields.count - 1) fields.bits };
 
-    ghost invariant = { λ fields. (1 ≤ fields.count) × (fields.count ≤ 6) × (fields.bits < word_end fields.count) × All (IsLabel (fields.count - 1)) (labels_in fields.count (fields.count - 1) fields.bits) };
+    ghost invariant = { λ fields. (1 ≤ fields.count) × (fields.count ≤ 6) × (fields.bits < word_end fields.count) × All (Counts (fields.count - 1)) (bytes_in fields.count fields.bits) };
 
     ghost inverse = { λ labels. record { count = length labels; bits = word labels } };
 
     ghost inverse_ok = { λ fields kept i. record {
       count = length-labels_in fields.count (fields.count - 1) fields.bits i;
-      bits = word-labels_in fields.count (fields.count - 1) fields.bits kept.2 i;
+      bits = word-labels_in fields.count (fields.count - 1) fields.bits kept.2 kept.3 i;
     } };
 }
 
 impl LabelWord {
     /// The word of `n` processes that never stamped: all digits are 0.
-    #[tactic(auto, using(crate::proofs::Views::start_in, crate::proofs::Views::start_small, crate::proofs::Views::start_each))]
+    #[tactic(auto, using(crate::proofs::Views::start_in, crate::proofs::Views::start_small, crate::proofs::Views::start_counts))]
     pub fn start(n: u8) -> LabelWord
         requires at_least_one { 1 ≤ n }
         requires at_most_six { n ≤ 6 }
@@ -54,9 +53,9 @@ impl LabelWord {
         LabelWord::of_bits(n, 0)
     }
 
-    /// The word of `n` processes with these bits; `None` where they are no word: where a pair of
-    /// bits is 11, or one is set past the last label.
-    #[tactic(auto, using(crate::proofs::Views::is_word, crate::proofs::Views::word_small, crate::proofs::Views::word_each))]
+    /// The word of `n` processes with these bits; `None` where they are no word: where a byte is no
+    /// number of a label, or a bit is set past the last label.
+    #[tactic(auto, using(crate::proofs::Views::is_word, crate::proofs::Views::word_small, crate::proofs::Views::word_counts))]
     pub fn read(n: u8, bits: u64) -> Option<LabelWord>
         requires at_least_one { 1 ≤ n }
         requires at_most_six { n ≤ 6 }
@@ -65,7 +64,7 @@ impl LabelWord {
         if !fits(n, bits) {
             return None;
         }
-        if !are_labels(n, (n - 1) as usize, bits) {
+        if !are_labels(n, bits) {
             return None;
         }
         Some(LabelWord::of_bits(n, bits))
@@ -73,7 +72,7 @@ impl LabelWord {
 
     /// The word of `n` processes with these bits, which the caller knows to be a word: nothing is
     /// tested. `read` is for bits of which nothing is known.
-    #[tactic(auto, using(crate::proofs::Views::is_word, crate::proofs::Views::word_small, crate::proofs::Views::word_each))]
+    #[tactic(auto, using(crate::proofs::Views::is_word, crate::proofs::Views::word_small, crate::proofs::Views::word_counts))]
     pub fn from_bits(n: u8, bits: u64) -> LabelWord
         requires at_least_one { 1 ≤ n }
         requires at_most_six { n ≤ 6 }
@@ -135,15 +134,21 @@ impl LabelWord {
         self.stamped_beside(p)
     }
 
+    /// For each process how many labels its own dominates, and 0 past the last process.
+    pub fn ranks(&self) -> [u8; MOST_LABELS]
+        ensures { result ≡ label_ranks self.now ++ replicate (6 - length self.now) 0 }
+    {
+        let n = self.n();
+        ranks(&self.labels()[..n as usize])
+    }
+
     /// How many labels that of process `i` dominates.
     pub fn rank(&self, i: u8) -> u8
         requires { i < length self.now }
         ensures { result ≡ slice_index (label_ranks self.now) i }
     {
-        let n = self.n();
-        let row = self.labels();
-        let labels = &row[..n as usize];
-        count_dominated(&labels[i as usize], labels)
+        let _n = self.n();
+        self.ranks()[i as usize]
     }
 
     /// Whether the label of process `i` is dominated by that of process `j`.
@@ -162,7 +167,7 @@ impl LabelWord {
         requires at_least_one { 1 ≤ n }
         requires at_most_six { n ≤ 6 }
         requires small { bits < word_end n }
-        requires labels { All (IsLabel (n - 1)) (labels_in n (n - 1) bits) }
+        requires counts { All (Counts (n - 1)) (bytes_in n bits) }
         ensures { result ≡ labels_in n (n - 1) bits }
     {
         LabelWord { count: n, bits }
@@ -205,7 +210,7 @@ impl LabelWord {
         let n = self.n();
         LabelWord {
             count: n,
-            bits: with_field(self.bits, p, (n - 1) as usize, label),
+            bits: with_label(self.bits, p, label),
         }
     }
 

@@ -48,7 +48,7 @@ abbrev pub settled : View → View
 settled v = plain (together v.held v.more) (longer v.seen v.told)
 
 -- what a view that has taken in another learns
-pub record Agrees (n rows : ℕ) (v : View) : Type 0 where
+pub record Learns (n rows : ℕ) (v : View) : Type 0 where
   pub first : StartsWith (longer v.seen v.told) v.seen
   pub second : StartsWith (longer v.seen v.told) v.told
   pub own : (p : ℕ) → Holds v.held p → mine p (longer v.seen v.told) ≡ mine p v.seen
@@ -56,4 +56,4 @@ pub record Agrees (n rows : ℕ) (v : View) : Type 0 where
   pub legal : IsLegal n rows (longer v.seen v.told)
 
 abbrev pub Settles : ℕ → ℕ → Me ℕ View → Me ℕ View → Type 0
-Settles n rows v w = (w ≡ (settled v.0, v.1)) × Agrees n rows v.0
+Settles n rows v w = (w ≡ (settled v.0, v.1)) × Learns n rows v.0

@@ -1,7 +1,7 @@
 use Rattle.std.proofs.Common.{arith, ◌∙◌, refl, map}
 use Rattle.std.proofs.lemmas.List.{length-map}
 use Rattle.label_core.specs.Labels.{digits_shared}
-use Rattle.padded_row.proofs.Offered.{padded_end}
+use Rattle.base.proofs.Offered.{padded_end}
 use Rattle.label_core.proofs.choosing.shared_with.Goals as goal
 
 pub returns : goal.returns

@@ -1,23 +1,29 @@
-use Rattle.std.proofs.Common.{◌≡◌, ◌<◌, arith, ap, ◌∙◌, sym, refl, get_or, length, set}
-use Rattle.std.proofs.lemmas.List.{length-map, get_or-map}
+use Rattle.std.proofs.Common.{◌≡◌, ◌+◌, ◌-◌, ◌<◌, ◌++◌, ◌∷◌, [], arith, ap, sym, ◌∙◌, drop, length, length-take-le, map, replicate, set, take}
+use Rattle.std.proofs.lemmas.List.{drop_at, get_or_read, length-map, take_more}
 use Rattle.label_core.specs.Labels.{dominated, label_ranks}
-use Rattle.padded_row.proofs.Offered.{padded_next, padded_end}
+use Rattle.base.proofs.Offered.{padded_set}
+use Rattle.label_core.proofs.Pairs.{label_ranks-snoc}
 use Rattle.label_core.proofs.ranking.ranks.Goals as goal
 
 pub loop-process-preserved : goal.loop-process-preserved
 loop-process-preserved c =
     let labels = c.args.labels.now in
     let at = c.loop-process.process in
-    let item = c.index-labels-process.result in
+    let label = c.index-labels-process.result in
+    let rank = c.rank_beside-rank.result in
     let inside : at < length labels = c.loop-process-test.true in
-    let rank : c.count_dominated.result ≡ get_or (label_ranks labels) at 0 =
-    c.count_dominated.ensures ∙ ap (dominated labels) c.index-labels-process.is ∙ sym (get_or-map (dominated labels) labels at item 0 inside) in
-    ap (λ row. set row at c.count_dominated.result) c.loop-process.invariant
-    ∙ rw rank (padded_next 6 0 (label_ranks labels) at 0 (omega (arith, length-map labels (dominated labels))) (omega (arith, c.requires.few)))
-
-pub returns : goal.returns
-returns c =
-    let labels = c.args.labels.now in
-    c.loop-process.invariant
-    ∙ padded_end 6 0 (label_ranks labels) c.loop-process.process (omega (arith, length-map labels (dominated labels)))
-    ∙ rw (length-map labels (dominated labels)) refl
+    let before = take at labels in
+    let few : length before ≡ at = length-take-le at labels (omega arith) in
+    let front = map (dominated (label ∷ before)) before in
+    let rest : drop at c.loop-process.ranks ≡ replicate (6 - at) 0 =
+    ap (drop at) c.loop-process.invariant
+    ∙ drop_at (label_ranks before) (replicate (6 - at) 0) at (length-map before (dominated before) ∙ few) in
+    ap (λ row. set (c.rank_beside-rank.new.ranks ++ row) at rank) rest
+    ∙ ap (λ row. set (row ++ replicate (6 - at) 0) at rank) c.rank_beside-rank.ensures.ranks
+    ∙ padded_set 6 0 front at rank (length-map before (dominated (label ∷ before)) ∙ few) (omega (arith, c.requires.few))
+    ∙ ap (λ r. (front ++ r ∷ []) ++ replicate (6 - (at + 1)) 0) c.rank_beside-rank.ensures.rank
+    ∙ ap (λ ranks. ranks ++ replicate (6 - (at + 1)) 0) (
+    sym (label_ranks-snoc before label)
+    ∙ ap (λ x. label_ranks (before ++ x ∷ [])) (get_or_read labels at label inside c.index-labels-process.is [])
+    ∙ ap label_ranks (sym (take_more labels at [] inside))
+    )

@@ -1,4 +1,4 @@
-use Rattle.std.proofs.Common.{◌∙◌}
+use Rattle.std.proofs.Common.{◌∙◌, arith}
 use Rattle.stamp_calls.proofs.Calling.{Trying, goes_on_twice, first_try, next_try, last_try, own_of_stamps}
 use Rattle.stamp_calls.proofs.calls.stamp.Given as given
 use Rattle.stamp_calls.proofs.calls.stamp.Goals as goal
@@ -17,6 +17,7 @@ returns-in-Won-clause-caller g c =
 pub returns-in-Won-clause-stamps : goal.returns-in-Won-clause-stamps
 returns-in-Won-clause-stamps g c =
     last_try c.args.table.now c.args.caller.now c.loop.caller c.try_stamp.new.caller c.loop.order c.in-Won.won c.requires.here
+    (omega (arith, c.n-n.ensures.count, c.n-n.ensures.at_most_six, c.scan-order.ensures.processes))
     (before g (goal.at.returns-in-Won-clause-stamps g c).In-Won) c.in-Won.ensures.answer c.in-Won.ensures.step
 
 pub returns-in-Won-clause-own : goal.returns-in-Won-clause-own

@@ -1,9 +1,7 @@
-use Rattle.std.proofs.Common.{◌↔◌, ◌-◌}
-use Rattle.std.specs.Prelude.{All}
-use Rattle.label_core.specs.Labels.{IsLabel}
-use Rattle.word_core.specs.prover.Packing.{labels_in}
+use Rattle.std.proofs.Common.{◌-◌, ◌<◌, ℕ}
+use Rattle.word_core.specs.prover.Packing.{Counts, byte_in}
 use Rattle.word_core.proofs.packing.are_labels.Given as goal
 
--- all are labels where those that are left are
-abbrev pub invariant-loop-place : goal.invariant-loop-place
-invariant-loop-place l = All (IsLabel l.digits) (labels_in (l.count - l._place) l.digits l.rest) ↔ All (IsLabel l.digits) (labels_in l.count l.digits l.bits)
+-- the bytes so far are numbers of labels
+abbrev pub invariant-loop-i : goal.invariant-loop-i
+invariant-loop-i l = (k : ℕ) → k < l.i → Counts (l.n - 1) (byte_in l.bits k)

@@ -39,7 +39,7 @@ returns-clause-memory c =
     let own = c.self.inside in
     let seen = c.pass.inside.seat.me.0.seen in
     let few : own.rows * own.n ≤ 48 = few_registers own.n own.rows c.self.invariant.5 c.self.invariant.6 in
-    closed_memory own.n own.rows seen (slots_items c.close_with-closed.result.words) c.copied-registers.result c.word.result c.from_bits-word.result
+    closed_memory own.n own.rows c.self.invariant.5 seen (slots_items c.close_with-closed.result.words) c.copied-registers.result c.word.result c.from_bits-word.result
     ended.1 ended.0 c.word.ensures c.from_bits-word.ensures (omega (arith, few, c.copied-registers.ensures.len)) c.copied-registers.ensures.copied
     ∙ ap (λ k. memory_of k own.rows seen) of.n ∙ ap (λ k. memory_of c.pass.inside.n k seen) of.rows
     ∙ ap memory_seen of.view

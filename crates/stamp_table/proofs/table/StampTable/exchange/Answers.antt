@@ -1,4 +1,4 @@
-use Rattle.std.proofs.Common.{◌≡◌, ◌==◌, ap, sym, ◌∙◌, subst, refl}
+use Rattle.std.proofs.Common.{◌≡◌, ◌≤◌, ◌==◌, ap, sym, ◌∙◌, subst, refl}
 use Rattle.std.proofs.lemmas.Bool.{eq-eqb, ne_eqb}
 use Rattle.word_core.specs.Packed.{AreLabels, IsWordOf, word}
 use Rattle.word_core.specs.History.{memory_of}
@@ -19,6 +19,7 @@ exchanged-found-requires-clause-goes c =
     let n_is : c.n-n.result ≡ key.n = c.n-n.ensures.count ∙ c.requires.ordered.count ∙ sym (ap (λ z. z.n) c.self.view_is) ∙ c.self.invariant.0 in
     rw (c.bits-old.ensures, c.bits.ensures)
     (exchange_goes key.n key.rows c.pass.inside.seat.me.0.held c.args.p c.args.old c.args.new
+    (subst (λ k. k ≤ 6) n_is c.n-n.ensures.at_most_six)
     (in_key c.pass.inside c.args.pass.now c.self.inside of c.args.p c.requires.held)
     (held_seat c.pass.inside c.args.pass.now c.self.inside of c.args.p c.requires.held)
     (subst (λ k. AreLabels k c.args.old) n_is c.n-n.ensures.labels) c.requires.stamped)
@@ -89,7 +90,7 @@ returns-clause-labels c =
     let of = is_of c.pass.inside c.args.pass.now c.pass.view_is c.pass.invariant c.self.inside c.args.self.now c.self.view_is c.self.invariant c.requires.here in
     let n_is : c.n-n.result ≡ c.pass.inside.n = c.n-n.ensures.count ∙ c.requires.ordered.count ∙ sym (ap (λ z. z.n) c.self.view_is) ∙ of.n in
     leaves c.pass.inside.n c.pass.inside.rows c.pass.inside.held c.pass.inside.seat.me.0.seen c.exchanged-found.new.seat.me.0.seen c.args.p c.args.old c.args.new
-    c.if-found-old.result (subst (λ k. AreLabels k c.args.old) n_is c.n-n.ensures.labels) c.requires.stamped
+    c.if-found-old.result (subst (λ k. k ≤ 6) n_is c.n-n.ensures.at_most_six) (subst (λ k. AreLabels k c.args.old) n_is c.n-n.ensures.labels) c.requires.stamped
     (elim c.if-found-old.branch [
       | then-found-old w ↦ subst (LostAre c.pass.inside.n) (sym w.result-is) tt
       | else-found-old w ↦ subst (LostAre c.pass.inside.n) (sym w.result-is) (subst (λ k. AreLabels k w.from_bits.result) n_is w.from_bits.ensures.are)

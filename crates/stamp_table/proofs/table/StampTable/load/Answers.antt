@@ -1,9 +1,9 @@
-use Rattle.std.proofs.Common.{◌<◌, ap, subst, ◌≡◌, sym, ◌∙◌}
+use Rattle.std.proofs.Common.{◌<◌, ◌≤◌, ap, subst, ◌≡◌, sym, ◌∙◌}
 use Rattle.word_core.specs.Packed.{IsWordOf, word}
 use Rattle.word_core.specs.History.{memory_of}
 use Rattle.word_core.specs.declared.history.SharedAct.TheVariants.{Load}
 use Rattle.stamp_table.specs.Passes.{by, Appends}
-use Rattle.stamp_table.specs.Ordered.{AreOrdered}
+use Rattle.stamp_table.specs.Ordered.{AreInOrder}
 use Rattle.stamp_table.proofs.Going.{load_goes}
 use Rattle.stamp_table.proofs.Answering.{load_found, word_is, labels_are, ordered_labels}
 use Rattle.stamp_table.proofs.Here.{in_own, IsOf, is_of, held_seat, in_key, extended, appended}
@@ -52,13 +52,13 @@ returns-clause-step c =
 pub returns-clause-labels : goal.returns-clause-labels
 returns-clause-labels c =
     let own = is_of c.pass.inside c.args.pass.now c.pass.view_is c.pass.invariant c.self.inside c.args.self.now c.self.view_is c.self.invariant c.requires.here in
-    labels_are c.pass.inside.n c.pass.inside.rows c.loaded-found.new.seat.me.0.seen c.loaded-found.result c.from_bits.result
+    labels_are c.pass.inside.n c.pass.inside.rows (subst (λ k. k ≤ 6) own.n c.self.invariant.5) c.loaded-found.new.seat.me.0.seen c.loaded-found.result c.from_bits.result
     (found (goal.at.returns-clause-labels c).After-loaded-found) (subst (λ k. IsWordOf k c.loaded-found.result c.from_bits.result) own.n c.from_bits.ensures)
 
 pub returns-clause-ordered : goal.returns-clause-ordered
 returns-clause-ordered c =
     let of = is_of c.pass.inside c.args.pass.now c.pass.view_is c.pass.invariant c.self.inside c.args.self.now c.self.view_is c.self.invariant c.requires.here in
-    subst (λ k. AreOrdered k c.from_bits.result) (sym of.n ∙ ap (λ z. z.n) c.self.view_is)
+    subst (λ k. AreInOrder k c.from_bits.result) (sym of.n ∙ ap (λ z. z.n) c.self.view_is)
     (ordered_labels c.pass.inside.n c.pass.inside.rows c.loaded-found.new.seat.me.0.seen c.from_bits.result (returns-clause-labels c))
 
 pub returns-clause-range : goal.returns-clause-range

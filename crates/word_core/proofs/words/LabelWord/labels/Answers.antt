@@ -1,5 +1,5 @@
 use Rattle.std.proofs.Common.{◌<◌, [], arith, ap, ◌∙◌, length, set}
-use Rattle.padded_row.proofs.Offered.{padded_next, padded_end}
+use Rattle.base.proofs.Offered.{padded_next, padded_end}
 use Rattle.word_core.proofs.words.LabelWord.labels.Goals as goal
 
 pub loop-i-preserved : goal.loop-i-preserved

@@ -1,6 +1,6 @@
 use Rattle.std.proofs.Common.{◌≡◌, ◌+◌, ◌-◌, ◌<◌, ◌++◌, ◌∷◌, [], arith, ap, sym, ◌∙◌, length, get_or, take, drop, set, replicate, append_assoc, length-append, length-take-le, length-drop}
 use Rattle.std.proofs.lemmas.List.{take_more, get_or-drop}
-use Rattle.padded_row.proofs.Offered.{padded_set}
+use Rattle.base.proofs.Offered.{padded_set}
 use Rattle.word_core.proofs.words.LabelWord.others.Goals as goal
 
 pub loop-before-preserved : goal.loop-before-preserved

@@ -1,28 +1,26 @@
-use Rattle.std.proofs.Common.{◌≡◌, ◌≤◌, ◌-◌, ◌*◌, ◌^◌, ◌<◌, arith, ap, sym, subst, ◌∙◌, length, length-set}
-use Rattle.std.specs.Prelude.{All, slice_set}
+use Rattle.std.proofs.Common.{◌≡◌, ◌-◌, ◌*◌, ◌^◌, ◌<◌, arith, ap, sym, subst, ◌∙◌, length, length-set}
+use Rattle.std.specs.Prelude.{slice_set}
 use Rattle.std.proofs.lemmas.List.Elements.{All-set}
-use Rattle.label_core.specs.Labels.{IsLabel}
+use Rattle.label_core.specs.Labels.{IsLabel, label_number}
+use Rattle.label_core.proofs.Offered.{numbered}
 use Rattle.ticket_core.specs.Tickets.{stamp_ticket}
-use Rattle.word_core.specs.Stamps.{stamped}
-use Rattle.word_core.specs.Packed.{AreLabels, word}
+use Rattle.word_core.specs.Stamps.{label_at, stamped}
+use Rattle.word_core.specs.Packed.{AreLabels, IsWordOf, word}
 use Rattle.word_core.specs.Order.{IsOrdered}
 use Rattle.word_core.specs.Agreement.{Agrees}
-use Rattle.word_core.specs.prover.Packing.{labels_in, word_end, field_set, labels_in-word, word-labels_in, word_lt}
-use Rattle.word_core.proofs.Fields.{fits_word, word_set}
+use Rattle.word_core.specs.prover.Packing.{byte_in, labels_in, length-labels_in, label_at-labels_in, labels_in-word, word-labels_in, byte_counts}
+use Rattle.word_core.proofs.Fields.{word_fits, word_set}
+use Rattle.word_core.proofs.Views.{word_small, word_counts}
 use Rattle.word_core.proofs.Stamping.{agreement_law, stamped_ordered}
 use Rattle.word_core.proofs.words.LabelWord.with_next.Goals as goal
 
-pub with_field-requires-clause-small : goal.with_field-requires-clause-small
-with_field-requires-clause-small c =
-    let count = c.self.inside.count in
-    let fits : word_end count ≤ 2 ^ 60 = fits_word count (count - 1) c.self.invariant.1 (omega (arith, c.self.invariant.1)) in
-    let held : c.self.inside.bits < word_end count = c.self.invariant.2 in
-    omega (arith, fits, held)
+pub with_label-requires-clause-small : goal.with_label-requires-clause-small
+with_label-requires-clause-small c = word_fits c.self.inside.count c.self.inside.bits c.self.invariant.1 c.self.invariant.2
 
-label : (c : goal.After-with_field) → IsLabel (c.n-n.result - 1) c.args.label.now
+label : (c : goal.After-with_label) → IsLabel (c.n-n.result - 1) c.args.label.now
 label c = rw c.n-n.ensures.count c.requires.label
 
-are : (c : goal.After-with_field) → AreLabels c.n-n.result (slice_set c.args.self.now c.args.p c.args.label.now)
+are : (c : goal.After-with_label) → AreLabels c.n-n.result (slice_set c.args.self.now c.args.p c.args.label.now)
 are c =
     let labels = c.args.self.now in
     let n = c.n-n.result in
@@ -32,20 +30,28 @@ are c =
     }
 
 -- the new word packs the new labels
-packed : (c : goal.After-with_field) → c.with_field.result ≡ word (slice_set c.args.self.now c.args.p c.args.label.now)
+packed : (c : goal.After-with_label) → IsWordOf c.n-n.result c.with_label.result (slice_set c.args.self.now c.args.p c.args.label.now)
 packed c =
     let labels = c.args.self.now in
-    let m = c.n-n.result - 1 in
     let count = c.self.inside.count in
-    let old : c.self.inside.bits ≡ word labels = sym (word-labels_in count (count - 1) c.self.inside.bits c.self.invariant.2) ∙ ap word c.self.view_is in
-    c.with_field.ensures
-    ∙ ap (λ bits. field_set bits (m * c.args.p) m c.args.label.now) old
-    ∙ word_set m c.args.p labels c.args.label.now c.n-n.ensures.labels.each (label c) c.requires.in_range
+    let bits = c.self.inside.bits in
+    let up = 2 ^ (8 * c.args.p) in
+    let counted : length labels ≡ count = ap length (sym c.self.view_is) ∙ length-labels_in count (count - 1) bits in
+    let old : bits ≡ word labels = sym (word-labels_in count (count - 1) bits c.self.invariant.2 c.self.invariant.3) ∙ ap word c.self.view_is in
+    let inside : c.args.p < count = omega (arith, counted, c.requires.in_range) in
+    let byte : byte_in bits c.args.p ≡ label_number (label_at labels c.args.p) =
+    sym (numbered (count - 1) (byte_in bits c.args.p) (byte_counts count (count - 1) bits c.args.p inside c.self.invariant.3)).reads
+    ∙ ap label_number (sym (label_at-labels_in count (count - 1) bits c.args.p inside) ∙ ap (λ ls. label_at ls c.args.p) c.self.view_is) in
+    record {
+      are = are c;
+      packs = omega (arith, c.with_label.ensures, word_set c.args.p labels c.args.label.now c.requires.in_range, old, ap (λ b. b * up) byte);
+    }
 
-read : (c : goal.After-with_field) → labels_in c.n-n.result (c.n-n.result - 1) c.with_field.result ≡ slice_set c.args.self.now c.args.p c.args.label.now
+read : (c : goal.After-with_label) → labels_in c.n-n.result (c.n-n.result - 1) c.with_label.result ≡ slice_set c.args.self.now c.args.p c.args.label.now
 read c =
     let n = c.n-n.result in
-    ap (labels_in n (n - 1)) (packed c) ∙ labels_in-word n (n - 1) (slice_set c.args.self.now c.args.p c.args.label.now) (are c).count (are c).each
+    ap (labels_in n (n - 1)) (sym (packed c).packs)
+    ∙ labels_in-word n (n - 1) (slice_set c.args.self.now c.args.p c.args.label.now) (omega (arith, c.n-n.ensures.at_most_six)) (are c).count (are c).each
 
 pub invariant_of-result : goal.invariant_of-result
 invariant_of-result c =
@@ -53,12 +59,12 @@ invariant_of-result c =
     let labels = slice_set c.args.self.now c.args.p c.args.label.now in (
       c.n-n.ensures.at_least_one,
       c.n-n.ensures.at_most_six,
-      subst (λ bits. bits < word_end n) (sym (packed c)) (word_lt n (n - 1) labels (are c).count (are c).each),
-      subst (All (IsLabel (n - 1))) (sym (read c)) (are c).each,
+      word_small n c.with_label.result labels c.n-n.ensures.at_most_six (packed c),
+      word_counts n c.with_label.result labels c.n-n.ensures.at_most_six (packed c),
     )
 
 -- and these are the labels after the stamp
-stamps : (c : goal.After-with_field) → labels_in c.n-n.result (c.n-n.result - 1) c.with_field.result ≡ stamped c.args.p c.args.self.now
+stamps : (c : goal.After-with_label) → labels_in c.n-n.result (c.n-n.result - 1) c.with_label.result ≡ stamped c.args.p c.args.self.now
 stamps c = read c ∙ ap (slice_set c.args.self.now c.args.p) c.requires.next
 
 pub returns-clause-stamped : goal.returns-clause-stamped
