@@ -4,9 +4,9 @@ use Rattle.std.specs.Fmt.{decimal}
 use Rattle.text_core.specs.Lines.{line_end}
 use Rattle.machine_core.specs.declared.operator.Op.{Op}
 use Rattle.machine_core.specs.declared.operator.Op.TheVariants as O
-use Rattle.verified_code.specs.declared.instr.Instr.{Instr}
-use Rattle.verified_code.specs.declared.instr.Instr.TheVariants as I
-use Rattle.verified_code.specs.Instructions.{CodeSizes, AreSizes}
+use Rattle.code_core.specs.declared.instr.Instr.{Instr}
+use Rattle.code_core.specs.declared.instr.Instr.TheVariants as I
+use Rattle.code_core.specs.Instructions.{CodeSizes, AreSizes}
 use Rattle.code_text.specs.CodeText.{instr_line, header_line, InRange, HasNoLine, HasNoHeader}
 use Rattle.code_text.specs.prover.Guess.{leading, second, guess, guessed_sizes}
 use Rattle.code_text.proofs.Leading.{last_number, number_then}

@@ -2,13 +2,13 @@
 use Rattle.std.proofs.Common.{◌≡◌, ◌⊎◌, ⊎_elim, inl, inr, ℕ, zero, suc, ◌+◌, ◌<◌, ◌≤◌, ◌^◌, List, [], ◌∷◌, ◌++◌, length, refl, ap, ◌∙◌, sym, subst, arith, append_assoc, drop, get_or, Option, Some, None, Result, Ok, Err}
 use Rattle.std.proofs.lemmas.Bool.{cases_lt}
 use Rattle.std.proofs.lemmas.Bool.Decides.{eqb_tells}
-use Rattle.verified_code.specs.declared.instr.Instr.{Instr}
-use Rattle.verified_code.specs.declared.instr.Instr.TheVariants as I
-use Rattle.verified_code.specs.declared.fault.CodeFault.{CodeFault}
-use Rattle.verified_code.specs.declared.fault.CodeFault.TheVariants as F
-use Rattle.verified_code.specs.Instructions.{CodeSizes, AreSizes, StepCode}
-use Rattle.verified_code.specs.Verified.{code_fault}
-use Rattle.code_text.specs.CodeText.{instr_line, code_lines, header_line, InRange, AllInRange, HasNoHeader, HasNoLine, HasBadLine, Reading}
+use Rattle.code_core.specs.declared.instr.Instr.{Instr}
+use Rattle.code_core.specs.declared.instr.Instr.TheVariants as I
+use Rattle.code_core.specs.declared.fault.CodeFault.{CodeFault}
+use Rattle.code_core.specs.declared.fault.CodeFault.TheVariants as F
+use Rattle.code_core.specs.Instructions.{CodeSizes, AreSizes, StepCode}
+use Rattle.code_core.specs.Verified.{code_fault}
+use Rattle.code_text.specs.CodeText.{instr_line, code_lines, header_line, InRange, AllInRange, HasNoHeader, HasNoLine, HasBadLine, ReadsAs}
 use Rattle.code_text.specs.Laws.{SomeReadingLaw}
 use Rattle.code_text.specs.prover.Guess.{guess, guessed_sizes}
 use Rattle.code_text.proofs.Guessing.{guess_line, no_header, no_line, no_sizes}
@@ -143,7 +143,7 @@ header_or_none text =
     (decided_sizes (guessed_sizes text))
 
 abbrev Read : List ℕ → Type 0
-Read text = (r : Result StepCode CodeFault) × Reading text r
+Read text = (r : Result StepCode CodeFault) × ReadsAs text r
 
 verified_or_not : (c : StepCode) (text : List ℕ) → AreSizes c.sizes → AllInRange c.instructions → header_line c.sizes ++ code_lines c.instructions ≡ text → Read text
 verified_or_not c text are numbers spelled = by_fault (code_fault c.sizes c.instructions) refl

@@ -3,12 +3,12 @@ use Rattle.std.proofs.Common.{◌≡◌, ⊎_elim, ℕ, suc, ◌<◌, List, [], 
 use Rattle.std.proofs.lemmas.List.{append_cancel_left}
 use Rattle.std.proofs.lemmas.Option.{same_Some, none-some}
 use Rattle.text_core.specs.Lines.{line_end}
-use Rattle.verified_code.specs.declared.instr.Instr.{Instr}
-use Rattle.verified_code.specs.declared.fault.CodeFault.{CodeFault}
-use Rattle.verified_code.specs.declared.fault.CodeFault.TheVariants as F
-use Rattle.verified_code.specs.Instructions.{CodeSizes, AreSizes, StepCode}
-use Rattle.verified_code.specs.Verified.{code_fault, IsVerified}
-use Rattle.code_text.specs.CodeText.{instr_text, instr_line, code_lines, header_line, InRange, AllInRange, IsTextOf, HasNoLine, IsBadLine, Reading}
+use Rattle.code_core.specs.declared.instr.Instr.{Instr}
+use Rattle.code_core.specs.declared.fault.CodeFault.{CodeFault}
+use Rattle.code_core.specs.declared.fault.CodeFault.TheVariants as F
+use Rattle.code_core.specs.Instructions.{CodeSizes, AreSizes, StepCode}
+use Rattle.code_core.specs.Verified.{code_fault, IsVerified}
+use Rattle.code_text.specs.CodeText.{instr_text, instr_line, code_lines, header_line, InRange, AllInRange, IsTextOf, HasNoLine, IsBadLine, ReadsAs}
 use Rattle.code_text.specs.Laws.{OneReadingLaw, RoundTripLaw}
 use Rattle.code_text.specs.prover.Guess.{guess, guessed_sizes}
 use Rattle.code_text.proofs.Guessing.{guess_line, guess_header}
@@ -86,14 +86,14 @@ bad_same k j text a b =
     bad_unique x.good y.good x.rest y.rest x.numbers y.numbers x.bad y.bad (x.spelled ∙ both.1 ∙ sym y.spelled) in
     omega (arith, later.6, other.6, x.line, y.line, many)) b) a
 
-good_no_fault : (text : List ℕ) (c : StepCode) (f : CodeFault) → IsTextOf c text → IsVerified c.sizes c.instructions → Reading text (Err f) → ⊥
+good_no_fault : (text : List ℕ) (c : StepCode) (f : CodeFault) → IsTextOf c text → IsVerified c.sizes c.instructions → ReadsAs text (Err f) → ⊥
 good_no_fault text c f is verified r =
     ⊎_elim
     (λ bad. not_both bad.0 c text bad.2 is)
     (λ other. none-some f (sym verified ∙ ap (λ d. code_fault d.sizes d.instructions) (text_unique c other.0 text is other.1) ∙ other.2))
     r
 
-same_fault : (text : List ℕ) (f g : CodeFault) → Reading text (Err f) → Reading text (Err g) → f ≡ g
+same_fault : (text : List ℕ) (f g : CodeFault) → ReadsAs text (Err f) → ReadsAs text (Err g) → f ≡ g
 same_fault text f g a b =
     ⊎_elim
     (λ bad. ⊎_elim

@@ -3,12 +3,12 @@ use Rattle.std.specs.Prelude.{◌≡◌, ◌⊎◌, ℕ, ◌+◌, ◌<◌, ◌^�
 use Rattle.std.specs.Fmt.{decimal}
 use Rattle.text_core.specs.Lines.{line_end}
 use Rattle.machine_core.specs.Operators.{sign}
-use Rattle.verified_code.specs.declared.instr.Instr.{Instr}
-use Rattle.verified_code.specs.declared.instr.Instr.TheVariants as I
-use Rattle.verified_code.specs.declared.fault.CodeFault.{CodeFault}
-use Rattle.verified_code.specs.declared.fault.CodeFault.TheVariants as F
-use Rattle.verified_code.specs.Instructions.{CodeSizes, AreSizes, StepCode}
-use Rattle.verified_code.specs.Verified.{code_fault, IsVerified}
+use Rattle.code_core.specs.declared.instr.Instr.{Instr}
+use Rattle.code_core.specs.declared.instr.Instr.TheVariants as I
+use Rattle.code_core.specs.declared.fault.CodeFault.{CodeFault}
+use Rattle.code_core.specs.declared.fault.CodeFault.TheVariants as F
+use Rattle.code_core.specs.Instructions.{CodeSizes, AreSizes, StepCode}
+use Rattle.code_core.specs.Verified.{code_fault, IsVerified}
 
 -- an instruction: its name, and its operands after one space each
 abbrev pub instr_text : Instr → List ℕ
@@ -104,6 +104,6 @@ HasFault text fault =
     ⊎ ((c : StepCode) × IsTextOf c text × (code_fault c.sizes c.instructions ≡ Some fault))
 
 -- what a text is read as: the verified code whose text it is, else its fault
-abbrev pub Reading : List ℕ → Result StepCode CodeFault → Type 0
-Reading text (Ok c) = IsTextOf c text × IsVerified c.sizes c.instructions
-Reading text (Err fault) = HasFault text fault
+abbrev pub ReadsAs : List ℕ → Result StepCode CodeFault → Type 0
+ReadsAs text (Ok c) = IsTextOf c text × IsVerified c.sizes c.instructions
+ReadsAs text (Err fault) = HasFault text fault

@@ -1,11 +1,11 @@
 ghost use Rattle.std.specs.Prelude.{◌≡◌, IfSome, IsSome, ◌↔◌};
 ghost use Rattle.code_text.specs.CodeText.{InRange};
 ghost use Rattle.code_text.specs.prover.Guess.{guess, guessed_sizes, operator, named};
-ghost use Rattle.verified_code.specs.Instructions.{AreSizes};
+ghost use Rattle.code_core.specs.Instructions.{AreSizes};
 
 use crate::reader::Reader;
+use code_core::{Instr, Sizes};
 use machine_core::Op;
-use verified_code::{Instr, Sizes};
 
 /// The instruction whose line begins this text, if one does; else any.
 pub fn guess(text: &[u8]) -> Instr

@@ -1,17 +1,17 @@
 ghost use Rattle.std.specs.Prelude.{◌≡◌, ◌≢◌, ◌++◌, ◌+◌, ℕ, List, Ok, Err, IfOk, IfErr, MatchOption};
-ghost use Rattle.code_text.specs.CodeText.{code_lines, AllInRange, HasBadLine, Reading};
-ghost use Rattle.verified_code.specs.declared.fault.CodeFault.TheVariants.{NoMemory, BadLine};
+ghost use Rattle.code_text.specs.CodeText.{code_lines, AllInRange, HasBadLine, ReadsAs};
+ghost use Rattle.code_core.specs.declared.fault.CodeFault.TheVariants.{NoMemory, BadLine};
 
 use crate::guess::{guess, guess_sizes};
 use crate::writing::{push_header, push_line};
+use code_core::{Code, CodeFault, Instr, verify};
 use std::alloc::Global;
-use verified_code::{Code, CodeFault, Instr, verify};
 
 /// The code that a text spells. The first line that is not of the form is told, the header being
 /// line 1; after that the first fault of its instructions.
 pub fn read_code(alloc: Global, text: &str) -> Result<Code, CodeFault>
-    ensures ok { IfOk result (λ code. Reading text.now (Ok code)) }
-    ensures err { IfErr result (λ fault. fault ≢ NoMemory → Reading text.now (Err fault)) }
+    ensures ok { IfOk result (λ code. ReadsAs text.now (Ok code)) }
+    ensures err { IfErr result (λ fault. fault ≢ NoMemory → ReadsAs text.now (Err fault)) }
 {
     let bytes = text.as_bytes();
     let Some(sizes) = guess_sizes(bytes) else {

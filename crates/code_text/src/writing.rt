@@ -1,10 +1,10 @@
 ghost use Rattle.std.specs.Prelude.{◌≡◌, ◌++◌, IfOk, IfErr, OnOk, string_bytes};
 ghost use Rattle.code_text.specs.CodeText.{instr_line, code_lines, header_line, code_text};
-ghost use Rattle.verified_code.specs.declared.fault.CodeFault.TheVariants.{NoMemory};
+ghost use Rattle.code_core.specs.declared.fault.CodeFault.TheVariants.{NoMemory};
 
+use code_core::{Code, CodeFault, Instr, Sizes};
 use std::alloc::{AllocError, Global};
 use std::fmt::Write;
-use verified_code::{Code, CodeFault, Instr, Sizes};
 
 /// The code as a text: a line with its sizes, and then one for each instruction.
 pub fn write_code(alloc: Global, code: &Code) -> Result<String, CodeFault>

@@ -1,18 +1,11 @@
 -- Facts of each place of a code, the height of the stack at it among them.
 --
--- In the code of a program every jump leaves the stack empty, and goes to a place where it is empty. So
--- the height of a place follows from the instruction before it alone: what that leaves where it goes on,
--- and 0 after a jump or the end. No fact asks which jump reached a place.
-use Rattle.std.proofs.Common.{◌≡◌, ℕ, ◌+◌, if◌then◌else◌, List, [], ◌∷◌, ◌++◌, refl, sym, subst, length, arith}
-use Rattle.verified_code.specs.declared.instr.Instr.{Instr}
-use Rattle.verified_code.specs.Instructions.{left, goes_on}
-use Rattle.verified_code.specs.Heights.{Placed}
+-- The height of a place follows from the instruction before it alone: no fact asks which jump reached it.
+use Rattle.std.proofs.Common.{◌≡◌, ℕ, ◌+◌, List, [], ◌∷◌, ◌++◌, refl, sym, subst, length, arith}
+use Rattle.code_core.specs.declared.instr.Instr.{Instr}
+use Rattle.tick_lower.specs.prover.Paired.{after}
 
--- the height of the place after an instruction
-abbrev pub after : Instr → ℕ → ℕ
-after i h = if goes_on i then left i h else 0
-
--- and after several
+-- the height of the place after several instructions
 abbrev pub height_after : ℕ → List Instr → ℕ
 height_after h [] = h
 height_after h (i ∷ is) = height_after (after i h) is
@@ -20,11 +13,6 @@ height_after h (i ∷ is) = height_after (after i h) is
 pub height_after-append : (a b : List Instr) (h : ℕ) → height_after h (a ++ b) ≡ height_after (height_after h a) b
 height_after-append [] b h = refl
 height_after-append (i ∷ a) b h = height_after-append a b (after i h)
-
--- the instructions with the heights of their places
-abbrev pub paired : ℕ → List Instr → List Placed
-paired h [] = []
-paired h (i ∷ is) = (i, h) ∷ paired (after i h) is
 
 -- P holds of each place from `k` on, whose first has height `h`.
 abbrev pub Along : (ℕ → ℕ → Instr → Type 0) → ℕ → ℕ → List Instr → Type 0

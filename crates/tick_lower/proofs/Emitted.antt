@@ -3,8 +3,8 @@ use Rattle.std.proofs.Common.{◌≡◌, ℕ, zero, suc, ◌+◌, ◌<◌, ◌�
 use Rattle.std.specs.Prelude.{slice_set}
 use Rattle.std.proofs.Math.Seq.{set-append_seam, drop-cons}
 use Rattle.std.proofs.lemmas.List.{length-append, append-nil}
-use Rattle.verified_code.specs.declared.instr.Instr.{Instr}
-use Rattle.verified_code.specs.declared.instr.Instr.TheVariants as I
+use Rattle.code_core.specs.declared.instr.Instr.{Instr}
+use Rattle.code_core.specs.declared.instr.Instr.TheVariants as I
 use Rattle.tick_kinds.specs.declared.resolved.Statement as DeclaredStatement
 use Rattle.tick_kinds.specs.Resolved.{resolved_statement, resolved_block}
 use Rattle.tick_syntax.specs.Plain.{Expression, Statement, branch, repeat, Block, nil, cons}
@@ -24,6 +24,19 @@ long_statement new old s is = ap length is ∙ length-append old (statement_code
 pub long_block : (new old : List Instr) (b : Block ℕ) → new ≡ old ++ block_code (length old) b → length new ≡ length old + block_length b
 long_block new old b is = ap length is ∙ length-append old (block_code (length old) b) ∙ ap (λ n. length old + n) (block_long b (length old))
 
+-- After a test and room for its jump, then a block, then an instruction more.
+pub long_tested : (e : Expression ℕ) (base c1 c2 : List Instr) (x : Instr) → c1 ≡ base ++ expression_code e → c2 ≡ c1 ++ x ∷ []
+    → length c2 ≡ length base + expression_length e + 1
+long_tested e base c1 c2 x e1 e2 = omega (arith, long_expression c1 base e e1, long_one c2 c1 x e2)
+
+pub long_guarded : (e : Expression ℕ) (a : Block ℕ) (base c1 c2 c3 : List Instr) (x : Instr) → c1 ≡ base ++ expression_code e → c2 ≡ c1 ++ x ∷ []
+    → c3 ≡ c2 ++ block_code (length c2) a → length c3 ≡ length base + expression_length e + 1 + block_length a
+long_guarded e a base c1 c2 c3 x e1 e2 e3 = omega (arith, long_tested e base c1 c2 x e1 e2, long_block c3 c2 a e3)
+
+pub long_closed : (e : Expression ℕ) (a : Block ℕ) (base c1 c2 c3 c4 : List Instr) (x y : Instr) → c1 ≡ base ++ expression_code e → c2 ≡ c1 ++ x ∷ []
+    → c3 ≡ c2 ++ block_code (length c2) a → c4 ≡ c3 ++ y ∷ [] → length c4 ≡ length base + expression_length e + 1 + block_length a + 1
+long_closed e a base c1 c2 c3 c4 x y e1 e2 e3 e4 = omega (arith, long_guarded e a base c1 c2 c3 x e1 e2 e3, long_one c4 c3 y e4)
+
 -- A jump is written where room was left for it, once its place is known.
 pub patch_branch : (e : Expression ℕ) (a b : Block ℕ) (base c1 c2 c3 c4 c5 : List Instr) (x y : Instr) (n1 n2 n3 n4 : ℕ)
     → c1 ≡ base ++ expression_code e → n1 ≡ length c1 → c2 ≡ c1 ++ x ∷ [] → c3 ≡ c2 ++ block_code (length c2) a → n2 ≡ length c3
@@ -36,16 +49,12 @@ patch_branch e a b base c1 c2 c3 c4 c5 x y n1 n2 n3 n4 e1 m1 e2 e3 m2 e4 m3 e5 m
     let cb : List Instr = block_code (length c4) b in
     let i : Instr = I.JumpZero n3 in
     let j : Instr = I.Jump n4 in
-    let l1 : length c1 ≡ length base + expression_length e = long_expression c1 base e e1 in
-    let l2 : length c2 ≡ length c1 + 1 = long_one c2 c1 x e2 in
-    let l3 : length c3 ≡ length c2 + block_length a = long_block c3 c2 a e3 in
-    let l4 : length c4 ≡ length c3 + 1 = long_one c4 c3 y e4 in
-    let l5 : length c5 ≡ length c4 + block_length b = long_block c5 c4 b e5 in
-    let at_first : length c2 ≡ first = omega arith in
-    let at_second : length c4 ≡ second = omega arith in
-    let to_second : n3 ≡ second = omega arith in
-    let past : n4 ≡ second + block_length b = omega arith in
-    let at_jump : n2 ≡ length (c1 ++ i ∷ ca) = omega (arith, length-append c1 (i ∷ ca), block_long a (length c2)) in
+    let at_first : length c2 ≡ first = long_tested e base c1 c2 x e1 e2 in
+    let at_second : length c4 ≡ second = long_closed e a base c1 c2 c3 c4 x y e1 e2 e3 e4 in
+    let to_second : n3 ≡ second = m3 ∙ at_second in
+    let past : n4 ≡ second + block_length b = omega (arith, long_block c5 c4 b e5) in
+    let at_jump : n2 ≡ length (c1 ++ i ∷ ca) =
+    omega (arith, long_block c3 c2 a e3, long_one c2 c1 x e2, length-append c1 (i ∷ ca), block_long a (length c2)) in
     let all : c5 ≡ (((c1 ++ x ∷ []) ++ ca) ++ y ∷ []) ++ cb = cc in
     let flat : (((c1 ++ x ∷ []) ++ ca) ++ y ∷ []) ++ cb ≡ c1 ++ x ∷ (ca ++ y ∷ cb) = simp append_assoc in
     ap (λ l. slice_set (slice_set l n1 i) n2 j) (all ∙ flat)
@@ -67,12 +76,8 @@ patch_repeat e a base c1 c2 c3 c4 x n0 n1 n2 m0 e1 m1 e2 e3 e4 m2 =
     let ca : List Instr = block_code (length c2) a in
     let i : Instr = I.JumpZero n2 in
     let j : Instr = I.Jump n0 in
-    let l1 : length c1 ≡ length base + expression_length e = long_expression c1 base e e1 in
-    let l2 : length c2 ≡ length c1 + 1 = long_one c2 c1 x e2 in
-    let l3 : length c3 ≡ length c2 + block_length a = long_block c3 c2 a e3 in
-    let l4 : length c4 ≡ length c3 + 1 = long_one c4 c3 j e4 in
-    let at_first : length c2 ≡ first = omega arith in
-    let past : n2 ≡ first + block_length a + 1 = omega arith in
+    let at_first : length c2 ≡ first = long_tested e base c1 c2 x e1 e2 in
+    let past : n2 ≡ first + block_length a + 1 = m2 ∙ long_closed e a base c1 c2 c3 c4 x j e1 e2 e3 e4 in
     let all : c4 ≡ ((c1 ++ x ∷ []) ++ ca) ++ j ∷ [] = cc in
     let flat : ((c1 ++ x ∷ []) ++ ca) ++ j ∷ [] ≡ c1 ++ x ∷ (ca ++ j ∷ []) = simp append_assoc in
     ap (λ l. slice_set l n1 i) (all ∙ flat)

@@ -1,9 +1,9 @@
 -- Small programs and their codes.
 use Rattle.std.proofs.Common.{◌≡◌, ℕ, List, [], ◌∷◌, refl}
 use Rattle.machine_core.specs.declared.operator.Op.TheVariants as O
-use Rattle.verified_code.specs.declared.instr.Instr.TheVariants as I
-use Rattle.verified_code.specs.Instructions.{sizes}
-use Rattle.verified_code.specs.Verified.{IsVerified}
+use Rattle.code_core.specs.declared.instr.Instr.TheVariants as I
+use Rattle.code_core.specs.Instructions.{sizes}
+use Rattle.code_core.specs.Verified.{IsVerified}
 use Rattle.tick_syntax.specs.Plain.{number, named, me, count, binary, assign, get, put, stamp, scan, copy, older, out, branch, repeat, Block, nil, cons, WholeProgram}
 use Rattle.tick_lower.specs.Lowered.{block_code, lowered, lowered_length, lowered_sizes}
 

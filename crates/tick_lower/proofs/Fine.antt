@@ -1,15 +1,17 @@
 -- A code that is fine at each place has no fault.
 use Rattle.std.proofs.Common.{◌≡◌, ⊎_elim, ℕ, zero, suc, ◌+◌, ◌<◌, ◌≤◌, Bool, true, false, not, if◌then◌else◌, List, [], ◌∷◌, ◌++◌, refl, ap, ◌∙◌, sym, subst, length, arith, Option, Some, None, append_assoc}
-use Rattle.std.specs.Prelude.{◌==◌, ◌&&◌, ◌||◌, nat_lt, slice_get}
+use Rattle.std.specs.Prelude.{◌==◌, ◌&&◌, ◌||◌, nat_lt, slice_get, unwrap_or}
 use Rattle.std.proofs.lemmas.Bool.{lt-ltb, le-ltb, eq-eqb, ne_eqb, cases_eq, cases_lt}
 use Rattle.std.proofs.lemmas.List.{length-append}
 use Rattle.std.proofs.lemmas.Option.{same_Some, none-some, slice_get_within}
-use Rattle.verified_code.specs.declared.instr.Instr.{Instr}
-use Rattle.verified_code.specs.declared.fault.CodeFault.{CodeFault}
-use Rattle.verified_code.specs.Instructions.{CodeSizes, pops, left, target, goes_on, fits}
-use Rattle.verified_code.specs.Heights.{Placed, jumps_to, jump_height, height_by, hands_on, placed_from}
-use Rattle.verified_code.specs.Verified.{is_next, is_exchange, bad_stamp, differs, is_past, height_of, known_to, fault_at, or_else, first_fault, IsVerified}
-use Rattle.tick_lower.proofs.Along.{after, paired, Along, along_as}
+use Rattle.code_core.specs.declared.instr.Instr.{Instr}
+use Rattle.code_core.specs.declared.fault.CodeFault.{CodeFault}
+use Rattle.code_core.specs.Instructions.{CodeSizes, pops, left, target, goes_on, fits}
+use Rattle.code_core.specs.Heights.{Placed, jumps_to, jump_height, height_by, hands_on, placed, placed_from}
+use Rattle.code_core.specs.Verified.{is_next, is_exchange, bad_stamp, differs, is_past, height_of, known_to, fault_at, or_else, first_fault, IsVerified}
+use Rattle.code_core.proofs.Offered.{get_front, get_seam}
+use Rattle.tick_lower.specs.prover.Paired.{after, paired}
+use Rattle.tick_lower.proofs.Along.{Along, along_as}
 
 -- A place to which jumps may go: its height is 0, and it is not inside a stamp.
 pub record Starts (all : List Placed) (l : ℕ) : Type 0 where
@@ -39,15 +41,6 @@ differs_zero : (j : Option ℕ) (h : ℕ) → IsZero j → h ≡ 0 → differs j
 differs_zero None h is empty = refl
 differs_zero (Some g) h is empty = ap not (eq-eqb g h (is g refl ∙ sym empty))
 
-get_front : (xs ys : List Placed) (k : ℕ) → k < length xs → slice_get (xs ++ ys) k ≡ slice_get xs k
-get_front [] ys k inside = absurd (omega arith)
-get_front (x ∷ xs) ys zero inside = refl
-get_front (x ∷ xs) ys (suc k) inside = get_front xs ys k (omega arith)
-
-pub get_seam : (xs : List Placed) (y : Placed) (ys : List Placed) → slice_get (xs ++ y ∷ ys) (length xs) ≡ Some y
-get_seam [] y ys = refl
-get_seam (x ∷ xs) y ys = get_seam xs y ys
-
 -- What the instruction before hands on, with the jumps of before, is the height `h`.
 abbrev Hands : Option ℕ → ℕ → Type 0
 Hands before h = (j : Option ℕ) → IsZero j → height_by before j ≡ h
@@ -59,7 +52,7 @@ hands_after i h j is = by_test (goes_on i)
     zero_by None is = refl
     zero_by (Some g) is = is g refl
 
-    by_test : (b : Bool) → height_by (if b then Some (left i h) else None) j ≡ (if b then left i h else 0)
+    by_test : (b : Bool) → height_by (if b then Some (left i h) else None) j ≡ unwrap_or (if b then Some (left i h) else None) 0
     by_test true = refl
     by_test false = zero_by j is
 
@@ -155,12 +148,12 @@ module _ (z : CodeSizes) (code : List Instr) where
   abbrev all : List Placed
   all = paired 0 code
 
-  -- the pass gives the places these heights, and finds nothing
+  -- the pass finds nothing, and gives the places these heights
   passes : (is : List Instr) (passed : List Placed) (h : ℕ) (before : Option ℕ) → passed ++ paired h is ≡ all
       → Jumped z code all passed → Hands before h
       → Along (Fine z code all) (length passed) h is → Along (Inside code) (length passed) h is
-      → first_fault z code passed (placed_from is passed before) ≡ None
-  passes [] passed h before whole jumped hands fine inside = refl
+      → (first_fault z code passed (placed_from is passed before) ≡ None) × (placed_from is passed before ≡ paired h is)
+  passes [] passed h before whole jumped hands fine inside = (refl, refl)
   passes (i ∷ is) passed h before whole jumped hands fine inside =
       let none_or_zero : (g : ℕ) → jump_height passed (length passed) ≡ Some g → g ≡ 0 =
       λ g e. (jump_found z code all passed (length passed) g jumped e).0 in
@@ -172,14 +165,19 @@ module _ (z : CodeSizes) (code : List Instr) where
       ap (λ l. slice_get l (length passed)) (sym whole) ∙ get_seam passed (i, h) (paired (after i h) is) in
       let front : (l : ℕ) → l < length more → slice_get more l ≡ slice_get all l =
       λ l below. sym (get_front more (paired (after i h) is) l below) ∙ ap (λ es. slice_get es l) all_more in
-      subst (λ g. first_fault z code passed ((i, g) ∷ placed_from is (passed ++ (i, g) ∷ []) (hands_on i g)) ≡ None) (sym height)
-      (or_none _ _
-      (no_fault z code all passed i h at front (paired_long code 0) jumped fine.0 inside.0)
-      (passes is more (after i h) (hands_on i h) all_more (jumped_more z code all passed (i, h) jumped fine.0.jumps) (hands_after i h)
-      (along_as (Fine z code all) _ _ _ _ is longer refl fine.1) (along_as (Inside code) _ _ _ _ is longer refl inside.1)))
+      let rest = passes is more (after i h) (hands_on i h) all_more (jumped_more z code all passed (i, h) jumped fine.0.jumps) (hands_after i h)
+      (along_as (Fine z code all) _ _ _ _ is longer refl fine.1) (along_as (Inside code) _ _ _ _ is longer refl inside.1) in
+      let these : ℕ → List Placed = λ g. (i, g) ∷ placed_from is (passed ++ (i, g) ∷ []) (hands_on i g) in
+      subst (λ g. (first_fault z code passed (these g) ≡ None) × (these g ≡ paired h (i ∷ is))) (sym height) (
+        or_none _ _ (no_fault z code all passed i h at front (paired_long code 0) jumped fine.0 inside.0) rest.0,
+        ap (λ es. (i, h) ∷ es) rest.1,
+      )
 
-  pub fine_verified : Along (Fine z code all) 0 0 code → Along (Inside code) 0 0 code → 0 < length code → length code ≤ 65535 → IsVerified z code
+  pub fine_verified : Along (Fine z code all) 0 0 code → Along (Inside code) 0 0 code → 0 < length code → length code ≤ 65535
+      → IsVerified z code × (placed code ≡ paired 0 code)
   fine_verified fine inside some few =
-      skip (length code == 0) _ _ (ne_eqb (length code) 0 (λ e. absurd (omega arith)))
-      (skip (nat_lt 65535 (length code)) _ _ (le-ltb 65535 (length code) few)
-      (passes code [] 0 (Some 0) refl tt (λ j is. refl) fine inside))
+      let passed = passes code [] 0 (Some 0) refl tt (λ j is. refl) fine inside in (
+        skip (length code == 0) _ _ (ne_eqb (length code) 0 (λ e. absurd (omega arith)))
+            (skip (nat_lt 65535 (length code)) _ _ (le-ltb 65535 (length code) few) passed.0),
+        passed.1,
+      )

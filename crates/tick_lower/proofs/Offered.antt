@@ -3,8 +3,8 @@
 use Rattle.std.proofs.Common.{◌≡◌, ℕ, suc, ◌+◌, List, [], ◌∷◌, ◌++◌, refl, ap, ◌∙◌, subst, length, arith, Some}
 use Rattle.std.specs.Prelude.{slice_get}
 use Rattle.std.proofs.lemmas.List.{length-append, append_assoc}
-use Rattle.verified_code.specs.declared.instr.Instr.{Instr}
-use Rattle.verified_code.specs.declared.instr.Instr.TheVariants as I
+use Rattle.code_core.specs.declared.instr.Instr.{Instr}
+use Rattle.code_core.specs.declared.instr.Instr.TheVariants as I
 use Rattle.tick_syntax.specs.Plain.{Expression, number, named, me, count, binary, Statement, assign, get, put, stamp, scan, copy, older, out, branch, repeat, Block, nil, cons, WholeProgram}
 use Rattle.tick_lower.specs.Lowered.{expression_length, statement_length, block_length, expression_code, statement_code, block_code, lowered, lowered_length}
 

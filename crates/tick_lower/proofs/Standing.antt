@@ -4,18 +4,20 @@ use Rattle.std.specs.Prelude.{◌==◌, ◌&&◌, ◌||◌, slice_get}
 use Rattle.std.proofs.lemmas.Bool.{lt-ltb, eq-eqb, ne_eqb, and_from, and_right}
 use Rattle.std.proofs.lemmas.List.{length-append, length-map}
 use Rattle.std.proofs.lemmas.Option.{same_Some, none-some}
-use Rattle.verified_code.specs.declared.instr.Instr.{Instr}
-use Rattle.verified_code.specs.declared.instr.Instr.TheVariants as I
-use Rattle.verified_code.specs.Instructions.{CodeSizes, pops, target, goes_on, fits}
-use Rattle.verified_code.specs.Heights.{Placed}
-use Rattle.verified_code.specs.Verified.{is_load, is_next, is_exchange, before, bad_stamp, IsVerified}
+use Rattle.code_core.specs.declared.instr.Instr.{Instr}
+use Rattle.code_core.specs.declared.instr.Instr.TheVariants as I
+use Rattle.code_core.specs.Instructions.{CodeSizes, pops, left, target, goes_on, fits}
+use Rattle.code_core.specs.Heights.{Placed, placed}
+use Rattle.code_core.specs.Verified.{is_load, is_next, is_exchange, before, bad_stamp, IsVerified}
+use Rattle.code_core.proofs.Offered.{get_seam}
 use Rattle.tick_kinds.specs.Declarations.{declarations, slot_in}
 use Rattle.tick_kinds.specs.Resolution.{resolved, slot_number}
 use Rattle.tick_kinds.specs.Within.{IsExpressionWithin, IsStatementWithin, IsWithin}
 use Rattle.tick_syntax.specs.Plain.{Name, Expression, number, named, me, count, binary, Statement, assign, get, put, stamp, scan, copy, older, out, branch, repeat, Block, nil, cons, WholeProgram}
 use Rattle.tick_lower.specs.Lowered.{expression_length, statement_length, block_length, expression_code, statement_code, block_code, lowered, lowered_length, lowered_sizes}
-use Rattle.tick_lower.proofs.Along.{after, height_after, height_after-append, paired, Along, along_as, along_front, along_back, along_join}
-use Rattle.tick_lower.proofs.Fine.{Starts, Fine, Inside, get_seam, paired_get, fine_verified}
+use Rattle.tick_lower.specs.prover.Paired.{after, paired}
+use Rattle.tick_lower.proofs.Along.{height_after, height_after-append, Along, along_as, along_front, along_back, along_join}
+use Rattle.tick_lower.proofs.Fine.{Starts, Fine, Inside, paired_get, fine_verified}
 use Rattle.tick_lower.proofs.Offered.{expression_long, statement_long, block_long}
 
 -- An expression leaves one value more, a statement and a block leave what there was.
@@ -88,23 +90,14 @@ module _ (z : CodeSizes) (code : List Instr) where
   plain k h i nowhere apart slots enough =
       record { slots = slots; enough = enough; stamp = apart; jumps = λ l to. absurd (none-some l (sym nowhere ∙ to)) }
 
-  target_apart : (l : ℕ) → Starts all l → (is_next (slice_get code l) || is_exchange (slice_get code l)) ≡ false
-  target_apart l start = ap (λ o. is_next o || is_exchange o) (code_get l 0 start.instr start.at) ∙ start.apart
-
-  jump_fine : (k l : ℕ) → Starts all l → IsFine k 0 (I.Jump l)
-  jump_fine k l start = record {
-    slots = refl;
-    enough = omega arith;
-    stamp = target_apart l start;
-    jumps = λ q to. (refl, subst (Starts all) (same_Some l q to) start);
-  }
-
-  jump_zero_fine : (k l : ℕ) → Starts all l → IsFine k 1 (I.JumpZero l)
-  jump_zero_fine k l start = record {
-    slots = refl;
-    enough = omega arith;
-    stamp = target_apart l start;
-    jumps = λ q to. (refl, subst (Starts all) (same_Some l q to) start);
+  -- One that jumps, and leaves an empty stack to where it may.
+  jump_fine : (k h : ℕ) (i : Instr) (l : ℕ) → Starts all l → target i ≡ Some l → left i h ≡ 0
+      → bad_stamp code k i ≡ (is_next (slice_get code l) || is_exchange (slice_get code l)) → fits z i ≡ true → pops i ≤ h → IsFine k h i
+  jump_fine k h i l start to empty looks slots enough = record {
+    slots = slots;
+    enough = enough;
+    stamp = looks ∙ ap (λ o. is_next o || is_exchange o) (code_get l 0 start.instr start.at) ∙ start.apart;
+    jumps = λ q there. (empty, subst (Starts all) (same_Some l q (sym to ∙ there)) start);
   }
 
   stamp_fine : (k : ℕ) → Stands k 0 (statement_code k stamp) → AreFine k 0 (statement_code k stamp)
@@ -214,9 +207,9 @@ module _ (z : CodeSizes) (code : List Instr) where
         block_fine a first first_end refl within.1 (along_front (λ k h i. slice_get all k ≡ Some (i, h)) first 0 (block_code first a) (jump ∷ block_code second b) tested.1) jump_start in
         let second_fine : AreFine second 0 (block_code second b) = block_fine b second second_end refl within.2 later.1 past in
         then_fine e k (I.JumpZero second ∷ (block_code first a ++ jump ∷ block_code second b)) within.0 (
-          jump_zero_fine (k + expression_length e) second second_start,
+          jump_fine (k + expression_length e) 1 (I.JumpZero second) second second_start refl refl refl refl (omega arith),
           along_join IsFine first first_end 0 0 (block_code first a) (jump ∷ block_code second b) long (block_height a first) first_fine
-              (jump_fine first_end second_end past, second_fine),
+              (jump_fine first_end 0 jump second_end past refl refl refl refl (omega arith), second_fine),
         )
     statement_fine (repeat e a) k q ends within stands start =
         let first : ℕ = k + expression_length e + 1 in
@@ -231,9 +224,9 @@ module _ (z : CodeSizes) (code : List Instr) where
         let first_fine : AreFine first 0 (block_code first a) =
         block_fine a first first_end refl within.1 (along_front (λ k h i. slice_get all k ≡ Some (i, h)) first 0 (block_code first a) (I.Jump k ∷ []) tested.1) jump_start in
         then_fine e k (I.JumpZero (first_end + 1) ∷ (block_code first a ++ I.Jump k ∷ [])) within.0 (
-          jump_zero_fine (k + expression_length e) (first_end + 1) (subst (Starts all) same start),
+          jump_fine (k + expression_length e) 1 (I.JumpZero (first_end + 1)) (first_end + 1) (subst (Starts all) same start) refl refl refl refl (omega arith),
           along_join IsFine first first_end 0 0 (block_code first a) (I.Jump k ∷ []) long (block_height a first) first_fine
-              (jump_fine first_end k (from_expression e k (I.JumpZero (first_end + 1) ∷ (block_code first a ++ I.Jump k ∷ [])) stands), tt),
+              (jump_fine first_end 0 (I.Jump k) k (from_expression e k (I.JumpZero (first_end + 1) ∷ (block_code first a ++ I.Jump k ∷ [])) stands) refl refl refl refl (omega arith), tt),
         )
 
     block_fine : (b : Block ℕ) (k q : ℕ) → k + block_length b ≡ q → IsWithin z.variables z.scans z.rows b
@@ -268,8 +261,12 @@ inside_before code (i ∷ is) k h below = (
   inside_before code is (k + 1) (after i h) (omega arith),
 )
 
+-- The code has no fault, and each place of it the height that the instruction before hands on.
+abbrev pub IsPlain : CodeSizes → List Instr → Type 0
+IsPlain z code = IsVerified z code × (placed code ≡ paired 0 code)
+
 -- a body over so many slots, with its end
-body_verified : (z : CodeSizes) (b : Block ℕ) → IsWithin z.variables z.scans z.rows b → block_length b + 1 ≤ 65535 → IsVerified z (block_code 0 b ++ I.Halt ∷ [])
+body_verified : (z : CodeSizes) (b : Block ℕ) → IsWithin z.variables z.scans z.rows b → block_length b + 1 ≤ 65535 → IsPlain z (block_code 0 b ++ I.Halt ∷ [])
 body_verified z b within few =
     let body : List Instr = block_code 0 b in
     let code : List Instr = body ++ I.Halt ∷ [] in
@@ -290,14 +287,17 @@ body_verified z b within few =
 
 pub lowered_verified : (p : WholeProgram ℕ) → IsWithin (length p.variables) (length p.scans) (length p.registers) p.body
     → lowered_length p ≤ 65535 → IsVerified (lowered_sizes p) (lowered p)
-lowered_verified p within few = body_verified (lowered_sizes p) p.body within few
+lowered_verified p within few = (body_verified (lowered_sizes p) p.body within few).0
 
 -- the same of a program whose names are resolved: its sections are as long as they were
-pub resolved_verified : (p : WholeProgram Name) (b : Block ℕ) → IsWithin (length p.variables) (length p.scans) (length p.registers) b
-    → block_length b + 1 ≤ 65535 → IsVerified (lowered_sizes (resolved p)) (block_code 0 b ++ I.Halt ∷ [])
-resolved_verified p b within few =
+pub resolved_plain : (p : WholeProgram Name) (b : Block ℕ) (z : CodeSizes) (code : List Instr)
+    → z ≡ lowered_sizes (resolved p) → code ≡ block_code 0 b ++ I.Halt ∷ []
+    → IsWithin (length p.variables) (length p.scans) (length p.registers) b → block_length b + 1 ≤ 65535 → IsPlain z code
+resolved_plain p b z code sizes is within few =
     let number : Name → ℕ = slot_number (slot_in (declarations p)) in
-    body_verified (lowered_sizes (resolved p)) b
+    subst (λ y. IsPlain y code) (sym sizes)
+    (subst (IsPlain (lowered_sizes (resolved p))) (sym is)
+    (body_verified (lowered_sizes (resolved p)) b
     (subst (λ n. IsWithin (length (resolved p).variables) (length (resolved p).scans) n b) (sym (length-map p.registers number))
     (subst (λ n. IsWithin (length (resolved p).variables) n (length p.registers) b) (sym (length-map p.scans number))
-    (subst (λ n. IsWithin n (length p.scans) (length p.registers) b) (sym (length-map p.variables number)) within))) few
+    (subst (λ n. IsWithin n (length p.scans) (length p.registers) b) (sym (length-map p.variables number)) within))) few))

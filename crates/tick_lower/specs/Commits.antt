@@ -1,7 +1,7 @@
 -- Where a step of the program ends.
 use Rattle.std.specs.Prelude.{ℕ, Bool, true, false, List, slice_get, Option, Some, None}
-use Rattle.verified_code.specs.declared.instr.Instr.{Instr}
-use Rattle.verified_code.specs.declared.instr.Instr.TheVariants as I
+use Rattle.code_core.specs.declared.instr.Instr.{Instr}
+use Rattle.code_core.specs.declared.instr.Instr.TheVariants as I
 
 -- The instructions that end a step of the program: an exchange does where it succeeds. The others end
 -- one only where they trap.

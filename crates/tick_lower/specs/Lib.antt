@@ -1,3 +1,4 @@
 pub mod Lowered
 pub mod Commits
 pub mod Laws
+pub mod prover

@@ -3,9 +3,9 @@ ghost use Rattle.tick_kinds.specs.Resolved.{resolved_expression, resolved_statem
 ghost use Rattle.tick_syntax.specs.Plain.{stamp, branch, repeat};
 ghost use Rattle.tick_lower.specs.Lowered.{statement_length, block_length, expression_code, statement_code, block_code};
 
+use code_core::Instr;
 use std::alloc::AllocError;
 use tick_kinds::resolved::{Expression, Statement};
-use verified_code::Instr;
 
 // One instruction more.
 fn emit(code: &mut Vec<Instr>, instruction: Instr) -> Result<(), AllocError>

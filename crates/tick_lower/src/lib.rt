@@ -13,4 +13,4 @@ mod step_end;
 
 pub use fault::LowerFault;
 pub use lowering::lower;
-pub use step_end::commit;
+pub use step_end::{commit, ends_step};

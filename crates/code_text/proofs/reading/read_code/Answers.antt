@@ -1,5 +1,5 @@
 use Rattle.std.proofs.Common.{◌≡◌, true, false, ◌++◌, inl, inr, ap, ◌∙◌, sym, subst, refl}
-use Rattle.verified_code.specs.Instructions.{AreSizes}
+use Rattle.code_core.specs.Instructions.{AreSizes}
 use Rattle.code_text.specs.CodeText.{header_line, code_lines}
 use Rattle.code_text.specs.prover.Guess.{guessed_sizes}
 use Rattle.code_text.proofs.Guessing.{no_sizes, no_header}

@@ -1,5 +1,5 @@
 use Rattle.std.proofs.Common.{◌≡◌, ◌+◌, ◌++◌, ℕ, List, ap, ◌∙◌, sym, subst, length}
-use Rattle.verified_code.specs.declared.fault.CodeFault.TheVariants.{BadLine}
+use Rattle.code_core.specs.declared.fault.CodeFault.TheVariants.{BadLine}
 use Rattle.code_text.specs.CodeText.{instr_line, code_lines, AllInRange}
 use Rattle.code_text.specs.prover.Guess.{guess}
 use Rattle.code_text.proofs.Lines.{range_more, read_more, bad_line, not_empty}

@@ -1,54 +1,43 @@
-use Rattle.std.proofs.Common.{◌≡◌, ◌+◌, ◌∙◌, ◌++◌, ap, arith, length, sym, drop, subst}
+use Rattle.std.proofs.Common.{◌≡◌, ℕ, ◌+◌, ◌∙◌, ◌++◌, ap, arith, length, sym, drop, subst}
 use Rattle.std.specs.Prelude.{slice_set, OnOk}
-use Rattle.verified_code.specs.declared.instr.Instr.TheVariants as I
+use Rattle.code_core.specs.declared.instr.Instr.TheVariants as I
 use Rattle.tick_kinds.proofs.Offered.{branch_lent, repeat_lent}
 use Rattle.tick_kinds.specs.Resolved.{resolved_expression, resolved_statement, resolved_block}
-use Rattle.tick_lower.specs.Lowered.{statement_length, statement_code}
-use Rattle.tick_lower.proofs.Emitted.{long_expression, long_one, long_block, patch_branch, patch_repeat, next_statement, no_statement, emitting_start, emitting_shorter, emitting_fits, emitting_more, emitting_end}
+use Rattle.tick_lower.specs.Lowered.{expression_length, statement_length, block_length, statement_code}
+use Rattle.tick_lower.proofs.Emitted.{long_expression, long_block, long_tested, long_guarded, long_closed, patch_branch, patch_repeat, next_statement, no_statement, emitting_start, emitting_shorter, emitting_fits, emitting_more, emitting_end}
 use Rattle.tick_lower.proofs.emitter.+statement.Goals as goal
+use Rattle.tick_lower.proofs.emitter.+statement.Goals.{emit_branch-After-deref-3}
 
 pub emit_branch-next_place-to_second-requires : goal.emit_branch-next_place-to_second-requires
-emit_branch-next_place-to_second-requires t c =
-    let l1 = long_expression c.emit_expression.new.code.items c.args.code.now.items (resolved_expression c.args.test.now) c.in_ok-emit_expression.ensures in
-    omega (arith, l1)
+emit_branch-next_place-to_second-requires t c = omega (arith, long_expression _ c.args.code.now.items (resolved_expression c.args.test.now) c.in_ok-emit_expression.ensures)
 
 pub emit_branch-emit_block-requires : goal.emit_branch-emit_block-requires
 emit_branch-emit_block-requires t c =
-    let l1 = long_expression c.emit_expression.new.code.items c.args.code.now.items (resolved_expression c.args.test.now) c.in_ok-emit_expression.ensures in
-    let l2 = long_one c.emit.new.code.items c.emit_expression.new.code.items _ c.in_ok-emit.ensures in
-    (omega arith, omega (arith, l1, l2))
+    (omega arith, omega (arith, long_tested (resolved_expression c.args.test.now) c.args.code.now.items _ _ _ c.in_ok-emit_expression.ensures c.in_ok-emit.ensures))
 
 pub emit_branch-next_place-past_second-requires : goal.emit_branch-next_place-past_second-requires
 emit_branch-next_place-past_second-requires t c =
-    let l1 = long_expression c.emit_expression.new.code.items c.args.code.now.items (resolved_expression c.args.test.now) c.in_ok-emit_expression.ensures in
-    let l2 = long_one c.emit.new.code.items c.emit_expression.new.code.items _ c.in_ok-emit.ensures in
-    let l3 = long_block c.emit_block.new.code.items c.emit.new.code.items (resolved_block c.args.first.now) c.in_ok-emit_block.ensures in
-    omega (arith, l1, l2, l3)
+    let long =
+    long_guarded (resolved_expression c.args.test.now) (resolved_block c.args.first.now) c.args.code.now.items _ _ _ _
+    c.in_ok-emit_expression.ensures c.in_ok-emit.ensures c.in_ok-emit_block.ensures in
+    omega (arith, long)
+
+-- how long the code is before the second block
+closed : (t : ℕ) (c : goal.emit_branch-After-deref-3 t)
+    → length c.emit-2.new.code.items ≡ length c.args.code.now.items + expression_length (resolved_expression c.args.test.now) + 1 + block_length (resolved_block c.args.first.now) + 1
+closed t c =
+    long_closed (resolved_expression c.args.test.now) (resolved_block c.args.first.now) c.args.code.now.items _ _ _ _ _ _
+    c.in_ok-emit_expression.ensures c.in_ok-emit.ensures c.in_ok-emit_block.ensures c.in_ok-emit-2.ensures
 
 pub emit_branch-next_place-second_place-requires : goal.emit_branch-next_place-second_place-requires
-emit_branch-next_place-second_place-requires t c =
-    let l1 = long_expression c.emit_expression.new.code.items c.args.code.now.items (resolved_expression c.args.test.now) c.in_ok-emit_expression.ensures in
-    let l2 = long_one c.emit.new.code.items c.emit_expression.new.code.items _ c.in_ok-emit.ensures in
-    let l3 = long_block c.emit_block.new.code.items c.emit.new.code.items (resolved_block c.args.first.now) c.in_ok-emit_block.ensures in
-    let l4 = long_one c.emit-2.new.code.items c.emit_block.new.code.items _ c.in_ok-emit-2.ensures in
-    omega (arith, l1, l2, l3, l4)
+emit_branch-next_place-second_place-requires t c = omega (arith, closed t c)
 
 pub emit_branch-emit_block-requires-2 : goal.emit_branch-emit_block-requires-2
-emit_branch-emit_block-requires-2 t c =
-    let l1 = long_expression c.emit_expression.new.code.items c.args.code.now.items (resolved_expression c.args.test.now) c.in_ok-emit_expression.ensures in
-    let l2 = long_one c.emit.new.code.items c.emit_expression.new.code.items _ c.in_ok-emit.ensures in
-    let l3 = long_block c.emit_block.new.code.items c.emit.new.code.items (resolved_block c.args.first.now) c.in_ok-emit_block.ensures in
-    let l4 = long_one c.emit-2.new.code.items c.emit_block.new.code.items _ c.in_ok-emit-2.ensures in
-    (omega arith, omega (arith, l1, l2, l3, l4))
+emit_branch-emit_block-requires-2 t c = (omega arith, omega (arith, closed t (goal.at.emit_branch-emit_block-requires-2 t c).After-deref-3))
 
 pub emit_branch-next_place-end-requires : goal.emit_branch-next_place-end-requires
 emit_branch-next_place-end-requires t c =
-    let l1 = long_expression c.emit_expression.new.code.items c.args.code.now.items (resolved_expression c.args.test.now) c.in_ok-emit_expression.ensures in
-    let l2 = long_one c.emit.new.code.items c.emit_expression.new.code.items _ c.in_ok-emit.ensures in
-    let l3 = long_block c.emit_block.new.code.items c.emit.new.code.items (resolved_block c.args.first.now) c.in_ok-emit_block.ensures in
-    let l4 = long_one c.emit-2.new.code.items c.emit_block.new.code.items _ c.in_ok-emit-2.ensures in
-    let l5 = long_block c.emit_block-2.new.code.items c.emit-2.new.code.items (resolved_block c.args.second.now) c.in_ok-emit_block-2.ensures in
-    omega (arith, l1, l2, l3, l4, l5)
+    omega (arith, closed t (goal.at.emit_branch-next_place-end-requires t c).After-deref-3, long_block _ c.emit-2.new.code.items (resolved_block c.args.second.now) c.in_ok-emit_block-2.ensures)
 
 pub emit_branch-returns : goal.emit_branch-returns
 emit_branch-returns t c =
@@ -59,23 +48,18 @@ emit_branch-returns t c =
     c.in_ok-emit-2.ensures (c.next_place-second_place.ensures ∙ ap length c.deref-3.ensures.value) c.in_ok-emit_block-2.ensures (c.next_place-end.ensures ∙ ap length c.deref-4.ensures.value)
 
 pub emit_repeat-next_place-past_body-requires : goal.emit_repeat-next_place-past_body-requires
-emit_repeat-next_place-past_body-requires t c =
-    let l1 = long_expression c.emit_expression.new.code.items c.args.code.now.items (resolved_expression c.args.test.now) c.in_ok-emit_expression.ensures in
-    omega (arith, l1)
+emit_repeat-next_place-past_body-requires t c = omega (arith, long_expression _ c.args.code.now.items (resolved_expression c.args.test.now) c.in_ok-emit_expression.ensures)
 
 pub emit_repeat-emit_block-requires : goal.emit_repeat-emit_block-requires
 emit_repeat-emit_block-requires t c =
-    let l1 = long_expression c.emit_expression.new.code.items c.args.code.now.items (resolved_expression c.args.test.now) c.in_ok-emit_expression.ensures in
-    let l2 = long_one c.emit.new.code.items c.emit_expression.new.code.items _ c.in_ok-emit.ensures in
-    (omega arith, omega (arith, l1, l2))
+    (omega arith, omega (arith, long_tested (resolved_expression c.args.test.now) c.args.code.now.items _ _ _ c.in_ok-emit_expression.ensures c.in_ok-emit.ensures))
 
 pub emit_repeat-next_place-end-requires : goal.emit_repeat-next_place-end-requires
 emit_repeat-next_place-end-requires t c =
-    let l1 = long_expression c.emit_expression.new.code.items c.args.code.now.items (resolved_expression c.args.test.now) c.in_ok-emit_expression.ensures in
-    let l2 = long_one c.emit.new.code.items c.emit_expression.new.code.items _ c.in_ok-emit.ensures in
-    let l3 = long_block c.emit_block.new.code.items c.emit.new.code.items (resolved_block c.args.body.now) c.in_ok-emit_block.ensures in
-    let l4 = long_one c.emit-2.new.code.items c.emit_block.new.code.items _ c.in_ok-emit-2.ensures in
-    omega (arith, l1, l2, l3, l4)
+    let long =
+    long_closed (resolved_expression c.args.test.now) (resolved_block c.args.body.now) c.args.code.now.items _ _ _ _ _ _
+    c.in_ok-emit_expression.ensures c.in_ok-emit.ensures c.in_ok-emit_block.ensures c.in_ok-emit-2.ensures in
+    omega (arith, long)
 
 pub emit_repeat-returns : goal.emit_repeat-returns
 emit_repeat-returns t c =

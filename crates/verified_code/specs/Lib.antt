@@ -1,4 +1,0 @@
-pub mod Instructions
-pub mod Heights
-pub mod Verified
-pub mod prover
