@@ -199,6 +199,9 @@ module _ (p : WholeProgram Name) where
       back_empty (declarations_refusals (declarations p) []) _ (back_empty (processes_refusals p) _ none) in
       subst InBlock (sym (resolved_so b h)) (block_within p.body uses)
 
+  pub accepted_within : IsAccepted p → InBlock (resolved p).body
+  accepted_within a = body_within (resolved p).body (accepted_ok a)
+
   pub accepted : (b : Block ℕ) → checked_program p ≡ Ok b → IsAccepted p
   accepted b h = accepted_from (not_refused b h)
 

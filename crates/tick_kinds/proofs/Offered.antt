@@ -8,11 +8,14 @@ use Rattle.tick_kinds.specs.declared.resolved.Statement.TheBlock.{items-the_row-
 use Rattle.tick_kinds.specs.declared.resolved.Statement.TheVariants as S
 use Rattle.tick_kinds.specs.Resolved.{resolved_expression, resolved_statement, resolved_row, resolved_block}
 use Rattle.tick_syntax.specs.Plain.{branch, repeat, cons}
-use Rattle.tick_kinds.specs.Laws.{AcceptanceLaw}
-use Rattle.tick_kinds.proofs.Acceptance.{accepted_unless_refused}
+use Rattle.tick_kinds.specs.Laws.{AcceptanceLaw, WithinLaw}
+use Rattle.tick_kinds.proofs.Acceptance.{accepted_unless_refused, accepted_within}
 
 pub acceptance_law : AcceptanceLaw
 acceptance_law = accepted_unless_refused
+
+pub within_law : WithinLaw
+within_law = accepted_within
 
 row_block : {n : _} → (k : Row_of-Statement n) → resolved_row k ≡ resolved_block (items-the_row-Statement n k)
 row_block end_of-Statement = refl

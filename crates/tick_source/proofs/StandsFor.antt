@@ -13,10 +13,10 @@ use Rattle.ticket_core.specs.Tickets.{start_tickets}
 use Rattle.tick_syntax.specs.Plain.{WholeProgram}
 use Rattle.machine_core.specs.Rows.{start_rows}
 use Rattle.machine_core.specs.declared.status.Status.TheVariants.{Running}
-use Rattle.machine_core.specs.declared.no_memory.NoMemory.{NoMemory}
+use Rattle.base.specs.declared.no_memory.NoMemory.{NoMemory}
 use Rattle.tick_source.specs.declared.process.Process.{Process}
 use Rattle.tick_source.specs.declared.machine.SourceMachine.TheInside.{Inside}
-use Rattle.tick_source.specs.Source.{SourceProcess, SourceState, Did, did, state_after, step_of, step_as, source_step, source_start, start_process, statuses_of, IsQuietStep, IsQuietFor, IsQuietAs, HasQuietFirst}
+use Rattle.tick_source.specs.Source.{SourceProcess, SourceState, SourceStep, did, state_after, step_of, step_as, source_step, source_start, start_process, statuses_of, IsQuietStep, IsQuietFor, IsQuietAs, HasQuietFirst}
 use Rattle.tick_source.specs.prover.Steps.{Makes, Keeps, did_from}
 use Rattle.tick_source.specs.prover.Machine.{process_of, state_of, AreScans, IsTicketed}
 use Rattle.tick_source.proofs.Steps.{did_fits, stopped_as, IsAsLarge, step_as_large}
@@ -36,7 +36,7 @@ module _ (m m' : Inside) (p : ℕ) (q q' : Process) (here : q ≡ get_or m.proce
   set_back : (after : SourceProcess) → process_of q' ≡ after → (state_of m').processes ≡ slice_set (state_of m).processes p after
   set_back after e = ap (map process_of) put_back ∙ map-set process_of m.processes.items p q' ∙ ap (slice_set (state_of m).processes p) e
 
-  made : (d : Did) → Makes p d m.shared m'.shared q' → state_of m' ≡ state_after p (state_of m) d
+  made : (d : SourceStep) → Makes p d m.shared m'.shared q' → state_of m' ≡ state_after p (state_of m) d
   made d f =
       let process : process_of q' ≡ d.process = λ i. record { variables = f.variables i; scans = f.scans i; rest = f.rest i; status = f.status i } in
       let processes : (state_of m').processes ≡ slice_set (state_of m).processes p d.process = set_back d.process process in

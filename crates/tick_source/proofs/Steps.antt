@@ -11,11 +11,11 @@ use Rattle.machine_core.specs.declared.status.Trap.{Trap}
 use Rattle.machine_core.specs.declared.status.Status.{Status}
 use Rattle.machine_core.specs.declared.status.Status.TheVariants.{Running, Ended, Trapped}
 use Rattle.tick_source.specs.Values.{value}
-use Rattle.tick_source.specs.Source.{SourceProcess, SourceState, Did, scan_at, with_value, with_index, does, did, step_of, step_as, source_step, source_run}
+use Rattle.tick_source.specs.Source.{SourceProcess, SourceState, SourceStep, scan_at, with_value, with_index, does, did, step_of, step_as, source_step, source_run}
 use Rattle.tick_source.specs.prover.Machine.{AreScans}
 
 -- What was done keeps how many tickets and rows there are, and a ticket for each process in each scan.
-pub record Fits (n : ℕ) (before : List ℕ) (registers scanned : List (List ℕ)) (d : Did) : Type 0 where
+pub record Fits (n : ℕ) (before : List ℕ) (registers scanned : List (List ℕ)) (d : SourceStep) : Type 0 where
   pub tickets : length d.tickets ≡ length before
   pub rows : length d.rows ≡ length registers
   pub scans : length before ≡ n → AreScans n scanned → AreScans n d.process.scans
@@ -26,19 +26,19 @@ held_or P (x ∷ xs) zero d h all = all 0 d (omega arith)
 held_or P (x ∷ xs) (suc k) d h all = held_or P xs k d h (λ j e inside. all (suc j) e (omega arith))
 
 module _ (n p : ℕ) (tickets : List ℕ) (rows : List (List ℕ)) (variables : List ℕ) (scans : List (List ℕ)) where
-  abbrev IsFit : Did → Type 0
+  abbrev IsFit : SourceStep → Type 0
   IsFit d = Fits n tickets rows scans d
 
-  either_fits : (b : Bool) (d e : Did) → IsFit d → IsFit e → IsFit (if b then d else e)
+  either_fits : (b : Bool) (d e : SourceStep) → IsFit d → IsFit e → IsFit (if b then d else e)
   either_fits true d e x y = x
   either_fits false d e x y = y
 
-  value_fits : (rest : Block ℕ) (v : Result ℕ Trap) (then_this : ℕ → Did) → ((k : ℕ) → IsFit (then_this k))
+  value_fits : (rest : Block ℕ) (v : Result ℕ Trap) (then_this : ℕ → SourceStep) → ((k : ℕ) → IsFit (then_this k))
       → IsFit (with_value n p tickets rows variables scans rest v then_this)
   value_fits rest (Ok v) then_this fit = fit v
   value_fits rest (Err t) then_this fit = record { tickets = refl; rows = refl; scans = λ long are. are }
 
-  index_fits : (rest : Block ℕ) (i : ℕ) (d : Did) → IsFit d → IsFit (with_index n p tickets rows variables scans rest i d)
+  index_fits : (rest : Block ℕ) (i : ℕ) (d : SourceStep) → IsFit d → IsFit (with_index n p tickets rows variables scans rest i d)
   index_fits rest i d fit = either_fits (nat_lt i n) d _ fit (record { tickets = refl; rows = refl; scans = λ long are. are })
 
   scan_fits : (s : ℕ) → AreScans n scans → length (scan_at n scans s) ≡ n

@@ -29,7 +29,7 @@ pub record SourceState : Type 0 where
   pub events : List Event
 
 -- What one step of a process does.
-pub record Did : Type 0 where
+pub record SourceStep : Type 0 where
   pub tickets : List ℕ
   pub rows : List (List ℕ)
   pub process : SourceProcess
@@ -41,7 +41,7 @@ scan_at n scans s = slice_index_or scans s (start_tickets n)
 
 -- Process `p` of `n` runs, where these are the tickets, the rows, its variables and its scans.
 module _ (n p : ℕ) (tickets : List ℕ) (rows : List (List ℕ)) (variables : List ℕ) (scans : List (List ℕ)) where
-  abbrev pub goes : List ℕ → List (List ℕ) → Block ℕ → Option Act → Did
+  abbrev pub goes : List ℕ → List (List ℕ) → Block ℕ → Option Act → SourceStep
   goes variables' scans' rest act = record {
     tickets = tickets;
     rows = rows;
@@ -49,7 +49,7 @@ module _ (n p : ℕ) (tickets : List ℕ) (rows : List (List ℕ)) (variables : 
     act = act;
   }
 
-  abbrev pub stops : Block ℕ → Status → Act → Did
+  abbrev pub stops : Block ℕ → Status → Act → SourceStep
   stops rest status act = record {
     tickets = tickets;
     rows = rows;
@@ -58,21 +58,21 @@ module _ (n p : ℕ) (tickets : List ℕ) (rows : List (List ℕ)) (variables : 
   }
 
   -- a trap is all that its step does
-  abbrev pub traps : Block ℕ → Trap → Did
+  abbrev pub traps : Block ℕ → Trap → SourceStep
   traps rest t = stops rest (Trapped t) (A.Trap t)
 
   -- the value of an expression, or the trap that it ends in
-  abbrev pub with_value : Block ℕ → Result ℕ Trap → (ℕ → Did) → Did
+  abbrev pub with_value : Block ℕ → Result ℕ Trap → (ℕ → SourceStep) → SourceStep
   with_value rest (Ok v) then_this = then_this v
   with_value rest (Err t) then_this = traps rest t
 
   -- a process that there is, or the trap
-  abbrev pub with_index : Block ℕ → ℕ → Did → Did
+  abbrev pub with_index : Block ℕ → ℕ → SourceStep → SourceStep
   with_index rest i then_this = if nat_lt i n then then_this else traps rest T.Index
 
   -- What the first statement does, where `rest` follows it. Of two operands both have a value before
   -- either is taken for a process.
-  abbrev pub does : Statement ℕ → Block ℕ → Did
+  abbrev pub does : Statement ℕ → Block ℕ → SourceStep
   does (assign x e) rest = with_value rest (value n p variables e) λ v. goes (slice_set variables x v) scans rest None
   does (get x r e) rest =
       with_value rest (value n p variables e) λ i.
@@ -96,11 +96,11 @@ module _ (n p : ℕ) (tickets : List ℕ) (rows : List (List ℕ)) (variables : 
       goes variables scans (if v == 0 then rest else onto a (cons (repeat e a) rest)) None
 
   -- one step, where these statements remain
-  abbrev pub did : Block ℕ → Did
+  abbrev pub did : Block ℕ → SourceStep
   did nil = stops nil Ended A.End
   did (cons s rest) = does s rest
 
-abbrev pub state_after : ℕ → SourceState → Did → SourceState
+abbrev pub state_after : ℕ → SourceState → SourceStep → SourceState
 state_after p s d = record {
   tickets = d.tickets;
   rows = d.rows;

@@ -4,9 +4,9 @@
 #![tactic(auto)]
 
 mod machine;
+mod memory;
 mod process;
 mod remaining;
-mod shared;
 mod value;
 
 pub use machine::{SourceMachine, run};

@@ -5,8 +5,8 @@ ghost use Rattle.machine_core.specs.Rows.{register_at};
 ghost use Rattle.machine_core.specs.Observables.{observed};
 ghost use Rattle.tick_source.specs.Source.{source, source_start, source_step, observables, statuses_of, IsQuietStep};
 
+use crate::memory::SourceMemory;
 use crate::process::Process;
-use crate::shared::Shared;
 use machine_core::{Event, NoMemory, Outcome, Status};
 use std::alloc::Global;
 use std::marker::Model;
@@ -16,7 +16,7 @@ use tick_kinds::Program;
 /// process steps is the caller's choice.
 #[derive(Drop)]
 pub struct SourceMachine<'a> {
-    shared: Shared,
+    shared: SourceMemory,
     processes: Vec<Process<'a>>,
 }
 
@@ -44,7 +44,7 @@ impl<'a> SourceMachine<'a> {
         ensures rows { IfOk result (λ m. length m.rows ≡ length program.now.registers) }
     {
         let n = program.processes();
-        let shared = Shared::new(alloc, n, program.registers())?;
+        let shared = SourceMemory::new(alloc, n, program.registers())?;
         let mut processes = Vec::with_capacity(alloc, usize::from(n))?;
         for _ in 0..n {
             let process = Process::new(alloc, program)?;

@@ -9,8 +9,8 @@ ghost use Rattle.tick_kinds.specs.Resolution.{resolved};
 ghost use Rattle.tick_source.specs.Values.{value};
 ghost use Rattle.tick_source.specs.prover.Steps.{Makes, Keeps, traps_from, does_from, did_from};
 
+use crate::memory::SourceMemory;
 use crate::remaining::Remaining;
-use crate::shared::Shared;
 use crate::value::value_of;
 use machine_core::{Act, NoMemory, Status, Trap, set_at};
 use std::alloc::Global;
@@ -41,13 +41,13 @@ impl<'a> Process<'a> {
         })
     }
 
-    fn value(&self, p: u8, shared: &Shared, expression: &Expression) -> Result<u32, Trap>
+    fn value(&self, p: u8, shared: &SourceMemory, expression: &Expression) -> Result<u32, Trap>
         ensures { result ≡ value (length shared.now.tickets) p self.now.variables.items (resolved_expression expression.now) }
     {
         value_of(shared.tickets.count(), p, &self.variables, expression)
     }
 
-    fn scan(&self, shared: &Shared, s: u8) -> Tickets
+    fn scan(&self, shared: &SourceMemory, s: u8) -> Tickets
         ensures { result ≡ scan_at (length shared.now.tickets) self.now.scans.items s }
     {
         match self.scans.get(s as usize) {
@@ -56,7 +56,7 @@ impl<'a> Process<'a> {
         }
     }
 
-    fn trap(&mut self, p: u8, shared: &mut Shared, trap: Trap) -> Result<(), NoMemory>
+    fn trap(&mut self, p: u8, shared: &mut SourceMemory, trap: Trap) -> Result<(), NoMemory>
         ensures ok { OnOk result (Makes p (traps_from p shared.old self.old trap) shared.old shared.new self.new) }
         ensures err { OnErr result (Keeps shared.old shared.new self.old self.new) }
     {
@@ -69,7 +69,7 @@ impl<'a> Process<'a> {
     fn assign(
         &mut self,
         p: u8,
-        shared: &mut Shared,
+        shared: &mut SourceMemory,
         x: u8,
         expression: &Expression,
     ) -> Result<(), NoMemory>
@@ -91,7 +91,7 @@ impl<'a> Process<'a> {
     fn put(
         &mut self,
         p: u8,
-        shared: &mut Shared,
+        shared: &mut SourceMemory,
         r: u8,
         expression: &Expression,
     ) -> Result<(), NoMemory>
@@ -110,7 +110,7 @@ impl<'a> Process<'a> {
         }
     }
 
-    fn stamp(&mut self, p: u8, shared: &mut Shared) -> Result<(), NoMemory>
+    fn stamp(&mut self, p: u8, shared: &mut SourceMemory) -> Result<(), NoMemory>
         requires running { self.old.status ≡ Status.Running }
         requires in_range { p < length shared.old.tickets }
         ensures ok { OnOk result (Makes p (does_from p shared.old self.old (stamp)) shared.old shared.new self.new) }
@@ -121,7 +121,7 @@ impl<'a> Process<'a> {
         Ok(())
     }
 
-    fn take(&mut self, p: u8, shared: &mut Shared, s: u8) -> Result<(), NoMemory>
+    fn take(&mut self, p: u8, shared: &mut SourceMemory, s: u8) -> Result<(), NoMemory>
         requires { self.old.status ≡ Status.Running }
         ensures ok { OnOk result (Makes p (does_from p shared.old self.old (scan s)) shared.old shared.new self.new) }
         ensures err { OnErr result (Keeps shared.old shared.new self.old self.new) }
@@ -133,7 +133,7 @@ impl<'a> Process<'a> {
         Ok(())
     }
 
-    fn copy(&mut self, p: u8, shared: &Shared, target: u8, copied: u8)
+    fn copy(&mut self, p: u8, shared: &SourceMemory, target: u8, copied: u8)
         requires { self.old.status ≡ Status.Running }
         ensures { Makes p (does_from p shared.now self.old (copy target copied)) shared.now shared.now self.new }
     {
@@ -142,7 +142,12 @@ impl<'a> Process<'a> {
         self.rest.advance();
     }
 
-    fn give(&mut self, p: u8, shared: &mut Shared, expression: &Expression) -> Result<(), NoMemory>
+    fn give(
+        &mut self,
+        p: u8,
+        shared: &mut SourceMemory,
+        expression: &Expression,
+    ) -> Result<(), NoMemory>
         requires { self.old.status ≡ Status.Running }
         ensures ok { OnOk result (Makes p (does_from p shared.old self.old (out (resolved_expression expression.now))) shared.old shared.new self.new) }
         ensures err { OnErr result (Keeps shared.old shared.new self.old self.new) }
@@ -160,7 +165,7 @@ impl<'a> Process<'a> {
     fn get(
         &mut self,
         p: u8,
-        shared: &mut Shared,
+        shared: &mut SourceMemory,
         x: u8,
         r: u8,
         expression: &Expression,
@@ -186,7 +191,7 @@ impl<'a> Process<'a> {
     fn compare(
         &mut self,
         p: u8,
-        shared: &mut Shared,
+        shared: &mut SourceMemory,
         x: u8,
         s: u8,
         first: &Expression,
@@ -212,7 +217,7 @@ impl<'a> Process<'a> {
     fn answer(
         &mut self,
         p: u8,
-        shared: &mut Shared,
+        shared: &mut SourceMemory,
         x: u8,
         s: u8,
         i: u8,
@@ -235,7 +240,7 @@ impl<'a> Process<'a> {
     fn branch(
         &mut self,
         p: u8,
-        shared: &mut Shared,
+        shared: &mut SourceMemory,
         expression: &Expression,
         then_block: &'a [Statement],
         else_block: &'a [Statement],
@@ -254,7 +259,7 @@ impl<'a> Process<'a> {
     fn repeat(
         &mut self,
         p: u8,
-        shared: &mut Shared,
+        shared: &mut SourceMemory,
         expression: &Expression,
         block: &'a [Statement],
     ) -> Result<(), NoMemory>
@@ -278,7 +283,7 @@ impl<'a> Process<'a> {
     fn execute(
         &mut self,
         p: u8,
-        shared: &mut Shared,
+        shared: &mut SourceMemory,
         statement: &'a Statement,
     ) -> Result<(), NoMemory>
         requires running { self.old.status ≡ Status.Running }
@@ -311,7 +316,7 @@ impl<'a> Process<'a> {
     }
 
     /// Makes the next step of process `p`, which this is and which runs.
-    pub fn step(&mut self, p: u8, shared: &mut Shared) -> Result<(), NoMemory>
+    pub fn step(&mut self, p: u8, shared: &mut SourceMemory) -> Result<(), NoMemory>
         requires running { self.old.status ≡ Status.Running }
         requires in_range { p < length shared.old.tickets }
         requires scans { All (λ scan. length scan ≡ length shared.old.tickets) self.old.scans.items }

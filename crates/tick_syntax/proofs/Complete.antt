@@ -1,5 +1,5 @@
 -- What the grammar has the reader reads.
-use Rattle.std.proofs.Common.{◌≡◌, ℕ, zero, suc, ◌<◌, ◌≤◌, false, List, [], ◌∷◌, length, Ok, Bor, refl, sym, ◌∙◌, ap, subst, arith}
+use Rattle.std.proofs.Common.{append_assoc, map, ◌≡◌, ℕ, zero, suc, ◌<◌, ◌≤◌, false, List, [], ◌∷◌, ◌++◌, length, Ok, Bor, refl, sym, ◌∙◌, ap, subst, arith}
 use Rattle.tick_syntax.specs.declared.span.Span.{Span}
 use Rattle.tick_syntax.specs.declared.valued_token.ValuedToken.{ValuedToken}
 use Rattle.tick_syntax.specs.declared.valued_token.Ending.{Ending}
@@ -13,12 +13,15 @@ use Rattle.tick_syntax.specs.declared.terminals.Terminal.{Terminal}
 use Rattle.tick_syntax.specs.declared.terminals.Terminal.TheVariants as T
 use Rattle.tick_syntax.specs.Lexeme.{Lexeme, a_name, a_number, a_terminal}
 use Rattle.tick_syntax.specs.Plain.{Name, Expression, number, named, me, count, binary, Statement, assign, get, put, stamp, scan, copy, older, out, branch, repeat, Block, nil, cons, WholeProgram}
-use Rattle.tick_syntax.specs.Grammar.{IsExpression, IsStatement, IsBlock, AreNames, IsSection, Derives}
+use Rattle.tick_syntax.specs.Grammar.{expression_tokens, in_braces, statement_tokens, block_tokens, names_tokens, section_tokens, program_tokens, second_span}
 use Rattle.tick_syntax.specs.Nesting.{expression_nesting, statement_nesting, block_nesting, nesting}
 use Rattle.machine_core.specs.Refusing.{◌>>=◌}
-use Rattle.tick_syntax.specs.prover.Reading.{Reading, next_at, terminal_at, number_at, brace_at, operator_at, name_at, pair_at, brackets_at, expression_at, last_at, get_at, scan_at, copy_at, older_at, plain_at, right_at, assignment_at, put_at, stamp_at, out_at, branch_at, repeat_at, statement_with, statement_at, block_by, ends, statements_with, block_at, statements_at, names_at, begins, section_by, section_at, body_at, whole_at, program_at}
+use Rattle.tick_syntax.specs.prover.ValuedTokens.{plain}
+use Rattle.tick_syntax.specs.prover.Reading.{Reading, next_at, terminal_by, terminal_at, number_at, brace_at, operator_at, name_at, pair_at, brackets_at, expression_at, last_at, get_at, scan_at, copy_at, older_at, plain_at, right_at, assignment_at, put_at, stamp_at, out_at, branch_at, repeat_at, statement_with, statement_at, block_by, ends, statements_with, block_at, statements_at, names_at, begins, section_by, section_at, body_at, whole_at, program_at}
 use Rattle.tick_syntax.proofs.Symbols.{said_by, said, says}
 use Rattle.tick_syntax.proofs.Loops.{statement_shorter, branch_gives, repeat_gives}
+use Rattle.tick_syntax.proofs.Sound.{pair_regroups}
+use Rattle.tick_syntax.proofs.SoundStatements.{branch_regroups}
 
 -- the first token and those after it
 token_in : (is : List ValuedToken) (x : Lexeme) (t : List Lexeme) → says is ≡ x ∷ t
@@ -26,24 +29,21 @@ token_in : (is : List ValuedToken) (x : Lexeme) (t : List Lexeme) → says is �
 token_in [] x t h = absurd (cc)
 token_in (i ∷ js) x t h = (i, js, refl, cc, cc)
 
-terminal_by : (m : Meaning) (span : Span) (w : Terminal) → said_by m span ≡ a_terminal w → m ≡ M.Terminal w
-terminal_by (M.Name l) span w h = absurd (cc)
-terminal_by (M.Number v) span w h = absurd (cc)
-terminal_by (M.Terminal v) span w h = cc
-terminal_by M.Nothing span w h = absurd (cc)
+said_terminal : (m : Meaning) (span : Span) (w : Terminal) → said_by m span ≡ a_terminal w → m ≡ M.Terminal w
+said_terminal (M.Name l) span w h = absurd (cc)
+said_terminal (M.Number v) span w h = absurd (cc)
+said_terminal (M.Terminal v) span w h = cc
 
-number_by_ : (m : Meaning) (span : Span) (v : ℕ) (s : Span) → said_by m span ≡ a_number v s → (m ≡ M.Number v) × (span ≡ s)
-number_by_ (M.Name l) span v s h = absurd (cc)
-number_by_ (M.Number u) span v s h = (cc, cc)
-number_by_ (M.Terminal u) span v s h = absurd (cc)
-number_by_ M.Nothing span v s h = absurd (cc)
+said_number : (m : Meaning) (span : Span) (v : ℕ) → said_by m span ≡ a_number v → m ≡ M.Number v
+said_number (M.Name l) span v h = absurd (cc)
+said_number (M.Number u) span v h = cc
+said_number (M.Terminal u) span v h = absurd (cc)
 
-name_by_ : (m : Meaning) (span : Span) (x : Name) → said_by m span ≡ a_name x
+said_name : (m : Meaning) (span : Span) (x : Name) → said_by m span ≡ a_name x
     → (l : Bor (List ℕ)) × (m ≡ M.Name l) × (record { letters = l.now; span = span } ≡ x)
-name_by_ (M.Name l) span x h = (l, refl, cc)
-name_by_ (M.Number u) span x h = absurd (cc)
-name_by_ (M.Terminal u) span x h = absurd (cc)
-name_by_ M.Nothing span x h = absurd (cc)
+said_name (M.Name l) span x h = (l, refl, cc)
+said_name (M.Number u) span x h = absurd (cc)
+said_name (M.Terminal u) span x h = absurd (cc)
 
 abbrev token : Meaning → Span → ValuedToken
 token m span = record { meaning = m; span = span }
@@ -52,21 +52,20 @@ terminal_in : (w : Terminal) (is : List ValuedToken) (t : List Lexeme) → says 
     → (span : Span) × (js : List ValuedToken) × (says js ≡ t) × (is ≡ token (M.Terminal w) span ∷ js)
 terminal_in w is t h =
     let r = token_in is (a_terminal w) t h in
-    (r.0.span, r.1, r.4, r.2 ∙ ap (λ z. token z r.0.span ∷ r.1) (terminal_by r.0.meaning r.0.span w r.3))
+    (r.0.span, r.1, r.4, r.2 ∙ ap (λ z. token z r.0.span ∷ r.1) (said_terminal r.0.meaning r.0.span w r.3))
 
-number_in : (v : ℕ) (s : Span) (is : List ValuedToken) (t : List Lexeme) → says is ≡ a_number v s ∷ t
-    → (js : List ValuedToken) × (says js ≡ t) × (is ≡ token (M.Number v) s ∷ js)
-number_in v s is t h =
-    let r = token_in is (a_number v s) t h in
-    let n = number_by_ r.0.meaning r.0.span v s r.3 in
-    (r.1, r.4, r.2 ∙ ap (λ z. token z r.0.span ∷ r.1) n.0 ∙ ap (λ z. token (M.Number v) z ∷ r.1) n.1)
+number_in : (v : ℕ) (is : List ValuedToken) (t : List Lexeme) → says is ≡ a_number v ∷ t
+    → (span : Span) × (js : List ValuedToken) × (says js ≡ t) × (is ≡ token (M.Number v) span ∷ js)
+number_in v is t h =
+    let r = token_in is (a_number v) t h in
+    (r.0.span, r.1, r.4, r.2 ∙ ap (λ z. token z r.0.span ∷ r.1) (said_number r.0.meaning r.0.span v r.3))
 
 name_in : (x : Name) (is : List ValuedToken) (t : List Lexeme) → says is ≡ a_name x ∷ t
     → (l : Bor (List ℕ)) × (span : Span) × (js : List ValuedToken) × (says js ≡ t) × (record { letters = l.now; span = span } ≡ x)
     × (is ≡ token (M.Name l) span ∷ js)
 name_in x is t h =
     let r = token_in is (a_name x) t h in
-    let n = name_by_ r.0.meaning r.0.span x r.3 in
+    let n = said_name r.0.meaning r.0.span x r.3 in
     (n.0, r.0.span, r.1, r.4, n.2, r.2 ∙ ap (λ z. token z r.0.span ∷ r.1) n.1)
 
 module _ (end : ℕ) where
@@ -74,29 +73,17 @@ module _ (end : ℕ) where
   abbrev pub Takes : {V : Type 0} → Reading V → V → List Lexeme → Type 0
   Takes m v rest = (r : List ValuedToken) × (says r ≡ rest) × (m ≡ Ok (v, r))
 
-  semicolon_takes : (is : List ValuedToken) (rest : List Lexeme) → says is ≡ a_terminal T.Semicolon ∷ rest → Takes (terminal_at end T.Semicolon is) tt rest
-  unfolding terminal_at next_at
-  semicolon_takes is rest h = let r = terminal_in T.Semicolon is rest h in (r.1, r.2, ap (terminal_at end T.Semicolon) r.3)
+  -- a terminal that a rule has alone
+  abbrev IsAlone : Terminal → Type 0
+  IsAlone w = (span : Span) (rest : List ValuedToken) → terminal_by w (M.Terminal w) span rest ≡ Ok (tt, rest)
 
-  becomes_takes : (is : List ValuedToken) (rest : List Lexeme) → says is ≡ a_terminal T.Becomes ∷ rest → Takes (terminal_at end T.Becomes is) tt rest
+  terminal_gives : (w : Terminal) → IsAlone w → (span : Span) (js : List ValuedToken) → terminal_at end w (token (M.Terminal w) span ∷ js) ≡ Ok (tt, js)
   unfolding terminal_at next_at
-  becomes_takes is rest h = let r = terminal_in T.Becomes is rest h in (r.1, r.2, ap (terminal_at end T.Becomes) r.3)
+  terminal_gives w alone span js = alone span js
 
-  else_takes : (is : List ValuedToken) (rest : List Lexeme) → says is ≡ a_terminal T.Else ∷ rest → Takes (terminal_at end T.Else is) tt rest
-  unfolding terminal_at next_at
-  else_takes is rest h = let r = terminal_in T.Else is rest h in (r.1, r.2, ap (terminal_at end T.Else) r.3)
-
-  close_takes : (is : List ValuedToken) (rest : List Lexeme) → says is ≡ a_terminal T.Close ∷ rest → Takes (terminal_at end T.Close is) tt rest
-  unfolding terminal_at next_at
-  close_takes is rest h = let r = terminal_in T.Close is rest h in (r.1, r.2, ap (terminal_at end T.Close) r.3)
-
-  begin_takes : (is : List ValuedToken) (rest : List Lexeme) → says is ≡ a_terminal T.Begin ∷ rest → Takes (terminal_at end T.Begin is) tt rest
-  unfolding terminal_at next_at
-  begin_takes is rest h = let r = terminal_in T.Begin is rest h in (r.1, r.2, ap (terminal_at end T.Begin) r.3)
-
-  processes_takes : (is : List ValuedToken) (rest : List Lexeme) → says is ≡ a_terminal T.Processes ∷ rest → Takes (terminal_at end T.Processes is) tt rest
-  unfolding terminal_at next_at
-  processes_takes is rest h = let r = terminal_in T.Processes is rest h in (r.1, r.2, ap (terminal_at end T.Processes) r.3)
+  terminal_takes : (w : Terminal) → IsAlone w → (is : List ValuedToken) (rest : List Lexeme) → says is ≡ a_terminal w ∷ rest → Takes (terminal_at end w is) tt rest
+  terminal_takes w alone is rest h =
+      let r = terminal_in w is rest h in (r.1, r.2, ap (terminal_at end w) r.3 ∙ terminal_gives w alone r.0 r.1)
 
   brace_takes : (room : ℕ) (is : List ValuedToken) (rest : List Lexeme) → says is ≡ a_terminal T.OpenBrace ∷ rest → Takes (brace_at end (suc room) is) tt rest
   unfolding brace_at next_at
@@ -110,9 +97,9 @@ module _ (end : ℕ) where
   unfolding name_at next_at
   name_takes x is rest h = let r = name_in x is rest h in (r.2, r.3, ap (name_at end) r.5 ∙ ap (λ z. Ok (z, r.2)) r.4)
 
-  number_takes : (v : ℕ) (s : Span) (is : List ValuedToken) (rest : List Lexeme) → says is ≡ a_number v s ∷ rest → Takes (number_at end is) (v, s) rest
+  number_gives : (v : ℕ) (span : Span) (js : List ValuedToken) → number_at end (token (M.Number v) span ∷ js) ≡ Ok ((v, span), js)
   unfolding number_at next_at
-  number_takes v s is rest h = let r = number_in v s is rest h in (r.0, r.1, ap (number_at end) r.2)
+  number_gives v span js = refl
 
   pair_gives : (read : List ValuedToken → Reading (Expression Name)) (is p q r s : List ValuedToken) (a b : Expression Name) (op : Op)
       → read is ≡ Ok (a, p) → operator_at end p ≡ Ok (op, q) → read q ≡ Ok (b, r) → terminal_at end T.Close r ≡ Ok (tt, s)
@@ -133,20 +120,21 @@ module _ (end : ℕ) where
       ap (expression_at end (suc room)) first ∙ open_gives room span js ∙ pair_gives (expression_at end room) js p q r rest a b op h k l m
 
   pub expression_takes : (room : ℕ) (e : Expression Name) (is : List ValuedToken) (rest : List Lexeme)
-      → IsExpression (says is) e rest → expression_nesting e ≤ room → Takes (expression_at end room is) e rest
+      → says is ≡ expression_tokens e ++ rest → expression_nesting e ≤ room → Takes (expression_at end room is) e rest
   unfolding expression_at next_at
-  expression_takes room (number v) is rest d n = let r = number_in v d.0 is rest d.1 in (r.0, r.1, ap (expression_at end room) r.2)
+  expression_takes room (number v) is rest d n = let r = number_in v is rest d in (r.1, r.2, ap (expression_at end room) r.3)
   expression_takes room (named x) is rest d n =
       let r = name_in x is rest d in (r.2, r.3, ap (expression_at end room) r.5 ∙ ap (λ z. Ok (named z, r.2)) r.4)
   expression_takes room me is rest d n = let r = terminal_in T.Me is rest d in (r.1, r.2, ap (expression_at end room) r.3)
   expression_takes room count is rest d n = let r = terminal_in T.Count is rest d in (r.1, r.2, ap (expression_at end room) r.3)
   expression_takes zero (binary a op b) is rest d n = absurd (omega arith)
   expression_takes (suc room) (binary a op b) is rest d n =
-      let o = terminal_in T.Open is d.0 d.2 in
-      let p = expression_takes room a o.1 (a_terminal (T.Operator op) ∷ d.1) (subst (λ z. IsExpression z a (a_terminal (T.Operator op) ∷ d.1)) (sym o.2) d.3) (omega arith) in
-      let q = operator_takes op p.0 d.1 p.1 in
-      let r = expression_takes room b q.0 (a_terminal T.Close ∷ rest) (subst (λ z. IsExpression z b (a_terminal T.Close ∷ rest)) (sym q.1) d.4) (omega arith) in
-      let s = close_takes r.0 rest r.1 in
+      let o = terminal_in T.Open is _ d in
+      let p = expression_takes room a o.1 (a_terminal (T.Operator op) ∷ (expression_tokens b ++ a_terminal T.Close ∷ rest))
+      (o.2 ∙ sym (pair_regroups (expression_tokens a) (a_terminal (T.Operator op)) (expression_tokens b) (a_terminal T.Close) rest)) (omega arith) in
+      let q = operator_takes op p.0 _ p.1 in
+      let r = expression_takes room b q.0 (a_terminal T.Close ∷ rest) q.1 (omega arith) in
+      let s = terminal_takes T.Close (λ span js. refl) r.0 rest r.1 in
       (s.0, s.1, open_takes room o.0 is o.1 p.0 q.0 r.0 s.0 a b op o.3 p.2 q.2 r.2 s.2)
 
   last_gives : (room : ℕ) (is p q : List ValuedToken) (e : Expression Name)
@@ -155,10 +143,10 @@ module _ (end : ℕ) where
   last_gives room is p q e h k = rw (h, k) refl
 
   last_takes : (room : ℕ) (e : Expression Name) (is : List ValuedToken) (rest : List Lexeme)
-      → IsExpression (says is) e (a_terminal T.Semicolon ∷ rest) → expression_nesting e ≤ room → Takes (last_at end room is) e rest
+      → says is ≡ (expression_tokens e ++ a_terminal T.Semicolon ∷ []) ++ rest → expression_nesting e ≤ room → Takes (last_at end room is) e rest
   last_takes room e is rest d n =
-      let p = expression_takes room e is (a_terminal T.Semicolon ∷ rest) d n in
-      let q = semicolon_takes p.0 rest p.1 in
+      let p = expression_takes room e is (a_terminal T.Semicolon ∷ rest) (d ∙ append_assoc (expression_tokens e) (a_terminal T.Semicolon ∷ []) rest) n in
+      let q = terminal_takes T.Semicolon (λ span js. refl) p.0 rest p.1 in
       (q.0, q.1, last_gives room is p.0 q.0 e p.2 q.2)
 
   -- What the first token is, and what then follows.
@@ -168,13 +156,13 @@ module _ (end : ℕ) where
 
   -- an expression on the right-hand side
   plain_right : (room : ℕ) (x : Name) (e : Expression Name) (is : List ValuedToken) (rest : List Lexeme)
-      → IsExpression (says is) e rest → right_at end room x is ≡ plain_at end room x is
+      → says is ≡ expression_tokens e ++ rest → right_at end room x is ≡ plain_at end room x is
   unfolding right_at next_at
-  plain_right room x (number v) is rest d = let r = number_in v d.0 is rest d.1 in subst (λ z. right_at end room x z ≡ plain_at end room x z) (sym r.2) refl
+  plain_right room x (number v) is rest d = let r = number_in v is rest d in subst (λ z. right_at end room x z ≡ plain_at end room x z) (sym r.3) refl
   plain_right room x (named y) is rest d = let r = name_in y is rest d in subst (λ z. right_at end room x z ≡ plain_at end room x z) (sym r.5) refl
   plain_right room x me is rest d = let r = terminal_in T.Me is rest d in subst (λ z. right_at end room x z ≡ plain_at end room x z) (sym r.3) refl
   plain_right room x count is rest d = let r = terminal_in T.Count is rest d in subst (λ z. right_at end room x z ≡ plain_at end room x z) (sym r.3) refl
-  plain_right room x (binary a op b) is rest d = let r = terminal_in T.Open is d.0 d.2 in subst (λ z. right_at end room x z ≡ plain_at end room x z) (sym r.3) refl
+  plain_right room x (binary a op b) is rest d = let r = terminal_in T.Open is _ d in subst (λ z. right_at end room x z ≡ plain_at end room x z) (sym r.3) refl
 
   get_gives : (room : ℕ) (x r : Name) (is p q : List ValuedToken) (e : Expression Name)
       → name_at end is ≡ Ok (r, p) → last_at end room p ≡ Ok (e, q) → get_at end room x is ≡ Ok (get x r e, q)
@@ -235,7 +223,7 @@ module _ (end : ℕ) where
   unfolding statement_at statement_with next_at
   named_statement room x s is t rest h k =
       let n = name_in x is (a_terminal T.Becomes ∷ t) h in
-      let b = becomes_takes n.2 t n.3 in
+      let b = terminal_takes T.Becomes (λ span js. refl) n.2 t n.3 in
       let r = k b.0 b.1 in
       (r.0, r.1, ap (statement_at end room) n.5 ∙ ap (λ z. assignment_at end room z n.2) n.4 ∙ assignment_gives room x n.2 b.0 r.0 s b.2 r.2)
 
@@ -288,78 +276,83 @@ module _ (end : ℕ) where
   unfolding block_at statement_at
   block_gives room is p q b h k = rw (h, k) refl
 
+  -- a block in its braces, if its list is taken
+  block_takes : (room : ℕ) (b : Block Name) (is : List ValuedToken) (rest : List Lexeme) → says is ≡ in_braces (block_tokens b) ++ rest
+      → ((js : List ValuedToken) → says js ≡ block_tokens b ++ a_terminal T.CloseBrace ∷ rest
+      → Takes (statements_with end (statement_at end room) N.Braces (suc (length js)) js) b rest)
+      → Takes (block_at end (suc room) is) b rest
+  block_takes room b is rest d list =
+      let o = brace_takes room is _ d in
+      let q = list o.0 (o.1 ∙ append_assoc (block_tokens b) (a_terminal T.CloseBrace ∷ []) rest) in
+      (q.0, q.1, block_gives room is o.0 q.0 b o.2 q.2)
+
   mutual
     pub statement_takes : (room : ℕ) (s : Statement Name) (is : List ValuedToken) (rest : List Lexeme)
-        → IsStatement (says is) s rest → statement_nesting s ≤ room → Takes (statement_at end room is) s rest
-    statement_takes room (assign x e) is rest d n = named_statement room x (assign x e) is d.0 rest d.1 (λ js h.
-        let de : IsExpression (says js) e (a_terminal T.Semicolon ∷ rest) = subst (λ z. IsExpression z e (a_terminal T.Semicolon ∷ rest)) (sym h) d.2 in
-        let p = last_takes room e js rest de n in
-        (p.0, p.1, plain_right room x e js (a_terminal T.Semicolon ∷ rest) de ∙ plain_gives room x js p.0 e p.2))
-    statement_takes room (get x r e) is rest d n = named_statement room x (get x r e) is (a_terminal T.Get ∷ a_name r ∷ d.0) rest d.1 (λ js h.
-        let g = terminal_in T.Get js (a_name r ∷ d.0) h in
-        let m = name_takes r g.1 d.0 g.2 in
-        let p = last_takes room e m.0 rest (subst (λ z. IsExpression z e (a_terminal T.Semicolon ∷ rest)) (sym m.1) d.2) n in
+        → says is ≡ statement_tokens s ++ rest → statement_nesting s ≤ room → Takes (statement_at end room is) s rest
+    statement_takes room (assign x e) is rest d n = named_statement room x (assign x e) is _ rest d (λ js h.
+        let p = last_takes room e js rest h n in
+        (p.0, p.1, plain_right room x e js _ (h ∙ append_assoc (expression_tokens e) (a_terminal T.Semicolon ∷ []) rest) ∙ plain_gives room x js p.0 e p.2))
+    statement_takes room (get x r e) is rest d n = named_statement room x (get x r e) is _ rest d (λ js h.
+        let g = terminal_in T.Get js _ h in
+        let m = name_takes r g.1 _ g.2 in
+        let p = last_takes room e m.0 rest m.1 n in
         (p.0, p.1, from_first (right_at end room x) js (token (M.Terminal T.Get) g.0) g.1 (get_at end room x g.1) (Ok (get x r e, p.0)) g.3 (right_terminal room x js g.0 g.1).0 (get_gives room x r g.1 m.0 p.0 e m.2 p.2)))
     statement_takes room (put r e) is rest d n =
-        let g = terminal_in T.Put is (a_name r ∷ d.0) d.1 in
-        let m = name_takes r g.1 d.0 g.2 in
-        let p = last_takes room e m.0 rest (subst (λ z. IsExpression z e (a_terminal T.Semicolon ∷ rest)) (sym m.1) d.2) n in
+        let g = terminal_in T.Put is _ d in
+        let m = name_takes r g.1 _ g.2 in
+        let p = last_takes room e m.0 rest m.1 n in
         (p.0, p.1, from_first (statement_at end room) is (token (M.Terminal T.Put) g.0) g.1 (put_at end room g.1) (Ok (put r e, p.0)) g.3 (statement_terminal room g.0 g.1).0 (put_gives room r g.1 m.0 p.0 e m.2 p.2))
     statement_takes room stamp is rest d n =
-        let g = terminal_in T.Stamp is (a_terminal T.Semicolon ∷ rest) d in
-        let p = semicolon_takes g.1 rest g.2 in
+        let g = terminal_in T.Stamp is _ d in
+        let p = terminal_takes T.Semicolon (λ span js. refl) g.1 rest g.2 in
         (p.0, p.1, from_first (statement_at end room) is (token (M.Terminal T.Stamp) g.0) g.1 (stamp_at end g.1) (Ok (stamp, p.0)) g.3 (statement_terminal room g.0 g.1).1 (stamp_gives g.1 p.0 p.2))
-    statement_takes room (scan s) is rest d n = named_statement room s (scan s) is (a_terminal T.Scan ∷ a_terminal T.Semicolon ∷ rest) rest d (λ js h.
-        let g = terminal_in T.Scan js (a_terminal T.Semicolon ∷ rest) h in
-        let p = semicolon_takes g.1 rest g.2 in
+    statement_takes room (scan s) is rest d n = named_statement room s (scan s) is _ rest d (λ js h.
+        let g = terminal_in T.Scan js _ h in
+        let p = terminal_takes T.Semicolon (λ span js. refl) g.1 rest g.2 in
         (p.0, p.1, from_first (right_at end room s) js (token (M.Terminal T.Scan) g.0) g.1 (scan_at end s g.1) (Ok (scan s, p.0)) g.3 (right_terminal room s js g.0 g.1).1 (scan_gives s g.1 p.0 p.2)))
-    statement_takes room (copy t s) is rest d n = named_statement room t (copy t s) is (a_terminal T.Copy ∷ a_name s ∷ a_terminal T.Semicolon ∷ rest) rest d (λ js h.
-        let g = terminal_in T.Copy js (a_name s ∷ a_terminal T.Semicolon ∷ rest) h in
-        let m = name_takes s g.1 (a_terminal T.Semicolon ∷ rest) g.2 in
-        let p = semicolon_takes m.0 rest m.1 in
+    statement_takes room (copy t s) is rest d n = named_statement room t (copy t s) is _ rest d (λ js h.
+        let g = terminal_in T.Copy js _ h in
+        let m = name_takes s g.1 _ g.2 in
+        let p = terminal_takes T.Semicolon (λ span js. refl) m.0 rest m.1 in
         (p.0, p.1, from_first (right_at end room t) js (token (M.Terminal T.Copy) g.0) g.1 (copy_at end t g.1) (Ok (copy t s, p.0)) g.3 (right_terminal room t js g.0 g.1).2 (copy_gives t s g.1 m.0 p.0 m.2 p.2)))
-    statement_takes room (older x s a b) is rest d n = named_statement room x (older x s a b) is (a_terminal T.Older ∷ a_name s ∷ d.0) rest d.2 (λ js h.
-        let g = terminal_in T.Older js (a_name s ∷ d.0) h in
-        let m = name_takes s g.1 d.0 g.2 in
-        let p = expression_takes room a m.0 d.1 (subst (λ z. IsExpression z a d.1) (sym m.1) d.3) (omega arith) in
-        let q = last_takes room b p.0 rest (subst (λ z. IsExpression z b (a_terminal T.Semicolon ∷ rest)) (sym p.1) d.4) (omega arith) in
+    statement_takes room (older x s a b) is rest d n = named_statement room x (older x s a b) is _ rest d (λ js h.
+        let g = terminal_in T.Older js _ h in
+        let m = name_takes s g.1 _ g.2 in
+        let p = expression_takes room a m.0 _ (m.1 ∙ append_assoc (expression_tokens a) (expression_tokens b ++ a_terminal T.Semicolon ∷ []) rest) (omega arith) in
+        let q = last_takes room b p.0 rest p.1 (omega arith) in
         (q.0, q.1, from_first (right_at end room x) js (token (M.Terminal T.Older) g.0) g.1 (older_at end room x g.1) (Ok (older x s a b, q.0)) g.3 (right_terminal room x js g.0 g.1).3 (older_gives room x s g.1 m.0 p.0 q.0 a b m.2 p.2 q.2)))
     statement_takes room (out e) is rest d n =
-        let g = terminal_in T.Out is d.0 d.1 in
-        let p = last_takes room e g.1 rest (subst (λ z. IsExpression z e (a_terminal T.Semicolon ∷ rest)) (sym g.2) d.2) n in
+        let g = terminal_in T.Out is _ d in
+        let p = last_takes room e g.1 rest g.2 n in
         (p.0, p.1, from_first (statement_at end room) is (token (M.Terminal T.Out) g.0) g.1 (out_at end room g.1) (Ok (out e, p.0)) g.3 (statement_terminal room g.0 g.1).2 (out_gives room g.1 p.0 e p.2))
     statement_takes zero (branch e a b) is rest d n = absurd (omega arith)
     statement_takes (suc room) (branch e a b) is rest d n =
-        let g = terminal_in T.If is d.0 d.3 in
-        let p = expression_takes (suc room) e g.1 (a_terminal T.OpenBrace ∷ d.1) (subst (λ z. IsExpression z e (a_terminal T.OpenBrace ∷ d.1)) (sym g.2) d.4) (omega arith) in
-        let o = brace_takes room p.0 d.1 p.1 in
-        let q = list_takes room N.Braces a (suc (length o.0)) o.0 (a_terminal T.Else ∷ a_terminal T.OpenBrace ∷ d.2)
-        (subst (λ z. IsBlock T.CloseBrace z a (a_terminal T.Else ∷ a_terminal T.OpenBrace ∷ d.2)) (sym o.1) d.5) (omega arith) (omega arith) in
-        let f = else_takes q.0 (a_terminal T.OpenBrace ∷ d.2) q.1 in
-        let u = brace_takes room f.0 d.2 f.1 in
-        let v = list_takes room N.Braces b (suc (length u.0)) u.0 rest (subst (λ z. IsBlock T.CloseBrace z b rest) (sym u.1) d.6) (omega arith) (omega arith) in (
+        let g = terminal_in T.If is _ d in
+        let p = expression_takes (suc room) e g.1 _
+        (g.2 ∙ sym (branch_regroups (expression_tokens e) (in_braces (block_tokens a)) (a_terminal T.Else) (in_braces (block_tokens b)) rest)) (omega arith) in
+        let q = block_takes room a p.0 _ p.1 (λ js k. list_takes room N.Braces a (suc (length js)) js _ k (omega arith) (omega arith)) in
+        let f = terminal_takes T.Else (λ span js. refl) q.0 _ q.1 in
+        let v = block_takes room b f.0 rest f.1 (λ js k. list_takes room N.Braces b (suc (length js)) js rest k (omega arith) (omega arith)) in (
           v.0,
           v.1,
           from_first (statement_at end (suc room)) is (token (M.Terminal T.If) g.0) g.1 (branch_at end (block_at end (suc room)) (suc room) g.1) (Ok (branch e a b, v.0)) g.3
               (statement_terminal (suc room) g.0 g.1).3
-              (branch_gives end (block_at end (suc room)) (suc room) g.1 p.0 q.0 f.0 v.0 e a b p.2 (block_gives room p.0 o.0 q.0 a o.2 q.2) f.2
-              (block_gives room f.0 u.0 v.0 b u.2 v.2)),
+              (branch_gives end (block_at end (suc room)) (suc room) g.1 p.0 q.0 f.0 v.0 e a b p.2 q.2 f.2 v.2),
         )
     statement_takes zero (repeat e a) is rest d n = absurd (omega arith)
     statement_takes (suc room) (repeat e a) is rest d n =
-        let g = terminal_in T.While is d.0 d.2 in
-        let p = expression_takes (suc room) e g.1 (a_terminal T.OpenBrace ∷ d.1) (subst (λ z. IsExpression z e (a_terminal T.OpenBrace ∷ d.1)) (sym g.2) d.3) (omega arith) in
-        let o = brace_takes room p.0 d.1 p.1 in
-        let q = list_takes room N.Braces a (suc (length o.0)) o.0 rest (subst (λ z. IsBlock T.CloseBrace z a rest) (sym o.1) d.4) (omega arith) (omega arith) in (
+        let g = terminal_in T.While is _ d in
+        let p = expression_takes (suc room) e g.1 _ (g.2 ∙ append_assoc (expression_tokens e) (in_braces (block_tokens a)) rest) (omega arith) in
+        let q = block_takes room a p.0 rest p.1 (λ js k. list_takes room N.Braces a (suc (length js)) js rest k (omega arith) (omega arith)) in (
           q.0,
           q.1,
           from_first (statement_at end (suc room)) is (token (M.Terminal T.While) g.0) g.1 (repeat_at end (block_at end (suc room)) (suc room) g.1) (Ok (repeat e a, q.0)) g.3
               (statement_terminal (suc room) g.0 g.1).4
-              (repeat_gives end (block_at end (suc room)) (suc room) g.1 p.0 q.0 e a p.2 (block_gives room p.0 o.0 q.0 a o.2 q.2)),
+              (repeat_gives end (block_at end (suc room)) (suc room) g.1 p.0 q.0 e a p.2 q.2),
         )
 
     pub list_takes : (room : ℕ) (ending : Ending) (b : Block Name) (most : ℕ) (is : List ValuedToken) (rest : List Lexeme)
-        → IsBlock (ending_terminal ending) (says is) b rest → block_nesting b ≤ room → length is < most
+        → says is ≡ block_tokens b ++ a_terminal (ending_terminal ending) ∷ rest → block_nesting b ≤ room → length is < most
         → Takes (statements_with end (statement_at end room) ending most is) b rest
     list_takes room ending nil zero is rest d n l = absurd (omega arith)
     list_takes room ending nil (suc most) is rest d n l =
@@ -367,9 +360,9 @@ module _ (end : ℕ) where
         (g.1, g.2, ap (statements_with end (statement_at end room) ending (suc most)) g.3 ∙ list_ends room ending most g.0 g.1)
     list_takes room ending (cons s b) zero is rest d n l = absurd (omega arith)
     list_takes room ending (cons s b) (suc most) is rest d n l =
-        let p = statement_takes room s is d.0 d.1 (omega arith) in
+        let p = statement_takes room s is _ (d ∙ append_assoc (statement_tokens s) (block_tokens b) (a_terminal (ending_terminal ending) ∷ rest)) (omega arith) in
         let k : length p.0 < length is = statement_shorter end room is p.0 s p.2 in
-        let q = list_takes room ending b most p.0 rest (subst (λ z. IsBlock (ending_terminal ending) z b rest) (sym p.1) d.2) (omega arith) (omega arith) in
+        let q = list_takes room ending b most p.0 rest p.1 (omega arith) (omega arith) in
         (q.0, q.1, list_gives room ending most is p.0 q.0 s b p.2 q.2)
 
   names_last_gives : (l : Bor (List ℕ)) (s t : Span) (js : List ValuedToken)
@@ -383,9 +376,9 @@ module _ (end : ℕ) where
   names_more_gives l s t js r xs h = ap (λ z. z >>= λ ys. Ok (record { letters = l.now; span = s } ∷ ys.0, ys.1)) h
 
   names_take : (x : Name) (xs : List Name) (is : List ValuedToken) (rest : List Lexeme)
-      → AreNames (says is) x xs (a_terminal T.Semicolon ∷ rest) → Takes (names_at end is) (x ∷ xs) rest
+      → says is ≡ names_tokens x xs ++ a_terminal T.Semicolon ∷ rest → Takes (names_at end is) (x ∷ xs) rest
   names_take x [] is rest d =
-      let n = name_in x is (a_terminal T.Semicolon ∷ rest) d in
+      let n = name_in x is _ d in
       let w = terminal_in T.Semicolon n.2 rest n.3 in (
         w.1,
         w.2,
@@ -393,9 +386,9 @@ module _ (end : ℕ) where
             ∙ ap (λ z. Ok (z ∷ [], w.1)) n.4,
       )
   names_take x (y ∷ ys) is rest d =
-      let n = name_in x is (a_terminal T.Comma ∷ d.0) d.1 in
-      let w = terminal_in T.Comma n.2 d.0 n.3 in
-      let r = names_take y ys w.1 rest (subst (λ z. AreNames z y ys (a_terminal T.Semicolon ∷ rest)) (sym w.2) d.2) in (
+      let n = name_in x is _ d in
+      let w = terminal_in T.Comma n.2 _ n.3 in
+      let r = names_take y ys w.1 rest w.2 in (
         r.0,
         r.1,
         ap (names_at end) (n.5 ∙ ap (λ z. token (M.Name n.0) n.1 ∷ z) w.3)
@@ -424,19 +417,19 @@ module _ (end : ℕ) where
   section_names C.Registers span js = refl
 
   section_takes : (section : Section) (xs : List Name) (is : List ValuedToken) (rest : List Lexeme)
-      → IsSection (terminal_of_section section) (says is) xs rest → IsLater section rest → Takes (section_at end section is) xs rest
+      → says is ≡ section_tokens (terminal_of_section section) xs ++ rest → IsLater section rest → Takes (section_at end section is) xs rest
   section_takes section [] is rest d l =
       let w = terminal_in l.0 is l.1 (d ∙ l.2) in
       (is, d, ap (section_at end section) w.3 ∙ section_skips section l.0 w.0 w.1 l.3 ∙ ap (λ z. Ok ([], z)) (sym w.3))
   section_takes section (x ∷ xs) is rest d l =
-      let w = terminal_in (terminal_of_section section) is d.0 d.1 in
-      let n = names_take x xs w.1 rest (subst (λ z. AreNames z x xs (a_terminal T.Semicolon ∷ rest)) (sym w.2) d.2) in
+      let w = terminal_in (terminal_of_section section) is _ d in
+      let n = names_take x xs w.1 rest (w.2 ∙ append_assoc (names_tokens x xs) (a_terminal T.Semicolon ∷ []) rest) in
       (n.0, n.1, ap (section_at end section) w.3 ∙ section_names section w.0 w.1 ∙ n.2)
 
-  later_than : (section : Section) (w : Terminal) (ts : List Lexeme) (xs : List Name) (rest : List Lexeme)
-      → IsSection w ts xs rest → begins section (M.Terminal w) ≡ false → IsLater section rest → IsLater section ts
-  later_than section w ts [] rest d b l = (l.0, l.1, d ∙ l.2, l.3)
-  later_than section w ts (x ∷ xs) rest d b l = (w, d.0, d.1, b)
+  later_than : (section : Section) (w : Terminal) (xs : List Name) (rest : List Lexeme)
+      → begins section (M.Terminal w) ≡ false → IsLater section rest → IsLater section (section_tokens w xs ++ rest)
+  later_than section w [] rest b l = l
+  later_than section w (x ∷ xs) rest b l = (w, _, refl, b)
 
   body_gives : (room : ℕ) (is p q : List ValuedToken) (b : Block Name)
       → terminal_at end T.Begin is ≡ Ok (tt, p) → statements_with end (statement_at end room) N.Program (suc (length p)) p ≡ Ok (b, q)
@@ -457,22 +450,27 @@ module _ (end : ℕ) where
   finishes room is [] p h e = rw h refl
   finishes room is (i ∷ r) p h e = absurd (cc)
 
-  pub program_takes : (room : ℕ) (p : WholeProgram Name) (is : List ValuedToken) → Derives (says is) p → nesting p ≤ room → program_at end room is ≡ Ok p
-  program_takes room p is d n =
-      let i1 = processes_takes is (a_number p.processes p.span ∷ a_terminal T.Semicolon ∷ d.0) d.4 in
-      let i2 = number_takes p.processes p.span i1.0 (a_terminal T.Semicolon ∷ d.0) i1.1 in
-      let i3 = semicolon_takes i2.0 d.0 i2.1 in
-      let lr : IsLater C.Registers (a_terminal T.Begin ∷ d.3) = (T.Begin, d.3, refl, refl) in
-      let ls : IsLater C.Scans (a_terminal T.Begin ∷ d.3) = (T.Begin, d.3, refl, refl) in
-      let lv : IsLater C.Variables (a_terminal T.Begin ∷ d.3) = (T.Begin, d.3, refl, refl) in
-      let ls2 : IsLater C.Scans d.2 = later_than C.Scans T.Reg d.2 p.registers (a_terminal T.Begin ∷ d.3) d.7 refl ls in
-      let lv2 : IsLater C.Variables d.2 = later_than C.Variables T.Reg d.2 p.registers (a_terminal T.Begin ∷ d.3) d.7 refl lv in
-      let lv3 : IsLater C.Variables d.1 = later_than C.Variables T.Scan d.1 p.scans d.2 d.6 refl lv2 in
-      let i4 = section_takes C.Variables p.variables i3.0 d.1 (subst (λ z. IsSection T.Var z p.variables d.1) (sym i3.1) d.5) lv3 in
-      let i5 = section_takes C.Scans p.scans i4.0 d.2 (subst (λ z. IsSection T.Scan z p.scans d.2) (sym i4.1) d.6) ls2 in
-      let i6 = section_takes C.Registers p.registers i5.0 (a_terminal T.Begin ∷ d.3)
-      (subst (λ z. IsSection T.Reg z p.registers (a_terminal T.Begin ∷ d.3)) (sym i5.1) d.7) lr in
-      let i7 = begin_takes i6.0 d.3 i6.1 in
-      let i8 = list_takes room N.Program p.body (suc (length i7.0)) i7.0 [] (subst (λ z. IsBlock T.End z p.body []) (sym i7.1) d.8) n (omega arith) in
-      finishes room is i8.0 p (whole_gives room is i1.0 i2.0 i3.0 i4.0 i5.0 i6.0 i8.0 p i1.2 i2.2 i3.2 i4.2 i5.2 i6.2
+  pub program_takes : (room : ℕ) (p : WholeProgram Name) (is : List ValuedToken) → says is ≡ program_tokens p
+      → second_span (map plain is) ≡ p.span → nesting p ≤ room → program_at end room is ≡ Ok p
+  program_takes room p is d place n =
+      let last : List Lexeme = a_terminal T.Begin ∷ (block_tokens p.body ++ a_terminal T.End ∷ []) in
+      let registers : List Lexeme = section_tokens T.Reg p.registers ++ last in
+      let lr : IsLater C.Registers last = (T.Begin, _, refl, refl) in
+      let ls : IsLater C.Scans registers = later_than C.Scans T.Reg p.registers last refl (T.Begin, _, refl, refl) in
+      let lv : IsLater C.Variables (section_tokens T.Scan p.scans ++ registers) =
+      later_than C.Variables T.Scan p.scans registers refl (later_than C.Variables T.Reg p.registers last refl (T.Begin, _, refl, refl)) in
+      let i1 = terminal_in T.Processes is _ d in
+      let i2 = number_in p.processes i1.1 _ i1.2 in
+      let i3 = terminal_takes T.Semicolon (λ span js. refl) i2.1 _ i2.2 in
+      let i4 = section_takes C.Variables p.variables i3.0 _ i3.1 lv in
+      let i5 = section_takes C.Scans p.scans i4.0 _ i4.1 ls in
+      let i6 = section_takes C.Registers p.registers i5.0 _ i5.1 lr in
+      let i7 = terminal_takes T.Begin (λ span js. refl) i6.0 _ i6.1 in
+      let i8 = list_takes room N.Program p.body (suc (length i7.0)) i7.0 [] i7.1 n (omega arith) in
+      let first : terminal_at end T.Processes is ≡ Ok (tt, i1.1) = ap (terminal_at end T.Processes) i1.3 ∙ terminal_gives T.Processes (λ span js. refl) i1.0 i1.1 in
+      let stands : i2.0 ≡ p.span =
+      sym (ap (λ z. second_span (map plain z)) (i1.3 ∙ ap (λ z. token (M.Terminal T.Processes) i1.0 ∷ z) i2.3)) ∙ place in
+      let second : number_at end i1.1 ≡ Ok ((p.processes, p.span), i2.1) =
+      ap (number_at end) i2.3 ∙ number_gives p.processes i2.0 i2.1 ∙ ap (λ z. Ok ((p.processes, z), i2.1)) stands in
+      finishes room is i8.0 p (whole_gives room is i1.1 i2.1 i3.0 i4.0 i5.0 i6.0 i8.0 p first second i3.2 i4.2 i5.2 i6.2
       (body_gives room i6.0 i7.0 i8.0 p.body i7.2 i8.2)) i8.1

@@ -1,5 +1,5 @@
 -- Tokens that go on to a program are those that leave symbols which may still come.
-use Rattle.std.proofs.Common.{◌≡◌, ◌≢◌, ℕ, suc, ◌+◌, ◌<◌, ◌≤◌, Bool, true, false, List, [], ◌∷◌, ◌++◌, length, Option, Some, None, Result, Ok, Err, refl, sym, ◌∙◌, ap, subst, arith, max}
+use Rattle.std.proofs.Common.{map, append_assoc, ◌≡◌, ◌≢◌, ℕ, suc, ◌+◌, ◌<◌, ◌≤◌, Bool, true, false, List, [], ◌∷◌, ◌++◌, length, Option, Some, None, Result, Ok, Err, refl, sym, ◌∙◌, ap, subst, arith, max}
 use Rattle.std.proofs.lemmas.Bool.{ne_eqb, eqb-true, eqb-false}
 use Rattle.tick_syntax.specs.declared.span.Span.{Span}
 use Rattle.tick_syntax.specs.declared.fault.TextFault.{TextFault}
@@ -8,13 +8,15 @@ use Rattle.tick_syntax.specs.declared.valued_token.Ending.TheVariants as N
 use Rattle.tick_syntax.specs.declared.valued_token.Meaning.TheVariants as M
 use Rattle.machine_core.specs.declared.operator.Op.TheVariants as O
 use Rattle.tick_syntax.specs.declared.terminals.Terminal.TheVariants as T
-use Rattle.tick_syntax.specs.Lexeme.{Lexeme, a_name, a_number, a_terminal, nothing}
-use Rattle.tick_syntax.specs.Plain.{Name, WholeProgram}
-use Rattle.tick_syntax.specs.Grammar.{Derives}
+use Rattle.tick_syntax.specs.Lexeme.{Lexeme, a_name, a_number, a_terminal, nothing, lexemes}
+use Rattle.tick_syntax.specs.Plain.{nowhere, Name, WholeProgram}
+use Rattle.tick_syntax.specs.Grammar.{program_tokens, second_span, Derives}
+use Rattle.tick_syntax.specs.declared.token.Token.{Token}
 use Rattle.tick_syntax.specs.Nesting.{nesting, IsOpening, open_by}
 use Rattle.tick_syntax.specs.prover.Reading.{program_at}
-use Rattle.tick_syntax.specs.Refusal.{AllCanStand, GoesOn}
-use Rattle.tick_syntax.proofs.Symbols.{said, says, Symbol, s_program, s_number, s_semicolon, s_variables, s_scans, s_registers, s_begin, s_names, s_more, s_name, s_becomes, s_else, s_close, s_operator, s_expression, s_right, s_block, s_statement, s_until, step, opened, is_full, on_stack, run_by, run, fault_by, fault}
+use Rattle.tick_syntax.specs.Refusal.{CanStand, AllCanStand, GoesOn}
+use Rattle.tick_syntax.specs.prover.ValuedTokens.{plain}
+use Rattle.tick_syntax.proofs.Symbols.{said, says, Symbol, s_program, s_number, s_semicolon, s_variables, s_scans, s_registers, s_begin, s_names, s_more, s_name, s_becomes, s_else, s_close, s_operator, s_expression, s_right, s_block, s_statement, s_until, after, expression_step, statement_step, begin_step, registers_step, scans_step, step, opened, is_full, on_stack, run_by, run, fault_by, fault}
 use Rattle.tick_syntax.proofs.SoundPrograms.{program_ok, program_err}
 use Rattle.tick_syntax.proofs.Complete.{program_takes}
 
@@ -23,10 +25,45 @@ abbrev Opens : Symbol → Lexeme → Option (List Symbol) → Type 0
 Opens s x None = Unit {0}
 Opens s x (Some new) = (st : List Symbol) → opened (new ++ st) ≡ open_by x (opened (s ∷ st))
 
+expression_opens : (x : Lexeme) → Opens s_expression x (expression_step x)
+expression_opens (a_number v) = λ st. refl
+expression_opens (a_name n) = λ st. refl
+expression_opens (a_terminal T.Me) = λ st. refl
+expression_opens (a_terminal T.Count) = λ st. refl
+expression_opens (a_terminal T.Open) = λ st. refl
+expression_opens x = tt
+
+statement_opens : (x : Lexeme) → Opens s_statement x (statement_step x)
+statement_opens (a_name n) = λ st. refl
+statement_opens (a_terminal T.Put) = λ st. refl
+statement_opens (a_terminal T.Stamp) = λ st. refl
+statement_opens (a_terminal T.Out) = λ st. refl
+statement_opens (a_terminal T.If) = λ st. refl
+statement_opens (a_terminal T.While) = λ st. refl
+statement_opens x = tt
+
+-- the same with a symbol after it, of one that closes nothing
+opens_after : (s u : Symbol) (x : Lexeme) (o : Option (List Symbol)) → ((st : List Symbol) → opened (s ∷ st) ≡ opened st)
+    → Opens s x o → Opens u x (after o u)
+opens_after s u x None closes h = tt
+opens_after s u x (Some new) closes h = λ st. ap opened (append_assoc new (u ∷ []) st) ∙ h (u ∷ st) ∙ ap (open_by x) (closes (u ∷ st))
+
+begin_opens : (x : Lexeme) → Opens s_begin x (begin_step x)
+begin_opens (a_terminal T.Begin) = λ st. refl
+begin_opens x = tt
+
+registers_opens : (x : Lexeme) → Opens s_registers x (registers_step x)
+registers_opens (a_terminal T.Reg) = λ st. refl
+registers_opens x = begin_opens x
+
+scans_opens : (x : Lexeme) → Opens s_scans x (scans_step x)
+scans_opens (a_terminal T.Scan) = λ st. refl
+scans_opens x = registers_opens x
+
 opens : (s : Symbol) (x : Lexeme) → Opens s x (step s x)
 opens s_program (a_terminal T.Processes) = λ st. refl
 opens s_program x = tt
-opens s_number (a_number v t) = λ st. refl
+opens s_number (a_number v) = λ st. refl
 opens s_number x = tt
 opens s_semicolon (a_terminal T.Semicolon) = λ st. refl
 opens s_semicolon x = tt
@@ -47,59 +84,22 @@ opens s_operator (a_terminal (T.Operator op)) = λ st. refl
 opens s_operator x = tt
 opens s_block (a_terminal T.OpenBrace) = λ st. refl
 opens s_block x = tt
-opens s_begin (a_terminal T.Begin) = λ st. refl
-opens s_begin x = tt
-opens s_registers (a_terminal T.Reg) = λ st. refl
-opens s_registers (a_terminal T.Begin) = λ st. refl
-opens s_registers x = tt
-opens s_scans (a_terminal T.Scan) = λ st. refl
-opens s_scans (a_terminal T.Reg) = λ st. refl
-opens s_scans (a_terminal T.Begin) = λ st. refl
-opens s_scans x = tt
+opens s_begin x = begin_opens x
+opens s_registers x = registers_opens x
+opens s_scans x = scans_opens x
 opens s_variables (a_terminal T.Var) = λ st. refl
-opens s_variables (a_terminal T.Scan) = λ st. refl
-opens s_variables (a_terminal T.Reg) = λ st. refl
-opens s_variables (a_terminal T.Begin) = λ st. refl
-opens s_variables x = tt
-opens s_expression (a_number v t) = λ st. refl
-opens s_expression (a_name n) = λ st. refl
-opens s_expression (a_terminal T.Me) = λ st. refl
-opens s_expression (a_terminal T.Count) = λ st. refl
-opens s_expression (a_terminal T.Open) = λ st. refl
-opens s_expression x = tt
-opens s_right (a_number v t) = λ st. refl
-opens s_right (a_name n) = λ st. refl
-opens s_right (a_terminal T.Me) = λ st. refl
-opens s_right (a_terminal T.Count) = λ st. refl
-opens s_right (a_terminal T.Open) = λ st. refl
+opens s_variables x = scans_opens x
+opens s_expression x = expression_opens x
 opens s_right (a_terminal T.Get) = λ st. refl
 opens s_right (a_terminal T.Scan) = λ st. refl
 opens s_right (a_terminal T.Copy) = λ st. refl
 opens s_right (a_terminal T.Older) = λ st. refl
-opens s_right x = tt
-opens s_statement (a_name n) = λ st. refl
-opens s_statement (a_terminal T.Put) = λ st. refl
-opens s_statement (a_terminal T.Stamp) = λ st. refl
-opens s_statement (a_terminal T.Out) = λ st. refl
-opens s_statement (a_terminal T.If) = λ st. refl
-opens s_statement (a_terminal T.While) = λ st. refl
-opens s_statement x = tt
-opens (s_until N.Program) (a_name n) = λ st. refl
-opens (s_until N.Program) (a_terminal T.Put) = λ st. refl
-opens (s_until N.Program) (a_terminal T.Stamp) = λ st. refl
-opens (s_until N.Program) (a_terminal T.Out) = λ st. refl
-opens (s_until N.Program) (a_terminal T.If) = λ st. refl
-opens (s_until N.Program) (a_terminal T.While) = λ st. refl
+opens s_right x = opens_after s_expression s_semicolon x (expression_step x) (λ st. refl) (expression_opens x)
+opens s_statement x = statement_opens x
 opens (s_until N.Program) (a_terminal T.End) = λ st. refl
-opens (s_until N.Program) x = tt
-opens (s_until N.Braces) (a_name n) = λ st. refl
-opens (s_until N.Braces) (a_terminal T.Put) = λ st. refl
-opens (s_until N.Braces) (a_terminal T.Stamp) = λ st. refl
-opens (s_until N.Braces) (a_terminal T.Out) = λ st. refl
-opens (s_until N.Braces) (a_terminal T.If) = λ st. refl
-opens (s_until N.Braces) (a_terminal T.While) = λ st. refl
+opens (s_until N.Program) x = opens_after s_statement (s_until N.Program) x (statement_step x) (λ st. refl) (statement_opens x)
 opens (s_until N.Braces) (a_terminal T.CloseBrace) = λ st. omega arith
-opens (s_until N.Braces) x = tt
+opens (s_until N.Braces) x = opens_after s_statement (s_until N.Braces) x (statement_step x) (λ st. refl) (statement_opens x)
 
 pub opens_to : (s : Symbol) (x : Lexeme) (new : List Symbol) → step s x ≡ Some new → (st : List Symbol)
     → opened (new ++ st) ≡ open_by x (opened (s ∷ st))
@@ -131,16 +131,16 @@ free_by limit x depth l = refl
 
 -- a way to complete each symbol
 abbrev complete : Symbol → List Lexeme
-complete s_program = a_terminal T.Processes ∷ a_number 1 (record { start = 0; end = 0 }) ∷ a_terminal T.Semicolon ∷ a_terminal T.Begin ∷ a_terminal T.End ∷ []
-complete s_number = a_number 0 (record { start = 0; end = 0 }) ∷ []
+complete s_program = a_terminal T.Processes ∷ a_number 1 ∷ a_terminal T.Semicolon ∷ a_terminal T.Begin ∷ a_terminal T.End ∷ []
+complete s_number = a_number 0 ∷ []
 complete s_semicolon = a_terminal T.Semicolon ∷ []
 complete s_variables = a_terminal T.Begin ∷ a_terminal T.End ∷ []
 complete s_scans = a_terminal T.Begin ∷ a_terminal T.End ∷ []
 complete s_registers = a_terminal T.Begin ∷ a_terminal T.End ∷ []
 complete s_begin = a_terminal T.Begin ∷ a_terminal T.End ∷ []
-complete s_names = a_name (record { letters = 120 ∷ []; span = record { start = 0; end = 0 } }) ∷ a_terminal T.Semicolon ∷ []
+complete s_names = a_name (record { letters = 120 ∷ []; span = nowhere }) ∷ a_terminal T.Semicolon ∷ []
 complete s_more = a_terminal T.Semicolon ∷ []
-complete s_name = a_name (record { letters = 120 ∷ []; span = record { start = 0; end = 0 } }) ∷ []
+complete s_name = a_name (record { letters = 120 ∷ []; span = nowhere }) ∷ []
 complete s_becomes = a_terminal T.Becomes ∷ []
 complete s_else = a_terminal T.Else ∷ []
 complete s_close = a_terminal T.Close ∷ []
@@ -228,26 +228,19 @@ run_append (x ∷ xs) ys (s ∷ st) =
     run_by_same (on_stack (step s x) st) (run (xs ++ ys)) (λ z. run_by (run xs z) (run ys)) (λ z. run_append xs ys z)
     ∙ sym (run_by_by (on_stack (step s x) st) (run xs) (run ys))
 
--- tokens that say these lexemes
-abbrev token_for : Lexeme → ValuedToken
-token_for (a_name x) = record { meaning = M.Name (record { ref_ptr = (0, 0); now = x.letters }); span = x.span }
-token_for (a_number v s) = record { meaning = M.Number v; span = s }
-token_for (a_terminal w) = record { meaning = M.Terminal w; span = record { start = 0; end = 0 } }
-token_for nothing = record { meaning = M.Nothing; span = record { start = 0; end = 0 } }
+-- What a text can have some tokens say; those that say no name stand here.
+one_says : (span : Span) (x : Lexeme) → CanStand x → (i : ValuedToken) × (said i ≡ x)
+one_says span (a_name x) c = (record { meaning = M.Name (record { ref_ptr = (0, 0); now = x.letters }); span = x.span }, refl)
+one_says span (a_number v) c = (record { meaning = M.Number v; span = span }, refl)
+one_says span (a_terminal w) c = (record { meaning = M.Terminal w; span = span }, refl)
+one_says span nothing c = absurd c
 
-abbrev tokens_for : List Lexeme → List ValuedToken
-tokens_for [] = []
-tokens_for (x ∷ xs) = token_for x ∷ tokens_for xs
-
-said_for : (x : Lexeme) → said (token_for x) ≡ x
-said_for (a_name x) = refl
-said_for (a_number v s) = refl
-said_for (a_terminal w) = refl
-said_for nothing = refl
-
-says_for : (xs : List Lexeme) → says (tokens_for xs) ≡ xs
-says_for [] = refl
-says_for (x ∷ xs) = ap (λ z. z ∷ says (tokens_for xs)) (said_for x) ∙ ap (λ z. x ∷ z) (says_for xs)
+some_say : (span : Span) (xs : List Lexeme) → AllCanStand xs → (is : List ValuedToken) × (says is ≡ xs)
+some_say span [] c = ([], refl)
+some_say span (x ∷ xs) c =
+    let i = one_says span x c.0 in
+    let is = some_say span xs c.1 in
+    (i.0 ∷ is.0, ap (λ z. z ∷ says is.0) i.1 ∙ ap (λ z. x ∷ z) is.1)
 
 -- where no bracket is one too many, the tokens are read to their end just where they run out of symbols
 module _ (end limit : ℕ) where
@@ -286,59 +279,66 @@ module _ (end limit : ℕ) where
       fault_step (said i) (says is) (length is) s st i.span (fault end limit is) (step s (said i)) refl h l
       (λ new k j. no_fault is (new ++ st) k j)
 
-derived_by : (r : Result (WholeProgram Name) TextFault) (ts : List Lexeme)
-    → ((p : WholeProgram Name) → r ≡ Ok p → Derives ts p) → ((e : TextFault) → r ≡ Err e → ⊥)
-    → (p : WholeProgram Name) × Derives ts p
-derived_by (Ok p) ts f g = (p, f p refl)
-derived_by (Err e) ts f g = absurd (g e refl)
+number_stands : (span : Span) (p : WholeProgram Name) (c : AllCanStand (program_tokens p))
+    → second_span (map plain (some_say span (program_tokens p) c).0) ≡ span
+unfolding some_say one_says
+number_stands span p c = refl
+
+program_by : (r : Result (WholeProgram Name) TextFault) (ts : List Lexeme)
+    → ((p : WholeProgram Name) → r ≡ Ok p → ts ≡ program_tokens p) → ((e : TextFault) → r ≡ Err e → ⊥)
+    → (p : WholeProgram Name) × (ts ≡ program_tokens p)
+program_by (Ok p) ts f g = (p, f p refl)
+program_by (Err e) ts f g = absurd (g e refl)
 
 -- tokens that run out of symbols are a program
-pub derives_back : (ts : List Lexeme) → run ts (s_program ∷ []) ≡ Some [] → (p : WholeProgram Name) × Derives ts p
-derives_back ts h =
-    let is : List ValuedToken = tokens_for ts in
-    let limit : ℕ = suc (length is) in
-    let same : says is ≡ ts = says_for ts in
-    let none : fault 0 limit is (s_program ∷ []) ≡ None =
-    no_fault 0 limit is (s_program ∷ []) (subst (λ z. run z (s_program ∷ []) ≡ Some []) (sym same) h) (omega arith) in
-    derived_by (program_at 0 limit is) ts
-    (λ p k. subst (λ z. Derives z p) same (program_ok 0 limit is p k).0)
-    (λ e k. not_none e (sym (program_err 0 limit is e k) ∙ none))
+pub program_back : (ts : List Lexeme) → AllCanStand ts → run ts (s_program ∷ []) ≡ Some [] → (p : WholeProgram Name) × (ts ≡ program_tokens p)
+program_back ts stand h =
+    let is = some_say nowhere ts stand in
+    let limit : ℕ = suc (length is.0) in
+    let none : fault 0 limit is.0 (s_program ∷ []) ≡ None =
+    no_fault 0 limit is.0 (s_program ∷ []) (subst (λ z. run z (s_program ∷ []) ≡ Some []) (sym is.1) h) (omega arith) in
+    program_by (program_at 0 limit is.0) ts
+    (λ p k. sym is.1 ∙ (program_ok 0 limit is.0 p k).says_it)
+    (λ e k. not_none e (sym (program_err 0 limit is.0 e k) ∙ none))
   where
     not_none : (e : TextFault) → Some e ≡ None → ⊥
     not_none e h = cc
 
 -- and a program's tokens run out of symbols
-pub derives_runs : (ts : List Lexeme) (p : WholeProgram Name) → Derives ts p → run ts (s_program ∷ []) ≡ Some []
-derives_runs ts p d =
-    let is : List ValuedToken = tokens_for ts in
-    let same : says is ≡ ts = says_for ts in
-    let ok : program_at 0 (nesting p) is ≡ Ok p = program_takes 0 (nesting p) p is (subst (λ z. Derives z p) (sym same) d) (omega arith) in
-    subst (λ z. run z (s_program ∷ []) ≡ Some []) same
-    (runs_out 0 (nesting p) is (s_program ∷ []) (program_ok 0 (nesting p) is p ok).2)
+pub program_runs : (ts : List Lexeme) → AllCanStand ts → (p : WholeProgram Name) → ts ≡ program_tokens p → run ts (s_program ∷ []) ≡ Some []
+program_runs ts stand p same =
+    let own : AllCanStand (program_tokens p) = subst AllCanStand same stand in
+    let is = some_say p.span (program_tokens p) own in
+    let ok : program_at 0 (nesting p) is.0 ≡ Ok p = program_takes 0 (nesting p) p is.0 is.1 (number_stands p.span p _) (omega arith) in
+    subst (λ z. run z (s_program ∷ []) ≡ Some []) (is.1 ∙ sym same)
+    (runs_out 0 (nesting p) is.0 (s_program ∷ []) (program_ok 0 (nesting p) is.0 p ok).none)
 
 one_value : (p q : WholeProgram Name) → (let r : Result (WholeProgram Name) TextFault = Ok p in r) ≡ Ok q → p ≡ q
 one_value p q h = cc
 
--- a list of tokens is one program at most
-pub derives_once : (ts : List Lexeme) (p q : WholeProgram Name) → Derives ts p → Derives ts q → p ≡ q
-derives_once ts p q d f =
-    let is : List ValuedToken = tokens_for ts in
+-- a list of tokens is one program at most, but for the place of its number
+pub one_of_tokens : (p q : WholeProgram Name) → AllCanStand (program_tokens p) → program_tokens p ≡ program_tokens q → p.span ≡ q.span → p ≡ q
+one_of_tokens p q stand same place =
+    let is = some_say p.span (program_tokens p) stand in
     let depth : ℕ = max (nesting p) (nesting q) in
-    let same : says is ≡ ts = says_for ts in
-    let a : program_at 0 depth is ≡ Ok p = program_takes 0 depth p is (subst (λ z. Derives z p) (sym same) d) (omega arith) in
-    let b : program_at 0 depth is ≡ Ok q = program_takes 0 depth q is (subst (λ z. Derives z q) (sym same) f) (omega arith) in
+    let a : program_at 0 depth is.0 ≡ Ok p = program_takes 0 depth p is.0 is.1 (number_stands p.span p _) (omega arith) in
+    let b : program_at 0 depth is.0 ≡ Ok q = program_takes 0 depth q is.0 (is.1 ∙ same) (number_stands p.span p stand ∙ place) (omega arith) in
     one_value p q (sym a ∙ b)
 
-pub goes_on : (ts : List Lexeme) (st : List Symbol) → run ts (s_program ∷ []) ≡ Some st → GoesOn ts
-goes_on ts st h =
-    let b = derives_back (ts ++ complete_all st)
+pub derives_once : (text : List ℕ) (tokens : List Token) (p q : WholeProgram Name) → AllCanStand (lexemes text tokens)
+    → Derives text tokens p → Derives text tokens q → p ≡ q
+derives_once text tokens p q stand d f = one_of_tokens p q (subst AllCanStand d.0 stand) (sym d.0 ∙ f.0) (sym d.1 ∙ f.1)
+
+pub goes_on : (ts : List Lexeme) (st : List Symbol) → AllCanStand ts → run ts (s_program ∷ []) ≡ Some st → GoesOn ts
+goes_on ts st stand h =
+    let b = program_back (ts ++ complete_all st) (all_append ts (complete_all st) stand (completed_stand st))
     (run_append ts (complete_all st) (s_program ∷ []) ∙ ap (λ z. run_by z (run (complete_all st))) h ∙ completes_all st) in
     (complete_all st, completed_stand st, b.0, b.1)
 
 none_some : (st : List Symbol) → (let r : Option (List Symbol) = None in r) ≡ Some st → ⊥
 none_some st h = cc
 
-pub goes_on_runs : (ts : List Lexeme) → GoesOn ts → run ts (s_program ∷ []) ≡ None → ⊥
-goes_on_runs ts g h =
-    let r : run (ts ++ g.0) (s_program ∷ []) ≡ Some [] = derives_runs (ts ++ g.0) g.2 g.3 in
+pub goes_on_runs : (ts : List Lexeme) → AllCanStand ts → GoesOn ts → run ts (s_program ∷ []) ≡ None → ⊥
+goes_on_runs ts stand g h =
+    let r : run (ts ++ g.0) (s_program ∷ []) ≡ Some [] = program_runs (ts ++ g.0) (all_append ts g.0 stand g.1) g.2 g.3 in
     none_some [] (sym (ap (λ z. run_by z (run g.0)) h) ∙ sym (run_append ts g.0 (s_program ∷ [])) ∙ r)

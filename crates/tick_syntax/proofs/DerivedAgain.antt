@@ -3,74 +3,18 @@
 -- The table of symbols sees no spans, so such tokens run out of symbols where the program's own do, and are some
 -- program. Its tokens and the first program's are the same spans aside, and so are the trees: with every name and
 -- number at no place the tokens are the same list, and a list of tokens is one program at most.
-use Rattle.std.proofs.Common.{◌≡◌, List, [], ◌∷◌, ◌++◌, map, Option, Some, None, refl, sym, ap, ◌∙◌, subst, append_assoc}
+use Rattle.std.proofs.Common.{◌≡◌, List, [], ◌∷◌, map, Option, Some, None, refl, sym, ap, ◌∙◌, subst}
 use Rattle.tick_syntax.specs.declared.valued_token.Ending.TheVariants as N
-use Rattle.tick_syntax.specs.declared.terminals.Terminal.{Terminal}
-use Rattle.tick_syntax.specs.declared.terminals.Terminal.TheVariants as T
 use Rattle.tick_syntax.specs.Lexeme.{Lexeme, a_name, a_number, a_terminal, nothing}
-use Rattle.tick_syntax.specs.Grammar.{IsExpression, IsStatement, IsBlock, AreNames, IsSection, Derives}
+use Rattle.tick_syntax.specs.Grammar.{program_tokens}
+use Rattle.tick_syntax.specs.Refusal.{AllCanStand}
+use Rattle.tick_syntax.specs.declared.span.Span.{Span}
 use Rattle.tick_syntax.specs.Plain.{Name, Expression, number, named, me, count, binary, map_expression, Statement, assign, get, put, stamp, scan, copy, older, out, branch, repeat, map_statement, Block, nil, cons, map_block, WholeProgram, without_spans}
-use Rattle.tick_syntax.specs.Printed.{nowhere, expression_tokens, statement_tokens, block_tokens, names_tokens, section_tokens, program_tokens}
-use Rattle.tick_syntax.proofs.DerivedTokens.{program_derived}
 use Rattle.tick_syntax.proofs.Symbols.{Symbol, s_program, s_until, step, on_stack, run_by, run}
 use Rattle.tick_syntax.proofs.Spanless.{letters_of, spanless, spanless_all}
 use Rattle.tick_syntax.proofs.SpansAside.{name_at_none, program_at_none, program_plain}
-use Rattle.tick_syntax.proofs.Continuations.{derives_back, derives_runs, derives_once}
-
--- A program's own tokens are that program.
-expression_own : (e : Expression Name) (rest : List Lexeme) → IsExpression (expression_tokens e ++ rest) e rest
-expression_own (number v) rest = (nowhere, refl)
-expression_own (named x) rest = refl
-expression_own me rest = refl
-expression_own count rest = refl
-expression_own (binary a op b) rest = (
-  expression_tokens a ++ a_terminal (T.Operator op) ∷ (expression_tokens b ++ a_terminal T.Close ∷ rest),
-  expression_tokens b ++ a_terminal T.Close ∷ rest,
-  simp (append_assoc),
-  expression_own a _,
-  expression_own b _,
-)
-
-mutual
-  statement_own : (s : Statement Name) (rest : List Lexeme) → IsStatement (statement_tokens s ++ rest) s rest
-  statement_own (assign x e) rest = (expression_tokens e ++ a_terminal T.Semicolon ∷ rest, simp (append_assoc), expression_own e _)
-  statement_own (get x r e) rest = (expression_tokens e ++ a_terminal T.Semicolon ∷ rest, simp (append_assoc), expression_own e _)
-  statement_own (put r e) rest = (expression_tokens e ++ a_terminal T.Semicolon ∷ rest, simp (append_assoc), expression_own e _)
-  statement_own stamp rest = refl
-  statement_own (scan s) rest = refl
-  statement_own (copy t s) rest = refl
-  statement_own (older x s a b) rest = (
-    expression_tokens a ++ (expression_tokens b ++ a_terminal T.Semicolon ∷ rest),
-    expression_tokens b ++ a_terminal T.Semicolon ∷ rest,
-    simp (append_assoc),
-    expression_own a _,
-    expression_own b _,
-  )
-  statement_own (out e) rest = (expression_tokens e ++ a_terminal T.Semicolon ∷ rest, simp (append_assoc), expression_own e _)
-  statement_own (branch e a b) rest =
-      let other = block_tokens b ++ a_terminal T.CloseBrace ∷ rest in
-      let first = block_tokens a ++ a_terminal T.CloseBrace ∷ a_terminal T.Else ∷ a_terminal T.OpenBrace ∷ other in
-      (expression_tokens e ++ a_terminal T.OpenBrace ∷ first, first, other, simp (append_assoc), expression_own e _, block_own T.CloseBrace a _, block_own T.CloseBrace b _)
-  statement_own (repeat e a) rest =
-      let body = block_tokens a ++ a_terminal T.CloseBrace ∷ rest in
-      (expression_tokens e ++ a_terminal T.OpenBrace ∷ body, body, simp (append_assoc), expression_own e _, block_own T.CloseBrace a _)
-
-  block_own : (last : Terminal) (b : Block Name) (rest : List Lexeme) → IsBlock last (block_tokens b ++ a_terminal last ∷ rest) b rest
-  block_own last nil rest = refl
-  block_own last (cons s b) rest =
-      let more = block_tokens b ++ a_terminal last ∷ rest in
-      (more, subst (λ z. IsStatement z s more) (sym (append_assoc (statement_tokens s) (block_tokens b) (a_terminal last ∷ rest))) (statement_own s more), block_own last b rest)
-
-names_own : (x : Name) (xs : List Name) (rest : List Lexeme) → AreNames (names_tokens x xs ++ rest) x xs rest
-names_own x [] rest = refl
-names_own x (y ∷ ys) rest = (names_tokens y ys ++ rest, refl, names_own y ys rest)
-
-section_own : (terminal : Terminal) (xs : List Name) (rest : List Lexeme) → IsSection terminal (section_tokens terminal xs ++ rest) xs rest
-section_own terminal [] rest = refl
-section_own terminal (x ∷ xs) rest = (names_tokens x xs ++ a_terminal T.Semicolon ∷ rest, simp (append_assoc), names_own x xs _)
-
-derives_own : (p : WholeProgram Name) → Derives (program_tokens p) p
-derives_own p = (_, _, _, _, refl, section_own T.Var p.variables _, section_own T.Scan p.scans _, section_own T.Reg p.registers _, block_own T.End p.body [])
+use Rattle.tick_syntax.proofs.Continuations.{program_back, program_runs, one_of_tokens}
+use Rattle.tick_syntax.proofs.TokensThatStand.{all_spanless}
 
 -- Names changed twice are changed once by both.
 module _ {A B C : Type 0} (f : A → B) (g : B → C) where
@@ -112,24 +56,25 @@ program_letters p =
     rw (letters_again p.variables, letters_again p.scans, letters_again p.registers, block_again p.body) refl
 
 -- programs whose tokens are the same, spans aside
-same_program : (p q : WholeProgram Name) → spanless_all (program_tokens p) ≡ spanless_all (program_tokens q) → without_spans p ≡ without_spans q
-same_program p q same =
+same_program : (p q : WholeProgram Name) → AllCanStand (program_tokens p) → spanless_all (program_tokens p) ≡ spanless_all (program_tokens q)
+    → without_spans p ≡ without_spans q
+same_program p q stand same =
     let a : WholeProgram Name = program_at_none (without_spans p) in
     let b : WholeProgram Name = program_at_none (without_spans q) in
-    let tokens : program_tokens b ≡ program_tokens a = sym (program_plain q) ∙ sym same ∙ program_plain p in
-    let one : a ≡ b = derives_once (program_tokens a) a b (derives_own a) (subst (λ z. Derives z b) tokens (derives_own b)) in
+    let one : a ≡ b =
+    one_of_tokens a b (subst AllCanStand (program_plain p) (all_spanless (program_tokens p) stand)) (sym (program_plain p) ∙ same ∙ program_plain q) refl in
     sym (program_letters p) ∙ ap without_spans one ∙ program_letters q
 
 -- The table sees no spans.
 step_spanless : (s : Symbol) (x : Lexeme) → step s (spanless x) ≡ step s x
 step_spanless s_program (a_name x) = refl
-step_spanless s_program (a_number v span) = refl
+step_spanless s_program (a_number v) = refl
 step_spanless (s_until N.Program) (a_name x) = refl
-step_spanless (s_until N.Program) (a_number v span) = refl
+step_spanless (s_until N.Program) (a_number v) = refl
 step_spanless (s_until N.Braces) (a_name x) = refl
-step_spanless (s_until N.Braces) (a_number v span) = refl
+step_spanless (s_until N.Braces) (a_number v) = refl
 step_spanless s (a_name x) = refl
-step_spanless s (a_number v span) = refl
+step_spanless s (a_number v) = refl
 step_spanless s (a_terminal w) = refl
 step_spanless s nothing = refl
 
@@ -145,19 +90,12 @@ run_spanless (x ∷ ts) (s ∷ st) =
     ap (λ z. run_by (on_stack z st) (run (spanless_all ts))) (step_spanless s x)
     ∙ run_by_spanless (on_stack (step s x) st) ts (run_spanless ts)
 
-pub record ProgramAgain (p : WholeProgram Name) (ts : List Lexeme) : Type 0 where
-  pub again : WholeProgram Name
-  pub derived : Derives ts again
-  pub same : without_spans again ≡ without_spans p
-
-pub program_again : (p : WholeProgram Name) (own ts : List Lexeme) → Derives own p → spanless_all ts ≡ spanless_all own → ProgramAgain p ts
-program_again p own ts d same =
+-- whose number may be said to stand at any place
+pub program_again : (span : Span) (p : WholeProgram Name) (ts : List Lexeme) → AllCanStand (program_tokens p) → AllCanStand ts
+    → spanless_all ts ≡ spanless_all (program_tokens p) → (q : WholeProgram Name) × (ts ≡ program_tokens q) × (q.span ≡ span) × (without_spans q ≡ without_spans p)
+program_again span p ts own stand same =
     let runs : run ts (s_program ∷ []) ≡ Some [] =
-    sym (run_spanless ts (s_program ∷ [])) ∙ ap (λ z. run z (s_program ∷ [])) same ∙ run_spanless own (s_program ∷ [])
-    ∙ derives_runs own p d in
-    let found = derives_back ts runs in
-    record {
-      again = found.0;
-      derived = found.1;
-      same = same_program found.0 p (sym (program_derived ts found.0 found.1) ∙ same ∙ program_derived own p d);
-    }
+    sym (run_spanless ts (s_program ∷ [])) ∙ ap (λ z. run z (s_program ∷ [])) same ∙ run_spanless (program_tokens p) (s_program ∷ [])
+    ∙ program_runs (program_tokens p) own p refl in
+    let found = program_back ts stand runs in
+    (record found.0 { span = span }, found.1, refl, same_program found.0 p (subst AllCanStand found.1 stand) (ap spanless_all (sym found.1) ∙ same))

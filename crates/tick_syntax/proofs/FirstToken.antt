@@ -65,11 +65,11 @@ token_outcome at text token more here =
     ap (outcome at) here.split ∙ token_front at here.piece more token.sort here.kind ∙ ap (λ (span : Span). let found : Outcome = Ok (record { sort = token.sort; span = span }) in found) (sym here.place)
 
 -- what holds of every word of a list holds of each that is among them
-pub among_words : (test : List ℕ → Bool) (word : List ℕ) (words : List (List ℕ)) → list_all test words ≡ true → list_any (bytes_eq word) words ≡ true → test word ≡ true
+pub among_words : (test : List ℕ → Bool) (word : List ℕ) (words : List (List ℕ)) → list_all test words ≡ true → list_any (λ other. bytes_eq other word) words ≡ true → test word ≡ true
 among_words test word [] all some = absurd (false≢true some)
 among_words test word (other ∷ words) all some =
     let parts = and_parts _ _ all in
-    elim (or_cases _ _ some) [ inl same ↦ ap test ((bytes_eq-Decides word other).0 same) ∙ parts.0 | inr later ↦ among_words test word words parts.1 later ]
+    elim (or_cases _ _ some) [ inl same ↦ ap test (sym ((bytes_eq-Decides other word).0 same)) ∙ parts.0 | inr later ↦ among_words test word words parts.1 later ]
 
 keyword_short : (piece : List ℕ) → is_keyword piece ≡ true → length piece ≤ 64
 keyword_short piece keyword =

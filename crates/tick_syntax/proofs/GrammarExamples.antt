@@ -5,18 +5,19 @@ use Rattle.tick_syntax.specs.declared.span.Span.{Span}
 use Rattle.tick_syntax.specs.declared.token.Sort.TheVariants as K
 use Rattle.machine_core.specs.declared.operator.Op.TheVariants as O
 use Rattle.tick_syntax.specs.declared.terminals.Terminal.TheVariants as T
-use Rattle.tick_syntax.specs.Lexeme.{Lexeme, a_name, a_number, a_terminal, terminal_of, lexemes}
+use Rattle.tick_syntax.specs.Lexeme.{Lexeme, a_name, a_number, a_terminal, lexemes}
 use Rattle.tick_syntax.specs.Plain.{Name, named, me, count, binary, out, repeat, nil, cons, WholeProgram}
-use Rattle.tick_syntax.specs.Grammar.{Derives}
+use Rattle.tick_syntax.specs.Grammar.{program_tokens}
+use Rattle.tick_syntax.specs.Terminals.{signs, keywords, spelled_among}
 use Rattle.tick_syntax.specs.Nesting.{nesting}
 use Rattle.tick_syntax.specs.Printed.{printed}
 
 abbrev span : ℕ → ℕ → Span
 span a b = record { start = a; end = b }
 
-terminals : (terminal_of (codes "processes") ≡ Some T.Processes) × (terminal_of (codes "n") ≡ Some T.Count)
-    × (terminal_of (codes "<=") ≡ Some (T.Operator O.AtMost)) × (terminal_of (codes "!") ≡ None)
-unfolding terminal_of
+terminals : (spelled_among keywords (codes "processes") ≡ Some T.Processes) × (spelled_among keywords (codes "n") ≡ Some T.Count)
+    × (spelled_among signs (codes "<=") ≡ Some (T.Operator O.AtMost)) × (spelled_among signs (codes "!") ≡ None)
+unfolding spelled_among
 terminals = (refl, refl, refl, refl)
 
 -- `x<=1 # y`
@@ -24,8 +25,8 @@ line : lexemes (codes "x<=1 # y")
     (record { sort = K.Name; span = span 0 1 } ∷ record { sort = K.Sign; span = span 1 3 }
     ∷ record { sort = K.Num 1; span = span 3 4 } ∷ [])
     ≡ a_name (record { letters = codes "x"; span = span 0 1 }) ∷ a_terminal (T.Operator O.AtMost)
-    ∷ a_number 1 (span 3 4) ∷ []
-unfolding terminal_of
+    ∷ a_number 1 ∷ []
+unfolding spelled_among
 line = refl
 
 -- `processes 2; var x; begin while (x < n) { out me; } end`
@@ -44,23 +45,13 @@ small = record {
 
 abbrev small_tokens : List Lexeme
 small_tokens =
-    a_terminal T.Processes ∷ a_number 2 (span 10 11) ∷ a_terminal T.Semicolon
+    a_terminal T.Processes ∷ a_number 2 ∷ a_terminal T.Semicolon
     ∷ a_terminal T.Var ∷ a_name (x 17 18) ∷ a_terminal T.Semicolon ∷ a_terminal T.Begin
     ∷ a_terminal T.While ∷ a_terminal T.Open ∷ a_name (x 33 34) ∷ a_terminal (T.Operator O.Less) ∷ a_terminal T.Count ∷ a_terminal T.Close
     ∷ a_terminal T.OpenBrace ∷ a_terminal T.Out ∷ a_terminal T.Me ∷ a_terminal T.Semicolon ∷ a_terminal T.CloseBrace ∷ a_terminal T.End ∷ []
 
-small_derived : Derives small_tokens small
-small_derived = (
-  _,
-  _,
-  _,
-  _,
-  refl,
-  (_, refl, refl),
-  refl,
-  refl,
-  (_, (_, _, refl, (_, _, refl, refl, refl), (_, (_, refl, refl), refl)), refl),
-)
+small_says : program_tokens small ≡ small_tokens
+small_says = refl
 
 small_nesting : nesting small ≡ 1
 small_nesting = refl

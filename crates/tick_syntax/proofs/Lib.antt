@@ -6,7 +6,7 @@ pub mod SpelledOnce
 pub mod SpelledPieces
 mod SpellingExamples
 pub mod TokensSoFar
-pub mod TokensStand
+pub mod WordsAreAscii
 pub mod TokensTold
 mod GrammarExamples
 pub mod Rows
@@ -16,11 +16,9 @@ pub mod SoundStatements
 pub mod Loops
 pub mod SoundPrograms
 pub mod Complete
-pub mod Parsed
 pub mod Continuations
 pub mod Stops
 pub mod DerivedAgain
-pub mod DerivedTokens
 pub mod PrintedParts
 pub mod RoundTrips
 pub mod Spanless
@@ -30,4 +28,6 @@ pub mod TokensThatStand
 pub mod Covered
 pub mod OneStop
 pub mod Decided
+pub mod Parsed
+pub mod Beginnings
 pub mod Offered

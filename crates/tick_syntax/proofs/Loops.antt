@@ -41,8 +41,6 @@ module _ (end : ℕ) where
   names_front (M.Number v) span (j ∷ js) = refl
   names_front (M.Terminal w) span [] = refl
   names_front (M.Terminal w) span (j ∷ js) = refl
-  names_front M.Nothing span [] = refl
-  names_front M.Nothing span (j ∷ js) = refl
 
   pub names_step : (is : List ValuedToken)
       → names_at end is

@@ -1,3 +1,6 @@
--- What the crates above may cite: what each text is, and the plain form of statements with blocks.
+-- What the crates above may cite: what each text is, how the text of a program begins, and the plain form of
+-- statements with blocks.
+pub use Rattle.tick_syntax.proofs.Beginnings.{program_text_begins}
 pub use Rattle.tick_syntax.proofs.Decided.{one_program, one_refusal, never_both, never_neither}
 pub use Rattle.tick_syntax.proofs.Rows.{statement_of_branch, statement_of_repeat}
+pub use Rattle.tick_syntax.proofs.Beginnings.{program_text_begins}

@@ -6,12 +6,13 @@ use Rattle.tick_syntax.specs.declared.fault.TextFault.{TextFault}
 use Rattle.tick_syntax.specs.declared.fault.TextFault.TheVariants as F
 use Rattle.tick_syntax.specs.declared.token.Token.{Token}
 use Rattle.tick_syntax.specs.declared.terminals.Terminal.TheVariants as T
-use Rattle.tick_syntax.specs.Grammar.{Derives}
+use Rattle.tick_syntax.specs.Grammar.{program_tokens}
 use Rattle.tick_syntax.specs.Lexeme.{Lexeme, a_terminal, lexeme_of, lexemes}
 use Rattle.tick_syntax.specs.Nesting.{IsOpening, open_by, open_after, IsShallow}
 use Rattle.tick_syntax.specs.Plain.{Name, WholeProgram}
 use Rattle.tick_syntax.specs.Refusal.{AllCanStand, GoesOn, StopsAfter, IsUnexpected, IsTooDeep}
 use Rattle.tick_syntax.proofs.Continuations.{all_append}
+use Rattle.tick_syntax.proofs.TokensThatStand.{middle_stands}
 
 -- one of two fronts of a list is the other, or goes on past it
 abbrev Past : List Token → List Token → List Token → List Token → Type 0
@@ -39,10 +40,10 @@ compared (t ∷ a) r (u ∷ b) q e = more_compared t u a r b q (same_head t u _ 
 
 -- what goes on goes on from each front of it
 front_goes_on : (a b : List Lexeme) → AllCanStand b → GoesOn (a ++ b) → GoesOn a
-front_goes_on a b stand g = (b ++ g.0, all_append b g.0 stand g.1, g.2, subst (λ z. Derives z g.2) (append_assoc a b g.0) g.3)
+front_goes_on a b stand g = (b ++ g.0, all_append b g.0 stand g.1, g.2, sym (append_assoc a b g.0) ∙ g.3)
 
-program_goes_on : (ts : List Lexeme) (p : WholeProgram Name) → Derives ts p → GoesOn ts
-program_goes_on ts p d = ([], tt, p, subst (λ z. Derives z p) (sym (append-nil ts)) d)
+program_goes_on : (ts : List Lexeme) (p : WholeProgram Name) → ts ≡ program_tokens p → GoesOn ts
+program_goes_on ts p d = ([], tt, p, append-nil ts ∙ d)
 
 -- a bracket after 64 open ones is one too many
 not_shallow : (a b : List Lexeme) (x : Lexeme) (depth : ℕ) → open_after a depth ≡ 64 → IsOpening x → IsShallow (a ++ x ∷ b) depth → ⊥
@@ -55,18 +56,13 @@ module _ (text : List ℕ) where
   said_apart : (a b : List Token) → lexemes text (a ++ b) ≡ lexemes text a ++ lexemes text b
   said_apart a b = map-append (lexeme_of text) a b
 
-  middle_stands : (a m q : List Token) → AllCanStand (lexemes text ((a ++ m) ++ q)) → AllCanStand (lexemes text m)
-  middle_stands [] [] q all = tt
-  middle_stands [] (t ∷ m) q all = (all.0, middle_stands [] m q all.1)
-  middle_stands (t ∷ a) m q all = middle_stands a m q all.1
-
   -- of tokens that a text can have
   past_goes_on : (ts front q a m : List Token) (t : Token) → AllCanStand (lexemes text ts) → ts ≡ front ++ q → front ≡ a ++ t ∷ m
       → GoesOn (lexemes text front) → GoesOn (lexemes text (a ++ t ∷ []))
   past_goes_on ts front q a m t all split past g =
       let apart : front ≡ (a ++ t ∷ []) ++ m = past ∙ sym (append_assoc a (t ∷ []) m) in
       front_goes_on (lexemes text (a ++ t ∷ [])) (lexemes text m)
-      (middle_stands (a ++ t ∷ []) m q (subst (λ z. AllCanStand (lexemes text z)) (split ∙ ap (λ z. z ++ q) apart) all))
+      (middle_stands text (a ++ t ∷ []) m q (subst (λ z. AllCanStand (lexemes text z)) (split ∙ ap (λ z. z ++ q) apart) all))
       (subst GoesOn (ap (lexemes text) apart ∙ said_apart (a ++ t ∷ []) m) g)
 
   -- where tokens stop they do not go on
@@ -145,14 +141,14 @@ module _ (text : List ℕ) where
   stops_once ts (F.NameTooLong p) b all h k = absurd h
   stops_once ts F.NoMemory b all h k = absurd h
 
-  unexpected_program : (ts : List Token) (place : Span) (p : WholeProgram Name) → AllCanStand (lexemes text ts) → Derives (lexemes text ts) p
+  unexpected_program : (ts : List Token) (place : Span) (p : WholeProgram Name) → AllCanStand (lexemes text ts) → lexemes text ts ≡ program_tokens p
       → (a r : List Token) → ts ≡ a ++ r → StopsAfter text a r place → ⊥
-  unexpected_program ts place p all d a [] is stop = stop.1 p (subst (λ z. Derives (lexemes text z) p) (is ∙ append-nil a) d)
+  unexpected_program ts place p all d a [] is stop = stop.1 p (ap (lexemes text) (sym (is ∙ append-nil a)) ∙ d)
   unexpected_program ts place p all d a (t ∷ r) is stop =
       stop.1 (past_goes_on ts ts [] a r t all (sym (append-nil ts)) is (program_goes_on (lexemes text ts) p d))
 
   -- a program within the limits does not stop
-  pub no_stop : (ts : List Token) (p : WholeProgram Name) (fault : TextFault) → AllCanStand (lexemes text ts) → Derives (lexemes text ts) p → IsShallow (lexemes text ts) 0
+  pub no_stop : (ts : List Token) (p : WholeProgram Name) (fault : TextFault) → AllCanStand (lexemes text ts) → lexemes text ts ≡ program_tokens p → IsShallow (lexemes text ts) 0
       → Stops ts fault → ⊥
   no_stop ts p (F.Unexpected place) all d shallow h = unexpected_program ts place p all d h.0 h.1 h.2 h.4
   no_stop ts p (F.TooDeep place) all d shallow h =

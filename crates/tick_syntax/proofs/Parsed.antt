@@ -1,106 +1,79 @@
--- From what the reader answers to what is said of the tokens.
-use Rattle.std.proofs.Common.{◌≡◌, ℕ, ◌<◌, ◌≤◌, arith, rules, IsOkUnless, MatchResult, length, slice_index_or, List, [], ◌∷◌, ◌++◌, Result, Ok, Err, IfOk, refl, sym, ◌∙◌, ap, subst, zero-add}
+-- What the reader answers of a text's tokens is the text's program, or its refusal.
+use Rattle.std.proofs.Common.{◌≡◌, ◌≢◌, ℕ, ◌≤◌, ◌⊎◌, inl, inr, MatchResult, length, map, List, [], ◌∷◌, Result, Ok, Err, IfOk, IfErr, refl, sym, ◌∙◌, subst}
 use Rattle.tick_syntax.specs.declared.fault.TextFault.{TextFault}
 use Rattle.tick_syntax.specs.declared.fault.TextFault.TheVariants as F
-use Rattle.tick_syntax.specs.declared.valued_token.ValuedToken.{ValuedToken}
-use Rattle.tick_syntax.specs.declared.token.Token.{Token}
-use Rattle.tick_syntax.specs.declared.tree.Tree.{Tree}
-use Rattle.tick_syntax.specs.Grammar.{Derives}
-use Rattle.tick_syntax.specs.prover.ValuedTokens.{SayAs, IsInText, IsAsciiName}
 use Rattle.tick_syntax.specs.declared.span.Span.{Span}
-use Rattle.tick_syntax.specs.Spelling.{gap_length, after_gap, Spells, HasToken, IsToken, TokenAt}
-use Rattle.tick_syntax.specs.declared.token.Sort.{Sort}
-use Rattle.tick_syntax.specs.declared.token.Sort.TheVariants as K
-use Rattle.tick_syntax.proofs.TokensStand.{each_stands, word_is_ascii}
-use Rattle.std.proofs.lemmas.Option.{slice_get-get_or}
-use Rattle.tick_syntax.specs.Lexeme.{lexeme_of, lexemes}
+use Rattle.tick_syntax.specs.declared.valued_token.ValuedToken.{ValuedToken}
+use Rattle.tick_syntax.specs.declared.tree.Tree.{Tree}
+use Rattle.tick_syntax.specs.Decided.{IsWithinLimits}
+use Rattle.tick_syntax.specs.Grammar.{Derives}
 use Rattle.tick_syntax.specs.Nesting.{nesting}
 use Rattle.tick_syntax.specs.Plain.{Name, WholeProgram}
-use Rattle.tick_syntax.proofs.Complete.{program_takes}
 use Rattle.tick_syntax.specs.prover.Reading.{GivesWhole, program_at}
+use Rattle.tick_syntax.specs.prover.ValuedTokens.{plain, AreValues}
+use Rattle.tick_syntax.specs.Refusal.{IsTextRefused}
+use Rattle.tick_syntax.specs.RoundTrip.{IsTextOf}
+use Rattle.tick_syntax.specs.Spelling.{HasToken}
 use Rattle.tick_syntax.specs.View.{tree_of}
-use Rattle.tick_syntax.proofs.Symbols.{says}
-use Rattle.tick_syntax.proofs.SoundPrograms.{program_ok}
-use Rattle.tick_syntax.proofs.Continuations.{derives_once}
+use Rattle.tick_syntax.proofs.Decided.{stand, read_program, program_read, fault_read, stop_refuses, one_program, one_refusal, never_both}
+use Rattle.tick_syntax.proofs.SoundPrograms.{program_err}
+use Rattle.tick_syntax.proofs.SpelledOnce.{spells_unique}
+use Rattle.tick_syntax.proofs.TokensTold.{is_memory, first_spelled}
 
-pub says_same : (text : List ℕ) (is : List ValuedToken) (ts : List Token) → SayAs text is ts → says is ≡ lexemes text ts
-says_same text [] [] h = refl
-says_same text [] (t ∷ ts) h = absurd h
-says_same text (i ∷ is) [] h = absurd h
-says_same text (i ∷ is) (t ∷ ts) h =
-    ap (λ z. z ∷ says is) h.0.0 ∙ ap (λ z. lexeme_of text t ∷ z) (says_same text is ts h.1)
+-- An answer that is the text's program, or its refusal, is so where the text is refused.
+pub refused_first : (text : List ℕ) (r : Result Tree TextFault)
+    → IfOk r (λ tree. IsWithinLimits text (tree_of tree)) → IfErr r (λ fault. fault ≢ F.NoMemory → IsTextRefused text fault)
+    → (first : TextFault) → IsTextRefused text first → MatchResult r (λ tree. ⊥) (λ fault. (fault ≡ first) ⊎ (fault ≡ F.NoMemory))
+refused_first text (Ok tree) ok err first h = never_both text (tree_of tree) first ok h
+refused_first text (Err e) ok err first h = elim (is_memory e) [ inl memory ↦ inr memory | inr other ↦ inl (one_refusal text e first (err other) h) ]
 
-pub same_more : (text : List ℕ) (is : List ValuedToken) (ts : List Token) (i : ValuedToken) (t : Token)
-    → SayAs text is ts → SayAs text (i ∷ []) (t ∷ []) → SayAs text (is ++ i ∷ []) (ts ++ t ∷ [])
-same_more text [] [] i t h k = k
-same_more text [] (u ∷ ts) i t h k = absurd h
-same_more text (j ∷ is) [] i t h k = absurd h
-same_more text (j ∷ is) (u ∷ ts) i t h k = (h.0, same_more text is ts i t h.1 k)
+module _ (text : List ℕ) (is : List ValuedToken) (short : length text ≤ 1000000) (values : AreValues text is) where
+  abbrev Gave : Result Tree TextFault → Type 0
+  Gave r = GivesWhole tree_of r (program_at (length text) 64 is)
 
-pub parsed_derived : (end : ℕ) (text : List ℕ) (is : List ValuedToken) (ts : List Token) (r : Result Tree TextFault)
-    → SayAs text is ts → GivesWhole tree_of r (program_at end 64 is) → IfOk r (λ tree. Derives (lexemes text ts) (tree_of tree))
-parsed_derived end text is ts (Ok tree) same h =
-    subst (λ z. Derives z (tree_of tree)) (says_same text is ts same) (program_ok end 64 is (tree_of tree) h).0
-parsed_derived end text is ts (Err e) same h = tt
+  pub parsed_within : (r : Result Tree TextFault) → Gave r → IfOk r (λ tree. IsWithinLimits text (tree_of tree))
+  parsed_within (Ok tree) h =
+      let d = program_read text is (map plain is) values.said_as (tree_of tree) h in
+      (short, (map plain is, values.spelled, d.0), d.1)
+  parsed_within (Err e) h = tt
 
-pub parsed_shallow : (end : ℕ) (is : List ValuedToken) (r : Result Tree TextFault)
-    → GivesWhole tree_of r (program_at end 64 is) → IfOk r (λ tree. nesting (tree_of tree) ≤ 64)
-parsed_shallow end is (Ok tree) h = (program_ok end 64 is (tree_of tree) h).1
-parsed_shallow end is (Err e) h = tt
+  pub parsed_tree : (r : Result Tree TextFault) → Gave r → IfOk r (λ tree. IsTextOf text (tree_of tree))
+  parsed_tree (Ok tree) h = (parsed_within (Ok tree) h).1
+  parsed_tree (Err e) h = tt
 
--- each token of a spelling is in the text
-ascii_name : (sort : Sort) (piece more : List ℕ) → IsToken piece more sort → IsAsciiName sort piece
-ascii_name K.Name piece more h = word_is_ascii piece h.0.word
-ascii_name (K.Num v) piece more h = tt
-ascii_name K.Keyword piece more h = tt
-ascii_name K.Sign piece more h = tt
+  pub parsed_limits : (r : Result Tree TextFault) → Gave r → IfOk r (λ tree. (length text ≤ 1000000) × (nesting (tree_of tree) ≤ 64))
+  parsed_limits (Ok tree) h = (short, (parsed_within (Ok tree) h).2)
+  parsed_limits (Err e) h = tt
 
-pub in_text : (text : List ℕ) (tokens : List Token) → Spells text tokens → (i : ℕ) (d : Token) → i < length tokens
-    → IsInText text (slice_index_or tokens i d)
-in_text text tokens spells i d l =
-    let s = each_stands text tokens spells i (slice_index_or tokens i d) (slice_get-get_or tokens i d l) in
-    let some : (slice_index_or tokens i d).span.start < (slice_index_or tokens i d).span.end = s.some in
-    record { forward = omega arith; within = s.within; ascii = ascii_name (slice_index_or tokens i d).sort _ _ s.kind }
+  refused_ok : (p : WholeProgram Name) (e : TextFault) → (let r : Result (WholeProgram Name) TextFault = Ok p in r) ≡ Err e → ⊥
+  refused_ok p e h = cc
 
--- The reader's answer, for each program of these tokens.
-pub parsed_only : (end : ℕ) (text : List ℕ) (is : List ValuedToken) (ts : List Token) (r : Result Tree TextFault)
-    → SayAs text is ts → GivesWhole tree_of r (program_at end 64 is)
-    → IfOk r (λ tree. (p : WholeProgram Name) → Derives (lexemes text ts) p → p ≡ tree_of tree)
-parsed_only end text is ts (Ok tree) same h = λ p d.
-    derives_once (lexemes text ts) p (tree_of tree) d (parsed_derived end text is ts (Ok tree) same h)
-parsed_only end text is ts (Err e) same h = tt
+  pub parsed_accepted : (r : Result Tree TextFault) → Gave r → (p : WholeProgram Name) → IsTextOf text p → nesting p ≤ 64
+      → MatchResult r (λ tree. p ≡ tree_of tree) (λ fault. fault ≡ F.NoMemory)
+  parsed_accepted (Ok tree) h p t n = one_program text p (tree_of tree) t (parsed_tree (Ok tree) h)
+  parsed_accepted (Err F.NoMemory) h p t n = refl
+  parsed_accepted (Err e) h p t n =
+      let d : Derives text (map plain is) p = subst (λ z. Derives text z p) (spells_unique text t.0 (map plain is) t.1 values.spelled) t.2 in
+      absurd (refused_ok p _ (sym (read_program text (length text) is (map plain is) values.said_as p d n) ∙ h))
 
-refused_ok : (p : WholeProgram Name) (e : TextFault) → (let r : Result (WholeProgram Name) TextFault = Ok p in r) ≡ Err e → ⊥
-refused_ok p e h = cc
+  fault_refused : (e : TextFault) → program_at (length text) 64 is ≡ Err e → IsTextRefused text e
+  fault_refused e h = stop_refuses text e
+      (map plain is, short, values.spelled, fault_read text is (map plain is) (stand text (map plain is) values.spelled) values.said_as e (program_err (length text) 64 is e h))
 
-pub parsed_accepted : (end : ℕ) (text : List ℕ) (is : List ValuedToken) (ts : List Token) (r : Result Tree TextFault)
-    → SayAs text is ts → GivesWhole tree_of r (program_at end 64 is)
-    → (p : WholeProgram Name) → Derives (lexemes text ts) p → nesting p ≤ 64 → IsOkUnless r F.NoMemory
-parsed_accepted end text is ts (Ok tree) same h p d n = search rules
-parsed_accepted end text is ts (Err F.NoMemory) same h p d n = search rules
-parsed_accepted end text is ts (Err e) same h p d n =
-    absurd (refused_ok p _ (sym (program_takes end 64 p is (subst (λ z. Derives z p) (sym (says_same text is ts same)) d) n) ∙ h))
+  pub parsed_refused : (r : Result Tree TextFault) → Gave r → IfErr r (λ fault. fault ≢ F.NoMemory → IsTextRefused text fault)
+  parsed_refused (Ok tree) h = tt
+  parsed_refused (Err F.NoMemory) h = λ other. absurd (other refl)
+  parsed_refused (Err e) h = λ other. fault_refused e h
 
--- The same, of whatever tokens spell the text.
-pub parse_accepted : (text : List ℕ) (own tokens : List Token) → own ≡ tokens → (r : Result Tree TextFault)
-    → IfOk r (λ tree. (p : WholeProgram Name) → Derives (lexemes text own) p → p ≡ tree_of tree)
-    → ((p : WholeProgram Name) → Derives (lexemes text own) p → nesting p ≤ 64 → IsOkUnless r F.NoMemory)
-    → (p : WholeProgram Name) → Derives (lexemes text tokens) p → nesting p ≤ 64
-    → MatchResult r (λ tree. p ≡ tree_of tree) (λ fault. fault ≡ F.NoMemory)
-parse_accepted text own tokens same (Ok tree) only accepted p d n = only p (subst (λ z. Derives (lexemes text z) p) (sym same) d)
-parse_accepted text own tokens same (Err e) only accepted p d n = accepted p (subst (λ z. Derives (lexemes text z) p) (sym same) d) n
+  pub parsed_first : (r : Result Tree TextFault) → Gave r → (first : TextFault) → IsTextRefused text first
+      → MatchResult r (λ tree. ⊥) (λ fault. (fault ≡ first) ⊎ (fault ≡ F.NoMemory))
+  parsed_first r h = refused_first text r (parsed_within r h) (parsed_refused r h)
 
--- No valued tokens say what no tokens say, and tokens that spell a text begin it.
-pub no_tokens : (text : List ℕ) (is : List ValuedToken) (ts : List Token) → SayAs text is ts → ts ≡ [] → is ≡ []
-no_tokens text [] ts h none = refl
-no_tokens text (i ∷ is) [] h none = absurd h
-no_tokens text (i ∷ is) (t ∷ ts) h none = absurd (cc)
+not_memory : (place : Span) → (let r : Result Tree TextFault = Err (F.Unexpected place) in r) ≡ Err F.NoMemory → ⊥
+not_memory place h = cc
 
-pub first_spelled : (text : List ℕ) (ts : List Token) (place : Span) (r : Result Tree TextFault)
-    → Spells text ts → (ts ≡ [] → r ≡ Err (F.Unexpected place)) → r ≡ Err F.NoMemory → HasToken text
-first_spelled text [] place r spells none h = absurd (not_memory place (sym (none refl) ∙ h))
-  where
-    not_memory : (place : Span) → (let r : Result Tree TextFault = Err (F.Unexpected place) in r) ≡ Err F.NoMemory → ⊥
-    not_memory place h = cc
-first_spelled text (t ∷ ts) place r spells none h =
-    (t, spells.0, subst (λ n. TokenAt n (after_gap text) t spells.0) (zero-add (gap_length text)) spells.1)
+-- memory is wanted only for a text that has a token
+pub parsed_memory : (text : List ℕ) (is : List ValuedToken) (place : Span) (r : Result Tree TextFault) → AreValues text is
+    → (is ≡ [] → r ≡ Err (F.Unexpected place)) → r ≡ Err F.NoMemory → HasToken text
+parsed_memory text [] place r values none h = absurd (not_memory place (sym (none refl) ∙ h))
+parsed_memory text (i ∷ is) place r values none h = first_spelled text (map plain (i ∷ is)) values.spelled (λ e. cc)

@@ -8,17 +8,18 @@ use Rattle.tick_syntax.specs.declared.terminals.Terminal.{Terminal}
 use Rattle.tick_syntax.specs.declared.terminals.Terminal.TheVariants as T
 use Rattle.tick_syntax.specs.Lexeme.{a_name, a_terminal}
 use Rattle.tick_syntax.specs.Plain.{Name, Statement}
-use Rattle.tick_syntax.specs.Printed.{printed_token, printed_tokens, expression_tokens, statement_tokens, block_tokens, names_tokens, section_tokens}
+use Rattle.tick_syntax.specs.Grammar.{expression_tokens, in_braces, statement_tokens, block_tokens, names_tokens, section_tokens}
+use Rattle.tick_syntax.specs.Printed.{printed_token, printed_tokens}
 use Rattle.tick_syntax.specs.prover.Printing.{more_names}
 use Rattle.tick_syntax.specs.View.{expression_of, statement_of, block_of}
 use Rattle.tick_syntax.proofs.Rows.{statement_of_branch, statement_of_repeat}
 
 -- the tokens of a statement with blocks
-pub tokens_branch : (s : Stmt) (e : Expr) (a b : Vec Stmt Global) → s ≡ If e a b → printed_tokens (statement_tokens (statement_of s)) ≡ printed_token (a_terminal T.If) ++ (printed_tokens (expression_tokens (expression_of e)) ++ (printed_tokens (a_terminal T.OpenBrace ∷ (block_tokens (block_of a.items) ++ a_terminal T.CloseBrace ∷ [])) ++ (printed_token (a_terminal T.Else) ++ printed_tokens (a_terminal T.OpenBrace ∷ (block_tokens (block_of b.items) ++ a_terminal T.CloseBrace ∷ [])))))
+pub tokens_branch : (s : Stmt) (e : Expr) (a b : Vec Stmt Global) → s ≡ If e a b → printed_tokens (statement_tokens (statement_of s)) ≡ printed_token (a_terminal T.If) ++ (printed_tokens (expression_tokens (expression_of e)) ++ (printed_tokens (in_braces (block_tokens (block_of a.items))) ++ (printed_token (a_terminal T.Else) ++ printed_tokens (in_braces (block_tokens (block_of b.items))))))
 tokens_branch s e a b is =
     ap (λ (x : Stmt). printed_tokens (statement_tokens (statement_of x))) is ∙ ap (λ (x : Statement Name). printed_tokens (statement_tokens x)) (statement_of_branch e a b) ∙ simp (flat_map-append, append_assoc)
 
-pub tokens_repeat : (s : Stmt) (e : Expr) (a : Vec Stmt Global) → s ≡ While e a → printed_tokens (statement_tokens (statement_of s)) ≡ printed_token (a_terminal T.While) ++ (printed_tokens (expression_tokens (expression_of e)) ++ printed_tokens (a_terminal T.OpenBrace ∷ (block_tokens (block_of a.items) ++ a_terminal T.CloseBrace ∷ [])))
+pub tokens_repeat : (s : Stmt) (e : Expr) (a : Vec Stmt Global) → s ≡ While e a → printed_tokens (statement_tokens (statement_of s)) ≡ printed_token (a_terminal T.While) ++ (printed_tokens (expression_tokens (expression_of e)) ++ printed_tokens (in_braces (block_tokens (block_of a.items))))
 tokens_repeat s e a is =
     ap (λ (x : Stmt). printed_tokens (statement_tokens (statement_of x))) is ∙ ap (λ (x : Statement Name). printed_tokens (statement_tokens x)) (statement_of_repeat e a) ∙ simp (flat_map-append, append_assoc)
 

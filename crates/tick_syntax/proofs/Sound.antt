@@ -1,5 +1,5 @@
 -- What the reader reads is what the grammar has, and where it stops nothing goes on.
-use Rattle.std.proofs.Common.{◌≡◌, ◌≢◌, ℕ, zero, suc, ◌+◌, ◌<◌, ◌≤◌, ◌⊎◌, inl, inr, true, false, List, [], ◌∷◌, ◌++◌, length, Some, None, Result, Ok, Err, refl, ◌∙◌, ap, subst, append_assoc, arith, nat_eq, eq-eqb}
+use Rattle.std.proofs.Common.{sym, ◌≡◌, ◌≢◌, ℕ, zero, suc, ◌+◌, ◌<◌, ◌≤◌, ◌⊎◌, inl, inr, true, false, List, [], ◌∷◌, ◌++◌, length, Some, None, Result, Ok, Err, refl, ◌∙◌, ap, subst, append_assoc, arith, nat_eq, eq-eqb}
 use Rattle.std.proofs.lemmas.Bool.{ne_eqb}
 use Rattle.tick_syntax.specs.declared.span.Span.{Span}
 use Rattle.tick_syntax.specs.declared.fault.TextFault.{TextFault}
@@ -7,10 +7,11 @@ use Rattle.tick_syntax.specs.declared.fault.TextFault.TheVariants as F
 use Rattle.tick_syntax.specs.declared.valued_token.ValuedToken.{ValuedToken}
 use Rattle.tick_syntax.specs.declared.valued_token.Meaning.{Meaning}
 use Rattle.tick_syntax.specs.declared.valued_token.Meaning.TheVariants as M
+use Rattle.tick_syntax.specs.declared.terminals.Terminal.{Terminal}
 use Rattle.tick_syntax.specs.declared.terminals.Terminal.TheVariants as T
 use Rattle.tick_syntax.specs.Lexeme.{Lexeme, a_name, a_terminal}
 use Rattle.tick_syntax.specs.Plain.{Name, Expression}
-use Rattle.tick_syntax.specs.Grammar.{IsExpression}
+use Rattle.tick_syntax.specs.Grammar.{expression_tokens}
 use Rattle.tick_syntax.specs.Nesting.{expression_nesting}
 use Rattle.machine_core.specs.Refusing.{◌>>=◌}
 use Rattle.tick_syntax.specs.prover.Reading.{Reading, next_at, terminal_at, terminal_by, operator_at, operator_by, name_at, name_by, pair_at, brackets_at, expression_by, expression_at, last_at}
@@ -43,6 +44,11 @@ not_ok h = cc
 
 the_err : {A : Type 0} (d e : TextFault) → refusal {A = A} d ≡ refusal e → d ≡ e
 the_err d e h = cc
+
+-- how lists that stand after one another are one list before the rest
+pub pair_regroups : (a : List Lexeme) (x : Lexeme) (b : List Lexeme) (y : Lexeme) (rest : List Lexeme)
+    → a ++ x ∷ (b ++ y ∷ rest) ≡ (a ++ x ∷ (b ++ y ∷ [])) ++ rest
+pair_regroups a x b y rest = simp append_assoc
 
 module _ (end limit : ℕ) where
   -- The symbols are read from the front, with something that P says of the value and the rest; or the
@@ -182,32 +188,30 @@ module _ (end limit : ℕ) where
     stops = λ e h st o. ap Some (the_err {A = V × List ValuedToken} _ e h);
   }
 
-  -- By the next token, if there is one.
-  pub by_next : {V : Type 0} (s : Symbol) (P : List Lexeme → V → List Lexeme → Type 0) (room : ℕ) (f : Meaning → Span → List ValuedToken → Reading V)
-      → ((m : Meaning) (span : Span) (rest : List ValuedToken)
-      → Reads (s ∷ []) (P (said_by m span ∷ says rest)) room (record { meaning = m; span = span } ∷ rest) (f m span rest))
-      → (is : List ValuedToken) → Reads (s ∷ []) (P (says is)) room is (next_at end is >>= λ x. f x.0.meaning x.0.span x.1)
-  unfolding next_at
-  by_next {V} s P room f h [] = nothing_left s (P []) room
-  by_next s P room f h (i ∷ is) = h i.meaning i.span is
-
-  -- The same, where the reading goes back to the token.
-  pub by_next_whole : {V : Type 0} (s : Symbol) (P : List Lexeme → V → List Lexeme → Type 0) (room : ℕ)
+  -- By the next token, if there is one, where the reading may go back to it.
+  pub by_next_whole : {V : Type 0} (s : Symbol) (P : List ValuedToken → V → List Lexeme → Type 0) (room : ℕ)
       (f : List ValuedToken → Meaning → Span → List ValuedToken → Reading V)
       → ((m : Meaning) (span : Span) (rest : List ValuedToken)
-      → Reads (s ∷ []) (P (said_by m span ∷ says rest)) room (record { meaning = m; span = span } ∷ rest)
+      → Reads (s ∷ []) (P (record { meaning = m; span = span } ∷ rest)) room (record { meaning = m; span = span } ∷ rest)
       (f (record { meaning = m; span = span } ∷ rest) m span rest))
-      → (is : List ValuedToken) → Reads (s ∷ []) (P (says is)) room is (next_at end is >>= λ x. f is x.0.meaning x.0.span x.1)
+      → (is : List ValuedToken) → Reads (s ∷ []) (P is) room is (next_at end is >>= λ x. f is x.0.meaning x.0.span x.1)
   unfolding next_at
   by_next_whole {V} s P room f h [] = nothing_left s (P []) room
   by_next_whole s P room f h (i ∷ is) = h i.meaning i.span is
 
+  -- The same, where it goes on.
+  pub by_next : {V : Type 0} (s : Symbol) (P : List ValuedToken → V → List Lexeme → Type 0) (room : ℕ) (f : Meaning → Span → List ValuedToken → Reading V)
+      → ((m : Meaning) (span : Span) (rest : List ValuedToken)
+      → Reads (s ∷ []) (P (record { meaning = m; span = span } ∷ rest)) room (record { meaning = m; span = span } ∷ rest) (f m span rest))
+      → (is : List ValuedToken) → Reads (s ∷ []) (P is) room is (next_at end is >>= λ x. f x.0.meaning x.0.span x.1)
+  by_next s P room f h is = by_next_whole s P room (λ whole m span rest. f m span rest) h is
+
   -- The same, with what is read after it.
-  pub by_next_then : {U V : Type 0} (s : Symbol) (P : List Lexeme → V → List Lexeme → Type 0) (room : ℕ)
+  pub by_next_then : {U V : Type 0} (s : Symbol) (P : List ValuedToken → V → List Lexeme → Type 0) (room : ℕ)
       (f : Meaning → Span → List ValuedToken → Reading U) (g : U × List ValuedToken → Reading V)
       → ((m : Meaning) (span : Span) (rest : List ValuedToken)
-      → Reads (s ∷ []) (P (said_by m span ∷ says rest)) room (record { meaning = m; span = span } ∷ rest) (f m span rest >>= g))
-      → (is : List ValuedToken) → Reads (s ∷ []) (P (says is)) room is ((next_at end is >>= λ x. f x.0.meaning x.0.span x.1) >>= g)
+      → Reads (s ∷ []) (P (record { meaning = m; span = span } ∷ rest)) room (record { meaning = m; span = span } ∷ rest) (f m span rest >>= g))
+      → (is : List ValuedToken) → Reads (s ∷ []) (P is) room is ((next_at end is >>= λ x. f x.0.meaning x.0.span x.1) >>= g)
   unfolding next_at
   by_next_then {U} {V} s P room f g h [] = nothing_left s (P []) room
   by_next_then s P room f g h (i ∷ is) = h i.meaning i.span is
@@ -233,75 +237,57 @@ module _ (end limit : ℕ) where
     stops = inner.stops;
   }
 
-  semicolon_front : (room : ℕ) (m : Meaning) (span : Span) (rest : List ValuedToken)
-      → Reads (s_semicolon ∷ []) (λ v r. said_by m span ∷ says rest ≡ a_terminal T.Semicolon ∷ r) room
-      (record { meaning = m; span = span } ∷ rest) (terminal_by T.Semicolon m span rest)
-  semicolon_front room (M.Terminal T.Semicolon) span rest = accept _ _ room _ span rest tt refl (λ st. refl) refl
-  semicolon_front room m span rest = refuse _ _ room m span rest refl
+  -- What the symbol stands for is one token, which says what the value was made of.
+  abbrev pub ReadsOne : {V : Type 0} → Symbol → (V → Lexeme) → (Meaning → Span → List ValuedToken → Reading V) → Type 0
+  ReadsOne s token f =
+      (room : ℕ) (m : Meaning) (span : Span) (rest : List ValuedToken)
+      → Reads (s ∷ []) (λ v r. said_by m span ∷ says rest ≡ token v ∷ r) room (record { meaning = m; span = span } ∷ rest) (f m span rest)
 
-  pub semicolon_reads : (room : ℕ) (is : List ValuedToken)
-      → Reads (s_semicolon ∷ []) (λ v r. says is ≡ a_terminal T.Semicolon ∷ r) room is (terminal_at end T.Semicolon is)
+  abbrev pub ReadsTerminal : Symbol → Terminal → Type 0
+  ReadsTerminal s w = ReadsOne s (λ v. a_terminal w) (terminal_by w)
+
+  pub semicolon_one : ReadsTerminal s_semicolon T.Semicolon
+  semicolon_one room (M.Terminal T.Semicolon) span rest = accept _ _ room _ span rest tt refl (λ st. refl) refl
+  semicolon_one room m span rest = refuse _ _ room m span rest refl
+
+  pub becomes_one : ReadsTerminal s_becomes T.Becomes
+  becomes_one room (M.Terminal T.Becomes) span rest = accept _ _ room _ span rest tt refl (λ st. refl) refl
+  becomes_one room m span rest = refuse _ _ room m span rest refl
+
+  pub else_one : ReadsTerminal s_else T.Else
+  else_one room (M.Terminal T.Else) span rest = accept _ _ room _ span rest tt refl (λ st. refl) refl
+  else_one room m span rest = refuse _ _ room m span rest refl
+
+  close_one : ReadsTerminal s_close T.Close
+  close_one room (M.Terminal T.Close) span rest = accept _ _ room _ span rest tt refl (λ st. refl) refl
+  close_one room m span rest = refuse _ _ room m span rest refl
+
+  operator_one : ReadsOne s_operator (λ op. a_terminal (T.Operator op)) operator_by
+  operator_one room (M.Terminal (T.Operator op)) span rest = accept _ _ room _ span rest op refl (λ st. refl) refl
+  operator_one room m span rest = refuse _ _ room m span rest refl
+
+  name_one : ReadsOne s_name a_name name_by
+  name_one room (M.Name letters) span rest = accept _ _ room _ span rest _ refl (λ st. refl) refl
+  name_one room m span rest = refuse _ _ room m span rest refl
+
+  pub terminal_reads : (s : Symbol) (w : Terminal) → ReadsTerminal s w → (room : ℕ) (is : List ValuedToken)
+      → Reads (s ∷ []) (λ v r. says is ≡ a_terminal w ∷ r) room is (terminal_at end w is)
   unfolding terminal_at
-  semicolon_reads room is = by_next s_semicolon (λ ts v r. ts ≡ a_terminal T.Semicolon ∷ r) room (terminal_by T.Semicolon) (semicolon_front room) is
+  terminal_reads s w one room is = by_next s (λ js v r. says js ≡ a_terminal w ∷ r) room (terminal_by w) (one room) is
 
-  becomes_front : (room : ℕ) (m : Meaning) (span : Span) (rest : List ValuedToken)
-      → Reads (s_becomes ∷ []) (λ v r. said_by m span ∷ says rest ≡ a_terminal T.Becomes ∷ r) room
-      (record { meaning = m; span = span } ∷ rest) (terminal_by T.Becomes m span rest)
-  becomes_front room (M.Terminal T.Becomes) span rest = accept _ _ room _ span rest tt refl (λ st. refl) refl
-  becomes_front room m span rest = refuse _ _ room m span rest refl
-
-  pub becomes_reads : (room : ℕ) (is : List ValuedToken)
-      → Reads (s_becomes ∷ []) (λ v r. says is ≡ a_terminal T.Becomes ∷ r) room is (terminal_at end T.Becomes is)
-  unfolding terminal_at
-  becomes_reads room is = by_next s_becomes (λ ts v r. ts ≡ a_terminal T.Becomes ∷ r) room (terminal_by T.Becomes) (becomes_front room) is
-
-  else_front : (room : ℕ) (m : Meaning) (span : Span) (rest : List ValuedToken)
-      → Reads (s_else ∷ []) (λ v r. said_by m span ∷ says rest ≡ a_terminal T.Else ∷ r) room
-      (record { meaning = m; span = span } ∷ rest) (terminal_by T.Else m span rest)
-  else_front room (M.Terminal T.Else) span rest = accept _ _ room _ span rest tt refl (λ st. refl) refl
-  else_front room m span rest = refuse _ _ room m span rest refl
-
-  pub else_reads : (room : ℕ) (is : List ValuedToken)
-      → Reads (s_else ∷ []) (λ v r. says is ≡ a_terminal T.Else ∷ r) room is (terminal_at end T.Else is)
-  unfolding terminal_at
-  else_reads room is = by_next s_else (λ ts v r. ts ≡ a_terminal T.Else ∷ r) room (terminal_by T.Else) (else_front room) is
-
-  close_front : (room : ℕ) (m : Meaning) (span : Span) (rest : List ValuedToken)
-      → Reads (s_close ∷ []) (λ v r. said_by m span ∷ says rest ≡ a_terminal T.Close ∷ r) room
-      (record { meaning = m; span = span } ∷ rest) (terminal_by T.Close m span rest)
-  close_front room (M.Terminal T.Close) span rest = accept _ _ room _ span rest tt refl (λ st. refl) refl
-  close_front room m span rest = refuse _ _ room m span rest refl
-
-  pub close_reads : (room : ℕ) (is : List ValuedToken)
-      → Reads (s_close ∷ []) (λ v r. says is ≡ a_terminal T.Close ∷ r) room is (terminal_at end T.Close is)
-  unfolding terminal_at
-  close_reads room is = by_next s_close (λ ts v r. ts ≡ a_terminal T.Close ∷ r) room (terminal_by T.Close) (close_front room) is
-
-  operator_front : (room : ℕ) (m : Meaning) (span : Span) (rest : List ValuedToken)
-      → Reads (s_operator ∷ []) (λ v r. said_by m span ∷ says rest ≡ a_terminal (T.Operator v) ∷ r) room
-      (record { meaning = m; span = span } ∷ rest) (operator_by m span rest)
-  operator_front room (M.Terminal (T.Operator op)) span rest = accept _ _ room _ span rest op refl (λ st. refl) refl
-  operator_front room m span rest = refuse _ _ room m span rest refl
-
-  pub operator_reads : (room : ℕ) (is : List ValuedToken)
+  operator_reads : (room : ℕ) (is : List ValuedToken)
       → Reads (s_operator ∷ []) (λ v r. says is ≡ a_terminal (T.Operator v) ∷ r) room is (operator_at end is)
   unfolding operator_at
-  operator_reads room is = by_next s_operator (λ ts v r. ts ≡ a_terminal (T.Operator v) ∷ r) room operator_by (operator_front room) is
-
-  name_front : (room : ℕ) (m : Meaning) (span : Span) (rest : List ValuedToken)
-      → Reads (s_name ∷ []) (λ v r. said_by m span ∷ says rest ≡ a_name v ∷ r) room
-      (record { meaning = m; span = span } ∷ rest) (name_by m span rest)
-  name_front room (M.Name letters) span rest = accept _ _ room _ span rest _ refl (λ st. refl) refl
-  name_front room m span rest = refuse _ _ room m span rest refl
+  operator_reads room is = by_next s_operator (λ js v r. says js ≡ a_terminal (T.Operator v) ∷ r) room operator_by (operator_one room) is
 
   pub name_reads : (room : ℕ) (is : List ValuedToken)
       → Reads (s_name ∷ []) (λ v r. says is ≡ a_name v ∷ r) room is (name_at end is)
   unfolding name_at
-  name_reads room is = by_next s_name (λ ts v r. ts ≡ a_name v ∷ r) room name_by (name_front room) is
+  name_reads room is = by_next s_name (λ js v r. says js ≡ a_name v ∷ r) room name_by (name_one room) is
 
-  -- an expression of no more brackets within one another than there is room for
+  -- the tokens of an expression of no more brackets within one another than there is room for
   abbrev pub IsExpressionIn : ℕ → List Lexeme → Expression Name → List Lexeme → Type 0
-  IsExpressionIn room ts e rest = IsExpression ts e rest × (expression_nesting e ≤ room)
+  IsExpressionIn room ts e rest = (ts ≡ expression_tokens e ++ rest) × (expression_nesting e ≤ room)
 
   abbrev ReadsExpressions : ℕ → (List ValuedToken → Reading (Expression Name)) → Type 0
   ReadsExpressions room read = (is : List ValuedToken) → Reads (s_expression ∷ []) (IsExpressionIn room (says is)) room is (read is)
@@ -315,14 +301,9 @@ module _ (end limit : ℕ) where
       reads_bind (s_expression ∷ []) (s_operator ∷ s_expression ∷ s_close ∷ []) _ Q room is _ _ (λ st. refl) (reads is) (λ a da.
       reads_bind (s_operator ∷ []) (s_expression ∷ s_close ∷ []) _ Q room a.1 _ _ (λ st. refl) (operator_reads room a.1) (λ op dop.
       reads_bind (s_expression ∷ []) (s_close ∷ []) _ Q room op.1 _ _ (λ st. refl) (reads op.1) (λ b db.
-      reads_map (s_close ∷ []) _ Q room b.1 _ _ (close_reads room b.1) (λ c rest dc. (
-        (
-          says is,
-          says op.1,
-          refl,
-          subst (λ z. IsExpression (says is) a.0 z) dop da.0,
-          subst (λ z. IsExpression (says op.1) b.0 z) dc db.0,
-        ),
+      reads_map (s_close ∷ []) _ Q room b.1 _ _ (terminal_reads s_close T.Close close_one room b.1) (λ c rest dc. (
+        ap (λ z. a_terminal T.Open ∷ z) (da.0 ∙ ap (λ z. expression_tokens a.0 ++ z) (dop ∙ ap (λ z. a_terminal (T.Operator op.0) ∷ z) (db.0 ∙ ap (λ z. expression_tokens b.0 ++ z) dc))
+            ∙ pair_regroups (expression_tokens a.0) (a_terminal (T.Operator op.0)) (expression_tokens b.0) (a_terminal T.Close) rest),
         (let l : expression_nesting a.0 ≤ room = da.1 in let k : expression_nesting b.0 ≤ room = db.1 in omega arith),
       )))))
 
@@ -340,7 +321,7 @@ module _ (end limit : ℕ) where
       → (m : Meaning) (span : Span) (rest : List ValuedToken)
       → Reads (s_expression ∷ []) (IsExpressionIn room (said_by m span ∷ says rest)) room
       (record { meaning = m; span = span } ∷ rest) (expression_by end m span rest (brackets span rest))
-  expression_front room brackets h (M.Number v) span rest = accept _ _ room _ span rest _ refl (λ st. refl) ((span, refl), omega arith)
+  expression_front room brackets h (M.Number v) span rest = accept _ _ room _ span rest _ refl (λ st. refl) (refl, omega arith)
   expression_front room brackets h (M.Name letters) span rest = accept _ _ room _ span rest _ refl (λ st. refl) (refl, omega arith)
   expression_front room brackets h (M.Terminal T.Me) span rest = accept _ _ room _ span rest _ refl (λ st. refl) (refl, omega arith)
   expression_front room brackets h (M.Terminal T.Count) span rest = accept _ _ room _ span rest _ refl (λ st. refl) (refl, omega arith)
@@ -354,22 +335,22 @@ module _ (end limit : ℕ) where
   brackets_read zero span rest = refuse_deep _ _ _ span rest _ refl (λ st o. full_at (opened st) o)
   brackets_read (suc room) span rest =
       enter _ _ (suc room) room _ span rest _ _ refl (λ st o. (free_at (opened st) room o, omega arith))
-      (pair_reads room _ (λ is. by_next s_expression (IsExpressionIn room) room
+      (pair_reads room _ (λ is. by_next s_expression (λ js. IsExpressionIn room (says js)) room
       (λ m s r. expression_by end m s r (brackets_at end room s r))
       (expression_front room (brackets_at end room) (brackets_read room)) is) rest)
 
   pub expression_reads : (room : ℕ) (is : List ValuedToken)
       → Reads (s_expression ∷ []) (IsExpressionIn room (says is)) room is (expression_at end room is)
   unfolding expression_at
-  expression_reads room is = by_next s_expression (IsExpressionIn room) room
+  expression_reads room is = by_next s_expression (λ js. IsExpressionIn room (says js)) room
       (λ m s r. expression_by end m s r (brackets_at end room s r))
       (expression_front room (brackets_at end room) (brackets_read room)) is
 
   pub last_reads : (room : ℕ) (is : List ValuedToken)
       → Reads (s_expression ∷ s_semicolon ∷ [])
-      (λ e rest. IsExpressionIn room (says is) e (a_terminal T.Semicolon ∷ rest)) room is (last_at end room is)
+      (λ e rest. (says is ≡ (expression_tokens e ++ a_terminal T.Semicolon ∷ []) ++ rest) × (expression_nesting e ≤ room)) room is (last_at end room is)
   unfolding last_at
   last_reads room is =
       reads_bind (s_expression ∷ []) (s_semicolon ∷ []) _ _ room is _ _ (λ st. refl) (expression_reads room is) (λ e de.
-      reads_map (s_semicolon ∷ []) _ _ room e.1 _ _ (semicolon_reads room e.1) (λ s rest ds.
-      subst (λ z. IsExpressionIn room (says is) e.0 z) ds de))
+      reads_map (s_semicolon ∷ []) _ _ room e.1 _ _ (terminal_reads s_semicolon T.Semicolon semicolon_one room e.1) (λ s rest ds.
+      (de.0 ∙ ap (λ z. expression_tokens e.0 ++ z) ds ∙ sym (append_assoc (expression_tokens e.0) (a_terminal T.Semicolon ∷ []) rest), de.1)))

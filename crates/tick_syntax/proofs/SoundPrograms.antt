@@ -1,5 +1,5 @@
 -- What the reader reads is what the grammar has: whole programs.
-use Rattle.std.proofs.Common.{◌≡◌, ℕ, ◌≤◌, List, [], ◌∷◌, Some, None, Ok, Err, refl, sym, ◌∙◌, ap, subst, arith, inl, inr}
+use Rattle.std.proofs.Common.{append_assoc, map, ◌≡◌, ℕ, ◌≤◌, List, [], ◌∷◌, ◌++◌, Some, None, Ok, Err, refl, sym, ◌∙◌, ap, subst, arith, inl, inr}
 use Rattle.tick_syntax.specs.declared.span.Span.{Span}
 use Rattle.tick_syntax.specs.declared.fault.TextFault.{TextFault}
 use Rattle.tick_syntax.specs.declared.fault.TextFault.TheVariants as F
@@ -13,18 +13,24 @@ use Rattle.tick_syntax.specs.declared.terminals.Terminal.{Terminal}
 use Rattle.tick_syntax.specs.declared.terminals.Terminal.TheVariants as T
 use Rattle.tick_syntax.specs.Lexeme.{Lexeme, a_name, a_number, a_terminal}
 use Rattle.tick_syntax.specs.Plain.{Name, Block, WholeProgram}
-use Rattle.tick_syntax.specs.Grammar.{IsBlock, AreNames, IsSection, Derives}
+use Rattle.tick_syntax.specs.Grammar.{block_tokens, names_tokens, section_tokens, program_tokens, second_span}
 use Rattle.tick_syntax.specs.Nesting.{block_nesting, nesting}
 use Rattle.machine_core.specs.Refusing.{◌>>=◌}
 use Rattle.tick_syntax.specs.prover.Reading.{Reading, next_at, terminal_at, terminal_by, number_at, number_by, name_by, names_by, names_at, begins, section_by, section_at, statements_at, body_at, whole_at, program_at, nothing_after}
+use Rattle.std.proofs.lemmas.List.{append-nil}
+use Rattle.tick_syntax.specs.prover.ValuedTokens.{plain}
 use Rattle.tick_syntax.proofs.Symbols.{said_by, said, says, Symbol, s_program, s_number, s_semicolon, s_variables, s_scans, s_registers, s_begin, s_names, s_more, s_until, fault}
-use Rattle.tick_syntax.proofs.Sound.{bind_ok, bind_err, Reads, reads_bind, reads_map, refuse, accept, enter, by_next, by_next_then, stand_in, weaken, nothing_left, semicolon_reads}
+use Rattle.tick_syntax.proofs.Sound.{bind_ok, bind_err, Reads, reads_bind, reads_map, refuse, accept, enter, by_next, by_next_then, stand_in, weaken, nothing_left, semicolon_one, terminal_reads}
 use Rattle.tick_syntax.proofs.SoundStatements.{statements_reads}
+
+program_regroups : (v s r : List Lexeme) (x : Lexeme) (b : List Lexeme) (y : Lexeme) (rest : List Lexeme)
+    → v ++ (s ++ (r ++ x ∷ (b ++ y ∷ rest))) ≡ (v ++ (s ++ (r ++ x ∷ (b ++ y ∷ [])))) ++ rest
+program_regroups v s r x b y rest = simp append_assoc
 
 module _ (end limit : ℕ) where
   -- one name or more, and the `;` after them
   abbrev pub AreSome : List Lexeme → List Name → List Lexeme → Type 0
-  AreSome ts xs rest = (x : Name) × (ys : List Name) × (xs ≡ x ∷ ys) × AreNames ts x ys (a_terminal T.Semicolon ∷ rest)
+  AreSome ts xs rest = (x : Name) × (ys : List Name) × (xs ≡ x ∷ ys) × (ts ≡ names_tokens x ys ++ a_terminal T.Semicolon ∷ rest)
 
   more_front : (room : ℕ) (x : Name) (m : Meaning) (span : Span) (rest : List ValuedToken) (more : Reading (List Name))
       → Reads end limit (s_names ∷ []) (AreSome (says rest)) room rest more
@@ -33,7 +39,7 @@ module _ (end limit : ℕ) where
   more_front room x (M.Terminal T.Comma) span rest more h =
       enter end limit _ _ room room _ span rest _ _ refl (λ st o. (refl, o))
       (reads_map end limit (s_names ∷ []) _ _ room rest more (λ xs. x ∷ xs) h
-      (λ xs r d. (x, d.0 ∷ d.1, ap (λ z. x ∷ z) d.2, (says rest, refl, d.3))))
+      (λ xs r d. (x, d.0 ∷ d.1, ap (λ z. x ∷ z) d.2, ap (λ z. a_name x ∷ a_terminal T.Comma ∷ z) d.3)))
   more_front room x (M.Terminal T.Semicolon) span rest more h = accept end limit _ _ room _ span rest _ refl (λ st. refl) (x, [], refl, refl)
   more_front room x m span rest more h = refuse end limit _ _ room m span rest refl
 
@@ -73,12 +79,15 @@ module _ (end limit : ℕ) where
   section_terminal C.Scans = T.Scan
   section_terminal C.Registers = T.Reg
 
-  declared : (terminal : Terminal) (ts : List Lexeme) (xs : List Name) (rest : List Lexeme) → AreSome ts xs rest → IsSection terminal (a_terminal terminal ∷ ts) xs rest
-  declared terminal ts xs rest d = subst (λ z. IsSection terminal (a_terminal terminal ∷ ts) z rest) (sym d.2) (ts, refl, d.3)
+  declared : (terminal : Terminal) (ts : List Lexeme) (xs : List Name) (rest : List Lexeme) → AreSome ts xs rest
+      → a_terminal terminal ∷ ts ≡ section_tokens terminal xs ++ rest
+  declared terminal ts xs rest d =
+      subst (λ z. a_terminal terminal ∷ ts ≡ section_tokens terminal z ++ rest) (sym d.2)
+      (ap (λ z. a_terminal terminal ∷ z) (d.3 ∙ sym (append_assoc (names_tokens d.0 d.1) (a_terminal T.Semicolon ∷ []) rest)))
 
   section_front : {V : Type 0} (room : ℕ) (section : Section) (Q : V → List Lexeme → Type 0) (F : List Name × List ValuedToken → Reading V)
       (m : Meaning) (span : Span) (rest : List ValuedToken)
-      → ((x : List Name × List ValuedToken) → IsSection (section_terminal section) (said_by m span ∷ says rest) x.0 (says x.1)
+      → ((x : List Name × List ValuedToken) → said_by m span ∷ says rest ≡ section_tokens (section_terminal section) x.0 ++ says x.1
       → Reads end limit (after_section section ∷ []) Q room x.1 (F x))
       → Reads end limit (section_symbol section ∷ []) Q room (record { meaning = m; span = span } ∷ rest)
       (section_by end (begins section m) (record { meaning = m; span = span } ∷ rest) rest >>= F)
@@ -99,7 +108,7 @@ module _ (end limit : ℕ) where
       stand_in end limit (section_symbol section) (after_section section ∷ []) Q room is _ (λ st. refl) (λ st. refl) (h ([], is) refl)
 
   section_reads : {V : Type 0} (room : ℕ) (section : Section) (Q : V → List Lexeme → Type 0) (F : List Name × List ValuedToken → Reading V) (is : List ValuedToken)
-      → ((x : List Name × List ValuedToken) → IsSection (section_terminal section) (says is) x.0 (says x.1)
+      → ((x : List Name × List ValuedToken) → says is ≡ section_tokens (section_terminal section) x.0 ++ says x.1
       → Reads end limit (after_section section ∷ []) Q room x.1 (F x))
       → Reads end limit (section_symbol section ∷ []) Q room is (section_at end section is >>= F)
   unfolding section_at next_at
@@ -108,42 +117,37 @@ module _ (end limit : ℕ) where
 
   -- `begin`, a block and `end`
   abbrev pub IsBody : ℕ → List Lexeme → Block Name → List Lexeme → Type 0
-  IsBody room ts b rest = (w : List Lexeme) × (ts ≡ a_terminal T.Begin ∷ w) × IsBlock T.End w b rest × (block_nesting b ≤ room)
+  IsBody room ts b rest = (ts ≡ a_terminal T.Begin ∷ (block_tokens b ++ a_terminal T.End ∷ rest)) × (block_nesting b ≤ room)
 
   begin_front : (room : ℕ) (m : Meaning) (span : Span) (rest : List ValuedToken)
       → Reads end limit (s_begin ∷ []) (IsBody room (said_by m span ∷ says rest)) room (record { meaning = m; span = span } ∷ rest)
       (terminal_by T.Begin m span rest >>= λ b. statements_at end room N.Program b.1)
   begin_front room (M.Terminal T.Begin) span rest = enter end limit _ _ room room _ span rest (s_until N.Program ∷ []) _ refl (λ st o. (refl, o))
-      (weaken end limit _ _ _ room rest _ (statements_reads end limit room N.Program rest) (λ b r d. (says rest, refl, d.0, d.1)))
+      (weaken end limit _ _ _ room rest _ (statements_reads end limit room N.Program rest) (λ b r d. (ap (λ z. a_terminal T.Begin ∷ z) d.0, d.1)))
   begin_front room m span rest = refuse end limit _ _ room m span rest refl
 
   body_reads : (room : ℕ) (is : List ValuedToken) → Reads end limit (s_begin ∷ []) (IsBody room (says is)) room is (body_at end room is)
   unfolding body_at terminal_at
-  body_reads room is = by_next_then end limit s_begin (IsBody room) room (terminal_by T.Begin) (λ b. statements_at end room N.Program b.1) (begin_front room) is
+  body_reads room is = by_next_then end limit s_begin (λ js. IsBody room (says js)) room (terminal_by T.Begin) (λ b. statements_at end room N.Program b.1) (begin_front room) is
+
+  -- a number, and where it stands if one token is before it
+  abbrev IsNumber : List ValuedToken → ℕ × Span → List Lexeme → Type 0
+  IsNumber is v rest = (says is ≡ a_number v.0 ∷ rest) × ((i : ValuedToken) → second_span (map plain (i ∷ is)) ≡ v.1)
 
   number_front : (room : ℕ) (m : Meaning) (span : Span) (rest : List ValuedToken)
-      → Reads end limit (s_number ∷ []) (λ v r. said_by m span ∷ says rest ≡ a_number v.0 v.1 ∷ r) room
+      → Reads end limit (s_number ∷ []) (IsNumber (record { meaning = m; span = span } ∷ rest)) room
       (record { meaning = m; span = span } ∷ rest) (number_by m span rest)
-  number_front room (M.Number v) span rest = accept end limit _ _ room _ span rest _ refl (λ st. refl) refl
+  number_front room (M.Number v) span rest = accept end limit _ _ room _ span rest _ refl (λ st. refl) (refl, λ i. refl)
   number_front room m span rest = refuse end limit _ _ room m span rest refl
 
-  number_reads : (room : ℕ) (is : List ValuedToken)
-      → Reads end limit (s_number ∷ []) (λ v r. says is ≡ a_number v.0 v.1 ∷ r) room is (number_at end is)
+  number_reads : (room : ℕ) (is : List ValuedToken) → Reads end limit (s_number ∷ []) (IsNumber is) room is (number_at end is)
   unfolding number_at
-  number_reads room is = by_next end limit s_number (λ ts v r. ts ≡ a_number v.0 v.1 ∷ r) room number_by (number_front room) is
+  number_reads room is = by_next end limit s_number IsNumber room number_by (number_front room) is
 
   -- a program and what follows it
-  abbrev pub DerivesThen : List Lexeme → WholeProgram Name → List Lexeme → Type 0
-  DerivesThen ts p rest =
-      (t u v w : List Lexeme)
-      × (ts ≡ a_terminal T.Processes ∷ a_number p.processes p.span ∷ a_terminal T.Semicolon ∷ t)
-      × IsSection T.Var t p.variables u
-      × IsSection T.Scan u p.scans v
-      × IsSection T.Reg v p.registers (a_terminal T.Begin ∷ w)
-      × IsBlock T.End w p.body rest
-
-  abbrev pub IsProgram : ℕ → List Lexeme → WholeProgram Name → List Lexeme → Type 0
-  IsProgram room ts p rest = DerivesThen ts p rest × (nesting p ≤ room)
+  abbrev pub IsProgram : ℕ → List ValuedToken → WholeProgram Name → List Lexeme → Type 0
+  IsProgram room is p rest =
+      (says is ≡ program_tokens p ++ rest) × (second_span (map plain is) ≡ p.span) × (nesting p ≤ room)
 
   abbrev made : ℕ × Span → List Name → List Name → List Name → Block Name → WholeProgram Name
   made n variables scans registers body =
@@ -156,33 +160,29 @@ module _ (end limit : ℕ) where
       >>= λ registers. body_at end room registers.1 >>= λ body. Ok (made n.0 variables.0 scans.0 registers.0 body.0, body.1)
 
   processes_front : (room : ℕ) (m : Meaning) (span : Span) (rest : List ValuedToken)
-      → Reads end limit (s_program ∷ []) (IsProgram room (said_by m span ∷ says rest)) room (record { meaning = m; span = span } ∷ rest)
+      → Reads end limit (s_program ∷ []) (IsProgram room (record { meaning = m; span = span } ∷ rest)) room (record { meaning = m; span = span } ∷ rest)
       (terminal_by T.Processes m span rest >>= after_processes room)
   processes_front room (M.Terminal T.Processes) span rest =
-      let Q : WholeProgram Name → List Lexeme → Type 0 = IsProgram room (a_terminal T.Processes ∷ says rest) in
+      let first : ValuedToken = record { meaning = M.Terminal T.Processes; span = span } in
+      let Q : WholeProgram Name → List Lexeme → Type 0 = IsProgram room (first ∷ rest) in
       enter end limit _ Q room room _ span rest (s_number ∷ s_semicolon ∷ s_variables ∷ []) _ refl (λ st o. (refl, o))
       (reads_bind end limit (s_number ∷ []) (s_semicolon ∷ s_variables ∷ []) _ Q room rest _ _ (λ st. refl) (number_reads room rest) (λ n dn.
-      reads_bind end limit (s_semicolon ∷ []) (s_variables ∷ []) _ Q room n.1 _ _ (λ st. refl) (semicolon_reads end limit room n.1) (λ s ds.
+      reads_bind end limit (s_semicolon ∷ []) (s_variables ∷ []) _ Q room n.1 _ _ (λ st. refl)
+      (terminal_reads end limit s_semicolon T.Semicolon (semicolon_one end limit) room n.1) (λ s ds.
       section_reads room C.Variables Q _ s.1 (λ variables dv.
       section_reads room C.Scans Q _ variables.1 (λ scans dc.
       section_reads room C.Registers Q _ scans.1 (λ registers dr.
       reads_map end limit (s_begin ∷ []) _ Q room registers.1 _ (λ body. made n.0 variables.0 scans.0 registers.0 body) (body_reads room registers.1) (λ body tail db. (
-        (
-          says s.1,
-          says variables.1,
-          says scans.1,
-          db.0,
-          ap (λ z. a_terminal T.Processes ∷ z) (dn ∙ ap (λ z. a_number n.0.0 n.0.1 ∷ z) ds),
-          dv,
-          dc,
-          subst (λ z. IsSection T.Reg (says scans.1) registers.0 z) db.1 dr,
-          db.2,
-        ),
-        db.3,
+        ap (λ z. a_terminal T.Processes ∷ z) (dn.0 ∙ ap (λ z. a_number n.0.0 ∷ z) (ds ∙ ap (λ z. a_terminal T.Semicolon ∷ z)
+            (dv ∙ ap (λ z. section_tokens T.Var variables.0 ++ z) (dc ∙ ap (λ z. section_tokens T.Scan scans.0 ++ z) (dr ∙ ap (λ z. section_tokens T.Reg registers.0 ++ z) db.0))
+            ∙ program_regroups (section_tokens T.Var variables.0) (section_tokens T.Scan scans.0) (section_tokens T.Reg registers.0)
+            (a_terminal T.Begin) (block_tokens body) (a_terminal T.End) tail))),
+        dn.1 first,
+        db.1,
       ))))))))
   processes_front room m span rest = refuse end limit _ _ room m span rest refl
 
-  pub whole_reads : (room : ℕ) (is : List ValuedToken) → Reads end limit (s_program ∷ []) (IsProgram room (says is)) room is (whole_at end room is)
+  pub whole_reads : (room : ℕ) (is : List ValuedToken) → Reads end limit (s_program ∷ []) (IsProgram room is) room is (whole_at end room is)
   unfolding whole_at terminal_at
   whole_reads room is = by_next_then end limit s_program (IsProgram room) room (terminal_by T.Processes) (after_processes room) (processes_front room) is
 
@@ -197,19 +197,27 @@ module _ (end room : ℕ) where
   past_end p [] e h = absurd (cc)
   past_end p (i ∷ is) e h = let k : F.Unexpected i.span ≡ e = cc in ap Some k
 
-  pub program_ok : (is : List ValuedToken) (p : WholeProgram Name) → program_at end room is ≡ Ok p
-      → Derives (says is) p × (nesting p ≤ room) × (fault end room is (s_program ∷ []) ≡ None)
+  -- what the tokens are where the reader answers a program
+  pub record IsRead (is : List ValuedToken) (p : WholeProgram Name) : Type 0 where
+    pub says_it : says is ≡ program_tokens p
+    pub stands : second_span (map plain is) ≡ p.span
+    pub shallow : nesting p ≤ room
+    pub none : fault end room is (s_program ∷ []) ≡ None
+
+  pub program_ok : (is : List ValuedToken) (p : WholeProgram Name) → program_at end room is ≡ Ok p → IsRead is p
   unfolding program_at
   program_ok is p h =
       let b = bind_ok (whole_at end room is) (λ x. nothing_after end x.0 x.1) p h in
       let r = whole_reads end room room is in
       let a = at_end b.0.0 b.0.1 p b.2 in
-      let d : IsProgram end room room (says is) b.0.0 (says b.0.1) = r.found b.0 b.1 in
-      let g : fault end room is (s_program ∷ []) ≡ fault end room b.0.1 [] = r.goes b.0 b.1 [] (omega arith) in (
-        subst (Derives (says is)) a.0 (subst (λ z. DerivesThen end room (says is) b.0.0 (says z)) a.1 d.0),
-        subst (λ z. nesting z ≤ room) a.0 d.1,
-        g ∙ a.2,
-      )
+      let d : IsProgram end room room is b.0.0 (says b.0.1) = r.found b.0 b.1 in
+      let g : fault end room is (s_program ∷ []) ≡ fault end room b.0.1 [] = r.goes b.0 b.1 [] (omega arith) in
+      subst (IsRead is) a.0 (record {
+        says_it = d.0 ∙ ap (λ z. program_tokens b.0.0 ++ says z) a.1 ∙ append-nil (program_tokens b.0.0);
+        stands = d.1;
+        shallow = d.2;
+        none = g ∙ a.2;
+      })
 
   pub program_err : (is : List ValuedToken) (e : TextFault) → program_at end room is ≡ Err e → fault end room is (s_program ∷ []) ≡ Some e
   unfolding program_at

@@ -1,5 +1,5 @@
 -- What the reader reads is what the grammar has: statements.
-use Rattle.std.proofs.Common.{◌≡◌, ℕ, zero, suc, ◌<◌, ◌≤◌, List, [], ◌∷◌, length, Ok, refl, sym, ◌∙◌, ap, subst, arith}
+use Rattle.std.proofs.Common.{append_assoc, ◌≡◌, ℕ, zero, suc, ◌<◌, ◌≤◌, List, [], ◌∷◌, ◌++◌, length, Ok, refl, sym, ◌∙◌, ap, subst, arith}
 use Rattle.tick_syntax.specs.declared.span.Span.{Span}
 use Rattle.tick_syntax.specs.declared.valued_token.ValuedToken.{ValuedToken}
 use Rattle.tick_syntax.specs.declared.valued_token.Ending.{Ending}
@@ -10,24 +10,26 @@ use Rattle.tick_syntax.specs.declared.terminals.Terminal.{Terminal}
 use Rattle.tick_syntax.specs.declared.terminals.Terminal.TheVariants as T
 use Rattle.tick_syntax.specs.Lexeme.{Lexeme, a_name, a_terminal}
 use Rattle.tick_syntax.specs.Plain.{Name, Statement, Block, nil}
-use Rattle.tick_syntax.specs.Grammar.{IsExpression, IsStatement, IsBlock}
+use Rattle.tick_syntax.specs.Grammar.{expression_tokens, in_braces, statement_tokens, block_tokens}
 use Rattle.tick_syntax.specs.Nesting.{expression_nesting, statement_nesting, block_nesting}
 use Rattle.machine_core.specs.Refusing.{◌>>=◌}
 use Rattle.tick_syntax.specs.prover.Reading.{Reading, next_at, brace_at, brace_by, get_at, scan_at, copy_at, older_at, plain_at, right_by, right_at, assignment_at, put_at, stamp_at, out_at, branch_at, repeat_at, statement_by, statement_with, block_by, ends, statements_with, block_at, statement_at, statements_at}
 use Rattle.tick_syntax.proofs.Symbols.{said_by, says, s_semicolon, s_name, s_becomes, s_else, s_expression, s_right, s_block, s_statement, s_until, opened}
-use Rattle.tick_syntax.proofs.Sound.{Reads, reads_bind, reads_bind_shorter, reads_map, refuse, refuse_deep, accept, enter, by_next, by_next_whole, by_next_then, stand_in, weaken, nothing_left, semicolon_reads, becomes_reads, else_reads, name_reads, expression_reads, last_reads, full_at, free_at}
+use Rattle.tick_syntax.proofs.Sound.{Reads, reads_bind, reads_bind_shorter, reads_map, refuse, refuse_deep, accept, enter, by_next, by_next_whole, by_next_then, stand_in, weaken, nothing_left, semicolon_one, becomes_one, else_one, terminal_reads, name_reads, expression_reads, last_reads, full_at, free_at}
+
+pub branch_regroups : (a b : List Lexeme) (x : Lexeme) (c rest : List Lexeme) → a ++ (b ++ x ∷ (c ++ rest)) ≡ (a ++ (b ++ x ∷ c)) ++ rest
+branch_regroups a b x c rest = simp append_assoc
 
 module _ (end limit : ℕ) where
   abbrev pub IsStatementIn : ℕ → List Lexeme → Statement Name → List Lexeme → Type 0
-  IsStatementIn room ts s rest = IsStatement ts s rest × (statement_nesting s ≤ room)
+  IsStatementIn room ts s rest = (ts ≡ statement_tokens s ++ rest) × (statement_nesting s ≤ room)
 
   abbrev pub IsBlockIn : ℕ → Terminal → List Lexeme → Block Name → List Lexeme → Type 0
-  IsBlockIn room last ts b rest = IsBlock last ts b rest × (block_nesting b ≤ room)
+  IsBlockIn room last ts b rest = (ts ≡ block_tokens b ++ a_terminal last ∷ rest) × (block_nesting b ≤ room)
 
-  -- a block with its brace
+  -- a block in its braces
   abbrev pub IsBraced : ℕ → List Lexeme → Block Name → List Lexeme → Type 0
-  IsBraced room ts b rest =
-      (u : List Lexeme) × (ts ≡ a_terminal T.OpenBrace ∷ u) × IsBlock T.CloseBrace u b rest × (suc (block_nesting b) ≤ room)
+  IsBraced room ts b rest = (ts ≡ in_braces (block_tokens b) ++ rest) × (suc (block_nesting b) ≤ room)
 
   get_reads : (room : ℕ) (x : Name) (is : List ValuedToken)
       → Reads end limit (s_name ∷ s_expression ∷ s_semicolon ∷ [])
@@ -36,14 +38,14 @@ module _ (end limit : ℕ) where
   get_reads room x is =
       reads_bind end limit (s_name ∷ []) (s_expression ∷ s_semicolon ∷ []) _ _ room is _ _ (λ st. refl) (name_reads end limit room is) (λ r dr.
       reads_map end limit (s_expression ∷ s_semicolon ∷ []) _ _ room r.1 _ _ (last_reads end limit room r.1) (λ e rest de.
-      ((says r.1, ap (λ z. a_name x ∷ a_terminal T.Becomes ∷ a_terminal T.Get ∷ z) dr, de.0), de.1)))
+      (ap (λ z. a_name x ∷ a_terminal T.Becomes ∷ a_terminal T.Get ∷ z) (dr ∙ ap (λ z. a_name r.0 ∷ z) de.0), de.1)))
 
   scan_reads : (room : ℕ) (x : Name) (is : List ValuedToken)
       → Reads end limit (s_semicolon ∷ [])
       (IsStatementIn room (a_name x ∷ a_terminal T.Becomes ∷ a_terminal T.Scan ∷ says is)) room is (scan_at end x is)
   unfolding scan_at
   scan_reads room x is =
-      reads_map end limit (s_semicolon ∷ []) _ _ room is _ _ (semicolon_reads end limit room is) (λ s rest ds.
+      reads_map end limit (s_semicolon ∷ []) _ _ room is _ _ (terminal_reads end limit s_semicolon T.Semicolon (semicolon_one end limit) room is) (λ s rest ds.
       (ap (λ z. a_name x ∷ a_terminal T.Becomes ∷ a_terminal T.Scan ∷ z) ds, omega arith))
 
   copy_reads : (room : ℕ) (x : Name) (is : List ValuedToken)
@@ -52,7 +54,7 @@ module _ (end limit : ℕ) where
   unfolding copy_at
   copy_reads room x is =
       reads_bind end limit (s_name ∷ []) (s_semicolon ∷ []) _ _ room is _ _ (λ st. refl) (name_reads end limit room is) (λ n dn.
-      reads_map end limit (s_semicolon ∷ []) _ _ room n.1 _ _ (semicolon_reads end limit room n.1) (λ s rest ds.
+      reads_map end limit (s_semicolon ∷ []) _ _ room n.1 _ _ (terminal_reads end limit s_semicolon T.Semicolon (semicolon_one end limit) room n.1) (λ s rest ds.
       (ap (λ z. a_name x ∷ a_terminal T.Becomes ∷ a_terminal T.Copy ∷ z) (dn ∙ ap (λ z. a_name n.0 ∷ z) ds), omega arith)))
 
   older_reads : (room : ℕ) (x : Name) (is : List ValuedToken)
@@ -63,7 +65,8 @@ module _ (end limit : ℕ) where
       reads_bind end limit (s_name ∷ []) (s_expression ∷ s_expression ∷ s_semicolon ∷ []) _ _ room is _ _ (λ st. refl) (name_reads end limit room is) (λ s ds.
       reads_bind end limit (s_expression ∷ []) (s_expression ∷ s_semicolon ∷ []) _ _ room s.1 _ _ (λ st. refl) (expression_reads end limit room s.1) (λ a da.
       reads_map end limit (s_expression ∷ s_semicolon ∷ []) _ _ room a.1 _ _ (last_reads end limit room a.1) (λ b rest db. (
-        (says s.1, says a.1, ap (λ z. a_name x ∷ a_terminal T.Becomes ∷ a_terminal T.Older ∷ z) ds, da.0, db.0),
+        ap (λ z. a_name x ∷ a_terminal T.Becomes ∷ a_terminal T.Older ∷ z) (ds ∙ ap (λ z. a_name s.0 ∷ z)
+            (da.0 ∙ ap (λ z. expression_tokens a.0 ++ z) db.0 ∙ sym (append_assoc (expression_tokens a.0) (expression_tokens b ++ a_terminal T.Semicolon ∷ []) rest))),
         (let l : expression_nesting a.0 ≤ room = da.1 in let k : expression_nesting b ≤ room = db.1 in omega arith),
       ))))
 
@@ -73,7 +76,7 @@ module _ (end limit : ℕ) where
   unfolding plain_at
   plain_reads room x is =
       reads_map end limit (s_expression ∷ s_semicolon ∷ []) _ _ room is _ _ (last_reads end limit room is) (λ e rest de.
-      ((says is, refl, de.0), de.1))
+      (ap (λ z. a_name x ∷ a_terminal T.Becomes ∷ z) de.0, de.1))
 
   right_front : (room : ℕ) (x : Name) (m : Meaning) (span : Span) (rest : List ValuedToken)
       → Reads end limit (s_right ∷ []) (IsStatementIn room (a_name x ∷ a_terminal T.Becomes ∷ said_by m span ∷ says rest)) room
@@ -89,14 +92,14 @@ module _ (end limit : ℕ) where
   right_reads : (room : ℕ) (x : Name) (is : List ValuedToken)
       → Reads end limit (s_right ∷ []) (IsStatementIn room (a_name x ∷ a_terminal T.Becomes ∷ says is)) room is (right_at end room x is)
   unfolding right_at
-  right_reads room x is = by_next_whole end limit s_right (λ ts. IsStatementIn room (a_name x ∷ a_terminal T.Becomes ∷ ts)) room
+  right_reads room x is = by_next_whole end limit s_right (λ js. IsStatementIn room (a_name x ∷ a_terminal T.Becomes ∷ says js)) room
       (λ whole m span rest. right_by end m room x whole rest) (right_front room x) is
 
   assignment_reads : (room : ℕ) (x : Name) (is : List ValuedToken)
       → Reads end limit (s_becomes ∷ s_right ∷ []) (IsStatementIn room (a_name x ∷ says is)) room is (assignment_at end room x is)
   unfolding assignment_at
   assignment_reads room x is =
-      reads_bind end limit (s_becomes ∷ []) (s_right ∷ []) _ _ room is _ _ (λ st. refl) (becomes_reads end limit room is) (λ b db.
+      reads_bind end limit (s_becomes ∷ []) (s_right ∷ []) _ _ room is _ _ (λ st. refl) (terminal_reads end limit s_becomes T.Becomes (becomes_one end limit) room is) (λ b db.
       subst (λ z. Reads end limit (s_right ∷ []) (IsStatementIn room (a_name x ∷ z)) room b.1 (right_at end room x b.1)) (sym db)
       (right_reads room x b.1))
 
@@ -106,13 +109,13 @@ module _ (end limit : ℕ) where
   put_reads room is =
       reads_bind end limit (s_name ∷ []) (s_expression ∷ s_semicolon ∷ []) _ _ room is _ _ (λ st. refl) (name_reads end limit room is) (λ r dr.
       reads_map end limit (s_expression ∷ s_semicolon ∷ []) _ _ room r.1 _ _ (last_reads end limit room r.1) (λ e rest de.
-      ((says r.1, ap (λ z. a_terminal T.Put ∷ z) dr, de.0), de.1)))
+      (ap (λ z. a_terminal T.Put ∷ z) (dr ∙ ap (λ z. a_name r.0 ∷ z) de.0), de.1)))
 
   stamp_reads : (room : ℕ) (is : List ValuedToken)
       → Reads end limit (s_semicolon ∷ []) (IsStatementIn room (a_terminal T.Stamp ∷ says is)) room is (stamp_at end is)
   unfolding stamp_at
   stamp_reads room is =
-      reads_map end limit (s_semicolon ∷ []) _ _ room is _ _ (semicolon_reads end limit room is) (λ s rest ds.
+      reads_map end limit (s_semicolon ∷ []) _ _ room is _ _ (terminal_reads end limit s_semicolon T.Semicolon (semicolon_one end limit) room is) (λ s rest ds.
       (ap (λ z. a_terminal T.Stamp ∷ z) ds, omega arith))
 
   out_reads : (room : ℕ) (is : List ValuedToken)
@@ -120,7 +123,7 @@ module _ (end limit : ℕ) where
   unfolding out_at
   out_reads room is =
       reads_map end limit (s_expression ∷ s_semicolon ∷ []) _ _ room is _ _ (last_reads end limit room is) (λ e rest de.
-      ((says is, refl, de.0), de.1))
+      (ap (λ z. a_terminal T.Out ∷ z) de.0, de.1))
 
   abbrev ReadsBlocks : ℕ → (List ValuedToken → Reading (Block Name)) → Type 0
   ReadsBlocks room block = (is : List ValuedToken) → Reads end limit (s_block ∷ []) (IsBraced room (says is)) room is (block is)
@@ -132,19 +135,13 @@ module _ (end limit : ℕ) where
   branch_reads room block reads is =
       reads_bind end limit (s_expression ∷ []) (s_block ∷ s_else ∷ s_block ∷ []) _ _ room is _ _ (λ st. refl) (expression_reads end limit room is) (λ e de.
       reads_bind end limit (s_block ∷ []) (s_else ∷ s_block ∷ []) _ _ room e.1 _ _ (λ st. refl) (reads e.1) (λ a da.
-      reads_bind end limit (s_else ∷ []) (s_block ∷ []) _ _ room a.1 _ _ (λ st. refl) (else_reads end limit room a.1) (λ o do_.
+      reads_bind end limit (s_else ∷ []) (s_block ∷ []) _ _ room a.1 _ _ (λ st. refl) (terminal_reads end limit s_else T.Else (else_one end limit) room a.1) (λ o do_.
       reads_map end limit (s_block ∷ []) _ _ room o.1 _ _ (reads o.1) (λ b rest db. (
-        (
-          says is,
-          da.0,
-          db.0,
-          refl,
-          subst (λ z. IsExpression (says is) e.0 z) da.1 de.0,
-          subst (λ z. IsBlock T.CloseBrace da.0 a.0 z) (do_ ∙ ap (λ z. a_terminal T.Else ∷ z) db.1) da.2,
-          db.2,
-        ),
-        (let l : expression_nesting e.0 ≤ room = de.1 in let k : suc (block_nesting a.0) ≤ room = da.3 in
-            let j : suc (block_nesting b) ≤ room = db.3 in omega arith),
+        ap (λ z. a_terminal T.If ∷ z) (de.0 ∙ ap (λ z. expression_tokens e.0 ++ z) (da.0 ∙ ap (λ z. in_braces (block_tokens a.0) ++ z)
+            (do_ ∙ ap (λ z. a_terminal T.Else ∷ z) db.0))
+            ∙ branch_regroups (expression_tokens e.0) (in_braces (block_tokens a.0)) (a_terminal T.Else) (in_braces (block_tokens b)) rest),
+        (let l : expression_nesting e.0 ≤ room = de.1 in let k : suc (block_nesting a.0) ≤ room = da.1 in
+            let j : suc (block_nesting b) ≤ room = db.1 in omega arith),
       )))))
 
   repeat_reads : (room : ℕ) (block : List ValuedToken → Reading (Block Name)) → ReadsBlocks room block → (is : List ValuedToken)
@@ -154,8 +151,8 @@ module _ (end limit : ℕ) where
   repeat_reads room block reads is =
       reads_bind end limit (s_expression ∷ []) (s_block ∷ []) _ _ room is _ _ (λ st. refl) (expression_reads end limit room is) (λ e de.
       reads_map end limit (s_block ∷ []) _ _ room e.1 _ _ (reads e.1) (λ a rest da. (
-        (says is, da.0, refl, subst (λ z. IsExpression (says is) e.0 z) da.1 de.0, da.2),
-        (let l : expression_nesting e.0 ≤ room = de.1 in let k : suc (block_nesting a) ≤ room = da.3 in omega arith),
+        ap (λ z. a_terminal T.While ∷ z) (de.0 ∙ ap (λ z. expression_tokens e.0 ++ z) da.0 ∙ sym (append_assoc (expression_tokens e.0) (in_braces (block_tokens a)) rest)),
+        (let l : expression_nesting e.0 ≤ room = de.1 in let k : suc (block_nesting a) ≤ room = da.1 in omega arith),
       )))
 
   statement_front : (room : ℕ) (block : List ValuedToken → Reading (Block Name)) → ReadsBlocks room block
@@ -176,7 +173,7 @@ module _ (end limit : ℕ) where
   with_reads : (room : ℕ) (block : List ValuedToken → Reading (Block Name)) → ReadsBlocks room block → (is : List ValuedToken)
       → Reads end limit (s_statement ∷ []) (IsStatementIn room (says is)) room is (statement_with end block room is)
   unfolding statement_with
-  with_reads room block reads is = by_next end limit s_statement (IsStatementIn room) room
+  with_reads room block reads is = by_next end limit s_statement (λ js. IsStatementIn room (says js)) room
       (λ m span rest. statement_by end m span block room rest) (statement_front room block reads) is
 
   abbrev pub last_terminal : Ending → Terminal
@@ -202,7 +199,7 @@ module _ (end limit : ℕ) where
       stand_in end limit (s_until ending) (s_statement ∷ s_until ending ∷ []) _ room is _ (λ st. refl) (λ st. refl)
       (reads_bind_shorter end limit (s_statement ∷ []) (s_until ending ∷ []) _ _ room is _ _ (λ st. refl) (reads is) (λ s ds l.
       reads_map end limit (s_until ending ∷ []) _ _ room s.1 _ _ (go s.1 l) (λ b tail db. (
-        (says s.1, ds.0, db.0),
+        ds.0 ∙ ap (λ z. statement_tokens s.0 ++ z) db.0 ∙ sym (append_assoc (statement_tokens s.0) (block_tokens b) (a_terminal (last_terminal ending) ∷ tail)),
         (let j : statement_nesting s.0 ≤ room = ds.1 in let k : block_nesting b ≤ room = db.1 in omega arith),
       ))))
 
@@ -223,7 +220,10 @@ module _ (end limit : ℕ) where
       (record { meaning = m; span = span } ∷ rest) (brace_by m (suc room) span rest >>= λ x. f x.1)
   block_front room f reads (M.Terminal T.OpenBrace) span rest =
       enter end limit _ _ (suc room) room _ span rest _ _ refl (λ st o. (free_at end limit (opened st) room o, omega arith))
-      (weaken end limit _ _ _ room rest _ (reads rest) (λ b r d. (says rest, refl, d.0, (let k : block_nesting b ≤ room = d.1 in omega arith))))
+      (weaken end limit _ _ _ room rest _ (reads rest) (λ b r d. (
+        ap (λ z. a_terminal T.OpenBrace ∷ z) (d.0 ∙ sym (append_assoc (block_tokens b) (a_terminal T.CloseBrace ∷ []) r)),
+        (let k : block_nesting b ≤ room = d.1 in omega arith),
+      )))
   block_front room f reads m span rest = refuse end limit _ _ (suc room) m span rest refl
 
   block_front_zero : (m : Meaning) (span : Span) (rest : List ValuedToken)
@@ -234,8 +234,8 @@ module _ (end limit : ℕ) where
 
   block_reads : (room : ℕ) → ReadsBlocks room (block_at end room)
   unfolding block_at brace_at
-  block_reads zero is = by_next_then end limit s_block (IsBraced 0) 0 (λ m span rest. brace_by m 0 span rest) (λ x. Ok (nil, x.1)) block_front_zero is
-  block_reads (suc room) is = by_next_then end limit s_block (IsBraced (suc room)) (suc room) (λ m span rest. brace_by m (suc room) span rest) _
+  block_reads zero is = by_next_then end limit s_block (λ js. IsBraced 0 (says js)) 0 (λ m span rest. brace_by m 0 span rest) (λ x. Ok (nil, x.1)) block_front_zero is
+  block_reads (suc room) is = by_next_then end limit s_block (λ js. IsBraced (suc room) (says js)) (suc room) (λ m span rest. brace_by m (suc room) span rest) _
       (block_front room (λ js. statements_with end (statement_with end (block_at end room) room) N.Braces (suc (length js)) js)
       (λ js. list_reads room _ (with_reads room (block_at end room) (block_reads room)) N.Braces (suc (length js)) js (omega arith))) is
 

@@ -5,8 +5,9 @@ use Rattle.tick_syntax.specs.declared.terminals.Terminal.{Terminal}
 use Rattle.tick_syntax.specs.declared.terminals.Terminal.TheVariants as T
 use Rattle.tick_syntax.specs.Lexeme.{Lexeme, a_name, a_number, a_terminal, nothing}
 use Rattle.tick_syntax.specs.Nesting.{expression_nesting, statement_nesting, block_nesting, nesting}
-use Rattle.tick_syntax.specs.Plain.{Name, Expression, number, named, me, count, binary, map_expression, Statement, assign, get, put, stamp, scan, copy, older, out, branch, repeat, map_statement, Block, nil, cons, map_block, WholeProgram, without_spans}
-use Rattle.tick_syntax.specs.Printed.{nowhere, expression_tokens, statement_tokens, block_tokens, names_tokens, section_tokens, program_tokens, printed_token, printed_tokens, printed}
+use Rattle.tick_syntax.specs.Plain.{nowhere, Name, Expression, number, named, me, count, binary, map_expression, Statement, assign, get, put, stamp, scan, copy, older, out, branch, repeat, map_statement, Block, nil, cons, map_block, WholeProgram, without_spans}
+use Rattle.tick_syntax.specs.Grammar.{expression_tokens, statement_tokens, block_tokens, names_tokens, section_tokens, program_tokens}
+use Rattle.tick_syntax.specs.Printed.{printed_token, printed_tokens, printed}
 use Rattle.tick_syntax.proofs.Spanless.{letters_of, spanless, spanless_all}
 
 -- how deep brackets stand, under a change of names
@@ -100,7 +101,7 @@ program_plain p =
 -- tokens are printed without regard to their spans
 token_plain : (t : Lexeme) → printed_token (spanless t) ≡ printed_token t
 token_plain (a_name x) = refl
-token_plain (a_number v span) = refl
+token_plain (a_number v) = refl
 token_plain (a_terminal w) = refl
 token_plain nothing = refl
 

@@ -1,21 +1,19 @@
 -- Where the reader stops, no program goes on.
-use Rattle.std.proofs.Common.{◌≡◌, ℕ, ◌≤◌, ◌⊎◌, inl, inr, Bool, true, false, List, [], ◌∷◌, ◌++◌, length, Option, Some, None, Result, Ok, Err, IfErr, refl, sym, ◌∙◌, ap, subst, arith}
+use Rattle.std.proofs.Common.{append_assoc, ◌≡◌, ℕ, ◌≤◌, ◌⊎◌, inl, inr, Bool, true, false, List, [], ◌∷◌, ◌++◌, length, Option, Some, None, refl, sym, ◌∙◌, ap, subst, arith}
 use Rattle.tick_syntax.specs.declared.span.Span.{Span}
 use Rattle.tick_syntax.specs.declared.fault.TextFault.{TextFault}
 use Rattle.tick_syntax.specs.declared.fault.TextFault.TheVariants as F
 use Rattle.tick_syntax.specs.declared.valued_token.ValuedToken.{ValuedToken}
 use Rattle.tick_syntax.specs.declared.token.Token.{Token}
-use Rattle.tick_syntax.specs.declared.tree.Tree.{Tree}
 use Rattle.tick_syntax.specs.prover.ValuedTokens.{SayAs}
 use Rattle.tick_syntax.specs.Lexeme.{lexeme_of, lexemes}
 use Rattle.tick_syntax.specs.Nesting.{IsOpening, open_by, open_after, IsShallow}
-use Rattle.tick_syntax.specs.prover.Reading.{GivesWhole, program_at}
-use Rattle.tick_syntax.specs.Refusal.{Begins, StopsAfter, IsUnexpected, IsTooDeep, IsOfGrammar, IsTextRefused}
+use Rattle.tick_syntax.specs.Refusal.{AllCanStand, Begins, StopsAfter, IsUnexpected, IsTooDeep, IsTextRefused}
 use Rattle.tick_syntax.specs.Spelling.{FaultAfter, FirstRefusal}
-use Rattle.tick_syntax.specs.View.{tree_of}
+use Rattle.std.proofs.lemmas.List.{map-append}
 use Rattle.tick_syntax.proofs.Symbols.{said, Symbol, s_program, step, opened, is_full, on_stack, run_by, run, fault_by, fault}
-use Rattle.tick_syntax.proofs.SoundPrograms.{program_err}
-use Rattle.tick_syntax.proofs.Continuations.{opens_to, full_is, fits_by, run_append, derives_runs, goes_on, goes_on_runs}
+use Rattle.tick_syntax.proofs.Continuations.{opens_to, full_is, fits_by, run_append, program_runs, goes_on, goes_on_runs}
+use Rattle.tick_syntax.proofs.TokensThatStand.{middle_stands}
 
 module _ (end : ℕ) (text : List ℕ) where
   -- the symbols that are left refuse what comes next
@@ -37,39 +35,34 @@ module _ (end : ℕ) (text : List ℕ) where
     pub depth : open_after (lexemes text front) (opened st) ≡ opened left
     pub stop : StopsAt rest left e
 
+  -- it stops before all of them
+  stopped_here : (ts : List Token) (st : List Symbol) (e : TextFault) → StopsAt ts st e → Stopped ts st e
+  stopped_here ts st e stop = record {
+    front = [];
+    rest = ts;
+    split = refl;
+    shallow = tt;
+    left = st;
+    runs = refl;
+    depth = refl;
+    stop = stop;
+  }
+
   the_fault : (d e : TextFault) → Some d ≡ Some e → e ≡ d
   the_fault d e h = cc
-
-  no_option : {A : Type 0} (e : A) → (let o : Option A = None in o) ≡ Some e → ⊥
-  no_option e h = cc
 
   stop_step : (t : Token) (ts : List Token) (span : Span) → span ≡ t.span → (s : Symbol) (st : List Symbol) (e : TextFault)
       (o : Option (List Symbol)) (b : Bool) → step s (lexeme_of text t) ≡ o → is_full 64 (lexeme_of text t) (opened (s ∷ st)) ≡ b
       → opened (s ∷ st) ≤ 64 → (more : List Symbol → Option TextFault) → fault_by (on_stack o st) b span more ≡ Some e
       → ((new : List Symbol) → opened (new ++ st) ≤ 64 → more (new ++ st) ≡ Some e → Stopped ts (new ++ st) e)
       → Stopped (t ∷ ts) (s ∷ st) e
-  stop_step t ts span same s st e None b is_none full l more k go = record {
-    front = [];
-    rest = t ∷ ts;
-    split = refl;
-    shallow = tt;
-    left = s ∷ st;
-    runs = refl;
-    depth = refl;
-    stop = inl (the_fault (F.Unexpected span) e k ∙ ap F.Unexpected same, ap (λ z. run_by (on_stack z st) (run [])) is_none);
-  }
+  stop_step t ts span same s st e None b is_none full l more k go =
+      stopped_here (t ∷ ts) (s ∷ st) e
+      (inl (the_fault (F.Unexpected span) e k ∙ ap F.Unexpected same, ap (λ z. run_by (on_stack z st) (run [])) is_none))
   stop_step t ts span same s st e (Some new) true is_some full l more k go =
       let f = full_is 64 (lexeme_of text t) (opened (s ∷ st)) full in
-      record {
-        front = [];
-        rest = t ∷ ts;
-        split = refl;
-        shallow = tt;
-        left = s ∷ st;
-        runs = refl;
-        depth = refl;
-        stop = inr (the_fault (F.TooDeep span) e k ∙ ap F.TooDeep same, f.0, f.1, new ++ st, ap (λ z. run_by (on_stack z st) (run [])) is_some);
-      }
+      stopped_here (t ∷ ts) (s ∷ st) e
+      (inr (the_fault (F.TooDeep span) e k ∙ ap F.TooDeep same, f.0, f.1, new ++ st, ap (λ z. run_by (on_stack z st) (run [])) is_some))
   stop_step t ts span same s st e (Some new) false is_some full l more k go =
       let d : opened (new ++ st) ≡ open_by (lexeme_of text t) (opened (s ∷ st)) = opens_to s (lexeme_of text t) new is_some st in
       let fits : open_by (lexeme_of text t) (opened (s ∷ st)) ≤ 64 = fits_by (lexeme_of text t) (opened (s ∷ st)) l full in
@@ -87,44 +80,23 @@ module _ (end : ℕ) (text : List ℕ) where
 
   stopped : (is : List ValuedToken) (ts : List Token) (st : List Symbol) (e : TextFault) → SayAs text is ts → opened st ≤ 64
       → fault end 64 is st ≡ Some e → Stopped ts st e
-  stopped [] [] [] e same l h = absurd (no_option e h)
-  stopped [] [] (s ∷ st) e same l h = record {
-    front = [];
-    rest = [];
-    split = refl;
-    shallow = tt;
-    left = s ∷ st;
-    runs = refl;
-    depth = refl;
-    stop = the_fault _ e h;
-  }
+  stopped [] [] [] e same l h = absurd (cc)
+  stopped [] [] (s ∷ st) e same l h = stopped_here [] (s ∷ st) e (the_fault _ e h)
   stopped [] (t ∷ ts) st e same l h = absurd same
   stopped (i ∷ is) [] st e same l h = absurd same
-  stopped (i ∷ is) (t ∷ ts) [] e same l h = record {
-    front = [];
-    rest = t ∷ ts;
-    split = refl;
-    shallow = tt;
-    left = [];
-    runs = refl;
-    depth = refl;
-    stop = inl (the_fault (F.Unexpected i.span) e h ∙ ap F.Unexpected same.0.1, refl);
-  }
+  stopped (i ∷ is) (t ∷ ts) [] e same l h =
+      stopped_here (t ∷ ts) [] e (inl (the_fault (F.Unexpected i.span) e h ∙ ap F.Unexpected same.0.1, refl))
   stopped (i ∷ is) (t ∷ ts) (s ∷ st) e same l h =
       stop_step t ts i.span same.0.1 s st e (step s (lexeme_of text t)) (is_full 64 (lexeme_of text t) (opened (s ∷ st))) refl refl l
       (fault end 64 is)
       (subst (λ z. fault_by (on_stack (step s z) st) (is_full 64 z (opened (s ∷ st))) i.span (fault end 64 is) ≡ Some e) same.0.0 h)
       (λ new m k. stopped is ts (new ++ st) e same.1 m k)
 
-lexemes_append : (text : List ℕ) (a : List Token) (t : Token) → lexemes text (a ++ t ∷ []) ≡ lexemes text a ++ lexeme_of text t ∷ []
-lexemes_append text [] t = refl
-lexemes_append text (u ∷ a) t = ap (λ z. lexeme_of text u ∷ z) (lexemes_append text a t)
-
 -- one token more
 runs_more : (text : List ℕ) (front : List Token) (t : Token) (left : List Symbol) → run (lexemes text front) (s_program ∷ []) ≡ Some left
     → run (lexemes text (front ++ t ∷ [])) (s_program ∷ []) ≡ run (lexeme_of text t ∷ []) left
 runs_more text front t left h =
-    ap (λ z. run z (s_program ∷ [])) (lexemes_append text front t)
+    ap (λ z. run z (s_program ∷ [])) (map-append (lexeme_of text) front (t ∷ []))
     ∙ run_append (lexemes text front) (lexeme_of text t ∷ []) (s_program ∷ [])
     ∙ ap (λ z. run_by z (run (lexeme_of text t ∷ []))) h
 
@@ -140,75 +112,59 @@ not_deep a b h = cc
 not_same : (s : Symbol) (st : List Symbol) → Some [] ≡ Some (s ∷ st) → ⊥
 not_same s st h = cc
 
-unexpected_here : (text : List ℕ) (front rest : List Token) (left : List Symbol) (place : Span)
-    → run (lexemes text front) (s_program ∷ []) ≡ Some left → StopsAt (length text) text rest left (F.Unexpected place)
-    → StopsAfter text front rest place
-unexpected_here text front [] [] place r h = absurd h
-unexpected_here text front [] (s ∷ st) place r h =
-    (same_place _ _ h, λ p d. not_same s st (sym (derives_runs (lexemes text front) p d) ∙ r))
-unexpected_here text front (t ∷ rest) left place r (inl h) =
-    (same_place _ _ h.0, λ g. goes_on_runs (lexemes text (front ++ t ∷ [])) g (runs_more text front t left r ∙ h.1))
-unexpected_here text front (t ∷ rest) left place r (inr h) = absurd (not_deep _ _ h.0)
+module _ (text : List ℕ) (ts : List Token) (all : AllCanStand (lexemes text ts)) where
+  -- a text can have what stands at the front, and one token more
+  front_stands : (front rest : List Token) → ts ≡ front ++ rest → AllCanStand (lexemes text front)
+  front_stands front rest e = middle_stands text [] front rest (subst (λ z. AllCanStand (lexemes text z)) e all)
 
-pub is_unexpected : (text : List ℕ) (is : List ValuedToken) (ts : List Token) (place : Span) → SayAs text is ts
-    → fault (length text) 64 is (s_program ∷ []) ≡ Some (F.Unexpected place) → IsUnexpected text ts place
-is_unexpected text is ts place same h =
-    let r = stopped (length text) text is ts (s_program ∷ []) (F.Unexpected place) same (omega arith) h in (
-      r.front,
-      r.rest,
-      r.split,
-      (goes_on (lexemes text r.front) r.left r.runs, r.shallow),
-      unexpected_here text r.front r.rest r.left place r.runs r.stop,
-    )
+  more_stands : (front : List Token) (t : Token) (rest : List Token) → ts ≡ front ++ t ∷ rest → AllCanStand (lexemes text (front ++ t ∷ []))
+  more_stands front t rest e = front_stands (front ++ t ∷ []) rest (e ∙ sym (append_assoc front (t ∷ []) rest))
 
-deep_here : (text : List ℕ) (ts front rest : List Token) (left : List Symbol) (place : Span) → ts ≡ front ++ rest
-    → Begins (lexemes text front) → open_after (lexemes text front) 0 ≡ opened left
-    → run (lexemes text front) (s_program ∷ []) ≡ Some left → StopsAt (length text) text rest left (F.TooDeep place)
-    → IsTooDeep text ts place
-deep_here text ts front [] [] place e b o r h = absurd h
-deep_here text ts front [] (s ∷ st) place e b o r h = absurd (not_deep _ _ (sym h))
-deep_here text ts front (t ∷ rest) left place e b o r (inl h) = absurd (not_deep _ _ (sym h.0))
-deep_here text ts front (t ∷ rest) left place e b o r (inr h) = (
-  front,
-  t,
-  rest,
-  e,
-  b,
-  o ∙ h.2,
-  h.1,
-  goes_on (lexemes text (front ++ t ∷ [])) h.3 (runs_more text front t left r ∙ h.4),
-  same_deep _ _ h.0,
-)
+  unexpected_here : (front rest : List Token) (left : List Symbol) (place : Span) → ts ≡ front ++ rest
+      → run (lexemes text front) (s_program ∷ []) ≡ Some left → StopsAt (length text) text rest left (F.Unexpected place)
+      → StopsAfter text front rest place
+  unexpected_here front [] [] place e r h = absurd h
+  unexpected_here front [] (s ∷ st) place e r h =
+      (same_place _ _ h, λ p d. not_same s st (sym (program_runs (lexemes text front) (front_stands front [] e) p d) ∙ r))
+  unexpected_here front (t ∷ rest) left place e r (inl h) =
+      (same_place _ _ h.0, λ g. goes_on_runs (lexemes text (front ++ t ∷ [])) (more_stands front t rest e) g (runs_more text front t left r ∙ h.1))
+  unexpected_here front (t ∷ rest) left place e r (inr h) = absurd (not_deep _ _ h.0)
 
-pub is_too_deep : (text : List ℕ) (is : List ValuedToken) (ts : List Token) (place : Span) → SayAs text is ts
-    → fault (length text) 64 is (s_program ∷ []) ≡ Some (F.TooDeep place) → IsTooDeep text ts place
-is_too_deep text is ts place same h =
-    let r = stopped (length text) text is ts (s_program ∷ []) (F.TooDeep place) same (omega arith) h in
-    deep_here text ts r.front r.rest r.left place r.split (goes_on (lexemes text r.front) r.left r.runs, r.shallow) r.depth r.runs r.stop
+  pub is_unexpected : (is : List ValuedToken) (place : Span) → SayAs text is ts
+      → fault (length text) 64 is (s_program ∷ []) ≡ Some (F.Unexpected place) → IsUnexpected text ts place
+  is_unexpected is place same h =
+      let r = stopped (length text) text is ts (s_program ∷ []) (F.Unexpected place) same (omega arith) h in (
+        r.front,
+        r.rest,
+        r.split,
+        (goes_on (lexemes text r.front) r.left (front_stands r.front r.rest r.split) r.runs, r.shallow),
+        unexpected_here r.front r.rest r.left place r.split r.runs r.stop,
+      )
 
-the_error : (d e : TextFault) → (let r : Result Tree TextFault = Err d in r) ≡ Err e → d ≡ e
-the_error d e h = cc
+  deep_here : (front rest : List Token) (left : List Symbol) (place : Span) → ts ≡ front ++ rest
+      → Begins (lexemes text front) → open_after (lexemes text front) 0 ≡ opened left
+      → run (lexemes text front) (s_program ∷ []) ≡ Some left → StopsAt (length text) text rest left (F.TooDeep place)
+      → IsTooDeep text ts place
+  deep_here front [] [] place e b o r h = absurd h
+  deep_here front [] (s ∷ st) place e b o r h = absurd (not_deep _ _ (sym h))
+  deep_here front (t ∷ rest) left place e b o r (inl h) = absurd (not_deep _ _ (sym h.0))
+  deep_here front (t ∷ rest) left place e b o r (inr h) = (
+    front,
+    t,
+    rest,
+    e,
+    b,
+    o ∙ h.2,
+    h.1,
+    goes_on (lexemes text (front ++ t ∷ [])) h.3 (more_stands front t rest e) (runs_more text front t left r ∙ h.4),
+    same_deep _ _ h.0,
+  )
 
-gave : (text : List ℕ) (is : List ValuedToken) (r : Result Tree TextFault) (e : TextFault) → GivesWhole tree_of r (program_at (length text) 64 is)
-    → r ≡ Err e → (e ≡ F.NoMemory → ⊥) → fault (length text) 64 is (s_program ∷ []) ≡ Some e
-gave text is (Ok tree) e h k n = absurd (cc)
-gave text is (Err F.NoMemory) e h k n = absurd (n (sym (the_error _ e k)))
-gave text is (Err d) e h k n = program_err (length text) 64 is d h ∙ ap Some (the_error d e k)
-
-pub parsed_unexpected : (text : List ℕ) (is : List ValuedToken) (ts : List Token) (r : Result Tree TextFault) (place : Span)
-    → SayAs text is ts → GivesWhole tree_of r (program_at (length text) 64 is) → r ≡ Err (F.Unexpected place) → IsUnexpected text ts place
-parsed_unexpected text is ts r place same h k = is_unexpected text is ts place same (gave text is r _ h k (λ e. cc))
-
-pub parsed_too_deep : (text : List ℕ) (is : List ValuedToken) (ts : List Token) (r : Result Tree TextFault) (place : Span)
-    → SayAs text is ts → GivesWhole tree_of r (program_at (length text) 64 is) → r ≡ Err (F.TooDeep place) → IsTooDeep text ts place
-parsed_too_deep text is ts r place same h k = is_too_deep text is ts place same (gave text is r _ h k (λ e. cc))
-
--- an error that is of memory is no other
-pub memory_alone : (e : TextFault) (place : Span) → e ≡ F.NoMemory → (let r : Result Tree TextFault = Err e in r) ≡ Err (F.Unexpected place) → ⊥
-memory_alone e place h k = cc
-
-pub memory_alone_deep : (e : TextFault) (place : Span) → e ≡ F.NoMemory → (let r : Result Tree TextFault = Err e in r) ≡ Err (F.TooDeep place) → ⊥
-memory_alone_deep e place h k = cc
+  pub is_too_deep : (is : List ValuedToken) (place : Span) → SayAs text is ts
+      → fault (length text) 64 is (s_program ∷ []) ≡ Some (F.TooDeep place) → IsTooDeep text ts place
+  is_too_deep is place same h =
+      let r = stopped (length text) text is ts (s_program ∷ []) (F.TooDeep place) same (omega arith) h in
+      deep_here r.front r.rest r.left place r.split (goes_on (lexemes text r.front) r.left (front_stands r.front r.rest r.split) r.runs, r.shallow) r.depth r.runs r.stop
 
 -- The faults of a text's tokens are none of the grammar's.
 no_unexpected : (at : ℕ) (text : List ℕ) (before : List Token) (place : Span) → FaultAfter at text before (F.Unexpected place) → ⊥
@@ -218,15 +174,6 @@ no_unexpected at text (t ∷ before) place h = no_unexpected t.span.end h.0 befo
 no_too_deep : (at : ℕ) (text : List ℕ) (before : List Token) (place : Span) → FaultAfter at text before (F.TooDeep place) → ⊥
 no_too_deep at text [] place h = h
 no_too_deep at text (t ∷ before) place h = no_too_deep t.span.end h.0 before place h.2
-
-the_fault_of : (d e : TextFault) → (let r : Result Tree TextFault = Err d in r) ≡ Err e → e ≡ d
-the_fault_of d e h = cc
-
-unexpected_is_not : (place : Span) → F.Unexpected place ≡ F.NoMemory → ⊥
-unexpected_is_not place h = cc
-
-deep_is_not : (place : Span) → F.TooDeep place ≡ F.NoMemory → ⊥
-deep_is_not place h = cc
 
 -- a refusal of the tokens is the text's
 pub first_is_refused : (text : List ℕ) (fault : TextFault) → FirstRefusal text fault → IsTextRefused text fault
@@ -238,43 +185,25 @@ first_is_refused text (F.Unexpected place) first = absurd (no_unexpected 0 text 
 first_is_refused text (F.TooDeep place) first = absurd (no_too_deep 0 text first.1.0 place first.1.1)
 first_is_refused text F.NoMemory first = first
 
--- The reader has no other refusals.
+-- the reader has no other refusals
+abbrev IsStop : TextFault → Type 0
+IsStop (F.Unexpected place) = Unit {0}
+IsStop (F.TooDeep place) = Unit {0}
+IsStop _ = ⊥
+
 some_same : (d e : TextFault) → Some d ≡ Some e → d ≡ e
 some_same d e h = cc
 
 of_step : (o : Option (List Symbol)) (b : Bool) (span : Span) (more : List Symbol → Option TextFault) (e : TextFault)
-    → fault_by o b span more ≡ Some e → ((new : List Symbol) → more new ≡ Some e → IsOfGrammar e) → IsOfGrammar e
-of_step None b span more e h go = subst IsOfGrammar (some_same (F.Unexpected span) e h) tt
-of_step (Some new) true span more e h go = subst IsOfGrammar (some_same (F.TooDeep span) e h) tt
+    → fault_by o b span more ≡ Some e → ((new : List Symbol) → more new ≡ Some e → IsStop e) → IsStop e
+of_step None b span more e h go = subst IsStop (some_same (F.Unexpected span) e h) tt
+of_step (Some new) true span more e h go = subst IsStop (some_same (F.TooDeep span) e h) tt
 of_step (Some new) false span more e h go = go new h
 
-pub of_fault : (end limit : ℕ) (is : List ValuedToken) (st : List Symbol) (e : TextFault) → fault end limit is st ≡ Some e → IsOfGrammar e
+pub of_fault : (end limit : ℕ) (is : List ValuedToken) (st : List Symbol) (e : TextFault) → fault end limit is st ≡ Some e → IsStop e
 of_fault end limit [] [] e h = absurd (cc)
-of_fault end limit [] (s ∷ st) e h = subst IsOfGrammar (some_same (F.Unexpected (record { start = end; end = end })) e h) tt
-of_fault end limit (i ∷ is) [] e h = subst IsOfGrammar (some_same (F.Unexpected i.span) e h) tt
+of_fault end limit [] (s ∷ st) e h = subst IsStop (some_same (F.Unexpected (record { start = end; end = end })) e h) tt
+of_fault end limit (i ∷ is) [] e h = subst IsStop (some_same (F.Unexpected i.span) e h) tt
 of_fault end limit (i ∷ is) (s ∷ st) e h =
     of_step (on_stack (step s (said i)) st) (is_full limit (said i) (opened (s ∷ st))) i.span (fault end limit is) e h
     (λ new k. of_fault end limit is new e k)
-
-pub parsed_others : (end : ℕ) (is : List ValuedToken) (r : Result Tree TextFault) → GivesWhole tree_of r (program_at end 64 is) → IfErr r IsOfGrammar
-parsed_others end is (Ok tree) h = tt
-parsed_others end is (Err F.NoMemory) h = tt
-parsed_others end is (Err e) h = of_fault end 64 is (s_program ∷ []) _ (program_err end 64 is _ h)
-
-pub others_by_memory : (e : TextFault) → e ≡ F.NoMemory → IsOfGrammar e
-others_by_memory e h = subst IsOfGrammar (sym h) tt
-
--- and want of memory is none of the tokens'
-memory_step : (o : Option (List Symbol)) (b : Bool) (span : Span) (more : List Symbol → Option TextFault)
-    → fault_by o b span more ≡ Some F.NoMemory → ((new : List Symbol) → more new ≡ Some F.NoMemory → ⊥) → ⊥
-memory_step None b span more h go = unexpected_is_not span (some_same (F.Unexpected span) F.NoMemory h)
-memory_step (Some new) true span more h go = deep_is_not span (some_same (F.TooDeep span) F.NoMemory h)
-memory_step (Some new) false span more h go = go new h
-
-pub no_memory : (end limit : ℕ) (is : List ValuedToken) (st : List Symbol) → fault end limit is st ≡ Some F.NoMemory → ⊥
-no_memory end limit [] [] h = cc
-no_memory end limit [] (s ∷ st) h = unexpected_is_not (record { start = end; end = end }) (some_same _ F.NoMemory h)
-no_memory end limit (i ∷ is) [] h = unexpected_is_not i.span (some_same (F.Unexpected i.span) F.NoMemory h)
-no_memory end limit (i ∷ is) (s ∷ st) h =
-    memory_step (on_stack (step s (said i)) st) (is_full limit (said i) (opened (s ∷ st))) i.span (fault end limit is) h
-    (λ new k. no_memory end limit is new k)

@@ -1,5 +1,5 @@
 -- What may still come, as a stack of symbols, and the first token at which nothing does.
-use Rattle.std.proofs.Common.{ℕ, suc, Bool, true, false, List, [], ◌∷◌, ◌++◌, Option, Some, None, nat_eq}
+use Rattle.std.proofs.Common.{◌≡◌, refl, ap, ◌∙◌, ℕ, suc, Bool, true, false, List, [], ◌∷◌, ◌++◌, Option, Some, None, nat_eq}
 use Rattle.tick_syntax.specs.declared.span.Span.{Span}
 use Rattle.tick_syntax.specs.declared.fault.TextFault.{TextFault}
 use Rattle.tick_syntax.specs.declared.fault.TextFault.TheVariants as F
@@ -7,12 +7,21 @@ use Rattle.tick_syntax.specs.declared.valued_token.ValuedToken.{ValuedToken}
 use Rattle.tick_syntax.specs.declared.valued_token.Ending.{Ending}
 use Rattle.tick_syntax.specs.declared.valued_token.Ending.TheVariants as N
 use Rattle.tick_syntax.specs.declared.terminals.Terminal.TheVariants as T
-use Rattle.tick_syntax.specs.Lexeme.{Lexeme, a_name, a_number, a_terminal}
+use Rattle.tick_syntax.specs.declared.token.Token.{Token}
+use Rattle.tick_syntax.specs.Lexeme.{Lexeme, a_name, a_number, a_terminal, lexeme_of, lexemes}
+use Rattle.tick_syntax.specs.prover.ValuedTokens.{SayAs}
 pub use Rattle.tick_syntax.specs.prover.ValuedTokens.{said_by, said}
 
 abbrev pub says : List ValuedToken → List Lexeme
 says [] = []
 says (i ∷ is) = said i ∷ says is
+
+pub says_same : (text : List ℕ) (is : List ValuedToken) (ts : List Token) → SayAs text is ts → says is ≡ lexemes text ts
+says_same text [] [] h = refl
+says_same text [] (t ∷ ts) h = absurd h
+says_same text (i ∷ is) [] h = absurd h
+says_same text (i ∷ is) (t ∷ ts) h =
+    ap (λ z. z ∷ says is) h.0.0 ∙ ap (λ z. lexeme_of text t ∷ z) (says_same text is ts h.1)
 
 pub data Symbol : Type 0 where
   s_program : Symbol
@@ -40,7 +49,7 @@ after None s = None
 after (Some ss) s = Some (ss ++ s ∷ [])
 
 abbrev pub expression_step : Lexeme → Option (List Symbol)
-expression_step (a_number v span) = Some []
+expression_step (a_number v) = Some []
 expression_step (a_name x) = Some []
 expression_step (a_terminal T.Me) = Some []
 expression_step (a_terminal T.Count) = Some []
@@ -87,7 +96,7 @@ variables_step x = scans_step x
 -- what stands in the symbol's place once this was read
 abbrev pub step : Symbol → Lexeme → Option (List Symbol)
 step s_program (a_terminal T.Processes) = Some (s_number ∷ s_semicolon ∷ s_variables ∷ [])
-step s_number (a_number v span) = Some []
+step s_number (a_number v) = Some []
 step s_semicolon (a_terminal T.Semicolon) = Some []
 step s_variables x = variables_step x
 step s_scans x = scans_step x

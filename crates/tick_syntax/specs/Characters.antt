@@ -27,7 +27,7 @@ is_name_part b = is_letter b || is_digit b
 
 -- the words that are no names
 abbrev pub is_keyword : List ℕ → Bool
-is_keyword word = list_any (λ keyword. bytes_eq word (spelling keyword)) keywords
+is_keyword word = list_any (λ keyword. bytes_eq (spelling keyword) word) keywords
 
 -- of these spellings those of one byte, and the first bytes of those of two
 abbrev pub ones : List (List ℕ) → List ℕ

@@ -1,69 +1,66 @@
--- The grammar: which tokens are which program. Each relation ends with the tokens that follow.
-use Rattle.std.specs.Prelude.{◌≡◌, List, [], ◌∷◌}
+-- The grammar: the tokens of a program, in their order. Tokens are a program where what they say is these.
+use Rattle.std.specs.Prelude.{◌≡◌, ℕ, List, [], ◌∷◌, ◌++◌}
 use Rattle.tick_syntax.specs.declared.span.Span.{Span}
 use Rattle.tick_syntax.specs.declared.terminals.Terminal.{Terminal}
 use Rattle.tick_syntax.specs.declared.terminals.Terminal.TheVariants as T
-use Rattle.tick_syntax.specs.Lexeme.{Lexeme, a_name, a_number, a_terminal}
-use Rattle.tick_syntax.specs.Plain.{Name, Expression, number, named, me, count, binary, Statement, assign, get, put, stamp, scan, copy, older, out, branch, repeat, Block, nil, cons, WholeProgram}
+use Rattle.tick_syntax.specs.declared.token.Token.{Token}
+use Rattle.tick_syntax.specs.Lexeme.{Lexeme, a_name, a_number, a_terminal, lexemes}
+use Rattle.tick_syntax.specs.Plain.{nowhere, Name, Expression, number, named, me, count, binary, Statement, assign, get, put, stamp, scan, copy, older, out, branch, repeat, Block, nil, cons, WholeProgram}
 
 -- NUM, NAME, `me`, `n`, or two expressions about an operator, all in brackets
-abbrev pub IsExpression : List Lexeme → Expression Name → List Lexeme → Type 0
-IsExpression ts (number v) rest = (s : Span) × (ts ≡ a_number v s ∷ rest)
-IsExpression ts (named x) rest = ts ≡ a_name x ∷ rest
-IsExpression ts me rest = ts ≡ a_terminal T.Me ∷ rest
-IsExpression ts count rest = ts ≡ a_terminal T.Count ∷ rest
-IsExpression ts (binary a op b) rest =
-    (t u : List Lexeme) × (ts ≡ a_terminal T.Open ∷ t) × IsExpression t a (a_terminal (T.Operator op) ∷ u)
-    × IsExpression u b (a_terminal T.Close ∷ rest)
+abbrev pub expression_tokens : Expression Name → List Lexeme
+expression_tokens (number v) = a_number v ∷ []
+expression_tokens (named x) = a_name x ∷ []
+expression_tokens me = a_terminal T.Me ∷ []
+expression_tokens count = a_terminal T.Count ∷ []
+expression_tokens (binary a op b) =
+    a_terminal T.Open ∷ (expression_tokens a ++ (a_terminal (T.Operator op) ∷ (expression_tokens b ++ a_terminal T.Close ∷ [])))
+
+abbrev pub in_braces : List Lexeme → List Lexeme
+in_braces ts = a_terminal T.OpenBrace ∷ (ts ++ a_terminal T.CloseBrace ∷ [])
 
 abbrev mutual
-  pub IsStatement : List Lexeme → Statement Name → List Lexeme → Type 0
-  IsStatement ts (assign x e) rest =
-      (t : List Lexeme) × (ts ≡ a_name x ∷ a_terminal T.Becomes ∷ t) × IsExpression t e (a_terminal T.Semicolon ∷ rest)
-  IsStatement ts (get x r e) rest =
-      (t : List Lexeme) × (ts ≡ a_name x ∷ a_terminal T.Becomes ∷ a_terminal T.Get ∷ a_name r ∷ t)
-      × IsExpression t e (a_terminal T.Semicolon ∷ rest)
-  IsStatement ts (put r e) rest =
-      (t : List Lexeme) × (ts ≡ a_terminal T.Put ∷ a_name r ∷ t) × IsExpression t e (a_terminal T.Semicolon ∷ rest)
-  IsStatement ts stamp rest = ts ≡ a_terminal T.Stamp ∷ a_terminal T.Semicolon ∷ rest
-  IsStatement ts (scan s) rest =
-      ts ≡ a_name s ∷ a_terminal T.Becomes ∷ a_terminal T.Scan ∷ a_terminal T.Semicolon ∷ rest
-  IsStatement ts (copy t s) rest =
-      ts ≡ a_name t ∷ a_terminal T.Becomes ∷ a_terminal T.Copy ∷ a_name s ∷ a_terminal T.Semicolon ∷ rest
-  IsStatement ts (older x s a b) rest =
-      (t u : List Lexeme) × (ts ≡ a_name x ∷ a_terminal T.Becomes ∷ a_terminal T.Older ∷ a_name s ∷ t)
-      × IsExpression t a u × IsExpression u b (a_terminal T.Semicolon ∷ rest)
-  IsStatement ts (out e) rest =
-      (t : List Lexeme) × (ts ≡ a_terminal T.Out ∷ t) × IsExpression t e (a_terminal T.Semicolon ∷ rest)
-  IsStatement ts (branch e a b) rest =
-      (t u v : List Lexeme) × (ts ≡ a_terminal T.If ∷ t) × IsExpression t e (a_terminal T.OpenBrace ∷ u)
-      × IsBlock T.CloseBrace u a (a_terminal T.Else ∷ a_terminal T.OpenBrace ∷ v) × IsBlock T.CloseBrace v b rest
-  IsStatement ts (repeat e a) rest =
-      (t u : List Lexeme) × (ts ≡ a_terminal T.While ∷ t) × IsExpression t e (a_terminal T.OpenBrace ∷ u)
-      × IsBlock T.CloseBrace u a rest
+  pub statement_tokens : Statement Name → List Lexeme
+  statement_tokens (assign x e) = a_name x ∷ a_terminal T.Becomes ∷ (expression_tokens e ++ a_terminal T.Semicolon ∷ [])
+  statement_tokens (get x r e) =
+      a_name x ∷ a_terminal T.Becomes ∷ a_terminal T.Get ∷ a_name r ∷ (expression_tokens e ++ a_terminal T.Semicolon ∷ [])
+  statement_tokens (put r e) = a_terminal T.Put ∷ a_name r ∷ (expression_tokens e ++ a_terminal T.Semicolon ∷ [])
+  statement_tokens stamp = a_terminal T.Stamp ∷ a_terminal T.Semicolon ∷ []
+  statement_tokens (scan s) = a_name s ∷ a_terminal T.Becomes ∷ a_terminal T.Scan ∷ a_terminal T.Semicolon ∷ []
+  statement_tokens (copy t s) = a_name t ∷ a_terminal T.Becomes ∷ a_terminal T.Copy ∷ a_name s ∷ a_terminal T.Semicolon ∷ []
+  statement_tokens (older x s a b) =
+      a_name x ∷ a_terminal T.Becomes ∷ a_terminal T.Older ∷ a_name s
+      ∷ (expression_tokens a ++ (expression_tokens b ++ a_terminal T.Semicolon ∷ []))
+  statement_tokens (out e) = a_terminal T.Out ∷ (expression_tokens e ++ a_terminal T.Semicolon ∷ [])
+  statement_tokens (branch e a b) =
+      a_terminal T.If ∷ (expression_tokens e ++ (in_braces (block_tokens a) ++ a_terminal T.Else ∷ in_braces (block_tokens b)))
+  statement_tokens (repeat e a) = a_terminal T.While ∷ (expression_tokens e ++ in_braces (block_tokens a))
 
-  -- statements, and the terminal that ends them
-  pub IsBlock : Terminal → List Lexeme → Block Name → List Lexeme → Type 0
-  IsBlock last ts nil rest = ts ≡ a_terminal last ∷ rest
-  IsBlock last ts (cons s b) rest = (t : List Lexeme) × IsStatement ts s t × IsBlock last t b rest
+  pub block_tokens : Block Name → List Lexeme
+  block_tokens nil = []
+  block_tokens (cons s b) = statement_tokens s ++ block_tokens b
 
 -- names with a comma between two
-abbrev pub AreNames : List Lexeme → Name → List Name → List Lexeme → Type 0
-AreNames ts x [] rest = ts ≡ a_name x ∷ rest
-AreNames ts x (y ∷ ys) rest = (t : List Lexeme) × (ts ≡ a_name x ∷ a_terminal T.Comma ∷ t) × AreNames t y ys rest
+abbrev pub names_tokens : Name → List Name → List Lexeme
+names_tokens x [] = a_name x ∷ []
+names_tokens x (y ∷ ys) = a_name x ∷ a_terminal T.Comma ∷ names_tokens y ys
 
 -- a section of declarations, which is left out where it has no names
-abbrev pub IsSection : Terminal → List Lexeme → List Name → List Lexeme → Type 0
-IsSection terminal ts [] rest = ts ≡ rest
-IsSection terminal ts (x ∷ xs) rest =
-    (t : List Lexeme) × (ts ≡ a_terminal terminal ∷ t) × AreNames t x xs (a_terminal T.Semicolon ∷ rest)
+abbrev pub section_tokens : Terminal → List Name → List Lexeme
+section_tokens terminal [] = []
+section_tokens terminal (x ∷ xs) = a_terminal terminal ∷ (names_tokens x xs ++ a_terminal T.Semicolon ∷ [])
 
--- the tokens are this program
-abbrev pub Derives : List Lexeme → WholeProgram Name → Type 0
-Derives ts p =
-    (t u v w : List Lexeme)
-    × (ts ≡ a_terminal T.Processes ∷ a_number p.processes p.span ∷ a_terminal T.Semicolon ∷ t)
-    × IsSection T.Var t p.variables u
-    × IsSection T.Scan u p.scans v
-    × IsSection T.Reg v p.registers (a_terminal T.Begin ∷ w)
-    × IsBlock T.End w p.body []
+abbrev pub program_tokens : WholeProgram Name → List Lexeme
+program_tokens p =
+    a_terminal T.Processes ∷ a_number p.processes ∷ a_terminal T.Semicolon
+    ∷ (section_tokens T.Var p.variables ++ (section_tokens T.Scan p.scans ++ (section_tokens T.Reg p.registers
+    ++ (a_terminal T.Begin ∷ (block_tokens p.body ++ a_terminal T.End ∷ [])))))
+
+-- where the second of these stands, which of a program is the number of processes
+abbrev pub second_span : List Token → Span
+second_span (first ∷ second ∷ more) = second.span
+second_span _ = nowhere
+
+-- the tokens are this program: they say its tokens, and its number of processes stands where it says
+abbrev pub Derives : List ℕ → List Token → WholeProgram Name → Type 0
+Derives text tokens p = (lexemes text tokens ≡ program_tokens p) × (second_span tokens ≡ p.span)

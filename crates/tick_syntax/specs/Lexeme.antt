@@ -1,25 +1,19 @@
 -- What a token says, read in its text.
-use Rattle.std.specs.Prelude.{ℕ, List, ◌++◌, Option, Some, None, map, slice_range}
-use Rattle.std.specs.List.{find}
-use Rattle.std.specs.Str.{bytes_eq}
+use Rattle.std.specs.Prelude.{ℕ, List, Option, Some, None, map, slice_range}
 use Rattle.tick_syntax.specs.declared.span.Span.{Span}
 use Rattle.tick_syntax.specs.declared.token.Sort.{Sort}
 use Rattle.tick_syntax.specs.declared.token.Sort.TheVariants as K
 use Rattle.tick_syntax.specs.declared.token.Token.{Token}
 use Rattle.tick_syntax.specs.declared.terminals.Terminal.{Terminal}
 use Rattle.tick_syntax.specs.Plain.{Name}
-use Rattle.tick_syntax.specs.Terminals.{spelling, signs, keywords}
+use Rattle.tick_syntax.specs.Terminals.{signs, keywords, spelled_among}
 
--- a name, a number with its place, a keyword or a sign; or nothing that the language has
+-- a name, a number, a keyword or a sign; or nothing that the language has
 pub data Lexeme : Type 0 where
   a_name : Name → Lexeme
-  a_number : ℕ → Span → Lexeme
+  a_number : ℕ → Lexeme
   a_terminal : Terminal → Lexeme
   nothing : Lexeme
-
--- the terminal that is spelled so, if one is
-unfoldable pub terminal_of : List ℕ → Option Terminal
-terminal_of bytes = find (λ w. bytes_eq (spelling w) bytes) (signs ++ keywords)
 
 abbrev pub of_terminal : Option Terminal → Lexeme
 of_terminal None = nothing
@@ -28,9 +22,9 @@ of_terminal (Some w) = a_terminal w
 -- what a token of this sort says at these bytes
 abbrev pub lexeme_at : Sort → List ℕ → Span → Lexeme
 lexeme_at K.Name bytes span = a_name (record { letters = bytes; span = span })
-lexeme_at (K.Num v) bytes span = a_number v span
-lexeme_at K.Keyword bytes span = of_terminal (terminal_of bytes)
-lexeme_at K.Sign bytes span = of_terminal (terminal_of bytes)
+lexeme_at (K.Num v) bytes span = a_number v
+lexeme_at K.Keyword bytes span = of_terminal (spelled_among keywords bytes)
+lexeme_at K.Sign bytes span = of_terminal (spelled_among signs bytes)
 
 -- the bytes of a token
 abbrev pub bytes_at : List ℕ → Span → List ℕ

@@ -4,6 +4,10 @@ use Rattle.std.specs.Prelude.{ℕ, List, map}
 use Rattle.tick_syntax.specs.declared.span.Span.{Span}
 use Rattle.machine_core.specs.declared.operator.Op.{Op}
 
+-- a span that is no place of a text
+abbrev pub nowhere : Span
+nowhere = record { start = 0; end = 0 }
+
 -- a name as it stands in a text
 pub record Name : Type 0 where
   pub letters : List ℕ
@@ -80,7 +84,7 @@ module _ {A B : Type 0} (f : A → B) where
 abbrev pub without_spans : WholeProgram Name → WholeProgram (List ℕ)
 without_spans p = record {
   processes = p.processes;
-  span = record { start = 0; end = 0 };
+  span = nowhere;
   variables = map (λ x. x.letters) p.variables;
   scans = map (λ x. x.letters) p.scans;
   registers = map (λ x. x.letters) p.registers;

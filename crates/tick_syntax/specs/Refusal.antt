@@ -6,7 +6,7 @@ use Rattle.tick_syntax.specs.declared.fault.TextFault.TheVariants as F
 use Rattle.tick_syntax.specs.declared.token.Token.{Token}
 use Rattle.tick_syntax.specs.Characters.{is_keyword}
 use Rattle.tick_syntax.specs.Lexeme.{Lexeme, a_name, a_number, a_terminal, nothing, lexeme_of, lexemes}
-use Rattle.tick_syntax.specs.Grammar.{Derives}
+use Rattle.tick_syntax.specs.Grammar.{program_tokens}
 use Rattle.tick_syntax.specs.Nesting.{IsOpening, IsShallow, open_after}
 use Rattle.tick_syntax.specs.Plain.{Name, WholeProgram}
 use Rattle.tick_syntax.specs.Spelling.{is_word, Spells, FirstRefusal}
@@ -14,7 +14,7 @@ use Rattle.tick_syntax.specs.Spelling.{is_word, Spells, FirstRefusal}
 -- a text can have this token
 abbrev pub CanStand : Lexeme → Type 0
 CanStand (a_name x) = (is_word x.letters ≡ true) × (is_keyword x.letters ≡ false) × (length x.letters ≤ 64)
-CanStand (a_number v span) = v ≤ 4294967295
+CanStand (a_number v) = v ≤ 4294967295
 CanStand (a_terminal w) = Unit {0}
 CanStand nothing = ⊥
 
@@ -24,7 +24,7 @@ AllCanStand (t ∷ ts) = CanStand t × AllCanStand ts
 
 -- some program goes on from these tokens, by tokens that a text can have
 abbrev pub GoesOn : List Lexeme → Type 0
-GoesOn ts = (more : List Lexeme) × AllCanStand more × (p : WholeProgram Name) × Derives (ts ++ more) p
+GoesOn ts = (more : List Lexeme) × AllCanStand more × (p : WholeProgram Name) × (ts ++ more ≡ program_tokens p)
 
 -- programs within the limits begin so
 abbrev pub Begins : List Lexeme → Type 0
@@ -34,7 +34,7 @@ Begins front = GoesOn front × IsShallow front 0
 abbrev pub StopsAfter : List ℕ → List Token → List Token → Span → Type 0
 StopsAfter text front [] place =
     (place ≡ record { start = length text; end = length text })
-    × ((p : WholeProgram Name) → Derives (lexemes text front) p → ⊥)
+    × ((p : WholeProgram Name) → lexemes text front ≡ program_tokens p → ⊥)
 StopsAfter text front (token ∷ rest) place =
     (place ≡ token.span) × (GoesOn (lexemes text (front ++ token ∷ [])) → ⊥)
 
@@ -51,13 +51,6 @@ IsTooDeep text tokens place =
     × Begins (lexemes text front) × (open_after (lexemes text front) 0 ≡ 64)
     × IsOpening (lexeme_of text token) × GoesOn (lexemes text (front ++ token ∷ []))
     × (place ≡ token.span)
-
--- the refusals that the grammar makes, and want of memory
-abbrev pub IsOfGrammar : TextFault → Type 0
-IsOfGrammar (F.Unexpected place) = Unit {0}
-IsOfGrammar (F.TooDeep place) = Unit {0}
-IsOfGrammar F.NoMemory = Unit {0}
-IsOfGrammar _ = ⊥
 
 -- The first refusal of a whole text: its length, the first fault of its tokens, or, where tokens
 -- spell it, the first place at which they stop being a program within the limits.

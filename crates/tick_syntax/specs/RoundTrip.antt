@@ -2,7 +2,6 @@
 use Rattle.std.specs.Prelude.{◌≡◌, ℕ, List}
 use Rattle.tick_syntax.specs.declared.token.Token.{Token}
 use Rattle.tick_syntax.specs.Grammar.{Derives}
-use Rattle.tick_syntax.specs.Lexeme.{lexemes}
 use Rattle.tick_syntax.specs.Nesting.{nesting}
 use Rattle.tick_syntax.specs.Plain.{Name, WholeProgram, without_spans}
 use Rattle.tick_syntax.specs.Printed.{printed}
@@ -10,7 +9,7 @@ use Rattle.tick_syntax.specs.Spelling.{Spells}
 
 -- the text is spelled by tokens that are this program
 abbrev pub IsTextOf : List ℕ → WholeProgram Name → Type 0
-IsTextOf text p = (tokens : List Token) × Spells text tokens × Derives (lexemes text tokens) p
+IsTextOf text p = (tokens : List Token) × Spells text tokens × Derives text tokens p
 
 -- apart from spans the text is this program, and no other
 pub record ReadsAs (text : List ℕ) (p : WholeProgram Name) : Type 0 where

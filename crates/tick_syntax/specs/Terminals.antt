@@ -1,5 +1,7 @@
 -- The keywords and the signs, and how each is spelled.
-use Rattle.std.specs.Prelude.{ℕ, List, [], ◌∷◌, codes}
+use Rattle.std.specs.Prelude.{ℕ, List, [], ◌∷◌, Option, codes}
+use Rattle.std.specs.List.{find}
+use Rattle.std.specs.Str.{bytes_eq}
 use Rattle.machine_core.specs.declared.operator.Op.TheVariants as O
 use Rattle.machine_core.specs.Operators.{sign}
 use Rattle.tick_syntax.specs.declared.terminals.Terminal.{Terminal}
@@ -42,3 +44,7 @@ abbrev pub keywords : List Terminal
 keywords =
     T.Me ∷ T.Count ∷ T.Put ∷ T.Get ∷ T.Out ∷ T.If ∷ T.Else ∷ T.While ∷ T.Stamp ∷ T.Scan ∷ T.Copy ∷ T.Older ∷
     T.Processes ∷ T.Var ∷ T.Reg ∷ T.Begin ∷ T.End ∷ []
+
+-- of these the one that is spelled so, if one is
+unfoldable pub spelled_among : List Terminal → List ℕ → Option Terminal
+spelled_among ws bytes = find (λ w. bytes_eq (spelling w) bytes) ws

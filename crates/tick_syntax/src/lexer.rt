@@ -1,7 +1,9 @@
 // The tokens of a text, taken one after another from its front.
-ghost use Rattle.std.specs.Prelude.{◌≡◌, ◌≢◌, ◌⊎◌, ◌<◌, ◌≤◌, List, length, slice_index, IfOk, IfErr, MatchResult, true, false};
+ghost use Rattle.std.specs.Prelude.{◌≡◌, ◌≢◌, ◌⊎◌, ◌<◌, ◌≤◌, List, [], length, map, slice_index, IfOk, IfErr, IsOkUnless, MatchResult, true, false};
+ghost use Rattle.std.specs.Str.{IsAscii};
 ghost use Rattle.tick_syntax.specs.Characters.{is_letter, is_digit};
 ghost use Rattle.tick_syntax.specs.prover.Extents.{ReadsAt};
+ghost use Rattle.tick_syntax.specs.prover.ValuedTokens.{plain, AreValues};
 ghost use Rattle.tick_syntax.specs.Spelling.{Spells, StandInOrder, HasToken, FirstFault, FirstRefusal};
 ghost use Rattle.tick_syntax.specs.declared.fault.TextFault.{TextFault};
 ghost use Rattle.tick_syntax.specs.declared.fault.TextFault.TheVariants.{NoMemory, TextTooLong};
@@ -11,8 +13,9 @@ use crate::characters::is_letter;
 use crate::extents::{gap_end, number_end, number_value, sign_end, word_end};
 use crate::fault::TextFault;
 use crate::span::Span;
-use crate::terminals::is_keyword;
-use crate::token::{Sort, Token};
+use crate::terminals::{keyword_of, sign_of};
+use crate::token::Token;
+use crate::valued_token::{Meaning, ValuedToken};
 use std::alloc::Global;
 
 const TEXT_LIMIT: usize = 1_000_000;
@@ -31,14 +34,37 @@ pub fn tokens(alloc: Global, text: &str) -> Result<Vec<Token>, TextFault>
     ensures spelled { (expected : List Token) → length text.now ≤ 1000000 → Spells text.now expected → MatchResult result (λ tokens. tokens.items ≡ expected) (λ fault. fault ≡ NoMemory) }
     ensures refused { (first : TextFault) → FirstRefusal text.now first → MatchResult result (λ tokens. ⊥) (λ fault. (fault ≡ first) ⊎ (fault ≡ NoMemory)) }
 {
+    let valued = valued_tokens(alloc, text)?;
+    plain_tokens(alloc, &valued)
+}
+
+/// The tokens of a text with what each says; else its first refusal.
+pub fn valued_tokens<'a>(alloc: Global, text: &'a str) -> Result<Vec<ValuedToken<'a>>, TextFault>
+    ensures ok { IfOk result (λ valued. (length text.now ≤ 1000000) × AreValues text.now valued.items) }
+    ensures err { IfErr result (λ fault. fault ≢ NoMemory → FirstRefusal text.now fault) }
+    ensures memory { result ≡ Err NoMemory → (length text.now ≤ 1000000) × HasToken text.now }
+    ensures long { 1000000 < length text.now → result ≡ Err TextTooLong }
+{
     if text.len() > TEXT_LIMIT {
         return Err(TextFault::TextTooLong);
     }
     read_tokens(alloc, text.as_bytes())
 }
 
-fn read_tokens(alloc: Global, bytes: &[u8]) -> Result<Vec<Token>, TextFault>
-    ensures ok { IfOk result (λ tokens. Spells bytes.now tokens.items) }
+fn plain_tokens(alloc: Global, valued: &[ValuedToken]) -> Result<Vec<Token>, TextFault>
+    ensures ok { IfOk result (λ tokens. tokens.items ≡ map plain valued.now) }
+    ensures err { IsOkUnless result NoMemory }
+    ensures none { valued.now ≡ [] → result ≢ Err NoMemory }
+{
+    let mut tokens = Vec::new(alloc);
+    for token in valued {
+        tokens.push(token.plain())?;
+    }
+    Ok(tokens)
+}
+
+fn read_tokens<'a>(alloc: Global, bytes: &'a [u8]) -> Result<Vec<ValuedToken<'a>>, TextFault>
+    ensures ok { IfOk result (λ valued. AreValues bytes.now valued.items) }
     ensures err { IfErr result (λ fault. fault ≢ NoMemory → FirstFault bytes.now fault) }
     ensures memory { result ≡ Err NoMemory → HasToken bytes.now }
 {
@@ -55,7 +81,7 @@ fn read_tokens(alloc: Global, bytes: &[u8]) -> Result<Vec<Token>, TextFault>
     }
 }
 
-fn token_at(bytes: &[u8], from: usize) -> Result<Token, TextFault>
+fn token_at(bytes: &[u8], from: usize) -> Result<ValuedToken<'_>, TextFault>
     requires { from < length bytes.now }
     ensures { ReadsAt bytes.now from result }
 {
@@ -69,29 +95,39 @@ fn token_at(bytes: &[u8], from: usize) -> Result<Token, TextFault>
     }
 }
 
-fn word_at(bytes: &[u8], from: usize) -> Result<Token, TextFault>
+fn word_at(bytes: &[u8], from: usize) -> Result<ValuedToken<'_>, TextFault>
     requires within { from < length bytes.now }
     requires letter { is_letter (slice_index bytes.now from) ≡ true }
     ensures { ReadsAt bytes.now from result }
 {
     let end = word_end(bytes, from);
     let span = Span { start: from, end };
-    if is_keyword(&bytes[from..end]) {
-        Ok(Token {
-            sort: Sort::Keyword,
+    let word = &bytes[from..end];
+    match keyword_of(word) {
+        Some(keyword) => Ok(ValuedToken {
+            meaning: Meaning::Terminal(keyword),
             span,
-        })
-    } else if end - from > NAME_LIMIT {
-        Err(TextFault::NameTooLong(span))
-    } else {
-        Ok(Token {
-            sort: Sort::Name,
+        }),
+        None if end - from > NAME_LIMIT => Err(TextFault::NameTooLong(span)),
+        None => Ok(ValuedToken {
+            meaning: Meaning::Name(letters(word)),
             span,
-        })
+        }),
     }
 }
 
-fn number_at(bytes: &[u8], from: usize) -> Result<Token, TextFault>
+// ASCII bytes as text.
+fn letters(bytes: &[u8]) -> &str
+    requires { IsAscii bytes.now }
+    ensures { result.now ≡ bytes.now }
+{
+    match str::from_utf8(bytes) {
+        Ok(letters) => letters,
+        Err(_) => unreachable!(),
+    }
+}
+
+fn number_at(bytes: &[u8], from: usize) -> Result<ValuedToken<'_>, TextFault>
     requires within { from < length bytes.now }
     requires digit { is_digit (slice_index bytes.now from) ≡ true }
     ensures { ReadsAt bytes.now from result }
@@ -99,27 +135,27 @@ fn number_at(bytes: &[u8], from: usize) -> Result<Token, TextFault>
     let end = number_end(bytes, from);
     let span = Span { start: from, end };
     match number_value(&bytes[from..end]) {
-        Some(value) => Ok(Token {
-            sort: Sort::Num(value),
+        Some(value) => Ok(ValuedToken {
+            meaning: Meaning::Number(value),
             span,
         }),
         None => Err(TextFault::NumberTooBig(span)),
     }
 }
 
-fn sign_at(bytes: &[u8], from: usize) -> Result<Token, TextFault>
+fn sign_at(bytes: &[u8], from: usize) -> Result<ValuedToken<'_>, TextFault>
     requires within { from < length bytes.now }
     requires letter { is_letter (slice_index bytes.now from) ≡ false }
     requires digit { is_digit (slice_index bytes.now from) ≡ false }
     ensures { ReadsAt bytes.now from result }
 {
     let end = sign_end(bytes, from);
-    if end == from {
-        return Err(TextFault::BadCharacter(from));
-    }
     let span = Span { start: from, end };
-    Ok(Token {
-        sort: Sort::Sign,
-        span,
-    })
+    match sign_of(&bytes[from..end]) {
+        Some(sign) => Ok(ValuedToken {
+            meaning: Meaning::Terminal(sign),
+            span,
+        }),
+        None => Err(TextFault::BadCharacter(from)),
+    }
 }

@@ -1,26 +1,22 @@
 // From the tokens of a text to its tree: a descent by the grammar, one method for each of its rules.
 ghost use Rattle.std.specs.Prelude.{◌≡◌, ◌≢◌, ◌<◌, ◌≤◌, ◌⊎◌, ℕ, List, [], length, drop, map, IfOk, IfErr, IsOkUnless, MatchResult};
-ghost use Rattle.tick_syntax.specs.Grammar.{Derives};
 ghost use Rattle.tick_syntax.specs.prover.Reading.{Gives, GivesAlways, GivesWhole, IsOkUnlessMemory, next_at, terminal_at, brace_at, operator_at, name_at, number_at, pair_at, brackets_at, expression_at, last_at, get_at, scan_at, copy_at, older_at, plain_at, right_at, assignment_at, put_at, stamp_at, out_at, branch_at, repeat_at, block_at, statement_at, statements_at, names_at, section_at, body_at, whole_at, program_at};
-ghost use Rattle.tick_syntax.specs.Lexeme.{lexemes};
 ghost use Rattle.tick_syntax.specs.Nesting.{nesting};
 ghost use Rattle.tick_syntax.specs.Plain.{Name, WholeProgram};
 ghost use Rattle.tick_syntax.specs.declared.fault.TextFault.TheVariants.{NoMemory, TextTooLong, Unexpected, TooDeep};
-ghost use Rattle.tick_syntax.specs.Refusal.{IsUnexpected, IsTooDeep, IsOfGrammar, IsTextRefused};
-ghost use Rattle.tick_syntax.specs.declared.token.Token.{Token};
+ghost use Rattle.tick_syntax.specs.Refusal.{IsTextRefused};
 ghost use Rattle.tick_syntax.specs.declared.fault.TextFault.{TextFault};
 ghost use Rattle.tick_syntax.specs.RoundTrip.{IsTextOf};
-ghost use Rattle.tick_syntax.specs.Spelling.{Spells, HasToken};
+ghost use Rattle.tick_syntax.specs.Spelling.{HasToken};
 ghost use Rattle.tick_syntax.specs.declared.span.Span.{Span};
 ghost use Rattle.tick_syntax.specs.View.{name_of, expression_of, statement_of, block_of, tree_of};
 
 use crate::fault::TextFault;
-use crate::lexer::tokens;
+use crate::lexer::valued_tokens;
 use crate::span::Span;
 use crate::terminals::Terminal;
-use crate::token::Token;
 use crate::tree::{Expr, Named, Op, Stmt, Tree};
-use crate::valued_token::{Ending, Meaning, Section, ValuedToken, valued_tokens};
+use crate::valued_token::{Ending, Meaning, Section, ValuedToken};
 use std::alloc::Global;
 
 /// The tree of a text, which is the only one that it has; else the first refusal of the text: its
@@ -36,26 +32,10 @@ pub fn parse(alloc: Global, text: &str) -> Result<Tree, TextFault>
     ensures refused { IfErr result (λ fault. fault ≢ NoMemory → IsTextRefused text.now fault) }
     ensures first { (first : TextFault) → IsTextRefused text.now first → MatchResult result (λ tree. ⊥) (λ fault. (fault ≡ first) ⊎ (fault ≡ NoMemory)) }
 {
-    let tokens = tokens(alloc, text)?;
-    parse_tokens(alloc, text, &tokens)
-}
-
-/// The tree of a text whose tokens these are.
-pub fn parse_tokens(alloc: Global, text: &str, tokens: &[Token]) -> Result<Tree, TextFault>
-    requires { Spells text.now tokens.now }
-    ensures derived { IfOk result (λ tree. Derives (lexemes text.now tokens.now) (tree_of tree)) }
-    ensures only { IfOk result (λ tree. (p : WholeProgram Name) → Derives (lexemes text.now tokens.now) p → p ≡ tree_of tree) }
-    ensures shallow { IfOk result (λ tree. nesting (tree_of tree) ≤ 64) }
-    ensures accepted { (p : WholeProgram Name) → Derives (lexemes text.now tokens.now) p → nesting p ≤ 64 → IsOkUnless result NoMemory }
-    ensures unexpected { (place : Span) → result ≡ Err (Unexpected place) → IsUnexpected text.now tokens.now place }
-    ensures too_deep { (place : Span) → result ≡ Err (TooDeep place) → IsTooDeep text.now tokens.now place }
-    ensures others { IfErr result IsOfGrammar }
-    ensures none { tokens.now ≡ [] → result ≡ Err (Unexpected (record { start = length text.now; end = length text.now })) }
-{
-    let valued = valued_tokens(alloc, text, tokens)?;
+    let tokens = valued_tokens(alloc, text)?;
     let parser = Parser {
         alloc,
-        tokens: &valued,
+        tokens: &tokens,
         end: text.len(),
     };
     parser.program()

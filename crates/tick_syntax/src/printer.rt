@@ -1,10 +1,10 @@
 // The printed form of a tree: its tokens in order, each with the byte that
 // follows it, all written to the end of one buffer.
 ghost use Rattle.std.specs.Prelude.{◌≡◌, ℕ, List, ◌++◌, ◌∷◌, [], map, OnOk, IfOk, IfErr, string_bytes};
-ghost use Rattle.std.specs.Fmt.{decimal};
 ghost use Rattle.tick_syntax.specs.Lexeme.{a_name, a_number, a_terminal};
 ghost use Rattle.tick_syntax.specs.Plain.{get, copy, older};
-ghost use Rattle.tick_syntax.specs.Printed.{nowhere, after_terminal, printed_token, printed_tokens, expression_tokens, statement_tokens, block_tokens, section_tokens, printed};
+ghost use Rattle.tick_syntax.specs.Grammar.{expression_tokens, in_braces, statement_tokens, block_tokens, section_tokens};
+ghost use Rattle.tick_syntax.specs.Printed.{after_terminal, printed_token, printed_tokens, printed};
 ghost use Rattle.tick_syntax.specs.prover.Printing.{more_names, declaration_tokens};
 ghost use Rattle.tick_syntax.specs.RoundTrip.{IsTextOf, ReadsAs};
 ghost use Rattle.tick_syntax.specs.View.{name_of, expression_of, statement_of, block_of, tree_of};
@@ -42,7 +42,7 @@ fn push_name(out: &mut String, name: &Named) -> Result<(), AllocError>
 }
 
 fn push_number(out: &mut String, value: u32) -> Result<(), AllocError>
-    ensures { OnOk result (string_bytes out.new ≡ string_bytes out.old ++ (decimal value ++ 32 ∷ [])) }
+    ensures { OnOk result (string_bytes out.new ≡ string_bytes out.old ++ printed_token (a_number value)) }
 {
     write!(out, "{value} ")
 }
@@ -171,7 +171,7 @@ fn push_statement(out: &mut String, statement: &Stmt) -> Result<(), AllocError>
 /// A block in its braces.
 #[cycle(statement)]
 fn push_braces(out: &mut String, block: &Vec<Stmt>) -> Result<(), AllocError>
-    ensures { OnOk result (string_bytes out.new ≡ string_bytes out.old ++ printed_tokens (a_terminal Terminal.OpenBrace ∷ (block_tokens (block_of block.now.items) ++ a_terminal Terminal.CloseBrace ∷ []))) }
+    ensures { OnOk result (string_bytes out.new ≡ string_bytes out.old ++ printed_tokens (in_braces (block_tokens (block_of block.now.items)))) }
 {
     push_terminal(out, Terminal::OpenBrace)?;
     push_block(out, block)?;
@@ -214,7 +214,7 @@ fn push_section(out: &mut String, section: Terminal, names: &[Named]) -> Result<
 
 /// The number of processes.
 fn push_head(out: &mut String, processes: u32) -> Result<(), AllocError>
-    ensures { OnOk result (string_bytes out.new ≡ string_bytes out.old ++ printed_tokens (a_terminal Terminal.Processes ∷ a_number processes nowhere ∷ a_terminal Terminal.Semicolon ∷ [])) }
+    ensures { OnOk result (string_bytes out.new ≡ string_bytes out.old ++ printed_tokens (a_terminal Terminal.Processes ∷ a_number processes ∷ a_terminal Terminal.Semicolon ∷ [])) }
 {
     push_terminal(out, Terminal::Processes)?;
     push_number(out, processes)?;

@@ -1,7 +1,5 @@
 ghost use Rattle.std.specs.Prelude.{◌≡◌};
-ghost use Rattle.tick_syntax.specs.Characters.{is_keyword};
-ghost use Rattle.tick_syntax.specs.Lexeme.{terminal_of};
-ghost use Rattle.tick_syntax.specs.Terminals.{spelling};
+ghost use Rattle.tick_syntax.specs.Terminals.{spelling, signs, keywords, spelled_among};
 
 use crate::tree::Op;
 
@@ -110,23 +108,26 @@ const KEYWORDS: [Terminal; 17] = [
     Terminal::End,
 ];
 
-/// The keyword or sign that is spelled so, if one is.
-#[tactic(auto, unfolding(crate::specs::Lexeme::terminal_of))]
-pub fn terminal_of(bytes: &[u8]) -> Option<Terminal>
-    ensures { result ≡ terminal_of bytes.now }
+/// The sign that is spelled so, if one is.
+pub fn sign_of(bytes: &[u8]) -> Option<Terminal>
+    ensures { result ≡ spelled_among signs bytes.now }
 {
-    SIGNS
-        .iter()
-        .chain(KEYWORDS.iter())
-        .copied()
-        .find(|terminal| terminal.text().as_bytes() == bytes)
+    spelled_among(&SIGNS, bytes)
 }
 
-/// Whether the letters are one of the language's own words, and so no name.
-pub fn is_keyword(word: &[u8]) -> bool
-    ensures { result ≡ is_keyword word.now }
+/// The keyword that is spelled so, if one is.
+pub fn keyword_of(bytes: &[u8]) -> Option<Terminal>
+    ensures { result ≡ spelled_among keywords bytes.now }
 {
-    KEYWORDS
+    spelled_among(&KEYWORDS, bytes)
+}
+
+#[tactic(auto, unfolding(crate::specs::Terminals::spelled_among))]
+fn spelled_among(terminals: &[Terminal], bytes: &[u8]) -> Option<Terminal>
+    ensures { result ≡ spelled_among terminals.now bytes.now }
+{
+    terminals
         .iter()
-        .any(|keyword| word == keyword.text().as_bytes())
+        .copied()
+        .find(|terminal| terminal.text().as_bytes() == bytes)
 }

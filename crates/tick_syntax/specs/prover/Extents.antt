@@ -1,9 +1,11 @@
 -- What a text has at its front: how long its first word, number or sign is, and its first token.
-use Rattle.std.specs.Prelude.{ℕ, ◌<◌, ◌≤◌, ◌&&◌, ◌==◌, List, [], ◌∷◌, if◌then◌else◌, length, drop, Result, Ok, Err}
+use Rattle.std.specs.Prelude.{◌≡◌, ℕ, ◌<◌, ◌≤◌, ◌&&◌, ◌==◌, List, [], ◌∷◌, if◌then◌else◌, length, drop, Result, Ok, Err}
 use Rattle.std.specs.List.{prefix_len}
 use Rattle.tick_syntax.specs.Characters.{is_digit, is_name_part, is_lone_sign, may_precede_equals}
 use Rattle.tick_syntax.specs.Spelling.{starts, TokenAt, FaultAt}
-use Rattle.tick_syntax.specs.declared.token.Token.{Token}
+use Rattle.tick_syntax.specs.declared.valued_token.ValuedToken.{ValuedToken}
+use Rattle.tick_syntax.specs.Lexeme.{lexeme_of}
+use Rattle.tick_syntax.specs.prover.ValuedTokens.{plain, said}
 use Rattle.tick_syntax.specs.declared.fault.TextFault.{TextFault}
 
 abbrev pub word_length : List ℕ → ℕ
@@ -17,13 +19,14 @@ abbrev pub sign_length : List ℕ → ℕ
 sign_length [] = 0
 sign_length (b ∷ bs) = if may_precede_equals b && starts (λ next. next == 61) bs then 2 else (if is_lone_sign b then 1 else 0)
 
--- the token that the text has at this place
-pub record IsReadAt (text : List ℕ) (from : ℕ) (token : Token) : Type 0 where
-  pub here : TokenAt from (drop from text) token (drop token.span.end text)
-  pub after : from < token.span.end
-  pub within : token.span.end ≤ length text
+-- the token that the text has at this place, with what it says
+pub record IsReadAt (text : List ℕ) (from : ℕ) (valued : ValuedToken) : Type 0 where
+  pub here : TokenAt from (drop from text) (plain valued) (drop valued.span.end text)
+  pub says_it : said valued ≡ lexeme_of text (plain valued)
+  pub after : from < valued.span.end
+  pub within : valued.span.end ≤ length text
 
 -- the token that the text has at this place, or why none can be taken there
-abbrev pub ReadsAt : List ℕ → ℕ → Result Token TextFault → Type 0
-ReadsAt text from (Ok token) = IsReadAt text from token
+abbrev pub ReadsAt : List ℕ → ℕ → Result ValuedToken TextFault → Type 0
+ReadsAt text from (Ok valued) = IsReadAt text from valued
 ReadsAt text from (Err fault) = FaultAt from (drop from text) fault

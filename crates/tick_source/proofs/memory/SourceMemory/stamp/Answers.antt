@@ -1,7 +1,7 @@
 use Rattle.std.proofs.Common.{◌≤◌, arith, length}
 use Rattle.ticket_core.specs.Tickets.{greatest_ticket}
 use Rattle.tick_source.proofs.Counted.{counted_on}
-use Rattle.tick_source.proofs.shared.Shared.stamp.Goals as goal
+use Rattle.tick_source.proofs.memory.SourceMemory.stamp.Goals as goal
 
 pub invariant_of-self : goal.invariant_of-self
 invariant_of-self c =

@@ -8,7 +8,7 @@ use ticket_core::Tickets;
 
 /// What all processes share, and what the run has shown so far.
 #[derive(Drop)]
-pub struct Shared {
+pub struct SourceMemory {
     pub tickets: Tickets,
     pub registers: Registers,
     pub events: Vec<Event>,
@@ -16,21 +16,21 @@ pub struct Shared {
     ghost counted: { greatest_ticket tickets ≤ vec_len events },
 }
 
-impl Shared {
+impl SourceMemory {
     ghost use Rattle.std.specs.Prelude.{◌≡◌, ◌<◌, ◌≤◌, ◌++◌, ◌∷◌, [], length, OnOk, OnErr, IfOk};
     ghost use Rattle.ticket_core.specs.Tickets.{start_tickets, stamp_ticket};
     ghost use Rattle.machine_core.specs.Rows.{start_rows, register_set};
     ghost use Rattle.tick_source.specs.prover.Steps.{Shares};
 
     /// The start for `n` processes: all tickets and registers 0, and no event.
-    pub fn new(alloc: Global, n: u8, rows: u8) -> Result<Shared, NoMemory>
+    pub fn new(alloc: Global, n: u8, rows: u8) -> Result<SourceMemory, NoMemory>
         requires at_least_one { 1 ≤ n }
         requires at_most_six { n ≤ 6 }
         ensures tickets { IfOk result (λ s. s.tickets ≡ start_tickets n) }
         ensures registers { IfOk result (λ s. s.registers ≡ start_rows rows n) }
         ensures events { IfOk result (λ s. s.events.items ≡ []) }
     {
-        Ok(Shared {
+        Ok(SourceMemory {
             tickets: Tickets::new(n),
             registers: Registers::new(alloc, rows, n)?,
             events: Vec::new(alloc),
