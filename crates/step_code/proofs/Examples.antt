@@ -5,9 +5,9 @@ use Rattle.machine_core.specs.declared.status.Status.TheVariants.{Running, Ended
 use Rattle.machine_core.specs.declared.status.Trap.TheVariants as T
 use Rattle.machine_core.specs.declared.event.Act.TheVariants as A
 use Rattle.machine_core.specs.declared.event.Event.{Event}
-use Rattle.verified_code.specs.declared.instr.Instr.{Instr}
-use Rattle.verified_code.specs.declared.instr.Instr.TheVariants as I
-use Rattle.verified_code.specs.Instructions.{sizes}
+use Rattle.code_core.specs.declared.instr.Instr.{Instr}
+use Rattle.code_core.specs.declared.instr.Instr.TheVariants as I
+use Rattle.code_core.specs.Instructions.{sizes}
 use Rattle.word_core.specs.Packed.{word}
 use Rattle.step_code.specs.Machine.{run_of, observables}
 
@@ -89,7 +89,7 @@ comes_back =
 abbrev stamp_of : ℕ → Event
 stamp_of p = record { process = p; act = A.Stamp }
 
-its_word : word (run_of (sizes 3 0 1 0) stamps_twice comes_back).labels ≡ 2196
+its_word : word (run_of (sizes 3 0 1 0) stamps_twice comes_back).labels ≡ 395011
 its_word = refl
 
 same_labels_again : observables (run_of (sizes 3 0 1 0) stamps_twice (comes_back ++ replicate 2 0)) ≡ record {

@@ -3,12 +3,12 @@ use Rattle.std.proofs.Common.{◌≡◌, ℕ, zero, suc, ◌+◌, ◌-◌, ◌<�
 use Rattle.std.specs.Prelude.{◌==◌, ◌&&◌, ◌||◌, slice_get}
 use Rattle.std.proofs.lemmas.Bool.{both_ways, not-false, eqb-true}
 use Rattle.std.proofs.lemmas.Option.{same_Some, none-some}
-use Rattle.verified_code.specs.declared.instr.Instr.{Instr}
-use Rattle.verified_code.specs.declared.instr.Instr.TheVariants as I
-use Rattle.verified_code.specs.Instructions.{CodeSizes, pops, left, target, goes_on, fits}
-use Rattle.verified_code.specs.Heights.{height_at}
-use Rattle.verified_code.specs.Verified.{is_load, is_next, is_exchange, IsVerified}
-use Rattle.verified_code.proofs.Offered.{IsFine, verified_fine}
+use Rattle.code_core.specs.declared.instr.Instr.{Instr}
+use Rattle.code_core.specs.declared.instr.Instr.TheVariants as I
+use Rattle.code_core.specs.Instructions.{CodeSizes, pops, left, target, goes_on, fits}
+use Rattle.code_core.specs.Heights.{height_at}
+use Rattle.code_core.specs.Verified.{is_load, is_next, is_exchange, IsVerified}
+use Rattle.code_core.proofs.Offered.{IsFine, verified_fine}
 
 pub record Places (sizes : CodeSizes) (code : List Instr) : Type 0 where
   pub some : 0 < length code

@@ -4,6 +4,6 @@ mod Fine
 mod Words
 mod Safe
 mod Runs
-mod Making
+mod Found
 mod Kept
 mod Steps

@@ -4,6 +4,7 @@ use Rattle.step_code.specs.Machine.{same_labels}
 use Rattle.step_code.specs.Laws.{NeverStuckLaw}
 use Rattle.step_code.proofs.Runs
 use Rattle.step_code.proofs.Words
+pub use Rattle.code_core.proofs.Offered.{get-set, get-replicate, get-snoc}
 
 pub never_stuck_law : NeverStuckLaw
 never_stuck_law = Runs.never_stuck_law

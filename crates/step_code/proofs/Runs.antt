@@ -1,38 +1,26 @@
 -- Every state of every run of a fine code is safe.
-use Rattle.std.proofs.Common.{◌≡◌, ◌⊎◌, inl, inr, ⊎_elim, ℕ, zero, suc, ◌<◌, ◌≤◌, true, false, if◌then◌else◌, List, [], ◌∷◌, length, set, replicate, get_or, refl, ap, ◌∙◌, sym, subst, arith, Option, Some, None}
+use Rattle.std.proofs.Common.{◌≡◌, ⊎_elim, ℕ, ◌<◌, ◌≤◌, true, false, if◌then◌else◌, List, [], ◌∷◌, length, replicate, get_or, refl, ap, ◌∙◌, sym, subst, arith, Option, Some, None}
 use Rattle.std.specs.Prelude.{slice_get, slice_set, All}
 use Rattle.std.proofs.lemmas.Bool.{both_ways}
 use Rattle.std.proofs.lemmas.List.{length-set, length-replicate}
 use Rattle.std.proofs.lemmas.List.Elements.{All-set, All-get_or, All-replicate}
-use Rattle.std.proofs.lemmas.Option.{same_Some, none-some, slice_get_within}
+use Rattle.std.proofs.lemmas.Option.{slice_get_within}
 use Rattle.machine_core.specs.declared.status.Status.{Status}
 use Rattle.machine_core.specs.declared.status.Status.TheVariants.{Running, Ended, Trapped}
-use Rattle.verified_code.specs.declared.instr.Instr.{Instr}
-use Rattle.verified_code.specs.Instructions.{CodeSizes, pops}
-use Rattle.verified_code.specs.Verified.{is_exchange}
+use Rattle.code_core.specs.declared.instr.Instr.{Instr}
+use Rattle.code_core.specs.Instructions.{CodeSizes, pops}
+use Rattle.code_core.specs.Verified.{is_exchange}
+use Rattle.code_core.proofs.Offered.{get-set, get-replicate}
 use Rattle.word_core.specs.Stamps.{start_labels}
 use Rattle.step_code.specs.declared.ask.Ask.{Ask}
 use Rattle.step_code.specs.declared.ask.Ask.TheVariants as Q
 use Rattle.step_code.specs.declared.ask.Reply.TheVariants as R
-use Rattle.step_code.specs.Machine.{CodeProcess, CodeState, Moved, Did, alone, asks, did, same_labels, reply_in, labels_by, rows_by, state_after, step_as, step_of, code_step, code_run, start_process, code_start, run_of}
+use Rattle.step_code.specs.Machine.{CodeProcess, CodeState, Moved, CodeStep, alone, asks, did, same_labels, reply_in, labels_by, rows_by, state_after, step_as, step_of, code_step, code_run, start_process, code_start, run_of}
 use Rattle.step_code.specs.Safety.{AreOrdered, IsSafe, NeverStuck, AllSafe, HasWord, IsLawful}
 use Rattle.step_code.specs.Laws.{IsNeverStuck, NeverStuckLaw}
 use Rattle.step_code.proofs.Fine.{Places, verified_places}
 use Rattle.step_code.proofs.Words.{start_in_order, stamped_in_order}
 use Rattle.step_code.proofs.Safe.{DidSafe, did_safe}
-
--- what stands at a place of a list after a write
-pub get-set : {X : Type 0} (xs : List X) (k j : ℕ) (x y : X) → slice_get (set xs k x) j ≡ Some y → ((j ≡ k) × (x ≡ y)) ⊎ (slice_get xs j ≡ Some y)
-get-set [] k j x y at = inr at
-get-set (z ∷ xs) zero zero x y at = inl (refl, same_Some x y at)
-get-set (z ∷ xs) zero (suc j) x y at = inr at
-get-set (z ∷ xs) (suc k) zero x y at = inr at
-get-set (z ∷ xs) (suc k) (suc j) x y at = ⊎_elim (λ (e, same). inl (ap suc e, same)) (λ other. inr other) (get-set xs k j x y at)
-
-pub get-replicate : {X : Type 0} (n k : ℕ) (x y : X) → slice_get (replicate n x) k ≡ Some y → (k < n) × (x ≡ y)
-get-replicate zero k x y at = absurd (none-some y at)
-get-replicate (suc n) zero x y at = (omega arith, same_Some x y at)
-get-replicate (suc n) (suc k) x y at = let h = get-replicate n k x y at in (omega (arith, h.0), h.1)
 
 -- the answers of safe words are lawful
 pub has_word : (n : ℕ) (labels rows : List (List ℕ)) (ask : Ask) → AreOrdered n labels → HasWord n (reply_in labels rows ask)
@@ -81,10 +69,10 @@ module _ (sizes : CodeSizes) (code : List Instr) (p : ℕ) (in_p : p < sizes.pro
   each_after qs q safe each j x at =
       ⊎_elim
       (λ (here, same). subst (λ k. IsSafe sizes code k x) (sym here) (subst (IsSafe sizes code p) same safe))
-      (λ other. each j x other)
+      (λ (apart, other). each j x other)
       (get-set qs p j q x at)
 
-  after_safe : (s : CodeState) (d : Did) → DidSafe sizes code p d → AllSafe sizes code s → AllSafe sizes code (state_after p s d)
+  after_safe : (s : CodeState) (d : CodeStep) → DidSafe sizes code p d → AllSafe sizes code s → AllSafe sizes code (state_after p s d)
   after_safe s (alone m) safe all = record {
     labels = all.labels;
     rows = all.rows;

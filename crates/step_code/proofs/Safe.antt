@@ -11,23 +11,23 @@ use Rattle.machine_core.specs.declared.status.Status.{Status}
 use Rattle.machine_core.specs.declared.event.Act.{Act}
 use Rattle.machine_core.specs.declared.event.Act.TheVariants as A
 use Rattle.machine_core.specs.Operators.{operation}
-use Rattle.verified_code.specs.declared.instr.Instr.{Instr}
-use Rattle.verified_code.specs.declared.instr.Instr.TheVariants as I
-use Rattle.verified_code.specs.Instructions.{CodeSizes, pops, left, target, goes_on}
-use Rattle.verified_code.specs.Heights.{height_at}
-use Rattle.verified_code.specs.Verified.{is_next, is_exchange}
+use Rattle.code_core.specs.declared.instr.Instr.{Instr}
+use Rattle.code_core.specs.declared.instr.Instr.TheVariants as I
+use Rattle.code_core.specs.Instructions.{CodeSizes, pops, left, target, goes_on}
+use Rattle.code_core.specs.Heights.{height_at}
+use Rattle.code_core.specs.Verified.{is_next, is_exchange}
 use Rattle.word_core.specs.Stamps.{start_labels}
 use Rattle.step_code.specs.declared.ask.Ask.TheVariants as Q
 use Rattle.step_code.specs.declared.ask.Reply.{Reply}
 use Rattle.step_code.specs.declared.ask.Reply.TheVariants as R
 use Rattle.step_code.specs.Machine as M
-use Rattle.step_code.specs.Machine.{CodeProcess, Moved, Did, alone, asks}
+use Rattle.step_code.specs.Machine.{CodeProcess, Moved, CodeStep, alone, asks}
 use Rattle.step_code.specs.Safety.{AreOrdered, IsSafe, HasWord, IsLawful}
 use Rattle.step_code.proofs.Fine.{Places, both_true}
 use Rattle.step_code.proofs.Words.{stamped_in_order}
 
 -- what was done leaves a safe process, whatever is answered
-abbrev pub DidSafe : CodeSizes → List Instr → ℕ → Did → Type 0
+abbrev pub DidSafe : CodeSizes → List Instr → ℕ → CodeStep → Type 0
 DidSafe sizes code p (alone m) = IsSafe sizes code p m.process
 DidSafe sizes code p (asks ask answered) =
     IsLawful sizes p ask × ((r : Reply) → HasWord sizes.processes r → IsSafe sizes code p (answered r).process)

@@ -1,37 +1,36 @@
 -- A step of the machine is the defined step, and keeps the machine sound.
-use Rattle.std.proofs.Common.{◌≡◌, ◌⊎◌, inl, inr, ⊎_elim, ℕ, zero, suc, ◌+◌, ◌<◌, false, List, [], ◌∷◌, ◌++◌, refl, ap, ◌∙◌, sym, subst, length, map, set, drop, get_or, replicate, arith, Result, Ok, Err, Option, None, Some, OnOk, OnErr}
-use Rattle.std.specs.Prelude.{slice_get, slice_set, is_some}
+use Rattle.std.proofs.Common.{◌≡◌, ⊎_elim, ℕ, suc, ◌+◌, ◌<◌, false, List, [], ◌∷◌, ◌++◌, refl, ap, ◌∙◌, sym, subst, length, map, set, drop, get_or, replicate, arith, Result, Ok, Err, Option, None, Some, OnOk, OnErr}
+use Rattle.std.specs.Prelude.{slice_get, slice_set, is_some, IsOk}
 use Rattle.std.specs.Option.{option_map}
-use Rattle.std.proofs.lemmas.List.{map-set, length-map, length-append}
-use Rattle.std.proofs.lemmas.Option.{same_Some, none-some, slice_get-map, slice_get_read}
+use Rattle.std.proofs.lemmas.List.{map-set, set-get_or, length-map, length-append}
+use Rattle.std.proofs.lemmas.Option.{none-some, slice_get-map, slice_get_read, get_or_from_slice_get}
 use Rattle.std.proofs.Math.Seq.{drop-cons, drop-length}
 use Rattle.machine_core.specs.declared.status.Status.{Status}
 use Rattle.machine_core.specs.declared.status.Status.TheVariants.{Running, Ended, Trapped}
 use Rattle.machine_core.specs.declared.event.Act.{Act}
 use Rattle.machine_core.specs.declared.event.Event.{Event}
-use Rattle.machine_core.specs.declared.no_memory.NoMemory.{NoMemory}
+use Rattle.base.specs.declared.no_memory.NoMemory.{NoMemory}
 use Rattle.machine_core.specs.Observables.{told}
-use Rattle.verified_code.specs.declared.instr.Instr.{Instr}
-use Rattle.verified_code.specs.Instructions.{StepCode, CodeSizes}
+use Rattle.code_core.specs.declared.instr.Instr.{Instr}
+use Rattle.code_core.specs.Instructions.{StepCode, CodeSizes}
+use Rattle.code_core.proofs.Offered.{get-set, get-snoc}
 use Rattle.step_code.specs.declared.machine.CodeMachine.TheInside.{Inside}
-use Rattle.step_code.specs.Machine.{CodeProcess, CodeState, CodeRun, Did, alone, asks, did, step_as, step_of, code_step, code_run, start_process}
+use Rattle.step_code.specs.Machine.{CodeProcess, CodeState, CodeRun, CodeStep, alone, asks, did, step_as, step_of, code_step, code_run, start_process}
 use Rattle.step_code.specs.Safety.{AreOrdered}
 use Rattle.step_code.specs.Process.{OneProcess, IsOf, next_of}
 use Rattle.step_code.specs.prover.Parts.{moved_as, labels_as, rows_as, Makes, Keeps, state_of, IsSound, AreNew}
 use Rattle.step_code.proofs.Safe.{DidSafe}
-use Rattle.step_code.proofs.Runs.{get-set, labels_ordered, rows_kept}
+use Rattle.step_code.proofs.Runs.{labels_ordered, rows_kept}
 use Rattle.step_code.proofs.Kept.{next_safe}
 
 set_here : {X : Type 0} (xs : List X) (k : ℕ) (x : X) → slice_get xs k ≡ Some x → set xs k x ≡ xs
-set_here [] k x here = refl
-set_here (y ∷ xs) zero x here = ap (λ z. z ∷ xs) (sym (same_Some y x here))
-set_here (y ∷ xs) (suc k) x here = ap (λ zs. y ∷ zs) (set_here xs k x here)
+set_here xs k x here = ap (set xs k) (sym (get_or_from_slice_get xs k x x here)) ∙ set-get_or xs k x
 
 pub held : {X : Type 0} (xs : List X) (p : ℕ) (x : X) → x ≡ get_or xs p x → p < length xs → slice_get xs p ≡ Some x
 held xs p x here inside = slice_get_read xs (length xs) p x refl inside here
 
 -- the state after a step of a process, part by part
-abbrev parts : ℕ → CodeState → CodeProcess → Status → Did → CodeState
+abbrev parts : ℕ → CodeState → CodeProcess → Status → CodeStep → CodeState
 parts p s q status d = record {
   labels = labels_as status d s.labels;
   rows = rows_as status p d s.rows;
@@ -45,14 +44,14 @@ as_parts n code p s q Running here = refl
 as_parts n code p s q Ended here = ap (λ qs. record s { processes = qs }) (set_here s.processes p q here)
 as_parts n code p s q (Trapped t) here = ap (λ qs. record s { processes = qs }) (set_here s.processes p q here)
 
-labels_kept : (sizes : CodeSizes) (code : List Instr) (p : ℕ) (in_p : p < sizes.processes) (status : Status) (d : Did) (labels : List (List ℕ))
+labels_kept : (sizes : CodeSizes) (code : List Instr) (p : ℕ) (in_p : p < sizes.processes) (status : Status) (d : CodeStep) (labels : List (List ℕ))
     → DidSafe sizes code p d → AreOrdered sizes.processes labels → AreOrdered sizes.processes (labels_as status d labels)
 labels_kept sizes code p in_p Running (alone m) labels safe are = are
 labels_kept sizes code p in_p Running (asks ask answered) labels safe are = labels_ordered sizes p in_p ask labels safe.0 are
 labels_kept sizes code p in_p Ended d labels safe are = are
 labels_kept sizes code p in_p (Trapped t) d labels safe are = are
 
-pub length-rows_as : (sizes : CodeSizes) (p : ℕ) (in_p : p < sizes.processes) (status : Status) (d : Did) (rows : List (List ℕ)) → length (rows_as status p d rows) ≡ length rows
+length-rows_as : (sizes : CodeSizes) (p : ℕ) (in_p : p < sizes.processes) (status : Status) (d : CodeStep) (rows : List (List ℕ)) → length (rows_as status p d rows) ≡ length rows
 length-rows_as sizes p in_p Running (alone m) rows = refl
 length-rows_as sizes p in_p Running (asks ask answered) rows = rows_kept sizes p in_p ask rows
 length-rows_as sizes p in_p Ended d rows = refl
@@ -64,6 +63,14 @@ told_same p (Some act) events same =
     let event : Event = record { process = p; act = act } in
     let longer : length events + 1 ≡ length events = sym (length-append events (event ∷ [])) ∙ ap length same in
     absurd (omega arith)
+
+-- What the machine has become once process `p` has stepped, or was refused memory.
+pub record Stepped (m' : Inside) (p : ℕ) (run : CodeRun) (r : Result (Unit {0}) NoMemory) : Type 0 where
+  pub sound : IsSound m'
+  pub ok : OnOk r (state_of m' ≡ code_step run.code.sizes.processes run.code.instructions p run.state)
+  pub err : OnErr r (state_of m' ≡ run.state)
+  pub silent : (code_step run.code.sizes.processes run.code.instructions p run.state).events ≡ run.state.events → IsOk r
+  pub rows : length m'.shared.registers ≡ length run.state.rows
 
 -- Process `p` of the machine steps.
 module _ (m m' : Inside) (sound : IsSound m) (p : ℕ) (one one' : OneProcess) (here : one ≡ get_or m.processes.items p one)
@@ -77,7 +84,7 @@ module _ (m m' : Inside) (sound : IsSound m) (p : ℕ) (one one' : OneProcess) (
   held_of : IsOf code one
   held_of = (sound.each p one at_place).0
 
-  pub held_me : one.me ≡ p
+  held_me : one.me ≡ p
   held_me = (sound.each p one at_place).1
 
   in_p : p < code.sizes.processes
@@ -90,22 +97,19 @@ module _ (m m' : Inside) (sound : IsSound m) (p : ℕ) (one one' : OneProcess) (
   set_back q e =
       ap (map (λ x. x.process)) put_back ∙ map-set (λ x. x.process) m.processes.items p one' ∙ ap (slice_set (state_of m).processes p) e
 
-  stepped : CodeState
-  stepped = code_step code.sizes.processes code.instructions p (state_of m)
-
   is_parts : parts p (state_of m) one.process one.process.status (next_of code one) ≡ code_step code.sizes.processes code.instructions p (state_of m)
   is_parts =
       ap (λ k. parts p (state_of m) one.process one.process.status (did code.sizes.processes k code.instructions one.process)) held_me
       ∙ as_parts code.sizes.processes code.instructions p (state_of m) one.process one.process.status state_held
       ∙ ap (step_of code.sizes.processes code.instructions p (state_of m)) (sym state_held)
 
-  pub made_step : Makes code p m.shared m'.shared one one' m.events.items m'.events.items
+  made_step : Makes code p m.shared m'.shared one one' m.events.items m'.events.items
       → state_of m' ≡ code_step code.sizes.processes code.instructions p (state_of m)
   made_step f =
       (λ i. record { labels = f.labels i; rows = f.rows i; processes = set_back _ f.process i; events = f.told_events i })
       ∙ is_parts
 
-  pub kept_step : Keeps m.shared m'.shared one one' m.events.items m'.events.items → state_of m' ≡ state_of m
+  kept_step : Keeps m.shared m'.shared one one' m.events.items m'.events.items → state_of m' ≡ state_of m
   kept_step f =
       let processes : (state_of m').processes ≡ (state_of m).processes =
       set_back one.process f.process ∙ set_here (state_of m).processes p one.process state_held in
@@ -116,44 +120,40 @@ module _ (m m' : Inside) (sound : IsSound m) (p : ℕ) (one one' : OneProcess) (
       let each : (k : ℕ) (x : OneProcess) → slice_get m'.processes.items k ≡ Some x → IsOf code x × (x.me ≡ k) =
       λ k x at. ⊎_elim
       (λ (there, same). (subst (IsOf code) same of, ap (λ y. y.me) (sym same) ∙ me ∙ sym there))
-      (λ other. sound.each k x other)
+      (λ (apart, other). sound.each k x other)
       (get-set m.processes.items p k one' x (sym (ap (λ xs. slice_get xs k) put_back) ∙ at)) in
       subst (λ b. IsSound (record m' { code = b })) (sym same_code) (record { verified = sound.verified; labels = labels; each = each })
 
-  pub sound_step : (r : Result (Unit {0}) NoMemory) → OnOk r (Makes code p m.shared m'.shared one one' m.events.items m'.events.items)
-      → OnErr r (Keeps m.shared m'.shared one one' m.events.items m'.events.items) → IsOf code one' → one'.me ≡ p → IsSound m'
-  sound_step (Ok u) f k of me =
-      sound_by
-      (subst (AreOrdered code.sizes.processes) (sym f.labels)
-      (labels_kept code.sizes code.instructions p in_p one.process.status (next_of code one) m.shared.labels
-      (subst (λ k. DidSafe code.sizes code.instructions k (next_of code one)) held_me (next_safe code one held_of)) sound.labels))
-      of me
-  sound_step (Err e) f k of me = sound_by (subst (AreOrdered code.sizes.processes) (sym k.labels) sound.labels) of me
+  labels_after : AreOrdered code.sizes.processes (labels_as one.process.status (next_of code one) m.shared.labels)
+  labels_after =
+      labels_kept code.sizes code.instructions p in_p one.process.status (next_of code one) m.shared.labels
+      (subst (λ k. DidSafe code.sizes code.instructions k (next_of code one)) held_me (next_safe code one held_of)) sound.labels
 
-  pub step_ok : (run : CodeRun) → record { code = m.code.now; state = state_of m } ≡ run → (r : Result (Unit {0}) NoMemory)
-      → OnOk r (Makes code p m.shared m'.shared one one' m.events.items m'.events.items)
-      → OnOk r (state_of m' ≡ code_step run.code.sizes.processes run.code.instructions p run.state)
-  step_ok run e (Ok u) f = made_step f ∙ ap (λ x. code_step x.code.sizes.processes x.code.instructions p x.state) e
-  step_ok run e (Err x) f = f
+  module _ (run : CodeRun) (is : record { code = m.code.now; state = state_of m } ≡ run) where
+    silent_act : (code_step run.code.sizes.processes run.code.instructions p run.state).events ≡ run.state.events
+        → is_some (moved_as one.process.status one.process m.shared.labels m.shared.registers (next_of code one)).act ≡ false
+    silent_act same =
+        told_same p (moved_as one.process.status one.process m.shared.labels m.shared.registers (next_of code one)).act m.events.items
+        (ap (λ s. s.events) is_parts ∙ ap (λ x. (code_step x.code.sizes.processes x.code.instructions p x.state).events) is ∙ same ∙ ap (λ x. x.state.events) (sym is))
 
-  pub step_err : (run : CodeRun) → record { code = m.code.now; state = state_of m } ≡ run → (r : Result (Unit {0}) NoMemory)
-      → OnErr r (Keeps m.shared m'.shared one one' m.events.items m'.events.items) → OnErr r (state_of m' ≡ run.state)
-  step_err run e (Ok u) f = f
-  step_err run e (Err x) f = kept_step f ∙ ap (λ y. y.state) e
-
-  pub step_silent : (run : CodeRun) → record { code = m.code.now; state = state_of m } ≡ run
-      → (code_step run.code.sizes.processes run.code.instructions p run.state).events ≡ run.state.events
-      → is_some (moved_as one.process.status one.process m.shared.labels m.shared.registers (next_of code one)).act ≡ false
-  step_silent run e same =
-      told_same p (moved_as one.process.status one.process m.shared.labels m.shared.registers (next_of code one)).act m.events.items
-      (ap (λ s. s.events) is_parts ∙ ap (λ x. (code_step x.code.sizes.processes x.code.instructions p x.state).events) e ∙ same ∙ ap (λ x. x.state.events) (sym e))
-
-  pub step_rows : (run : CodeRun) → record { code = m.code.now; state = state_of m } ≡ run → (r : Result (Unit {0}) NoMemory)
-      → OnOk r (Makes code p m.shared m'.shared one one' m.events.items m'.events.items)
-      → OnErr r (Keeps m.shared m'.shared one one' m.events.items m'.events.items) → length m'.shared.registers ≡ length run.state.rows
-  step_rows run e (Ok u) f k =
-      ap length f.rows ∙ length-rows_as code.sizes p in_p one.process.status (next_of code one) m.shared.registers ∙ ap (λ x. length x.state.rows) e
-  step_rows run e (Err x) f k = ap length k.rows ∙ ap (λ y. length y.state.rows) e
+    pub stepped : (r : Result (Unit {0}) NoMemory) → OnOk r (Makes code p m.shared m'.shared one one' m.events.items m'.events.items)
+        → OnErr r (Keeps m.shared m'.shared one one' m.events.items m'.events.items)
+        → (is_some (moved_as one.process.status one.process m.shared.labels m.shared.registers (next_of code one)).act ≡ false → IsOk r)
+        → IsOf code one' → one'.me ≡ p → Stepped m' p run r
+    stepped (Ok u) f k quiet of me = record {
+      sound = sound_by (subst (AreOrdered code.sizes.processes) (sym f.labels) labels_after) of me;
+      ok = made_step f ∙ ap (λ x. code_step x.code.sizes.processes x.code.instructions p x.state) is;
+      err = k;
+      silent = λ same. quiet (silent_act same);
+      rows = ap length f.rows ∙ length-rows_as code.sizes p in_p one.process.status (next_of code one) m.shared.registers ∙ ap (λ x. length x.state.rows) is;
+    }
+    stepped (Err e) f k quiet of me = record {
+      sound = sound_by (subst (AreOrdered code.sizes.processes) (sym k.labels) sound.labels) of me;
+      ok = f;
+      err = kept_step k ∙ ap (λ x. x.state) is;
+      silent = λ same. quiet (silent_act same);
+      rows = ap length k.rows ∙ ap (λ x. length x.state.rows) is;
+    }
 
 -- what a machine tells of a process
 pub told_of : {X : Type 0} (f : CodeProcess → X) (m : Inside) (p : ℕ) (one : OneProcess) (run : CodeRun) → record { code = m.code.now; state = state_of m } ≡ run
@@ -169,12 +169,6 @@ pub in_range : (m : Inside) (run : CodeRun) (p : ℕ) → record { code = m.code
 in_range m run p e h = omega (arith, ap (λ x. length x.state.processes) e, length-map m.processes.items (λ x. x.process))
 
 -- a process more is made
-get-more : {X : Type 0} (xs : List X) (x : X) (k : ℕ) (y : X) → slice_get (xs ++ x ∷ []) k ≡ Some y → (slice_get xs k ≡ Some y) ⊎ ((k ≡ length xs) × (x ≡ y))
-get-more [] x zero y at = inr (refl, same_Some x y at)
-get-more [] x (suc k) y at = absurd (none-some y at)
-get-more (z ∷ xs) x zero y at = inl at
-get-more (z ∷ xs) x (suc k) y at = ⊎_elim inl (λ (there, same). inr (ap suc there, same)) (get-more xs x k y at)
-
 pub none_new : (code : StepCode) → AreNew code 0 []
 none_new _ = record { many = refl; each = λ p one at. absurd (none-some one at) }
 
@@ -185,17 +179,17 @@ one_more code k xs more one longer new of me start = record {
   each = λ p x at. ⊎_elim
       (λ old. new.each p x old)
       (λ (there, same). subst (λ y. IsOf code y × (y.me ≡ p) × (y.process ≡ start_process code.sizes)) same (of, me ∙ sym (there ∙ new.many), start))
-      (get-more xs one p x (sym (ap (λ ys. slice_get ys p) longer) ∙ at));
+      (get-snoc xs one p x (sym (ap (λ ys. slice_get ys p) longer) ∙ at));
 }
 
-all_start : (xs : List OneProcess) (q : CodeProcess) → ((p : ℕ) (one : OneProcess) → slice_get xs p ≡ Some one → one.process ≡ q)
+each_starts : (xs : List OneProcess) (q : CodeProcess) → ((p : ℕ) (one : OneProcess) → slice_get xs p ≡ Some one → one.process ≡ q)
     → map (λ x. x.process) xs ≡ replicate (length xs) q
-all_start [] q each = refl
-all_start (x ∷ xs) q each = λ i. each 0 x refl i ∷ all_start xs q (λ p one at. each (suc p) one at) i
+each_starts [] q each = refl
+each_starts (x ∷ xs) q each = λ i. each 0 x refl i ∷ each_starts xs q (λ p one at. each (suc p) one at) i
 
 pub processes_new : (code : StepCode) (k : ℕ) (xs : List OneProcess) → AreNew code k xs → map (λ x. x.process) xs ≡ replicate k (start_process code.sizes)
 processes_new code k xs new =
-    all_start xs (start_process code.sizes) (λ p one at. (new.each p one at).2) ∙ ap (λ j. replicate j (start_process code.sizes)) new.many
+    each_starts xs (start_process code.sizes) (λ p one at. (new.each p one at).2) ∙ ap (λ j. replicate j (start_process code.sizes)) new.many
 
 -- one item more of the schedule is done
 pub run_more : (n : ℕ) (code : List Instr) (i : ℕ) (schedule : List ℕ) (s s' : CodeState) → i < length schedule

@@ -1,5 +1,5 @@
 -- What the crate of words offers of labels in order, and when two lists of labels are the same.
-use Rattle.std.proofs.Common.{◌≡◌, ℕ, ◌<◌, true, List, [], ◌∷◌, length, refl, ap, sym, ◌∙◌, arith}
+use Rattle.std.proofs.Common.{◌≡◌, ℕ, ◌<◌, ◌≤◌, true, List, [], ◌∷◌, length, refl, ap, sym, ◌∙◌, arith}
 use Rattle.std.specs.Prelude.{◌==◌, ◌&&◌}
 use Rattle.std.specs.Cmp.{both_ways}
 use Rattle.std.proofs.lemmas.Bool.{eqb-true, eq-eqb}
@@ -44,13 +44,13 @@ labels_self [] = refl
 labels_self (label ∷ labels) = ap (λ t. t && same_labels labels labels) (label_self label) ∙ labels_self labels
 
 -- two words are equal exactly where they hold the same labels
-pub equal_words : (n : ℕ) (a b : List (List ℕ)) → AreLabels n a → AreLabels n b
+pub equal_words : (n : ℕ) → n ≤ 6 → (a b : List (List ℕ)) → AreLabels n a → AreLabels n b
     → ((length a == length b) && (word a == word b)) ≡ same_labels a b
-equal_words n a b are_a are_b =
+equal_words n few a b are_a are_b =
     both_ways ((length a == length b) && (word a == word b)) (same_labels a b)
     (λ equal.
     let packed = both_true (length a == length b) (word a == word b) equal in
-    let same : a ≡ b = distinct_law n a b are_a are_b (eqb-true (word a) (word b) packed.1) in
+    let same : a ≡ b = distinct_law n few a b are_a are_b (eqb-true (word a) (word b) packed.1) in
     ap (same_labels a) (sym same) ∙ labels_self a)
     (λ same.
     let equal : a ≡ b = equal_labels a b same in

@@ -1,8 +1,8 @@
 -- What holds of every run of every verified code.
 use Rattle.std.specs.Prelude.{◌≡◌, ℕ, List, slice_get, Some}
-use Rattle.verified_code.specs.declared.instr.Instr.{Instr}
-use Rattle.verified_code.specs.Instructions.{CodeSizes}
-use Rattle.verified_code.specs.Verified.{IsVerified}
+use Rattle.code_core.specs.declared.instr.Instr.{Instr}
+use Rattle.code_core.specs.Instructions.{CodeSizes}
+use Rattle.code_core.specs.Verified.{IsVerified}
 use Rattle.step_code.specs.Machine.{CodeProcess, run_of}
 use Rattle.step_code.specs.Safety.{AllSafe, NeverStuck}
 

@@ -13,9 +13,9 @@ use Rattle.machine_core.specs.declared.event.Event.{Event}
 use Rattle.machine_core.specs.Operators.{truth_value, operation}
 use Rattle.machine_core.specs.Rows.{start_rows, register_at, register_set}
 use Rattle.machine_core.specs.Observables.{Observables, told, told_ranks}
-use Rattle.verified_code.specs.declared.instr.Instr.{Instr}
-use Rattle.verified_code.specs.declared.instr.Instr.TheVariants as I
-use Rattle.verified_code.specs.Instructions.{CodeSizes, StepCode}
+use Rattle.code_core.specs.declared.instr.Instr.{Instr}
+use Rattle.code_core.specs.declared.instr.Instr.TheVariants as I
+use Rattle.code_core.specs.Instructions.{CodeSizes, StepCode}
 use Rattle.step_code.specs.declared.ask.Ask.{Ask}
 use Rattle.step_code.specs.declared.ask.Ask.TheVariants as Q
 use Rattle.step_code.specs.declared.ask.Reply.{Reply}
@@ -51,9 +51,9 @@ pub record Moved : Type 0 where
   pub act : Option Act
 
 -- What one step does: it is done alone, or it asks for something shared, and the answer decides.
-pub data Did : Type 0 where
-  alone : Moved → Did
-  asks : Ask → (Reply → Moved) → Did
+pub data CodeStep : Type 0 where
+  alone : Moved → CodeStep
+  asks : Ask → (Reply → Moved) → CodeStep
 
 -- A process that runs.
 module _ (q : CodeProcess) where
@@ -113,7 +113,7 @@ module _ (q : CodeProcess) where
   receives r i x (R.Value v) = sets x v (drop 1 q.stack) (Some (A.Get r i v))
   receives r i x _ = stays
 
-  abbrev pub gets : ℕ → ℕ → ℕ → ℕ → Did
+  abbrev pub gets : ℕ → ℕ → ℕ → ℕ → CodeStep
   gets n r i x = if nat_lt i n then asks (Q.Get r i) (receives r i x) else alone (traps T.Index)
 
   abbrev pub writes : ℕ → ℕ → Reply → Moved
@@ -127,7 +127,7 @@ module _ (q : CodeProcess) where
       else traps T.Index
 
   -- What this instruction does, where the process is process `p` of `n`.
-  abbrev pub does : ℕ → ℕ → Instr → Did
+  abbrev pub does : ℕ → ℕ → Instr → CodeStep
   does n p (I.Push v) = alone (goes_on (v ∷ q.stack) None)
   does n p (I.Load x) = alone (goes_on (slice_index q.variables x ∷ q.stack) None)
   does n p I.Me = alone (goes_on (p ∷ q.stack) None)
@@ -148,12 +148,12 @@ module _ (q : CodeProcess) where
   does n p I.Halt = alone (stops Ended A.End)
 
   -- what the instruction at its place does
-  abbrev pub does_at : ℕ → ℕ → Option Instr → Did
+  abbrev pub does_at : ℕ → ℕ → Option Instr → CodeStep
   does_at n p None = alone stays
   does_at n p (Some i) = does n p i
 
 -- one step of process `p` of `n` with this code
-abbrev pub did : ℕ → ℕ → List Instr → CodeProcess → Did
+abbrev pub did : ℕ → ℕ → List Instr → CodeProcess → CodeStep
 did n p code q = does_at q n p (slice_get code q.place)
 
 -- whether these are the same labels
@@ -182,20 +182,20 @@ rows_by p (Q.Put r v) rows = register_set rows r p v
 rows_by p _ rows = rows
 
 -- what the step made, once what is shared has answered
-abbrev pub made : List (List ℕ) → List (List ℕ) → Did → Moved
+abbrev pub made : List (List ℕ) → List (List ℕ) → CodeStep → Moved
 made labels rows (alone m) = m
 made labels rows (asks ask answered) = answered (reply_in labels rows ask)
 
 -- the labels and the rows that it leaves
-abbrev pub labels_left : Did → List (List ℕ) → List (List ℕ)
+abbrev pub labels_left : CodeStep → List (List ℕ) → List (List ℕ)
 labels_left (alone m) labels = labels
 labels_left (asks ask answered) labels = labels_by ask labels
 
-abbrev pub rows_left : ℕ → Did → List (List ℕ) → List (List ℕ)
+abbrev pub rows_left : ℕ → CodeStep → List (List ℕ) → List (List ℕ)
 rows_left p (alone m) rows = rows
 rows_left p (asks ask answered) rows = rows_by p ask rows
 
-abbrev pub state_after : ℕ → CodeState → Did → CodeState
+abbrev pub state_after : ℕ → CodeState → CodeStep → CodeState
 state_after p s d = record {
   labels = labels_left d s.labels;
   rows = rows_left p d s.rows;

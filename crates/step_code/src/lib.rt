@@ -5,18 +5,20 @@
 // itself: it asks for what it needs of the shared words, and goes on by the answer.
 #![tactic(auto)]
 
+mod answering;
 mod ask;
 pub mod laws;
 pub mod machine;
+mod making;
+mod memory;
 mod proc;
-mod process;
 mod ranks;
-mod shared;
 mod stack;
+mod telling;
 
 pub use ask::{Advance, Ask, Reply};
+pub use code_core::{Code, CodeFault, Instr, Sizes, verify};
 pub use code_text::{read_code, write_code};
 pub use machine::{CodeMachine, run};
 pub use machine_core::{Act, Event, NoMemory, Op, Outcome, Status, Trap};
 pub use proc::Proc;
-pub use verified_code::{Code, CodeFault, Instr, Sizes, verify};

@@ -1,18 +1,18 @@
 ghost use Rattle.std.specs.Prelude.{◌≡◌, false, ℕ, ◌<◌, List, length, slice_get, OnOk, OnErr, IfOk, IsOk, IsTrue, Some, is_some, All};
 ghost use Rattle.machine_core.specs.Rows.{register_at};
 ghost use Rattle.machine_core.specs.Observables.{observed};
-ghost use Rattle.step_code.specs.Machine.{code_start, code_step, run_of, statuses_of, places_of, observables};
+ghost use Rattle.step_code.specs.Machine.{code_start, code_step, run_of, statuses_of, places_of, observables, made, labels_left, rows_left};
 ghost use Rattle.step_code.specs.Safety.{AreOrdered};
 ghost use Rattle.step_code.specs.Process.{IsOf, event_of, next_of};
-ghost use Rattle.step_code.specs.prover.Parts.{moved_as, labels_as, rows_as, Makes, Keeps};
+ghost use Rattle.step_code.specs.prover.Parts.{moved_as, Makes, Keeps};
 
 use crate::ask::Advance;
+use crate::memory::CodeMemory;
 use crate::proc::Proc;
-use crate::shared::Shared;
+use code_core::{Code, Instr};
 use machine_core::{Event, NoMemory, Outcome, Status};
 use std::alloc::Global;
 use std::marker::Model;
-use verified_code::Code;
 use word_core::LabelWord;
 
 /// A code on bounded labels, one step at a time. The code says what a step does; which process steps
@@ -20,7 +20,7 @@ use word_core::LabelWord;
 #[derive(Drop)]
 pub struct CodeMachine<'a> {
     code: &'a Code,
-    shared: Shared,
+    shared: CodeMemory,
     processes: Vec<Proc>,
     events: Vec<Event>,
 }
@@ -43,13 +43,11 @@ impl<'a> CodeMachine<'a> {
         ensures start { IfOk result (λ m. m.state ≡ code_start code.now.sizes) }
     {
         let sizes = code.sizes();
-        let shared = Shared::new(alloc, sizes)?;
+        let shared = CodeMemory::new(alloc, sizes)?;
         let n = sizes.processes();
         let mut processes = Vec::with_capacity(alloc, usize::from(n))?;
         for p in 0..n {
-            let Ok(process) = Proc::new(alloc, code, p) else {
-                return Err(NoMemory);
-            };
+            let process = Proc::at_start(alloc, code, p)?;
             processes.push(process)?;
         }
         let events = Vec::with_capacity(alloc, 1)?;
@@ -148,32 +146,44 @@ pub fn run(alloc: Global, code: &Code, schedule: &[u8]) -> Result<Outcome, NoMem
     machine.into_outcome(alloc)
 }
 
-// A step of one process. What is shared answers what it asks.
-fn make(code: &Code, shared: &mut Shared, process: &mut Proc, p: u8) -> Option<Event>
+// Makes this instruction, the next of a process that runs. What is shared answers what it asks.
+fn make(
+    code: &Code,
+    shared: &mut CodeMemory,
+    process: &mut Proc,
+    p: u8,
+    instruction: Instr,
+) -> Option<Event>
     requires of { IsOf code.now process.old }
     requires me { process.old.me ≡ p }
     requires labels { AreOrdered code.now.sizes.processes shared.old.labels }
-    ensures event { result ≡ event_of p (moved_as process.old.process.status process.old.process shared.old.labels shared.old.registers (next_of code.now process.old)).act }
-    ensures process { process.new.process ≡ (moved_as process.old.process.status process.old.process shared.old.labels shared.old.registers (next_of code.now process.old)).process }
-    ensures labels { shared.new.labels ≡ labels_as process.old.process.status (next_of code.now process.old) shared.old.labels }
-    ensures rows { shared.new.registers ≡ rows_as process.old.process.status p (next_of code.now process.old) shared.old.registers }
+    requires running { process.old.process.status ≡ Status.Running }
+    requires here { slice_get code.now.instructions process.old.process.place ≡ Some instruction }
+    ensures event { result ≡ event_of p (made shared.old.labels shared.old.registers (next_of code.now process.old)).act }
+    ensures process { process.new.process ≡ (made shared.old.labels shared.old.registers (next_of code.now process.old)).process }
+    ensures labels { shared.new.labels ≡ labels_left (next_of code.now process.old) shared.old.labels }
+    ensures rows { shared.new.registers ≡ rows_left p (next_of code.now process.old) shared.old.registers }
     ensures me { process.new.me ≡ p }
     ensures of { IsOf code.now process.new }
 {
-    match process.advance(code) {
+    match process.make(code, instruction) {
+        // It had not stopped, so it is never told that it had.
         Advance::Silent | Advance::Stopped => None,
         Advance::Did(event) => Some(event),
         Advance::Ask(ask) => {
             let reply = shared.serve(p, ask);
-            process.answer(code, reply)
+            let again = reply;
+            let event = process.told(code, instruction, again);
+            process.finish(code, instruction, reply);
+            event
         }
     }
 }
 
-// The same with its event. Memory is taken where an event has no room.
+// A step of one process with its event. Memory is taken where an event has no room.
 fn step_one(
     code: &Code,
-    shared: &mut Shared,
+    shared: &mut CodeMemory,
     process: &mut Proc,
     p: u8,
     events: &mut Vec<Event>,
@@ -190,19 +200,11 @@ fn step_one(
     if events.len() == events.capacity() && process.tells(code, &shared.labels) {
         events.reserve(1)?;
     }
-    if let Some(event) = make(code, shared, process, p) {
+    let Some(instruction) = process.instruction(code) else {
+        return Ok(());
+    };
+    if let Some(event) = make(code, shared, process, p, instruction) {
         events.push_reserved(event);
-        make_room(events);
     }
     Ok(())
-}
-
-// Takes room for the next event where there is none. With it no step has to find out first whether
-// it gives an event; where memory is refused now, the step that gives the next one asks again.
-fn make_room(events: &mut Vec<Event>)
-    ensures { events.new.items ≡ events.old.items }
-{
-    if events.len() == events.capacity() {
-        let _ = events.reserve(1);
-    }
 }

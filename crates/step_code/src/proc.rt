@@ -1,23 +1,29 @@
-ghost use Rattle.std.specs.Prelude.{◌≡◌, ◌≢◌, ◌<◌, ℕ, List, Some, slice_get, is_some, IfOk, IfErr, IfSome, IfNone};
-ghost use Rattle.verified_code.specs.Heights.{greatest_height};
+ghost use Rattle.std.specs.Prelude.{◌≡◌, ◌≢◌, ◌<◌, slice_get, replicate, Some, IfOk, IfErr, IfSome, IfNone};
+ghost use Rattle.std.specs.Vec.{vec_items};
 ghost use Rattle.step_code.specs.Machine.{start_process};
-ghost use Rattle.step_code.specs.Safety.{AreOrdered, HasWord};
+ghost use Rattle.step_code.specs.Safety.{HasWord};
 ghost use Rattle.step_code.specs.Process.{IsOf, event_of, advance_of, after_advance, answered_by, advance_as, after_advance_as, answered_as, AsksLawfully, next_of, gives_out};
-ghost use Rattle.step_code.specs.prover.Parts.{moved_as};
 
 use crate::ask::{Advance, Reply};
-use crate::process::Process;
+use crate::stack::{APART, Stack};
+use code_core::{Code, CodeFault, Instr};
 use machine_core::{Event, Status};
-use std::alloc::Global;
+use std::alloc::{AllocError, Global};
 use std::marker::Model;
-use verified_code::{Code, CodeFault, Instr};
 use word_core::LabelWord;
 
 /// One process of a code, which asks for what it needs of the words that all processes share. It
 /// takes all its memory at once. Each of its calls wants the code that it was made of.
 #[derive(Drop)]
 pub struct Proc {
-    process: Process,
+    pub(crate) me: u8,
+    pub(crate) place: u16,
+    pub(crate) stack: Stack,
+    pub(crate) variables: Vec<u32>,
+    pub(crate) scans: Vec<LabelWord>,
+    pub(crate) scratch: LabelWord,
+    pub(crate) beside: LabelWord,
+    pub(crate) status: Status,
 }
 
 impl Model for Proc {
@@ -26,7 +32,16 @@ impl Model for Proc {
 
     ghost Value = { OneProcess };
 
-    ghost view = { λ fields. one_of fields.process };
+    ghost view = { one_of };
+}
+
+// So many of the item, away from what another process writes.
+fn apart<T: Copy>(alloc: Global, item: T, count: u8) -> Result<Vec<T>, AllocError>
+    ensures { IfOk result (λ items. vec_items items ≡ replicate count item) }
+{
+    let mut items = Vec::with_capacity(alloc, usize::from(count) + APART)?;
+    items.resize(usize::from(count), item)?;
+    Ok(items)
 }
 
 impl Proc {
@@ -38,9 +53,27 @@ impl Proc {
         ensures of { IfOk result (IsOf code.now) }
         ensures err { IfErr result (λ fault. fault ≡ CodeFault.NoMemory) }
     {
-        let _sizes = code.sizes();
+        Ok(Proc::at_start(alloc, code, p)?)
+    }
+
+    /// As `new`, for whoever hands on that memory was refused.
+    pub fn at_start(alloc: Global, code: &Code, p: u8) -> Result<Proc, AllocError>
+        requires { p < code.now.sizes.processes }
+        ensures me { IfOk result (λ one. one.me ≡ p) }
+        ensures start { IfOk result (λ one. one.process ≡ start_process code.now.sizes) }
+        ensures of { IfOk result (IsOf code.now) }
+    {
+        let sizes = code.sizes();
+        let start = LabelWord::start(sizes.processes());
         Ok(Proc {
-            process: Process::new(alloc, code, p)?,
+            me: p,
+            place: 0,
+            stack: Stack::new(alloc, code.height())?,
+            variables: apart(alloc, 0, sizes.variables())?,
+            scans: apart(alloc, start, sizes.scans())?,
+            scratch: start,
+            beside: start,
+            status: Status::Running,
         })
     }
 
@@ -54,7 +87,10 @@ impl Proc {
         ensures of { IsOf code.now self.new }
         ensures lawful { AsksLawfully code.now.sizes self.old.me result }
     {
-        self.process.advance(code)
+        match self.instruction(code) {
+            Some(instruction) => self.make(code, instruction),
+            None => Advance::Stopped,
+        }
     }
 
     /// Makes its next instruction by the reply to what it asked for. A reply to something else
@@ -67,7 +103,11 @@ impl Proc {
         ensures me { self.new.me ≡ self.old.me }
         ensures of { IsOf code.now self.new }
     {
-        self.process.answer(code, reply)
+        let instruction = self.instruction(code)?;
+        let again = reply;
+        let event = self.told(code, instruction, again);
+        self.finish(code, instruction, reply);
+        event
     }
 
     /// The instruction that it makes next; `None` where it has stopped.
@@ -78,7 +118,10 @@ impl Proc {
         ensures here { IfSome result (λ instruction. slice_get code.now.instructions self.now.process.place ≡ Some instruction) }
         ensures stopped { IfNone result (self.now.process.status ≢ Status.Running) }
     {
-        self.process.instruction(code)
+        match self.status {
+            Status::Running => Some(code.instr(self.place)),
+            _ => None,
+        }
     }
 
     /// Makes this instruction, the next of a process that has not stopped, as `advance` does. With
@@ -94,7 +137,7 @@ impl Proc {
         ensures of { IsOf code.now self.new }
         ensures lawful { AsksLawfully code.now.sizes self.old.me result }
     {
-        self.process.make(code, instruction)
+        self.perform(code, instruction)
     }
 
     /// Makes this instruction, which asked, by the reply, as `answer` does. What others see of it is
@@ -109,16 +152,7 @@ impl Proc {
         ensures me { self.new.me ≡ self.old.me }
         ensures of { IsOf code.now self.new }
     {
-        self.process.finish(code, instruction, reply);
-    }
-
-    /// Whether its next step gives an event, where these are the shared labels.
-    pub(crate) fn tells(&self, code: &Code, labels: &LabelWord) -> bool
-        requires of { IsOf code.now self.now }
-        requires labels { AreOrdered code.now.sizes.processes labels.now }
-        ensures { (rows : List (List ℕ)) → result ≡ is_some (moved_as self.now.process.status self.now.process labels.now rows (next_of code.now self.now)).act }
-    {
-        self.process.tells(code, labels)
+        self.take_reply(code, instruction, reply);
     }
 
     /// Whether it goes on.
@@ -126,13 +160,13 @@ impl Proc {
     pub fn status(&self) -> Status
         ensures { result ≡ self.now.process.status }
     {
-        self.process.status
+        self.status
     }
 
     pub(crate) fn place(&self) -> u16
         ensures { result ≡ self.now.process.place }
     {
-        self.process.place
+        self.place
     }
 
     /// Whether it runs and its next instruction gives out a value.
@@ -141,6 +175,6 @@ impl Proc {
         requires { IsOf code.now self.now }
         ensures { result ≡ gives_out self.now.process.status (slice_get code.now.instructions self.now.process.place) }
     {
-        self.process.will_out(code)
+        matches!(self.instruction(code), Some(Instr::Out))
     }
 }

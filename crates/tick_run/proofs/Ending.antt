@@ -5,10 +5,10 @@ use Rattle.machine_core.specs.declared.status.Status.{Status}
 use Rattle.machine_core.specs.declared.status.Status.TheVariants.{Running, Ended, Trapped}
 use Rattle.machine_core.specs.declared.run_outcome.RunEnd.TheVariants as E
 use Rattle.word_core.specs.declared.history.Shared.{Shared}
-use Rattle.verified_code.specs.Instructions.{StepCode}
+use Rattle.code_core.specs.Instructions.{StepCode}
 use Rattle.step_code.specs.Machine.{CodeProcess, start_process}
 use Rattle.step_code.specs.Process.{gives_out}
-use Rattle.local_run.specs.Local.{local_start}
+use Rattle.code_local.specs.Local.{local_start}
 use Rattle.tick_run.specs.Runs.{RanSo, EndsAs}
 use Rattle.tick_run.specs.prover.Turns.{IsAt, end_by}
 

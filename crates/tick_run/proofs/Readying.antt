@@ -1,25 +1,17 @@
 -- The pass of all processes is split, one job after another.
-use Rattle.std.proofs.Common.{◌≡◌, ◌⊎◌, inl, inr, ⊎_elim, ℕ, zero, suc, ◌+◌, ◌<◌, ◌≤◌, true, false, List, [], ◌∷◌, ◌++◌, length, refl, ap, sym, subst, ◌∙◌, arith}
+use Rattle.std.proofs.Common.{◌≡◌, ⊎_elim, ℕ, zero, suc, ◌+◌, ◌<◌, ◌≤◌, true, false, List, [], ◌∷◌, ◌++◌, length, refl, ap, sym, subst, ◌∙◌, arith}
 use Rattle.std.specs.Prelude.{min, Some, slice_get, slice_set, vec_items, vec_capacity}
 use Rattle.std.proofs.lemmas.Bool.{lt-ltb}
 use Rattle.std.proofs.lemmas.List.{length-append, get_or-set_same, get_or-set_other}
-use Rattle.verified_code.specs.Instructions.{StepCode}
+use Rattle.code_core.specs.Instructions.{StepCode}
 use Rattle.step_code.specs.Machine.{start_process}
 use Rattle.step_code.specs.Process.{OneProcess, IsOf}
+use Rattle.step_code.proofs.Offered.{get-snoc}
 use Rattle.stamp_table.specs.Passes.{TableView, PassView, Holds, none_held, first_held, whole, part}
 use Rattle.tick_run.specs.declared.jobs.Job.{Job}
 use Rattle.tick_run.specs.prover.Work.{CanWork, AreSplit}
 
--- what stands in a list with one more at its end
-pub get_snoc : {X : Type 0} (xs : List X) (y : X) (k : ℕ) (x : X) → slice_get (xs ++ y ∷ []) k ≡ Some x
-    → (slice_get xs k ≡ Some x) ⊎ ((k ≡ length xs) × (y ≡ x))
-get_snoc [] y zero x at = inr (refl, cc)
-get_snoc [] y (suc k) x at = absurd (cc)
-get_snoc (z ∷ xs) y zero x at = inl at
-get_snoc (z ∷ xs) y (suc k) x at =
-    ⊎_elim inl (λ last. inr (ap suc last.0, last.1)) (get_snoc xs y k x at)
-
--- and in its beginning
+-- what stands in the beginning of a list with one more at its end
 pub get_left : {X : Type 0} (xs : List X) (y : X) (k : ℕ) (x : X) → slice_get xs k ≡ Some x → slice_get (xs ++ y ∷ []) k ≡ Some x
 get_left [] y k x at = absurd (cc)
 get_left (z ∷ xs) y zero x at = at
@@ -74,7 +66,7 @@ one_split {G} t c turns outs made left rest jobs more job was parted longer proc
       let here : made ≡ p = sym (last.0 ∙ was.count) in
       subst (λ (j : Job G). (j.process ≡ p) × CanWork t c p turns outs j.proc j.pass (vec_items j.outputs) (vec_capacity j.outputs)) last.1
       (process ∙ here, subst (λ k. CanWork t c k turns outs job.proc job.pass (vec_items job.outputs) (vec_capacity job.outputs)) here can))
-      (get_snoc jobs job p other (ap (λ xs. slice_get xs p) (sym longer) ∙ at));
+      (get-snoc jobs job p other (ap (λ xs. slice_get xs p) (sym longer) ∙ at));
 }
 
 -- a process before its first instruction, with the pass that was split off for it

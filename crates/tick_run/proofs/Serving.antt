@@ -5,14 +5,14 @@ use Rattle.word_core.specs.Packed.{AreLabels, word}
 use Rattle.word_core.specs.declared.history.SharedAct.{SharedAct}
 use Rattle.word_core.specs.declared.history.SharedAct.TheVariants.{Load, Won, Lost, Read, Write}
 use Rattle.word_core.proofs.OfferedHistory.{history_labels}
-use Rattle.verified_code.specs.Instructions.{StepCode}
+use Rattle.code_core.specs.Instructions.{StepCode}
 use Rattle.step_code.specs.declared.ask.Ask.{Ask}
 use Rattle.step_code.specs.declared.ask.Ask.TheVariants as Q
 use Rattle.step_code.specs.declared.ask.Reply.{Reply}
 use Rattle.step_code.specs.declared.ask.Reply.TheVariants as R
 use Rattle.stamp_table.specs.Passes.{TableView, PassView, Holds, by, Appends, memory_seen}
 use Rattle.stamp_table.proofs.Offered.{extends_own}
-use Rattle.local_run.specs.Local.{act_of, TellsLabels}
+use Rattle.code_local.specs.Local.{act_of, TellsLabels}
 use Rattle.tick_run.specs.prover.Turns.{IsFor, IsServed}
 
 module _ (t : TableView) (c : StepCode) (p : ℕ) (ask : Ask) (old new : PassView) (fits_code : IsFor t c) (here : old.table ≡ t) (held : Holds old.held p) where
@@ -26,7 +26,7 @@ module _ (t : TableView) (c : StepCode) (p : ℕ) (ask : Ask) (old new : PassVie
   }
 
   -- the labels that the pass has seen
-  seen_labels : (act : SharedAct) (labels : List (List ℕ)) → Appends old (by p act) new → labels ≡ (memory_seen new).labels → AreLabels c.sizes.processes labels
+  pub seen_labels : (act : SharedAct) (labels : List (List ℕ)) → Appends old (by p act) new → labels ≡ (memory_seen new).labels → AreLabels c.sizes.processes labels
   seen_labels act labels appends same =
       subst (AreLabels c.sizes.processes) (sym same)
       (subst (λ k. AreLabels k (memory_seen new).labels) (ap (λ (u : TableView). u.n) (appends.table ∙ here) ∙ fits_code.processes)

@@ -5,13 +5,14 @@ use Rattle.std.proofs.lemmas.Bool.{cases_eq}
 use Rattle.std.proofs.lemmas.List.{length-append}
 use Rattle.std.proofs.lemmas.Option.{slice_get_within}
 use Rattle.machine_core.specs.declared.run_outcome.RunEnd.{RunEnd}
-use Rattle.verified_code.specs.Instructions.{StepCode}
+use Rattle.code_core.specs.Instructions.{StepCode}
 use Rattle.stamp_table.specs.Passes.{TableView, PassView, Holds, mine, Meets}
 use Rattle.stamp_table.proofs.Offered.{together_first, together_second}
 use Rattle.tick_run.specs.Runs.{RanSo}
 use Rattle.tick_run.specs.declared.jobs.Job.{Job}
 use Rattle.tick_run.specs.prover.Work.{CanWork, IsWork, AreReady, Gathers}
-use Rattle.tick_run.proofs.Readying.{get_snoc, get_left, get_last}
+use Rattle.step_code.proofs.Offered.{get-snoc}
+use Rattle.tick_run.proofs.Readying.{get_left, get_last}
 
 pub ready_rest : {G : Type 0} (t : TableView) (c : StepCode) (turns outs : ℕ) (jobs rest : List (Job G)) (job : Job G)
     → AreReady t c turns outs jobs → jobs ≡ rest ++ job ∷ [] → AreReady t c turns outs rest
@@ -62,7 +63,7 @@ module _ (t : TableView) (c : StepCode) (turns outs n : ℕ) (pass other met : P
       (λ soon.
       subst (λ steps. RanSo c p turns outs steps values way) (sym (meets.first_mine p (was.held p small))) (was.each p values way early soon))
       (λ last. absurd (omega (arith, small, last.0, was.all_ends)))
-      (get_snoc ends end p way (ap (λ xs. slice_get xs p) (sym more_ends) ∙ at_way)))
+      (get-snoc ends end p way (ap (λ xs. slice_get xs p) (sym more_ends) ∙ at_way)))
       (λ late.
       ⊎_elim
       (λ soon. absurd (omega (arith, late.0, was.all_outputs, slice_get_within ends p way soon, was.all_ends)))
@@ -74,8 +75,8 @@ module _ (t : TableView) (c : StepCode) (turns outs n : ℕ) (pass other met : P
       (subst (λ v. RanSo c n turns outs (mine n other.seen) v end) late.1 work.ran))
       in
       subst (λ k. RanSo c k turns outs (mine k met.seen) values way) here ran)
-      (get_snoc ends end p way (ap (λ xs. slice_get xs p) (sym more_ends) ∙ at_way)))
-      (get_snoc outputs given p values (ap (λ xs. slice_get xs p) (sym more_outputs) ∙ at_values))
+      (get-snoc ends end p way (ap (λ xs. slice_get xs p) (sym more_ends) ∙ at_way)))
+      (get-snoc outputs given p values (ap (λ xs. slice_get xs p) (sym more_outputs) ∙ at_values))
 
   pub gathers_next : Gathers t c turns outs (n + 1) met more further
   gathers_next = record {

@@ -10,20 +10,20 @@ use Rattle.machine_core.specs.declared.event.Event.{Event}
 use Rattle.machine_core.specs.Observables.{told}
 use Rattle.word_core.specs.declared.history.Shared.{Shared}
 use Rattle.word_core.specs.declared.history.SharedAct.{SharedAct}
-use Rattle.verified_code.specs.declared.instr.Instr.{Instr}
-use Rattle.verified_code.specs.declared.instr.Instr.TheVariants as I
-use Rattle.verified_code.specs.Instructions.{StepCode}
+use Rattle.code_core.specs.declared.instr.Instr.{Instr}
+use Rattle.code_core.specs.declared.instr.Instr.TheVariants as I
+use Rattle.code_core.specs.Instructions.{StepCode}
 use Rattle.step_code.specs.declared.ask.Ask.{Ask}
 use Rattle.step_code.specs.declared.ask.Reply.{Reply}
 use Rattle.step_code.specs.declared.ask.Reply.TheVariants as R
 use Rattle.step_code.specs.declared.ask.Advance.{Advance}
 use Rattle.step_code.specs.declared.ask.Advance.TheVariants as V
 use Rattle.step_code.specs.Machine as M
-use Rattle.step_code.specs.Machine.{CodeProcess, Moved, Did, alone, asks, did}
+use Rattle.step_code.specs.Machine.{CodeProcess, Moved, CodeStep, alone, asks, did}
 use Rattle.step_code.specs.Process.{event_of, shown, advance_of, after_advance, answered_by, is_out, gives_out}
 use Rattle.stamp_table.specs.Passes.{by}
-use Rattle.local_run.specs.Local.{Local, act_of, TellsLabels, moved_alone, moved_with, Makes, LocalStep, output_of, outputs_of}
-use Rattle.local_run.proofs.Offered.{local_run_next, outputs_of-told}
+use Rattle.code_local.specs.Local.{Local, act_of, TellsLabels, moved_alone, moved_with, Makes, LocalStep, output_of, outputs_of}
+use Rattle.code_local.proofs.Offered.{local_run_next, outputs_of-told}
 use Rattle.tick_run.specs.declared.worker.Turn.TheVariants as T
 use Rattle.tick_run.specs.prover.Turns.{IsAt, IsTurn, turn_by}
 
@@ -37,7 +37,7 @@ outputs_told p None events = sym (append-nil (outputs_of events))
 outputs_told p (Some act) events = outputs_of-told p act events
 
 -- what is done alone gives out a value only at Out
-abbrev act_alone : Did → Option Act
+abbrev act_alone : CodeStep → Option Act
 act_alone (alone m) = m.act
 act_alone (asks ask answered) = None
 
@@ -45,7 +45,7 @@ results_out : (q : CodeProcess) (below : List ℕ) (r : Result ℕ Trap) (v : �
 results_out q below (Ok w) v e = cc
 results_out q below (Err t) v e = cc
 
-gets_out : (q : CodeProcess) (b : Bool) (d : Did) (t : Trap) (v : ℕ) → act_alone d ≡ None → act_alone (if b then d else alone (M.traps q t)) ≡ Some (A.Out v) → ⊥
+gets_out : (q : CodeProcess) (b : Bool) (d : CodeStep) (t : Trap) (v : ℕ) → act_alone d ≡ None → act_alone (if b then d else alone (M.traps q t)) ≡ Some (A.Out v) → ⊥
 gets_out q true d t v none e = cc
 gets_out q false d t v none e = cc
 
@@ -62,7 +62,7 @@ out_at_out q n p (Some (I.Older s x)) v e = absurd (compares_out q (nat_lt (slic
 out_at_out q n p (Some _) v e = absurd (cc)
 
 -- an instruction that asks gives nothing out, whatever the reply
-abbrev act_replied : Did → Reply → Option Act
+abbrev act_replied : CodeStep → Reply → Option Act
 act_replied (alone m) reply = None
 act_replied (asks ask answered) reply = (answered reply).act
 
@@ -166,7 +166,7 @@ stopped_shown : (p : ℕ) (act : Option Act) → V.Stopped ≡ shown (event_of p
 stopped_shown p None same = cc
 stopped_shown p (Some act) same = cc
 
-pub never_stopped : (p : ℕ) (d : Did) → V.Stopped ≡ advance_of p d → ⊥
+pub never_stopped : (p : ℕ) (d : CodeStep) → V.Stopped ≡ advance_of p d → ⊥
 never_stopped p (alone m) same = stopped_shown p m.act same
 never_stopped p (asks ask answered) same = cc
 
@@ -178,7 +178,7 @@ module _ (c : StepCode) (p : ℕ) (q : CodeProcess) (running : q.status ≡ Runn
       subst (IsAt c p (count + 1) m.process steps) (ap (λ act. given ++ values_of act) none ∙ append-nil given) (at_alone c p q running count m steps given is at)
   silent_alone m (Some act) some is same = absurd (cc)
 
-  pub silent : (d : Did) (next : CodeProcess) → did c.sizes.processes p c.instructions q ≡ d
+  pub silent : (d : CodeStep) (next : CodeProcess) → did c.sizes.processes p c.instructions q ≡ d
       → V.Silent ≡ advance_of p d → next ≡ after_advance q d → IsTurn T.Went c p q steps next steps
   silent (alone m) next is same goes = subst (λ x. IsTurn T.Went c p q steps x steps) (sym goes) (silent_alone m m.act refl is same)
   silent (asks ask answered) next is same goes = absurd (cc)
@@ -202,13 +202,13 @@ module _ (c : StepCode) (p : ℕ) (q : CodeProcess) (running : q.status ≡ Runn
       let here : act ≡ event.act = ap (act_told act) (sym same) in
       subst (λ a. IsTurn (turn_by a) c p q steps m.process steps) here (turn_alone m act some is)
 
-  pub made : (d : Did) (next : CodeProcess) (event : Event) → did c.sizes.processes p c.instructions q ≡ d
+  pub made : (d : CodeStep) (next : CodeProcess) (event : Event) → did c.sizes.processes p c.instructions q ≡ d
       → V.Did event ≡ advance_of p d → next ≡ after_advance q d → IsTurn (turn_by event.act) c p q steps next steps
   made (alone m) next event is same goes =
       subst (λ x. IsTurn (turn_by event.act) c p q steps x steps) (sym goes) (made_alone m m.act event refl is same)
   made (asks ask answered) next event is same goes = absurd (cc)
 
-  pub asked : (d : Did) (mid next : CodeProcess) (ask : Ask) (reply : Reply) (act : SharedAct)
+  pub asked : (d : CodeStep) (mid next : CodeProcess) (ask : Ask) (reply : Reply) (act : SharedAct)
       → did c.sizes.processes p c.instructions q ≡ d → V.Ask ask ≡ advance_of p d → mid ≡ after_advance q d
       → TellsLabels c.sizes.processes reply → act_of ask reply ≡ Some act
       → next ≡ (answered_by mid (did c.sizes.processes p c.instructions mid) reply).process

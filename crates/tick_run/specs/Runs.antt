@@ -6,11 +6,11 @@ use Rattle.machine_core.specs.declared.run_outcome.RunEnd.TheVariants.{Ended, Tr
 use Rattle.machine_core.specs.Observables.{RunObservables}
 use Rattle.word_core.specs.History.{IsLegal, memory_of}
 use Rattle.word_core.specs.declared.history.Shared.{Shared}
-use Rattle.verified_code.specs.Instructions.{StepCode}
+use Rattle.code_core.specs.Instructions.{StepCode}
 use Rattle.step_code.specs.Machine.{CodeProcess}
 use Rattle.step_code.specs.Process.{gives_out}
 use Rattle.stamp_table.specs.Passes.{mine}
-use Rattle.local_run.specs.Local.{Local, IsLocalRun, outputs_of}
+use Rattle.code_local.specs.Local.{Local, IsLocalRun, outputs_of}
 
 -- A process ends so after `count` of `turns` instructions, where it has given out `given` of `outs`
 -- values. Turns count before outputs, and one that has stopped has spent neither.

@@ -9,10 +9,10 @@ use crate::fault::RunFault;
 use crate::gate::Gate;
 use crate::jobs::{Job, Limits};
 use crate::worker::{Worked, work};
+use code_core::Code;
 use machine_core::RunEnd;
 use stamp_table::{Pass, StampTable};
 use std::thread::{Promise, Scope, Threads};
-use verified_code::Code;
 
 /// What the workers of the first processes came back with.
 #[derive(Drop)]
@@ -65,9 +65,7 @@ pub fn run_jobs<'s, 'e, G: Gate + Send + 's, R: Threads>(
         limits,
         process,
     };
-    let Ok(worker) = scope.spawn_with(promise, move || work(table, code, limits, job)) else {
-        return Err(RunFault::NoThread);
-    };
+    let worker = scope.spawn_with(promise, move || work(table, code, limits, job))?;
     let others = run_jobs(rt, scope, table, code, limits, jobs, none);
     let worked = worker.join(rt);
     Ok(with_worked(table, others?, worked))

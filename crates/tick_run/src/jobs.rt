@@ -7,10 +7,10 @@ ghost use Rattle.tick_run.specs.prover.Work.{AreReady};
 
 use crate::fault::RunFault;
 use crate::gate::Gate;
+use code_core::Code;
 use stamp_table::{Pass, StampTable};
 use std::alloc::Global;
 use step_code::Proc;
-use verified_code::Code;
 
 /// How many instructions a process may make, and how many values it may give out.
 #[derive(Clone, Copy)]
@@ -55,9 +55,7 @@ pub fn jobs_for<G: Gate>(
         let (rest, pass) = table.split(left, process);
         left = rest;
         let outputs = Vec::with_capacity(alloc, room)?;
-        let Ok(proc) = Proc::new(alloc, code, process) else {
-            return Err(RunFault::NoMemory);
-        };
+        let proc = Proc::at_start(alloc, code, process)?;
         jobs.push_reserved(Job {
             process,
             proc,

@@ -9,12 +9,12 @@ use crate::gate::Gate;
 use crate::gathering::{Gathered, run_jobs};
 use crate::jobs::{Limits, jobs_for};
 use crate::registers::{blank_rows, filled_rows};
+use code_core::Code;
 use machine_core::RunOutcome;
 use stamp_table::open;
 use std::alloc::Global;
 use std::sync::Wait;
 use std::thread::{self, Threads};
-use verified_code::Code;
 
 /// Runs each process of the code on a thread of its own, all on one table, until it stops, or has made
 /// `turns` instructions, or would give out one value more than `outs`. A lost exchange counts as an

@@ -9,10 +9,10 @@ ghost use Rattle.tick_run.specs.prover.Work.{CanWork, IsWork};
 
 use crate::gate::Gate;
 use crate::jobs::{Job, Limits};
+use code_core::{Code, Instr};
 use machine_core::{Act, Event, RunEnd, Status};
 use stamp_table::{Pass, StampTable, Swap};
 use step_code::{Advance, Ask, Proc, Reply};
-use verified_code::{Code, Instr};
 
 /// What a worker comes back with.
 #[derive(Drop)]

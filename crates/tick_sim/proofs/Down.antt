@@ -1,104 +1,111 @@
--- The code stands beside the program under the schedule without the steps that end none.
-use Rattle.std.proofs.Common.{◌≡◌, ℕ, Bool, true, false, if◌then◌else◌, List, [], ◌∷◌, length, refl, sym, ◌∙◌, subst, ⊎_elim, Option, Some, None}
+-- The code matches the program under the schedule without the steps that end none: each step of the code
+-- either ends a step of the program, which the program then makes too, or leaves the program where it is.
+-- Of the labels that a stamp has loaded nothing has to be known, since an exchange that is won stamps the
+-- labels that are there.
+use Rattle.std.proofs.Common.{◌≡◌, ℕ, Bool, true, false, if◌then◌else◌, List, [], ◌∷◌, refl, sym, ◌∙◌, subst, ⊎_elim, Option, Some, None}
 use Rattle.std.specs.Prelude.{slice_get}
 use Rattle.machine_core.specs.declared.status.Status.TheVariants.{Running}
-use Rattle.verified_code.specs.declared.instr.Instr.{Instr}
+use Rattle.code_core.specs.declared.instr.Instr.{Instr}
 use Rattle.tick_source.specs.Source as S
 use Rattle.tick_source.specs.Source.{SourceProcess, SourceState}
 use Rattle.step_code.specs.Machine as C
-use Rattle.step_code.specs.Machine.{CodeProcess, CodeState, made}
+use Rattle.step_code.specs.Machine.{CodeProcess, CodeState}
 use Rattle.tick_lower.specs.Lowered.{lowered, lowered_sizes}
-use Rattle.tick_sim.specs.Maps.{ended_at, commit_of, is_commit, down_from, down}
+use Rattle.tick_sim.specs.Maps.{commit_of, is_commit, down_from, down}
 use Rattle.tick_sim.specs.Laws.{DownLaw}
-use Rattle.tick_sim.proofs.Step.{Follows, follow_between, follow_status, Step, together, apart, process_step}
-use Rattle.tick_sim.proofs.Pairs.{map_same, beside}
-use Rattle.tick_sim.proofs.States.{Beside, seen_same, commit_runs, both_after, code_after, stopped_step, runs_or_not}
-use Rattle.tick_sim.proofs.Start.{start_beside}
+use Rattle.tick_sim.proofs.Match.{Matches, NextStep, together, apart, Between}
+use Rattle.tick_sim.proofs.Step.{between_matches, match_status, process_step}
+use Rattle.tick_sim.proofs.Pairs.{first_at}
+use Rattle.tick_sim.proofs.States.{MatchStates, seen_same, match_weaker, commit_runs, both_after, code_after, stopped_step, runs_or_not}
+use Rattle.tick_sim.proofs.Start.{start_between}
 
-module _ (n : ℕ) (code : List Instr) (most : ℕ) where
-  -- of the labels that a stamp has loaded nothing is known
-  abbrev Loaded : List (List ℕ) → Type 0
-  Loaded labels = Unit {0}
+-- of the labels that a stamp has loaded nothing is known
+abbrev Loaded : List (List ℕ) → Type 0
+Loaded labels = Unit {0}
 
-  abbrev Behind : ℕ → SourceProcess → CodeProcess → Type 0
-  Behind p x y = (m : ℕ) × Follows code n p most Loaded m x y
+module _ (n : ℕ) (code : List Instr) where
+  -- a process in any situation
+  abbrev AnyMatch : ℕ → SourceProcess → CodeProcess → Type 0
+  AnyMatch p x y = (m : ℕ) × Matches n code p Loaded m x y
 
-  abbrev Along : SourceState → CodeState → Type 0
-  Along = Beside n Behind
+  -- two states, with each process in any situation
+  abbrev AllMatch : SourceState → CodeState → Type 0
+  AllMatch = MatchStates n AnyMatch
+
+  between_any : (p : ℕ) (x : SourceProcess) (y : CodeProcess) → Between n code x y → AnyMatch p x y
+  between_any p x y between =
+      let matches = between_matches n code p Loaded x y between in
+      (matches.0, matches.2)
 
   -- a step of the code ends a step of the program, which is made too, or leaves the program as it is
-  data Whole (p : ℕ) (s : SourceState) (d' : CodeState) (ends : Bool) : Type 0 where
-    both_make : ends ≡ true → Along (S.source_step n p s) d' → Whole p s d' ends
-    alone_makes : ends ≡ false → Along s d' → Whole p s d' ends
+  data StateStep (p : ℕ) (s : SourceState) (d' : CodeState) (ends : Bool) : Type 0 where
+    both_make : ends ≡ true → AllMatch (S.source_step n p s) d' → StateStep p s d' ends
+    code_makes : ends ≡ false → AllMatch s d' → StateStep p s d' ends
 
-  running_step : (p : ℕ) (s : SourceState) (d : CodeState) (x : SourceProcess) (y : CodeProcess) → slice_get s.processes p ≡ Some x → slice_get d.processes p ≡ Some y
-      → Along s d → y.status ≡ Running → Whole p s (C.code_step n code p d) (is_commit n code p d)
-  running_step p s d x y at_x at_y along runs =
-      let follows : Behind p x y = along.processes.each p x y at_x at_y in
-      let step : Step code n p most Loaded follows.0 x d.labels d.rows (S.did n p s.tickets d.rows x.variables x.scans x.rest) (C.did n p code y) (slice_get code y.place) =
-      process_step code n p most Loaded d.labels d.rows tt follows.0 x y follows.1 runs s.tickets along.agrees in
-      case (follow_status code n p most Loaded follows.0 x y follows.1 ∙ runs)
-      (subst (λ rows. Step code n p most Loaded follows.0 x d.labels d.rows (S.did n p s.tickets rows x.variables x.scans x.rest) (C.did n p code y) (slice_get code y.place)) (sym along.same_rows) step)
+  running_step : (p : ℕ) (s : SourceState) (d : CodeState) (x : SourceProcess) (y : CodeProcess)
+      → slice_get s.processes p ≡ Some x → slice_get d.processes p ≡ Some y → AllMatch s d → y.status ≡ Running
+      → StateStep p s (C.code_step n code p d) (is_commit n code p d)
+  running_step p s d x y at_x at_y all runs =
+      let any : AnyMatch p x y = all.processes.each p x y at_x at_y in
+      case any.0 (match_status n code p Loaded any.0 x y any.1 ∙ runs)
+      (process_step n code p Loaded any.0 x y s d all.agrees all.same_rows tt any.1 runs)
     where
-      ends_is : is_commit n code p d ≡ ended_at (slice_get code y.place) (made d.labels d.rows (C.did n p code y)).act
-      ends_is = commit_runs n code p s d x y at_x at_y runs
+      case : (m : ℕ) → x.status ≡ Running → NextStep n code p Loaded m x y s d
+          → StateStep p s (C.code_step n code p d) (is_commit n code p d)
+      case m source_runs (together some step) =
+          both_make (commit_runs n code p d y at_y runs ∙ step.ends)
+          (both_after n code p s d x y at_x at_y runs AnyMatch AnyMatch all (λ q x y other h. h) source_runs step
+          (between_any p))
+      case m source_runs (apart ends labels rows act m' left matches) =
+          code_makes (commit_runs n code p d y at_y runs ∙ ends)
+          (code_after n code p s d x y at_x at_y runs AnyMatch AnyMatch all (λ q x y other h. h) labels rows act
+          (m', matches))
 
-      case : {m : ℕ} → x.status ≡ Running → Step code n p most Loaded m x d.labels d.rows (S.did n p s.tickets s.rows x.variables x.scans x.rest) (C.did n p code y) (slice_get code y.place)
-          → Whole p s (C.code_step n code p d) (is_commit n code p d)
-      case source_runs (together some ends agrees rows act between) =
-          both_make (ends_is ∙ ends)
-          (both_after n code p s d x y at_x at_y Behind Behind along (λ q x y other h. h) source_runs runs agrees rows act (follow_between code n p most Loaded _ _ between))
-      case source_runs (apart ends labels rows act m' left follows) =
-          alone_makes (ends_is ∙ ends) (code_after n code p s d x y at_x at_y Behind Behind along (λ q x y other h. h) runs labels rows act (m', follows))
-
-  state_step : (p : ℕ) (s : SourceState) (d : CodeState) → Along s d → Whole p s (C.code_step n code p d) (is_commit n code p d)
-  state_step p s d along =
+  state_step : (p : ℕ) (s : SourceState) (d : CodeState) → AllMatch s d
+      → StateStep p s (C.code_step n code p d) (is_commit n code p d)
+  state_step p s d all =
       case (slice_get d.processes p) refl
     where
-      case : (o : Option CodeProcess) → slice_get d.processes p ≡ o → Whole p s (C.code_step n code p d) (is_commit n code p d)
+      case : (o : Option CodeProcess) → slice_get d.processes p ≡ o
+          → StateStep p s (C.code_step n code p d) (is_commit n code p d)
       case None at_y =
-          subst (λ o. Whole p s (C.step_of n code p d o) (commit_of n code p d o)) (sym at_y) (alone_makes refl along)
+          subst (λ o. StateStep p s (C.step_of n code p d o) (commit_of n code p d o)) (sym at_y) (code_makes refl all)
       case (Some y) at_y =
-          ⊎_elim (λ runs. let there = beside s.processes d.processes p y along.processes.many at_y in running_step p s d there.0 y there.1 at_y along runs)
+          ⊎_elim
+          (λ runs.
+          let there = first_at s.processes d.processes p y all.processes.many at_y in
+          running_step p s d there.0 y there.1 at_y all runs)
           (λ has.
           let nothing = stopped_step n code p d y y.status has in
-          subst (λ o. Whole p s (C.step_of n code p d o) (commit_of n code p d o)) (sym at_y)
-          (alone_makes nothing.1 (subst (Along s) (sym nothing.0) along)))
+          subst (λ o. StateStep p s (C.step_of n code p d o) (commit_of n code p d o)) (sym at_y)
+          (code_makes nothing.1 (subst (AllMatch s) (sym nothing.0) all)))
           (runs_or_not y.status)
 
-  pub down_runs : (schedule : List ℕ) (s : SourceState) (d : CodeState) → Along s d → Along (S.source_run n (down_from n code schedule d) s) (C.code_run n code schedule d)
-  down_runs [] s d along = along
-  down_runs (p ∷ schedule) s d along =
+  down_runs : (schedule : List ℕ) (s : SourceState) (d : CodeState) → AllMatch s d
+      → AllMatch (S.source_run n (down_from n code schedule d) s) (C.code_run n code schedule d)
+  down_runs [] s d all = all
+  down_runs (p ∷ schedule) s d all =
       let next : CodeState = C.code_step n code p d in
       let later : List ℕ = down_from n code schedule next in
-      elim (state_step p s d along) as (λ w. Along (S.source_run n (if is_commit n code p d then p ∷ later else later) s) (C.code_run n code schedule next)) [
+      elim (state_step p s d all) as (λ w. AllMatch
+      (S.source_run n (if is_commit n code p d then p ∷ later else later) s) (C.code_run n code schedule next)) [
         | both_make ends after ↦
-            subst (λ b. Along (S.source_run n (if b then p ∷ later else later) s) (C.code_run n code schedule next)) (sym ends)
+            subst (λ b. AllMatch (S.source_run n (if b then p ∷ later else later) s) (C.code_run n code schedule next))
+            (sym ends)
             (down_runs schedule (S.source_step n p s) next after)
-        | alone_makes ends after ↦
-            subst (λ b. Along (S.source_run n (if b then p ∷ later else later) s) (C.code_run n code schedule next)) (sym ends) (down_runs schedule s next after)
+        | code_makes ends after ↦
+            subst (λ b. AllMatch (S.source_run n (if b then p ∷ later else later) s) (C.code_run n code schedule next))
+            (sym ends)
+            (down_runs schedule s next after)
       ]
-
-  pub along_seen : (s : SourceState) (d : CodeState) → Along s d → C.observables d ≡ S.observables s
-  along_seen s d along =
-      seen_same n Behind s d along
-      (map_same (λ x. x.status) (λ y. y.status) s.processes d.processes (record {
-        many = along.processes.many;
-        each = λ p x y at_x at_y. let follows = along.processes.each p x y at_x at_y in follow_status code n p most Loaded follows.0 x y follows.1;
-      }))
 
 pub down_law : DownLaw
 down_law a schedule =
     let n : ℕ = a.processes in
     let code : List Instr = lowered a in
-    let start = start_beside a in
-    along_seen n code (length code) (S.source a (down (lowered_sizes a) code schedule)) (C.run_of (lowered_sizes a) code schedule)
-    (down_runs n code (length code) schedule (S.source_start a) (C.code_start (lowered_sizes a)) (record {
-      agrees = start.agrees;
-      same_rows = start.same_rows;
-      same_events = start.same_events;
-      processes = record {
-        many = start.processes.many;
-        each = λ p x y at_x at_y. follow_between code n p (length code) (λ labels. Unit {0}) x y (start.processes.each p x y at_x at_y);
-      };
-    }))
+    seen_same n (AnyMatch n code) (S.source a (down (lowered_sizes a) code schedule))
+    (C.run_of (lowered_sizes a) code schedule)
+    (down_runs n code schedule (S.source_start a) (C.code_start (lowered_sizes a))
+    (match_weaker n (λ p. Between n code) (AnyMatch n code) (S.source_start a) (C.code_start (lowered_sizes a))
+    (between_any n code) (start_between a)))
+    (λ p x y any. match_status n code p Loaded any.0 x y any.1)

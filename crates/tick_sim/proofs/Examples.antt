@@ -124,10 +124,10 @@ until_back =
     replicate 7 0 ++ replicate 7 1 ++ replicate 7 2 ++ replicate 3 1 ++ replicate 2 0 ++ replicate 3 2 ++ replicate 3 1 ++ replicate 3 2
     ++ replicate 3 1 ++ replicate 3 2 ++ replicate 3 1
 
-its_word : word (run_of (lowered_sizes stamps_and_scans) (lowered stamps_and_scans) until_back).labels ≡ 2196
+its_word : word (run_of (lowered_sizes stamps_and_scans) (lowered stamps_and_scans) until_back).labels ≡ 395011
 its_word = refl
 
-next_word : word (run_of (lowered_sizes stamps_and_scans) (lowered stamps_and_scans) (until_back ++ 0 ∷ [])).labels ≡ 2192
+next_word : word (run_of (lowered_sizes stamps_and_scans) (lowered stamps_and_scans) (until_back ++ 0 ∷ [])).labels ≡ 395008
 next_word = refl
 
 abbrev came_back : Observables

@@ -1,7 +1,7 @@
-mod Quiet
 mod Stands
 mod Scans
 mod Match
+mod Quiet
 mod Statements
 mod Step
 mod Pairs

@@ -7,36 +7,43 @@ use Rattle.std.proofs.lemmas.List.Elements.{All-nil, All-cons, All-append, All-r
 use Rattle.std.proofs.lemmas.Option.{same_Some, none-some}
 use Rattle.machine_core.specs.declared.status.Status.{Status}
 use Rattle.machine_core.specs.declared.status.Status.TheVariants.{Running}
-use Rattle.verified_code.specs.declared.instr.Instr.{Instr}
+use Rattle.code_core.specs.declared.instr.Instr.{Instr}
 use Rattle.tick_source.specs.Source.{SourceState, source_step}
 use Rattle.step_code.specs.Machine as C
 use Rattle.step_code.specs.Machine.{CodeState}
 use Rattle.tick_sim.specs.Maps.{is_commit, one_more, steps_to_commit, repeated, steps_of, down_from, up_from}
-use Rattle.tick_sim.proofs.Pairs.{beside}
-use Rattle.tick_sim.proofs.Up.{steps_by, never_commits, AllRest, Ends, running_ends, moves, stays, turn}
+use Rattle.tick_sim.proofs.Pairs.{first_at}
+use Rattle.tick_sim.proofs.States.{AllBetween}
+use Rattle.tick_sim.proofs.Up.{steps_by, never_commits, EndsWithin, running_ends, between_status, moves, stays, turn}
 use Rattle.tick_sim.proofs.Reached.{told_part, ends_stopped}
 
-module _ (n : ℕ) (code : List Instr) where
-  -- where the whole schedule is done
-  pub down_done : (i : ℕ) (schedule steps : List ℕ) (d : CodeState) (last : List ℕ) → length schedule ≤ i → i ≤ length schedule
-      → steps ++ down_from n code (drop i schedule) d ≡ last → steps ≡ last
-  down_done i schedule steps d last past within whole =
-      let done : i ≡ length schedule = omega arith in
-      sym (append-nil steps) ∙ ap (λ t. steps ++ down_from n code t d) (sym (ap (λ j. drop j schedule) done ∙ drop-length schedule)) ∙ whole
+-- where the whole schedule is done nothing more is added
+pub all_done : (f : List ℕ → List ℕ) → f [] ≡ [] → (i : ℕ) (schedule steps last : List ℕ) → length schedule ≤ i
+    → i ≤ length schedule
+    → steps ++ f (drop i schedule) ≡ last → steps ≡ last
+all_done f none i schedule steps last past within is =
+    let done : length schedule ≡ i = omega arith in
+    sym (append-nil steps) ∙ ap (λ t. steps ++ t) (sym none)
+    ∙ ap (λ t. steps ++ f t) (sym (drop-length schedule) ∙ ap (λ j. drop j schedule) done) ∙ is
 
+module _ (n : ℕ) (code : List Instr) where
   -- what is kept of a lawful schedule is lawful
-  pub down_lawful : (P : ℕ → Type 0) (schedule : List ℕ) (d : CodeState) → All P schedule → All P (down_from n code schedule d)
+  pub down_lawful : (P : ℕ → Type 0) (schedule : List ℕ) (d : CodeState) → All P schedule
+      → All P (down_from n code schedule d)
   down_lawful P [] d all = All-nil P
   down_lawful P (p ∷ schedule) d all =
       let later = down_lawful P schedule (C.code_step n code p d) (λ k x inside. all (suc k) x (omega arith)) in
-      elim (is_commit n code p d) as (λ b. All P (if b then p ∷ down_from n code schedule (C.code_step n code p d) else down_from n code schedule (C.code_step n code p d))) [
+      elim (is_commit n code p d) as (λ b. All P
+      (if b then p ∷ down_from n code schedule (C.code_step n code p d) else down_from n code schedule
+      (C.code_step n code p d))) [
         | true ↦ All-cons P p (down_from n code schedule (C.code_step n code p d)) (all 0 p (omega arith)) later
         | false ↦ later
       ]
 
   -- one item of a schedule of the program
   pub up_more : (i : ℕ) (schedule steps steps' : List ℕ) (d d' : CodeState) (last : List ℕ) → i < length schedule
-      → d' ≡ C.code_run n code (steps_of n code (get_or schedule i 0) d) d → steps' ≡ steps ++ steps_of n code (get_or schedule i 0) d
+      → d' ≡ C.code_run n code (steps_of n code (get_or schedule i 0) d) d
+      → steps' ≡ steps ++ steps_of n code (get_or schedule i 0) d
       → steps ++ up_from n code (drop i schedule) d ≡ last → steps' ++ up_from n code (drop (i + 1) schedule) d' ≡ last
   up_more i schedule steps steps' d d' last inside run grown whole =
       let p : ℕ = get_or schedule i 0 in
@@ -50,17 +57,12 @@ module _ (n : ℕ) (code : List Instr) where
       ∙ ap (λ t. steps ++ up_from n code t d) (sym (drop-cons schedule i 0 inside))
       ∙ whole
 
-  pub up_done : (i : ℕ) (schedule steps : List ℕ) (d : CodeState) (last : List ℕ) → length schedule ≤ i → i ≤ length schedule
-      → steps ++ up_from n code (drop i schedule) d ≡ last → steps ≡ last
-  up_done i schedule steps d last past within whole =
-      let done : i ≡ length schedule = omega arith in
-      sym (append-nil steps) ∙ ap (λ t. steps ++ up_from n code t d) (sym (ap (λ j. drop j schedule) done ∙ drop-length schedule)) ∙ whole
-
   repeated_lawful : (P : ℕ → Type 0) (p : ℕ) (o : Option ℕ) → P p → All P (repeated p o)
   repeated_lawful P p None lawful = All-nil P
   repeated_lawful P p (Some k) lawful = All-replicate P k p lawful
 
-  pub up_lawful : (P : ℕ → Type 0) (schedule : List ℕ) (d : CodeState) → All P schedule → All P (up_from n code schedule d)
+  pub up_lawful : (P : ℕ → Type 0) (schedule : List ℕ) (d : CodeState) → All P schedule
+      → All P (up_from n code schedule d)
   up_lawful P [] d all = All-nil P
   up_lawful P (p ∷ schedule) d all =
       All-append P (steps_of n code p d) (up_from n code schedule (C.code_run n code (steps_of n code p d) d))
@@ -68,26 +70,35 @@ module _ (n : ℕ) (code : List Instr) where
       (up_lawful P schedule (C.code_run n code (steps_of n code p d) d) (λ k x inside. all (suc k) x (omega arith)))
 
   -- where all stand between two steps a process that runs commits
-  pub running_commits : (p : ℕ) (s : SourceState) (d : CodeState) → AllRest n code (length code) s d → slice_get (C.statuses_of d) p ≡ Some Running → Ends n code (length code) p (length code) s d
+  pub running_commits : (p : ℕ) (s : SourceState) (d : CodeState) → AllBetween n code s d
+      → slice_get (C.statuses_of d) p ≡ Some Running → EndsWithin n code (length code) p s d
   running_commits p s d all at_status =
       let there = told_part (λ q. q.status) d.processes p Running at_status in
-      let other = beside s.processes d.processes p there.0 all.processes.many there.1 in
-      (running_ends n code (length code) p s d other.0 there.0 all other.1 there.1 (all.processes.each p other.0 there.0 other.1 there.1) there.2).1
+      let other = first_at s.processes d.processes p there.0 all.processes.many there.1 in
+      let same = between_status n code other.0 there.0 (all.processes.each p other.0 there.0 other.1 there.1) in
+      running_ends n code p s d other.0 there.0 all other.1 there.1 (same ∙ there.2)
 
   -- and after one item they do again
-  pub item_rests : (p : ℕ) (s : SourceState) (d d' : CodeState) → AllRest n code (length code) s d → d' ≡ C.code_run n code (steps_of n code p d) d
-      → (s' : SourceState) × AllRest n code (length code) s' d'
+  pub item_rests : (p : ℕ) (s : SourceState) (d d' : CodeState) → AllBetween n code s d
+      → d' ≡ C.code_run n code (steps_of n code p d) d → (s' : SourceState) × AllBetween n code s' d'
   item_rests p s d d' all run =
-      elim (turn n code (length code) p s d all) as (λ w. (s' : SourceState) × AllRest n code (length code) s' d') [
-        | moves k steps kept after ↦ (
+      elim (turn n code p s d all) as (λ w. (s' : SourceState) × AllBetween n code s' d') [
+        | moves (k, steps, after) kept ↦ (
           source_step n p s,
-          subst (AllRest n code (length code) (source_step n p s)) (sym (run ∙ ap (λ t. C.code_run n code t d) (ap (repeated p) steps))) after,
+          subst (AllBetween n code (source_step n p s))
+              (sym (run ∙ ap (λ t. C.code_run n code t d) (ap (repeated p) steps))) after,
         )
-        | stays steps kept same ↦ (s, subst (AllRest n code (length code) s) (sym (run ∙ ap (λ t. C.code_run n code t d) (ap (repeated p) (steps (length code))))) all)
+        | stays steps kept same
+            ↦ (
+              s,
+              subst (AllBetween n code s)
+                  (sym (run ∙ ap (λ t. C.code_run n code t d) (ap (repeated p) (steps (length code))))) all,
+            )
       ]
 
   -- a process that has stopped makes no step
-  pub stopped_makes_none : (p : ℕ) (d : CodeState) (status : Status) → slice_get (C.statuses_of d) p ≡ Some status → (status ≡ Running → ⊥) → steps_of n code p d ≡ []
+  pub stopped_makes_none : (p : ℕ) (d : CodeState) (status : Status) → slice_get (C.statuses_of d) p ≡ Some status
+      → (status ≡ Running → ⊥) → steps_of n code p d ≡ []
   stopped_makes_none p d status at_status other =
       let nothing = ends_stopped n code p d status at_status other in
       ap (repeated p) (never_commits n code p (length code) d nothing.0 nothing.1)
@@ -97,18 +108,24 @@ module _ (n : ℕ) (code : List Instr) where
   one_less None k is = absurd (none-some k is)
   one_less (Some j) k is = (j, refl, sym (same_Some (suc j) k is))
 
-  pub left_after : (p fuel k : ℕ) (d : CodeState) → is_commit n code p d ≡ false → steps_to_commit n code p (suc fuel) d ≡ Some k
+  pub left_after : (p fuel k : ℕ) (d : CodeState) → is_commit n code p d ≡ false
+      → steps_to_commit n code p (suc fuel) d ≡ Some k
       → (j : ℕ) × (steps_to_commit n code p fuel (C.code_step n code p d) ≡ Some j) × (k ≡ suc j)
   left_after p fuel k d quiet is =
-      one_less (steps_to_commit n code p fuel (C.code_step n code p d)) k (sym (steps_by n code p fuel d false quiet) ∙ is)
+      one_less (steps_to_commit n code p fuel (C.code_step n code p d)) k
+      (sym (steps_by n code p fuel d false quiet) ∙ is)
 
-  pub left_at : (p fuel k : ℕ) (d : CodeState) → is_commit n code p d ≡ true → steps_to_commit n code p (suc fuel) d ≡ Some k → k ≡ 1
+  pub left_at : (p fuel k : ℕ) (d : CodeState) → is_commit n code p d ≡ true
+      → steps_to_commit n code p (suc fuel) d ≡ Some k → k ≡ 1
   left_at p fuel k d ends is = sym (same_Some 1 k (sym (steps_by n code p fuel d true ends) ∙ is))
 
   -- a step that ends none leaves one less
-  pub lead_more : (p k counter : ℕ) (steps steps' whole : List ℕ) (d d' last : CodeState) → counter < length code → is_commit n code p d ≡ false → d' ≡ C.code_step n code p d
-      → steps' ≡ steps ++ p ∷ [] → steps_to_commit n code p (length code - counter) d ≡ Some k → steps ++ replicate k p ≡ whole → C.code_run n code (replicate k p) d ≡ last
-      → (j : ℕ) × (steps_to_commit n code p (length code - (counter + 1)) d' ≡ Some j) × (steps' ++ replicate j p ≡ whole) × (C.code_run n code (replicate j p) d' ≡ last)
+  pub lead_more : (p k counter : ℕ) (steps steps' whole : List ℕ) (d d' last : CodeState) → counter < length code
+      → is_commit n code p d ≡ false → d' ≡ C.code_step n code p d
+      → steps' ≡ steps ++ p ∷ [] → steps_to_commit n code p (length code - counter) d ≡ Some k
+      → steps ++ replicate k p ≡ whole → C.code_run n code (replicate k p) d ≡ last
+      → (j : ℕ) × (steps_to_commit n code p (length code - (counter + 1)) d' ≡ Some j)
+      × (steps' ++ replicate j p ≡ whole) × (C.code_run n code (replicate j p) d' ≡ last)
   lead_more p k counter steps steps' whole d d' last inside quiet step grown is all run =
       let fuel : ℕ = length code - (counter + 1) in
       let same : length code - counter ≡ suc fuel = omega arith in
@@ -116,13 +133,16 @@ module _ (n : ℕ) (code : List Instr) where
       let j : ℕ = less.0 in (
         j,
         ap (steps_to_commit n code p fuel) step ∙ less.1,
-        ap (λ s. s ++ replicate j p) grown ∙ append_assoc steps (p ∷ []) (replicate j p) ∙ ap (λ k. steps ++ replicate k p) (sym less.2) ∙ all,
+        ap (λ s. s ++ replicate j p) grown ∙ append_assoc steps (p ∷ []) (replicate j p)
+            ∙ ap (λ k. steps ++ replicate k p) (sym less.2) ∙ all,
         ap (C.code_run n code (replicate j p)) step ∙ ap (λ k. C.code_run n code (replicate k p) d) (sym less.2) ∙ run,
       )
 
   -- and the one that ends one is the last
-  pub lead_end : (p k counter : ℕ) (steps steps' whole : List ℕ) (d d' last : CodeState) → counter < length code → is_commit n code p d ≡ true → d' ≡ C.code_step n code p d
-      → steps' ≡ steps ++ p ∷ [] → steps_to_commit n code p (length code - counter) d ≡ Some k → steps ++ replicate k p ≡ whole → C.code_run n code (replicate k p) d ≡ last
+  pub lead_end : (p k counter : ℕ) (steps steps' whole : List ℕ) (d d' last : CodeState) → counter < length code
+      → is_commit n code p d ≡ true → d' ≡ C.code_step n code p d
+      → steps' ≡ steps ++ p ∷ [] → steps_to_commit n code p (length code - counter) d ≡ Some k
+      → steps ++ replicate k p ≡ whole → C.code_run n code (replicate k p) d ≡ last
       → (steps' ≡ whole) × (d' ≡ last)
   lead_end p k counter steps steps' whole d d' last inside ends step grown is all run =
       let fuel : ℕ = length code - (counter + 1) in

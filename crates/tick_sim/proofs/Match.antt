@@ -1,140 +1,117 @@
--- The step of the code that ends a step of the program does what that step of the program does.
-use Rattle.std.proofs.Common.{◌≡◌, ℕ, ◌+◌, ◌≤◌, true, List, [], ◌∷◌, ◌++◌, refl, ap, sym, ◌∙◌, subst, arith, Result, Ok, Err, Some}
+-- The relations between a process of a program and the same process of its code.
+--
+-- The central one is `Matches`. It has a case for each situation that the code can be in while the
+-- program stands before its next step:
+--
+--     stopped        both have stopped in the same way
+--     inside         quiet steps lead to the end of the next step, or to a stamp
+--     has_loaded     a stamp has loaded the labels, and makes the next label
+--     has_labelled   it has made the next label, and exchanges the labels
+--
+-- What leads to the end of a step (`Leads`) ends `Between` two steps again, and there the program alone says
+-- which code stands at the place. So nothing is circular: `Between` speaks of code and statements, `Leads` of
+-- `Between`, and `Matches` of `Leads`.
+use Rattle.std.proofs.Common.{◌≡◌, ℕ, suc, ◌+◌, ◌≤◌, ◌⊎◌, true, false, List, [], ◌∷◌, Result, Ok, Err, Option, Some, None}
 use Rattle.std.specs.Prelude.{slice_get}
 use Rattle.machine_core.specs.declared.status.Status.{Status}
 use Rattle.machine_core.specs.declared.status.Status.TheVariants.{Running}
 use Rattle.machine_core.specs.declared.status.Trap.{Trap}
-use Rattle.verified_code.specs.declared.instr.Instr.{Instr}
-use Rattle.verified_code.specs.declared.instr.Instr.TheVariants as I
+use Rattle.code_core.specs.declared.instr.Instr.{Instr}
+use Rattle.code_core.specs.declared.instr.Instr.TheVariants as I
+use Rattle.word_core.specs.Stamps.{stamped}
 use Rattle.word_core.specs.Agreement.{Agrees}
-use Rattle.tick_syntax.specs.Plain.{Expression, stamp, Block, cons}
-use Rattle.tick_source.specs.Values.{value}
+use Rattle.tick_syntax.specs.Plain.{stamp, Block, cons}
 use Rattle.tick_source.specs.Source as S
-use Rattle.tick_source.specs.Source.{SourceProcess}
+use Rattle.tick_source.specs.Source.{SourceProcess, SourceState}
 use Rattle.step_code.specs.Machine as C
-use Rattle.step_code.specs.Machine.{CodeProcess, Moved, Did, alone, asks, made, labels_left, rows_left}
-use Rattle.tick_lower.specs.Lowered.{expression_length, expression_code}
-use Rattle.tick_lower.proofs.Offered.{expression_long, HasAt, has_front, has_back}
-use Rattle.tick_sim.specs.Maps.{ended}
+use Rattle.step_code.specs.Machine.{CodeProcess, CodeState, CodeStep, alone, made, labels_left, rows_left}
+use Rattle.tick_lower.proofs.Offered.{HasAt}
+use Rattle.tick_sim.specs.Maps.{ended, ended_at}
 use Rattle.tick_sim.proofs.Scans.{ScansAgree}
-use Rattle.tick_sim.proofs.Quiet.{at, Traps, Soon, now, Gets, expression_soon}
-use Rattle.tick_sim.proofs.Stands.{Stands}
+use Rattle.tick_sim.proofs.Stands.{StandsAt}
 
+-- ended, or trapped
 abbrev pub HasStopped : Status → Type 0
 HasStopped Running = ⊥
 HasStopped _ = Unit {0}
 
-module _ (code : List Instr) (n p most : ℕ) where
-  -- Both run, with an empty stack, and the code at the place does the statements that remain.
-  pub record Resting (x : SourceProcess) (y : CodeProcess) : Type 0 where
-    pub runs : x.status ≡ Running
-    pub runs_too : y.status ≡ Running
-    pub stack : y.stack ≡ []
-    pub variables : x.variables ≡ y.variables
-    pub scans : ScansAgree n x.scans y.scans
-    pub steps : ℕ
-    pub few : steps ≤ most
-    pub stands : Stands code most steps y.place x.rest
+-- the process at this place, with this stack
+abbrev pub at : CodeProcess → ℕ → List ℕ → CodeProcess
+at q place stack = record q { place = place; stack = stack }
 
-  -- between two steps of the program
-  pub data Between (x : SourceProcess) (y : CodeProcess) : Type 0 where
-    over : x.status ≡ y.status → HasStopped x.status → Between x y
-    rests : Resting x y → Between x y
+-- both run, with the same variables and with scans that agree
+abbrev pub RunAlike : ℕ → SourceProcess → CodeProcess → Type 0
+RunAlike n x y =
+    (x.status ≡ Running) × (y.status ≡ Running) × (x.variables ≡ y.variables) × ScansAgree n x.scans y.scans
 
-  -- What a step of the program did, and what the instruction did that ended it.
-  pub record Matched (labels rows : List (List ℕ)) (d : S.Did) (e : Did) (i : Instr) : Type 0 where
+-- Between two steps of the program: both have stopped, or the code at the place does what remains.
+pub data Between (n : ℕ) (code : List Instr) (x : SourceProcess) (y : CodeProcess) : Type 0 where
+  over : x.status ≡ y.status → HasStopped x.status → Between n code x y
+  rests : RunAlike n x y → y.stack ≡ [] → StandsAt code y.place x.rest → Between n code x y
+
+-- At place `k` a stamp begins, the first of the statements that remain.
+pub record StampBegins (code : List Instr) (rest : Block ℕ) (k : ℕ) (stack : List ℕ) : Type 0 where
+  pub after : Block ℕ
+  pub is : rest ≡ cons stamp after
+  pub empty : stack ≡ []
+  pub has : HasAt code k (I.LoadWord ∷ I.Next ∷ I.Exchange k ∷ [])
+  pub stands : StandsAt code (k + 3) after
+
+module _ (n : ℕ) (code : List Instr) (p : ℕ) where
+  -- Instruction `o` ended a step of the program, and what it did, `e`, is what that step did, `d`.
+  pub record SameStep (labels rows : List (List ℕ)) (d : S.SourceStep) (e : CodeStep) (o : Option Instr) : Type 0 where
+    pub ends : ended_at o (made labels rows e).act ≡ true
     pub agrees : Agrees n d.tickets (labels_left e labels)
     pub same_rows : d.rows ≡ rows_left p e rows
     pub same_act : d.act ≡ (made labels rows e).act
-    pub ends : ended i (made labels rows e).act ≡ true
-    pub between : Between d.process (made labels rows e).process
+    pub between : Between n code d.process (made labels rows e).process
 
--- Process `q` runs this code, and `scans` are those of the program.
-module _ (code : List Instr) (n p most : ℕ) (q : CodeProcess) (scans : List (List ℕ)) where
-  -- The instruction at the place ends the next step of the program, and does what that step does,
-  -- whatever is shared.
-  pub record Matches (rest : Block ℕ) (k : ℕ) (stack : List ℕ) : Type 0 where
-    pub instr : Instr
-    pub here : slice_get code k ≡ Some instr
-    pub match : (tickets : List ℕ) (labels rows : List (List ℕ)) → Agrees n tickets labels
-        → Matched code n p most labels rows (S.did n p tickets rows q.variables scans rest) (C.does (at q k stack) n p instr) instr
+  -- Process `q` runs this code, and `scans` are those of the program.
+  module _ (q : CodeProcess) (scans : List (List ℕ)) (rest : Block ℕ) where
+    -- From this place, with this stack, at most so many steps end the next step of the program, unless an
+    -- exchange is lost: quiet ones, which change the place and the stack alone and ask for nothing that is
+    -- shared, and then the instruction that ends it, whatever is shared, or a stamp.
+    pub data Leads : ℕ → ℕ → List ℕ → Type 0 where
+      ends_here : {m k : ℕ} {stack : List ℕ} → 1 ≤ m → (i : Instr) → slice_get code k ≡ Some i
+          → ((tickets : List ℕ) (labels rows : List (List ℕ)) → Agrees n tickets labels
+          → SameStep labels rows (S.did n p tickets rows q.variables scans rest) (C.does (at q k stack) n p i) (Some i))
+          → Leads m k stack
+      stamps : {m k : ℕ} {stack : List ℕ} → 3 ≤ m → StampBegins code rest k stack → Leads m k stack
+      quietly : {m k k' : ℕ} {stack stack' : List ℕ} (i : Instr) → slice_get code k ≡ Some i
+          → C.does (at q k stack) n p i ≡ alone (record { process = at q k' stack'; act = None }) → ended i None ≡ false
+          → Leads m k' stack' → Leads (suc m) k stack
 
-  -- A stamp begins.
-  pub record Loads (rest : Block ℕ) (k : ℕ) (stack : List ℕ) : Type 0 where
-    pub after : Block ℕ
-    pub is : rest ≡ cons stamp after
-    pub empty : stack ≡ []
-    pub has : HasAt code k (I.LoadWord ∷ I.Next ∷ I.Exchange k ∷ [])
-    pub steps : ℕ
-    pub few : steps ≤ most
-    pub stands : Stands code most steps (k + 3) after
+    -- After an expression: with its value on the stack, or else the statement traps as the expression does.
+    abbrev pub LeadsWith : ℕ → ℕ → List ℕ → Result ℕ Trap → Type 0
+    LeadsWith m k stack (Ok v) = Leads m k (v ∷ stack)
+    LeadsWith m k stack (Err t) =
+        (after : Block ℕ) × ((tickets : List ℕ) (rows : List (List ℕ))
+        → S.did n p tickets rows q.variables scans rest ≡ S.traps n p tickets rows q.variables scans after t)
 
-  -- where quiet steps lead to
-  pub data Goal (rest : Block ℕ) : ℕ → List ℕ → ℕ → Type 0 where
-    commits : {m k : ℕ} {stack : List ℕ} → 1 ≤ m → Matches rest k stack → Goal rest k stack m
-    loads : {m k : ℕ} {stack : List ℕ} → 3 ≤ m → Loads rest k stack → Goal rest k stack m
+  -- `Loaded` is what is known of the labels that a stamp has loaded: it may be nothing.
+  module _ (Loaded : List (List ℕ) → Type 0) where
+    -- At most so many steps of process `p` end the next step of the program, unless an exchange is lost.
+    pub data Matches (m : ℕ) (x : SourceProcess) (y : CodeProcess) : Type 0 where
+      stopped : x.status ≡ y.status → HasStopped x.status → Matches m x y
+      inside : (q : CodeProcess) (k : ℕ) (stack : List ℕ) → y ≡ at q k stack → RunAlike n x q
+          → Leads q x.scans x.rest m k stack → Matches m x y
+      has_loaded : (k : ℕ) → 2 ≤ m → y.place ≡ k + 1 → Loaded y.scratch → RunAlike n x y
+          → StampBegins code x.rest k y.stack → Matches m x y
+      has_labelled : (k : ℕ) → 1 ≤ m → y.place ≡ k + 2 → Loaded y.scratch → y.beside ≡ stamped p y.scratch
+          → RunAlike n x y → StampBegins code x.rest k y.stack → Matches m x y
 
-  -- the step of the program
-  abbrev Source : Block ℕ → List ℕ → List (List ℕ) → S.Did
-  Source rest tickets rows = S.did n p tickets rows q.variables scans rest
+    -- What step `d` of the program is to what `e` of the code did, by instruction `o`: the same step, or
+    -- nobody sees it, and there is less to do or an exchange was lost.
+    pub data ProcessStep (m : ℕ) (x : SourceProcess) (labels rows : List (List ℕ)) (d : S.SourceStep) (e : CodeStep)
+        (o : Option Instr) : Type 0 where
+      together : 1 ≤ m → SameStep labels rows d e o → ProcessStep m x labels rows d e o
+      apart : ended_at o (made labels rows e).act ≡ false → labels_left e labels ≡ labels → rows_left p e rows ≡ rows
+          → (made labels rows e).act ≡ None → (m' : ℕ)
+          → (suc m' ≤ m) ⊎ ((scratch : List (List ℕ)) × Loaded scratch × (C.same_labels labels scratch ≡ false))
+          → Matches m' x (made labels rows e).process → ProcessStep m x labels rows d e o
 
-  abbrev With : Block ℕ → List ℕ → List (List ℕ) → Result ℕ Trap → (ℕ → S.Did) → S.Did
-  With after tickets rows = S.with_value n p tickets rows q.variables scans after
-
-  -- a trap of an expression is a trap of the statement
-  trapped : (rest after : Block ℕ) (t : Trap) (k : ℕ) (stack : List ℕ) → Traps code n p q t k stack
-      → ((tickets : List ℕ) (rows : List (List ℕ)) → Source rest tickets rows ≡ S.traps n p tickets rows q.variables scans after t) → Matches rest k stack
-  trapped rest after t k stack traps is = record {
-    instr = traps.instr;
-    here = traps.here;
-    match = λ tickets labels rows agrees.
-        let both : Matched code n p most labels rows (S.traps n p tickets rows q.variables scans after t) (alone (C.traps (at q k stack) t)) traps.instr =
-        record { agrees = agrees; same_rows = refl; same_act = refl; ends = traps.ends; between = over refl tt } in
-        subst (λ d. Matched code n p most labels rows d (C.does (at q k stack) n p traps.instr) traps.instr) (sym (is tickets rows))
-        (subst (λ e. Matched code n p most labels rows (S.traps n p tickets rows q.variables scans after t) e traps.instr) (sym traps.makes) both);
-  }
-
-  -- an expression, and the instruction that takes its value
-  pub last_value : (rest after : Block ℕ) (e : Expression ℕ) (i : Instr) (is : List Instr) (k : ℕ) (stack : List ℕ) (then_this : List ℕ → List (List ℕ) → ℕ → S.Did)
-      → HasAt code k (expression_code e ++ i ∷ is)
-      → ((tickets : List ℕ) (rows : List (List ℕ)) → Source rest tickets rows ≡ With after tickets rows (value n p q.variables e) (then_this tickets rows))
-      → ((v : ℕ) (tickets : List ℕ) (labels rows : List (List ℕ)) → Agrees n tickets labels
-      → Matched code n p most labels rows (then_this tickets rows v) (C.does (at q (k + expression_length e) (v ∷ stack)) n p i) i)
-      → Soon code n p q (Goal rest) (expression_length e + 1) k stack
-  last_value rest after e i is k stack then_this has source match =
-      expression_soon code n p q (Goal rest) e 1 k stack (has_front code k (expression_code e) (i ∷ is) has) (case (value n p q.variables e) refl)
-    where
-      case : (r : Result ℕ Trap) → value n p q.variables e ≡ r → Gets code n p q (Goal rest) 1 (k + expression_length e) stack r
-      case (Ok v) same =
-          now (commits (omega arith) (record {
-            instr = i;
-            here = (has_back code k (k + expression_length e) (expression_code e) (i ∷ is) (omega (arith, expression_long e)) has).0;
-            match = λ tickets labels rows agrees.
-                subst (λ d. Matched code n p most labels rows d (C.does (at q (k + expression_length e) (v ∷ stack)) n p i) i)
-                (sym (source tickets rows ∙ ap (λ r. With after tickets rows r (then_this tickets rows)) same)) (match v tickets labels rows agrees);
-          }))
-      case (Err t) same =
-          λ k' left stack' some traps.
-          commits some (trapped rest after t k' stack' traps (λ tickets rows. source tickets rows ∙ ap (λ r. With after tickets rows r (then_this tickets rows)) same))
-
-  -- two expressions, and the instruction that takes both values
-  pub two_values : (rest after : Block ℕ) (e f : Expression ℕ) (i : Instr) (k : ℕ) (then_this : List ℕ → List (List ℕ) → ℕ → ℕ → S.Did)
-      → HasAt code k (expression_code e ++ (expression_code f ++ i ∷ []))
-      → ((tickets : List ℕ) (rows : List (List ℕ)) → Source rest tickets rows
-      ≡ With after tickets rows (value n p q.variables e) (λ a. With after tickets rows (value n p q.variables f) (λ b. then_this tickets rows a b)))
-      → ((a b : ℕ) (tickets : List ℕ) (labels rows : List (List ℕ)) → Agrees n tickets labels
-      → Matched code n p most labels rows (then_this tickets rows a b) (C.does (at q (k + expression_length e + expression_length f) (b ∷ a ∷ [])) n p i) i)
-      → Soon code n p q (Goal rest) (expression_length e + (expression_length f + 1)) k []
-  two_values rest after e f i k then_this has source match =
-      expression_soon code n p q (Goal rest) e (expression_length f + 1) k [] (has_front code k (expression_code e) (expression_code f ++ i ∷ []) has) (case (value n p q.variables e) refl)
-    where
-      case : (r : Result ℕ Trap) → value n p q.variables e ≡ r → Gets code n p q (Goal rest) (expression_length f + 1) (k + expression_length e) [] r
-      case (Ok a) same =
-          last_value rest after f i [] (k + expression_length e) (a ∷ []) (λ tickets rows b. then_this tickets rows a b)
-          (has_back code k (k + expression_length e) (expression_code e) (expression_code f ++ i ∷ []) (omega (arith, expression_long e)) has)
-          (λ tickets rows. source tickets rows ∙ ap (λ r. With after tickets rows r (λ a. With after tickets rows (value n p q.variables f) (λ b. then_this tickets rows a b))) same)
-          (match a)
-      case (Err t) same =
-          λ k' left stack' some traps.
-          commits some (trapped rest after t k' stack' traps
-          (λ tickets rows. source tickets rows ∙ ap (λ r. With after tickets rows r (λ a. With after tickets rows (value n p q.variables f) (λ b. then_this tickets rows a b))) same))
+    -- the next step of the process in these two states
+    abbrev pub NextStep : ℕ → SourceProcess → CodeProcess → SourceState → CodeState → Type 0
+    NextStep m x y s d =
+        ProcessStep m x d.labels d.rows (S.did n p s.tickets s.rows x.variables x.scans x.rest) (C.did n p code y)
+        (slice_get code y.place)

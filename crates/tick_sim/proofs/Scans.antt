@@ -12,7 +12,8 @@ pub record ScansAgree (n : ℕ) (scans : List (List ℕ)) (held : List (List (Li
   pub each : (s : ℕ) → Agrees n (get_or scans s (start_tickets n)) (get_or held s (start_labels n))
 
 -- two lists written at one place keep a relation of their elements
-written : {X Y : Type 0} (R : X → Y → Type 0) (xs : List X) (ys : List Y) (s : ℕ) (x c : X) (y d : Y) → length ys ≡ length xs → R x y
+written : {X Y : Type 0} (R : X → Y → Type 0) (xs : List X) (ys : List Y) (s : ℕ) (x c : X) (y d : Y)
+    → length ys ≡ length xs → R x y
     → ((k : ℕ) → R (get_or xs k c) (get_or ys k d)) → (k : ℕ) → R (get_or (set xs s x) k c) (get_or (set ys s y) k d)
 written R [] [] s x c y d same h all k = all k
 written R [] (y' ∷ ys) s x c y d same h all k = absurd (omega arith)
@@ -23,14 +24,16 @@ written R (x' ∷ xs) (y' ∷ ys) (suc s) x c y d same h all zero = all 0
 written R (x' ∷ xs) (y' ∷ ys) (suc s) x c y d same h all (suc k) =
     written R xs ys s x c y d (omega arith) h (λ j. all (suc j)) k
 
-pub scan_taken : (n s : ℕ) (tickets : List ℕ) (labels : List (List ℕ)) (scans : List (List ℕ)) (held : List (List (List ℕ)))
+pub scan_taken : (n s : ℕ) (tickets : List ℕ) (labels : List (List ℕ)) (scans : List (List ℕ))
+    (held : List (List (List ℕ)))
     → Agrees n tickets labels → ScansAgree n scans held → ScansAgree n (set scans s tickets) (set held s labels)
 scan_taken n s tickets labels scans held agrees are = record {
   many = length-set held s labels ∙ are.many ∙ sym (length-set scans s tickets);
   each = written (Agrees n) scans held s tickets (start_tickets n) labels (start_labels n) are.many agrees are.each;
 }
 
-never_taken : {X Y : Type 0} (R : X → Y → Type 0) (x : X) (y : Y) → R x y → (many k : ℕ) → R (get_or (replicate many x) k x) (get_or (replicate many y) k y)
+never_taken : {X Y : Type 0} (R : X → Y → Type 0) (x : X) (y : Y) → R x y → (many k : ℕ)
+    → R (get_or (replicate many x) k x) (get_or (replicate many y) k y)
 never_taken R x y h zero k = h
 never_taken R x y h (suc many) zero = h
 never_taken R x y h (suc many) (suc k) = never_taken R x y h many k

@@ -1,146 +1,142 @@
--- One process of the code beside the same process of the program: each step of the code either ends a
--- step of the program, and both did the same, or nobody sees it.
-use Rattle.std.proofs.Common.{◌≡◌, ℕ, suc, ◌+◌, ◌-◌, ◌≤◌, ◌⊎◌, inl, inr, Bool, true, false, List, [], refl, ap, sym, ◌∙◌, subst, arith, Option, Some, None}
+-- One step of a process of the code that matches its process of the program: it either ends a step of the
+-- program, and both did the same, or nobody sees it and the process matches again, nearer to the end or,
+-- after a lost exchange, where its stamp begins. A case for each situation of `Matches`. That the exchange
+-- stamps rightly asks only that the labels are those that were loaded, not what happened in between.
+use Rattle.std.proofs.Common.{◌≡◌, ℕ, suc, ◌+◌, ◌-◌, ◌≤◌, inl, inr, Bool, true, false, List, [], length, refl, ap, sym, ◌∙◌, subst, arith, Option, Some, None}
 use Rattle.std.specs.Prelude.{slice_get, if◌then◌else◌}
 use Rattle.machine_core.specs.declared.status.Status.TheVariants.{Running}
 use Rattle.machine_core.specs.declared.event.Act.TheVariants as A
-use Rattle.verified_code.specs.declared.instr.Instr.{Instr}
-use Rattle.verified_code.specs.declared.instr.Instr.TheVariants as I
+use Rattle.code_core.specs.declared.instr.Instr.{Instr}
+use Rattle.code_core.specs.declared.instr.Instr.TheVariants as I
 use Rattle.ticket_core.specs.Tickets.{stamp_ticket}
 use Rattle.word_core.specs.Stamps.{stamped}
 use Rattle.word_core.specs.Agreement.{Agrees}
 use Rattle.word_core.proofs.Offered.{agreement_law}
 use Rattle.tick_syntax.specs.Plain.{stamp, cons}
 use Rattle.tick_source.specs.Source as S
-use Rattle.tick_source.specs.Source.{SourceProcess}
+use Rattle.tick_source.specs.Source.{SourceProcess, SourceState}
 use Rattle.step_code.specs.Machine as C
-use Rattle.step_code.specs.Machine.{CodeProcess, Did, alone, asks, made, labels_left, rows_left}
+use Rattle.step_code.specs.Machine.{CodeProcess, CodeState, CodeStep, asks, made, labels_left}
 use Rattle.step_code.specs.declared.ask.Ask.TheVariants as Q
 use Rattle.step_code.specs.declared.ask.Reply.TheVariants as R
 use Rattle.step_code.proofs.Offered.{equal_from_same}
-use Rattle.tick_sim.specs.Maps.{ended, ended_at}
-use Rattle.tick_sim.proofs.Scans.{ScansAgree}
-use Rattle.tick_sim.proofs.Quiet.{at, Soon, now, later}
-use Rattle.tick_sim.proofs.Stands.{Stands}
-use Rattle.tick_sim.proofs.Match.{HasStopped, Between, over, rests, Loads, Goal, commits, loads}
+use Rattle.tick_sim.specs.Maps.{ended}
+use Rattle.tick_sim.proofs.Stands.{StandsAt, stands_few}
+use Rattle.tick_sim.proofs.Match as M
+use Rattle.tick_sim.proofs.Match.{HasStopped, at, RunAlike, Between, over, rests, StampBegins, Leads, ends_here, stamps, quietly, stopped, inside, has_loaded, has_labelled, together, apart}
 use Rattle.tick_sim.proofs.Statements.{stands_lead}
 
--- both run, with the same variables, and with scans that agree
-pub record Both (n : ℕ) (x : SourceProcess) (y : CodeProcess) : Type 0 where
-  pub runs : x.status ≡ Running
-  pub runs_too : y.status ≡ Running
-  pub variables : x.variables ≡ y.variables
-  pub scans : ScansAgree n x.scans y.scans
+module _ (n : ℕ) (code : List Instr) (p : ℕ) (Loaded : List (List ℕ) → Type 0) where
+  abbrev Matches : ℕ → SourceProcess → CodeProcess → Type 0
+  Matches = M.Matches n code p Loaded
 
--- Where process `p` stands in its code beside the program. `Found` is what is known of the labels that
--- its stamp has loaded: it may be nothing.
-module _ (code : List Instr) (n p most : ℕ) (Found : List (List ℕ) → Type 0) where
-  -- so many steps, at most, end the next step of the program, unless an exchange is lost
-  pub data Follows (m : ℕ) (x : SourceProcess) (y : CodeProcess) : Type 0 where
-    stopped : x.status ≡ y.status → HasStopped x.status → Follows m x y
-    calm : (q : CodeProcess) (k : ℕ) (stack : List ℕ) → y ≡ at q k stack → Both n x q → Soon code n p q (Goal code n p most q x.scans x.rest) m k stack → Follows m x y
-    at_next : (k : ℕ) → 2 ≤ m → y.place ≡ k + 1 → Found y.scratch → Both n x y → Loads code n p most y x.scans x.rest k y.stack → Follows m x y
-    at_exchange : (k : ℕ) → 1 ≤ m → y.place ≡ k + 2 → Found y.scratch → y.beside ≡ stamped p y.scratch → Both n x y
-        → Loads code n p most y x.scans x.rest k y.stack → Follows m x y
+  abbrev ProcessStep : ℕ → SourceProcess → List (List ℕ) → List (List ℕ) → S.SourceStep → CodeStep → Option Instr → Type 0
+  ProcessStep = M.ProcessStep n code p Loaded
 
-  pub follow_between : (x : SourceProcess) (y : CodeProcess) → Between code n p most x y → (m : ℕ) × Follows m x y
-  follow_between x y (over same has) = (0, stopped same has)
-  follow_between x y (rests r) = (
-    r.steps,
-    calm y y.place [] (ap (at y y.place) r.stack) (record { runs = r.runs; runs_too = r.runs_too; variables = r.variables; scans = r.scans })
-        (stands_lead code n p most y x.scans r.runs_too r.scans r.steps y.place x.rest r.stands),
+  pub between_matches : (x : SourceProcess) (y : CodeProcess) → Between n code x y
+      → (m : ℕ) × (m ≤ length code) × Matches m x y
+  between_matches x y (over same has) = (0, omega arith, stopped same has)
+  between_matches x y (rests alike stack (m, stands)) = (
+    m,
+    stands_few code m y.place x.rest stands,
+    inside y y.place [] (ap (at y y.place) stack) alike
+        (stands_lead n code p y x.scans alike.1 alike.3 m y.place x.rest stands),
   )
 
-  pub follow_status : (m : ℕ) (x : SourceProcess) (y : CodeProcess) → Follows m x y → x.status ≡ y.status
-  follow_status m x y (stopped same has) = same
-  follow_status m x y (calm q k stack is both soon) = both.runs ∙ sym both.runs_too ∙ ap (λ y. y.status) (sym is)
-  follow_status m x y (at_next k few place found both l) = both.runs ∙ sym both.runs_too
-  follow_status m x y (at_exchange k few place found beside both l) = both.runs ∙ sym both.runs_too
+  pub match_status : (m : ℕ) (x : SourceProcess) (y : CodeProcess) → Matches m x y → x.status ≡ y.status
+  match_status m x y (stopped same has) = same
+  match_status m x y (inside q k stack is alike leads) = alike.0 ∙ sym alike.1 ∙ ap (λ y. y.status) (sym is)
+  match_status m x y (has_loaded k few place loaded alike begun) = alike.0 ∙ sym alike.1
+  match_status m x y (has_labelled k few place loaded beside alike begun) = alike.0 ∙ sym alike.1
 
-  -- What step `d` of the program is to what `e` of the code did, which made instruction `o`.
-  pub data Step (m : ℕ) (x : SourceProcess) (labels rows : List (List ℕ)) (d : S.Did) (e : Did) (o : Option Instr) : Type 0 where
-    together : 1 ≤ m → ended_at o (made labels rows e).act ≡ true → Agrees n d.tickets (labels_left e labels) → d.rows ≡ rows_left p e rows → d.act ≡ (made labels rows e).act
-        → Between code n p most d.process (made labels rows e).process → Step m x labels rows d e o
-    apart : ended_at o (made labels rows e).act ≡ false → labels_left e labels ≡ labels → rows_left p e rows ≡ rows → (made labels rows e).act ≡ None
-        → (m' : ℕ) → (suc m' ≤ m) ⊎ ((scratch : List (List ℕ)) × Found scratch × (C.same_labels labels scratch ≡ false)) → Follows m' x (made labels rows e).process
-        → Step m x labels rows d e o
-
-  module _ (labels rows : List (List ℕ)) (found : Found labels) where
+  module _ (labels rows : List (List ℕ)) (loaded : Loaded labels) where
     -- an instruction at the place of the process
-    step_at : (m : ℕ) (x : SourceProcess) (y : CodeProcess) (d : S.Did) (i : Instr) → slice_get code y.place ≡ Some i
-        → Step m x labels rows d (C.does y n p i) (Some i) → Step m x labels rows d (C.did n p code y) (slice_get code y.place)
-    step_at m x y d i here step = subst (λ o. Step m x labels rows d (C.does_at y n p o) o) (sym here) step
+    step_at : (m : ℕ) (x : SourceProcess) (y : CodeProcess) (d : S.SourceStep) (i : Instr) → slice_get code y.place ≡ Some i
+        → ProcessStep m x labels rows d (C.does y n p i) (Some i)
+        → ProcessStep m x labels rows d (C.did n p code y) (slice_get code y.place)
+    step_at m x y d i here step = subst (λ o. ProcessStep m x labels rows d (C.does_at y n p o) o) (sym here) step
 
-    calm_step : (m : ℕ) (x : SourceProcess) (q : CodeProcess) (k : ℕ) (stack : List ℕ) → Both n x q → Soon code n p q (Goal code n p most q x.scans x.rest) m k stack
-        → (tickets : List ℕ) → Agrees n tickets labels
-        → Step m x labels rows (S.did n p tickets rows q.variables x.scans x.rest) (C.did n p code (at q k stack)) (slice_get code k)
-    calm_step m x q k stack both (now (commits some matches)) tickets agrees =
-        let matched = matches.match tickets labels rows agrees in
-        step_at m x (at q k stack) (S.did n p tickets rows q.variables x.scans x.rest) matches.instr matches.here
-        (together some matched.ends matched.agrees matched.same_rows matched.same_act matched.between)
-    calm_step m x q k stack both (now (loads three l)) tickets agrees =
-        step_at m x (at q k stack) (S.did n p tickets rows q.variables x.scans x.rest) I.LoadWord l.has.0
-        (apart refl refl refl refl (m - 1) (inl (omega arith))
-        (at_next k (omega arith) refl found (record { runs = both.runs; runs_too = both.runs_too; variables = both.variables; scans = both.scans })
-        (record { after = l.after; is = l.is; empty = l.empty; has = l.has; steps = l.steps; few = l.few; stands = l.stands })))
-    calm_step _ x q k stack both (later {m = m} {k1 = k1} {stack1 = stack1} quiet soon) tickets agrees =
-        step_at (suc m) x (at q k stack) (S.did n p tickets rows q.variables x.scans x.rest) quiet.instr quiet.here
-        (subst (λ e. Step (suc m) x labels rows (S.did n p tickets rows q.variables x.scans x.rest) e (Some quiet.instr)) (sym quiet.makes)
-        (apart quiet.quiet refl refl refl m (inl (omega arith)) (calm q k1 stack1 refl both soon)))
-
-    next_step : (m : ℕ) (x : SourceProcess) (y : CodeProcess) (k : ℕ) → 2 ≤ m → y.place ≡ k + 1 → Found y.scratch → Both n x y → Loads code n p most y x.scans x.rest k y.stack
-        → (d : S.Did) → Step m x labels rows d (C.did n p code y) (slice_get code y.place)
-    next_step m x y k few place has both l d =
-        step_at m x y d I.Next (ap (slice_get code) place ∙ l.has.1.0)
-        (apart refl refl refl refl (m - 1) (inl (omega arith))
-        (at_exchange k (omega arith) (omega (arith, place)) has refl (record { runs = both.runs; runs_too = both.runs_too; variables = both.variables; scans = both.scans })
-        (record { after = l.after; is = l.is; empty = l.empty; has = l.has; steps = l.steps; few = l.few; stands = l.stands })))
+    inside_step : (m : ℕ) (x : SourceProcess) (q : CodeProcess) (k : ℕ) (stack : List ℕ) → RunAlike n x q
+        → Leads n code p q x.scans x.rest m k stack → (tickets : List ℕ) → Agrees n tickets labels
+        → ProcessStep m x labels rows (S.did n p tickets rows q.variables x.scans x.rest)
+        (C.did n p code (at q k stack)) (slice_get code k)
+    inside_step m x q k stack alike (ends_here some i here same_step) tickets agrees =
+        step_at m x (at q k stack) (S.did n p tickets rows q.variables x.scans x.rest) i here
+        (together some (same_step tickets labels rows agrees))
+    inside_step m x q k stack alike (stamps three begun) tickets agrees =
+        step_at m x (at q k stack) (S.did n p tickets rows q.variables x.scans x.rest) I.LoadWord begun.has.0
+        (apart refl refl refl refl (m - 1) (inl (omega arith)) (has_loaded k (omega arith) refl loaded alike begun))
+    inside_step _ x q k stack alike (quietly {m = m} {k' = k'} {stack' = stack'} i here makes quiet leads) tickets
+        agrees =
+        step_at (suc m) x (at q k stack) (S.did n p tickets rows q.variables x.scans x.rest) i here
+        (subst (λ e. ProcessStep (suc m) x labels rows (S.did n p tickets rows q.variables x.scans x.rest) e (Some i))
+        (sym makes)
+        (apart quiet refl refl refl m (inl (omega arith)) (inside q k' stack' refl alike leads)))
 
     -- an exchange is won where the labels are those that were loaded
-    exchange_step : (m : ℕ) (x : SourceProcess) (y : CodeProcess) (k : ℕ) → 1 ≤ m → y.place ≡ k + 2 → Found y.scratch → y.beside ≡ stamped p y.scratch → Both n x y
-        → Loads code n p most y x.scans x.rest k y.stack → (tickets : List ℕ) → Agrees n tickets labels → (won : Bool) → C.same_labels labels y.scratch ≡ won
-        → Step m x labels rows (S.did n p tickets rows x.variables x.scans x.rest)
+    exchange_step : (m : ℕ) (x : SourceProcess) (y : CodeProcess) (k : ℕ) → 1 ≤ m → y.place ≡ k + 2 → Loaded y.scratch
+        → y.beside ≡ stamped p y.scratch → RunAlike n x y → StampBegins code x.rest k y.stack
+        → (tickets : List ℕ) → Agrees n tickets labels → (won : Bool) → C.same_labels labels y.scratch ≡ won
+        → ProcessStep m x labels rows (S.did n p tickets rows x.variables x.scans x.rest)
         (asks (Q.Exchange y.scratch y.beside) (C.exchanges y k)) (Some (I.Exchange k))
-    exchange_step m x y k few place has beside both l tickets agrees true won =
+    exchange_step m x y k few place has beside alike begun tickets agrees true won =
         let same : labels ≡ y.scratch = equal_from_same labels y.scratch won in
-        let exchange : Did = asks (Q.Exchange y.scratch y.beside) (C.exchanges y k) in
-        let fresh : Agrees n (stamp_ticket p tickets) y.beside =
-        subst (Agrees n (stamp_ticket p tickets)) (ap (stamped p) same ∙ sym beside) (agreement_law.stamped n p tickets labels agrees) in
+        let exchange : CodeStep = asks (Q.Exchange y.scratch y.beside) (C.exchanges y k) in
         let left : labels_left exchange labels ≡ y.beside = ap (λ b. if b then y.beside else labels) won in
-        let moved : made labels rows exchange ≡ C.goes_on y y.stack (Some A.Stamp) = ap (λ b. C.exchanges y k (if b then R.Won else R.Lost labels)) won in
-        let stamped_source : S.Did = S.did n p tickets rows x.variables x.scans (cons stamp l.after) in
-        let between : Between code n p most stamped_source.process (C.goes_on y y.stack (Some A.Stamp)).process =
-        rests (record {
-          runs = refl;
-          runs_too = both.runs_too;
-          stack = l.empty;
-          variables = both.variables;
-          scans = both.scans;
-          steps = l.steps;
-          few = l.few;
-          stands = (let at_end : k + 3 ≡ y.place + 1 = omega (arith, place) in subst (λ q. Stands code most l.steps q l.after) at_end l.stands);
-        }) in
-        subst (λ rest. Step m x labels rows (S.did n p tickets rows x.variables x.scans rest) exchange (Some (I.Exchange k))) (sym l.is)
-        (together few (ap (λ moved. ended (I.Exchange k) moved.act) moved) (subst (Agrees n (stamp_ticket p tickets)) (sym left) fresh) refl (ap (λ moved. moved.act) (sym moved))
-        (subst (λ moved. Between code n p most stamped_source.process moved.process) (sym moved) between))
-    exchange_step m x y k few place has beside both l tickets agrees false lost =
-        let exchange : Did = asks (Q.Exchange y.scratch y.beside) (C.exchanges y k) in
-        let moved : made labels rows exchange ≡ C.goes y k y.stack None = ap (λ b. C.exchanges y k (if b then R.Won else R.Lost labels)) lost in
-        let again : Follows 3 x (C.goes y k y.stack None).process =
-        calm y k y.stack refl both (now (loads (omega arith) l)) in
-        apart (ap (λ moved. ended (I.Exchange k) moved.act) moved) (ap (λ b. if b then y.beside else labels) lost) refl (ap (λ moved. moved.act) moved)
-        3 (inr (y.scratch, has, lost)) (subst (λ moved. Follows 3 x moved.process) (sym moved) again)
+        let moved : made labels rows exchange ≡ C.goes_on y y.stack (Some A.Stamp) =
+        ap (λ b. C.exchanges y k (if b then R.Won else R.Lost labels)) won in
+        let d : S.SourceStep = S.did n p tickets rows x.variables x.scans (cons stamp begun.after) in
+        let at_end : k + 3 ≡ y.place + 1 = omega (arith, place) in
+        let after : Between n code d.process (C.goes_on y y.stack (Some A.Stamp)).process =
+        rests (refl, alike.1, alike.2, alike.3) begun.empty
+        (subst (λ k. StandsAt code k begun.after) at_end begun.stands) in
+        subst (λ rest. ProcessStep m x labels rows (S.did n p tickets rows x.variables x.scans rest) exchange
+        (Some (I.Exchange k))) (sym begun.is)
+        (together few (record {
+          ends = ap (λ moved. ended (I.Exchange k) moved.act) moved;
+          agrees = subst (Agrees n (stamp_ticket p tickets)) (ap (stamped p) same ∙ sym beside ∙ sym left)
+              (agreement_law.stamped n p tickets labels agrees);
+          same_rows = refl;
+          same_act = ap (λ moved. moved.act) (sym moved);
+          between = subst (λ moved. Between n code d.process moved.process) (sym moved) after;
+        }))
+    exchange_step m x y k few place has beside alike begun tickets agrees false lost =
+        let moved : made labels rows (asks (Q.Exchange y.scratch y.beside) (C.exchanges y k))
+        ≡ C.goes y k y.stack None =
+        ap (λ b. C.exchanges y k (if b then R.Won else R.Lost labels)) lost in
+        apart (ap (λ moved. ended (I.Exchange k) moved.act) moved) (ap (λ b. if b then y.beside else labels) lost) refl
+        (ap (λ moved. moved.act) moved) 3 (inr (y.scratch, has, lost))
+        (subst (λ moved. Matches 3 x moved.process) (sym moved)
+        (inside y k y.stack refl alike (stamps (omega arith) begun)))
 
-    pub process_step : (m : ℕ) (x : SourceProcess) (y : CodeProcess) → Follows m x y → y.status ≡ Running → (tickets : List ℕ) → Agrees n tickets labels
-        → Step m x labels rows (S.did n p tickets rows x.variables x.scans x.rest) (C.did n p code y) (slice_get code y.place)
-    process_step m x y (stopped same has) runs tickets agrees = absurd (subst HasStopped (same ∙ runs) has)
-    process_step m x y (calm q k stack is both soon) runs tickets agrees =
-        subst (λ y. Step m x labels rows (S.did n p tickets rows x.variables x.scans x.rest) (C.did n p code y) (slice_get code y.place)) (sym is)
-        (subst (λ v. Step m x labels rows (S.did n p tickets rows v x.scans x.rest) (C.did n p code (at q k stack)) (slice_get code k)) (sym both.variables)
-        (calm_step m x q k stack both soon tickets agrees))
-    process_step m x y (at_next k few place has both l) runs tickets agrees =
-        next_step m x y k few place has both l (S.did n p tickets rows x.variables x.scans x.rest)
-    process_step m x y (at_exchange k few place has beside both l) runs tickets agrees =
+    match_step : (m : ℕ) (x : SourceProcess) (y : CodeProcess) → Matches m x y → y.status ≡ Running → (tickets : List ℕ)
+        → Agrees n tickets labels
+        → ProcessStep m x labels rows (S.did n p tickets rows x.variables x.scans x.rest) (C.did n p code y)
+        (slice_get code y.place)
+    match_step m x y (stopped same has) runs tickets agrees = absurd (subst HasStopped (same ∙ runs) has)
+    match_step m x y (inside q k stack is alike leads) runs tickets agrees =
+        subst (λ y. ProcessStep m x labels rows (S.did n p tickets rows x.variables x.scans x.rest) (C.did n p code y)
+        (slice_get code y.place))
+        (sym is)
+        (subst (λ v. ProcessStep m x labels rows (S.did n p tickets rows v x.scans x.rest)
+        (C.did n p code (at q k stack)) (slice_get code k))
+        (sym alike.2) (inside_step m x q k stack alike leads tickets agrees))
+    match_step m x y (has_loaded k few place has alike begun) runs tickets agrees =
+        step_at m x y (S.did n p tickets rows x.variables x.scans x.rest) I.Next
+        (ap (slice_get code) place ∙ begun.has.1.0)
+        (apart refl refl refl refl (m - 1) (inl (omega arith))
+        (has_labelled k (omega arith) (omega (arith, place)) has refl alike begun))
+    match_step m x y (has_labelled k few place has beside alike begun) runs tickets agrees =
         let same : y.place ≡ k + 1 + 1 = omega (arith, place) in
-        step_at m x y (S.did n p tickets rows x.variables x.scans x.rest) (I.Exchange k) (ap (slice_get code) same ∙ l.has.1.1.0)
-        (exchange_step m x y k few place has beside both l tickets agrees (C.same_labels labels y.scratch) refl)
+        step_at m x y (S.did n p tickets rows x.variables x.scans x.rest) (I.Exchange k)
+        (ap (slice_get code) same ∙ begun.has.1.1.0)
+        (exchange_step m x y k few place has beside alike begun tickets agrees (C.same_labels labels y.scratch) refl)
+
+  -- the next step of a process, in a state of the program and one of the code that agree
+  pub process_step : (m : ℕ) (x : SourceProcess) (y : CodeProcess) (s : SourceState) (d : CodeState)
+      → Agrees n s.tickets d.labels
+      → s.rows ≡ d.rows → Loaded d.labels → Matches m x y → y.status ≡ Running → M.NextStep n code p Loaded m x y s d
+  process_step m x y s d agrees same_rows loaded matches runs =
+      subst (λ rows. ProcessStep m x d.labels d.rows (S.did n p s.tickets rows x.variables x.scans x.rest)
+      (C.did n p code y) (slice_get code y.place))
+      (sym same_rows) (match_step d.labels d.rows loaded m x y matches runs s.tickets agrees)

@@ -7,11 +7,11 @@ ghost use Rattle.tick_sim.specs.Laws.{seen, seen_of_code};
 ghost use Rattle.tick_sim.specs.prover.Stepping.{IsReached};
 
 use crate::stepping::step_ends;
+use code_core::Code;
 use machine_core::{NoMemory, Status};
 use std::alloc::Global;
 use step_code::CodeMachine;
 use tick_kinds::Program;
-use verified_code::Code;
 
 /// The schedule of the code of a program that leads through the steps of a schedule of the program:
 /// each item becomes as many as end its process's next step, and none where the process has stopped.

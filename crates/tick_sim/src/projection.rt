@@ -5,11 +5,11 @@ ghost use Rattle.tick_sim.specs.Maps.{down};
 ghost use Rattle.tick_sim.specs.Laws.{seen, seen_of_code};
 
 use crate::stepping::step_ends;
+use code_core::Code;
 use machine_core::NoMemory;
 use std::alloc::Global;
 use step_code::CodeMachine;
 use tick_kinds::Program;
-use verified_code::Code;
 
 /// The schedule of the program that a schedule of its code stands for: the same processes, without
 /// each step that ended no step of the program. Each number is below the number of processes.

@@ -3,10 +3,10 @@ ghost use Rattle.step_code.specs.Machine.{code_step};
 ghost use Rattle.tick_sim.specs.Maps.{is_commit};
 ghost use Rattle.tick_sim.specs.prover.Stepping.{IsReached, ends_told};
 
+use code_core::{Code, Instr};
 use machine_core::{NoMemory, Status};
 use step_code::CodeMachine;
-use tick_lower::commit;
-use verified_code::{Code, Instr};
+use tick_lower::ends_step;
 
 /// Makes the next step of process `p` of the code, and tells whether it ended a step of the program.
 pub fn step_ends(machine: &mut CodeMachine, code: &Code, p: u8) -> Result<bool, NoMemory>
@@ -35,6 +35,6 @@ fn ends(code: &Code, place: u16, tells: bool) -> bool
 {
     match code.instr(place) {
         Instr::Exchange(_) => tells,
-        _ => tells || commit(code, place),
+        instruction => tells || ends_step(instruction),
     }
 }

@@ -4,36 +4,36 @@ use Rattle.machine_core.specs.declared.status.Status.{Status}
 use Rattle.machine_core.specs.declared.status.Status.TheVariants.{Running}
 use Rattle.machine_core.specs.declared.event.Event.{Event}
 use Rattle.machine_core.specs.Observables.{told}
-use Rattle.verified_code.specs.Verified.{IsVerified}
-use Rattle.verified_code.specs.Instructions.{StepCode}
+use Rattle.code_core.specs.Verified.{IsVerified}
+use Rattle.code_core.specs.Instructions.{StepCode}
 use Rattle.step_code.specs.declared.machine.CodeMachine.TheInside.{Inside}
-use Rattle.step_code.specs.declared.shared.Shared.{Shared}
-use Rattle.step_code.specs.Machine.{CodeProcess, CodeState, Moved, Did, stays, made, labels_left, rows_left, start_process}
+use Rattle.step_code.specs.declared.memory.CodeMemory.{CodeMemory}
+use Rattle.step_code.specs.Machine.{CodeProcess, CodeState, Moved, CodeStep, stays, made, labels_left, rows_left, start_process}
 use Rattle.step_code.specs.Safety.{AreOrdered}
 use Rattle.step_code.specs.Process.{OneProcess, IsOf, next_of}
 
 -- a process that has stopped makes nothing
-abbrev pub moved_as : Status → CodeProcess → List (List ℕ) → List (List ℕ) → Did → Moved
+abbrev pub moved_as : Status → CodeProcess → List (List ℕ) → List (List ℕ) → CodeStep → Moved
 moved_as Running q labels rows d = made labels rows d
 moved_as _ q labels rows d = stays q
 
-abbrev pub labels_as : Status → Did → List (List ℕ) → List (List ℕ)
+abbrev pub labels_as : Status → CodeStep → List (List ℕ) → List (List ℕ)
 labels_as Running d labels = labels_left d labels
 labels_as _ d labels = labels
 
-abbrev pub rows_as : Status → ℕ → Did → List (List ℕ) → List (List ℕ)
+abbrev pub rows_as : Status → ℕ → CodeStep → List (List ℕ) → List (List ℕ)
 rows_as Running p d rows = rows_left p d rows
 rows_as _ p d rows = rows
 
 -- the process made its step, and with it what it does to what is shared
-pub record Makes (code : StepCode) (p : ℕ) (old new : Shared) (one one' : OneProcess) (events events' : List Event) : Type 0 where
+pub record Makes (code : StepCode) (p : ℕ) (old new : CodeMemory) (one one' : OneProcess) (events events' : List Event) : Type 0 where
   pub process : one'.process ≡ (moved_as one.process.status one.process old.labels old.registers (next_of code one)).process
   pub labels : new.labels ≡ labels_as one.process.status (next_of code one) old.labels
   pub rows : new.registers ≡ rows_as one.process.status p (next_of code one) old.registers
   pub told_events : events' ≡ told p (moved_as one.process.status one.process old.labels old.registers (next_of code one)).act events
 
 -- all is as it was
-pub record Keeps (old new : Shared) (one one' : OneProcess) (events events' : List Event) : Type 0 where
+pub record Keeps (old new : CodeMemory) (one one' : OneProcess) (events events' : List Event) : Type 0 where
   pub process : one'.process ≡ one.process
   pub labels : new.labels ≡ old.labels
   pub rows : new.registers ≡ old.registers

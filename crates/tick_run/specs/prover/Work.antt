@@ -1,7 +1,7 @@
 -- What workers start with, and what they come back with.
 use Rattle.std.specs.Prelude.{◌≡◌, ◌<◌, ◌≤◌, ℕ, min, List, [], length, slice_get, Some, vec_items, vec_capacity}
 use Rattle.machine_core.specs.declared.run_outcome.RunEnd.{RunEnd}
-use Rattle.verified_code.specs.Instructions.{StepCode}
+use Rattle.code_core.specs.Instructions.{StepCode}
 use Rattle.step_code.specs.Machine.{start_process}
 use Rattle.step_code.specs.Process.{OneProcess, IsOf}
 use Rattle.stamp_table.specs.Passes.{TableView, PassView, Holds, mine}

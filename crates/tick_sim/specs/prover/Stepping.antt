@@ -1,9 +1,9 @@
 -- The machine of a code as the maps make it step.
 use Rattle.std.specs.Prelude.{◌≡◌, ℕ, Bool, false, ◌||◌, List, Option, Some, None}
-use Rattle.verified_code.specs.declared.instr.Instr.{Instr}
-use Rattle.verified_code.specs.declared.instr.Instr.TheVariants as I
-use Rattle.verified_code.specs.Instructions.{StepCode}
-use Rattle.verified_code.specs.Verified.{IsVerified}
+use Rattle.code_core.specs.declared.instr.Instr.{Instr}
+use Rattle.code_core.specs.declared.instr.Instr.TheVariants as I
+use Rattle.code_core.specs.Instructions.{StepCode}
+use Rattle.code_core.specs.Verified.{IsVerified}
 use Rattle.step_code.specs.Machine.{CodeRun, run_of}
 use Rattle.tick_lower.specs.Commits.{ends_step}
 

@@ -16,7 +16,7 @@ run_jobs-others-requires-clause-ready g t c κs within = ready_rest _ _ _ _ _ _ 
 pub returns-clause-gathers : goal.returns-clause-gathers
 returns-clause-gathers g t c =
     let number : c.in-Some.job.process ≡ vec_len c.pop.new.self = ready_number _ _ _ _ _ _ c.in-Some.job c.requires.ready c.in-Some.ensures.items ∙ sym c.pop.new.self.ok.0 in
-    let kept = rw c.in-Ok.ensures.ok at c.join-worked.ensures in
+    let kept = rw c.in_ok-worker.ensures.ok at c.join-worked.ensures in
     let work : IsWork c.args.table.now c.args.code.now (vec_len c.pop.new.self) c.args.limits.turns c.args.limits.outs
     c.join-worked.result.pass (vec_items c.join-worked.result.outputs) c.join-worked.result.end = rw (sym number) kept in
     rw (sym c.in-Some.ensures.cases)

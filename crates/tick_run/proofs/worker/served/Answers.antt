@@ -1,6 +1,15 @@
 use Rattle.std.proofs.Common.{rules}
-use Rattle.tick_run.proofs.Serving.{lost_served, read_served, write_served}
+use Rattle.word_core.specs.Packed.{word}
+use Rattle.word_core.specs.declared.history.SharedAct.TheVariants.{Load}
+use Rattle.tick_run.proofs.Serving.{seen_labels, lost_served, read_served, write_served}
 use Rattle.tick_run.proofs.worker.served.Goals as goal
+
+pub returns-in-LoadWord-clause-word : goal.returns-in-LoadWord-clause-word
+returns-in-LoadWord-clause-word g c = record {
+  are = seen_labels c.args.table.now c.args.code.now c.args.p c.args.ask c.args.pass.now c.load.new.pass c.requires.fits c.requires.here c.requires.held
+      (Load (word c.load.result)) c.load.result c.load.ensures.step c.load.ensures.labels;
+  ordered = c.load.ensures.ordered.ordered;
+}
 
 pub returns-in-Lost-clause-served : goal.returns-in-Lost-clause-served
 returns-in-Lost-clause-served g c =

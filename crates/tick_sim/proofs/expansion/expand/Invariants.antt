@@ -1,14 +1,15 @@
 -- What has been led through, with what will be of the rest of the schedule, is the answer; and each
 -- process of the code stands between two steps, beside some state of the program.
-use Rattle.std.proofs.Common.{◌≡◌, ◌++◌, drop, length}
+use Rattle.std.proofs.Common.{◌≡◌, ◌++◌, drop}
 use Rattle.tick_source.specs.Source.{SourceState}
 use Rattle.tick_sim.specs.Maps.{up_from, up}
 use Rattle.tick_sim.specs.prover.Stepping.{IsReached}
-use Rattle.tick_sim.proofs.Up.{AllRest}
+use Rattle.tick_sim.proofs.States.{AllBetween}
 use Rattle.tick_sim.proofs.expansion.expand.Given as goal
 
 abbrev pub invariant-loop-p : goal.invariant-loop-p
 invariant-loop-p l =
-    (l.steps.items ++ up_from l.code.sizes.processes l.code.instructions (drop l.p-index l.schedule) l.machine.state ≡ up l.code.sizes l.code.instructions l.schedule)
+    (l.steps.items ++ up_from l.code.sizes.processes l.code.instructions (drop l.p-index l.schedule) l.machine.state
+    ≡ up l.code.sizes l.code.instructions l.schedule)
     × IsReached l.code l.machine
-    × (s : SourceState) × AllRest l.code.sizes.processes l.code.instructions (length l.code.instructions) s l.machine.state
+    × (s : SourceState) × AllBetween l.code.sizes.processes l.code.instructions s l.machine.state

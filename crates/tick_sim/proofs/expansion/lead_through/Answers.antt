@@ -12,7 +12,9 @@ pub returns-in_default : goal.returns-in_default
 returns-in_default c =
     let code = c.args.code.now in
     let d = c.args.machine.now.state in
-    let none = stopped_makes_none code.sizes.processes code.instructions c.args.p d c.status.result c.status.ensures c.in_default.not-Running in
+    let none =
+    stopped_makes_none code.sizes.processes code.instructions c.args.p d c.status.result c.status.ensures
+    c.in_default.not-Running in
     record {
       steps = sym (append-nil c.args.steps.now.items) ∙ ap (λ t. c.args.steps.now.items ++ t) (sym none);
       state = ap (λ t. code_run code.sizes.processes code.instructions t d) (sym none);
@@ -23,20 +25,27 @@ pub returns-then-branch-clause-steps : goal.returns-then-branch-clause-steps
 returns-then-branch-clause-steps c =
     let code = c.args.code.now in
     let inside : c.loop.counter < length code.instructions = omega (arith, c.loop-test.true, c.len-end.ensures.count) in
-    (lead_end code.sizes.processes code.instructions c.args.p c.loop.invariant.1 c.loop.counter c.loop.steps.items c.push.new.self.items _ c.loop.machine.state c.step_ends.new.machine.state _ inside
-    (sym c.in_ok-step_ends.ensures.ends ∙ c.if-branch.true) c.in_ok-step_ends.ensures.state c.in_ok-push.ensures.items c.loop.invariant.2 c.loop.invariant.3 c.loop.invariant.4).0
+    (lead_end code.sizes.processes code.instructions c.args.p c.loop.invariant.1 c.loop.counter c.loop.steps.items
+    c.push.new.self.items _ c.loop.machine.state c.step_ends.new.machine.state _ inside
+    (sym c.in_ok-step_ends.ensures.ends ∙ c.if-branch.true) c.in_ok-step_ends.ensures.state c.in_ok-push.ensures.items
+    c.loop.invariant.2 c.loop.invariant.3 c.loop.invariant.4).0
 
 pub returns-then-branch-clause-state : goal.returns-then-branch-clause-state
 returns-then-branch-clause-state c =
     let code = c.args.code.now in
     let inside : c.loop.counter < length code.instructions = omega (arith, c.loop-test.true, c.len-end.ensures.count) in
-    (lead_end code.sizes.processes code.instructions c.args.p c.loop.invariant.1 c.loop.counter c.loop.steps.items c.push.new.self.items _ c.loop.machine.state c.step_ends.new.machine.state _ inside
-    (sym c.in_ok-step_ends.ensures.ends ∙ c.if-branch.true) c.in_ok-step_ends.ensures.state c.in_ok-push.ensures.items c.loop.invariant.2 c.loop.invariant.3 c.loop.invariant.4).1
+    (lead_end code.sizes.processes code.instructions c.args.p c.loop.invariant.1 c.loop.counter c.loop.steps.items
+    c.push.new.self.items _ c.loop.machine.state c.step_ends.new.machine.state _ inside
+    (sym c.in_ok-step_ends.ensures.ends ∙ c.if-branch.true) c.in_ok-step_ends.ensures.state c.in_ok-push.ensures.items
+    c.loop.invariant.2 c.loop.invariant.3 c.loop.invariant.4).1
 
 pub loop-preserved : goal.loop-preserved
 loop-preserved c =
     let code = c.args.code.now in
     let inside : c.loop.counter < length code.instructions = omega (arith, c.loop-test.true, c.len-end.ensures.count) in
-    let more = lead_more code.sizes.processes code.instructions c.args.p c.loop.invariant.1 c.loop.counter c.loop.steps.items c.push.new.self.items _ c.loop.machine.state c.step_ends.new.machine.state _ inside
-    (sym c.in_ok-step_ends.ensures.ends ∙ c.if-branch.false) c.in_ok-step_ends.ensures.state c.in_ok-push.ensures.items c.loop.invariant.2 c.loop.invariant.3 c.loop.invariant.4 in
+    let more =
+    lead_more code.sizes.processes code.instructions c.args.p c.loop.invariant.1 c.loop.counter c.loop.steps.items
+    c.push.new.self.items _ c.loop.machine.state c.step_ends.new.machine.state _ inside
+    (sym c.in_ok-step_ends.ensures.ends ∙ c.if-branch.false) c.in_ok-step_ends.ensures.state c.in_ok-push.ensures.items
+    c.loop.invariant.2 c.loop.invariant.3 c.loop.invariant.4 in
     (c.step_ends.ensures.reached, more.0, more.1, more.2, more.3)

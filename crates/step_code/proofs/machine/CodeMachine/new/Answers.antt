@@ -9,8 +9,8 @@ use Rattle.step_code.proofs.machine.CodeMachine.new.Goals as goal
 
 pub loop-p-preserved : goal.loop-p-preserved
 loop-p-preserved c =
-    one_more c.args.code.now c.loop-p.p c.loop-p.processes.items _ c.in-Ok.process c.in_ok-push.ensures.items c.loop-p.invariant
-    c.in-Ok.ensures.of c.in-Ok.ensures.me c.in-Ok.ensures.start
+    one_more c.args.code.now c.loop-p.p c.loop-p.processes.items _ c.in_ok-process.process c.in_ok-push.ensures.items c.loop-p.invariant
+    c.in_ok-process.ensures.of c.in_ok-process.ensures.me c.in_ok-process.ensures.start
 
 pub invariant_of-result : goal.invariant_of-result
 invariant_of-result c =

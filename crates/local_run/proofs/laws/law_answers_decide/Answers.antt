@@ -1,5 +1,0 @@
-use Rattle.local_run.proofs.Offered.{once_per_answers}
-use Rattle.local_run.proofs.laws.law_answers_decide.Goals as goal
-
-pub returns : goal.returns
-returns c = once_per_answers
