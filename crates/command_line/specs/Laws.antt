@@ -1,11 +1,12 @@
 -- What command lines ask for, computed from the description of the command line alone.
 use Rattle.std.specs.Prelude.{◌≡◌, ℕ, List, [], ◌∷◌, Option, Some, None, codes}
 use Rattle.clap.specs.Walk.{Text}
-use Rattle.command_line.specs.Line.{Asked, asked_in}
-use Rattle.command_line.specs.Line.Asked.{Order, Check, Emit, Source, Code, Expand, Project, Run}
+use Rattle.command_line.specs.Line.{asked_in}
+use Rattle.command_line.specs.declared.request.Request.{Request}
+use Rattle.command_line.specs.declared.request.Request.TheVariants.{Order, Check, Emit, Source, Code, Expand, Project, Run}
 
 -- the words after the program's name ask for this
-abbrev pub Asks : List Text → Option Asked → Type 0
+abbrev pub Asks : List Text → Option (Request Text) → Type 0
 Asks words asked = asked_in (codes "ticketc" ∷ words) ≡ asked
 
 pub record BareCommandsLaw : Type 0 where
@@ -15,15 +16,15 @@ pub record BareCommandsLaw : Type 0 where
   pub text_after_emit : Asks (codes "emit" ∷ codes "2" ∷ []) None
 
 -- a text with this first byte, whatever follows it
-abbrev pub TakesFrom : Text → (Text → Asked) → ℕ → Type 0
+abbrev pub TakesFrom : Text → (Text → Request Text) → ℕ → Type 0
 TakesFrom name asking byte = (rest : Text) → Asks (name ∷ (byte ∷ rest) ∷ []) (Some (asking (byte ∷ rest)))
 
-abbrev pub TakesFromEach : Text → (Text → Asked) → List ℕ → Type 0
+abbrev pub TakesFromEach : Text → (Text → Request Text) → List ℕ → Type 0
 TakesFromEach name asking [] = Unit {0}
 TakesFromEach name asking (byte ∷ bytes) = TakesFrom name asking byte × TakesFromEach name asking bytes
 
 -- the command wants a text, and takes an empty one and each that begins with a digit, a space or a plus
-pub record TakesText (name : Text) (asking : Text → Asked) : Type 0 where
+pub record TakesText (name : Text) (asking : Text → Request Text) : Type 0 where
   pub empty : Asks (name ∷ [] ∷ []) (Some (asking []))
   pub begun : TakesFromEach name asking (codes "0123456789 +")
   pub absent : Asks (name ∷ []) None

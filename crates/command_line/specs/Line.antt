@@ -1,33 +1,24 @@
 -- What a command line means: `clap`'s parse of the command described here.
 use Rattle.std.specs.Prelude.{Bool, true, false, List, [], ◌∷◌, Option, Some, None, codes, bytes_eq}
+use Rattle.std.specs.Borrow.{Bor}
 use Rattle.std.specs.Prelude.{if◌then◌else◌, option_and_then, option_map}
 use Rattle.clap.specs.Walk.{Row, Text, first_of}
 use Rattle.clap.specs.Simple.{App, Shape, new_app, new_rule, on_top, subcommand_of, with_rule, with_subcommand}
 use Rattle.clap.specs.Kinds.{Kinds}
 use Rattle.clap.specs.Faults.{fault_of}
 use Rattle.command_line.specs.declared.request.Request.{Request}
-use Rattle.command_line.specs.declared.request.Request.TheVariants as request
+use Rattle.command_line.specs.declared.request.Request.TheVariants.{Order, Check, Emit, Source, Code, Expand, Project, Run}
 
--- a command with the text that goes with it
-pub data Asked : Type 0 where
-  Order : (text : Text) → Asked
-  Check : Asked
-  Emit : Asked
-  Source : (text : Text) → Asked
-  Code : (text : Text) → Asked
-  Expand : (text : Text) → Asked
-  Project : (text : Text) → Asked
-  Run : (text : Text) → Asked
-
-abbrev pub asked_by : Request → Asked
-asked_by (request.Order text) = Order text.now
-asked_by request.Check = Check
-asked_by request.Emit = Emit
-asked_by (request.Source text) = Source text.now
-asked_by (request.Code text) = Code text.now
-asked_by (request.Expand text) = Expand text.now
-asked_by (request.Project text) = Project text.now
-asked_by (request.Run text) = Run text.now
+-- a request for a text that is lent, as one for the text itself
+abbrev pub plain_request : Request (Bor Text) → Request Text
+plain_request (Order text) = Order text.now
+plain_request Check = Check
+plain_request Emit = Emit
+plain_request (Source text) = Source text.now
+plain_request (Code text) = Code text.now
+plain_request (Expand text) = Expand text.now
+plain_request (Project text) = Project text.now
+plain_request (Run text) = Run text.now
 
 -- a subcommand with nothing after it, and one with a text that it has to have
 abbrev pub bare_shape : Text → Shape
@@ -50,7 +41,7 @@ ticketc =
     (valued_shape (codes "drop"))) (valued_shape (codes "run"))
 
 -- the command of this name, with the text that it wants
-abbrev pub named : Text → Option Text → Option Asked
+abbrev pub named : Text → Option Text → Option (Request Text)
 named name text =
     if bytes_eq name (codes "order") then option_map Order text
     else if bytes_eq name (codes "check") then Some Check
@@ -62,7 +53,7 @@ named name text =
     else if bytes_eq name (codes "run") then option_map Run text
     else None
 
-abbrev pub asked_in_rows : Option (Text × List Row) → Option Asked
+abbrev pub asked_in_rows : Option (Text × List Row) → Option (Request Text)
 asked_in_rows rows = option_and_then (λ p. named p.0 (first_of (codes "value") p.1)) rows
 
 abbrev pub is_faultless : Kinds → Bool
@@ -78,5 +69,5 @@ unfoldable pub command_in : List Text → Option (Text × List Row)
 command_in words = subcommand_of ticketc words
 
 -- what the words ask for, and nothing where they are no command
-abbrev pub asked_in : List Text → Option Asked
+abbrev pub asked_in : List Text → Option (Request Text)
 asked_in words = if is_taken words then asked_in_rows (command_in words) else None

@@ -1,7 +1,7 @@
 ghost use Rattle.std.specs.Prelude.{◌≡◌, false, IfOk, map, option_map, string_bytes};
 ghost use Rattle.clap.specs.Words.{app_of, shape_of, subcommand_rows_of};
 ghost use Rattle.clap.specs.declared.builder.command.Command.TheViews.{out-Command};
-ghost use Rattle.command_line.specs.Line.{bare_shape, asked_by, asked_in, asked_in_rows, named, ticketc, valued_shape};
+ghost use Rattle.command_line.specs.Line.{bare_shape, plain_request, asked_in, asked_in_rows, named, ticketc, valued_shape};
 
 use crate::request::Request;
 use clap::error::ErrorKind;
@@ -10,8 +10,8 @@ use std::alloc::{AllocError, Global};
 
 /// What the words of a command line mean, of which the first is the program's name, and `None`
 /// where they are no command. The only error is that memory was refused.
-pub fn asked<'a>(alloc: Global, words: &'a [String]) -> Result<Option<Request<'a>>, AllocError>
-    ensures { IfOk result (λ r. option_map asked_by r ≡ asked_in (map string_bytes words.entry.now)) }
+pub fn asked<'a>(alloc: Global, words: &'a [String]) -> Result<Option<Request<&'a str>>, AllocError>
+    ensures { IfOk result (λ r. option_map plain_request r ≡ asked_in (map string_bytes words.entry.now)) }
 {
     match command_line(alloc)?.try_get_matches_from(words) {
         Ok(matches) => Ok(found(&matches)),
@@ -51,15 +51,15 @@ fn valued<'a>(alloc: Global, name: &'a str) -> Result<Command<'a>, AllocError>
     Command::new(alloc, name).arg(Arg::new(alloc, "value").required(true))
 }
 
-fn found<'a>(matches: &ArgMatches<'a>) -> Option<Request<'a>>
-    ensures { option_map asked_by result ≡ asked_in_rows (subcommand_rows_of matches.now) }
+fn found<'a>(matches: &ArgMatches<'a>) -> Option<Request<&'a str>>
+    ensures { option_map plain_request result ≡ asked_in_rows (subcommand_rows_of matches.now) }
 {
     let (name, inner) = matches.subcommand()?;
     request_named(name, inner.get_str("value"))
 }
 
-fn request_named<'a>(name: &str, text: Option<&'a str>) -> Option<Request<'a>>
-    ensures { option_map asked_by result ≡ named name.now (option_map (λ t. t.now) text.entry) }
+fn request_named<'a>(name: &str, text: Option<&'a str>) -> Option<Request<&'a str>>
+    ensures { option_map plain_request result ≡ named name.now (option_map (λ t. t.now) text.entry) }
 {
     match name {
         "order" => Some(Request::Order(text?)),

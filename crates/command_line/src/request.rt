@@ -1,13 +1,14 @@
-/// A command, with the text that goes with it as it was written: no number in it is read yet.
+/// A command, with the text that goes with it as it was written, in whatever form the text is held: no
+/// number in it is read yet.
 #[derive(Clone, Copy, Debug, PartialEq, Eq)]
-pub enum Request<'a> {
-    Order(&'a str),
+pub enum Request<T> {
+    Order(T),
     Check,
     Emit,
-    Source(&'a str),
-    Code(&'a str),
-    Expand(&'a str),
+    Source(T),
+    Code(T),
+    Expand(T),
     /// The command `drop`.
-    Project(&'a str),
-    Run(&'a str),
+    Project(T),
+    Run(T),
 }

@@ -3,7 +3,6 @@ use Rattle.std.proofs.Common.{◌≡◌, ℕ, ◌≤◌, ◌⊎◌, inl, inr, Bo
 use Rattle.std.proofs.lemmas.Bool.Decides.{leb_tells}
 use Rattle.std.specs.Str.{is_utf8}
 use Rattle.std.specs.Str.Lossy.{utf8_valid_len}
-use Rattle.command_line.specs.Line.{Asked}
 use Rattle.tick_kinds.specs.Accepted.{IsAccepted}
 use Rattle.tick_kinds.specs.Refusals.{first_refusal}
 use Rattle.tick_kinds.specs.declared.fault.KindFault.{KindFault}
@@ -13,14 +12,15 @@ use Rattle.tick_syntax.specs.Plain.{Name, WholeProgram}
 use Rattle.tick_syntax.specs.Refusal.{IsTextRefused}
 use Rattle.tick_syntax.specs.declared.fault.TextFault.{TextFault}
 use Rattle.tick_syntax.proofs.Offered.{one_program, one_refusal, never_both, never_neither}
-use Rattle.verified_code.specs.Instructions.{StepCode}
+use Rattle.code_core.specs.Instructions.{StepCode}
 use Rattle.code_text.proofs.Offered.{one_reading, some_reading}
 use Rattle.engine.specs.Answer.{Answer, refused, stopped}
 use Rattle.engine.specs.Codes.{IsCodeAnswer, code_answer, reading_answer}
-use Rattle.engine.specs.Commands.{Answers, Job, JobAnswers, TextAnswers, UnlessRefused, is_run, job_of, line_answer, runs}
-use Rattle.engine.specs.Commands.Job.{Order, Check, Emit, Source, Code, Expand, Project, Run}
-use Rattle.engine.specs.Lowered.{IsEitherAnswer, begins_as_code, emit_answer, lowered_answer}
-use Rattle.engine.specs.Maps.{expand_answer, project_answer}
+use Rattle.engine.specs.Commands.{CommandAnswers, PlainCommand, TextAnswers, UnlessRefused, is_run, line_answer, runs}
+use Rattle.engine.specs.declared.command.Command.TheVariants.{Order, Check, Emit, Source, Code, Expand, Project, Run}
+use Rattle.engine.specs.Lowered.{IsEitherAnswer, IsRunnableAnswer, begins_as_code, emit_answer, lowered_answer}
+use Rattle.engine.specs.Maps.{carried_answer}
+use Rattle.engine.specs.declared.maps.Way.TheVariants.{Up, Down}
 use Rattle.engine.specs.Order.{order_answer}
 use Rattle.engine.specs.Programs.{IsProgramText, IsTextAnswer, no_program, not_accepted, accepted, check_answer, source_answer}
 use Rattle.engine.specs.Stop.{kinds_stop, text_stop}
@@ -36,6 +36,10 @@ same_fault a b h = cc
 first_fault : (o : Option KindFault) → (o ≡ None) ⊎ ((fault : KindFault) × (o ≡ Some fault))
 first_fault None = inl refl
 first_fault (Some fault) = inr (fault, refl)
+
+-- there is one, and no other
+abbrev pub IsDetermined : (Answer → Type 0) → Type 0
+IsDetermined allowed = ((a b : Answer) → allowed a → allowed b → a ≡ b) × ((a : Answer) × allowed a)
 
 module _ (by : WholeProgram Name → Answer) (text : List ℕ) (short : length text ≤ 1000000) where
   within : (p : WholeProgram Name) → IsProgramText text p → IsWithinLimits text p
@@ -77,27 +81,23 @@ module _ (by : WholeProgram Name → Answer) (text : List ℕ) (short : length t
       by_kinds found.0 (record { is_text = found.1.1; shallow = found.1.2 }) (first_fault (first_refusal found.0))
   by_text (inr found) = (stopped (text_stop found.0), no_program found.0 found.1 refl)
 
-  answered : Answered
-  answered = by_text (never_neither text)
+  pub determined : IsDetermined (IsTextAnswer by text)
+  determined = (one_answer, by_text (never_neither text))
 
 -- a text is read in one way
-one_code_answer : (by : StepCode → Answer) (text : List ℕ) (a b : Answer) → IsCodeAnswer by text a → IsCodeAnswer by text b → a ≡ b
-one_code_answer by text a b h k =
-    h.answers ∙ ap (reading_answer by) (one_reading text h.reading k.reading h.reads k.reads) ∙ sym k.answers
+code_determined : (by : StepCode → Answer) (text : List ℕ) → IsDetermined (IsCodeAnswer by text)
+code_determined by text =
+    let read = some_reading text in (
+      λ a b h k. h.answers ∙ ap (reading_answer by) (one_reading text h.reading k.reading h.reads k.reads) ∙ sym k.answers,
+      (reading_answer by read.0, record { reading = read.0; reads = read.1; answers = refl }),
+    )
 
-some_code_answer : (by : StepCode → Answer) (text : List ℕ) → (a : Answer) × IsCodeAnswer by text a
-some_code_answer by text =
-    let read = some_reading text in
-    (reading_answer by read.0, record { reading = read.0; reads = read.1; answers = refl })
+either_determined : (is_code : Bool) (by : StepCode → Answer) (text : List ℕ) → length text ≤ 1000000 → IsDetermined (IsEitherAnswer is_code by text)
+either_determined true by text short = code_determined by text
+either_determined false by text short = determined (lowered_answer by) text short
 
-one_either : (is_code : Bool) (by : StepCode → Answer) (text : List ℕ) → length text ≤ 1000000 → (a b : Answer)
-    → IsEitherAnswer is_code by text a → IsEitherAnswer is_code by text b → a ≡ b
-one_either true by text short a b h k = one_code_answer by text a b h k
-one_either false by text short a b h k = one_answer (lowered_answer by) text short a b h k
-
-some_either : (is_code : Bool) (by : StepCode → Answer) (text : List ℕ) → length text ≤ 1000000 → (a : Answer) × IsEitherAnswer is_code by text a
-some_either true by text short = some_code_answer by text
-some_either false by text short = answered (lowered_answer by) text short
+pub runnable_determined : (by : StepCode → Answer) (text : List ℕ) → length text ≤ 1000000 → IsDetermined (IsRunnableAnswer by text)
+runnable_determined by text short = either_determined (begins_as_code text) by text short
 
 -- an input that is a text isn't too long
 short_by : (long utf8 : Bool) (place : ℕ)
@@ -111,48 +111,22 @@ short_input input h =
     let no : nat_lt 1000000 (length input) ≡ false = short_by (nat_lt 1000000 (length input)) (is_utf8 input) (utf8_valid_len input) h in
     elim (leb_tells 1000001 (length input)) [ inl long ↦ absurd (cc) | inr short ↦ omega (arith, short.1) ]
 
-one_text_answer : (job : Job) (text : List ℕ) → length text ≤ 1000000 → runs job ≡ false → (a b : Answer)
-    → TextAnswers job text a → TextAnswers job text b → a ≡ b
-one_text_answer (Order n) text short single a b h k = h ∙ sym k
-one_text_answer Check text short single a b h k = one_answer check_answer text short a b h k
-one_text_answer Emit text short single a b h k = one_answer (lowered_answer emit_answer) text short a b h k
-one_text_answer (Source schedule) text short single a b h k = one_answer (source_answer schedule) text short a b h k
-one_text_answer (Code schedule) text short single a b h k = one_either (begins_as_code text) (code_answer schedule) text short a b h k
-one_text_answer (Expand schedule) text short single a b h k = one_answer (lowered_answer (expand_answer schedule)) text short a b h k
-one_text_answer (Project schedule) text short single a b h k = one_answer (lowered_answer (project_answer schedule)) text short a b h k
-one_text_answer (Run turns) text short single a b h k = absurd (cc)
+-- whatever text a command is on, it has one answer
+text_determined : (command : PlainCommand) (text : List ℕ) → length text ≤ 1000000 → runs command ≡ false → IsDetermined (TextAnswers command text)
+text_determined (Order n) text short single = (λ a b h k. h ∙ sym k, (order_answer n text, refl))
+text_determined Check text short single = determined check_answer text short
+text_determined Emit text short single = determined (lowered_answer emit_answer) text short
+text_determined (Source schedule) text short single = determined (source_answer schedule) text short
+text_determined (Code schedule) text short single = runnable_determined (code_answer schedule) text short
+text_determined (Expand schedule) text short single = determined (lowered_answer (carried_answer Up schedule)) text short
+text_determined (Project schedule) text short single = determined (lowered_answer (carried_answer Down schedule)) text short
+text_determined (Run turns) text short single = absurd (cc)
 
-some_text_answer : (job : Job) (text : List ℕ) → length text ≤ 1000000 → runs job ≡ false → (a : Answer) × TextAnswers job text a
-some_text_answer (Order n) text short single = (order_answer n text, refl)
-some_text_answer Check text short single = answered check_answer text short
-some_text_answer Emit text short single = answered (lowered_answer emit_answer) text short
-some_text_answer (Source schedule) text short single = answered (source_answer schedule) text short
-some_text_answer (Code schedule) text short single = some_either (begins_as_code text) (code_answer schedule) text short
-some_text_answer (Expand schedule) text short single = answered (lowered_answer (expand_answer schedule)) text short
-some_text_answer (Project schedule) text short single = answered (lowered_answer (project_answer schedule)) text short
-some_text_answer (Run turns) text short single = absurd (cc)
+input_determined : (command : PlainCommand) (input : List ℕ) → runs command ≡ false → (o : Option Refusal) → text_fault input ≡ o
+    → IsDetermined (UnlessRefused o (TextAnswers command input))
+input_determined command input single None is = text_determined command input (short_input input is) single
+input_determined command input single (Some refusal) is = (λ a b h k. h ∙ sym k, (refused refusal, refl))
 
-module _ (job : Job) (input : List ℕ) (single : runs job ≡ false) where
-  one_by : (o : Option Refusal) → text_fault input ≡ o → (a b : Answer)
-      → UnlessRefused o (TextAnswers job input) a → UnlessRefused o (TextAnswers job input) b → a ≡ b
-  one_by None is a b h k = one_text_answer job input (short_input input is) single a b h k
-  one_by (Some refusal) is a b h k = h ∙ sym k
-
-  some_by : (o : Option Refusal) → text_fault input ≡ o → (a : Answer) × UnlessRefused o (TextAnswers job input) a
-  some_by None is = some_text_answer job input (short_input input is) single
-  some_by (Some refusal) is = (refused refusal, refl)
-
-one_by_job : (job : Result Job LineFault) (input : List ℕ) (a b : Answer) → is_run job ≡ false → JobAnswers job input a → JobAnswers job input b → a ≡ b
-one_by_job (Ok job) input a b single h k = one_by job input single (text_fault input) refl a b h k
-one_by_job (Err fault) input a b single h k = h ∙ sym k
-
-some_by_job : (job : Result Job LineFault) (input : List ℕ) → is_run job ≡ false → (a : Answer) × JobAnswers job input a
-some_by_job (Ok job) input single = some_by job input single (text_fault input) refl
-some_by_job (Err fault) input single = (line_answer fault, refl)
-
-pub one_of : (asked : Option Asked) (input : List ℕ) (a b : Answer) → is_run (job_of asked) ≡ false
-    → Answers asked input a → Answers asked input b → a ≡ b
-one_of asked input a b single h k = one_by_job (job_of asked) input a b single h k
-
-pub some_of : (asked : Option Asked) (input : List ℕ) → is_run (job_of asked) ≡ false → (a : Answer) × Answers asked input a
-some_of asked input single = some_by_job (job_of asked) input single
+pub answers_determined : (command : Result PlainCommand LineFault) (input : List ℕ) → is_run command ≡ false → IsDetermined (CommandAnswers command input)
+answers_determined (Ok command) input single = input_determined command input single (text_fault input) refl
+answers_determined (Err fault) input single = (λ a b h k. h ∙ sym k, (line_answer fault, refl))

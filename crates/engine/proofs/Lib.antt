@@ -8,3 +8,4 @@ pub mod LoweredLemmas
 pub mod AnswerLemmas
 pub mod RunLemmas
 pub mod Reported
+pub mod RunKinds

@@ -8,7 +8,9 @@ use Rattle.tick_lower.specs.Lowered.{lowered_length}
 use Rattle.tick_lower.specs.declared.fault.LowerFault.{LowerFault}
 use Rattle.tick_lower.specs.declared.fault.LowerFault.TheVariants as lowering
 use Rattle.tick_syntax.specs.Plain.{Name, WholeProgram}
-use Rattle.verified_code.specs.Instructions.{StepCode}
+use Rattle.tick_syntax.proofs.Offered.{one_program}
+use Rattle.code_text.proofs.Offered.{one_reading}
+use Rattle.code_core.specs.Instructions.{StepCode}
 use Rattle.engine.specs.Answer.{Answer, refused}
 use Rattle.engine.specs.Lowered.{IsCodeOf, IsEitherAnswer, IsEitherCode, IsLowered, IsRunnableAnswer, answer_unless_long, begins_as_code, code_of, lowered_answer}
 use Rattle.engine.specs.Programs.{IsProgramText, IsTextAnswer, accepted}
@@ -48,3 +50,14 @@ pub lower_stops : (by : StepCode → Answer) (text : List ℕ) (p : WholeProgram
 lower_stops by text p reads fine lowering.TooLong told =
     accepted p reads fine (sym (ap (λ long. answer_unless_long long by p) (lt-ltb 65535 (lowered_length (resolved p)) (told refl))))
 lower_stops by text p reads fine lowering.NoMemory told = tt
+
+-- a text has one code
+either_code : (is_code : Bool) (text : List ℕ) (c d : StepCode) → IsEitherCode is_code text c → IsEitherCode is_code text d → c ≡ d
+either_code true text c d reads other =
+    let same : Ok c ≡ Ok d = one_reading text (Ok c) (Ok d) reads other in
+    cc
+either_code false text c d is other =
+    is.code ∙ ap code_of (one_program text is.program other.program is.reads.is_text other.reads.is_text) ∙ sym other.code
+
+pub one_code : (text : List ℕ) (c d : StepCode) → IsCodeOf text c → IsCodeOf text d → c ≡ d
+one_code text c d is other = either_code (begins_as_code text) text c d is other

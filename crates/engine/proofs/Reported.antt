@@ -10,17 +10,18 @@ use Rattle.tick_play.specs.Schedule.{schedule_of}
 use Rattle.tick_play.specs.Written.{schedule_text}
 use Rattle.tick_play.specs.declared.schedule.ScheduleFault.{ScheduleFault}
 use Rattle.tick_sim.proofs.Offered.{down_law, up_law, down_lawful, down_short, up_lawful}
-use Rattle.tick_sim.specs.Maps.{down, up}
 use Rattle.tick_syntax.specs.Plain.{Name, WholeProgram}
-use Rattle.verified_code.specs.Instructions.{StepCode}
+use Rattle.tick_syntax.proofs.Offered.{program_text_begins}
+use Rattle.code_core.specs.Instructions.{StepCode}
 use Rattle.step_code.specs.Machine.{code_start}
 use Rattle.engine.specs.Answer.{Answer, done, scheduled, stopped}
 use Rattle.engine.specs.Codes.{code_answer}
 use Rattle.engine.specs.Commands.{TextAnswers, UnlessRefused}
-use Rattle.engine.specs.Commands.Job.{Source, Code, Expand, Project}
+use Rattle.engine.specs.declared.command.Command.TheVariants.{Source, Code, Expand, Project}
 use Rattle.engine.specs.Laws.{DropLaw, LiftLaw}
 use Rattle.engine.specs.Lowered.{IsEitherAnswer, answer_unless_long, begins_as_code, code_of, lowered_answer}
-use Rattle.engine.specs.Maps.{expand_answer, project_answer, schedule_line}
+use Rattle.engine.specs.Maps.{carried, carried_answer, schedule_line}
+use Rattle.engine.specs.declared.maps.Way.TheVariants.{Up, Down}
 use Rattle.engine.specs.Programs.{IsProgramText, IsTextAnswer, no_program, not_accepted, accepted, source_answer}
 use Rattle.engine.specs.Stop.{kinds_stop, schedule_stop, text_stop}
 use Rattle.engine.specs.Text.{text_fault}
@@ -30,7 +31,7 @@ use Rattle.engine.specs.declared.stop.Stop.TheVariants.{Refused, Memory}
 use Rattle.engine.proofs.AnswerLemmas.{one_answer, short_input}
 
 -- Only what is done has status 0.
-stopped_not_done : (stop : Stop) → (stopped stop).status ≡ 0 → ⊥
+pub stopped_not_done : (stop : Stop) → (stopped stop).status ≡ 0 → ⊥
 stopped_not_done (Refused refusal) zero = absurd (cc)
 stopped_not_done Memory zero = absurd (cc)
 
@@ -73,12 +74,12 @@ scheduling by (Ok steps) a is zero = (steps, refl, is)
 scheduling by (Err fault) a is zero = absurd (stop_not_done (schedule_stop fault) a is zero)
 
 -- the steps of the code that was run, as steps of the program
-abbrev kept : WholeProgram Name → List ℕ → List ℕ
-kept p steps = down (code_of p).sizes (code_of p).instructions steps
+abbrev pub kept : WholeProgram Name → List ℕ → List ℕ
+kept p steps = carried Down (code_of p) steps
 
 -- and the other way round
-abbrev led : WholeProgram Name → List ℕ → List ℕ
-led p steps = up (code_of p).sizes (code_of p).instructions steps
+abbrev pub led : WholeProgram Name → List ℕ → List ℕ
+led p steps = carried Up (code_of p) steps
 
 module _ (p : WholeProgram Name) (fine : IsAccepted p) (fits : nat_lt 65535 (lowered_length (resolved p)) ≡ false) where
   lowered_is : (by : StepCode → Answer) → by (code_of p) ≡ lowered_answer by p
@@ -111,7 +112,7 @@ module _ (p : WholeProgram Name) (fine : IsAccepted p) (fits : nat_lt 65535 (low
 
 module _ (schedule text : List ℕ) where
   drop_text : (reported : Answer) → IsTextAnswer (lowered_answer (code_answer schedule)) text reported → reported.status ≡ 0
-      → (line : List ℕ) × IsTextAnswer (lowered_answer (project_answer schedule)) text (done (line ++ line_end)) × IsTextAnswer (source_answer line) text reported
+      → (line : List ℕ) × IsTextAnswer (lowered_answer (carried_answer Down schedule)) text (done (line ++ line_end)) × IsTextAnswer (source_answer line) text reported
   drop_text reported answers zero =
       let at = accepting (lowered_answer (code_answer schedule)) text reported answers zero in
       let p = at.program in
@@ -121,20 +122,20 @@ module _ (schedule text : List ℕ) where
       let line = schedule_text (kept p steps) in (
         line,
         accepted p at.reads at.fine
-            (sym (ap (scheduled (λ these. schedule_line (kept p these))) run.1) ∙ lowered_is p at.fine low.fits (project_answer schedule)),
+            (sym (ap (scheduled (λ these. schedule_line (kept p these))) run.1) ∙ lowered_is p at.fine low.fits (carried_answer Down schedule)),
         accepted p at.reads at.fine
             (run.2 ∙ ap done (same_down p at.fine low.fits steps)
             ∙ sym (ap (scheduled (source_report (resolved p))) (kept_reads_back p at.fine low.fits schedule steps run.1))),
       )
 
   lift_text : length text ≤ 1000000 → (reported lifted : Answer) → IsTextAnswer (source_answer schedule) text reported → reported.status ≡ 0
-      → IsTextAnswer (lowered_answer (expand_answer schedule)) text lifted → lifted.status ≡ 0
+      → IsTextAnswer (lowered_answer (carried_answer Up schedule)) text lifted → lifted.status ≡ 0
       → (steps : List ℕ) × (lifted ≡ done (schedule_line steps))
       × (length steps ≤ 10000000 → IsTextAnswer (lowered_answer (code_answer (schedule_text steps))) text reported)
   lift_text short reported lifted answers zero lifts nought =
-      let at = accepting (lowered_answer (expand_answer schedule)) text lifted lifts nought in
+      let at = accepting (lowered_answer (carried_answer Up schedule)) text lifted lifts nought in
       let p = at.program in
-      let low = lowering (expand_answer schedule) p lifted at.is nought in
+      let low = lowering (carried_answer Up schedule) p lifted at.is nought in
       let run = scheduling (λ these. schedule_line (led p these)) (schedule_of p.processes schedule) lifted low.is nought in
       let steps = run.0 in
       let told : reported ≡ source_answer schedule p =
@@ -150,12 +151,13 @@ module _ (schedule text : List ℕ) where
 refused_not_done : {A : Type 0} (refusal : Refusal) (a : Answer) → a ≡ stopped (Refused refusal) → a.status ≡ 0 → A
 refused_not_done refusal a is zero = absurd (stop_not_done (Refused refusal) a is zero)
 
-module _ (schedule input : List ℕ) (program : begins_as_code input ≡ false) where
-  drop_by : (o : Option Refusal) (reported : Answer) → UnlessRefused o (TextAnswers (Code schedule) input) reported → reported.status ≡ 0
+module _ (schedule input : List ℕ) where
+  drop_by : (o : Option Refusal) → begins_as_code input ≡ false → (reported : Answer)
+      → UnlessRefused o (TextAnswers (Code schedule) input) reported → reported.status ≡ 0
       → (line : List ℕ) × UnlessRefused o (TextAnswers (Project schedule) input) (done (line ++ line_end)) × UnlessRefused o (TextAnswers (Source line) input) reported
-  drop_by None reported answers zero =
+  drop_by None program reported answers zero =
       drop_text schedule input reported (subst (λ b. IsEitherAnswer b (code_answer schedule) input reported) program answers) zero
-  drop_by (Some refusal) reported answers zero = refused_not_done refusal reported answers zero
+  drop_by (Some refusal) program reported answers zero = refused_not_done refusal reported answers zero
 
   lift_by : (o : Option Refusal) → text_fault input ≡ o → (reported lifted : Answer)
       → UnlessRefused o (TextAnswers (Source schedule) input) reported → reported.status ≡ 0
@@ -163,6 +165,8 @@ module _ (schedule input : List ℕ) (program : begins_as_code input ≡ false) 
       → (steps : List ℕ) × (lifted ≡ done (schedule_line steps))
       × (length steps ≤ 10000000 → UnlessRefused o (TextAnswers (Code (schedule_text steps)) input) reported)
   lift_by None is reported lifted answers zero lifts nought =
+      let at = accepting (source_answer schedule) input reported answers zero in
+      let program : begins_as_code input ≡ false = program_text_begins input at.program at.reads.is_text in
       let found = lift_text schedule input (short_input input is) reported lifted answers zero lifts nought in (
         found.0,
         found.1,
@@ -171,8 +175,9 @@ module _ (schedule input : List ℕ) (program : begins_as_code input ≡ false) 
   lift_by (Some refusal) is reported lifted answers zero lifts nought = refused_not_done refusal reported answers zero
 
 pub drop_law : DropLaw
-drop_law schedule input reported program answers zero = drop_by schedule input program (text_fault input) reported answers zero
+drop_law schedule input p reported is answers zero =
+    drop_by schedule input (text_fault input) (program_text_begins input p is) reported answers zero
 
 pub lift_law : LiftLaw
-lift_law schedule input reported lifted program answers zero lifts nought =
-    lift_by schedule input program (text_fault input) refl reported lifted answers zero lifts nought
+lift_law schedule input reported lifted answers zero lifts nought =
+    lift_by schedule input (text_fault input) refl reported lifted answers zero lifts nought

@@ -1,29 +1,38 @@
 -- From a run, or from what stops one, to what is answered.
-use Rattle.std.proofs.Common.{◌≡◌, ℕ, [], List, Option, Some, None, ap, refl, subst, sym}
-use Rattle.verified_code.specs.Instructions.{StepCode}
+use Rattle.std.proofs.Common.{◌≡◌, ℕ, [], List, Option, Some, None, Result, Ok, Err, IfOk, IfErr, refl, subst, sym}
+use Rattle.code_core.specs.Instructions.{StepCode}
 use Rattle.engine.specs.Answer.{Answer, done, refused}
 use Rattle.engine.specs.Codes.{code_answer}
-use Rattle.engine.specs.Commands.{InputAnswers, TextAnswers, UnlessRefused}
-use Rattle.engine.specs.Commands.Job.{Code, Run}
+use Rattle.engine.specs.Commands.{InputAnswers, PlainCommand, TextAnswers, UnlessRefused, runs}
+use Rattle.engine.specs.declared.command.Command.TheVariants.{Code, Run}
 use Rattle.engine.specs.Lowered.{IsCodeOf, IsRunnableAnswer}
-use Rattle.engine.specs.Runs.{not_run, ran}
+use Rattle.engine.specs.Runs.{IsOutcomeOf, not_run, ran}
 use Rattle.engine.specs.Text.{text_fault}
+use Rattle.engine.specs.declared.fault.EngineFault.{EngineFault}
+use Rattle.engine.specs.declared.fault.EngineFault.TheVariants.{Memory as NoMemory}
 use Rattle.engine.specs.declared.refusal.Refusal.{Refusal}
 use Rattle.engine.specs.declared.reply.Reply.{Reply}
 use Rattle.engine.specs.declared.stop.Stop.{Stop}
 use Rattle.engine.specs.declared.stop.Stop.TheVariants.{Refused, Memory}
-use Rattle.engine.specs.prover.Replies.{IfRefused, IsReply, IsRunText, RepliesStop}
+use Rattle.engine.specs.prover.Replies.{IfRefused, IsReplied, IsReply, IsUnreplied, RepliesStop}
 
-pub stop_replies : (allowed : Answer → Type 0) (reply : Reply) (stop : Stop) → RepliesStop reply stop
+stop_replies : (allowed : Answer → Type 0) (reply : Reply) (stop : Stop) → RepliesStop reply stop
     → IfRefused stop (λ refusal. allowed (refused refusal)) → IsReply allowed reply
 stop_replies allowed reply (Refused refusal) told held = record { answer = refused refusal; is_allowed = held; replies = told }
 stop_replies allowed reply Memory told held = absurd told
 
-pub run_done : (turns : ℕ) (input text : List ℕ) (c : StepCode) → text_fault input ≡ None → IsCodeOf input c → IsRunText c turns text
+-- the reply to what stopped a command, or want of memory
+pub stop_replied : (command : PlainCommand) (input : List ℕ) (stop : Stop) (result : Result Reply EngineFault)
+    → IfOk result (λ reply. RepliesStop reply stop) → IfErr result (λ fault. fault ≡ NoMemory)
+    → IfRefused stop (λ refusal. InputAnswers command input (refused refusal)) → IsReplied command input result
+stop_replied command input stop (Ok reply) told fault held = stop_replies (InputAnswers command input) reply stop told held
+stop_replied command input stop (Err e) told fault held = subst (IsUnreplied (runs command)) (sym fault) tt
+
+pub run_done : (turns : ℕ) (input text : List ℕ) (c : StepCode) → text_fault input ≡ None → IsCodeOf input c → IsOutcomeOf c turns (done text)
     → InputAnswers (Run turns) input (done text)
 run_done turns input text c fine is run =
     subst (λ fault. UnlessRefused fault (TextAnswers (Run turns) input) (done text)) (sym fine)
-    (ran c run.outcome is run.is_run (ap done run.told))
+    (ran c is run)
 
 pub code_refused : (input text : List ℕ) (refusal : Refusal) → text_fault input ≡ None → text ≡ input
     → IsRunnableAnswer (code_answer []) text (refused refusal) → InputAnswers (Code []) input (refused refusal)

@@ -1,17 +1,20 @@
 -- From an input that was read to a reply, and from a reply to what is written.
-use Rattle.std.proofs.Common.{◌≡◌, ℕ, ◌+◌, ◌<◌, ◌≤◌, ◌++◌, ◌⊎◌, true, false, inl, inr, List, [], length, Option, Some, None, Result, Ok, Err, IfErr, IfOk, OnErr, OnOk, append-nil, arith, ap, refl, string_bytes, subst, sym, ◌∙◌}
+use Rattle.std.proofs.Common.{◌≡◌, ℕ, ◌+◌, ◌<◌, ◌≤◌, ◌++◌, ◌⊎◌, false, inl, inr, List, [], length, Option, Some, None, Result, Ok, Err, IfErr, IfOk, OnErr, OnOk, append-nil, arith, ap, refl, string_bytes, subst, sym, ◌∙◌}
 use Rattle.std.proofs.Math.ListN.{length-append}
 use Rattle.std.proofs.lemmas.Bool.{lt-ltb}
 use Rattle.std.proofs.lemmas.Bool.Decides.{leb_tells}
+use Rattle.std.specs.Borrow.{Bor}
 use Rattle.std.specs.Io.KnownBytes.{Appends, Consumes}
-use Rattle.ends.specs.Reading.{CountsReads, IsRead, TakesFew}
-use Rattle.ends.specs.Writing.{CountsWrites, WritesPrefix}
-use Rattle.ends.specs.declared.counts.Counts.{Counts}
-use Rattle.ends.specs.declared.fault.EndFault.{EndFault}
-use Rattle.ends.specs.declared.fault.EndFault.TheVariants as end
-use Rattle.engine.specs.Commands.{InputAnswers, Job, JobAnswers, TextAnswers, UnlessRefused, is_run, line_answer, wants_input}
+use Rattle.byte_io.specs.Reading.{CountsReads, IsRead, TakesFew}
+use Rattle.byte_io.specs.Writing.{CountsWrites, WritesPrefix}
+use Rattle.byte_io.specs.declared.counts.Counts.{Counts}
+use Rattle.byte_io.specs.declared.fault.EndFault.{EndFault}
+use Rattle.byte_io.specs.declared.fault.EndFault.TheVariants as end
+use Rattle.engine.specs.Commands.{CommandAnswers, InputAnswers, PlainCommand, TextAnswers, UnlessRefused, is_run, line_answer, runs, wants_input}
+use Rattle.engine.specs.declared.command.Command.{Command}
+use Rattle.engine.specs.declared.command.Command.TheVariants.{Run}
 use Rattle.engine.specs.Faults.{end_fault_in}
-use Rattle.engine.specs.Serving.{OnInput, ServesJob, UnlessRun}
+use Rattle.engine.specs.Serving.{Leaves, OnInput, ServesCommand, Writes, WritesSome}
 use Rattle.engine.specs.Text.{text_fault}
 use Rattle.engine.specs.declared.command.LineFault.{LineFault}
 use Rattle.engine.specs.declared.fault.EngineFault.{EngineFault}
@@ -19,9 +22,8 @@ use Rattle.engine.specs.declared.fault.EngineFault.TheVariants.{Read, Write, Mem
 use Rattle.engine.specs.declared.refusal.Refusal.{Refusal}
 use Rattle.engine.specs.declared.refusal.Refusal.TheVariants.{TextTooLong}
 use Rattle.engine.specs.declared.reply.Reply.{Reply}
-use Rattle.engine.specs.declared.serving.Served.{Served}
 use Rattle.engine.specs.prover.Faults.{end_fault}
-use Rattle.engine.specs.prover.Replies.{IsReply, Replies}
+use Rattle.engine.specs.prover.Replies.{IsReply, IsUnreplied, Replies, plain_command}
 
 Consumes-nil : (a : Option (List ℕ)) → Consumes a a []
 Consumes-nil None = tt
@@ -30,9 +32,9 @@ Consumes-nil (Some bytes) = refl
 too_long : (input : List ℕ) → 1000000 < length input → text_fault input ≡ Some TextTooLong
 too_long input long = rw (lt-ltb 1000000 (length input) long) refl
 
-module _ (job : Job) (reply : Reply) where
+module _ (command : PlainCommand) (reply : Reply) where
   abbrev By : Option Refusal → List ℕ → Type 0
-  By fault input = IsReply (λ a. UnlessRefused fault (TextAnswers job input) a) reply
+  By fault input = IsReply (λ a. UnlessRefused fault (TextAnswers command input) a) reply
 
   -- two inputs that are both too long have the same answer
   both_too_long : (read all : List ℕ) → 1000000 < length read → 1000000 < length all
@@ -62,11 +64,11 @@ module _ (job : Job) (reply : Reply) where
   }
 
 -- the reply to a command, by the input
-pub replied_on_read : (job : Job) (known left : Option (List ℕ)) (read slice : List ℕ) (reply : Reply)
-    → slice ≡ read → IsRead known left read → IsReply (InputAnswers job slice) reply
-    → OnInput known (λ input. IsReply (JobAnswers (Ok job) input) reply)
-replied_on_read job known left read slice reply same reads answered =
-    on_read job reply known left read reads (subst (λ (l : List ℕ). IsReply (InputAnswers job l) reply) same answered)
+pub replied_on_read : (command : PlainCommand) (known left : Option (List ℕ)) (read slice : List ℕ) (reply : Reply)
+    → slice ≡ read → IsRead known left read → IsReply (InputAnswers command slice) reply
+    → OnInput known (λ input. IsReply (CommandAnswers (Ok command) input) reply)
+replied_on_read command known left read slice reply same reads answered =
+    on_read command reply known left read reads (subst (λ (l : List ℕ). IsReply (InputAnswers command l) reply) same answered)
 
 -- a reply that no input changes is one on the known input
 pub on_any : (known : Option (List ℕ)) (P : List ℕ → Type 0) → ((input : List ℕ) → P input) → OnInput known P
@@ -74,124 +76,97 @@ on_any None P is = record { input = []; is_known = tt; holds = is [] }
 on_any (Some all) P is = record { input = all; is_known = refl; holds = is all }
 
 pub replied_on_any : (fault : LineFault) (known : Option (List ℕ)) (reply : Reply)
-    → Replies reply (line_answer fault) → OnInput known (λ input. IsReply (JobAnswers (Err fault) input) reply)
+    → Replies reply (line_answer fault) → OnInput known (λ input. IsReply (CommandAnswers (Err fault) input) reply)
 replied_on_any fault known reply told =
-    on_any known (λ input. IsReply (JobAnswers (Err fault) input) reply)
+    on_any known (λ input. IsReply (CommandAnswers (Err fault) input) reply)
     (λ input. record { answer = line_answer fault; is_allowed = refl; replies = told })
+
+-- a command of another variant is no run
+pub no_run : (command : Command (Bor (List ℕ))) → ((turns : ℕ) → command ≡ Run turns → ⊥) → runs (plain_command command) ≡ false
+no_run (Run turns) other = absurd (other turns refl)
+no_run command other = refl
 
 pub takes_none : (known : Option (List ℕ)) → TakesFew known known
 takes_none known = record { bytes = []; taken = Consumes-nil known; few = omega arith }
 
--- what a command may end by before anything is written
-abbrev EndsBy : Result Job LineFault → EngineFault → Type 0
-EndsBy job fault = (fault ≡ Read) ⊎ (fault ≡ Memory) ⊎ ((fault ≡ Thread) × (is_run job ≡ true))
-
-module _ {R W : Type 0} (job : Result Job LineFault) (remaining : R → Option (List ℕ)) (reads : R → Counts)
+module _ {R W : Type 0} (command : Result PlainCommand LineFault) (remaining : R → Option (List ℕ)) (reads : R → Counts)
     (written : W → Option (List ℕ)) (writes : W → Counts) (old new : R)
-    (unread : wants_input job ≡ false → new ≡ old)
+    (unread : wants_input command ≡ false → new ≡ old)
     (few : TakesFew (remaining old) (remaining new))
     (calls : (reads new).calls ≤ (reads old).calls + 2000000) where
-  gives_up : (fault : EngineFault) → EndsBy job fault → (writer : W) → CountsReads (end_fault_in {A = ℕ} (Err fault)) (reads old) (reads new)
-      → ServesJob job remaining reads written writes old new writer writer (Err fault)
-  gives_up Read why writer counted = record {
-    answers = on_any (remaining old) _ (λ input. refl);
+  served : (before after : W) (result : Result ℕ EngineFault)
+      → OnInput (remaining old) (λ input. Leaves written before after (is_run command) result (CommandAnswers command input))
+      → CountsReads (end_fault_in result) (reads old) (reads new) → CountsWrites (end_fault_in result) (writes before) (writes after)
+      → ServesCommand command remaining reads written writes old new before after result
+  served before after result answers reads_counted writes_counted = record {
+    answers = answers;
     unread = unread;
     few = few;
     calls = calls;
-    reads_counted = counted;
-    writes_counted = refl;
+    reads_counted = reads_counted;
+    writes_counted = writes_counted;
   }
-  gives_up Memory why writer counted = record {
-    answers = on_any (remaining old) _ (λ input. refl);
-    unread = unread;
-    few = few;
-    calls = calls;
-    reads_counted = counted;
-    writes_counted = refl;
-  }
-  gives_up Thread why writer counted = record {
-    answers = on_any (remaining old) _ (λ input. (elim why [ inl read ↦ absurd (cc) | inr other ↦ elim other [ inl memory ↦ absurd (cc) | inr thread ↦ thread.1 ] ], refl));
-    unread = unread;
-    few = few;
-    calls = calls;
-    reads_counted = counted;
-    writes_counted = refl;
-  }
-  gives_up Write why writer counted =
-      absurd (elim why [ inl read ↦ cc | inr other ↦ elim other [ inl memory ↦ cc | inr thread ↦ absurd (let no : Write ≡ Thread = thread.0 in cc) ] ])
 
-  -- where reading, memory or a thread ends it, nothing is written
-  pub gave_up : (result : Result ℕ EngineFault) (told fault : EngineFault) → result ≡ Err told → told ≡ fault → EndsBy job fault → (writer : W)
-      → CountsReads (end_fault_in {A = ℕ} (Err fault)) (reads old) (reads new) → ServesJob job remaining reads written writes old new writer writer result
-  gave_up result told fault is same why writer counted = rw (is, same) (gives_up fault why writer counted)
+  -- where there is no reply, nothing is written
+  pub unreplied : (fault : EngineFault) → IsUnreplied (is_run command) fault → (writer : W) → (reads new).failures ≡ (reads old).failures
+      → ServesCommand command remaining reads written writes old new writer writer (Err fault)
+  unreplied Memory why writer counted = served writer writer (Err Memory) (on_any (remaining old) _ (λ input. refl)) counted refl
+  unreplied Thread why writer counted = served writer writer (Err Thread) (on_any (remaining old) _ (λ input. (why, refl))) counted refl
+  unreplied Read why writer counted = absurd why
+  unreplied Write why writer counted = absurd why
 
-  -- where reading ends it
-  pub gave_up_reading : (result : Result ℕ EngineFault) (told : EngineFault) (fault : EndFault) → result ≡ Err told → told ≡ end_fault fault
-      → (fault ≡ end.Read) ⊎ (fault ≡ end.Memory) → (writer : W)
-      → CountsReads (Some fault) (reads old) (reads new) → ServesJob job remaining reads written writes old new writer writer result
-  gave_up_reading result told end.Read is same why writer counted = gave_up result told Read is same (inl refl) writer counted
-  gave_up_reading result told end.Memory is same why writer counted = gave_up result told Memory is same (inr (inl refl)) writer counted
-  gave_up_reading result told end.Write is same why writer counted = absurd (elim why [ inl read ↦ cc | inr memory ↦ cc ])
+  -- nor where reading ends it
+  pub gave_up_reading : (fault : EndFault) → (fault ≡ end.Read) ⊎ (fault ≡ end.Memory) → (writer : W) → CountsReads (Some fault) (reads old) (reads new)
+      → ServesCommand command remaining reads written writes old new writer writer (Err (end_fault fault))
+  gave_up_reading end.Read why writer counted = served writer writer (Err Read) (on_any (remaining old) _ (λ input. refl)) counted refl
+  gave_up_reading end.Memory why writer counted = unreplied Memory tt writer counted
+  gave_up_reading end.Write why writer counted = absurd (elim why [ inl read ↦ cc | inr memory ↦ cc ])
 
   -- a reply that was written is an answer that was
   pub gave_reply : (reply : Reply) (before after : W) (result : Result ℕ EngineFault)
-      → OnInput (remaining old) (λ input. IsReply (JobAnswers job input) reply)
+      → OnInput (remaining old) (λ input. IsReply (CommandAnswers command input) reply)
       → (reads new).failures ≡ (reads old).failures
       → IfOk result (λ status. status ≡ reply.status)
       → OnOk result (Appends (written before) (written after) (string_bytes reply.text))
       → OnErr result (WritesPrefix (written before) (written after) (string_bytes reply.text))
       → IfErr result (λ fault. fault ≡ Write)
       → CountsWrites (end_fault_in result) (writes before) (writes after)
-      → ServesJob job remaining reads written writes old new before after result
-  gave_reply reply before after (Ok status) replied none_failed is all some fault counted = record {
-    answers = record {
-      input = replied.input;
-      is_known = replied.is_known;
-      holds = record {
-        answer = replied.holds.answer;
-        is_allowed = replied.holds.is_allowed;
-        status_is = is ∙ replied.holds.replies.status;
-        written = subst (λ (text : List ℕ). Appends (written before) (written after) text) replied.holds.replies.text all;
-      };
-    };
-    unread = unread;
-    few = few;
-    calls = calls;
-    reads_counted = none_failed;
-    writes_counted = counted;
-  }
-  gave_reply reply before after (Err Write) replied none_failed is all some fault counted = record {
-    answers = record {
-      input = replied.input;
-      is_known = replied.is_known;
-      holds = record {
-        answer = replied.holds.answer;
-        is_allowed = replied.holds.is_allowed;
-        written = subst (λ (text : List ℕ). WritesPrefix (written before) (written after) text) replied.holds.replies.text some;
-      };
-    };
-    unread = unread;
-    few = few;
-    calls = calls;
-    reads_counted = none_failed;
-    writes_counted = counted;
-  }
+      → ServesCommand command remaining reads written writes old new before after result
+  gave_reply reply before after (Ok status) replied none_failed is all some fault counted =
+      let answers : OnInput (remaining old) (λ input. Writes (written before) (written after) status (CommandAnswers command input)) = record {
+        input = replied.input;
+        is_known = replied.is_known;
+        holds = record {
+          answer = replied.holds.answer;
+          is_allowed = replied.holds.is_allowed;
+          status_is = is ∙ replied.holds.replies.status;
+          written = subst (λ (text : List ℕ). Appends (written before) (written after) text) replied.holds.replies.text all;
+        };
+      } in
+      served before after (Ok status) answers none_failed counted
+  gave_reply reply before after (Err Write) replied none_failed is all some fault counted =
+      let answers : OnInput (remaining old) (λ input. WritesSome (written before) (written after) (CommandAnswers command input)) = record {
+        input = replied.input;
+        is_known = replied.is_known;
+        holds = record {
+          answer = replied.holds.answer;
+          is_allowed = replied.holds.is_allowed;
+          written = subst (λ (text : List ℕ). WritesPrefix (written before) (written after) text) replied.holds.replies.text some;
+        };
+      } in
+      served before after (Err Write) answers none_failed counted
   gave_reply reply before after (Err Read) replied none_failed is all some fault counted = absurd (cc)
   gave_reply reply before after (Err Memory) replied none_failed is all some fault counted = absurd (cc)
   gave_reply reply before after (Err Thread) replied none_failed is all some fault counted = absurd (cc)
 
-pub unless_run_stopped : (P : Result ℕ EngineFault → Type 0) (result : Result Served EngineFault) (told fault : EngineFault)
-    → result ≡ Err told → told ≡ fault → P (Err fault) → UnlessRun result P
-unless_run_stopped P result told fault is same held = rw (is, same) held
-
 -- what is served from where another call left the ends is served from where that call found them, if it
 -- left them alone
-pub served_from : {R W : Type 0} (job other : Result Job LineFault) (remaining : R → Option (List ℕ)) (reads : R → Counts)
+pub served_from : {R W : Type 0} (command other : Result PlainCommand LineFault) (remaining : R → Option (List ℕ)) (reads : R → Counts)
     (written : W → Option (List ℕ)) (writes : W → Counts) (old between new : R) (first left last : W) (result : Result ℕ EngineFault)
-    → job ≡ other → between ≡ old → left ≡ first
-    → ServesJob other remaining reads written writes between new left last result
-    → ServesJob job remaining reads written writes old new first last result
-served_from job other remaining reads written writes old between new first left last result asks unread unwritten served =
-    subst (λ (j : Result Job LineFault). ServesJob j remaining reads written writes old new first last result) (sym asks)
-    (subst (λ r. ServesJob other remaining reads written writes r new first last result) unread
-    (subst (λ w. ServesJob other remaining reads written writes between new w last result) unwritten served))
+    → command ≡ other → between ≡ old → left ≡ first
+    → ServesCommand other remaining reads written writes between new left last result
+    → ServesCommand command remaining reads written writes old new first last result
+served_from command other remaining reads written writes old between new first left last result asks unread unwritten served =
+    subst (λ (j : Result PlainCommand LineFault). ServesCommand j remaining reads written writes old new first last result) (sym asks)
+    (subst (λ r. ServesCommand other remaining reads written writes r new first last result) unread
+    (subst (λ w. ServesCommand other remaining reads written writes between new w last result) unwritten served))

@@ -10,10 +10,10 @@ use Rattle.tick_syntax.specs.Plain.{Name, WholeProgram}
 use Rattle.tick_syntax.specs.Refusal.{IsTextRefused}
 use Rattle.tick_syntax.specs.declared.fault.TextFault.{TextFault}
 use Rattle.tick_syntax.specs.declared.fault.TextFault.TheVariants as text
-use Rattle.verified_code.specs.Instructions.{StepCode}
-use Rattle.verified_code.specs.declared.fault.CodeFault.{CodeFault}
-use Rattle.verified_code.specs.declared.fault.CodeFault.TheVariants as codes
-use Rattle.code_text.specs.CodeText.{Reading}
+use Rattle.code_core.specs.Instructions.{StepCode}
+use Rattle.code_core.specs.declared.fault.CodeFault.{CodeFault}
+use Rattle.code_core.specs.declared.fault.CodeFault.TheVariants as codes
+use Rattle.code_text.specs.CodeText.{ReadsAs}
 use Rattle.engine.specs.Answer.{Answer, refused, scheduled, stopped}
 use Rattle.engine.specs.Codes.{IsCodeAnswer}
 use Rattle.engine.specs.Order.{order_answer, stamps_text}
@@ -44,7 +44,7 @@ kinds_stops by input p fault reads told =
     stop_told (IsTextAnswer by input) (kinds_stop fault)
     (λ differs. not_accepted p fault reads (told (λ same. differs (ap kinds_stop same))) refl)
 
-pub code_stops : (by : StepCode → Answer) (input : List ℕ) (fault : CodeFault) → (fault ≢ codes.NoMemory → Reading input (Err fault))
+pub code_stops : (by : StepCode → Answer) (input : List ℕ) (fault : CodeFault) → (fault ≢ codes.NoMemory → ReadsAs input (Err fault))
     → IfRefused (code_stop fault) (λ refusal. IsCodeAnswer by input (refused refusal))
 code_stops by input fault told =
     stop_told (IsCodeAnswer by input) (code_stop fault)

@@ -1,5 +1,6 @@
 -- What holds of an outcome, where less is asked.
-use Rattle.std.proofs.Common.{Result, Ok, Err, IfOk, IfErr}
+use Rattle.std.proofs.Common.{◌≡◌, ◌∙◌, Result, Ok, Err, IfOk, IfErr, IsErrAnd, ap}
+use Rattle.std.proofs.lemmas.Result.{err_from_is_err_and}
 use Rattle.engine.specs.declared.refusal.Refusal.{Refusal}
 use Rattle.engine.specs.declared.stop.Stop.{Stop}
 use Rattle.engine.specs.declared.stop.Stop.TheVariants.{Refused, Memory}
@@ -16,3 +17,7 @@ if_err (Err e) P Q more held = more e held
 pub if_refused : (P Q : Refusal → Type 0) → ((refusal : Refusal) → P refusal → Q refusal) → (stop : Stop) → IfRefused stop P → IfRefused stop Q
 if_refused P Q more (Refused refusal) held = more refusal held
 if_refused P Q more Memory held = tt
+
+-- what a `?` hands on
+pub err_is : {T E : Type 0} {fault : E} (r : Result T E) → IsErrAnd r (λ e. e ≡ fault) → r ≡ Err fault
+err_is r ends = let told = err_from_is_err_and r ends in told.1 ∙ ap (λ e. Err e) told.2

@@ -1,10 +1,10 @@
 -- What the commands on a code answer, by the text: it is read as a code, or it has a fault.
 use Rattle.std.specs.Prelude.{◌≡◌, ℕ, List, Result, Ok, Err}
-use Rattle.code_text.specs.CodeText.{Reading}
+use Rattle.code_text.specs.CodeText.{ReadsAs}
 use Rattle.tick_play.specs.Report.{code_report}
 use Rattle.tick_play.specs.Schedule.{schedule_of}
-use Rattle.verified_code.specs.Instructions.{StepCode}
-use Rattle.verified_code.specs.declared.fault.CodeFault.{CodeFault}
+use Rattle.code_core.specs.Instructions.{StepCode}
+use Rattle.code_core.specs.declared.fault.CodeFault.{CodeFault}
 use Rattle.engine.specs.Answer.{Answer, scheduled, stopped}
 use Rattle.engine.specs.Stop.{code_stop}
 
@@ -16,7 +16,7 @@ reading_answer by (Err fault) = stopped (code_stop fault)
 -- the text is read so, and this is the answer
 pub record IsCodeAnswer (by : StepCode → Answer) (text : List ℕ) (a : Answer) : Type 0 where
   pub reading : Result StepCode CodeFault
-  pub reads : Reading text reading
+  pub reads : ReadsAs text reading
   pub answers : a ≡ reading_answer by reading
 
 -- `code` with the text of a schedule

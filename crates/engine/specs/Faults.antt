@@ -1,7 +1,7 @@
 -- Which faults of the engine are those of an end.
 use Rattle.std.specs.Prelude.{Option, Some, None, Result, Ok, Err}
-use Rattle.ends.specs.declared.fault.EndFault.{EndFault}
-use Rattle.ends.specs.declared.fault.EndFault.TheVariants as end
+use Rattle.byte_io.specs.declared.fault.EndFault.{EndFault}
+use Rattle.byte_io.specs.declared.fault.EndFault.TheVariants as end
 use Rattle.engine.specs.declared.fault.EngineFault.{EngineFault}
 use Rattle.engine.specs.declared.fault.EngineFault.TheVariants.{Read, Write, Memory, Thread}
 

@@ -1,35 +1,58 @@
--- Each command line but a run on threads has one answer on each input; and what a program reports and what its code reports
--- are the same, under schedules that the commands print.
-use Rattle.std.specs.Prelude.{◌≡◌, ℕ, ◌≤◌, ◌++◌, false, List, length, Option, Some}
+-- Each command line but a run on threads has one answer on each input; a run has those of its code, or one refusal; and
+-- what a program reports and what its code reports are the same, under schedules that the commands print.
+use Rattle.std.specs.Prelude.{◌≡◌, ◌↔◌, ℕ, ◌≤◌, ◌++◌, false, List, [], length, Option, Some, None, Ok}
 use Rattle.text_core.specs.Lines.{line_end}
-use Rattle.command_line.specs.Line.{Asked}
-use Rattle.command_line.specs.Line.Asked.{Source, Code, Expand, Project}
+use Rattle.command_line.specs.declared.request.Request.{Request}
+use Rattle.command_line.specs.declared.request.Request.TheVariants.{Source, Code, Expand, Project}
 use Rattle.tick_play.specs.Written.{schedule_text}
+use Rattle.tick_syntax.specs.Plain.{Name, WholeProgram}
+use Rattle.tick_syntax.specs.RoundTrip.{IsTextOf}
+use Rattle.code_core.specs.Instructions.{StepCode}
 use Rattle.engine.specs.Answer.{Answer, done}
-use Rattle.engine.specs.Commands.{Answers, is_run, job_of}
-use Rattle.engine.specs.Lowered.{begins_as_code}
+use Rattle.engine.specs.Commands.{Answers, command_for, is_run}
+use Rattle.engine.specs.Lowered.{IsCodeOf}
 use Rattle.engine.specs.Maps.{schedule_line}
+use Rattle.engine.specs.Runs.{IsOutcomeOf}
+use Rattle.engine.specs.Text.{text_fault}
+use Rattle.engine.specs.declared.command.Command.TheVariants.{Run}
 
 -- What a run shows may be one of many things, by how its threads go on; all other answers are determined.
 abbrev pub AtMostOneAnswerLaw : Type 0
 AtMostOneAnswerLaw =
-    (asked : Option Asked) (input : List ℕ) (a b : Answer) → is_run (job_of asked) ≡ false
+    (asked : Option (Request (List ℕ))) (input : List ℕ) (a b : Answer) → is_run (command_for asked) ≡ false
     → Answers asked input a → Answers asked input b → a ≡ b
 
 abbrev pub SomeAnswerLaw : Type 0
 SomeAnswerLaw =
-    (asked : Option Asked) (input : List ℕ) → is_run (job_of asked) ≡ false → (a : Answer) × Answers asked input a
+    (asked : Option (Request (List ℕ))) (input : List ℕ) → is_run (command_for asked) ≡ false → (a : Answer) × Answers asked input a
+
+-- The input is a text that is this code, or a program that has it.
+abbrev pub HasCode : List ℕ → StepCode → Type 0
+HasCode input c = (text_fault input ≡ None) × IsCodeOf input c
+
+-- Where the input has a code, a run is answered by what runs of that code let others see, and by nothing else.
+abbrev pub RunOutcomeLaw : Type 0
+RunOutcomeLaw =
+    (asked : Option (Request (List ℕ))) (turns : ℕ) (input : List ℕ) (c : StepCode) (a : Answer)
+    → command_for asked ≡ Ok (Run turns) → HasCode input c → Answers asked input a ↔ IsOutcomeOf c turns a
+
+-- Where it has none, a run is answered as `code` refuses the input under the empty schedule, and by nothing else.
+abbrev pub RunRefusalLaw : Type 0
+RunRefusalLaw =
+    (asked : Option (Request (List ℕ))) (turns : ℕ) (input : List ℕ) (a : Answer)
+    → command_for asked ≡ Ok (Run turns) → ((c : StepCode) → HasCode input c → ⊥)
+    → Answers asked input a ↔ (Answers (Some (Code [])) input a × (a.status ≡ 1))
 
 -- Where `code` reports on a program, `drop` prints a line, and `source` reports the same under it.
 abbrev pub DropLaw : Type 0
-DropLaw = (schedule input : List ℕ) (reported : Answer) → begins_as_code input ≡ false
+DropLaw = (schedule input : List ℕ) (p : WholeProgram Name) (reported : Answer) → IsTextOf input p
     → Answers (Some (Code schedule)) input reported → reported.status ≡ 0
     → (line : List ℕ) × Answers (Some (Project schedule)) input (done (line ++ line_end)) × Answers (Some (Source line)) input reported
 
 -- Where `source` reports, and `lift` prints a line, that is of some steps; and `code` reports the same
 -- under it, where they are no more than a schedule can have.
 abbrev pub LiftLaw : Type 0
-LiftLaw = (schedule input : List ℕ) (reported lifted : Answer) → begins_as_code input ≡ false
+LiftLaw = (schedule input : List ℕ) (reported lifted : Answer)
     → Answers (Some (Source schedule)) input reported → reported.status ≡ 0
     → Answers (Some (Expand schedule)) input lifted → lifted.status ≡ 0
     → (steps : List ℕ) × (lifted ≡ done (schedule_line steps))

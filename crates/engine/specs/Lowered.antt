@@ -1,12 +1,12 @@
 -- What the commands on the code of a program answer: it is too long, or the code is answered.
 use Rattle.std.specs.Prelude.{◌≡◌, ℕ, ◌≤◌, nat_lt, ◌==◌, Bool, true, false, List, Ok, codes}
 use Rattle.std.specs.List.{starts_with}
-use Rattle.code_text.specs.CodeText.{Reading, code_text}
+use Rattle.code_text.specs.CodeText.{ReadsAs, code_text}
 use Rattle.tick_kinds.specs.Accepted.{IsAccepted}
 use Rattle.tick_kinds.specs.Resolution.{resolved}
 use Rattle.tick_lower.specs.Lowered.{lowered, lowered_length, lowered_sizes}
 use Rattle.tick_syntax.specs.Plain.{Name, WholeProgram}
-use Rattle.verified_code.specs.Instructions.{StepCode}
+use Rattle.code_core.specs.Instructions.{StepCode}
 use Rattle.engine.specs.Answer.{Answer, done, refused}
 use Rattle.engine.specs.Codes.{IsCodeAnswer}
 use Rattle.engine.specs.Programs.{IsProgramText, IsTextAnswer}
@@ -48,7 +48,7 @@ pub record IsLowered (text : List ℕ) (c : StepCode) : Type 0 where
   pub code : c ≡ code_of program
 
 abbrev pub IsEitherCode : Bool → List ℕ → StepCode → Type 0
-IsEitherCode true text c = Reading text (Ok c)
+IsEitherCode true text c = ReadsAs text (Ok c)
 IsEitherCode false text c = IsLowered text c
 
 -- the code that the text is, or the code of the program that it is

@@ -4,26 +4,23 @@ use Rattle.text_core.specs.Lines.{line_end}
 use Rattle.tick_play.specs.Schedule.{schedule_of}
 use Rattle.tick_play.specs.Written.{schedule_text}
 use Rattle.tick_sim.specs.Maps.{down, up}
-use Rattle.verified_code.specs.Instructions.{StepCode}
+use Rattle.code_core.specs.Instructions.{StepCode}
 use Rattle.engine.specs.Answer.{Answer, scheduled}
+use Rattle.engine.specs.declared.maps.Way.{Way}
+use Rattle.engine.specs.declared.maps.Way.TheVariants.{Up, Down}
 
 abbrev pub schedule_line : List ℕ → List ℕ
 schedule_line steps = schedule_text steps ++ line_end
 
--- what `by` makes of the steps that the text of a schedule spells
-abbrev pub steps_answer : (StepCode → List ℕ → List ℕ) → List ℕ → StepCode → Answer
-steps_answer by schedule c = scheduled (by c) (schedule_of c.sizes.processes schedule)
+-- the steps of the code that lead through these of the program, or those of the program that these of the
+-- code stand for
+abbrev pub carried : Way → StepCode → List ℕ → List ℕ
+carried Up c steps = up c.sizes c.instructions steps
+carried Down c steps = down c.sizes c.instructions steps
 
-abbrev pub project_line : StepCode → List ℕ → List ℕ
-project_line c steps = schedule_line (down c.sizes c.instructions steps)
+abbrev pub carried_line : Way → StepCode → List ℕ → List ℕ
+carried_line way c steps = schedule_line (carried way c steps)
 
-abbrev pub expand_line : StepCode → List ℕ → List ℕ
-expand_line c steps = schedule_line (up c.sizes c.instructions steps)
-
--- `drop` with the text of a schedule of the code
-abbrev pub project_answer : List ℕ → StepCode → Answer
-project_answer schedule c = steps_answer project_line schedule c
-
--- `lift` with the text of a schedule of the program
-abbrev pub expand_answer : List ℕ → StepCode → Answer
-expand_answer schedule c = steps_answer expand_line schedule c
+-- `lift` with the text of a schedule of the program, `drop` with that of one of the code
+abbrev pub carried_answer : Way → List ℕ → StepCode → Answer
+carried_answer way schedule c = scheduled (carried_line way c) (schedule_of c.sizes.processes schedule)

@@ -33,7 +33,7 @@ state_lines labels ranks =
 -- the labels are those of the choice rule, and the ranks those of the tickets
 abbrev pub stamps_text : ℕ → List ℕ → List ℕ
 stamps_text n stamps =
-    codes "layout 1" ++ line_end
+    codes "layout 2" ++ line_end
     ++ stamp_lines (start_labels n) stamps
     ++ state_lines (labels_after (start_labels n) stamps) (ticket_ranks (tickets_after (start_tickets n) stamps))
 

@@ -3,14 +3,19 @@ use Rattle.std.specs.Prelude.{◌≡◌, ℕ, List, []}
 use Rattle.machine_core.specs.Observables.{RunObservables}
 use Rattle.tick_play.specs.Outcome.{outcome_lines}
 use Rattle.tick_run.specs.Runs.{IsThreadedRun}
-use Rattle.verified_code.specs.Instructions.{StepCode}
+use Rattle.code_core.specs.Instructions.{StepCode}
 use Rattle.engine.specs.Answer.{Answer, done}
 use Rattle.engine.specs.Codes.{code_answer}
 use Rattle.engine.specs.Lowered.{IsCodeOf, IsRunnableAnswer}
 
--- The text is refused as `code` refuses it under the empty schedule; or it is answered by a run of its
--- code, in which each process makes at most `turns` instructions and gives out at most 10,000 values.
+-- the answer is that of a run of the code, in which each process makes at most `turns` instructions and
+-- gives out at most 10,000 values
+pub record IsOutcomeOf (c : StepCode) (turns : ℕ) (a : Answer) : Type 0 where
+  pub outcome : RunObservables
+  pub is_run : IsThreadedRun c turns 10000 outcome
+  pub told : a ≡ done (outcome_lines outcome)
+
+-- The text is refused as `code` refuses it under the empty schedule; or it is answered by a run of its code.
 pub data IsRunAnswer (turns : ℕ) (text : List ℕ) (a : Answer) : Type 0 where
   not_run : IsRunnableAnswer (code_answer []) text a → a.status ≡ 1 → IsRunAnswer turns text a
-  ran : (c : StepCode) (o : RunObservables) → IsCodeOf text c → IsThreadedRun c turns 10000 o
-      → a ≡ done (outcome_lines o) → IsRunAnswer turns text a
+  ran : (c : StepCode) → IsCodeOf text c → IsOutcomeOf c turns a → IsRunAnswer turns text a

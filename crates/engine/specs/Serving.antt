@@ -1,12 +1,12 @@
 -- What serving a command line does to the two ends.
 use Rattle.std.specs.Prelude.{◌≡◌, ℕ, ◌+◌, ◌≤◌, Bool, true, false, List, Option, IfSome, Result, Ok, Err}
 use Rattle.std.specs.Io.KnownBytes.{Appends}
-use Rattle.command_line.specs.Line.{Asked}
-use Rattle.ends.specs.Reading.{CountsReads, TakesFew}
-use Rattle.ends.specs.Writing.{CountsWrites, WritesPrefix}
-use Rattle.ends.specs.declared.counts.Counts.{Counts}
+use Rattle.command_line.specs.declared.request.Request.{Request}
+use Rattle.byte_io.specs.Reading.{CountsReads, TakesFew}
+use Rattle.byte_io.specs.Writing.{CountsWrites, WritesPrefix}
+use Rattle.byte_io.specs.declared.counts.Counts.{Counts}
 use Rattle.engine.specs.Answer.{Answer}
-use Rattle.engine.specs.Commands.{Job, JobAnswers, is_run, job_of, wants_input}
+use Rattle.engine.specs.Commands.{CommandAnswers, PlainCommand, command_for, is_run, wants_input}
 use Rattle.engine.specs.Faults.{end_fault_in}
 use Rattle.engine.specs.declared.command.LineFault.{LineFault}
 use Rattle.engine.specs.declared.fault.EngineFault.{EngineFault}
@@ -44,21 +44,21 @@ Leaves written old new run (Err Thread) allowed = (run ≡ true) × (new ≡ old
 
 -- What words ask for was served: `remaining` and `reads` are what is known of the reader, its bytes and
 -- its counts, and `written` and `writes` what is known of the writer.
-pub record ServesJob {R W : Type 0} (job : Result Job LineFault) (remaining : R → Option (List ℕ)) (reads : R → Counts)
+pub record ServesCommand {R W : Type 0} (command : Result PlainCommand LineFault) (remaining : R → Option (List ℕ)) (reads : R → Counts)
     (written : W → Option (List ℕ)) (writes : W → Counts) (reader_old reader_new : R) (writer_old writer_new : W)
     (result : Result ℕ EngineFault) : Type 0 where
-  pub answers : OnInput (remaining reader_old) (λ input. Leaves written writer_old writer_new (is_run job) result (JobAnswers job input))
-  pub unread : wants_input job ≡ false → reader_new ≡ reader_old
+  pub answers : OnInput (remaining reader_old) (λ input. Leaves written writer_old writer_new (is_run command) result (CommandAnswers command input))
+  pub unread : wants_input command ≡ false → reader_new ≡ reader_old
   pub few : TakesFew (remaining reader_old) (remaining reader_new)
   pub calls : (reads reader_new).calls ≤ (reads reader_old).calls + 2000000
   pub reads_counted : CountsReads (end_fault_in result) (reads reader_old) (reads reader_new)
   pub writes_counted : CountsWrites (end_fault_in result) (writes writer_old) (writes writer_new)
 
 -- a command line was served
-abbrev pub Serves : {R W : Type 0} → Option Asked → (R → Option (List ℕ)) → (R → Counts) → (W → Option (List ℕ)) → (W → Counts)
+abbrev pub Serves : {R W : Type 0} → Option (Request (List ℕ)) → (R → Option (List ℕ)) → (R → Counts) → (W → Option (List ℕ)) → (W → Counts)
     → R → R → W → W → Result ℕ EngineFault → Type 0
 Serves asked remaining reads written writes reader_old reader_new writer_old writer_new result =
-    ServesJob (job_of asked) remaining reads written writes reader_old reader_new writer_old writer_new result
+    ServesCommand (command_for asked) remaining reads written writes reader_old reader_new writer_old writer_new result
 
 -- P of what was served, where no run is handed on
 abbrev pub UnlessRun : Result Served EngineFault → (Result ℕ EngineFault → Type 0) → Type 0

@@ -7,8 +7,8 @@ use Rattle.tick_play.specs.declared.schedule.ScheduleFault.{ScheduleFault}
 use Rattle.tick_play.specs.declared.schedule.ScheduleFault.TheVariants as schedule
 use Rattle.tick_syntax.specs.declared.fault.TextFault.{TextFault}
 use Rattle.tick_syntax.specs.declared.fault.TextFault.TheVariants as text
-use Rattle.verified_code.specs.declared.fault.CodeFault.{CodeFault}
-use Rattle.verified_code.specs.declared.fault.CodeFault.TheVariants as code
+use Rattle.code_core.specs.declared.fault.CodeFault.{CodeFault}
+use Rattle.code_core.specs.declared.fault.CodeFault.TheVariants as code
 use Rattle.engine.specs.declared.refusal.Refusal.TheVariants as refusal
 use Rattle.engine.specs.declared.stop.Stop.{Stop}
 use Rattle.engine.specs.declared.stop.Stop.TheVariants.{Refused, Memory}

@@ -1,9 +1,9 @@
-//! Commands, once the numbers in their words are read.
+//! Commands, once the numbers in their words are read: the one list of them in the engine.
 ghost use Rattle.std.specs.Prelude.{◌≡◌, ◌<◌, ◌^◌, IfOk, MatchResult, option_map};
-ghost use Rattle.command_line.specs.Line.{asked_by};
+ghost use Rattle.command_line.specs.Line.{plain_request};
 ghost use Rattle.text_core.specs.Number.{number_of};
-ghost use Rattle.engine.specs.Commands.{job_of, lawful as lawful_number, processes_of, turns_of};
-ghost use Rattle.engine.specs.prover.Replies.{Fits, job_in};
+ghost use Rattle.engine.specs.Commands.{command_for, lawful as lawful_number, processes_of, turns_of};
+ghost use Rattle.engine.specs.prover.Replies.{Fits, plain_command};
 
 use command_line::Request;
 use text_core::number;
@@ -14,29 +14,23 @@ const NUMBER_LIMIT: u64 = 4_294_967_295;
 /// The greatest TURNS.
 const TURNS_LIMIT: u64 = 1_000_000_000;
 
-/// What a command line asks for.
+/// What a command line asks for, with a schedule as its text.
 #[derive(Clone, Copy, Debug, PartialEq, Eq)]
-pub enum Task<'a> {
-    Answer(Command<'a>),
-    /// A run on threads of so many turns, at most 1,000,000,000.
-    Run(u64),
-}
-
-/// A command that wants nothing more than an input, and no threads.
-#[derive(Clone, Copy, Debug, PartialEq, Eq)]
-pub enum Command<'a> {
+pub enum Command<T> {
     /// For so many processes, 1 to 6.
     Order(u8),
     Check,
     Emit,
-    /// A program under the schedule that this text spells.
-    Source(&'a str),
-    /// A code, or the code of a program, under the schedule that this text spells.
-    Code(&'a str),
+    /// A program under this schedule.
+    Source(T),
+    /// A code, or the code of a program, under this schedule.
+    Code(T),
     /// The schedule of its code that leads through this one of a program.
-    Expand(&'a str),
+    Expand(T),
     /// The schedule of a program that this one of its code stands for.
-    Project(&'a str),
+    Project(T),
+    /// A run on threads of so many turns, at most 1,000,000,000.
+    Run(u64),
 }
 
 /// Why a command line is refused.
@@ -48,25 +42,24 @@ pub enum LineFault {
     Processes,
 }
 
-/// What a command line asks for.
-pub fn task_of<'a>(request: Option<Request<'a>>) -> Result<Task<'a>, LineFault>
-    ensures job { MatchResult result (λ task. job_of (option_map asked_by request.entry) ≡ Ok (job_in task)) (λ fault. job_of (option_map asked_by request.entry) ≡ Err fault) }
-    ensures fits { IfOk result (λ task. Fits (job_in task)) }
+/// The command of a request, with its numbers read.
+pub fn command_of<'a>(request: Option<Request<&'a str>>) -> Result<Command<&'a str>, LineFault>
+    ensures command { MatchResult result (λ command. command_for (option_map plain_request request.entry) ≡ Ok (plain_command command)) (λ fault. command_for (option_map plain_request request.entry) ≡ Err fault) }
+    ensures fits { IfOk result (λ command. Fits (plain_command command)) }
 {
     let Some(request) = request else {
         return Err(LineFault::Usage);
     };
-    let command = match request {
-        Request::Order(text) => Command::Order(processes(text)?),
-        Request::Check => Command::Check,
-        Request::Emit => Command::Emit,
-        Request::Source(schedule) => Command::Source(schedule),
-        Request::Code(schedule) => Command::Code(schedule),
-        Request::Expand(schedule) => Command::Expand(schedule),
-        Request::Project(schedule) => Command::Project(schedule),
-        Request::Run(text) => return Ok(Task::Run(turns(text)?)),
-    };
-    Ok(Task::Answer(command))
+    match request {
+        Request::Order(text) => Ok(Command::Order(processes(text)?)),
+        Request::Check => Ok(Command::Check),
+        Request::Emit => Ok(Command::Emit),
+        Request::Source(schedule) => Ok(Command::Source(schedule)),
+        Request::Code(schedule) => Ok(Command::Code(schedule)),
+        Request::Expand(schedule) => Ok(Command::Expand(schedule)),
+        Request::Project(schedule) => Ok(Command::Project(schedule)),
+        Request::Run(text) => Ok(Command::Run(turns(text)?)),
+    }
 }
 
 // A number of processes, 1 to 6.

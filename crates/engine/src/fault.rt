@@ -2,7 +2,7 @@ ghost use Rattle.std.specs.Prelude.{◌≡◌};
 ghost use Rattle.engine.specs.declared.fault.EngineFault.TheVariants.{Memory};
 ghost use Rattle.engine.specs.prover.Faults.{end_fault, run_fault};
 
-use ends::EndFault;
+use byte_io::EndFault;
 use std::alloc::{AllocError, AllocFailed};
 use thiserror::Error;
 use tick_play::NoMemory;

@@ -1,10 +1,17 @@
 //! What the answers of `specs/Commands.antt` are, whatever program gives them.
-ghost use Rattle.engine.specs.Laws.{AtMostOneAnswerLaw, DropLaw, LiftLaw, SomeAnswerLaw};
+ghost use Rattle.engine.specs.Laws.{AtMostOneAnswerLaw, DropLaw, LiftLaw, RunOutcomeLaw, RunRefusalLaw, SomeAnswerLaw};
 
 /// Each command line has an answer on each input, and no two.
 pub fn law_answers()
     ensures at_most_one { AtMostOneAnswerLaw }
     ensures some { SomeAnswerLaw }
+{}
+
+/// An answer to `run` is of one kind or the other: an outcome of the code that the input has, or, where it
+/// has none, the one refusal that `code` has too.
+pub fn law_run_answers()
+    ensures outcome { RunOutcomeLaw }
+    ensures refusal { RunRefusalLaw }
 {}
 
 /// What `code` reports on a program is what `source` reports under the schedule that `drop` prints; and

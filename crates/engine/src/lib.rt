@@ -8,7 +8,6 @@
 #![tactic(auto)]
 
 mod answer;
-mod codes;
 mod command;
 mod fault;
 mod laws;
@@ -23,7 +22,7 @@ mod serving;
 mod stop;
 mod text;
 
-pub use ends::{ByteSink, ByteSource, Counts, Transfer};
+pub use byte_io::{ByteSink, ByteSource, Counts, Transfer};
 pub use fault::EngineFault;
-pub use laws::{law_answers, law_reports};
+pub use laws::{law_answers, law_reports, law_run_answers};
 pub use serving::{Served, engine, serve};

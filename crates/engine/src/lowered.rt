@@ -1,20 +1,20 @@
 //! The commands on a code and on the code of a program, each as the text that it answers.
 ghost use Rattle.std.specs.Prelude.{◌≡◌, IfErr, IfOk, string_bytes};
-ghost use Rattle.verified_code.specs.Instructions.{StepCode};
+ghost use Rattle.code_core.specs.Instructions.{StepCode};
 ghost use Rattle.engine.specs.Answer.{Answer, done, refused};
 ghost use Rattle.engine.specs.Codes.{code_answer};
 ghost use Rattle.engine.specs.Lowered.{IsCodeOf, IsLowered, IsRunnableAnswer, begins_as_code, code_of, emit_answer, lowered_answer};
 ghost use Rattle.engine.specs.Programs.{IsTextAnswer};
 ghost use Rattle.engine.specs.prover.Replies.{IfRefused};
 
-use crate::codes::report_of_code;
 use crate::program::program_of;
 use crate::stop::Stop;
+use code_core::Code;
 use code_text::{read_code, write_code};
 use std::alloc::Global;
 use tick_kinds::Program;
 use tick_lower::lower;
-use verified_code::Code;
+use tick_play::{play_code, read_schedule};
 
 /// The text of the code that an accepted program becomes.
 pub fn emit_text(alloc: Global, text: &str) -> Result<String, Stop>
@@ -33,6 +33,16 @@ pub fn code_report(alloc: Global, text: &str, schedule: &str) -> Result<String, 
 {
     let code = runnable_code(alloc, text)?;
     report_of_code(alloc, &code, schedule)
+}
+
+// The report of a code's run under the schedule that a text spells.
+fn report_of_code(alloc: Global, code: &Code, schedule: &str) -> Result<String, Stop>
+    ensures ok { IfOk result (λ answer. done (string_bytes answer) ≡ code_answer schedule.now code.now) }
+    ensures refused { IfErr result (λ stop. IfRefused stop (λ refusal. refused refusal ≡ code_answer schedule.now code.now)) }
+{
+    let steps = read_schedule(alloc, schedule, code.sizes().processes())?;
+    let report = play_code(alloc, code, steps.as_slice())?;
+    Ok(report)
 }
 
 /// The code that a text is, or the code of the program that it is.

@@ -9,9 +9,9 @@ ghost use Rattle.engine.specs.Order.{label_text, order_answer, stamp_line, stamp
 ghost use Rattle.engine.specs.prover.Replies.{IfRefused};
 
 use crate::stop::Stop;
-use itoa::Buffer;
 use std::alloc::{AllocError, Global};
 use std::fmt::Write;
+use text_core::push_number;
 use tick_play::read_schedule;
 use word_core::{EMPTY_LABEL, LAYOUT, LabelWord};
 
@@ -41,7 +41,7 @@ fn stamps_text(alloc: Global, n: u8, stamps: &[u8]) -> Result<String, AllocError
 }
 
 fn layout_line(alloc: Global) -> Result<String, AllocError>
-    ensures { IfOk result (λ line. string_bytes line ≡ codes "layout 1" ++ line_end) }
+    ensures { IfOk result (λ line. string_bytes line ≡ codes "layout 2" ++ line_end) }
 {
     format!(in alloc; "{LAYOUT}\n")
 }
@@ -66,11 +66,10 @@ fn push_stamps(text: &mut String, n: u8, stamps: &[u8]) -> Result<LabelWord, All
 fn push_stamp(text: &mut String, process: u8, word: &LabelWord) -> Result<(), AllocError>
     ensures { OnOk result (string_bytes text.new ≡ string_bytes text.old ++ stamp_line process word.now) }
 {
-    let mut digits = Buffer::new();
     text.push_str("stamp ")?;
-    text.push_str(digits.format(process))?;
+    push_number(text, u64::from(process))?;
     text.push_str(" word ")?;
-    text.push_str(digits.format(word.bits()))?;
+    push_number(text, word.bits())?;
     text.push_str("\n")
 }
 
@@ -115,8 +114,9 @@ fn push_label(text: &mut String, word: &LabelWord, process: u8) -> Result<(), Al
 fn push_ranks(text: &mut String, word: &LabelWord) -> Result<(), AllocError>
     ensures { OnOk result (string_bytes text.new ≡ string_bytes text.old ++ spaced (map decimal (label_ranks word.now))) }
 {
-    for process in 0..word.n() {
-        write!(text, " {}", word.rank(process))?;
+    let n = word.n() as usize;
+    for rank in &word.ranks()[..n] {
+        write!(text, " {rank}")?;
     }
     Ok(())
 }

@@ -1,24 +1,25 @@
 //! A run on threads: from an input to its code, from the code to what it lets others see.
-ghost use Rattle.std.specs.Prelude.{◌≡◌, ◌⊎◌, [], None, IfErr, IfOk, string_bytes, vec_len};
-ghost use Rattle.engine.specs.Answer.{refused};
+ghost use Rattle.std.specs.Prelude.{◌≡◌, true, [], None, IfErr, IfOk, string_bytes, vec_len};
+ghost use Rattle.engine.specs.Answer.{done, refused};
 ghost use Rattle.engine.specs.Commands.{InputAnswers};
-ghost use Rattle.engine.specs.Commands.Job.{Code as JobCode, Run};
+ghost use Rattle.engine.specs.declared.command.Command.TheVariants.{Code as CodeCommand, Run};
 ghost use Rattle.engine.specs.Lowered.{IsCodeOf};
+ghost use Rattle.engine.specs.Runs.{IsOutcomeOf};
 ghost use Rattle.engine.specs.Text.{text_fault};
-ghost use Rattle.engine.specs.prover.Replies.{IfRefused, IsReply, IsRunText};
+ghost use Rattle.engine.specs.prover.Replies.{IfRefused, IsReplied, IsUnreplied};
 
 use crate::fault::EngineFault;
 use crate::lowered::runnable_code;
 use crate::reply::{Reply, stop_reply};
 use crate::stop::Stop;
 use crate::text::text_of;
+use code_core::Code;
 use std::alloc::{AllocError, Global};
 use std::sync::Wait;
 use std::thread::Threads;
 use step_code::Ask;
 use tick_play::outcome_text;
 use tick_run::{Gate, run};
-use verified_code::Code;
 
 /// How many values a process gives out at most.
 const OUTPUTS: u32 = 10_000;
@@ -37,8 +38,7 @@ pub fn run_reply<E: AllocGlobal + Threads + Wait>(
     turns: u64,
     input: &[u8],
 ) -> Result<Reply, EngineFault>
-    ensures ok { IfOk result (λ reply. IsReply (InputAnswers (Run turns) input.now) reply) }
-    ensures err { IfErr result (λ fault. (fault ≡ EngineFault.Memory) ⊎ (fault ≡ EngineFault.Thread)) }
+    ensures { IsReplied (Run turns) input.now result }
 {
     match input_code(rt.alloc(), input) {
         Ok(code) => {
@@ -53,7 +53,7 @@ pub fn run_reply<E: AllocGlobal + Threads + Wait>(
 fn input_code(alloc: Global, input: &[u8]) -> Result<Code, Stop>
     ensures text { IfOk result (λ code. text_fault input.now ≡ None) }
     ensures code { IfOk result (λ code. IsCodeOf input.now code) }
-    ensures refused { IfErr result (λ stop. IfRefused stop (λ refusal. InputAnswers (JobCode []) input.now (refused refusal))) }
+    ensures refused { IfErr result (λ stop. IfRefused stop (λ refusal. InputAnswers (CodeCommand []) input.now (refused refusal))) }
 {
     runnable_code(alloc, text_of(input)?)
 }
@@ -64,8 +64,8 @@ fn run_text<E: AllocGlobal + Threads + Wait>(
     code: &Code,
     turns: u64,
 ) -> Result<String, EngineFault>
-    ensures ok { IfOk result (λ text. IsRunText code.now turns (string_bytes text)) }
-    ensures err { IfErr result (λ fault. (fault ≡ EngineFault.Memory) ⊎ (fault ≡ EngineFault.Thread)) }
+    ensures ok { IfOk result (λ text. IsOutcomeOf code.now turns (done (string_bytes text))) }
+    ensures err { IfErr result (λ fault. IsUnreplied true fault) }
 {
     let gates = open_gates(rt.alloc(), code.sizes().processes())?;
     let outcome = run(rt, rt.alloc(), code, gates, turns, OUTPUTS)?;

@@ -1,21 +1,22 @@
 //! The engine: the words of a command line and two ends in, a status out.
-ghost use Rattle.std.specs.Prelude.{◌≡◌, ◌↔◌, ◌⊎◌, ℕ, true, IfErr, IfOk, Ok, OnErr, OnOk, map, string_bytes};
+ghost use Rattle.std.specs.Prelude.{◌≡◌, ◌↔◌, ◌⊎◌, ℕ, true, false, IfErr, IfOk, Ok, OnErr, OnOk, map, string_bytes};
+ghost use Rattle.std.specs.Fn.{FnOnceReturnsAt};
 ghost use Rattle.std.specs.Io.KnownBytes.{Appends};
 ghost use Rattle.command_line.specs.Line.{asked_in};
-ghost use Rattle.ends.specs.Writing.{CountsWrites, WritesPrefix};
-ghost use Rattle.engine.specs.Commands.{is_run, job_of};
-ghost use Rattle.engine.specs.Commands.Job.{Run};
+ghost use Rattle.byte_io.specs.Writing.{CountsWrites, WritesPrefix};
+ghost use Rattle.engine.specs.Commands.{PlainCommand, command_for, is_run, runs};
+ghost use Rattle.engine.specs.declared.command.Command.TheVariants.{Run};
 ghost use Rattle.engine.specs.Faults.{end_fault_in};
-ghost use Rattle.engine.specs.Serving.{Serves, ServesJob, UnlessRun};
-ghost use Rattle.engine.specs.prover.Replies.{Fits, job};
+ghost use Rattle.engine.specs.Serving.{Serves, ServesCommand, UnlessRun};
+ghost use Rattle.engine.specs.prover.Replies.{Fits, IsReplied, IsRepliedBy, plain_command};
 
 use crate::answer::reply_to;
-use crate::command::{Command, Task, task_of};
+use crate::command::{Command, command_of};
 use crate::fault::EngineFault;
 use crate::reply::{Reply, line_reply};
 use crate::runs::run_reply;
+use byte_io::{ByteSink, ByteSource, read_input, write_text};
 use command_line::asked;
-use ends::{ByteSink, ByteSource, read_input, write_text};
 use std::alloc::Global;
 use std::sync::Wait;
 use std::thread::Threads;
@@ -42,7 +43,12 @@ pub fn engine<A: AllocGlobal + Threads + Wait, R: ByteSource, W: ByteSink>(
 {
     match serve(rt.alloc(), words, reader, writer)? {
         Served::Status(status) => Ok(status),
-        Served::Run(turns) => serve_run(rt, turns, reader, writer),
+        Served::Run(turns) => {
+            let replied = |input: &[u8]|
+                ensures { IsReplied (Run turns) input.now result }
+            { run_reply(rt, turns, input) };
+            answered(rt.alloc(), reader, writer, replied)
+        }
     }
 }
 
@@ -54,18 +60,25 @@ pub fn serve<R: ByteSource, W: ByteSink>(
     reader: &mut R,
     writer: &mut W,
 ) -> Result<Served, EngineFault>
-    ensures run { IfOk result (λ served. (turns : ℕ) → (served ≡ Served.Run turns) ↔ (job_of (asked_in (map string_bytes words.now)) ≡ Ok (Run turns))) }
-    ensures untouched { is_run (job_of (asked_in (map string_bytes words.now))) ≡ true → (reader.new ≡ reader.old) × (writer.new ≡ writer.old) }
-    ensures memory { is_run (job_of (asked_in (map string_bytes words.now))) ≡ true → IfErr result (λ fault. fault ≡ EngineFault.Memory) }
+    ensures run { IfOk result (λ served. (turns : ℕ) → (served ≡ Served.Run turns) ↔ (command_for (asked_in (map string_bytes words.now)) ≡ Ok (Run turns))) }
+    ensures untouched { is_run (command_for (asked_in (map string_bytes words.now))) ≡ true → (reader.new ≡ reader.old) × (writer.new ≡ writer.old) }
+    ensures memory { is_run (command_for (asked_in (map string_bytes words.now))) ≡ true → IfErr result (λ fault. fault ≡ EngineFault.Memory) }
     ensures served { UnlessRun result (Serves (asked_in (map string_bytes words.now)) R.remaining R.counts W.written W.counts reader.old reader.new writer.old writer.new) }
 {
     let request = asked(alloc, words)?;
-    match task_of(request) {
-        Ok(Task::Run(turns)) => Ok(Served::Run(turns)),
-        Ok(Task::Answer(command)) => {
-            let status = serve_command(alloc, command, reader, writer)?;
-            Ok(Served::Status(status))
-        }
+    match command_of(request) {
+        Ok(command) => match command {
+            Command::Run(turns) => Ok(Served::Run(turns)),
+            _ => {
+                let replied = |input: &[u8]|
+                    requires fits { Fits (plain_command command) }
+                    requires no_run { runs (plain_command command) ≡ false }
+                    ensures { IsReplied (plain_command command.entry) input.now result }
+                { reply_to(alloc, command, input) };
+                let status = answered(alloc, reader, writer, replied)?;
+                Ok(Served::Status(status))
+            }
+        },
         Err(fault) => {
             let reply = line_reply(alloc, fault)?;
             let status = write_reply(writer, &reply)?;
@@ -74,30 +87,18 @@ pub fn serve<R: ByteSource, W: ByteSink>(
     }
 }
 
-fn serve_command<R: ByteSource, W: ByteSink>(
+// Reads the input, and writes the reply to it.
+fn answered<R: ByteSource, W: ByteSink, F: FnOnce(&[u8]) -> Result<Reply, EngineFault>>(
     alloc: Global,
-    command: Command<'_>,
     reader: &mut R,
     writer: &mut W,
+    replied: F,
 ) -> Result<u8, EngineFault>
-    requires { Fits (job command) }
-    ensures { ServesJob (Ok (job command.entry)) R.remaining R.counts W.written W.counts reader.old reader.new writer.old writer.new result }
+    requires { F.IsAlwaysCallable replied }
+    ensures { (command : PlainCommand) → IsRepliedBy command (FnOnceReturnsAt F.FnOnce replied) → ServesCommand (Ok command) R.remaining R.counts W.written W.counts reader.old reader.new writer.old writer.new result }
 {
     let input = read_input(alloc, reader)?;
-    let reply = reply_to(alloc, command, input.as_slice())?;
-    write_reply(writer, &reply)
-}
-
-fn serve_run<A: AllocGlobal + Threads + Wait, R: ByteSource, W: ByteSink>(
-    rt: &A,
-    turns: u64,
-    reader: &mut R,
-    writer: &mut W,
-) -> Result<u8, EngineFault>
-    ensures { ServesJob (Ok (Run turns)) R.remaining R.counts W.written W.counts reader.old reader.new writer.old writer.new result }
-{
-    let input = read_input(rt.alloc(), reader)?;
-    let reply = run_reply(rt, turns, input.as_slice())?;
+    let reply = replied(input.as_slice())?;
     write_reply(writer, &reply)
 }
 

@@ -4,13 +4,13 @@ ghost use Rattle.engine.specs.Stop.{code_stop, kinds_stop, lower_stop, schedule_
 ghost use Rattle.engine.specs.declared.stop.Stop.TheVariants.{Memory, Refused};
 
 use crate::refusal::Refusal;
+use code_core::CodeFault;
 use std::alloc::AllocError;
 use tick_kinds::KindFault;
 use tick_lower::LowerFault;
 use tick_play::ScheduleFault;
 use tick_source::NoMemory;
 use tick_syntax::fault::TextFault;
-use verified_code::CodeFault;
 
 /// What stops a command: the input is refused, or memory is.
 #[derive(Clone, Copy, Debug, PartialEq, Eq)]

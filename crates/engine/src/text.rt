@@ -1,7 +1,7 @@
 ghost use Rattle.engine.specs.prover.Inputs.{Decodes};
 
 use crate::refusal::Refusal;
-use ends::INPUT_LIMIT;
+use byte_io::INPUT_LIMIT;
 use std::str;
 
 /// An input as a text.

@@ -10,8 +10,8 @@ use Rattle.machine_core.specs.declared.event.Act.TheVariants as A
 use Rattle.tick_play.specs.declared.schedule.ScheduleFault.TheVariants.{BadItem, NoSuchProcess, TooLong}
 use Rattle.tick_play.specs.Schedule.{schedule_of}
 use Rattle.tick_play.specs.Written.{schedule_text}
-use Rattle.verified_code.specs.declared.instr.Instr.TheVariants as I
-use Rattle.verified_code.specs.Instructions.{StepCode, sizes}
+use Rattle.code_core.specs.declared.instr.Instr.TheVariants as I
+use Rattle.code_core.specs.Instructions.{StepCode, sizes}
 use Rattle.machine_core.specs.declared.run_outcome.RunEnd.TheVariants as E
 use Rattle.tick_play.specs.Outcome.{outcome_lines}
 use Rattle.tick_play.specs.Report.{code_report, report, source_report}

@@ -1,5 +1,5 @@
 -- A schedule that is written reads back as itself.
-use Rattle.std.proofs.Common.{◌≡◌, ◌∙◌, ◌+◌, ◌-◌, ◌*◌, ◌/◌, ◌%◌, ◌^◌, ◌<◌, ◌≤◌, ◌==◌, ◌∷◌, ◌++◌, ℕ, List, [], Bool, true, false, Option, Some, None, Result, Ok, ap, append_assoc, arith, codes, cond, drop, length, map, refl, replicate, subst, sym}
+use Rattle.std.proofs.Common.{◌≡◌, ◌∙◌, ◌+◌, ◌^◌, ◌<◌, ◌≤◌, ◌==◌, ◌∷◌, ◌++◌, ℕ, List, [], Bool, true, false, Option, Some, None, Result, Ok, ap, append_assoc, arith, codes, cond, drop, length, map, refl, replicate, subst, sym}
 use Rattle.std.specs.Char.{is_ascii_digit}
 use Rattle.std.specs.Fmt.{decimal}
 use Rattle.std.specs.List.{All, AllByRecursion, position, position_or_len, slice_split}
@@ -8,12 +8,12 @@ use Rattle.std.proofs.Math.ListN.{get_or-append}
 use Rattle.std.proofs.Math.Seq.{drop-append-add, get_or-append_seam, take-append_seam}
 use Rattle.std.proofs.lemmas.List.Sums.{position_or_len_is}
 use Rattle.std.proofs.lemmas.Bool.Decides.{nat_tests}
-use Rattle.std.proofs.lemmas.Fmt.{decimal_by_steps}
 use Rattle.std.proofs.lemmas.List.{append-nil, length-append, length-replicate, replicate-append-replicate}
-use Rattle.std.proofs.lemmas.List.Elements.{All-append, All-cons, All-head, All-nil, All-push, All-tail, All-weaker}
+use Rattle.std.proofs.lemmas.List.Elements.{All-append, All-head, All-push, All-tail, All-weaker}
 use Rattle.std.proofs.lemmas.List.Splits.{slice_split_at, slice_split_none}
 use Rattle.text_core.specs.Lines.{spaced}
-use Rattle.text_core.specs.Number.{number_from, number_of}
+use Rattle.text_core.specs.Number.{number_of}
+use Rattle.text_core.proofs.Offered.{Spells, decimal_spells}
 use Rattle.text_core.specs.Blanks.{is_blank}
 use Rattle.tick_play.specs.Schedule.{is_star, item_cut, item_of, item_of_numbers, schedule_of, with_item, with_piece, with_pieces}
 use Rattle.tick_play.specs.Written.{item_text, joined, run_onto, runs_of, schedule_text}
@@ -31,57 +31,6 @@ NoBlank d = is_blank d ≡ false
 
 abbrev NoStar : ℕ → Type 0
 NoStar d = is_star d ≡ false
-
-number_from-push : (v w d : ℕ) (ds : List ℕ) → number_from v ds ≡ Some w → IsDigit d
-    → number_from v (ds ++ d ∷ []) ≡ Some (10 * w + (d - 48))
-number_from-push v w d [] is digit =
-    let same : v ≡ w = cc in
-    rw digit (ap (λ (n : ℕ). Some (10 * n + (d - 48))) same)
-number_from-push v w d (e ∷ ds) is digit =
-    by_test (is_ascii_digit e) (λ (n : ℕ) (h : number_from n ds ≡ Some w). number_from-push n w d ds h digit) is
-  where
-    by_test : (test : Bool)
-        → ((n : ℕ) → number_from n ds ≡ Some w → number_from n (ds ++ d ∷ []) ≡ Some (10 * w + (d - 48)))
-        → cond test (number_from (10 * v + (e - 48)) ds) None ≡ Some w
-        → cond test (number_from (10 * v + (e - 48)) (ds ++ d ∷ [])) None ≡ Some (10 * w + (d - 48))
-    by_test true further is = further (10 * v + (e - 48)) is
-    by_test false further is = cc
-
--- these digits spell this number
-record Spells (n : ℕ) (ds : List ℕ) : Type 0 where
-  value : number_from 0 ds ≡ Some n
-  digits : All IsDigit ds
-  some : 0 < length ds
-
-digit_of : (n : ℕ) → n < 10 → IsDigit (48 + n)
-digit_of n below = grind (arith, nat_tests)
-
-one_digit : (n : ℕ) → n < 10 → Spells n ((48 + n) ∷ [])
-one_digit n below = record {
-  value = rw (digit_of n below) (ap Some (omega arith));
-  digits = All-cons IsDigit (48 + n) [] (digit_of n below) (All-nil IsDigit);
-  some = omega arith;
-}
-
-more_digits : (n : ℕ) (ds : List ℕ) → 10 ≤ n → Spells (n / 10) ds → Spells n (ds ++ ((48 + n % 10) ∷ []))
-more_digits n ds big front =
-    let last : n % 10 < 10 = omega arith in
-    record {
-      value = number_from-push 0 (n / 10) (48 + n % 10) ds front.value (digit_of (n % 10) last) ∙ ap Some (omega arith);
-      digits = All-push IsDigit ds (48 + n % 10) front.digits (digit_of (n % 10) last);
-      some = omega (arith, length-append ds ((48 + n % 10) ∷ []));
-    }
-
-decimal_spells : (n : ℕ) → n < 2 ^ 64 → Spells n (decimal n)
-decimal_spells n small = decimal_by_steps Spells one_digit more_digits n small
-
-number_of-some : (ds : List ℕ) → 0 < length ds → number_of ds ≡ number_from 0 ds
-number_of-some [] some = absurd (omega arith)
-number_of-some (d ∷ ds) some = refl
-
-number_of-decimal : (n : ℕ) → n < 2 ^ 64 → number_of (decimal n) ≡ Some n
-number_of-decimal n small =
-    let spells = decimal_spells n small in number_of-some (decimal n) spells.some ∙ spells.value
 
 digit_no_blank : (d : ℕ) → IsDigit d → NoBlank d
 digit_no_blank d digit = grind (arith, nat_tests)
@@ -125,7 +74,7 @@ item_of-text item small = by_test (item.steps == 1) refl
     alone : 1 ≡ item.steps → item_of (decimal item.process) ≡ Some item
     alone one =
         ap (λ (star : Option ℕ). item_cut star (decimal item.process)) (position_none is_star (decimal item.process) no_star)
-        ∙ ap (λ (number : Option ℕ). item_of_numbers number (Some 1)) (number_of-decimal item.process small.process)
+        ∙ ap (λ (number : Option ℕ). item_of_numbers number (Some 1)) spells.value
         ∙ ap (λ (steps : ℕ). Some (run item.process steps)) one
 
     starred : item_of (decimal item.process ++ codes "*" ++ decimal item.steps) ≡ Some item
@@ -135,8 +84,8 @@ item_of-text item small = by_test (item.steps == 1) refl
         ∙ ap (λ (star : Option ℕ). item_cut star text) (position_at is_star (decimal item.process) 42 (decimal item.steps) no_star refl)
         ∙ ap (λ (front : List ℕ). item_of_numbers (number_of front) (number_of (drop (length (decimal item.process) + 1) text))) (take-append_seam (decimal item.process) (42 ∷ decimal item.steps))
         ∙ ap (λ (back : List ℕ). item_of_numbers (number_of (decimal item.process)) (number_of back)) (drop-append-add (decimal item.process) (42 ∷ decimal item.steps) 1)
-        ∙ ap (λ (number : Option ℕ). item_of_numbers number (number_of (decimal item.steps))) (number_of-decimal item.process small.process)
-        ∙ ap (item_of_numbers (Some item.process)) (number_of-decimal item.steps small.steps)
+        ∙ ap (λ (number : Option ℕ). item_of_numbers number (number_of (decimal item.steps))) spells.value
+        ∙ ap (item_of_numbers (Some item.process)) (decimal_spells item.steps small.steps).value
         ∙ rw (lt-ltb 0 item.steps small.some) refl
 
     by_test : (test : Bool) → (item.steps == 1) ≡ test

@@ -3,10 +3,9 @@ ghost use Rattle.machine_core.specs.Observables.{run_observed};
 ghost use Rattle.tick_play.specs.Lines.{status_line, status_lines};
 ghost use Rattle.tick_play.specs.Outcome.{end_text, outcome_lines};
 
-use crate::lines::{push_rows, push_status};
+use crate::lines::{push_rows, push_state, push_status};
 use machine_core::{NoMemory, RunEnd, RunOutcome, Status};
 use std::alloc::{AllocError, Global};
-use std::fmt::Write;
 
 /// A line for the outputs of each process, then for each register row, and then for each process.
 pub fn outcome_text(alloc: Global, outcome: &RunOutcome) -> Result<String, NoMemory>
@@ -34,7 +33,7 @@ fn push_end(text: &mut String, process: usize, end: RunEnd) -> Result<(), AllocE
     match end {
         RunEnd::Ended => push_status(text, process, Status::Ended),
         RunEnd::Trapped(trap) => push_status(text, process, Status::Trapped(trap)),
-        RunEnd::TurnsSpent => writeln!(text, "status {process} turns"),
-        RunEnd::OutputsFull => writeln!(text, "status {process} outputs"),
+        RunEnd::TurnsSpent => push_state(text, process, "turns"),
+        RunEnd::OutputsFull => push_state(text, process, "outputs"),
     }
 }

@@ -3,12 +3,12 @@ ghost use Rattle.std.specs.Fmt.{decimal};
 ghost use Rattle.text_core.specs.Lines.{spaced};
 ghost use Rattle.machine_core.specs.Observables.{observed};
 ghost use Rattle.tick_play.specs.Lines.{status_lines, status_text};
-ghost use Rattle.tick_play.specs.Report.{event_line, event_lines, report};
+ghost use Rattle.tick_play.specs.Report.{act_text, event_line, event_lines, report};
 
-use crate::lines::{push_rows, push_status, trap_name};
+use crate::lines::{push_rows, push_status, push_value, push_values, trap_name};
 use machine_core::{Act, Event, NoMemory, Outcome, Status};
 use std::alloc::{AllocError, Global};
-use std::fmt::Write;
+use text_core::push_number;
 
 /// A line for each event, then for each register row, and then for each process.
 pub fn report_of(alloc: Global, outcome: &Outcome) -> Result<String, NoMemory>
@@ -33,21 +33,46 @@ fn push_events(text: &mut String, n: usize, events: &[Event]) -> Result<(), Allo
 fn push_event(text: &mut String, n: usize, event: Event) -> Result<(), AllocError>
     ensures { OnOk result (string_bytes text.new ≡ string_bytes text.old ++ event_line n event) }
 {
-    let process = event.process;
-    match event.act {
-        Act::Put(row, value) => writeln!(text, "{process} put {row} {value}"),
-        Act::Get(row, index, value) => writeln!(text, "{process} get {row} {index} {value}"),
-        Act::Stamp => writeln!(text, "{process} stamp"),
-        Act::Scan(ranks) => {
-            write!(text, "{process} scan")?;
-            push_ranks(text, n, &ranks)?;
-            writeln!(text)
+    push_number(text, u64::from(event.process))?;
+    push_act(text, n, event.act)?;
+    text.push_str("\n")
+}
+
+fn push_act(text: &mut String, n: usize, act: Act) -> Result<(), AllocError>
+    ensures { OnOk result (string_bytes text.new ≡ string_bytes text.old ++ act_text n act) }
+{
+    match act {
+        Act::Put(row, value) => push_told(text, " put", &[u32::from(row), value]),
+        Act::Get(row, index, value) => {
+            push_told(text, " get", &[u32::from(row), u32::from(index), value])
         }
-        Act::Older(i, j, answer) => writeln!(text, "{process} older {i} {j} {answer}"),
-        Act::Out(value) => writeln!(text, "{process} out {value}"),
-        Act::Trap(trap) => writeln!(text, "{process} trap {}", trap_name(trap)),
-        Act::End => writeln!(text, "{process} end"),
+        Act::Stamp => text.push_str(" stamp"),
+        Act::Scan(ranks) => {
+            text.push_str(" scan")?;
+            push_ranks(text, n, &ranks)
+        }
+        Act::Older(i, j, answer) => {
+            push_told(
+                text,
+                " older",
+                &[u32::from(i), u32::from(j), u32::from(answer)],
+            )
+        }
+        Act::Out(value) => push_told(text, " out", &[value]),
+        Act::Trap(trap) => {
+            text.push_str(" trap ")?;
+            text.push_str(trap_name(trap))
+        }
+        Act::End => text.push_str(" end"),
     }
+}
+
+// A word, and values each after a space.
+fn push_told(text: &mut String, word: &str, values: &[u32]) -> Result<(), AllocError>
+    ensures { OnOk result (string_bytes text.new ≡ string_bytes text.old ++ word.now ++ spaced (map decimal values.now)) }
+{
+    text.push_str(word)?;
+    push_values(text, values)
 }
 
 // The first `n` of the ranks, each after a space.
@@ -55,8 +80,8 @@ fn push_ranks(text: &mut String, n: usize, ranks: &[u8]) -> Result<(), AllocErro
     ensures { OnOk result (string_bytes text.new ≡ string_bytes text.old ++ spaced (map decimal (take n ranks.now))) }
 {
     let told = &ranks[..n.min(ranks.len())];
-    for rank in told {
-        write!(text, " {rank}")?;
+    for &rank in told {
+        push_value(text, u64::from(rank))?;
     }
     Ok(())
 }

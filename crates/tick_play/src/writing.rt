@@ -4,7 +4,7 @@ ghost use Rattle.tick_play.specs.Written.{item_text, schedule_text};
 use crate::schedule::Item;
 use machine_core::NoMemory;
 use std::alloc::{AllocError, Global};
-use std::fmt::Write;
+use text_core::push_number;
 
 /// The shortest text of a schedule: an item for each longest run of steps of one process, and one
 /// space between each two.
@@ -28,7 +28,7 @@ fn push_runs(text: &mut String, first: u8, rest: &[u8]) -> Result<(), AllocError
             run.steps += 1;
         } else {
             push_item(text, run)?;
-            text.push(' ')?;
+            text.push_str(" ")?;
             run = one_step(process);
         }
     }
@@ -47,9 +47,10 @@ fn one_step(process: u8) -> Item
 fn push_item(text: &mut String, item: Item) -> Result<(), AllocError>
     ensures { OnOk result (string_bytes text.new ≡ string_bytes text.old ++ item_text item) }
 {
+    push_number(text, item.process)?;
     if item.steps == 1 {
-        write!(text, "{}", item.process)
-    } else {
-        write!(text, "{}*{}", item.process, item.steps)
+        return Ok(());
     }
+    text.push_str("*")?;
+    push_number(text, item.steps)
 }

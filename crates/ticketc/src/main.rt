@@ -2,9 +2,15 @@
 //! status of its answer.
 #![tactic(auto)]
 
-use host_ends::ended;
+use host_io::{HostReader, HostWriter, ended};
+use std::env::args;
 use std::process::ExitCode;
 
 fn main(rt: HostRuntime) -> ExitCode {
-    ended(&rt, rt.stdin(), rt.stdout())
+    ended(
+        &rt,
+        args(&rt),
+        &mut HostReader::new(rt.stdin()),
+        &mut HostWriter::new(rt.stdout()),
+    )
 }

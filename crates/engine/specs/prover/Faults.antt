@@ -1,6 +1,6 @@
 -- Faults of a layer below, as those of the engine.
-use Rattle.ends.specs.declared.fault.EndFault.{EndFault}
-use Rattle.ends.specs.declared.fault.EndFault.TheVariants as end
+use Rattle.byte_io.specs.declared.fault.EndFault.{EndFault}
+use Rattle.byte_io.specs.declared.fault.EndFault.TheVariants as end
 use Rattle.engine.specs.declared.fault.EngineFault.{EngineFault}
 use Rattle.engine.specs.declared.fault.EngineFault.TheVariants.{Read, Write, Memory, Thread}
 use Rattle.tick_run.specs.declared.fault.RunFault.{RunFault}

@@ -1,15 +1,13 @@
 use Rattle.std.proofs.Common.{subst, sym}
-use Rattle.std.proofs.lemmas.Result.{err_from_is_err_and}
 use Rattle.engine.specs.Codes.{code_answer}
 use Rattle.engine.specs.Lowered.{IsRunnableAnswer}
 use Rattle.engine.proofs.LoweredLemmas.{runnable_answered}
-use Rattle.engine.proofs.Weakening.{if_ok, if_err, if_refused}
+use Rattle.engine.proofs.Weakening.{err_is, if_ok, if_err, if_refused}
 use Rattle.engine.proofs.lowered.code_report.Goals as goal
 
 pub returns-in_err-code-clause-refused : goal.returns-in_err-code-clause-refused
 returns-in_err-code-clause-refused c =
-    let told = err_from_is_err_and c.from_residual.result c.from_residual.ensures.1 in
-    rw (told.1, told.2) (c.in_err-code.ensures.refused (code_answer c.args.schedule.now))
+    rw (err_is c.from_residual.result c.from_residual.ensures.1) (c.in_err-code.ensures.refused (code_answer c.args.schedule.now))
 
 pub returns-clause-ok : goal.returns-clause-ok
 returns-clause-ok c =

@@ -1,15 +1,14 @@
 use Rattle.std.proofs.Common.{ap, subst, sym}
-use Rattle.std.proofs.lemmas.Result.{err_from_is_err_and}
 use Rattle.engine.specs.Answer.{done}
 use Rattle.engine.specs.Lowered.{emit_answer, lowered_answer}
 use Rattle.engine.specs.Programs.{IsTextAnswer}
 use Rattle.engine.proofs.LoweredLemmas.{lowered_answered}
+use Rattle.engine.proofs.Weakening.{err_is}
 use Rattle.engine.proofs.lowered.emit_text.Goals as goal
 
 pub returns-in_err-code-clause-refused : goal.returns-in_err-code-clause-refused
 returns-in_err-code-clause-refused c =
-    let told = err_from_is_err_and c.from_residual.result c.from_residual.ensures.1 in
-    rw (told.1, told.2) (c.in_err-code.ensures.refused emit_answer)
+    rw (err_is c.from_residual.result c.from_residual.ensures.1) (c.in_err-code.ensures.refused emit_answer)
 
 pub returns-clause-ok : goal.returns-clause-ok
 returns-clause-ok c =

@@ -1,19 +1,17 @@
 use Rattle.std.proofs.Common.{◌≡◌, Ok, Err, ap}
-use Rattle.std.proofs.lemmas.Result.{err_from_is_err_and}
 use Rattle.tick_lower.specs.declared.fault.LowerFault.TheVariants as lowering
 use Rattle.engine.specs.Lowered.{lowered_answer}
 use Rattle.engine.proofs.LoweredLemmas.{lower_stops, code_lowered}
+use Rattle.engine.proofs.Weakening.{err_is}
 use Rattle.engine.proofs.lowered.lowering_of.Goals as goal
 
 pub returns-in_err-program-clause-refused : goal.returns-in_err-program-clause-refused
 returns-in_err-program-clause-refused c = λ by.
-    let told = err_from_is_err_and c.from_residual.result c.from_residual.ensures.1 in
-    rw (told.1, told.2) (c.in_err-program.ensures.refused (lowered_answer by))
+    rw (err_is c.from_residual.result c.from_residual.ensures.1) (c.in_err-program.ensures.refused (lowered_answer by))
 
 pub returns-in_err-code-clause-refused : goal.returns-in_err-code-clause-refused
 returns-in_err-code-clause-refused c = λ by.
-    let told = err_from_is_err_and c.from_residual-in_err-code.result c.from_residual-in_err-code.ensures.1 in
-    rw (told.1, told.2)
+    rw (err_is c.from_residual-in_err-code.result c.from_residual-in_err-code.ensures.1)
     (lower_stops by c.args.text.now c.in_ok-program.program c.in_ok-program.ensures.reads c.in_ok-program.ensures.accepted
     c.in_err-code.field-0.0 (λ is. c.in_err-code.ensures.too_long.0 (ap Err is)))
 

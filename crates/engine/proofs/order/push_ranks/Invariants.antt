@@ -4,6 +4,6 @@ use Rattle.text_core.specs.Lines.{spaced}
 use Rattle.label_core.specs.Labels.{label_ranks}
 use Rattle.engine.proofs.order.push_ranks.Given as goal
 
-abbrev pub invariant-loop-process : goal.invariant-loop-process
-invariant-loop-process l =
-    string_bytes l.text ++ spaced (map decimal (drop l.process (label_ranks l.word))) ≡ string_bytes l.fn.text ++ spaced (map decimal (label_ranks l.word))
+abbrev pub invariant-loop-rank : goal.invariant-loop-rank
+invariant-loop-rank l =
+    string_bytes l.text ++ spaced (map decimal (drop l.rank-index l.rank-items)) ≡ string_bytes l.fn.text ++ spaced (map decimal (label_ranks l.word))

@@ -1,14 +1,13 @@
 use Rattle.std.proofs.Common.{◌∙◌, ap}
-use Rattle.std.proofs.lemmas.Result.{err_from_is_err_and}
 use Rattle.tick_syntax.specs.Printed.{printed}
 use Rattle.engine.specs.Answer.{done}
 use Rattle.engine.specs.Programs.{accepted, check_answer}
+use Rattle.engine.proofs.Weakening.{err_is}
 use Rattle.engine.proofs.program.check_text.Goals as goal
 
 pub returns-in_err-program-clause-refused : goal.returns-in_err-program-clause-refused
 returns-in_err-program-clause-refused c =
-    let told = err_from_is_err_and c.from_residual.result c.from_residual.ensures.1 in
-    rw (told.1, told.2) (c.in_err-program.ensures.refused check_answer)
+    rw (err_is c.from_residual.result c.from_residual.ensures.1) (c.in_err-program.ensures.refused check_answer)
 
 pub returns-clause-ok : goal.returns-clause-ok
 returns-clause-ok c =

@@ -1,11 +1,10 @@
-use Rattle.std.proofs.lemmas.Result.{err_from_is_err_and}
 use Rattle.engine.proofs.StopLemmas.{kinds_stops, text_stops}
+use Rattle.engine.proofs.Weakening.{err_is}
 use Rattle.engine.proofs.program.program_of.Goals as goal
 
 pub returns-in_err-tree-clause-refused : goal.returns-in_err-tree-clause-refused
 returns-in_err-tree-clause-refused c = λ by.
-    let told = err_from_is_err_and c.from_residual.result c.from_residual.ensures.1 in
-    rw (told.1, told.2) (text_stops by c.args.text.now _ c.in_err-tree.ensures.refused)
+    rw (err_is c.from_residual.result c.from_residual.ensures.1) (text_stops by c.args.text.now _ c.in_err-tree.ensures.refused)
 
 pub returns-in-Err-clause-refused : goal.returns-in-Err-clause-refused
 returns-in-Err-clause-refused c = λ by.

@@ -1,5 +1,4 @@
 use Rattle.std.proofs.Common.{◌≡◌, ◌≢◌, Err, refl, subst}
-use Rattle.std.proofs.lemmas.Result.{err_from_is_err_and}
 use Rattle.tick_kinds.specs.Resolution.{resolved}
 use Rattle.tick_play.specs.Report.{source_report}
 use Rattle.tick_play.specs.Schedule.{schedule_of}
@@ -7,21 +6,20 @@ use Rattle.tick_play.specs.declared.schedule.ScheduleFault.TheVariants.{NoMemory
 use Rattle.engine.specs.Programs.{IsTextAnswer, accepted, source_answer}
 use Rattle.engine.proofs.ScheduleLemmas.{schedule_done}
 use Rattle.engine.proofs.StopLemmas.{schedule_stops}
+use Rattle.engine.proofs.Weakening.{err_is}
 use Rattle.engine.proofs.program.source_text.Goals as goal
 
 pub returns-in_err-program-clause-refused : goal.returns-in_err-program-clause-refused
 returns-in_err-program-clause-refused c =
-    let told = err_from_is_err_and c.from_residual.result c.from_residual.ensures.1 in
-    rw (told.1, told.2) (c.in_err-program.ensures.refused (source_answer c.args.schedule.now))
+    rw (err_is c.from_residual.result c.from_residual.ensures.1) (c.in_err-program.ensures.refused (source_answer c.args.schedule.now))
 
 pub returns-in_err-steps-clause-refused : goal.returns-in_err-steps-clause-refused
 returns-in_err-steps-clause-refused c =
-    let told = err_from_is_err_and c.from_residual-in_err-steps.result c.from_residual-in_err-steps.ensures.1 in
     let s = c.args.schedule.now in
     let p = c.in_ok-program.program in
     let fault = c.in_err-steps.field-0.0 in
     let read = subst (λ n. fault ≢ NoMemory → schedule_of n s ≡ Err fault) c.processes.ensures.count c.in_err-steps.ensures.err in
-    rw (told.1, told.2)
+    rw (err_is c.from_residual-in_err-steps.result c.from_residual-in_err-steps.ensures.1)
     (schedule_stops (IsTextAnswer (source_answer s) c.args.text.now) (source_report (resolved p)) p.processes s fault
     (accepted p c.in_ok-program.ensures.reads c.in_ok-program.ensures.accepted refl) read)
 

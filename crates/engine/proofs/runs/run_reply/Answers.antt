@@ -1,11 +1,21 @@
 use Rattle.std.proofs.Common.{refl, string_bytes}
 use Rattle.engine.specs.Answer.{done}
-use Rattle.engine.proofs.RunLemmas.{run_done}
+use Rattle.engine.specs.declared.command.Command.TheVariants.{Run}
+use Rattle.engine.proofs.RunLemmas.{run_done, run_refused, stop_replied}
+use Rattle.engine.proofs.Weakening.{err_is, if_refused}
 use Rattle.engine.proofs.runs.run_reply.Goals as goal
 
-pub returns-in_ok-text-in-Ok-clause-ok : goal.returns-in_ok-text-in-Ok-clause-ok
-returns-in_ok-text-in-Ok-clause-ok g c = record {
+pub returns-in_ok-text-in-Ok : goal.returns-in_ok-text-in-Ok
+returns-in_ok-text-in-Ok g c = record {
   answer = done (string_bytes c.in_ok-text-in-Ok.text);
   is_allowed = run_done c.args.turns c.args.input.now _ c.in-Ok.code c.in-Ok.ensures.text c.in-Ok.ensures.code c.in_ok-text-in-Ok.ensures.ok;
   replies = record { status = refl; text = refl };
 }
+
+pub returns-in_err-text-in-Ok : goal.returns-in_err-text-in-Ok
+returns-in_err-text-in-Ok g c = rw (err_is c.from_residual.result c.from_residual.ensures.1) c.in_err-text-in-Ok.ensures.err
+
+pub returns-in-Err : goal.returns-in-Err
+returns-in-Err g c =
+    stop_replied (Run c.args.turns) c.args.input.now c.in-Err.stop c.stop_reply.result c.stop_reply.ensures.ok c.stop_reply.ensures.err
+    (if_refused _ _ (λ refusal told. run_refused c.args.turns c.args.input.now refusal told) c.in-Err.stop c.in-Err.ensures.refused)

@@ -1,2 +1,0 @@
-pub mod Host
-pub mod Exit
