@@ -1,9 +1,9 @@
 //! Each call that takes memory. Where a growth was refused it is asked once more, so that these tests
 //! also pass where any one growth of such a call is refused: no answer changes in place of the error.
+use code_core::{Code, CodeFault, Instr, Sizes, verify};
 use code_text::{read_code, write_code};
 use std::alloc::Global;
 use std::test::Fail;
-use verified_code::{Code, CodeFault, Instr, Sizes, verify};
 
 /// The sizes of these numbers of processes, variables, scans and register rows.
 pub fn sizes_of(numbers: (u8, u8, u8, u8)) -> Result<Sizes, Fail> {

@@ -1,9 +1,11 @@
 use crate::answers::{read, sizes_of, verified, written};
-use std::alloc::{AllocError, Global};
+use code_core::CodeFault::{BadJump, BadLine, FallsOff, TooLong};
+use code_core::Instr::{Halt, Jump, Push};
+use code_core::{CodeFault, Instr};
 use std::test::Fail;
-use verified_code::CodeFault::{BadJump, BadLine, FallsOff, TooLong};
-use verified_code::Instr::{Halt, Jump, Push};
-use verified_code::{CodeFault, Instr};
+use testing::repeated;
+
+const SIZES: &str = "tickcode 1 1 0 0 0\n";
 
 // So many of an instruction, and what is answered of them: the greatest height, or a fault.
 static REPEATED: [(Instr, usize, Result<u16, CodeFault>); 6] = [
@@ -29,16 +31,6 @@ fn longest_codes(rt: HostRuntime) -> Result<(), Fail> {
     Ok(())
 }
 
-// A line of sizes, a line so many times, and what follows.
-fn repeated(alloc: Global, line: &str, count: usize, back: &str) -> Result<String, AllocError> {
-    let mut text = String::from_str(alloc, "tickcode 1 1 0 0 0\n")?;
-    for _ in 0..count {
-        text.push_str(line)?;
-    }
-    text.push_str(back)?;
-    Ok(text)
-}
-
 // A line, how often it stands in the text, what follows, and the length of the code or its fault.
 static TEXTS: [(&str, usize, &str, Result<usize, CodeFault>); 6] = [
     ("Push 4294967295\n", 62000, "Halt\n", Ok(62001)),
@@ -52,7 +44,7 @@ static TEXTS: [(&str, usize, &str, Result<usize, CodeFault>); 6] = [
 #[test]
 fn longest_texts(rt: HostRuntime) -> Result<(), Fail> {
     for &(line, count, back, answer) in &TEXTS {
-        let text = repeated(rt.alloc(), line, count, back)?;
+        let text = repeated(rt.alloc(), SIZES, line, count, back)?;
         match read(rt.alloc(), text.as_str()) {
             Ok(code) => {
                 assert_eq!(rt; Ok(code.len()), answer);

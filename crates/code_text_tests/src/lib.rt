@@ -12,3 +12,5 @@ mod reading;
 mod round_trip;
 #[cfg(test)]
 mod verifying;
+#[cfg(test)]
+mod words;

@@ -1,10 +1,10 @@
 use crate::answers::read;
-use std::process::Abort;
-use std::test::Fail;
-use verified_code::CodeFault;
-use verified_code::CodeFault::{
+use code_core::CodeFault;
+use code_core::CodeFault::{
     BadJump, BadLine, BadSlot, BadStamp, Empty, FallsOff, HeightsDiffer, StackShort,
 };
+use std::process::Abort;
+use std::test::Fail;
 
 // Texts whose first line is none of sizes.
 static HEADERS: [&str; 32] = [

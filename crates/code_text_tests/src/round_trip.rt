@@ -1,13 +1,13 @@
 use crate::answers::{read, written};
-use machine_core::Op;
-use std::str;
-use std::test::Fail;
-use verified_code::CodeFault::BadLine;
-use verified_code::Instr;
-use verified_code::Instr::{
+use code_core::CodeFault::BadLine;
+use code_core::Instr;
+use code_core::Instr::{
     Bin, Copy, Count, Exchange, Get, Halt, Jump, JumpZero, Load, LoadWord, Me, Next, Older, Out,
     Push, Put, Scan, Store,
 };
+use machine_core::Op;
+use std::str;
+use std::test::Fail;
 
 // Each instruction and each operator, with numbers of one digit and more.
 const EVERY: &str = "tickcode 1 6 64 16 8

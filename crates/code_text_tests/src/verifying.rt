@@ -1,14 +1,14 @@
 use crate::answers::{sizes_of, verified};
-use machine_core::Op;
-use std::test::Fail;
-use verified_code::CodeFault::{
+use code_core::CodeFault::{
     BadJump, BadSlot, BadStamp, Empty, FallsOff, HeightsDiffer, StackShort,
 };
-use verified_code::Instr::{
+use code_core::Instr::{
     Bin, Copy, Count, Exchange, Get, Halt, Jump, JumpZero, Load, LoadWord, Me, Next, Older, Out,
     Push, Put, Scan, Store,
 };
-use verified_code::{CodeFault, Instr, Sizes};
+use code_core::{CodeFault, Instr, Sizes};
+use machine_core::Op;
+use std::test::Fail;
 
 // Processes, variables, scans and register rows, and whether a code can have them.
 static SIZES: [(u8, u8, u8, u8, bool); 10] = [
@@ -210,7 +210,10 @@ fn accepts(rt: HostRuntime) -> Result<(), Fail> {
             (code.len(), code.height(), code.sizes()),
             (instructions.len(), height, sizes)
         );
-        assert_eq!(rt; Some(&code.instr(0)), instructions.first());
+        for place in 0..code.len() as u16 {
+            let given = instructions.get(usize::from(place));
+            assert_eq!(rt; Some(&code.instr(place)), given);
+        }
     }
     Ok(())
 }

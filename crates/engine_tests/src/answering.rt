@@ -81,3 +81,16 @@ pub fn answers<R: AllocGlobal + Abort + Threads + Wait>(
     assert!(rt; outcome.is(Ok(status), answer), "{words:?}: {answer}");
     Ok(())
 }
+
+/// Asserts that the words write this answer on an input. Names the command alone, since the other
+/// texts may be long.
+pub fn says<R: AllocGlobal + Abort + Threads + Wait>(
+    rt: &R,
+    words: &[&str],
+    input: &[u8],
+    answer: &str,
+) -> Result<(), Fail> {
+    let outcome = answered(rt, words, input)?;
+    holds(rt, outcome.is(Ok(0), answer), &words[..words.len().min(2)]);
+    Ok(())
+}

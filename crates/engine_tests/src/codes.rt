@@ -1,7 +1,7 @@
 //! What `code` answers.
 use crate::answering::answers;
-use crate::texts::repeated;
 use std::test::Fail;
+use testing::repeated;
 
 const SEVEN: &[u8] = b"tickcode 1 1 0 0 0\nPush 7\nOut\nHalt\n";
 

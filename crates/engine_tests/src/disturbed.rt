@@ -7,7 +7,7 @@ use std::test::Fail;
 use std::thread::Threads;
 
 const ROW: &str =
-    "layout 1\nstamp 0 word 4\nstamp 1 word 84\nstamp 2 word 2132\nword 2132\nlabels 10 11 20\nranks 0 1 2\n";
+    "layout 2\nstamp 0 word 3\nstamp 1 word 1027\nstamp 2 word 394243\nword 394243\nlabels 10 11 20\nranks 0 1 2\n";
 
 // How the reads are disturbed, what comes of it, what is written, and the row's name.
 static READS: [(Disturbance, Result<u8, EngineFault>, &str, &str); 4] = [

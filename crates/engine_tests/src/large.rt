@@ -1,13 +1,13 @@
 //! One large input of each kind, and an input that is too large.
 use crate::answering;
 use crate::answering::{answered, holds};
-use crate::texts::repeated;
 use std::alloc::{AllocError, Global};
 use std::fmt::Write;
 use std::process::Abort;
 use std::sync::Wait;
 use std::test::Fail;
 use std::thread::Threads;
+use testing::repeated;
 
 // Names the command alone, since the answer is long.
 fn answers<R: AllocGlobal + Abort + Threads + Wait>(
@@ -33,10 +33,10 @@ fn prints<R: AllocGlobal + Abort + Threads + Wait>(
 fn hundred_thousand_stamps(rt: HostRuntime) -> Result<(), Fail> {
     let answer = repeated(
         rt.alloc(),
-        "layout 1\n",
-        "stamp 0 word 4\n",
+        "layout 2\n",
+        "stamp 0 word 3\n",
         100_000,
-        "word 4\nlabels 10 00 00\nranks 2 0 0\n",
+        "word 3\nlabels 10 00 00\nranks 2 0 0\n",
     )?;
     answers(
         &rt,

@@ -11,9 +11,23 @@ mod codes;
 #[cfg(test)]
 mod disturbed;
 #[cfg(test)]
+mod each_number;
+#[cfg(test)]
+mod edges;
+#[cfg(test)]
+mod faults;
+#[cfg(test)]
 mod in_memory;
 #[cfg(test)]
+mod kinds;
+#[cfg(test)]
 mod large;
+#[cfg(test)]
+mod largest;
+#[cfg(test)]
+mod lines;
+#[cfg(test)]
+mod longest;
 #[cfg(test)]
 mod lowered;
 #[cfg(test)]
@@ -26,3 +40,5 @@ mod refusals;
 mod runs;
 #[cfg(test)]
 mod texts;
+#[cfg(test)]
+mod traps;

@@ -1,10 +1,10 @@
 //! What `emit`, `code`, `lift` and `drop` answer on programs.
 use crate::answering::answers;
-use crate::texts::repeated;
 use std::process::Abort;
 use std::sync::Wait;
 use std::test::Fail;
 use std::thread::Threads;
+use testing::repeated;
 
 const QUEUE: &[u8] =
     b"processes 2; var x; scan s; begin stamp; s = scan; x = older s 0 1; out x; end";

@@ -1,11 +1,11 @@
 //! Each refusal of a program, of its kinds and of a schedule.
 use crate::answering::{Outcome, answered, answers, holds};
-use crate::texts::repeated;
 use std::alloc::{AllocError, Global};
 use std::fmt::Write;
 use std::sync::Wait;
 use std::test::Fail;
 use std::thread::Threads;
+use testing::repeated;
 
 // A program and the line that refuses it.
 static PROGRAMS: [(&[u8], &str); 18] = [

@@ -1,10 +1,10 @@
 //! What `run` answers.
 use crate::answering::{USAGE, answered, answers, holds, line};
 use crate::in_memory::{Disturbance, Input, Output};
-use crate::texts::repeated;
 use engine::{Served, serve};
 use std::alloc::Global;
 use std::test::Fail;
+use testing::repeated;
 
 const COUNT: &[u8] = b"processes 1; var x; begin while (x < 2) { x = (x + 1); } out x; end";
 

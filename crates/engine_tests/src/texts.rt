@@ -1,18 +1,31 @@
 //! Long texts.
 use std::alloc::{AllocError, Global};
+use std::fmt::Write;
 
-/// A front, a piece so many times, and a back.
-pub fn repeated(
-    alloc: Global,
-    front: &str,
-    piece: &str,
-    count: usize,
-    back: &str,
-) -> Result<String, AllocError> {
-    let mut text = String::from_str(alloc, front)?;
-    for _ in 0..count {
-        text.push_str(piece)?;
+/// A piece of a text so many times, with a number for each `@` in it: the first one, and how far each
+/// is above the one before.
+pub type Piece = (&'static str, i32, i32, usize);
+
+/// The pieces as one text.
+pub fn pieced(alloc: Global, pieces: &[Piece]) -> Result<String, AllocError> {
+    let mut text = String::new(alloc);
+    for (piece, first, above, count) in pieces {
+        let mut number = *first;
+        for _ in 0..*count {
+            push_numbered(&mut text, piece, number)?;
+            number = number.wrapping_add(*above);
+        }
     }
-    text.push_str(back)?;
     Ok(text)
+}
+
+fn push_numbered(text: &mut String, piece: &str, number: i32) -> Result<(), AllocError> {
+    for letter in piece.chars() {
+        if letter == '@' {
+            write!(text, "{number}")?;
+        } else {
+            text.push(letter)?;
+        }
+    }
+    Ok(())
 }

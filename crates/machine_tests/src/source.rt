@@ -1,3 +1,4 @@
+use crate::answers::{machine_of, outcome_of, step_often};
 use crate::programs::report;
 use std::process::Abort;
 use std::test::Fail;
@@ -95,6 +96,24 @@ fn steps_one_by_one(rt: HostRuntime) -> Result<(), Fail> {
         },
     ];
     holds(machine.events() == expected.as_slice(), "events")?;
+    Ok(())
+}
+
+// The events and the open blocks grow under the steps, and a step that was refused changes nothing.
+#[test]
+fn steps_each_statement(rt: HostRuntime) -> Result<(), Fail> {
+    let program = accepted(rt.alloc(), EACH_STATEMENT)?;
+    assert!(rt; program.processes() == 2);
+    let steps = read_schedule(rt.alloc(), "0*20 1*20", program.processes())?;
+    let outcome = outcome_of(rt.alloc(), &program, &steps)?;
+    is_same(&outcome.events.len(), &18)?;
+    let mut machine = machine_of(rt.alloc(), &program)?;
+    step_often(&mut machine, 0, 20)?;
+    step_often(&mut machine, 1, 20)?;
+    let is_so = machine.events() == outcome.events.as_slice();
+    holds(is_so, "the events")?;
+    is_same(&machine.status(0), &Status::Ended)?;
+    is_same(&machine.status(1), &Status::Ended)?;
     Ok(())
 }
 

@@ -42,7 +42,7 @@ fn the_word_comes_back(rt: HostRuntime) -> Result<(), Fail> {
     let after = both_stamp(&rt, &table, &mut two, &mut one);
     let old = scan(&table, &mut zero);
     assert!(rt; after == old);
-    assert_eq!(rt; old.word().bits(), 2196);
+    assert_eq!(rt; old.word().bits(), 395011);
     assert!(rt; ranks(&old) == [0, 2, 1]);
     assert!(rt; old.older(2, 1) && !old.older(1, 2) && !old.older(1, 1));
     both_stamp(&rt, &table, &mut two, &mut one);
@@ -51,7 +51,7 @@ fn the_word_comes_back(rt: HostRuntime) -> Result<(), Fail> {
     let Tried::Won(won) = try_stamp(&table, &mut zero, old) else {
         return Ok(assert!(rt; false));
     };
-    assert_eq!(rt; won.word().bits(), 2192);
+    assert_eq!(rt; won.word().bits(), 395008);
     assert!(rt; ranks(&won) == [2, 1, 0]);
     let Tried::Lost(found) = try_stamp(&table, &mut one, old) else {
         return Ok(assert!(rt; false));

@@ -26,6 +26,16 @@ pub fn step(machine: &mut CodeMachine<'_>, p: u8) -> Result<(), NoMemory>
     }
 }
 
+pub fn step_often(machine: &mut CodeMachine<'_>, p: u8, count: u32) -> Result<(), NoMemory>
+    requires { p < length machine.old.state.processes }
+    ensures { length machine.new.state.processes ≡ length machine.old.state.processes }
+{
+    for _step in 0..count {
+        step(machine, p)?;
+    }
+    Ok(())
+}
+
 pub fn outcome_of(alloc: Global, code: &Code, schedule: &[u8]) -> Result<Outcome, NoMemory>
     requires { All (λ p. p < code.now.sizes.processes) schedule.now }
 {

@@ -1,16 +1,15 @@
 //! The longest code, whose stack is as high as half of it.
-ghost use Rattle.std.specs.Prelude.{◌≡◌, ◌<◌, length};
+ghost use Rattle.std.specs.Prelude.{◌<◌};
 ghost use Rattle.step_code.specs.Process.{IsOf};
 
-use crate::answers::{machine_of, outcome_of, process_of, step};
-use crate::asserting::{holds, is_outcome, is_same};
+use crate::answers::{machine_of, outcome_of, process_of, step_often};
 use crate::codes::code_of;
+use crate::outcomes::is_outcome;
 use std::alloc::{AllocError, Global};
 use std::process::Abort;
 use std::test::Fail;
-use step_code::{
-    Act, Advance, Code, CodeMachine, Event, Instr, NoMemory, Op, Outcome, Proc, Status,
-};
+use step_code::{Act, Advance, Code, Event, Instr, Op, Outcome, Proc, Status};
+use testing::{holds, is_same};
 
 const DID: [Event; 2] = [
     Event {
@@ -37,26 +36,16 @@ fn adding(alloc: Global) -> Result<Vec<Instr>, AllocError> {
     Ok(instructions)
 }
 
-fn step_often(machine: &mut CodeMachine<'_>, count: u32) -> Result<(), NoMemory>
-    requires { 0 < length machine.old.state.processes }
-    ensures { 0 < length machine.new.state.processes }
-{
-    for _step in 0..count {
-        step(machine, 0)?;
-    }
-    Ok(())
-}
-
 #[test]
 fn steps(rt: HostRuntime) -> Result<(), Fail> {
     let code = code_of(rt.alloc(), (1, 0, 0, 0), &adding(rt.alloc())?)?;
     assert!(rt; code.sizes().processes() == 1);
-    is_same(&rt, &code.len(), &65535);
+    is_same(&code.len(), &65535)?;
     let mut machine = machine_of(rt.alloc(), &code)?;
-    step_often(&mut machine, 65535)?;
-    holds(&rt, machine.events() == DID.as_slice(), "the events");
-    is_same(&rt, &machine.place(0), &65534);
-    is_same(&rt, &machine.status(0), &Status::Ended);
+    step_often(&mut machine, 0, 65535)?;
+    holds(machine.events() == DID.as_slice(), "the events")?;
+    is_same(&machine.place(0), &65534)?;
+    is_same(&machine.status(0), &Status::Ended)?;
     Ok(())
 }
 
@@ -73,11 +62,7 @@ fn runs(rt: HostRuntime) -> Result<(), Fail> {
     let code = code_of(rt.alloc(), (1, 0, 0, 0), &adding(rt.alloc())?)?;
     assert!(rt; code.sizes().processes() == 1);
     let outcome = run_often(rt.alloc(), &code, 65535)?;
-    holds(
-        &rt,
-        is_outcome(&outcome, &DID, &[Status::Ended]),
-        "the outcome",
-    );
+    holds(is_outcome(&outcome, &DID, &[Status::Ended]), "the outcome")?;
     Ok(())
 }
 
@@ -86,11 +71,7 @@ fn advance_silently(rt: &impl Abort, process: &mut Proc, code: &Code, count: u32
     ensures { IsOf code.now process.new }
 {
     for _step in 0..count {
-        holds(
-            rt,
-            process.advance(code) == Advance::Silent,
-            "a silent step",
-        );
+        assert!(rt; process.advance(code) == Advance::Silent, "a silent step");
     }
 }
 
@@ -98,12 +79,12 @@ fn advance_silently(rt: &impl Abort, process: &mut Proc, code: &Code, count: u32
 fn advances(rt: HostRuntime) -> Result<(), Fail> {
     let code = code_of(rt.alloc(), (1, 0, 0, 0), &adding(rt.alloc())?)?;
     assert!(rt; code.sizes().processes() == 1);
-    is_same(&rt, &code.height(), &32767);
+    is_same(&code.height(), &32767)?;
     let mut process = process_of(rt.alloc(), &code, 0)?;
     advance_silently(&rt, &mut process, &code, 65533);
-    holds(&rt, process.will_out(&code), "an output next");
-    is_same(&rt, &process.advance(&code), &Advance::Did(DID[0]));
-    is_same(&rt, &process.advance(&code), &Advance::Did(DID[1]));
-    is_same(&rt, &process.advance(&code), &Advance::Stopped);
+    holds(process.will_out(&code), "an output next")?;
+    is_same(&process.advance(&code), &Advance::Did(DID[0]))?;
+    is_same(&process.advance(&code), &Advance::Did(DID[1]))?;
+    is_same(&process.advance(&code), &Advance::Stopped)?;
     Ok(())
 }

@@ -5,12 +5,12 @@
 #[cfg(test)]
 mod answers;
 #[cfg(test)]
-mod asserting;
-#[cfg(test)]
 mod codes;
 #[cfg(test)]
 mod large;
 #[cfg(test)]
 mod machine;
+#[cfg(test)]
+mod outcomes;
 #[cfg(test)]
 mod process;

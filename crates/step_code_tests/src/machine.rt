@@ -1,8 +1,9 @@
-use crate::answers::{machine_of, outcome_of, step};
-use crate::asserting::{holds, is_outcome, is_same};
+use crate::answers::{machine_of, outcome_of, step, step_often};
 use crate::codes::{GIVES_SEVEN, STAMPS_AND_COMPARES, WRITES_AND_TRAPS, code_of};
+use crate::outcomes::is_outcome;
 use std::test::Fail;
 use step_code::{Act, Event, Instr, Op, Outcome, Status, Trap};
+use testing::{holds, is_same};
 
 fn event(process: u8, act: Act) -> Event {
     Event { process, act }
@@ -14,18 +15,18 @@ fn steps_one_by_one(rt: HostRuntime) -> Result<(), Fail> {
     assert!(rt; code.sizes().processes() == 1);
     let mut machine = machine_of(rt.alloc(), &code)?;
     step(&mut machine, 0)?;
-    is_same(&rt, &machine.events().len(), &0);
-    is_same(&rt, &machine.place(0), &1);
+    is_same(&machine.events().len(), &0)?;
+    is_same(&machine.place(0), &1)?;
     step(&mut machine, 0)?;
     let seven = [event(0, Act::Out(7))];
-    holds(&rt, machine.events() == seven.as_slice(), "seven");
-    is_same(&rt, &machine.status(0), &Status::Running);
+    holds(machine.events() == seven.as_slice(), "seven")?;
+    is_same(&machine.status(0), &Status::Running)?;
     step(&mut machine, 0)?;
     step(&mut machine, 0)?;
-    is_same(&rt, &machine.status(0), &Status::Ended);
-    is_same(&rt, &machine.place(0), &2);
-    is_same(&rt, &machine.events().len(), &2);
-    is_same(&rt, &machine.word().bits(), &0);
+    is_same(&machine.status(0), &Status::Ended)?;
+    is_same(&machine.place(0), &2)?;
+    is_same(&machine.events().len(), &2)?;
+    is_same(&machine.word().bits(), &0)?;
     Ok(())
 }
 
@@ -36,9 +37,52 @@ fn gives_seven(rt: HostRuntime) -> Result<(), Fail> {
     let outcome = outcome_of(rt.alloc(), &code, &[0, 0])?;
     let events = [event(0, Act::Out(7))];
     let is_so = is_outcome(&outcome, &events, &[Status::Running]);
-    holds(&rt, is_so, "the outcome");
+    holds(is_so, "the outcome")?;
     Ok(())
 }
+
+const ONE_AFTER_THE_OTHER: [Event; 10] = [
+    Event {
+        process: 0,
+        act: Act::Stamp,
+    },
+    Event {
+        process: 0,
+        act: Act::Scan([1, 0, 0, 0, 0, 0]),
+    },
+    Event {
+        process: 0,
+        act: Act::Older(0, 1, 0),
+    },
+    Event {
+        process: 0,
+        act: Act::Out(0),
+    },
+    Event {
+        process: 0,
+        act: Act::End,
+    },
+    Event {
+        process: 1,
+        act: Act::Stamp,
+    },
+    Event {
+        process: 1,
+        act: Act::Scan([0, 1, 0, 0, 0, 0]),
+    },
+    Event {
+        process: 1,
+        act: Act::Older(0, 1, 1),
+    },
+    Event {
+        process: 1,
+        act: Act::Out(1),
+    },
+    Event {
+        process: 1,
+        act: Act::End,
+    },
+];
 
 #[test]
 fn runs_one_after_the_other(rt: HostRuntime) -> Result<(), Fail> {
@@ -49,22 +93,26 @@ fn runs_one_after_the_other(rt: HostRuntime) -> Result<(), Fail> {
         &code,
         &[0, 0, 0, 0, 0, 0, 0, 0, 0, 0, 1, 1, 1, 1, 1, 1, 1, 1, 1, 1],
     )?;
-    let expected = [
-        event(0, Act::Stamp),
-        event(0, Act::Scan([1, 0, 0, 0, 0, 0])),
-        event(0, Act::Older(0, 1, 0)),
-        event(0, Act::Out(0)),
-        event(0, Act::End),
-        event(1, Act::Stamp),
-        event(1, Act::Scan([0, 1, 0, 0, 0, 0])),
-        event(1, Act::Older(0, 1, 1)),
-        event(1, Act::Out(1)),
-        event(1, Act::End),
-    ];
     let statuses = [Status::Ended, Status::Ended];
-    let is_so = is_outcome(&outcome, &expected, &statuses);
-    holds(&rt, is_so, "the outcome");
-    is_same(&rt, &outcome.registers.len(), &0);
+    let is_so = is_outcome(&outcome, &ONE_AFTER_THE_OTHER, &statuses);
+    holds(is_so, "the outcome")?;
+    is_same(&outcome.registers.len(), &0)?;
+    Ok(())
+}
+
+// The list of events grows under the steps, and a step that was refused changes nothing.
+#[test]
+fn steps_one_after_the_other(rt: HostRuntime) -> Result<(), Fail> {
+    let code = code_of(rt.alloc(), (2, 1, 1, 0), &STAMPS_AND_COMPARES)?;
+    assert!(rt; code.sizes().processes() == 2);
+    let mut machine = machine_of(rt.alloc(), &code)?;
+    step_often(&mut machine, 0, 10)?;
+    step_often(&mut machine, 1, 10)?;
+    let is_so = machine.events() == ONE_AFTER_THE_OTHER.as_slice();
+    holds(is_so, "the events")?;
+    is_same(&machine.status(0), &Status::Ended)?;
+    is_same(&machine.status(1), &Status::Ended)?;
+    is_same(&machine.word().bits(), &513)?;
     Ok(())
 }
 
@@ -76,7 +124,7 @@ fn loses_an_exchange(rt: HostRuntime) -> Result<(), Fail> {
     let expected = [event(0, Act::Stamp), event(1, Act::Stamp)];
     let statuses = [Status::Running, Status::Running];
     let is_so = is_outcome(&outcome, &expected, &statuses);
-    holds(&rt, is_so, "the outcome");
+    holds(is_so, "the outcome")?;
     Ok(())
 }
 
@@ -101,9 +149,9 @@ fn writes_copies_and_traps(rt: HostRuntime) -> Result<(), Fail> {
     ];
     let statuses = [Status::Running, Status::Trapped(Trap::Below)];
     let is_so = is_outcome(&outcome, &expected, &statuses);
-    holds(&rt, is_so, "the outcome");
-    is_same(&rt, &outcome.registers.len(), &1);
-    holds(&rt, begins_with_a_row(&outcome, &[0, 3]), "the row");
+    holds(is_so, "the outcome")?;
+    is_same(&outcome.registers.len(), &1)?;
+    holds(begins_with_a_row(&outcome, &[0, 3]), "the row")?;
     Ok(())
 }
 
@@ -185,7 +233,7 @@ fn stops_at_each_trap(rt: HostRuntime) -> Result<(), Fail> {
         let outcome = outcome_of(rt.alloc(), &code, &[0, 0, 0])?;
         let events = [event(0, Act::Trap(trap))];
         let is_so = is_outcome(&outcome, &events, &[Status::Trapped(trap)]);
-        holds(&rt, is_so, row);
+        holds(is_so, row)?;
     }
     Ok(())
 }

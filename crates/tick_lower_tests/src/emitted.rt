@@ -1,13 +1,13 @@
 use crate::programs::{instructions, lowered};
+use code_core::Instr;
+use code_core::Instr::{
+    Bin, Copy, Count, Exchange, Get, Halt, Jump, JumpZero, Load, LoadWord, Me, Next, Older, Out,
+    Push, Put, Scan, Store,
+};
 use machine_core::Op;
 use std::alloc::Global;
 use std::test::Fail;
 use testing::is_same;
-use verified_code::Instr;
-use verified_code::Instr::{
-    Bin, Copy, Count, Exchange, Get, Halt, Jump, JumpZero, Load, LoadWord, Me, Next, Older, Out,
-    Push, Put, Scan, Store,
-};
 
 fn becomes(alloc: Global, text: &str, expected: &[Instr]) -> Result<(), Fail> {
     is_same(&instructions(alloc, text)?.as_slice(), &expected)

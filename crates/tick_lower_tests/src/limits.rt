@@ -1,9 +1,9 @@
 use crate::programs::lowered;
+use code_core::Instr;
 use std::alloc::{AllocError, Global};
 use std::test::Fail;
 use testing::{accepted, is_same, repeated};
 use tick_lower::{LowerFault, lower};
-use verified_code::Instr;
 
 // A program of so many outputs, each of which becomes two instructions.
 fn outputs(alloc: Global, count: usize) -> Result<String, AllocError> {

@@ -1,8 +1,8 @@
+use code_core::{Code, Instr};
 use std::alloc::Global;
 use std::test::Fail;
 use testing::accepted;
 use tick_lower::lower;
-use verified_code::{Code, Instr};
 
 /// The code of the program that a text is.
 pub fn lowered(alloc: Global, text: &str) -> Result<Code, Fail> {

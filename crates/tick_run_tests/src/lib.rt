@@ -5,6 +5,8 @@
 #[cfg(test)]
 mod alone;
 #[cfg(test)]
+mod before_steps;
+#[cfg(test)]
 mod gates;
 #[cfg(test)]
 mod overlap;
@@ -12,5 +14,7 @@ mod overlap;
 mod refused;
 #[cfg(test)]
 mod running;
+#[cfg(test)]
+mod sizes;
 #[cfg(test)]
 mod together;

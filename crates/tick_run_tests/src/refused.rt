@@ -2,14 +2,17 @@
 
 use crate::running::holds;
 use std::alloc::{AllocError, Global};
+use std::process::Abort;
+use std::sync::Wait;
 use std::sync::atomic::AtomicU64;
 use std::sync::atomic::Ordering::SeqCst;
 use std::test::Fail;
+use std::thread::Threads;
 use step_code::{Ask, read_code};
 use tick_run::{Gate, RunFault, run};
 
 // while 1 { put r me; }
-const WRITES: &str = "tickcode 1 6 0 0 1\nPush 1\nJumpZero 5\nMe\nPut 0\nJump 0\nHalt\n";
+const WRITES: &str = "Push 1\nJumpZero 5\nMe\nPut 0\nJump 0\nHalt\n";
 
 struct Counted<'a> {
     dropped: &'a AtomicU64,
@@ -44,28 +47,77 @@ fn all_space(alloc: Global) -> Result<Vec<Vec<u8>>, AllocError> {
     Ok(blocks)
 }
 
-// There is room for the stacks of two threads at most. The run is refused, and every worker that had
-// started has ended by then: all gates are gone.
-#[test]
-fn a_start_is_refused(rt: HostRuntime) -> Result<(), Fail> {
+// So many blocks, each of which has room for the stack of one thread.
+fn stacks(alloc: Global, count: usize) -> Result<Vec<Vec<u8>>, AllocError> {
+    let mut blocks = Vec::with_capacity(alloc, 8)?;
+    for _ in 0..count {
+        blocks.push(Vec::<u8>::with_capacity(alloc, 9 << 20)?)?;
+    }
+    Ok(blocks)
+}
+
+// There is room for the stacks of so many threads. Where these are fewer than the processes the run is
+// refused, and every worker that had started has ended by then: all gates are gone. A worker on the
+// caller's own thread would want no stack, and the run would be made.
+fn is_refused<R: AllocGlobal + Abort + Threads + Wait>(
+    rt: &R,
+    n: u8,
+    room: usize,
+) -> Result<(), Fail> {
     let alloc = rt.alloc();
     let dropped = AtomicU64::new(0);
     let mut gates = Vec::new(alloc);
-    for _ in 0..6u8 {
+    for _ in 0..n {
         gates.push(Counted { dropped: &dropped })?;
     }
-    assert!(rt; gates.len() == 6);
-    let code = read_code(alloc, WRITES)?;
-    assert!(rt; code.sizes().processes() == 6);
-    let stacks = (
-        Vec::<u8>::with_capacity(alloc, 9 << 20)?,
-        Vec::<u8>::with_capacity(alloc, 9 << 20)?,
-    );
+    let text = format!(in alloc; "tickcode 1 {n} 0 0 1\n{WRITES}")?;
+    let code = read_code(alloc, text.as_str())?;
+    assert_eq!(rt; gates.len(), code.sizes().processes() as usize);
+    let stacks = stacks(alloc, room)?;
     let blocks = all_space(alloc)?;
     drop(stacks);
-    let fault = run(&rt, alloc, &code, gates, 100_000, 4).err();
+    let fault = run(rt, alloc, &code, gates, 100_000, 4).err();
     drop(blocks);
-    holds(&rt, fault == Some(RunFault::NoThread), "no thread");
-    holds(&rt, dropped.load(SeqCst) == 6, "the gates that are gone");
+    holds(rt, fault == Some(RunFault::NoThread), "no thread");
+    holds(
+        rt,
+        dropped.load(SeqCst) == u64::from(n),
+        "the gates that are gone",
+    );
     Ok(())
+}
+
+#[test]
+fn a_start_is_refused(rt: HostRuntime) -> Result<(), Fail> {
+    is_refused(&rt, 6, 2)
+}
+
+#[test]
+fn the_only_start_is_refused(rt: HostRuntime) -> Result<(), Fail> {
+    is_refused(&rt, 1, 0)
+}
+
+#[test]
+fn the_second_start_is_refused(rt: HostRuntime) -> Result<(), Fail> {
+    is_refused(&rt, 2, 1)
+}
+
+#[test]
+fn the_third_start_is_refused(rt: HostRuntime) -> Result<(), Fail> {
+    is_refused(&rt, 3, 2)
+}
+
+#[test]
+fn the_fourth_start_is_refused(rt: HostRuntime) -> Result<(), Fail> {
+    is_refused(&rt, 4, 3)
+}
+
+#[test]
+fn the_fifth_start_is_refused(rt: HostRuntime) -> Result<(), Fail> {
+    is_refused(&rt, 5, 4)
+}
+
+#[test]
+fn the_sixth_start_is_refused(rt: HostRuntime) -> Result<(), Fail> {
+    is_refused(&rt, 6, 5)
 }

@@ -7,4 +7,6 @@ mod maps;
 #[cfg(test)]
 mod programs;
 #[cfg(test)]
+mod ranks;
+#[cfg(test)]
 mod rounds;

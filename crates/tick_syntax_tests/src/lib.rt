@@ -2,12 +2,8 @@
 #![tactic(auto)]
 
 #[cfg(test)]
-mod asserting;
-#[cfg(test)]
 mod parse;
 #[cfg(test)]
 mod print;
-#[cfg(test)]
-mod texts;
 #[cfg(test)]
 mod tokens;

@@ -1,8 +1,7 @@
-use crate::asserting::holds;
-use crate::texts::repeated;
 use std::alloc::Global;
 use std::process::Abort;
 use std::test::Fail;
+use testing::{holds, repeated};
 use tick_syntax::fault::TextFault;
 use tick_syntax::parse;
 use tick_syntax::span::Span;
@@ -70,7 +69,7 @@ fn is_declared(section: Section, tree: &Tree) -> bool {
 fn each_section(rt: HostRuntime) -> Result<(), Fail> {
     for (text, section) in &SECTIONS {
         let tree = parse(rt.alloc(), text)?;
-        holds(&rt, is_declared(*section, &tree), text);
+        holds(is_declared(*section, &tree), text)?;
     }
     Ok(())
 }
@@ -148,7 +147,7 @@ fn each_statement(rt: HostRuntime) -> Result<(), Fail> {
     for (text, form) in &STATEMENTS {
         let tree = parse(rt.alloc(), text)?;
         let is_so = matches!(tree.body.first(), Some(first) if is_read(*form, first));
-        holds(&rt, is_so, text);
+        holds(is_so, text)?;
     }
     Ok(())
 }
@@ -173,7 +172,7 @@ fn gives_out(statement: Option<&Stmt>, op: Op) -> bool {
 fn each_operator(rt: HostRuntime) -> Result<(), Fail> {
     for (text, op) in &OPERATORS {
         let tree = parse(rt.alloc(), text)?;
-        holds(&rt, gives_out(tree.body.first(), *op), text);
+        holds(gives_out(tree.body.first(), *op), text)?;
     }
     Ok(())
 }
@@ -199,11 +198,12 @@ static NO_PROGRAMS: [(&str, usize, usize); 17] = [
 ];
 
 #[test]
-fn where_no_program_goes_on(rt: HostRuntime) {
+fn where_no_program_goes_on(rt: HostRuntime) -> Result<(), Fail> {
     for (text, start, end) in &NO_PROGRAMS {
         let expected = Some(unexpected(*start, *end));
-        holds(&rt, fault(rt.alloc(), text) == expected, text);
+        holds(fault(rt.alloc(), text) == expected, text)?;
     }
+    Ok(())
 }
 
 #[test]
@@ -247,7 +247,7 @@ fn braces(rt: HostRuntime) -> Result<(), Fail> {
     let open = repeated(rt.alloc(), "processes 1; begin ", "while 1 { ", 64, "")?;
     let whole = repeated(rt.alloc(), open.as_str(), "}", 64, " end")?;
     let tree = parse(rt.alloc(), whole.as_str())?;
-    holds(&rt, tree.body.len() == 1, "sixty-four loops in one another");
+    holds(tree.body.len() == 1, "sixty-four loops in one another")?;
     Ok(())
 }
 
@@ -268,7 +268,7 @@ fn many_statements(rt: HostRuntime) -> Result<(), Fail> {
         "end",
     )?;
     let tree = parse(rt.alloc(), text.as_str())?;
-    holds(&rt, tree.body.len() == 70_000, "their number");
-    holds(&rt, ends_in_a_sum(tree.body.as_slice()), "the last one");
+    holds(tree.body.len() == 70_000, "their number")?;
+    holds(ends_in_a_sum(tree.body.as_slice()), "the last one")?;
     Ok(())
 }

@@ -1,7 +1,6 @@
-use crate::asserting::holds;
-use crate::texts::repeated;
 use std::process::Abort;
 use std::test::Fail;
+use testing::{holds, repeated};
 use tick_syntax::fault::TextFault;
 use tick_syntax::span::Span;
 use tick_syntax::token::{Sort, Token};
@@ -62,7 +61,7 @@ fn first_fault_is_told(rt: HostRuntime) {
 #[test]
 fn long_names_are_refused(rt: HostRuntime) -> Result<(), Fail> {
     let longest = "aaaaaaaaaaaaaaaaaaaaaaaaaaaaaaaaaaaaaaaaaaaaaaaaaaaaaaaaaaaaaaa_";
-    holds(&rt, longest.len() == 64, "the length of a longest name");
+    holds(longest.len() == 64, "the length of a longest name")?;
     has_as_many(&rt, longest, 1)?;
     let too_long = "1 aaaaaaaaaaaaaaaaaaaaaaaaaaaaaaaaaaaaaaaaaaaaaaaaaaaaaaaaaaaaaaaa_";
     let span = Span { start: 2, end: 67 };
@@ -85,7 +84,7 @@ static NO_TOKENS: [&str; 4] = ["", " \t\r\n", "# nothing", "\n# one\n# two\n"];
 fn a_text_without_tokens(rt: HostRuntime) -> Result<(), Fail> {
     for text in &NO_TOKENS {
         let found = tokens(rt.alloc(), text)?;
-        holds(&rt, found.len() == 0, text);
+        holds(found.len() == 0, text)?;
     }
     Ok(())
 }
