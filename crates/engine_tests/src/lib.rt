@@ -15,8 +15,6 @@ mod each_number;
 #[cfg(test)]
 mod edges;
 #[cfg(test)]
-mod faults;
-#[cfg(test)]
 mod in_memory;
 #[cfg(test)]
 mod kinds;

@@ -8,6 +8,7 @@ mod fault;
 mod gate;
 mod gathering;
 mod jobs;
+pub mod laws;
 mod registers;
 mod runner;
 mod worker;
