@@ -1,14 +1,18 @@
-// The ticket object in plain numbers: each process holds a ticket, a stamp takes one above the
-// greatest, and two processes are in the order of their tickets. It is the model that bounded
-// labels are measured against. It takes no memory and refuses nothing.
-//
-// Start with `Tickets::new`.
+//! The ticket object in plain numbers: each process holds a ticket or none, which is ticket 0; a
+//! stamp takes one above the greatest, a clear gives it up, and two processes are in the order of
+//! their tickets. It is the model that bounded labels are measured against. It takes no memory and
+//! refuses nothing.
+//!
+//! Start with `Tickets::new`.
 #![tactic(auto)]
 
 ghost use Rattle.std.specs.Prelude.{◌≡◌, ◌+◌, ◌-◌, ◌^◌, ◌<◌, ◌≤◌, ℕ, List, ◌++◌, length, take, drop, replicate};
-ghost use Rattle.ticket_core.specs.Tickets.{start_tickets, greatest_ticket, stamp_ticket, tickets_below, ticket_ranks, older_ticket};
+ghost use Rattle.ticket_core.specs.Tickets.{start_tickets, greatest_ticket, stamp_ticket, clear_ticket, tickets_below, ticket_ranks, older_ticket, holds_ticket};
+
+mod moves;
 
 pub use base::MOST_PROCESSES;
+pub use moves::Move;
 use std::marker::Model;
 
 /// One ticket for each of one to six processes, in order of process number.
@@ -66,8 +70,24 @@ impl Tickets {
         requires room { greatest_ticket self.old + 1 < 2 ^ 64 }
         ensures { self.new ≡ stamp_ticket p self.old }
     {
-        let next = greatest_of(self.held()) + 1;
+        let next = greatest_of(self.all()) + 1;
         self.tickets[p as usize] = next;
+    }
+
+    /// Process `p` gives its ticket up: it holds 0, as at the start.
+    pub fn clear(&mut self, p: u8)
+        requires { p < length self.old }
+        ensures { self.new ≡ clear_ticket p self.old }
+    {
+        self.tickets[p as usize] = 0;
+    }
+
+    /// Whether process `i` holds a ticket: one that is not 0.
+    pub fn held(&self, i: u8) -> bool
+        requires { i < length self.now }
+        ensures { result ≡ holds_ticket self.now i }
+    {
+        self.all()[i as usize] > 0
     }
 
     /// For each process, how many processes hold a smaller ticket; the entries past the last
@@ -75,7 +95,7 @@ impl Tickets {
     pub fn ranks(&self) -> [u8; MOST_PROCESSES]
         ensures { result ≡ ticket_ranks self.now ++ replicate (6 - length self.now) 0 }
     {
-        ranks_of(self.held())
+        ranks_of(self.all())
     }
 
     /// Whether the ticket of process `i` is smaller than that of process `j`.
@@ -84,13 +104,13 @@ impl Tickets {
         requires second_in_range { j < length self.now }
         ensures { result ≡ older_ticket self.now i j }
     {
-        let tickets = self.held();
+        let tickets = self.all();
         tickets[i as usize] < tickets[j as usize]
     }
 
-    // The tickets that count.
-    fn held(&self) -> &[u64]
-        ensures held { result.now ≡ self.now }
+    // The tickets of the processes that there are.
+    fn all(&self) -> &[u64]
+        ensures all { result.now ≡ self.now }
         ensures at_most_six { length result.now ≤ 6 }
     {
         &self.tickets[..self.count as usize]

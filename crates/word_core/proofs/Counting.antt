@@ -1,5 +1,5 @@
 -- Counts of what passes a test, and the item with the greatest number.
-use Rattle.std.proofs.Common.{◌≡◌, ℕ, suc, zero, ◌+◌, ◌<◌, ◌≤◌, Bool, true, false, cond, List, [], ◌∷◌, length, get_or, refl, arith, ⊎_elim}
+use Rattle.std.proofs.Common.{◌≡◌, ℕ, suc, zero, ◌+◌, ◌<◌, ◌≤◌, Bool, true, false, cond, List, [], ◌∷◌, length, get_or, map, refl, sym, ◌∙◌, arith, ⊎_elim}
 use Rattle.std.specs.Prelude.{count_by, Contains}
 use Rattle.std.specs.List.{AllByRecursion}
 use Rattle.std.proofs.lemmas.Bool.{cases_lt}
@@ -55,3 +55,27 @@ most_of f x (y ∷ ys) =
       over = (omega arith, each_weaker (λ z. f z ≤ f rest.item) (λ z. f z ≤ f x) (y ∷ ys) (λ z le. omega arith) rest.over);
     })
     (cases_lt (f x) (f rest.item))
+
+-- two lists of one length whose items pass two tests at the same places count the same
+pub count_same : {X Y : Type 0} (f : X → Bool) (g : Y → Bool) (xs : List X) (ys : List Y) (d : X) (e : Y) → length xs ≡ length ys
+    → ((k : ℕ) → k < length xs → f (get_or xs k d) ≡ g (get_or ys k e)) → count_by f xs ≡ count_by g ys
+count_same f g [] [] d e len same = refl
+count_same f g [] (y ∷ ys) d e len same = let bad : 0 ≡ suc (length ys) = len in absurd (omega arith)
+count_same f g (x ∷ xs) [] d e len same = let bad : suc (length xs) ≡ 0 = len in absurd (omega arith)
+count_same f g (x ∷ xs) (y ∷ ys) d e len same =
+    let len' : suc (length xs) ≡ suc (length ys) = len in
+    let here : f x ≡ g y = same 0 (omega arith) in
+    let rest : count_by f xs ≡ count_by g ys = count_same f g xs ys d e (omega arith) (λ k in_k. same (suc k) (omega arith)) in
+    sum_by-cons (λ z. cond (f z) 1 0) x xs ∙ rw (here, rest) (sym (sum_by-cons (λ z. cond (g z) 1 0) y ys))
+
+-- and give the same list where what is made of the items at the same places is the same
+pub map_same : {X Y : Type 0} (f : X → ℕ) (g : Y → ℕ) (xs : List X) (ys : List Y) (d : X) (e : Y) → length xs ≡ length ys
+    → ((k : ℕ) → k < length xs → f (get_or xs k d) ≡ g (get_or ys k e)) → map f xs ≡ map g ys
+map_same f g [] [] d e len same = refl
+map_same f g [] (y ∷ ys) d e len same = let bad : 0 ≡ suc (length ys) = len in absurd (omega arith)
+map_same f g (x ∷ xs) [] d e len same = let bad : suc (length xs) ≡ 0 = len in absurd (omega arith)
+map_same f g (x ∷ xs) (y ∷ ys) d e len same =
+    let len' : suc (length xs) ≡ suc (length ys) = len in
+    let here : f x ≡ g y = same 0 (omega arith) in
+    let rest : map f xs ≡ map g ys = map_same f g xs ys d e (omega arith) (λ k in_k. same (suc k) (omega arith)) in
+    cc

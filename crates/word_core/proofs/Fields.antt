@@ -1,101 +1,101 @@
--- What is read from the bytes of a word, and what one label more or other does to them.
-use Rattle.std.proofs.Common.{◌≡◌, ℕ, suc, zero, ◌+◌, ◌-◌, ◌*◌, ◌/◌, ◌%◌, ◌^◌, ◌<◌, ◌≤◌, List, [], ◌∷◌, length, take, true, Option, None, Some, replicate, set, ◌++◌, refl, sym, ap, ◌∙◌, subst, arith}
-use Rattle.std.specs.Prelude.{All, MatchOption, is_some, remove}
-use Rattle.std.proofs.Math.Nat.{pow-le-pow_right}
-use Rattle.std.proofs.lemmas.List.{take_at}
-use Rattle.std.proofs.lemmas.Nat.{pow-add, pow_pos, shr_split, mod_below, mul-le, div-mul-add}
-use Rattle.std.proofs.lemmas.List.Edits.{length-remove}
-use Rattle.std.proofs.lemmas.List.Elements.{All-nil, All-cons}
-use Rattle.label_core.specs.Labels.{IsNumbered, label_number, digits_in, zeros}
-use Rattle.label_core.proofs.Offered.{number_fits, some_numbers, zeros_numbered}
-use Rattle.word_core.specs.Packed.{word}
-use Rattle.word_core.specs.prover.Packing.{Counts, byte_in, bytes_in, labels_in, word_end, length-labels_in, label_at-labels_in, labels_in-word}
-use Rattle.word_core.specs.Stamps.{label_at}
-use Rattle.word_core.specs.Laws.{DistinctLaw}
+-- Numbers in fields of one width, side by side in one number.
+use Rattle.std.proofs.Common.{◌≡◌, ℕ, suc, zero, ◌+◌, ◌-◌, ◌*◌, ◌/◌, ◌%◌, ◌^◌, ◌<◌, ◌≤◌, Option, None, List, [], ◌∷◌, length, set, sym, ap, ◌∙◌, subst, arith}
+use Rattle.std.specs.Prelude.{All, bit_and}
+use Rattle.std.specs.Int.Bits.{and_zero_r}
+use Rattle.std.proofs.Math.Nat.{zero-div, mul_comm, mod-eq_of_lt, pow-le-pow_right}
+use Rattle.std.proofs.lemmas.Nat.{pow-add, pow_pos, shr-shr, shr_high, mod_low, mul-add-lt, div-add-mod', div_below, and_block, and_mask, mul-le}
+use Rattle.std.proofs.lemmas.List.Elements.{All-head, All-tail}
+use Rattle.word_core.specs.Stamps.{Labels, label_at, cleared}
+use Rattle.word_core.specs.Packed.{fields}
+use Rattle.word_core.specs.prover.Packing.{all_but}
 
--- the word whose bits are all 0
-pub labels_in-zero : (n digits : ℕ) → labels_in n digits 0 ≡ replicate n (zeros digits)
-labels_in-zero zero digits = refl
-labels_in-zero (suc n) digits =
-    ap (λ x. x ∷ labels_in n digits (0 / 256)) (zeros_numbered digits) ∙ ap (λ xs. zeros digits ∷ xs) (labels_in-zero n digits)
+field_up : (width i : ℕ) → width * suc i ≡ width + width * i
+field_up width i = omega arith
 
-pub bytes_zero : (n digits : ℕ) → All (Counts digits) (bytes_in n 0)
-bytes_zero zero digits = All-nil (Counts digits)
-bytes_zero (suc n) digits = All-cons (Counts digits) 0 (bytes_in n 0) (some_numbers digits) (bytes_zero n digits)
+place_split : (width i : ℕ) → 2 ^ (width * suc i) ≡ 2 ^ width * 2 ^ (width * i)
+place_split width i = ap (λ e. 2 ^ e) (field_up width i) ∙ pow-add 2 width (width * i)
 
--- bits of which none is set from a place on
-pub below_from_shift : (bits k : ℕ) → bits / 2 ^ k ≡ 0 → bits < 2 ^ k
-below_from_shift bits k none =
-    let split : bits / 2 ^ k * 2 ^ k + bits % 2 ^ k ≡ bits = shr_split bits k in
-    let rest : bits % 2 ^ k ≡ bits = let gone : 0 * 2 ^ k + bits % 2 ^ k ≡ bits = ap (λ q. q * 2 ^ k + bits % 2 ^ k) (sym none) ∙ split in omega (arith, gone) in
-    subst (λ b. b < 2 ^ k) rest (mod_below bits (2 ^ k) (pow_pos k))
+place_up : (width i : ℕ) → 2 ^ (width * suc i) ≡ 2 ^ (width * i) * 2 ^ width
+place_up width i = place_split width i ∙ mul_comm (2 ^ width) (2 ^ (width * i))
 
-pub count_read : (n count bits : ℕ) (labels : List (List ℕ)) → labels_in count (count - 1) bits ≡ labels → n ≡ length labels → n ≡ count
-count_read n count bits labels is counted = counted ∙ ap length (sym is) ∙ length-labels_in count (count - 1) bits
+-- numbers that fit their fields fit as many fields
+pub fields_lt : (width : ℕ) (number : Option (List ℕ) → ℕ) (labels : Labels) → All (λ label. number label < 2 ^ width) labels
+    → fields width number labels < 2 ^ (width * length labels)
+fields_lt width number [] fit = pow_pos (width * 0)
+fields_lt width number (label ∷ labels) fit =
+    let here : number label < 2 ^ width = All-head (λ label. number label < 2 ^ width) label labels fit in
+    let rest : fields width number labels < 2 ^ (width * length labels) = fields_lt width number labels (All-tail (λ label. number label < 2 ^ width) label labels fit) in
+    subst (λ end. fields width number (label ∷ labels) < end) (sym (place_split width (length labels)))
+    (mul-add-lt (fields width number labels) (2 ^ width) (number label) (2 ^ (width * length labels)) rest here)
 
--- the label of process `i`, read from its byte
-pub label_read : (n count bits i : ℕ) (labels : List (List ℕ)) → labels_in count (count - 1) bits ≡ labels → n ≡ length labels → i < length labels
-    → digits_in (n - 1) (byte_in bits i) ≡ label_at labels i
-label_read n count bits i labels is counted inside =
-    let same : n ≡ count = count_read n count bits labels is counted in
-    rw same (sym (label_at-labels_in count (count - 1) bits i (omega arith)) ∙ ap (λ ls. label_at ls i) is)
+above_first : (width bits i : ℕ) → bits / 2 ^ (width * suc i) ≡ bits / 2 ^ width / 2 ^ (width * i)
+above_first width bits i = ap (λ e. bits / 2 ^ e) (field_up width i) ∙ sym (shr-shr bits width (width * i))
 
--- the labels at the front of a row that has empty ones past them
-pub taken : (n : ℕ) (labels row : List (List ℕ)) → row ≡ labels ++ replicate (6 - length labels) [] → n ≡ length labels → take n row ≡ labels
-taken n labels row is count = ap (take n) is ∙ take_at labels (replicate (6 - length labels) []) n (sym count)
+at_first : (width bits : ℕ) → bits / 2 ^ (width * 0) ≡ bits
+at_first width bits = ap (λ e. bits / 2 ^ e) (let none : width * 0 ≡ 0 = omega arith in none) ∙ (let whole : bits / 1 ≡ bits = omega arith in whole)
 
--- the same of a row of all labels but one
-pub others_taken : (n p : ℕ) (labels row : List (List ℕ)) → row ≡ remove labels p ++ replicate (6 - length labels) [] → n ≡ length labels → p < length labels
-    → take (n - 1) row ≡ remove labels p
-others_taken n p labels row is count inside =
-    let fewer : length (remove labels p) ≡ n - 1 = omega (arith, count, length-remove labels p inside) in
-    ap (take (n - 1)) is ∙ take_at (remove labels p) (replicate (6 - length labels) []) (n - 1) fewer
+-- each number is read back from its field
+pub field_at : (width : ℕ) (number : Option (List ℕ) → ℕ) (labels : Labels) (i : ℕ) → number None ≡ 0 → All (λ label. number label < 2 ^ width) labels
+    → fields width number labels / 2 ^ (width * i) % 2 ^ width ≡ number (label_at labels i)
+field_at width number [] i none fit =
+    ap (λ q. q % 2 ^ width) (zero-div (2 ^ (width * i))) ∙ mod-eq_of_lt (pow_pos width) ∙ sym none
+field_at width number (label ∷ labels) zero none fit =
+    let here : number label < 2 ^ width = All-head (λ label. number label < 2 ^ width) label labels fit in
+    ap (λ q. q % 2 ^ width) (at_first width (fields width number (label ∷ labels))) ∙ mod_low (fields width number labels) width (number label) here
+field_at width number (label ∷ labels) (suc i) none fit =
+    let here : number label < 2 ^ width = All-head (λ label. number label < 2 ^ width) label labels fit in
+    ap (λ q. q % 2 ^ width) (above_first width (fields width number (label ∷ labels)) i
+    ∙ ap (λ q. q / 2 ^ (width * i)) (shr_high (fields width number labels) width (number label) here))
+    ∙ field_at width number labels i none (All-tail (λ label. number label < 2 ^ width) label labels fit)
 
--- a word has no bit past its last label
-pub shift_gone : (bits k : ℕ) → bits < 2 ^ k → bits / 2 ^ k ≡ 0
-shift_gone bits k small = let alone : bits ≡ 0 * 2 ^ k + bits = omega arith in ap (λ b. b / 2 ^ k) alone ∙ div-mul-add 0 (2 ^ k) bits small
+-- and what is read from the fields of a number are the fields of that number
+pub fields_back : (width : ℕ) (number : Option (List ℕ) → ℕ) (labels : Labels) (bits : ℕ) → bits < 2 ^ (width * length labels)
+    → ((i : ℕ) → i < length labels → bits / 2 ^ (width * i) % 2 ^ width ≡ number (label_at labels i)) → fields width number labels ≡ bits
+fields_back width number [] bits small reads =
+    let one : 2 ^ (width * 0) ≡ 1 = ap (λ e. 2 ^ e) (let none : width * 0 ≡ 0 = omega arith in none) in omega (arith, small, one)
+fields_back width number (label ∷ labels) bits small reads =
+    let here : bits % 2 ^ width ≡ number label = ap (λ q. q % 2 ^ width) (sym (at_first width bits)) ∙ reads 0 (omega arith) in
+    let above : bits / 2 ^ width < 2 ^ (width * length labels) =
+    div_below bits (2 ^ width) (2 ^ (width * length labels)) (pow_pos width) (subst (λ end. bits < end) (place_up width (length labels)) small) in
+    let rest : fields width number labels ≡ bits / 2 ^ width = fields_back width number labels (bits / 2 ^ width) above
+    (λ i inside. ap (λ q. q % 2 ^ width) (sym (above_first width bits i)) ∙ reads (suc i) (omega arith)) in
+    ap (λ r. fields width number labels * 2 ^ width + r) (sym here) ∙ ap (λ q. q * 2 ^ width + bits % 2 ^ width) rest ∙ div-add-mod' bits (2 ^ width)
 
-place_up : (p : ℕ) → 2 ^ (8 * suc p) ≡ 2 ^ (8 * p) * 256
-place_up p = let more : 8 * suc p ≡ 8 * p + 8 = omega arith in ap (λ e. 2 ^ e) more ∙ pow-add 2 (8 * p) 8
+-- one number takes the place of another
+pub fields_set : (width : ℕ) (number : Option (List ℕ) → ℕ) (p : ℕ) (labels : Labels) (label : Option (List ℕ)) → p < length labels
+    → fields width number (set labels p label) + number (label_at labels p) * 2 ^ (width * p) ≡ fields width number labels + number label * 2 ^ (width * p)
+fields_set width number p [] label inside = absurd (omega (arith, inside))
+fields_set width number zero (first ∷ labels) label inside =
+    let one : 2 ^ (width * 0) ≡ 1 = ap (λ e. 2 ^ e) (let none : width * 0 ≡ 0 = omega arith in none) in
+    omega (arith, ap (λ w. number first * w) one, ap (λ w. number label * w) one)
+fields_set width number (suc p) (first ∷ labels) label inside =
+    let rest = fields_set width number p labels label (omega (arith, inside)) in
+    let up = place_up width p in
+    omega (arith, rest, ap (λ w. number (label_at labels p) * w) up, ap (λ w. number label * w) up, ap (λ r. r * 2 ^ width) rest)
 
--- One label of a word takes the place of another in its byte.
-pub word_set : (p : ℕ) (labels : List (List ℕ)) (label : List ℕ) → p < length labels
-    → word (set labels p label) + label_number (label_at labels p) * 2 ^ (8 * p) ≡ word labels + label_number label * 2 ^ (8 * p)
-word_set p [] label inside = absurd (omega (arith, inside))
-word_set zero (first ∷ labels) label inside = omega arith
-word_set (suc p) (first ∷ labels) label inside =
-    let rest = word_set p labels label (omega (arith, inside)) in
-    let up = place_up p in
-    omega (arith, rest, ap (λ w. label_number (label_at labels p) * w) up, ap (λ w. label_number label * w) up)
-
--- two lists of labels of up to six processes with one word are both what is read from it
-pub distinct_law : DistinctLaw
-distinct_law n few a b is_a is_b same =
-    let digits : n - 1 ≤ 5 = omega (arith, few) in
-    sym (labels_in-word n (n - 1) a digits is_a.count is_a.each) ∙ ap (labels_in n (n - 1)) same ∙ labels_in-word n (n - 1) b digits is_b.count is_b.each
-
--- the number that is taken out of a word and the one that is put in
-pub record ByteFits (bits p number : ℕ) : Type 0 where
-  pub old : byte_in bits p * 2 ^ (8 * p) ≤ bits
-  pub new : number * 2 ^ (8 * p) < 2 ^ 48
-
-pub byte_fits : (bits p number : ℕ) → p < 6 → number < 256 → ByteFits bits p number
-byte_fits bits p number few small =
-    let up : ℕ = 2 ^ (8 * p) in
-    let most : up ≤ 2 ^ 40 = pow-le-pow_right (omega arith) {i = 8 * p} {j = 40} (omega (arith, few)) in
-    record {
-      old = omega (arith, mul-le (byte_in bits p) up (bits / up) up (omega arith) (omega arith), shr_split bits (8 * p));
-      new = omega (arith, mul-le number up 255 (2 ^ 40) (omega (arith, small)) most);
-    }
-
--- the words of at most six processes have 48 bits
-pub word_fits : (n bits : ℕ) → n ≤ 6 → bits < word_end n → bits < 2 ^ 48
-word_fits n bits few small =
-    let most : 2 ^ (8 * n) ≤ 2 ^ 48 = pow-le-pow_right (omega arith) {i = 8 * n} {j = 48} (omega (arith, few)) in
+-- more fields have room for no less
+pub wider : (width few many bits : ℕ) → few ≤ many → bits < 2 ^ (width * few) → bits < 2 ^ (width * many)
+wider width few many bits le small =
+    let more : width * few ≤ width * many = mul-le width few width many (omega arith) le in
+    let most : 2 ^ (width * few) ≤ 2 ^ (width * many) = pow-le-pow_right (omega arith) {i = width * few} {j = width * many} more in
     omega (arith, small, most)
 
--- a number that makes a label
-pub counts_from_some : (digits read : ℕ) (label : Option (List ℕ)) → MatchOption label (3 ^ digits ≤ read) (IsNumbered digits read) → is_some label ≡ true
-    → Counts digits read
-counts_from_some digits read None made some = cc
-counts_from_some digits read (Some label) made some = subst (Counts digits) made.reads (number_fits digits label made.is)
+-- ones in all fields but that of `p` leave all numbers but its own
+pub fields_but : (width : ℕ) (number : Option (List ℕ) → ℕ) (count p : ℕ) (labels : Labels) → number None ≡ 0 → length labels ≤ count → p < length labels
+    → All (λ label. number label < 2 ^ width) labels → bit_and (fields width number labels) (all_but width count p) ≡ fields width number (cleared p labels)
+fields_but width number count p [] none few inside fit = absurd (omega (arith, inside))
+fields_but width number zero p (label ∷ labels) none few inside fit = absurd (omega (arith, few))
+fields_but width number (suc count) zero (label ∷ labels) none few inside fit =
+    let here : number label < 2 ^ width = All-head (λ label. number label < 2 ^ width) label labels fit in
+    let rest : fields width number labels < 2 ^ (width * length labels) = fields_lt width number labels (All-tail (λ label. number label < 2 ^ width) label labels fit) in
+    let most : fields width number labels < 2 ^ (width * count) = wider width (length labels) count (fields width number labels) (omega (arith, few)) rest in
+    and_block width (fields width number labels) (2 ^ (width * count) - 1) (number label) 0 here (pow_pos width)
+    ∙ ap (λ q. q * 2 ^ width + bit_and (number label) 0) (and_mask (fields width number labels) (width * count) ∙ mod-eq_of_lt most)
+    ∙ ap (λ r. fields width number labels * 2 ^ width + r) (and_zero_r (number label) ∙ sym none)
+fields_but width number (suc count) (suc p) (label ∷ labels) none few inside fit =
+    let here : number label < 2 ^ width = All-head (λ label. number label < 2 ^ width) label labels fit in
+    let ones : 2 ^ width - 1 < 2 ^ width = omega (arith, pow_pos width) in
+    and_block width (fields width number labels) (all_but width count p) (number label) (2 ^ width - 1) here ones
+    ∙ ap (λ q. q * 2 ^ width + bit_and (number label) (2 ^ width - 1))
+    (fields_but width number count p labels none (omega (arith, few)) (omega (arith, inside)) (All-tail (λ label. number label < 2 ^ width) label labels fit))
+    ∙ ap (λ r. fields width number (cleared p labels) * 2 ^ width + r) (and_mask (number label) width ∙ mod-eq_of_lt here)

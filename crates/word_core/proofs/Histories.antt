@@ -9,7 +9,7 @@ use Rattle.word_core.specs.History.{Memory, start_memory, register_set, after, a
 use Rattle.word_core.specs.HistoryLaws.{HistoryStandsLaw, WordStandsLaw, BeginningLaw, NextStepLaw, OneStepLaw, RowsLaw}
 use Rattle.word_core.specs.declared.history.Shared.{Shared}
 use Rattle.word_core.specs.declared.history.SharedAct.{SharedAct}
-use Rattle.word_core.specs.declared.history.SharedAct.TheVariants.{Load, Won, Lost, Read, Write}
+use Rattle.word_core.specs.declared.history.SharedAct.TheVariants.{Load, Won, Lost, Read, Write, Clear}
 use Rattle.word_core.proofs.Offered.{agreement_law, distinct_law}
 
 pub memory_after-snoc : (m : Memory) (steps : List Shared) (s : Shared) → memory_after m (steps ++ s ∷ []) ≡ after (memory_after m steps) s
@@ -43,6 +43,7 @@ acted_agrees n p (Won old new) tickets m h = agreement_law.stamped n p tickets m
 acted_agrees n p (Lost old found) tickets m h = h
 acted_agrees n p (Read r i v) tickets m h = h
 acted_agrees n p (Write r v) tickets m h = h
+acted_agrees n p (Clear old) tickets m h = agreement_law.cleared n p tickets m.labels h
 
 agrees_from : (n : ℕ) (steps : List Shared) (tickets : List ℕ) (m : Memory) → Agrees n tickets m.labels
     → Agrees n (tickets_from tickets steps) (memory_after m steps).labels
@@ -106,6 +107,7 @@ acted_rows n count m p (Won old new) are may = are
 acted_rows n count m p (Lost old found) are may = are
 acted_rows n count m p (Read r i v) are may = are
 acted_rows n count m p (Write r v) are may = set_rows n count m.rows r p v are may.1.0 may.1.1
+acted_rows n count m p (Clear old) are may = are
 
 rows_from : (n count : ℕ) (steps : List Shared) (m : Memory) → AreRows n count m.rows → IsLegalFrom n count m steps → AreRows n count (memory_after m steps).rows
 rows_from n count [] m are legal = are

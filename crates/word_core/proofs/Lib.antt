@@ -1,13 +1,13 @@
-pub mod Alone
+pub mod Choosing
 pub mod Counting
 pub mod Examples
 pub mod Fields
+pub mod Gathering
 pub mod Histories
 pub mod HistoryExamples
 pub mod Offered
 pub mod OfferedHistory
-pub mod Orders
 pub mod Ranks
-pub mod Removing
+pub mod Setting
 pub mod Stamping
 pub mod Views

@@ -1,5 +1,6 @@
 -- The lemmas on histories that other crates may cite.
 use Rattle.std.proofs.Common.{◌≡◌, ◌≤◌, ℕ, List}
+use Rattle.word_core.specs.Stamps.{Labels}
 use Rattle.word_core.specs.Packed.{AreLabels, word}
 use Rattle.word_core.specs.Order.{IsOrdered}
 use Rattle.word_core.specs.History.{memory_of}
@@ -35,5 +36,5 @@ pub history_ordered : (n rows : ℕ) (history : List Shared) → IsOrdered (memo
 history_ordered n rows history = (histories.history_stands n rows history).ordered
 
 -- labels of one number of processes, at most six, with one word are the same
-pub labels_of_word : (n : ℕ) → n ≤ 6 → (a b : List (List ℕ)) → AreLabels n a → AreLabels n b → word a ≡ word b → a ≡ b
+pub labels_of_word : (n : ℕ) → n ≤ 6 → (a b : Labels) → AreLabels n a → AreLabels n b → word a ≡ word b → a ≡ b
 labels_of_word = distinct_law

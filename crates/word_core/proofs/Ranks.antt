@@ -1,135 +1,141 @@
--- Where labels are in an order, how many each dominates are numbers of that order, and one of any
--- of them is greatest.
-use Rattle.std.proofs.Common.{◌≡◌, ℕ, ◌-◌, ◌<◌, ◌≤◌, ◌++◌, replicate, true, false, ltb, List, [], ◌∷◌, length, get_or, refl, sym, ap, ◌∙◌, subst, arith, ⊎_elim}
-use Rattle.std.specs.Prelude.{All, remove, slice_index}
+-- Where labels are in an order, how many each is above are numbers of that order too.
+use Rattle.std.proofs.Common.{◌≡◌, ℕ, ◌+◌, ◌-◌, ◌<◌, ◌≤◌, ◌++◌, replicate, true, false, ltb, Option, None, Some, List, length, refl, sym, ap, ◌∙◌, arith, ⊎_elim}
+use Rattle.std.specs.Prelude.{is_some, slice_index}
 use Rattle.std.specs.List.{AllByRecursion}
 use Rattle.std.proofs.lemmas.Bool.{cases_lt, ltb-true, lt-ltb, le-ltb}
 use Rattle.std.proofs.lemmas.List.{length-map, get_or-map, get_or_append_left}
-use Rattle.std.proofs.lemmas.List.Edits.{length-remove}
-use Rattle.std.proofs.lemmas.List.Elements.{All-from_get_or, All-get_or, All-contains, All-from_recursion, recursion_from_All}
-use Rattle.label_core.specs.Labels.{IsLabel, dominates, CanChoose, dominated, label_ranks}
-use Rattle.label_core.proofs.Offered.{dominates_self, equal_from_neither, greatest_from_undominated}
-use Rattle.word_core.specs.Stamps.{label_at}
-use Rattle.word_core.specs.Packed.{AreLabels}
-use Rattle.word_core.specs.Order.{OrderedBy, IsOrdered}
-use Rattle.word_core.proofs.Counting.{count_le, count_lt, Most, most_of}
-use Rattle.word_core.proofs.Removing.{All-remove}
+use Rattle.std.proofs.lemmas.List.Elements.{All-from_get_or, recursion_from_All}
+use Rattle.word_core.specs.Stamps.{Labels, label_at, is_present}
+use Rattle.word_core.specs.Order.{OrderedBy, IsOrdered, above, labels_below}
+use Rattle.word_core.specs.prover.Numbers.{number_among, numbers_of, PairAgrees}
+use Rattle.word_core.proofs.Counting.{count_le, count_lt}
+use Rattle.word_core.proofs.Setting.{above_self}
 
--- the label of a higher number dominates what that of a lower one does
-passes_on : (labels : List (List ℕ)) (numbers : List ℕ) → OrderedBy labels numbers → (i j : ℕ) → i < length labels → j < length labels
+-- who has a higher number is above all that one with a lower number is above
+passes_on : (labels : Labels) (numbers : List ℕ) → OrderedBy labels numbers → (i j : ℕ) → i < length labels → j < length labels
     → slice_index numbers j ≤ slice_index numbers i
-    → AllByRecursion (λ other. dominates (label_at labels j) other ≡ true → dominates (label_at labels i) other ≡ true) labels
+    → AllByRecursion (λ other. above (label_at labels j) other ≡ true → above (label_at labels i) other ≡ true) labels
 passes_on labels numbers by i j in_i in_j le =
-    let P : List ℕ → Type 0 = λ other. dominates (label_at labels j) other ≡ true → dominates (label_at labels i) other ≡ true in
-    recursion_from_All P labels (All-from_get_or P labels [] (λ k in_k over.
+    let P : Option (List ℕ) → Type 0 = λ other. above (label_at labels j) other ≡ true → above (label_at labels i) other ≡ true in
+    recursion_from_All P labels (All-from_get_or P labels None (λ k in_k over.
     let below : slice_index numbers k < slice_index numbers j = ltb-true _ _ (sym (by.over j k in_j in_k) ∙ over) in
     by.over i k in_i in_k ∙ lt-ltb _ _ (omega arith)))
 
-ranks_le : (labels : List (List ℕ)) (numbers : List ℕ) → OrderedBy labels numbers → (i j : ℕ) → i < length labels → j < length labels
-    → slice_index numbers j ≤ slice_index numbers i → dominated labels (label_at labels j) ≤ dominated labels (label_at labels i)
+ranks_le : (labels : Labels) (numbers : List ℕ) → OrderedBy labels numbers → (i j : ℕ) → i < length labels → j < length labels
+    → slice_index numbers j ≤ slice_index numbers i → labels_below labels (label_at labels j) ≤ labels_below labels (label_at labels i)
 ranks_le labels numbers by i j in_i in_j le =
-    count_le (dominates (label_at labels j)) (dominates (label_at labels i)) labels (passes_on labels numbers by i j in_i in_j le)
+    count_le (above (label_at labels j)) (above (label_at labels i)) labels (passes_on labels numbers by i j in_i in_j le)
 
-ranks_lt : (labels : List (List ℕ)) (numbers : List ℕ) → OrderedBy labels numbers → (i j : ℕ) → i < length labels → j < length labels
-    → slice_index numbers j < slice_index numbers i → dominated labels (label_at labels j) < dominated labels (label_at labels i)
+ranks_lt : (labels : Labels) (numbers : List ℕ) → OrderedBy labels numbers → (i j : ℕ) → i < length labels → j < length labels
+    → slice_index numbers j < slice_index numbers i → labels_below labels (label_at labels j) < labels_below labels (label_at labels i)
 ranks_lt labels numbers by i j in_i in_j lt =
-    count_lt (dominates (label_at labels j)) (dominates (label_at labels i)) labels j []
+    count_lt (above (label_at labels j)) (above (label_at labels i)) labels j None
     (passes_on labels numbers by i j in_i in_j (omega arith)) in_j
-    (dominates_self (label_at labels j)) (by.over i j in_i in_j ∙ lt-ltb _ _ lt)
+    (above_self (label_at labels j)) (by.over i j in_i in_j ∙ lt-ltb _ _ lt)
 
--- of two ordered labels the one that dominates more is the one that dominates the other
-pub dominates_by_rank : (labels : List (List ℕ)) (numbers : List ℕ) → OrderedBy labels numbers → (i j : ℕ) → i < length labels → j < length labels
-    → dominates (label_at labels i) (label_at labels j) ≡ ltb (dominated labels (label_at labels j)) (dominated labels (label_at labels i))
-dominates_by_rank labels numbers by i j in_i in_j =
-    by.over i j in_i in_j ∙
-    ⊎_elim
-    (λ lt. lt-ltb _ _ lt ∙ sym (lt-ltb _ _ (ranks_lt labels numbers by i j in_i in_j lt)))
-    (λ le. le-ltb _ _ le ∙ sym (le-ltb _ _ (ranks_le labels numbers by j i in_j in_i le)))
-    (cases_lt (slice_index numbers j) (slice_index numbers i))
+-- the number of a process is 0 exactly where it is absent
+number_present : (labels : Labels) (label : Option (List ℕ)) → is_present label ≡ ltb 0 (number_among labels label)
+number_present labels None = sym (le-ltb 0 0 (omega arith))
+number_present labels (Some label) = sym (lt-ltb 0 (1 + labels_below labels (Some label)) (omega arith))
 
-pub rank_at : (labels : List (List ℕ)) (i : ℕ) → i < length labels → slice_index (label_ranks labels) i ≡ dominated labels (label_at labels i)
-rank_at labels i inside = get_or-map (dominated labels) labels i [] 0 inside
+number_some : (labels : Labels) (label : Option (List ℕ)) → is_present label ≡ true → number_among labels label ≡ 1 + labels_below labels label
+number_some labels None here = cc
+number_some labels (Some label) here = refl
 
--- labels that dominate each other as their ranks say are ordered by their ranks
-pub ordered_by_ranks : (n : ℕ) (labels : List (List ℕ)) → All (IsLabel n) labels
-    → ((i j : ℕ) → i < length labels → j < length labels
-    → dominates (label_at labels i) (label_at labels j) ≡ ltb (slice_index (label_ranks labels) j) (slice_index (label_ranks labels) i))
-    → OrderedBy labels (label_ranks labels)
-ordered_by_ranks n labels are each = record {
-  count = length-map _ _;
-  over = each;
-  equal = λ i j in_i in_j. (
-    (λ same. rank_at labels i in_i ∙ ap (dominated labels) same ∙ sym (rank_at labels j in_j)),
-    (λ same. equal_from_neither n (label_at labels i) (label_at labels j)
-        (All-get_or (IsLabel n) labels i [] in_i are) (All-get_or (IsLabel n) labels j [] in_j are)
-        (each i j in_i in_j ∙ le-ltb _ _ (omega arith)) (each j i in_j in_i ∙ le-ltb _ _ (omega arith))),
-  );
-}
+number_none : (labels : Labels) (label : Option (List ℕ)) → is_present label ≡ false → number_among labels label ≡ 0
+number_none labels None gone = refl
+number_none labels (Some label) gone = cc
 
-most_in : {X : Type 0} (f : X → ℕ) (xs : List X) → 0 < length xs → Most f xs
-most_in f [] some = absurd (omega arith)
-most_in f (x ∷ xs) some = most_of f x xs
+-- as the code tells it
+pub number_counted : (labels : Labels) (label : Option (List ℕ)) → is_some label ≡ true → number_among labels label ≡ 1 + labels_below labels label
+number_counted labels None here = cc
+number_counted labels (Some label) here = refl
 
--- the label of some process
-record Held (labels : List (List ℕ)) (label : List ℕ) : Type 0 where
-  process : ℕ
-  inside : process < length labels
-  is : label_at labels process ≡ label
+pub number_absent : (labels : Labels) (label : Option (List ℕ)) → is_some label ≡ false → number_among labels label ≡ 0
+number_absent labels None gone = refl
+number_absent labels (Some label) gone = cc
 
--- one that dominates as many is not dominated by the other
-undominated : (labels : List (List ℕ)) (numbers : List ℕ) → OrderedBy labels numbers → (a b : List ℕ) → Held labels a → Held labels b
-    → dominated labels b ≤ dominated labels a → dominates b a ≡ false
-undominated labels numbers by a b at_a at_b le =
-    subst (λ x. dominates x a ≡ ltb (dominated labels a) (dominated labels x)) at_b.is
-    (subst (λ y. dominates (label_at labels at_b.process) y ≡ ltb (dominated labels y) (dominated labels (label_at labels at_b.process))) at_a.is
-    (dominates_by_rank labels numbers by at_b.process at_a.process at_b.inside at_a.inside))
-    ∙ le-ltb _ _ le
+pub number_at : (labels : Labels) (i : ℕ) → i < length labels → slice_index (numbers_of labels) i ≡ number_among labels (label_at labels i)
+number_at labels i inside = get_or-map (number_among labels) labels i None 0 inside
 
--- beside ordered labels of the others a process can choose its next
-pub can_choose : (n : ℕ) (labels : List (List ℕ)) (p : ℕ) → AreLabels n labels → IsOrdered labels → p < n → CanChoose n (remove labels p)
-can_choose n labels p are ordered in_p =
-    let numbers : List ℕ = ordered.0 in
-    let by : OrderedBy labels numbers = ordered.1 in
-    let others : List (List ℕ) = remove labels p in
-    let inside : p < length labels = omega (arith, are.count) in
-    let held : All (Held labels) others = All-remove (Held labels) labels p [] inside
-    (λ j in_j other. record { process = j; inside = in_j; is = refl }) in
-    let are_others : All (IsLabel (n - 1)) others = All-remove (IsLabel (n - 1)) labels p [] inside
-    (λ j in_j other. All-get_or (IsLabel (n - 1)) labels j [] in_j are.each) in
+-- these numbers grow as any others by which the labels are ordered
+record Grows (labels : Labels) (numbers : List ℕ) (i j : ℕ) : Type 0 where
+  lt : slice_index numbers j < slice_index numbers i → number_among labels (label_at labels j) < number_among labels (label_at labels i)
+  le : slice_index numbers j ≤ slice_index numbers i → number_among labels (label_at labels j) ≤ number_among labels (label_at labels i)
+
+grows : (labels : Labels) (numbers : List ℕ) → OrderedBy labels numbers → (i j : ℕ) → i < length labels → j < length labels → Grows labels numbers i j
+grows labels numbers by i j in_i in_j =
+    let none : slice_index numbers j ≡ 0 → number_among labels (label_at labels j) ≡ 0 = λ zero.
+    number_none labels (label_at labels j) (by.present j in_j ∙ le-ltb _ _ (omega arith)) in
+    let some : (k : ℕ) → k < length labels → 0 < slice_index numbers k → number_among labels (label_at labels k) ≡ 1 + labels_below labels (label_at labels k) = λ k in_k more.
+    number_some labels (label_at labels k) (by.present k in_k ∙ lt-ltb _ _ more) in
     record {
-      few = omega (arith, are.count, length-remove labels p inside);
-      labels = are_others;
-      top = λ some.
-          let most : Most (dominated labels) others = most_in (dominated labels) others some in
-          let at_most : Held labels most.item = All-contains (Held labels) others most.item held most.member in
-          let over : All (λ other. dominated labels other ≤ dominated labels most.item) others =
-          All-from_recursion (λ other. dominated labels other ≤ dominated labels most.item) others most.over in
-          greatest_from_undominated (n - 1) others most.item are_others most.member
-          (All-from_get_or (λ other. dominates other most.item ≡ false) others [] (λ k in_k.
-          undominated labels numbers by most.item (get_or others k []) at_most
-          (All-get_or (Held labels) others k [] in_k held)
-          (All-get_or (λ other. dominated labels other ≤ dominated labels most.item) others k [] in_k over)));
+      lt = λ lt. ⊎_elim
+          (λ more. omega (arith, ranks_lt labels numbers by i j in_i in_j lt, some i in_i (omega arith), some j in_j more))
+          (λ zero. omega (arith, none (omega arith), some i in_i (omega arith)))
+          (cases_lt 0 (slice_index numbers j));
+      le = λ le. ⊎_elim
+          (λ more. omega (arith, ranks_le labels numbers by i j in_i in_j le, some i in_i (omega arith), some j in_j more))
+          (λ zero. omega (arith, none (omega arith)))
+          (cases_lt 0 (slice_index numbers j));
     }
 
--- a rank in a row of ranks that has 0 past the last
-pub rank_in : (labels : List (List ℕ)) (row : List ℕ) (i : ℕ) → row ≡ label_ranks labels ++ replicate (6 - length labels) 0 → i < length labels
-    → slice_index row i ≡ slice_index (label_ranks labels) i
-rank_in labels row i is inside =
-    ap (λ r. slice_index r i) is ∙ get_or_append_left (label_ranks labels) (replicate (6 - length labels) 0) 0 i (omega (arith, length-map labels (dominated labels)))
+-- so they order the labels where any do
+pub ordered_pairs : (labels : Labels) → IsOrdered labels → (i j : ℕ) → i < length labels → j < length labels → PairAgrees labels (numbers_of labels) i j
+ordered_pairs labels ordered i j in_i in_j =
+    let numbers : List ℕ = ordered.0 in
+    let by : OrderedBy labels numbers = ordered.1 in
+    let n_i = number_at labels i in_i in
+    let n_j = number_at labels j in_j in
+    let up : Grows labels numbers i j = grows labels numbers by i j in_i in_j in
+    let down : Grows labels numbers j i = grows labels numbers by j i in_j in_i in
+    record {
+      over = by.over i j in_i in_j ∙ ⊎_elim
+          (λ lt. lt-ltb _ _ lt ∙ sym (lt-ltb _ _ (omega (arith, n_i, n_j, up.lt lt))))
+          (λ le. le-ltb _ _ le ∙ sym (le-ltb _ _ (omega (arith, n_i, n_j, down.le le))))
+          (cases_lt (slice_index numbers j) (slice_index numbers i));
+      apart = λ other same. ⊎_elim
+          (λ lt. absurd (omega (arith, n_i, n_j, same, up.lt lt)))
+          (λ le. ⊎_elim
+          (λ lt. absurd (omega (arith, n_i, n_j, same, down.lt lt)))
+          (λ ge.
+          let equal : slice_index numbers i ≡ slice_index numbers j = omega arith in
+          let zero : slice_index numbers i ≡ 0 = by.apart i j in_i in_j other equal in
+          n_i ∙ number_none labels (label_at labels i) (by.present i in_i ∙ le-ltb _ _ (omega arith)))
+          (cases_lt (slice_index numbers i) (slice_index numbers j)))
+          (cases_lt (slice_index numbers j) (slice_index numbers i));
+    }
 
--- labels are ordered where all of them dominate just those that have a smaller rank
-pub ordered_from_row : (m : ℕ) (labels : List (List ℕ)) (row : List ℕ) → All (IsLabel m) labels → row ≡ label_ranks labels ++ replicate (6 - length labels) 0
-    → ((i j : ℕ) → i < length labels → j < length labels → dominates (label_at labels i) (label_at labels j) ≡ ltb (slice_index row j) (slice_index row i))
-    → IsOrdered labels
-ordered_from_row m labels row are is each = (
-  label_ranks labels,
-  ordered_by_ranks m labels are (λ i j in_i in_j.
-      each i j in_i in_j ∙ rw (rank_in labels row i is in_i, rank_in labels row j is in_j) refl),
+pub pairs_ordered : (labels : Labels) → ((i j : ℕ) → i < length labels → j < length labels → PairAgrees labels (numbers_of labels) i j) → IsOrdered labels
+pairs_ordered labels pairs = (
+  numbers_of labels,
+  record {
+    count = length-map labels (number_among labels);
+    present = λ i in_i. number_present labels (label_at labels i) ∙ ap (ltb 0) (sym (number_at labels i in_i));
+    apart = λ i j in_i in_j other same. (pairs i j in_i in_j).apart other same;
+    over = λ i j in_i in_j. (pairs i j in_i in_j).over;
+  },
 )
 
--- and only there
-pub row_from_ordered : (labels : List (List ℕ)) (row : List ℕ) → row ≡ label_ranks labels ++ replicate (6 - length labels) 0 → IsOrdered labels
-    → (i j : ℕ) → i < length labels → j < length labels → dominates (label_at labels i) (label_at labels j) ≡ ltb (slice_index row j) (slice_index row i)
-row_from_ordered labels row is ordered i j in_i in_j =
-    dominates_by_rank labels ordered.0 ordered.1 i j in_i in_j
-    ∙ rw (rank_in labels row i is in_i, rank_in labels row j is in_j, rank_at labels i in_i, rank_at labels j in_j) refl
+-- what holds of the numbers holds of a row of them
+number_in : (labels : Labels) (row : List ℕ) (i : ℕ) → row ≡ numbers_of labels ++ replicate (6 - length labels) 0 → i < length labels
+    → slice_index row i ≡ slice_index (numbers_of labels) i
+number_in labels row i is inside =
+    ap (λ r. slice_index r i) is ∙ get_or_append_left (numbers_of labels) (replicate (6 - length labels) 0) 0 i (omega (arith, inside, length-map labels (number_among labels)))
+
+same_pairs : (labels : Labels) (a b : List ℕ) (i j : ℕ) → slice_index a i ≡ slice_index b i → slice_index a j ≡ slice_index b j
+    → PairAgrees labels a i j → PairAgrees labels b i j
+same_pairs labels a b i j at_i at_j pair = record {
+  over = pair.over ∙ ap (λ n. ltb n (slice_index a i)) at_j ∙ ap (ltb (slice_index b j)) at_i;
+  apart = λ other same. sym at_i ∙ pair.apart other (at_i ∙ same ∙ sym at_j);
+}
+
+pub row_pairs : (labels : Labels) (row : List ℕ) → row ≡ numbers_of labels ++ replicate (6 - length labels) 0 → IsOrdered labels
+    → (i j : ℕ) → i < length labels → j < length labels → PairAgrees labels row i j
+row_pairs labels row is ordered i j in_i in_j =
+    same_pairs labels (numbers_of labels) row i j (sym (number_in labels row i is in_i)) (sym (number_in labels row j is in_j)) (ordered_pairs labels ordered i j in_i in_j)
+
+pub pairs_from_row : (labels : Labels) (row : List ℕ) → row ≡ numbers_of labels ++ replicate (6 - length labels) 0
+    → ((i j : ℕ) → i < length labels → j < length labels → PairAgrees labels row i j) → IsOrdered labels
+pairs_from_row labels row is pairs = pairs_ordered labels (λ i j in_i in_j.
+    same_pairs labels row (numbers_of labels) i j (number_in labels row i is in_i) (number_in labels row j is in_j) (pairs i j in_i in_j))

@@ -1,5 +1,6 @@
 -- What every legal history keeps.
 use Rattle.std.specs.Prelude.{◌≡◌, ◌≤◌, ◌↔◌, ℕ, List, [], ◌∷◌, ◌++◌}
+use Rattle.word_core.specs.Stamps.{Labels}
 use Rattle.word_core.specs.Packed.{AreLabels, word}
 use Rattle.word_core.specs.Agreement.{StandsFor}
 use Rattle.word_core.specs.History.{memory_of, after, AreRows, MayFollow, IsLegal, ticketed, tickets_of}
@@ -13,7 +14,7 @@ HistoryStandsLaw = (n rows : ℕ) (history : List Shared)
 -- labels of at most six processes that are read off the word of a history stand for its tickets,
 -- however often that word has come back
 abbrev pub WordStandsLaw : Type 0
-WordStandsLaw = (n rows : ℕ) → n ≤ 6 → (history : List Shared) (labels : List (List ℕ)) → AreLabels n labels
+WordStandsLaw = (n rows : ℕ) → n ≤ 6 → (history : List Shared) (labels : Labels) → AreLabels n labels
     → word labels ≡ word (memory_of n rows history).labels → StandsFor n (tickets_of n history) labels
 
 -- a beginning of a legal history is legal

@@ -20,4 +20,6 @@ pub enum SharedAct {
     Read(u8, u8, u32),
     /// The process wrote its register of this row: the row and the value.
     Write(u8, u32),
+    /// The process gave its label up: the word found.
+    Clear(u64),
 }

@@ -1,18 +1,19 @@
-//! What holds of all labels and all stamps.
+//! What holds of all labels, all stamps and all clears.
 
 ghost use Rattle.word_core.specs.HistoryLaws.{HistoryStandsLaw, WordStandsLaw, BeginningLaw, NextStepLaw, OneStepLaw, RowsLaw};
-ghost use Rattle.word_core.specs.Laws.{AgreementLaw, StampsLaw, DistinctLaw};
+ghost use Rattle.word_core.specs.Laws.{AgreementLaw, MovesLaw, DistinctLaw};
 
-/// Labels that agree with whole-number tickets are ordered as these: their ranks and which is older
-/// are the tickets', and two labels are equal exactly where the tickets are, which are then 0. The
-/// start agrees, and each stamp of any process keeps it, for every number of processes.
+/// Labels that agree with whole-number tickets are ordered by these: their ranks, which is older and
+/// who holds one are the tickets', and no two processes that are present have one label. The start
+/// agrees, and each stamp and each clear of any process keeps it, for every number of processes.
 pub fn law_agreement()
     ensures { AgreementLaw }
 {}
 
-/// After any stamps of any number of processes the labels stand for the whole-number tickets.
-pub fn law_stamps()
-    ensures { StampsLaw }
+/// After any stamps and clears of any number of processes the labels stand for the whole-number
+/// tickets.
+pub fn law_moves()
+    ensures { MovesLaw }
 {}
 
 /// Two lists of labels of one number of processes, at most six, with the same word are the same list:

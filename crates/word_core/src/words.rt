@@ -1,21 +1,23 @@
-ghost use Rattle.std.specs.Prelude.{◌≡◌, ◌↔◌, ◌+◌, ◌-◌, ◌*◌, ◌^◌, ◌<◌, ◌≤◌, ℕ, List, [], ◌++◌, length, remove, replicate, slice_index, All, MatchOption, IsTrue};
-ghost use Rattle.label_core.specs.Labels.{IsLabel, label_ranks, next};
-ghost use Rattle.ticket_core.specs.Tickets.{start_tickets, stamp_ticket};
-ghost use Rattle.word_core.specs.Stamps.{start_labels, label_at, stamped};
+ghost use Rattle.std.specs.Prelude.{◌≡◌, ◌↔◌, ◌+◌, ◌-◌, ◌<◌, ◌≤◌, ℕ, Option, None, Some, List, [], ◌++◌, length, map, take, replicate, slice_index, slice_set, All, IfSome, MatchOption, IsTrue};
+ghost use Rattle.label_core.specs.Labels.{IsLabel, dominated, next};
+ghost use Rattle.ticket_core.specs.Tickets.{start_tickets, stamp_ticket, clear_ticket};
+ghost use Rattle.word_core.specs.Stamps.{Labels, start_labels, label_at, is_present, present, stamped, cleared};
 ghost use Rattle.word_core.specs.Packed.{AreLabels, IsWordOf, word};
-ghost use Rattle.word_core.specs.prover.Packing.{Counts, bytes_in, labels_in, word_end};
-ghost use Rattle.word_core.specs.Order.{IsOrdered, older_label};
+ghost use Rattle.word_core.specs.Order.{IsOrdered, older_label, label_ranks};
 ghost use Rattle.word_core.specs.Agreement.{Agrees};
 
-use crate::order::are_ordered;
-use crate::packing::{are_labels, fits, label_in, with_label};
-use label_core::{Label, MOST_DIGITS, MOST_LABELS, next_label, ranks};
+use crate::order::{above, are_ordered};
+use crate::packing::{all_count, clear_mask, fits, is_present, label_in, with_label};
+use label_core::{Label, MOST_LABELS, next_label, ranks};
 use std::marker::Model;
 
-/// What is written for a label of no digits, that of a single process.
+/// What is written for a label of no digits, that of a single process that is present.
 pub const EMPTY_LABEL: &str = "-";
 
-/// One label for each of one to six processes, packed into 64 bits.
+/// What is written for the label of a process that is absent.
+pub const ABSENT_LABEL: &str = ".";
+
+/// A label or none for each of one to six processes, packed into 64 bits.
 #[derive(Clone, Copy, PartialEq, Eq, Debug)]
 pub struct LabelWord {
     count: u8,
@@ -23,67 +25,64 @@ pub struct LabelWord {
 }
 
 impl Model for LabelWord {
-    ghost use Rattle.std.specs.Prelude.{◌≡◌, ◌-◌, ◌<◌, ◌≤◌, ℕ, List, length, All};
-    ghost use Rattle.word_core.specs.Packed.{word};
-    ghost use Rattle.word_core.specs.prover.Packing.{Counts, bytes_in, labels_in, word_end, length-labels_in, word-labels_in};
+    ghost use Rattle.std.specs.Prelude.{◌≡◌, ◌≤◌, ℕ, length};
+    ghost use Rattle.word_core.specs.Stamps.{Labels};
+    ghost use Rattle.word_core.specs.Packed.{IsWordOf, word};
+    ghost use Rattle.word_core.specs.prover.Packing.{labels_in, length-labels_in};
 
-    ghost Value = { List (List ℕ) };
+    ghost Value = { Labels };
 
-    ghost view = { λ fields. labels_in fields.count (fields.count - 1) fields.bits };
+    ghost view = { λ fields. labels_in fields.count fields.bits };
 
-    ghost invariant = { λ fields. (1 ≤ fields.count) × (fields.count ≤ 6) × (fields.bits < word_end fields.count) × All (Counts (fields.count - 1)) (bytes_in fields.count fields.bits) };
+    ghost invariant = { λ fields. (1 ≤ fields.count) × (fields.count ≤ 6) × IsWordOf fields.count fields.bits (labels_in fields.count fields.bits) };
 
     ghost inverse = { λ labels. record { count = length labels; bits = word labels } };
 
     ghost inverse_ok = { λ fields kept i. record {
-      count = length-labels_in fields.count (fields.count - 1) fields.bits i;
-      bits = word-labels_in fields.count (fields.count - 1) fields.bits kept.2 kept.3 i;
+      count = length-labels_in fields.count fields.bits i;
+      bits = kept.2.packs i;
     } };
 }
 
 impl LabelWord {
-    /// The word of `n` processes that never stamped: all digits are 0.
-    #[tactic(auto, using(crate::proofs::Views::start_in, crate::proofs::Views::start_small, crate::proofs::Views::start_counts))]
+    /// The word of `n` processes of which none is present, as before all stamps.
     pub fn start(n: u8) -> LabelWord
         requires at_least_one { 1 ≤ n }
         requires at_most_six { n ≤ 6 }
         ensures start { result ≡ start_labels n }
         ensures agrees { Agrees n (start_tickets n) result }
     {
-        LabelWord::of_bits(n, 0)
+        LabelWord { count: n, bits: 0 }
     }
 
     /// The word of `n` processes with these bits; `None` where they are no word: where a byte is no
-    /// number of a label, or a bit is set past the last label.
-    #[tactic(auto, using(crate::proofs::Views::is_word, crate::proofs::Views::word_small, crate::proofs::Views::word_counts))]
+    /// number of a label, that of an absent process is not 0, or a bit is set past those of the last.
     pub fn read(n: u8, bits: u64) -> Option<LabelWord>
         requires at_least_one { 1 ≤ n }
         requires at_most_six { n ≤ 6 }
-        ensures { MatchOption result ((labels : List (List ℕ)) → ¬ IsWordOf n bits labels) (IsWordOf n bits) }
+        ensures { MatchOption result ((labels : Labels) → ¬ IsWordOf n bits labels) (IsWordOf n bits) }
     {
         if !fits(n, bits) {
             return None;
         }
-        if !are_labels(n, bits) {
+        if !all_count(n, bits) {
             return None;
         }
-        Some(LabelWord::of_bits(n, bits))
+        Some(LabelWord { count: n, bits })
     }
 
     /// The word of `n` processes with these bits, which the caller knows to be a word: nothing is
     /// tested. `read` is for bits of which nothing is known.
-    #[tactic(auto, using(crate::proofs::Views::is_word, crate::proofs::Views::word_small, crate::proofs::Views::word_counts))]
     pub fn from_bits(n: u8, bits: u64) -> LabelWord
         requires at_least_one { 1 ≤ n }
         requires at_most_six { n ≤ 6 }
-        requires word { (labels : List (List ℕ)) × IsWordOf n bits labels }
+        requires word { (labels : Labels) × IsWordOf n bits labels }
         ensures { IsWordOf n bits result }
     {
-        LabelWord::of_bits(n, bits)
+        LabelWord { count: n, bits }
     }
 
     /// The number of processes, 1 to 6.
-    #[tactic(auto, using(crate::proofs::Views::count_in, crate::proofs::Views::are_in))]
     pub fn n(&self) -> u8
         ensures count { result ≡ length self.now }
         ensures at_least_one { 1 ≤ result }
@@ -94,15 +93,14 @@ impl LabelWord {
     }
 
     /// The packed labels.
-    #[tactic(auto, using(crate::proofs::Views::bits_in))]
     pub fn bits(&self) -> u64
         ensures { result ≡ word self.now }
     {
         self.bits
     }
 
-    /// The label of process `i`.
-    pub fn label(&self, i: u8) -> Label
+    /// The label of process `i`; `None` where it is absent.
+    pub fn label(&self, i: u8) -> Option<Label>
         requires { i < length self.now }
         ensures { result ≡ label_at self.now i }
     {
@@ -110,8 +108,18 @@ impl LabelWord {
         label_in(self.bits, i, n - 1)
     }
 
-    /// Whether whole numbers can be given to the processes so that one's label dominates another's
-    /// exactly where its number is above, and labels are equal exactly where the numbers are.
+    /// Whether process `i` is present: whether it holds a ticket.
+    pub fn held(&self, i: u8) -> bool
+        requires { i < length self.now }
+        ensures { result ≡ is_present (label_at self.now i) }
+    {
+        let _n = self.n();
+        is_present(self.bits, i)
+    }
+
+    /// Whether whole numbers can be given to the processes, 0 exactly to the absent and no other
+    /// twice, so that of two that are present one's label dominates the other's exactly where its
+    /// number is above.
     pub fn is_ordered(&self) -> bool
         ensures { IsTrue result ↔ IsOrdered self.now }
     {
@@ -119,8 +127,8 @@ impl LabelWord {
         are_ordered(&self.labels()[..n as usize])
     }
 
-    /// The word after process `p` has taken its next label beside those of the others.
-    #[inline(always)]
+    /// The word after process `p` has taken its next label beside those of the others that are
+    /// present. Its own is given up first.
     pub fn stamped(&self, p: u8) -> LabelWord
         requires in_range { p < length self.now }
         requires ordered { IsOrdered self.now }
@@ -128,21 +136,36 @@ impl LabelWord {
         ensures ordered { IsOrdered result }
         ensures agrees { (tickets : List ℕ) → Agrees (length self.now) tickets self.now → Agrees (length self.now) (stamp_ticket p tickets) result }
     {
-        if self.n() == 1 {
-            return *self;
-        }
-        self.stamped_beside(p)
+        let _n = self.n();
+        let next = self.next(p);
+        self.cleared(p).with_label(p, &next)
     }
 
-    /// For each process how many labels its own dominates, and 0 past the last process.
+    /// The word after process `p` has given its label up.
+    pub fn cleared(&self, p: u8) -> LabelWord
+        requires { p < length self.now }
+        ensures cleared { result ≡ cleared p self.now }
+        ensures ordered { IsOrdered self.now → IsOrdered result }
+        ensures agrees { (tickets : List ℕ) → Agrees (length self.now) tickets self.now → Agrees (length self.now) (clear_ticket p tickets) result }
+    {
+        let n = self.n();
+        LabelWord {
+            count: n,
+            bits: self.bits & clear_mask(p),
+        }
+    }
+
+    /// For each process how many it is above, and 0 past the last process: an absent one is below
+    /// each that is present, and of those that are labels tell.
     pub fn ranks(&self) -> [u8; MOST_LABELS]
         ensures { result ≡ label_ranks self.now ++ replicate (6 - length self.now) 0 }
     {
-        let n = self.n();
-        ranks(&self.labels()[..n as usize])
+        let _n = self.n();
+        let (labels, count) = self.present();
+        self.ranks_from(&ranks(&labels[..count as usize]), count)
     }
 
-    /// How many labels that of process `i` dominates.
+    /// How many processes `i` is above.
     pub fn rank(&self, i: u8) -> u8
         requires { i < length self.now }
         ensures { result ≡ slice_index (label_ranks self.now) i }
@@ -151,7 +174,7 @@ impl LabelWord {
         self.ranks()[i as usize]
     }
 
-    /// Whether the label of process `i` is dominated by that of process `j`.
+    /// Whether process `j` is above process `i`.
     #[inline(never)]
     pub fn older(&self, i: u8, j: u8) -> bool
         requires first_in_range { i < length self.now }
@@ -159,53 +182,27 @@ impl LabelWord {
         ensures { result ≡ older_label self.now i j }
     {
         let _n = self.n();
-        self.label(j).dominates(&self.label(i))
-    }
-
-    // The word of `n` processes with these bits.
-    fn of_bits(n: u8, bits: u64) -> LabelWord
-        requires at_least_one { 1 ≤ n }
-        requires at_most_six { n ≤ 6 }
-        requires small { bits < word_end n }
-        requires counts { All (Counts (n - 1)) (bytes_in n bits) }
-        ensures { result ≡ labels_in n (n - 1) bits }
-    {
-        LabelWord { count: n, bits }
-    }
-
-    // The same, whether there are others or not.
-    #[inline(never)]
-    fn stamped_beside(&self, p: u8) -> LabelWord
-        requires in_range { p < length self.now }
-        requires ordered { IsOrdered self.now }
-        ensures stamped { result ≡ stamped p self.now }
-        ensures ordered { IsOrdered result }
-        ensures agrees { (tickets : List ℕ) → Agrees (length self.now) tickets self.now → Agrees (length self.now) (stamp_ticket p tickets) result }
-    {
-        let next = self.next(p);
-        self.with_next(p, &next)
+        above(&self.label(j), &self.label(i))
     }
 
     // The label that process `p` takes next.
     fn next(&self, p: u8) -> Label
         requires in_range { p < length self.now }
         requires ordered { IsOrdered self.now }
-        ensures next { result ≡ next (length self.now) (remove self.now p) }
+        ensures next { result ≡ next (length self.now) (present (cleared p self.now)) }
         ensures label { IsLabel (length self.now - 1) result }
     {
         let n = self.n();
-        next_label(n, &self.others(p)[..(n - 1) as usize])
+        let (labels, count) = self.cleared(p).present();
+        next_label(n, &labels[..count as usize])
     }
 
-    // The word in which process `p` has this label, its next.
-    fn with_next(&self, p: u8, label: &Label) -> LabelWord
+    // The word in which process `p`, which was absent, has this label.
+    fn with_label(&self, p: u8, label: &Label) -> LabelWord
         requires in_range { p < length self.now }
-        requires ordered { IsOrdered self.now }
-        requires next { label.now ≡ next (length self.now) (remove self.now p) }
+        requires absent { label_at self.now p ≡ None }
         requires label { IsLabel (length self.now - 1) label.now }
-        ensures stamped { result ≡ stamped p self.now }
-        ensures ordered { IsOrdered result }
-        ensures agrees { (tickets : List ℕ) → Agrees (length self.now) tickets self.now → Agrees (length self.now) (stamp_ticket p tickets) result }
+        ensures { result ≡ slice_set self.now p (Some label.now) }
     {
         let n = self.n();
         LabelWord {
@@ -214,28 +211,50 @@ impl LabelWord {
         }
     }
 
-    // The labels of all but process `p`, and empty ones past the last.
-    fn others(&self, p: u8) -> [Label; MOST_DIGITS]
-        requires { p < length self.now }
-        ensures { result ≡ remove self.now p ++ replicate (6 - length self.now) [] }
-    {
-        let n = self.n();
-        let mut row = [Label::zeros(0); MOST_DIGITS];
-        for before in 0..p {
-            row[before as usize] = self.label(before);
-        }
-        for after in p + 1..n {
-            row[(after - 1) as usize] = self.label(after);
-        }
-        row
-    }
-
-    // The labels, and empty ones past the last.
-    fn labels(&self) -> [Label; MOST_LABELS]
-        ensures { result ≡ self.now ++ replicate (6 - length self.now) [] }
+    // The labels of those that are present, with empty ones past them, and how many there are.
+    fn present(&self) -> ([Label; MOST_LABELS], u8)
+        ensures labels { result.0 ≡ present self.now ++ replicate (6 - length (present self.now)) [] }
+        ensures count { result.1 ≡ length (present self.now) }
+        ensures few { result.1 ≤ length self.now }
     {
         let n = self.n();
         let mut row = [Label::zeros(0); MOST_LABELS];
+        let mut count = 0;
+        for i in 0..n {
+            if let Some(label) = self.label(i) {
+                row[count as usize] = label;
+                count += 1;
+            }
+        }
+        (row, count)
+    }
+
+    // The ranks of all processes, of those that are present from these ranks among themselves.
+    fn ranks_from(&self, among: &[u8; MOST_LABELS], count: u8) -> [u8; MOST_LABELS]
+        requires among { among.now ≡ map (dominated (present self.now)) (present self.now) ++ replicate (6 - length (present self.now)) 0 }
+        requires count { count ≡ length (present self.now) }
+        requires few { count ≤ length self.now }
+        ensures { result ≡ label_ranks self.now ++ replicate (6 - length self.now) 0 }
+    {
+        let n = self.n();
+        let absent = n - count;
+        let mut ranks = [0; MOST_LABELS];
+        let mut place = 0;
+        for i in 0..n {
+            if self.held(i) {
+                ranks[i as usize] = absent + among[place];
+                place += 1;
+            }
+        }
+        ranks
+    }
+
+    // What each process has, and none past the last.
+    fn labels(&self) -> [Option<Label>; MOST_LABELS]
+        ensures { result ≡ self.now ++ replicate (6 - length self.now) None }
+    {
+        let n = self.n();
+        let mut row = [None; MOST_LABELS];
         for i in 0..n {
             row[i as usize] = self.label(i);
         }

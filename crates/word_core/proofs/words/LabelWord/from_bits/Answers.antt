@@ -1,13 +1,12 @@
-use Rattle.std.proofs.Common.{sym, subst}
-use Rattle.word_core.specs.Packed.{IsWordOf}
-use Rattle.word_core.proofs.Views.{is_word, word_small, word_counts}
+use Rattle.word_core.proofs.Views.{word_self}
 use Rattle.word_core.proofs.words.LabelWord.from_bits.Goals as goal
 
+pub invariant_of-result : goal.invariant_of-result
+invariant_of-result c = (
+  c.requires.at_least_one,
+  c.requires.at_most_six,
+  word_self c.args.n c.args.bits c.requires.word.0 c.requires.at_most_six c.requires.word.1,
+)
+
 pub returns : goal.returns
-returns c =
-    let n = c.args.n in
-    let bits = c.args.bits in
-    let labels = c.requires.word.0 in
-    let is = c.requires.word.1 in
-    subst (IsWordOf n bits) (sym c.of_bits.ensures)
-    (is_word n bits (word_small n bits labels c.requires.at_most_six is) (word_counts n bits labels c.requires.at_most_six is))
+returns c = word_self c.args.n c.args.bits c.requires.word.0 c.requires.at_most_six c.requires.word.1

@@ -1,21 +1,16 @@
-use Rattle.std.proofs.Common.{arith, ap, sym, subst, ◌∙◌}
-use Rattle.std.specs.Prelude.{remove}
-use Rattle.label_core.specs.Labels.{CanChoose, next}
-use Rattle.word_core.proofs.Fields.{others_taken}
-use Rattle.word_core.proofs.Ranks.{can_choose}
+use Rattle.std.proofs.Common.{◌-◌, [], List, ℕ, ap, sym, subst, ◌∙◌, take, replicate, length}
+use Rattle.std.proofs.lemmas.List.{take_at}
+use Rattle.label_core.specs.Labels.{CanChoose}
+use Rattle.word_core.specs.Stamps.{present}
+use Rattle.word_core.proofs.Choosing.{can_choose}
 use Rattle.word_core.proofs.words.LabelWord.next.Goals as goal
 
 pub next_label-requires-clause-can : goal.next_label-requires-clause-can
 next_label-requires-clause-can c =
     let labels = c.args.self.now in
-    let n = c.n-n.result in
-    subst (CanChoose n) (sym (others_taken n c.args.p labels c.others.result c.others.ensures c.n-n.ensures.count c.requires.in_range))
-    (can_choose n labels c.args.p c.n-n.ensures.labels c.requires.ordered (omega (arith, c.n-n.ensures.count, c.requires.in_range)))
-
-pub returns-clause-next : goal.returns-clause-next
-returns-clause-next c =
-    let labels = c.args.self.now in
-    let n = c.n-n.result in
-    c.next_label.ensures.choice
-    ∙ ap (next n) (others_taken n c.args.p labels c.others.result c.others.ensures c.n-n.ensures.count c.requires.in_range)
-    ∙ ap (λ k. next k (remove labels c.args.p)) c.n-n.ensures.count
+    let count = c.present-labels.result.1 in
+    let others = present c.cleared.result in
+    let none : List ℕ = [] in
+    let taken = ap (take count) c.present-labels.ensures.labels ∙ take_at others (replicate (6 - length others) none) count (sym c.present-labels.ensures.count)
+    ∙ ap present c.cleared.ensures.cleared in
+    subst (CanChoose c.n-n.result) (sym taken) (can_choose c.n-n.result c.args.p labels c.requires.ordered.0 c.n-n.ensures.labels c.requires.ordered.1 c.requires.in_range)
