@@ -1,22 +1,23 @@
 -- What the calls make of their caller, from the steps of its pass.
-use Rattle.std.proofs.Common.{◌≡◌, ◌≤◌, ℕ, List, [], ◌∷◌, ◌++◌, refl, sym, ap, ◌∙◌, subst, append_assoc}
-use Rattle.std.specs.Prelude.{All}
+use Rattle.std.proofs.Common.{◌≡◌, ◌<◌, ◌≤◌, ℕ, List, [], ◌∷◌, ◌++◌, refl, sym, ap, ◌∙◌, subst, length, append_assoc, arith}
+use Rattle.std.specs.Prelude.{All, slice_index, slice_index_or, slice_set}
+use Rattle.std.proofs.lemmas.List.{get_or-set_same}
 use Rattle.std.proofs.lemmas.List.Elements.{All-append, All-cons, All-nil}
-use Rattle.word_core.specs.Stamps.{stamped}
+use Rattle.word_core.specs.Stamps.{Labels, stamped}
 use Rattle.word_core.specs.Packed.{AreLabels, word}
 use Rattle.word_core.specs.Agreement.{StandsFor}
-use Rattle.word_core.specs.History.{memory_of, IsLegal}
+use Rattle.word_core.specs.History.{Memory, memory_of, AreRows, IsLegal, register_at, register_set}
 use Rattle.word_core.specs.declared.history.Shared.{Shared}
 use Rattle.word_core.specs.declared.history.SharedAct.{SharedAct}
-use Rattle.word_core.specs.declared.history.SharedAct.TheVariants.{Load, Won, Lost}
-use Rattle.word_core.proofs.OfferedHistory.{history_stands, history_labels, labels_of_word, next_step}
+use Rattle.word_core.specs.declared.history.SharedAct.TheVariants.{Load, Won, Lost, Write}
+use Rattle.word_core.proofs.OfferedHistory.{history_stands, history_labels, history_rows, labels_of_word, next_step, one_step}
 use Rattle.stamp_table.specs.Passes.{TableView, PassView, Holds, by, mine, Extends, Appends, memory_seen}
 use Rattle.stamp_table.proofs.Offered.{mine-snoc_own, extends_front, starts_through}
 use Rattle.stamp_calls.specs.Callers.{CallerView, own_steps, tickets_seen, GoesOn}
 use Rattle.stamp_calls.specs.Stamps.{IsTryAct, IsTry, Stamps, AddsTriesAndStamp}
 
 -- the labels after what a pass has seen stand for the tickets there
-pub stands_after : (pass : PassView) (labels : List (List ℕ)) → labels ≡ (memory_seen pass).labels → StandsFor pass.table.n (tickets_seen pass) labels
+pub stands_after : (pass : PassView) (labels : Labels) → labels ≡ (memory_seen pass).labels → StandsFor pass.table.n (tickets_seen pass) labels
 stands_after pass labels is =
     subst (StandsFor pass.table.n (tickets_seen pass)) (sym is) (history_stands pass.table.n pass.table.rows pass.seen)
 
@@ -32,9 +33,29 @@ goes_on_twice old mid new a b = record {
   legal = subst (λ (t : TableView). IsLegal t.n t.rows new.pass.seen) a.table b.legal;
 }
 
+-- what a process wrote stands in its register
+pub written_stands : (old new : PassView) (p r v : ℕ) → r < old.table.rows → Appends old (by p (Write r v)) new → register_at (memory_seen new).rows r p ≡ v
+written_stands old new p r v inside step =
+    let n : ℕ = old.table.n in
+    let rows : ℕ = old.table.rows in
+    let e = step.extends in
+    let front : List Shared = old.seen ++ e.between in
+    let may = (next_step n rows front (by p (Write r v))).0 (subst (IsLegal n rows) e.is e.legal) in
+    let before : AreRows n rows (memory_of n rows front).rows = history_rows n rows front may.0 in
+    let m : List (List ℕ) = (memory_of n rows front).rows in
+    let here : r < length m = omega (arith, inside, before.rows_count) in
+    let wide : p < length (slice_index_or m r []) = omega (arith, may.1.0, (before.each r [] here).count) in
+    let after_rows : (memory_seen new).rows ≡ register_set m r p v =
+    ap (λ (t : TableView). (memory_of t.n t.rows new.seen).rows) step.table ∙ ap (λ h. (memory_of n rows h).rows) e.is
+    ∙ ap (λ (x : Memory). x.rows) (one_step n rows front (by p (Write r v))).0
+    in
+    ap (λ x. register_at x r p) after_rows
+    ∙ ap (λ row. slice_index row p) (get_or-set_same m r (slice_set (slice_index_or m r []) p v) [] here)
+    ∙ get_or-set_same (slice_index_or m r []) p v 0 wide
+
 -- what `stamp` keeps while it tries: its caller went on by tries alone, and it has the order that it
 -- found last
-pub record Trying (table : TableView) (old : CallerView) (order : List (List ℕ)) (now : CallerView) : Type 0 where
+pub record Trying (table : TableView) (old : CallerView) (order : Labels) (now : CallerView) : Type 0 where
   pub here : now.pass.table ≡ table
   pub are : AreLabels table.n order
   pub goes : GoesOn old now
@@ -46,7 +67,7 @@ one_try : (p : ℕ) (act : SharedAct) → IsTryAct act → All (IsTry p) (by p a
 one_try p act is = All-cons (IsTry p) (by p act) [] (record { process = refl; act = is }) (All-nil (IsTry p))
 
 -- the first look
-pub first_try : (table : TableView) (old now : CallerView) (order : List (List ℕ)) → old.pass.table ≡ table → StandsFor table.n (tickets_seen now.pass) order
+pub first_try : (table : TableView) (old now : CallerView) (order : Labels) → old.pass.table ≡ table → StandsFor table.n (tickets_seen now.pass) order
     → GoesOn old now → own_steps now ≡ own_steps old ++ by old.process (Load (word order)) ∷ [] → Trying table old order now
 first_try table old now order here stands goes own = record {
   here = goes.table ∙ here;
@@ -58,7 +79,7 @@ first_try table old now order here stands goes own = record {
 }
 
 -- a try that is lost
-pub next_try : (table : TableView) (old mid now : CallerView) (given found : List (List ℕ)) → Trying table old given mid
+pub next_try : (table : TableView) (old mid now : CallerView) (given found : Labels) → Trying table old given mid
     → StandsFor table.n (tickets_seen now.pass) found → GoesOn mid now
     → own_steps now ≡ own_steps mid ++ by mid.process (Lost (word given) (word found)) ∷ [] → Trying table old found now
 next_try table old mid now given found t stands goes own =
@@ -75,14 +96,14 @@ next_try table old mid now given found t stands goes own =
     }
 
 -- an exchange that is won found the labels that it was given
-won_found : (n rows : ℕ) → n ≤ 6 → (front : List Shared) (p : ℕ) (old new : List (List ℕ)) → AreLabels n old → IsLegal n rows (front ++ by p (Won (word old) (word new)) ∷ [])
+won_found : (n rows : ℕ) → n ≤ 6 → (front : List Shared) (p : ℕ) (old new : Labels) → AreLabels n old → IsLegal n rows (front ++ by p (Won (word old) (word new)) ∷ [])
     → old ≡ (memory_of n rows front).labels
 won_found n rows few front p old new are legal =
     labels_of_word n few old (memory_of n rows front).labels are (history_labels n rows front)
     ((next_step n rows front (by p (Won (word old) (word new)))).0 legal).1.1.0
 
 -- the try that is won
-pub last_try : (table : TableView) (old mid now : CallerView) (given order : List (List ℕ)) → old.pass.table ≡ table → table.n ≤ 6 → Trying table old given mid
+pub last_try : (table : TableView) (old mid now : CallerView) (given order : Labels) → old.pass.table ≡ table → table.n ≤ 6 → Trying table old given mid
     → order ≡ stamped mid.process given → Appends mid.pass (by mid.process (Won (word given) (word order))) now.pass
     → Stamps old order now
 last_try table old mid now given order here few t stamps step =
@@ -114,7 +135,7 @@ last_try table old mid now given order here few t stamps step =
     }
 
 -- the caller's own steps, where it stamped
-pub own_of_stamps : (old now : CallerView) (order : List (List ℕ)) → now.process ≡ old.process → Stamps old order now → AddsTriesAndStamp old order now
+pub own_of_stamps : (old now : CallerView) (order : Labels) → now.process ≡ old.process → Stamps old order now → AddsTriesAndStamp old order now
 own_of_stamps old now order same s =
     let p : ℕ = old.process in
     let won : Shared = by p (Won (word s.found) (word order)) in

@@ -1,3 +1,4 @@
 pub mod Callers
 pub mod Stamps
 pub mod Tries
+pub mod Clears

@@ -6,6 +6,7 @@ ghost use Rattle.stamp_table.specs.Passes.{by, Appends, memory_seen};
 ghost use Rattle.stamp_calls.specs.Callers.{own_steps, tickets_seen, GoesOn};
 ghost use Rattle.stamp_calls.specs.Stamps.{Stamps, AddsTriesAndStamp};
 ghost use Rattle.stamp_calls.specs.Tries.{tried_act, tried_order, AnswersTry};
+ghost use Rattle.stamp_calls.specs.Clears.{Clears};
 
 use crate::caller::Caller;
 use crate::order::Order;
@@ -58,6 +59,22 @@ pub fn try_stamp(table: &StampTable, caller: &mut Caller, order: Order) -> Tried
         Swap::Won => Tried::Won(Order::after(&caller.pass, new)),
         Swap::Lost(found) => Tried::Lost(Order::after(&caller.pass, found)),
     }
+}
+
+/// Gives the caller's ticket up, also where it holds none, and gives the order just after. It is one
+/// `fetch_and` of the word, which never fails.
+pub fn clear(table: &StampTable, caller: &mut Caller) -> Order
+    requires here { caller.old.pass.table ≡ table.now }
+    ensures caller { GoesOn caller.old caller.new }
+    ensures clears { Clears caller.old result caller.new }
+    ensures labels { result ≡ (memory_seen caller.new.pass).labels }
+    ensures tickets { StandsFor table.now.n (tickets_seen caller.new.pass) result }
+    ensures processes { length result ≡ table.now.n }
+    ensures range { caller.old.process < length result }
+{
+    let p = caller.process;
+    let left = table.clear(&mut caller.pass, p);
+    Order::after(&caller.pass, left)
 }
 
 /// Stamps: tries until it has won, and gives the order just after. It may try forever where others

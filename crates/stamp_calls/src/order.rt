@@ -1,6 +1,6 @@
 ghost use Rattle.std.specs.Prelude.{◌≡◌, ◌<◌, length, slice_index};
-ghost use Rattle.label_core.specs.Labels.{label_ranks};
-ghost use Rattle.word_core.specs.Order.{IsOrdered, older_label};
+ghost use Rattle.word_core.specs.Stamps.{label_at, is_present};
+ghost use Rattle.word_core.specs.Order.{IsOrdered, older_label, label_ranks};
 ghost use Rattle.word_core.specs.Agreement.{StandsFor};
 ghost use Rattle.stamp_table.specs.Passes.{memory_seen};
 ghost use Rattle.stamp_calls.specs.Callers.{tickets_seen};
@@ -9,19 +9,19 @@ use stamp_table::Pass;
 use std::marker::Model;
 use word_core::LabelWord;
 
-/// The order of the processes at one point of the history. A process is older than another where it
-/// took its ticket earlier; those that never took one are older than all others, and none of them is
-/// older than another.
+/// The order of the processes at one point of the history. A process is older than another where its
+/// ticket is smaller: where it took it earlier, or holds none and the other does. Of those that hold
+/// none, none is older than another.
 #[derive(Clone, Copy, PartialEq, Eq, Debug)]
 pub struct Order {
     pub(crate) word: LabelWord,
 }
 
 impl Model for Order {
-    ghost use Rattle.std.specs.Prelude.{ℕ, List};
+    ghost use Rattle.word_core.specs.Stamps.{Labels};
     ghost use Rattle.word_core.specs.Order.{IsOrdered};
 
-    ghost Value = { List (List ℕ) };
+    ghost Value = { Labels };
 
     ghost view = { λ order. order.word };
 
@@ -46,6 +46,14 @@ impl Order {
         ensures { result ≡ slice_index (label_ranks self.now) i }
     {
         self.word.rank(i)
+    }
+
+    /// Whether process `i` holds a ticket: it has stamped, and has not cleared since.
+    pub fn held(&self, i: u8) -> bool
+        requires { i < length self.now }
+        ensures { result ≡ is_present (label_at self.now i) }
+    {
+        self.word.held(i)
     }
 
     // The order after what a pass has seen, where the word is that of the labels there.

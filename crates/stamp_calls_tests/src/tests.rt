@@ -1,11 +1,11 @@
 ghost use Rattle.std.specs.Prelude.{◌≡◌, ◌<◌, length};
 
 use crate::queue::first_come;
-use crate::threads::{six, two};
-use stamp_calls::{Caller, Order, Tried, scan, stamp, try_stamp};
+use stamp_calls::{Caller, Order, Tried, clear, read, scan, stamp, try_stamp, write};
 use stamp_table::{StampTable, open};
 use std::sync::Wait;
 use std::test::Fail;
+use testing::is_same;
 
 // Two callers stamp in turn: the order after both.
 fn both_stamp<R: Wait>(rt: &R, table: &StampTable, first: &mut Caller, second: &mut Caller) -> Order
@@ -42,7 +42,7 @@ fn the_word_comes_back(rt: HostRuntime) -> Result<(), Fail> {
     let after = both_stamp(&rt, &table, &mut two, &mut one);
     let old = scan(&table, &mut zero);
     assert!(rt; after == old);
-    assert_eq!(rt; old.word().bits(), 395011);
+    assert_eq!(rt; old.word().bits(), 1_970_324_837_172_224);
     assert!(rt; ranks(&old) == [0, 2, 1]);
     assert!(rt; old.older(2, 1) && !old.older(1, 2) && !old.older(1, 1));
     both_stamp(&rt, &table, &mut two, &mut one);
@@ -51,7 +51,7 @@ fn the_word_comes_back(rt: HostRuntime) -> Result<(), Fail> {
     let Tried::Won(won) = try_stamp(&table, &mut zero, old) else {
         return Ok(assert!(rt; false));
     };
-    assert_eq!(rt; won.word().bits(), 395008);
+    assert_eq!(rt; won.word().bits(), 1_970_324_837_172_230);
     assert!(rt; ranks(&won) == [2, 1, 0]);
     let Tried::Lost(found) = try_stamp(&table, &mut one, old) else {
         return Ok(assert!(rt; false));
@@ -60,27 +60,39 @@ fn the_word_comes_back(rt: HostRuntime) -> Result<(), Fail> {
     Ok(())
 }
 
-// A try is lost only where the other thread won after the order was found. Where one is won, all
-// others are older.
-#[test]
-fn two_threads(rt: HostRuntime) -> Result<(), Fail> {
-    let last = two(&rt, rt.alloc(), 1_000)?;
-    assert!(rt; last.newest == last.won);
-    let first = last.won[0];
-    let second = last.won[1];
-    assert!(rt; first <= 1_000 && second <= 1_000);
-    assert!(rt; 1_000 - first <= second && 1_000 - second <= first);
-    assert_eq!(rt; last.end.register(0, 0), first);
-    assert_eq!(rt; last.end.register(0, 1), second);
-    assert!(rt; last.end.word() == last.order.word());
-    assert!(rt; last.order.rank(0) != last.order.rank(1));
-    Ok(())
+// Who holds a ticket, and the ranks, of two processes.
+fn told(order: &Order) -> ([bool; 2], [u8; 2])
+    requires { length order.now ≡ 2 }
+{
+    (
+        [order.held(0), order.held(1)],
+        [order.rank(0), order.rank(1)],
+    )
 }
 
+// Two callers have their tickets, and the first gives its own up: a try with the order before that is
+// lost, and the next ticket is the greatest.
 #[test]
-fn six_threads(rt: HostRuntime) -> Result<(), Fail> {
-    assert_eq!(rt; six(&rt, rt.alloc(), 100)?, 600);
-    Ok(())
+fn a_ticket_given_up(rt: HostRuntime) -> Result<(), Fail> {
+    let (table, pass) = open(rt.alloc(), 2, 1)?;
+    let (zero, one) = table.split(pass, 1);
+    let mut zero = Caller::new(zero, 0);
+    let mut one = Caller::new(one, 1);
+    is_same(
+        &stamp(&rt, &table, &mut zero).word().bits(),
+        &281_474_976_710_656,
+    )?;
+    let both = stamp(&rt, &table, &mut one);
+    is_same(&told(&both), &([true, true], [0, 1]))?;
+    let left = clear(&table, &mut zero);
+    is_same(&told(&left), &([false, true], [0, 1]))?;
+    is_same(&left.word().bits(), &562_949_953_421_568)?;
+    is_same(&try_stamp(&table, &mut zero, both), &Tried::Lost(left))?;
+    is_same(&clear(&table, &mut zero), &left)?;
+    let newest = stamp(&rt, &table, &mut zero);
+    is_same(&told(&newest), &([true, true], [1, 0]))?;
+    write(&table, &mut zero, 0, 7);
+    is_same(&read(&table, &mut one, 0, 0), &7)
 }
 
 #[test]

@@ -1,125 +1,96 @@
-ghost use Rattle.std.specs.Prelude.{◌≡◌, IfOk, length};
-ghost use Rattle.std.specs.Thread.{IsSync};
-ghost use Rattle.stamp_calls_tests.specs.Ready.{Ready};
+ghost use Rattle.std.specs.Prelude.{◌≡◌, ◌≤◌, ◌<◌, ℕ, All, IfOk, IfSome, IsTrue};
+ghost use Rattle.stamp_table.specs.Passes.{Holds};
 
-use crate::working::{Worked, stamps, tries};
-use stamp_calls::{Caller, Order, scan};
-use stamp_table::{Final, OpenFault, Pass, StampTable, open};
-use std::alloc::Global;
+use crate::working::{Worked, rounds, stamps, tries};
+use stamp_table::{OpenFault, Pass, StampTable, open};
+use std::alloc::{AllocError, Global};
 use std::sync::Wait;
-use std::thread::{Threads, join};
+use std::thread::Threads;
+use testing::on_threads;
 
-/// The order that was found last, what stood there in the end, and the counts of each of two threads.
-#[derive(Drop)]
-pub struct Last {
-    pub order: Order,
-    pub end: Final,
-    pub won: [u32; 2],
-    pub newest: [u32; 2],
+/// What a process does, over and over.
+#[derive(Clone, Copy, PartialEq, Eq, Debug)]
+pub enum Work {
+    /// It stamps.
+    Stamps,
+    /// It tries to stamp.
+    Tries,
+    /// It scans, tries to stamp, and scans.
+    Rounds,
 }
 
-/// Two threads share a table and try to stamp this many times each.
-pub fn two<R: Threads + Sync>(rt: &R, alloc: Global, count: u32) -> Result<Last, OpenFault>
-    ensures order { IfOk result (λ last. length last.order ≡ 2) }
-    ensures end { IfOk result (λ last. (length last.end.labels ≡ 2) × (length last.end.rows ≡ 1)) }
+fn works<R: Wait>(rt: &R, table: &StampTable, pass: Pass, p: u8, work: Work, count: u32) -> Worked
+    requires here { pass.table ≡ table.now }
+    requires held { Holds pass.held p }
+    requires row { 0 < table.now.rows }
+    ensures { result.pass.table ≡ table.now }
 {
-    let (table, all) = open(alloc, 2, 1)?;
-    let (zero, one) = table.split(all, 1);
-    let (zero, one) = join(
-        rt,
-        || tries(&table, zero, 0, count),
-        || tries(&table, one, 1, count),
-    );
-    let mut caller = Caller::new(table.meet(zero.pass, one.pass), 0);
-    let order = scan(&table, &mut caller);
-    Ok(Last {
-        order,
-        end: table.close(caller.into_pass()),
-        won: [zero.won, one.won],
-        newest: [zero.newest, one.newest],
-    })
+    match work {
+        Work::Stamps => stamps(rt, table, pass, p, count),
+        Work::Tries => tries(table, pass, p, count),
+        Work::Rounds => rounds(table, pass, p, count),
+    }
 }
 
-// Two processes stamp this many times each, on a thread of their own. Their passes meet.
-fn pair<R: Threads + Wait + Sync>(
+/// A table of `n` processes with a row of registers, and what each process came to that did this work
+/// on a thread of its own.
+pub fn all_work<R: Threads + Wait + Sync>(
     rt: &R,
-    table: &StampTable,
-    first: Pass,
-    p: u8,
-    second: Pass,
-    q: u8,
+    alloc: Global,
+    n: u8,
+    work: Work,
     count: u32,
-) -> (Pass, u32)
-    requires first { Ready table.now p first }
-    requires second { Ready table.now q second }
-    ensures { result.0.table ≡ table.now }
+) -> Result<(StampTable, Vec<Worked>), OpenFault>
+    requires at_least_one { 1 ≤ n }
+    requires at_most_six { n ≤ 6 }
+    ensures layout { IfOk result (λ done. (done.0.n ≡ n) × (done.0.rows ≡ 1)) }
+    ensures here { IfOk result (λ done. All (λ worked. worked.pass.table ≡ done.0) done.1.items) }
 {
-    let (one, other) = join(
-        rt,
-        || -> Worked
-            requires { Ready table.now p first }
-            ensures { result.pass.table ≡ table.entry.now }
-        { stamps(rt, table, first, p, count) },
-        || -> Worked
-            requires { Ready table.now q second }
-            ensures { result.pass.table ≡ table.entry.now }
-        { stamps(rt, table, second, q, count) },
-    );
-    (
-        table.meet(one.pass, other.pass),
-        one.newest.wrapping_add(other.newest),
-    )
+    let (table, all) = open(alloc, n, 1)?;
+    let shared = &table;
+    let one = |pass: Pass, p: u8| -> Worked
+        requires { (pass.table ≡ shared.now) × Holds pass.held p × (0 < shared.now.rows) }
+        ensures { result.pass.table ≡ shared.entry.now }
+    { works(rt, shared, pass, p, work, count) };
+    let done = on_threads(rt, alloc, shared, all, &one)?;
+    Ok((table, done))
 }
 
-/// Six threads share a table and stamp this many times each: after how many stamps nobody else held a
-/// newer ticket.
-pub fn six<R: Threads + Wait + Sync>(rt: &R, alloc: Global, count: u32) -> Result<u32, OpenFault> {
-    let (table, pass) = open(alloc, 6, 0)?;
-    let (pass, five) = table.split(pass, 5);
-    let (pass, four) = table.split(pass, 4);
-    let (pass, three) = table.split(pass, 3);
-    let (pass, two) = table.split(pass, 2);
-    let (zero, one) = table.split(pass, 1);
-    let table = &table;
-    let ((low, newest), (high, others)) = join(
-        rt,
-        || -> (Pass, u32)
-            requires { Ready table.now 0 zero × Ready table.now 1 one × IsSync R.row }
-            ensures { result.0.table ≡ table.entry.now }
-        { pair(rt, table, zero, 0, one, 1, count) },
-        || -> (Pass, u32)
-            requires { Ready table.now 2 two × Ready table.now 3 three × Ready table.now 4 four × Ready table.now 5 five × IsSync R.row }
-            ensures { result.0.table ≡ table.entry.now }
-        { four_of_six(rt, table, two, three, four, five, count) },
-    );
-    let _met = table.meet(low, high);
-    Ok(newest.wrapping_add(others))
+/// The passes meet, two by two and then all.
+pub fn meet_in_pairs(
+    alloc: Global,
+    table: &StampTable,
+    mut done: Vec<Worked>,
+) -> Result<Option<Pass>, AllocError>
+    requires { All (λ worked. worked.pass.table ≡ table.now) done.items }
+    ensures { IfOk result (λ met. IfSome met (λ pass. pass.table ≡ table.now)) }
+{
+    let mut pairs = Vec::new(alloc);
+    while let Some(second) = done.pop() {
+        pairs.push(pair(table, done.pop(), second))?;
+    }
+    Ok(table.meet_all(pairs))
 }
 
-// The last four of six processes, each on a thread of its own. Their passes meet.
-fn four_of_six<R: Threads + Wait + Sync>(
-    rt: &R,
-    table: &StampTable,
-    two: Pass,
-    three: Pass,
-    four: Pass,
-    five: Pass,
-    count: u32,
-) -> (Pass, u32)
-    requires low { Ready table.now 2 two × Ready table.now 3 three }
-    requires high { Ready table.now 4 four × Ready table.now 5 five }
-    ensures { result.0.table ≡ table.now }
+fn pair(table: &StampTable, first: Option<Worked>, second: Worked) -> Pass
+    requires first { IfSome first (λ worked. worked.pass.table ≡ table.now) }
+    requires second { second.pass.table ≡ table.now }
+    ensures { result.table ≡ table.now }
 {
-    let ((low, newest), (high, others)) = join(
-        rt,
-        || -> (Pass, u32)
-            requires { Ready table.now 2 two × Ready table.now 3 three × IsSync R.row }
-            ensures { result.0.table ≡ table.entry.now }
-        { pair(rt, table, two, 2, three, 3, count) },
-        || -> (Pass, u32)
-            requires { Ready table.now 4 four × Ready table.now 5 five × IsSync R.row }
-            ensures { result.0.table ≡ table.entry.now }
-        { pair(rt, table, four, 4, five, 5, count) },
-    );
-    (table.meet(low, high), newest.wrapping_add(others))
+    match first {
+        Some(first) => table.meet(first.pass, second.pass),
+        None => second.pass,
+    }
+}
+
+/// Whether a pass holds each of so many processes.
+pub fn holds_all(pass: &Pass, n: u8) -> bool
+    ensures { IsTrue result → (p : ℕ) → p < n → Holds pass.now.held p }
+{
+    for p in 0..n {
+        if !pass.holds(p) {
+            return false;
+        }
+    }
+    true
 }

@@ -1,7 +1,7 @@
-ghost use Rattle.std.specs.Prelude.{◌≡◌, ◌<◌, length};
+ghost use Rattle.std.specs.Prelude.{◌≡◌, ◌≤◌, ◌<◌, length};
 ghost use Rattle.stamp_table.specs.Passes.{Holds};
 
-use stamp_calls::{Caller, Order, Tried, scan, stamp, try_stamp};
+use stamp_calls::{Caller, Order, Tried, scan, stamp, try_stamp, write};
 use stamp_table::{Pass, StampTable};
 use std::sync::Wait;
 
@@ -21,10 +21,11 @@ fn is_newest(order: &Order, p: u8) -> bool
     order.rank(p) == order.word().n() - 1
 }
 
-/// Stamps this many times.
+/// Stamps this many times. Like the two below it writes into its register how often it won.
 pub fn stamps<R: Wait>(rt: &R, table: &StampTable, pass: Pass, p: u8, count: u32) -> Worked
     requires here { pass.table ≡ table.now }
     requires held { Holds pass.held p }
+    requires row { 0 < table.now.rows }
     ensures table { result.pass.table ≡ table.now }
     ensures held { result.pass.held ≡ pass.held }
 {
@@ -36,6 +37,7 @@ pub fn stamps<R: Wait>(rt: &R, table: &StampTable, pass: Pass, p: u8, count: u32
             newest += 1;
         }
     }
+    write(table, &mut caller, 0, count);
     Worked {
         pass: caller.into_pass(),
         won: count,
@@ -43,7 +45,7 @@ pub fn stamps<R: Wait>(rt: &R, table: &StampTable, pass: Pass, p: u8, count: u32
     }
 }
 
-/// Tries to stamp this many times, and writes into its register how often it won.
+/// Tries to stamp this many times, each time where the order is the one that was told last.
 pub fn tries(table: &StampTable, pass: Pass, p: u8, count: u32) -> Worked
     requires here { pass.table ≡ table.now }
     requires held { Holds pass.held p }
@@ -67,7 +69,39 @@ pub fn tries(table: &StampTable, pass: Pass, p: u8, count: u32) -> Worked
             Tried::Lost(found) => order = found,
         }
     }
-    let mut pass = caller.into_pass();
-    table.write(&mut pass, p, 0, won);
-    Worked { pass, won, newest }
+    write(table, &mut caller, 0, won);
+    Worked {
+        pass: caller.into_pass(),
+        won,
+        newest,
+    }
+}
+
+/// A scan, one try to stamp and a scan, this many times over.
+pub fn rounds(table: &StampTable, pass: Pass, p: u8, count: u32) -> Worked
+    requires here { pass.table ≡ table.now }
+    requires held { Holds pass.held p }
+    requires row { 0 < table.now.rows }
+    ensures table { result.pass.table ≡ table.now }
+    ensures held { result.pass.held ≡ pass.held }
+{
+    let mut caller = Caller::new(pass, p);
+    let mut won = 0;
+    let mut newest = 0;
+    for _round in 0..count {
+        let order = scan(table, &mut caller);
+        if let Tried::Won(after) = try_stamp(table, &mut caller, order) {
+            won += 1;
+            if is_newest(&after, p) {
+                newest += 1;
+            }
+        }
+        scan(table, &mut caller);
+    }
+    write(table, &mut caller, 0, won);
+    Worked {
+        pass: caller.into_pass(),
+        won,
+        newest,
+    }
 }

@@ -1,14 +1,14 @@
 -- What each kind of step asks of the rule.
 use Rattle.std.proofs.Common.{◌≡◌, ℕ, suc, ◌+◌, ◌*◌, ◌^◌, ◌<◌, ◌≤◌, ◌==◌, Bool, List, ◌∷◌, sym, ap, ◌∙◌, subst, ⊎_elim, arith}
-use Rattle.std.specs.Prelude.{slice_index, slice_set}
+use Rattle.std.specs.Prelude.{slice_index, slice_set, bit_and}
 use Rattle.std.specs.List.{concat}
 use Rattle.std.proofs.lemmas.Bool.{cases_eq, eq-eqb, ne_eqb}
 use Rattle.std.proofs.lemmas.List.{set-get_or}
 use prog.Atomic.{either}
-use Rattle.word_core.specs.Stamps.{stamped}
+use Rattle.word_core.specs.Stamps.{Labels, stamped, cleared}
 use Rattle.word_core.specs.Packed.{AreLabels, word}
 use Rattle.word_core.specs.History.{Memory, memory_of, after, MayFollow}
-use Rattle.word_core.specs.declared.history.SharedAct.TheVariants.{Load, Read, Write}
+use Rattle.word_core.specs.declared.history.SharedAct.TheVariants.{Load, Read, Write, Clear}
 use Rattle.word_core.proofs.OfferedHistory.{history_labels, labels_of_word, history_rows}
 use Rattle.stamp_table.specs.Passes.{Holds, by}
 use Rattle.stamp_table.specs.Rule.{table_words}
@@ -19,7 +19,7 @@ pub load_goes : (n rows : ℕ) (held : List Bool) (p : ℕ) → p < n → Holds 
 load_goes n rows held p in_p holds history legal found is =
     ((in_p, is), ap (λ (x : ℕ). x ∷ concat (memory_of n rows history).rows) is, holds)
 
-pub exchange_goes : (n rows : ℕ) (held : List Bool) (p : ℕ) (old new : List (List ℕ)) → n ≤ 6 → p < n → Holds held p → AreLabels n old → new ≡ stamped p old
+pub exchange_goes : (n rows : ℕ) (held : List Bool) (p : ℕ) (old new : Labels) → n ≤ 6 → p < n → Holds held p → AreLabels n old → new ≡ stamped p old
     → Goes n rows held 0 (λ found. either (found == word old) (word new) found) (λ found. by p (exchange_act (found == word old) (word old) (word new) found))
 exchange_goes n rows held p old new few in_p holds are stamps history legal found is =
     let m : Memory = memory_of n rows history in
@@ -37,6 +37,15 @@ exchange_goes n rows held p old new few in_p holds are stamps history legal foun
     subst Right (sym (ne_eqb found (word old) other))
     ((in_p, (is, other)), ap (λ (x : ℕ). x ∷ concat m.rows) is, holds))
     (cases_eq found (word old))
+
+-- a mask that clears labels of whatever processes clears those of the history
+pub clear_goes : (n rows : ℕ) (held : List Bool) (p mask : ℕ) → p < n → Holds held p
+    → ((labels : Labels) → AreLabels n labels → bit_and (word labels) mask ≡ word (cleared p labels))
+    → Goes n rows held 0 (λ found. bit_and found mask) (λ found. by p (Clear found))
+clear_goes n rows held p mask in_p holds clears history legal found is =
+    let m : Memory = memory_of n rows history in
+    let left : bit_and found mask ≡ word (cleared p m.labels) = ap (λ x. bit_and x mask) is ∙ clears m.labels (history_labels n rows history) in
+    ((in_p, is), ap (λ (x : ℕ). x ∷ concat m.rows) left, holds)
 
 second : (k : ℕ) → 1 + k ≡ suc k
 second k = omega arith

@@ -9,5 +9,6 @@ pub mod Answering
 pub mod Swapping
 pub mod Here
 pub mod Meeting
+pub mod Gathering
 pub mod Rows
 pub mod Offered

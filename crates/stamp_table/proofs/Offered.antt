@@ -1,13 +1,15 @@
 -- The lemmas that other crates may cite: on what one step adds to what a pass has seen, on the steps
 -- of one process, and on beginnings.
-use Rattle.std.proofs.Common.{◌≡◌, ◌≢◌, ◌⊎◌, ◌<◌, ℕ, Bool, List, [], ◌∷◌, ◌++◌, ap, ◌∙◌, subst, append_assoc}
+use Rattle.std.proofs.Common.{◌≡◌, ◌≢◌, ◌⊎◌, ◌<◌, ℕ, Bool, List, [], ◌∷◌, ◌++◌, length, ap, ◌∙◌, subst, append_assoc}
 use Rattle.std.proofs.lemmas.List.{append-nil}
 use Rattle.word_core.specs.History.{IsLegal}
 use Rattle.word_core.specs.declared.history.Shared.{Shared}
 use Rattle.word_core.proofs.OfferedHistory.{next_step}
-use Rattle.stamp_table.specs.Passes.{Holds, none_held, together, mine, StartsWith, Extends}
+use Rattle.std.specs.Prelude.{slice_index_or}
+use Rattle.stamp_table.specs.Passes.{Holds, none_held, together, mine, StartsWith, Extends, TableView, PassView, AllMeet}
 use Rattle.stamp_table.proofs.Prefixes as prefixes
 use Rattle.stamp_table.proofs.Sets as sets
+use Rattle.stamp_table.proofs.Gathering as gathering
 
 pub mine-append : (p : ℕ) (steps others : List Shared) → mine p (steps ++ others) ≡ mine p steps ++ mine p others
 mine-append = prefixes.mine-append
@@ -36,6 +38,11 @@ together_first = sets.together_first
 
 pub together_second : (held others : List Bool) (p : ℕ) → Holds others p → Holds (together held others) p
 together_second = sets.together_second
+
+-- what was held by one of all that met is held by them together
+pub held_by_all : (t : TableView) (passes : List PassView) (met : PassView) → AllMeet t passes met → (k : ℕ) (d : PassView) → k < length passes
+    → (p : ℕ) → Holds (slice_index_or passes k d).held p → Holds met.held p
+held_by_all = gathering.held_by_all
 
 -- the steps of a process that is held are those before, and the new one where it is its own
 pub extends_front : (n rows : ℕ) (held : List Bool) (before after : List Shared) (s : Shared) (p : ℕ) → Holds held p

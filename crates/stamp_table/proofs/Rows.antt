@@ -7,7 +7,7 @@ use Rattle.std.specs.List.{concat}
 use Rattle.std.proofs.Math.Nat.{suc-mul, mul-le-mul_left, mul-le-mul_right}
 use Rattle.std.proofs.lemmas.List.{ext_get_or, get_or-take, get_or-drop, get_or_append_left, get_or-append-add, length-take-le, take-replicate}
 use Rattle.std.proofs.lemmas.List.Elements.{All-head, All-tail, All-nil, All-append, All-get_or}
-use Rattle.word_core.specs.Stamps.{start_labels}
+use Rattle.word_core.specs.Stamps.{Labels, start_labels}
 use Rattle.word_core.specs.Packed.{IsWordOf, word}
 use Rattle.word_core.specs.History.{Memory, start_memory, memory_of, register_at, IsRow, IsLegal}
 use Rattle.word_core.specs.declared.history.Shared.{Shared}
@@ -84,7 +84,7 @@ concat_fits n rows k are in_k =
     All-get_or (λ x. x < 2 ^ 32) (concat rows) k 0 (omega (arith, length-concat n rows are)) (all_fit n rows are)
 
 -- what is read from the words of a closed table is what its history leaves
-pub closed_memory : (n rows : ℕ) → n ≤ 6 → (seen : List Shared) (words registers : List ℕ) (bits : ℕ) (labels : List (List ℕ)) → IsLegal n rows seen
+pub closed_memory : (n rows : ℕ) → n ≤ 6 → (seen : List Shared) (words registers : List ℕ) (bits : ℕ) (labels : Labels) → IsLegal n rows seen
     → words ≡ table_words (memory_of n rows seen) → get_elem? words 0 ≡ some bits → IsWordOf n bits labels → rows * n ≤ length registers
     → ((k : ℕ) → k < rows * n → slice_index registers k ≡ slice_index words (1 + k))
     → record { labels = labels; rows = rows_in rows n registers } ≡ memory_of n rows seen

@@ -1,6 +1,6 @@
 -- What the answer of an exchange says of the history that it ends.
 use Rattle.std.proofs.Common.{◌≡◌, ◌≤◌, ℕ, Bool, List, ap}
-use Rattle.word_core.specs.Stamps.{stamped}
+use Rattle.word_core.specs.Stamps.{Labels, stamped}
 use Rattle.word_core.specs.Packed.{AreLabels, word}
 use Rattle.word_core.specs.History.{memory_of}
 use Rattle.word_core.specs.declared.history.Shared.{Shared}
@@ -15,7 +15,7 @@ abbrev pub LostAre : ℕ → Swap → Type 0
 LostAre n Won = Unit {0}
 LostAre n (Lost found) = AreLabels n found
 
-module _ (n rows : ℕ) (held : List Bool) (before after : List Shared) (p : ℕ) (old new : List (List ℕ)) where
+module _ (n rows : ℕ) (held : List Bool) (before after : List Shared) (p : ℕ) (old new : Labels) where
   pub leaves : (answer : Swap) → n ≤ 6 → AreLabels n old → new ≡ stamped p old → LostAre n answer → Extends n rows held before (by p (swap_act old new answer)) after
       → swap_leaves new answer ≡ (memory_of n rows after).labels
   leaves Won few are stamps lost e = won_labels n rows held before after p old new few are stamps e

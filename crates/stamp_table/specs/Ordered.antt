@@ -1,8 +1,9 @@
 -- The labels that a word holds.
-use Rattle.std.specs.Prelude.{◌≡◌, ℕ, List, length}
+use Rattle.std.specs.Prelude.{◌≡◌, ℕ, length}
+use Rattle.word_core.specs.Stamps.{Labels}
 use Rattle.word_core.specs.Order.{IsOrdered}
 
 -- labels of `n` processes that are in the order of numbers
-pub record AreInOrder (n : ℕ) (labels : List (List ℕ)) : Type 0 where
+pub record AreInOrder (n : ℕ) (labels : Labels) : Type 0 where
   pub count : length labels ≡ n
   pub ordered : IsOrdered labels

@@ -1,5 +1,5 @@
 -- A pass stands for some of the processes of a table and for the steps that it has seen.
-use Rattle.std.specs.Prelude.{◌≡◌, ℕ, ◌==◌, nat_lt, Bool, true, false, ◌||◌, if◌then◌else◌, List, [], ◌∷◌, ◌++◌, length, slice_index_or}
+use Rattle.std.specs.Prelude.{◌≡◌, ◌↔◌, ℕ, ◌==◌, nat_lt, Bool, true, false, ◌||◌, if◌then◌else◌, List, [], ◌∷◌, ◌++◌, length, slice_index_or, All, Any}
 use Rattle.std.specs.List.{filter}
 use Rattle.atomic_table.specs.Seated.{TableId}
 use Rattle.word_core.specs.History.{Memory, memory_of, IsLegal}
@@ -75,6 +75,16 @@ pub record Meets (first second met : PassView) : Type 0 where
   pub first_mine : (p : ℕ) → Holds first.held p → mine p met.seen ≡ mine p first.seen
   pub second_mine : (p : ℕ) → Holds second.held p → mine p met.seen ≡ mine p second.seen
   pub legal : IsLegal first.table.n first.table.rows met.seen
+
+-- Any number of passes of a table met: the new one holds what any of them held, and has seen the longest
+-- of their lists, which begins with each. The steps of each process that it holds are what they were in
+-- the pass that held it.
+pub record AllMeet (t : TableView) (passes : List PassView) (met : PassView) : Type 0 where
+  pub table : met.table ≡ t
+  pub held : (p : ℕ) → Holds met.held p ↔ Any (λ (pass : PassView). Holds pass.held p) passes
+  pub seen : Any (λ (pass : PassView). met.seen ≡ pass.seen) passes
+  pub fronts : All (λ (pass : PassView). StartsWith met.seen pass.seen) passes
+  pub all_mine : All (λ (pass : PassView). (p : ℕ) → Holds pass.held p → mine p met.seen ≡ mine p pass.seen) passes
 
 -- the pass of all processes of a table that has seen nothing yet
 abbrev pub whole : TableView → PassView

@@ -1,17 +1,18 @@
-// The label word: a load, and an exchange.
+// The label word: a load, an exchange, and a clear.
 ghost use Rattle.std.specs.Prelude.{◌≡◌, ◌<◌, length};
-ghost use Rattle.word_core.specs.Stamps.{stamped};
-ghost use Rattle.word_core.specs.Packed.{word};
-ghost use Rattle.word_core.specs.declared.history.SharedAct.TheVariants.{Load};
+ghost use Rattle.word_core.specs.Stamps.{stamped, cleared};
+ghost use Rattle.word_core.specs.Packed.{AreLabels, word};
+ghost use Rattle.word_core.specs.declared.history.SharedAct.TheVariants.{Load, Clear};
 ghost use Rattle.stamp_table.specs.Passes.{Holds, by, Appends, memory_seen};
 ghost use Rattle.stamp_table.specs.Ordered.{AreInOrder};
 ghost use Rattle.stamp_table.specs.Swapped.{swap_act, swap_leaves, LostToOthers};
+ghost use Rattle.stamp_table.specs.Cleared.{Clears};
 
 use crate::pass::Pass;
-use crate::steps::{exchanged, loaded};
+use crate::steps::{exchanged, loaded, masked};
 use crate::table::StampTable;
 use std::marker::Brand;
-use word_core::LabelWord;
+use word_core::{LabelWord, clear_mask};
 
 /// What an exchange answers.
 #[derive(Clone, Copy, PartialEq, Eq, Debug)]
@@ -57,5 +58,35 @@ impl StampTable {
         } else {
             Swap::Lost(LabelWord::from_bits(n, found))
         }
+    }
+
+    /// Gives up the label of process `p`, also where it has none, and tells the word after it. It
+    /// never fails, whatever came between. It is a step of `p`.
+    #[inline(always)]
+    pub fn clear(&self, pass: &mut Pass, p: u8) -> LabelWord
+        requires here { pass.old.table ≡ self.now }
+        requires held { Holds pass.old.held p }
+        ensures clears { Clears p pass.old result pass.new }
+        ensures labels { result ≡ (memory_seen pass.new).labels }
+        ensures ordered { AreInOrder self.now.n result }
+        ensures range { p < length result }
+    {
+        let found = self.take_out(pass, p);
+        found.cleared(p)
+    }
+
+    // Takes the label of process `p` out of the word, and gives the word found.
+    #[inline(always)]
+    fn take_out(&self, pass: &mut Pass, p: u8) -> LabelWord
+        requires here { pass.old.table ≡ self.now }
+        requires held { Holds pass.old.held p }
+        ensures step { Appends pass.old (by p (Clear (word result))) pass.new }
+        ensures found { AreLabels self.now.n result }
+        ensures left { cleared p result ≡ (memory_seen pass.new).labels }
+        ensures ordered { AreInOrder self.now.n (cleared p result) }
+        ensures range { p < length result }
+    {
+        let found = masked::<Brand>(&self.table.shared, &mut pass.seat, p, clear_mask(p));
+        LabelWord::from_bits(self.n, found)
     }
 }

@@ -9,6 +9,7 @@
 // It stands in two parts over one rule (`rule`): the label word, and the registers.
 #![tactic(auto)]
 
+mod at_once;
 mod closing;
 mod fault;
 mod label_word;

@@ -1,6 +1,6 @@
 // The atomic steps on the words of a table, each with what the rule asks of it and what it tells. Which
 // step of the history it is, the caller's proof says (`Doing`).
-ghost use Rattle.std.specs.Prelude.{◌≡◌, ◌+◌, ◌^◌, ◌<◌, ◌==◌, []};
+ghost use Rattle.std.specs.Prelude.{◌≡◌, ◌+◌, ◌^◌, ◌<◌, ◌==◌, [], bit_and};
 ghost use prog.Atomic.{either};
 ghost use Rattle.stamp_table.specs.Rule.{plain};
 ghost use Rattle.stamp_table.specs.Passes.{Holds};
@@ -37,6 +37,19 @@ pub fn exchanged<J: Doing>(words: &Words, seat: &mut Place, _process: u8, old: u
     ensures did { Does J.n J.rows (J.makes result) seat.old.me seat.new.me }
 {
     words.compare_exchange::<OneStep<J>>(seat, 0, old, new)
+}
+
+/// Leaves of the label word what the mask has, and gives the word found.
+#[inline(always)]
+pub fn masked<J: Doing>(words: &Words, seat: &mut Place, _process: u8, mask: u64) -> u64
+    requires fits { (seat.old.table_id ≡ words.now.table_id) × (0 < words.now.table_id.words) }
+    requires plain { seat.old.me ≡ (plain seat.old.me.0.held seat.old.me.0.seen, []) }
+    requires layout { (J.n ≡ words.now.key.n) × (J.rows ≡ words.now.key.rows) }
+    requires goes { Goes J.n J.rows seat.old.me.0.held 0 (λ found. bit_and found mask) J.makes }
+    ensures same { seat.new.table_id ≡ seat.old.table_id }
+    ensures did { Does J.n J.rows (J.makes result) seat.old.me seat.new.me }
+{
+    words.fetch_and::<OneStep<J>>(seat, 0, mask)
 }
 
 /// Loads the register at this place.

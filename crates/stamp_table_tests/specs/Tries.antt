@@ -3,7 +3,7 @@ use Rattle.std.specs.Prelude.{◌≡◌, ℕ, suc, ◌<◌, List, [], ◌∷◌,
 use Rattle.word_core.specs.History.{Memory, memory_of, IsLegal}
 use Rattle.word_core.specs.declared.history.Shared.{Shared}
 use Rattle.word_core.specs.declared.history.SharedAct.{SharedAct}
-use Rattle.word_core.specs.declared.history.SharedAct.TheVariants.{Load, Won, Lost, Read, Write}
+use Rattle.word_core.specs.declared.history.SharedAct.TheVariants.{Load, Won, Lost, Read, Write, Clear}
 use Rattle.stamp_table.specs.Passes.{PassView, Holds, mine}
 
 -- how many of the steps are exchanges that won
@@ -13,6 +13,7 @@ wins_by (Won old new) more = suc more
 wins_by (Lost old found) more = more
 wins_by (Read r i v) more = more
 wins_by (Write r v) more = more
+wins_by (Clear old) more = more
 
 abbrev pub wins : List Shared → ℕ
 wins [] = 0

@@ -7,5 +7,5 @@ mod tests;
 mod threads;
 mod trying;
 
-pub use threads::{CountedSix, CountedTwo, six, two};
+pub use threads::{Counted, all_try};
 pub use trying::{Tried, tries, try_once};

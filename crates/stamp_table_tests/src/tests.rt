@@ -1,23 +1,94 @@
-use crate::threads::{six, two};
+ghost use Rattle.std.specs.Prelude.{◌≤◌};
+
+use crate::threads::all_try;
 use crate::trying::try_once;
 use label_core::Label;
-use stamp_table::{Swap, open};
+use stamp_table::{Pass, Swap, open};
+use std::alloc::Global;
 use std::test::Fail;
+use std::thread::Threads;
+use testing::{holds, is_same};
 use word_core::LabelWord;
 
-// The words of two processes and of one, the numbers of labels, and the ranks in a word.
+// Bits with two processes, and whether they are a word: no process present, the first, both, the first
+// with labels that there are none of, an absent process's byte, and what is past the last process.
+static OF_TWO: [(u64, bool); 10] = [
+    (0, true),
+    (281_474_976_710_656, true),
+    (844_424_930_132_480, true),
+    (281_474_976_710_659, false),
+    (281_474_976_710_911, false),
+    (513, false),
+    (281_474_976_710_912, false),
+    (844_424_930_197_504, false),
+    (1_125_899_906_842_624, false),
+    (9_223_372_036_854_775_808, false),
+];
+
+// The words of two processes and of one, and the numbers of labels.
 #[test]
-fn words_and_labels(rt: HostRuntime) -> Result<(), Fail> {
-    assert!(rt; LabelWord::read(2, 513).is_some() && LabelWord::read(2, 3).is_none());
-    assert!(rt; LabelWord::read(2, 65_536).is_none() && LabelWord::read(1, 1).is_none());
-    assert!(rt; Label::of_number(6, 242).is_some() && Label::of_number(6, 243).is_none());
-    assert!(rt;
-        matches!(Label::of_number(3, 5), Some(label) if label.number() == 5 && label.digit(1) == 2)
-    );
-    assert!(rt;
-        matches!(LabelWord::read(3, 65_543), Some(word) if word.ranks() == [0, 1, 2, 0, 0, 0])
-    );
-    Ok(())
+fn words_and_labels(_rt: HostRuntime) -> Result<(), Fail> {
+    for (bits, is_word) in &OF_TWO {
+        is_same(&LabelWord::read(2, *bits).is_some(), is_word)?;
+    }
+    holds(
+        LabelWord::read(1, 281_474_976_710_656).is_some(),
+        "one present",
+    )?;
+    holds(
+        LabelWord::read(1, 281_474_976_710_657).is_none(),
+        "the label of no digits",
+    )?;
+    holds(Label::of_number(6, 242).is_some(), "the last label of six")?;
+    holds(Label::of_number(6, 243).is_none(), "no label of six")?;
+    holds(
+        matches!(Label::of_number(3, 5), Some(label) if label.number() == 5 && label.digit(1) == 2),
+        "the digits of a label",
+    )
+}
+
+// The ranks in a word of three: with all present, and with one that is absent.
+#[test]
+fn ranks_in_words(_rt: HostRuntime) -> Result<(), Fail> {
+    holds(
+        matches!(LabelWord::read(3, 1_970_324_837_040_135), Some(word) if word.ranks() == [0, 1, 2, 0, 0, 0]),
+        "ranks of three",
+    )?;
+    holds(
+        matches!(LabelWord::read(3, 1_407_374_883_749_892), Some(word) if word.ranks() == [2, 0, 1, 0, 0, 0]),
+        "ranks of two beside an absent one",
+    )
+}
+
+// Three processes stamp, and one gives its label up: an exchange that looks for the word before that
+// is lost, and the next label is beside those that are left.
+#[test]
+fn a_label_given_up(rt: HostRuntime) -> Result<(), Fail> {
+    let (table, pass) = open(rt.alloc(), 3, 0)?;
+    let (rest, mut two) = table.split(pass, 2);
+    let (mut zero, mut one) = table.split(rest, 1);
+    is_same(&try_once(&table, &mut zero, 0), &true)?;
+    is_same(&table.load(&mut one, 1).bits(), &281_474_976_710_656)?;
+    is_same(&try_once(&table, &mut one, 1), &true)?;
+    is_same(&try_once(&table, &mut two, 2), &true)?;
+    let old = table.load(&mut zero, 0);
+    is_same(&old.bits(), &1_970_324_837_171_456)?;
+    let left = table.clear(&mut one, 1);
+    is_same(&left.bits(), &1_407_374_883_749_888)?;
+    is_same(
+        &table.exchange(&mut zero, 0, old, old.stamped(0)),
+        &Swap::Lost(left),
+    )?;
+    is_same(
+        &table.exchange(&mut zero, 0, left, left.stamped(0)),
+        &Swap::Won,
+    )?;
+    let again = table.clear(&mut one, 1);
+    is_same(&again.bits(), &1_407_374_883_749_892)?;
+    let met = table.meet(zero, one);
+    let met = table.meet(met, two);
+    let last = table.close(met);
+    is_same(&last.word(), &again)
 }
 
 // Three processes stamp in turn until the word of an older load comes back.
@@ -30,16 +101,16 @@ fn the_word_comes_back(rt: HostRuntime) -> Result<(), Fail> {
     assert!(rt; try_once(&table, &mut zero, 0) && try_once(&table, &mut one, 1));
     assert!(rt; try_once(&table, &mut two, 2) && try_once(&table, &mut one, 1));
     let old = table.load(&mut zero, 0);
-    assert_eq!(rt; old.bits(), 395011);
+    assert_eq!(rt; old.bits(), 1_970_324_837_172_224);
     assert!(rt; try_once(&table, &mut two, 2) && try_once(&table, &mut one, 1));
     assert!(rt; try_once(&table, &mut two, 2) && try_once(&table, &mut one, 1));
     assert!(rt; try_once(&table, &mut two, 2) && try_once(&table, &mut one, 1));
     let new = old.stamped(0);
-    assert_eq!(rt; new.bits(), 395008);
+    assert_eq!(rt; new.bits(), 1_970_324_837_172_230);
     assert_eq!(rt; table.exchange(&mut zero, 0, old, new), Swap::Won);
     match table.exchange(&mut one, 1, old, old.stamped(1)) {
         Swap::Won => assert!(rt; false),
-        Swap::Lost(found) => assert_eq!(rt; found.bits(), 395008),
+        Swap::Lost(found) => assert_eq!(rt; found.bits(), 1_970_324_837_172_230),
     }
     table.write(&mut zero, 0, 0, 5);
     assert_eq!(rt; table.read(&mut one, 1, 0, 0), 5);
@@ -48,33 +119,84 @@ fn the_word_comes_back(rt: HostRuntime) -> Result<(), Fail> {
     let met = table.meet(met, two);
     assert!(rt; met.holds(0) && met.holds(1) && met.holds(2) && !met.holds(3));
     let last = table.close(met);
-    assert_eq!(rt; last.word().bits(), 395008);
+    assert_eq!(rt; last.word().bits(), 1_970_324_837_172_230);
     assert_eq!(rt; last.register(0, 0), 5);
     assert_eq!(rt; last.register(0, 1), 0);
     assert_eq!(rt; last.register(0, 2), 0);
     Ok(())
 }
 
-// A try is lost only where the other thread won after the word was loaded.
+// Whether the pass holds process `p` alone.
+fn holds_alone(pass: &Pass, p: u8) -> bool {
+    for other in 0..7u8 {
+        if pass.holds(other) != (other == p) {
+            return false;
+        }
+    }
+    true
+}
+
+// Each process has a pass, in order, and together they hold what the one did. Where memory is refused
+// the pass comes back, and is split again.
+fn parts_and_meets(alloc: Global, n: u8) -> Result<(), Fail>
+    requires at_least_one { 1 ≤ n }
+    requires at_most_six { n ≤ 6 }
+{
+    let (table, all) = open(alloc, n, 8)?;
+    let passes = match table.split_all(alloc, all) {
+        Ok(passes) => passes,
+        Err((all, _refused)) => match table.split_all(alloc, all) {
+            Ok(passes) => passes,
+            Err((_all, refused)) => return Err(Fail::from(refused)),
+        },
+    };
+    let mut p = 0u8;
+    for pass in &passes {
+        holds(holds_alone(pass, p), "a pass for one process")?;
+        p = p.wrapping_add(1);
+    }
+    holds(p == n, "a pass for each process")?;
+    let Some(met) = table.meet_all(passes) else {
+        return Err(Fail::from("no pass"));
+    };
+    for p in 0..8u8 {
+        holds(met.holds(p) == (p < n), "all processes")?;
+    }
+    holds(table.meet_all(Vec::new(alloc)).is_none(), "none of none")
+}
+
 #[test]
-fn two_threads(rt: HostRuntime) -> Result<(), Fail> {
-    let counted = two(&rt, rt.alloc(), 1_000)?;
-    let first = counted.won[0];
-    let second = counted.won[1];
-    assert!(rt; first <= 1_000 && second <= 1_000);
-    assert!(rt; 1_000 - first <= second && 1_000 - second <= first);
+fn passes_part_and_meet(rt: HostRuntime) -> Result<(), Fail> {
+    for n in 1..7u8 {
+        parts_and_meets(rt.alloc(), n)?;
+    }
     Ok(())
 }
 
-// Each try that is lost is lost to another thread, so none can have lost more than the others won.
-#[test]
-fn six_threads(rt: HostRuntime) -> Result<(), Fail> {
-    let counted = six(&rt, rt.alloc(), 20_000)?;
+// A try is lost only where another thread won after the word was loaded, so no thread can have lost more
+// tries than the others won.
+fn have_counted<R: AllocGlobal + Threads + Sync>(rt: &R, n: u8, count: u32) -> Result<(), Fail>
+    requires at_least_one { 1 ≤ n }
+    requires at_most_six { n ≤ 6 }
+{
+    let counted = all_try(rt, rt.alloc(), n, count)?;
     let mut all = 0u64;
-    for won in counted.won {
-        assert!(rt; won <= 20_000);
-        all = all.wrapping_add(u64::from(won));
+    for won in &counted.won {
+        holds(*won <= count, "no more wins than tries")?;
+        all = all.wrapping_add(u64::from(*won));
     }
-    assert!(rt; all >= 20_000);
+    holds(counted.won.len() == n as usize, "a count for each process")?;
+    holds(
+        all >= u64::from(count),
+        "as many wins as one thread has tries",
+    )
+}
+
+#[test]
+fn threads_try(rt: HostRuntime) -> Result<(), Fail> {
+    have_counted(&rt, 2, 1_000)?;
+    for n in 1..7u8 {
+        have_counted(&rt, n, 20_000)?;
+    }
     Ok(())
 }

@@ -4,10 +4,14 @@
 //! no helper needs the leave to end the process, and each of them is proved like any other function.
 #![tactic(auto)]
 
+mod polls;
 mod programs;
 mod rows;
 mod texts;
+mod threads;
 
+pub use polls::Polls;
 pub use programs::{accepted, refusal};
 pub use rows::{holds, is_same};
 pub use texts::repeated;
+pub use threads::on_threads;
