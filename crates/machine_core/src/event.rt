@@ -11,11 +11,15 @@ pub enum Act {
     Get(u8, u8, u32),
     /// The process took the next ticket.
     Stamp,
+    /// The process gave its ticket up, if it held one.
+    Clear,
     /// The process read all tickets. For each process, how many processes held a smaller one; the
     /// entries past the last process are 0.
     Scan([u8; MOST_PROCESSES]),
     /// The process compared two processes' tickets in a scan: 1 where the first's was smaller, else 0.
     Older(u8, u8, u8),
+    /// The process asked whether a process held a ticket in a scan: whose, and 1 where it did, else 0.
+    Held(u8, u8),
     /// The process gave out a value.
     Out(u32),
     /// The process was stopped.

@@ -1,8 +1,8 @@
-// What both machines share: the operators and what they mean, traps, register rows, and what a run
-// lets others see. The machine on whole-number tickets and the machine on bounded labels speak of
-// the same events, statuses and outcomes, so that their runs can be compared as they are.
-//
-// Start with `Event` and `Outcome`; `Op::apply` is the arithmetic of expressions.
+//! What both machines share: the operators and what they mean, traps, register rows, and what a run
+//! lets others see. The machine on whole-number tickets and the machine on bounded labels speak of
+//! the same events, statuses and outcomes, so that their runs can be compared as they are.
+//!
+//! Start with `Event` and `Outcome`; `Op::apply` is the arithmetic of expressions.
 #![tactic(auto)]
 
 mod event;

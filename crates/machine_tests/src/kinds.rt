@@ -16,7 +16,7 @@ fn refuses<R: AllocGlobal + Abort>(rt: &R, text: &str, fault: KindFault) -> Resu
 }
 
 // A program, and why it isn't accepted.
-static REFUSALS: [(&str, KindFault); 7] = [
+static REFUSALS: [(&str, KindFault); 11] = [
     (
         "processes 0; begin end",
         KindFault::Processes(Span { start: 10, end: 11 }),
@@ -40,6 +40,35 @@ static REFUSALS: [(&str, KindFault); 7] = [
             wanted: Kind::Variable,
             found: Kind::Scan,
         },
+    ),
+    // `held` takes a variable, a scan and an expression
+    (
+        "processes 2; var x; scan s; begin s = held s 0; end",
+        KindFault::WrongKind {
+            span: Span { start: 34, end: 35 },
+            wanted: Kind::Variable,
+            found: Kind::Scan,
+        },
+    ),
+    (
+        "processes 2; var x; reg r; begin x = held r 0; end",
+        KindFault::WrongKind {
+            span: Span { start: 42, end: 43 },
+            wanted: Kind::Scan,
+            found: Kind::Register,
+        },
+    ),
+    (
+        "processes 2; var x; scan s; begin x = held s s; end",
+        KindFault::WrongKind {
+            span: Span { start: 45, end: 46 },
+            wanted: Kind::Variable,
+            found: Kind::Scan,
+        },
+    ),
+    (
+        "processes 2; var x; begin clear; x = held s 0; end",
+        KindFault::Unknown(Span { start: 42, end: 43 }),
     ),
     // the first name that is too many
     (
@@ -148,7 +177,7 @@ fn gives_the_tree_back(rt: HostRuntime) -> Result<(), Fail> {
 fn accepts_a_long_program(rt: HostRuntime) -> Result<(), Fail> {
     let mut text = String::from_str(rt.alloc(), "processes 2; var x; scan s, t; begin ")?;
     for _ in 0..10_000 {
-        text.push_str("t = copy s; x = (x + 1); if x { } else { stamp; } ")?;
+        text.push_str("t = copy s; x = held s me; if x { clear; } else { stamp; } ")?;
     }
     text.push_str("end")?;
     let program = accepted(rt.alloc(), &text)?;

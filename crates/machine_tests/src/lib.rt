@@ -1,5 +1,8 @@
-// Tests of what stands on programs and schedules, in files named by what they test. They stand in a
-// crate of their own, since a crate with tests is proved twice.
+//! Tests of what stands on programs and schedules: acceptance, the machine on tickets, schedules
+//! and reports. They stand in a crate of their own, since a crate with tests is proved twice.
+//!
+//! Start with the file that is named by what you look for; `answers` and `programs` have what they
+//! share.
 #![tactic(auto)]
 
 #[cfg(test)]

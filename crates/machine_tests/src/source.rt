@@ -13,12 +13,14 @@ begin
   s = scan;
   t = copy s;
   x = older t 0 1;
+  y = held t 1;
   put r (x + 5);
   y = get r me;
   out y;
   if y { out 1; } else { out 2; }
   while (x < 2) { x = (x + 1); }
   out x;
+  clear;
 end";
 
 fn reports<R: AllocGlobal + Abort>(
@@ -38,9 +40,59 @@ fn runs_each_statement(rt: HostRuntime) -> Result<(), Fail> {
         &rt,
         EACH_STATEMENT,
         "0*20 1*20",
-        "0 stamp\n0 scan 1 0\n0 older 0 1 0\n0 put 0 5\n0 get 0 0 5\n0 out 5\n0 out 1\n0 out 2\n0 end\n\
-1 stamp\n1 scan 0 1\n1 older 0 1 1\n1 put 0 6\n1 get 0 1 6\n1 out 6\n1 out 1\n1 out 2\n1 end\n\
+        "0 stamp\n0 scan 1 0\n0 older 0 1 0\n0 held 1 0\n0 put 0 5\n0 get 0 0 5\n0 out 5\n0 out 1\n0 out 2\n0 clear\n0 end\n\
+1 stamp\n1 scan 0 1\n1 older 0 1 1\n1 held 1 1\n1 put 0 6\n1 get 0 1 6\n1 out 6\n1 out 1\n1 out 2\n1 clear\n1 end\n\
 reg 0 5 6\nstatus 0 ended\nstatus 1 ended\n",
+    )
+}
+
+// A process holds its ticket until it gives it up; then the next stamp of any takes ticket 1 again.
+#[test]
+fn gives_a_ticket_up(rt: HostRuntime) -> Result<(), Fail> {
+    reports(
+        &rt,
+        "processes 2; var x; scan s; begin stamp; s = scan; x = held s 1; out x; clear; s = scan; x = held s me; out x; end",
+        "0*9",
+        "0 stamp\n0 scan 1 0\n0 held 1 0\n0 out 0\n0 clear\n0 scan 0 0\n0 held 0 0\n0 out 0\n0 end\n\
+status 0 ended\nstatus 1 running\n",
+    )
+}
+
+// Who comes waits while the other holds an older ticket. Process 0 comes first; process 1 finds that it
+// is held, looks again, and goes in once process 0 has left.
+#[test]
+fn locks_for_two(rt: HostRuntime) -> Result<(), Fail> {
+    reports(
+        &rt,
+        "processes 2; var w; scan s; begin stamp; w = 1; while w { s = scan; w = held s (1 - me); if w { w = older s (1 - me) me; } else { } } out me; clear; end",
+        "0 1*7 0*9 1*6",
+        "0 stamp\n1 stamp\n1 scan 0 1\n1 held 0 1\n1 older 0 1 1\n0 scan 0 1\n0 held 1 1\n0 older 1 0 0\n0 out 0\n0 clear\n\
+1 scan 0 1\n1 held 0 0\n1 out 1\nstatus 0 running\nstatus 1 running\n",
+    )
+}
+
+// A clear is a step also where no ticket is held, and it is the own ticket that it gives up. A scan that
+// was never taken has no tickets; a copy has those of the scan as it stood.
+#[test]
+fn asks_for_tickets(rt: HostRuntime) -> Result<(), Fail> {
+    reports(
+        &rt,
+        "processes 3; var x; scan s, t; begin clear; x = held s me; stamp; s = scan; t = copy s; clear; s = scan; x = held t me; x = held s me; x = held s 2; end",
+        "2*4 1*20",
+        "2 clear\n2 held 2 0\n2 stamp\n2 scan 0 0 2\n1 clear\n1 held 1 0\n1 stamp\n1 scan 0 2 1\n1 clear\n1 scan 0 0 2\n1 held 1 1\n1 held 1 0\n1 held 2 1\n1 end\n\
+status 0 running\nstatus 1 ended\nstatus 2 running\n",
+    )
+}
+
+// The index is looked at once the operand has a value.
+#[test]
+fn stops_where_none_can_be_held(rt: HostRuntime) -> Result<(), Fail> {
+    reports(
+        &rt,
+        "processes 3; var x; scan s; begin if me { } else { x = held s n; } if (me == 1) { x = held s (1 / 0); } else { } x = held s (n - 1); x = held s 4294967295; end",
+        "0*9 1*9 2*9",
+        "0 trap Index\n1 trap Zero\n2 held 2 0\n2 trap Index\n\
+status 0 trapped Index\nstatus 1 trapped Zero\nstatus 2 trapped Index\n",
     )
 }
 
@@ -106,7 +158,7 @@ fn steps_each_statement(rt: HostRuntime) -> Result<(), Fail> {
     assert!(rt; program.processes() == 2);
     let steps = read_schedule(rt.alloc(), "0*20 1*20", program.processes())?;
     let outcome = outcome_of(rt.alloc(), &program, &steps)?;
-    is_same(&outcome.events.len(), &18)?;
+    is_same(&outcome.events.len(), &22)?;
     let mut machine = machine_of(rt.alloc(), &program)?;
     step_often(&mut machine, 0, 20)?;
     step_often(&mut machine, 1, 20)?;
@@ -146,11 +198,11 @@ fn runs_a_schedule(rt: HostRuntime) -> Result<(), Fail> {
 fn runs_long(rt: HostRuntime) -> Result<(), Fail> {
     let program = accepted(
         rt.alloc(),
-        "processes 2; var x; scan s, t; begin while (x < 100000) { x = (x + 1); t = copy s; stamp; } end",
+        "processes 2; var x; scan s, t; begin while (x < 100000) { x = (x + 1); t = copy s; stamp; clear; } end",
     )?;
-    let steps = read_schedule(rt.alloc(), "0*400002 1*1000000", program.processes())?;
+    let steps = read_schedule(rt.alloc(), "0*500002 1*1000000", program.processes())?;
     let outcome = run(rt.alloc(), &program, &steps)?;
-    is_same(&outcome.events.len(), &200_002)?;
+    is_same(&outcome.events.len(), &400_002)?;
     let statuses = [Status::Ended, Status::Ended];
     holds(
         outcome.statuses.as_slice() == statuses.as_slice(),

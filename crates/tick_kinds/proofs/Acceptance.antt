@@ -17,7 +17,7 @@ use Rattle.tick_kinds.specs.Within.{IsExpressionWithin, IsStatementWithin, IsWit
 use Rattle.tick_kinds.proofs.Accepting.{IsOnce, IsSmall, front_empty, back_empty, both_empty, kept_empty, pairs_from, once_from, declarations_fine, declarations_clear, smalls, fresh_first, all_left, all_right, all_both, within_limit, numbers_small}
 use Rattle.tick_kinds.proofs.Telling.{told, program_told}
 use Rattle.tick_kinds.proofs.Using.{letters-declarations, use_within, uses_declared, uses_clear}
-use Rattle.tick_syntax.specs.Plain.{Name, Expression, number, named, me, count, binary, Statement, assign, get, put, stamp, scan, copy, older, out, branch, repeat, Block, nil, cons, map_expression, map_statement, map_block, WholeProgram}
+use Rattle.tick_syntax.specs.Plain.{Name, Expression, number, named, me, count, binary, Statement, assign, get, put, stamp, clear, scan, copy, older, held, out, branch, repeat, Block, nil, cons, map_expression, map_statement, map_block, WholeProgram}
 
 and_left : (a b : Bool) → (a && b) ≡ true → a ≡ true
 and_left true b h = refl
@@ -167,6 +167,7 @@ module _ (p : WholeProgram Name) where
         (first_within (a_variable x) _ h, first_within (a_register r) _ h1, expression_within e (rest_of (a_register r) _ h1))
     statement_within (put r e) h = (first_within (a_register r) _ h, expression_within e (rest_of (a_register r) _ h))
     statement_within stamp h = tt
+    statement_within clear h = tt
     statement_within (scan s) h = first_within (a_scan s) _ h
     statement_within (copy t s) h = (first_within (a_scan t) _ h, first_within (a_scan s) _ (rest_of (a_scan t) _ h))
     statement_within (older x s a b) h =
@@ -177,6 +178,9 @@ module _ (p : WholeProgram Name) where
           expression_within a (front_of (expression_uses a) _ h2),
           expression_within b (back_of (expression_uses a) _ h2),
         )
+    statement_within (held x s e) h =
+        let h1 = rest_of (a_variable x) _ h in
+        (first_within (a_variable x) _ h, first_within (a_scan s) _ h1, expression_within e (rest_of (a_scan s) _ h1))
     statement_within (out e) h = expression_within e h
     statement_within (branch e a b) h =
         let h1 = back_of (expression_uses e) _ h in (

@@ -12,12 +12,12 @@ use Rattle.tick_kinds.specs.declared.fault.KindFault.TheVariants as F
 use Rattle.tick_kinds.specs.declared.kind.Kind.{Kind}
 use Rattle.tick_kinds.specs.declared.kind.Kind.TheVariants as K
 use Rattle.machine_core.specs.Refusing.{◌>>=◌}
-use Rattle.tick_kinds.specs.prover.Checked.{Checked, number_if, with_declaration, checked_name, checked_expression, checked_assign, checked_get, checked_put, checked_copy, checked_older, checked_statement, checked_block, checked_declaration, checked_declarations, checked_program}
+use Rattle.tick_kinds.specs.prover.Checked.{Checked, number_if, with_declaration, checked_name, checked_expression, checked_assign, checked_get, checked_put, checked_copy, checked_older, checked_held, checked_statement, checked_block, checked_declaration, checked_declarations, checked_program}
 use Rattle.tick_kinds.specs.Declarations.{Slot, Declaration, declarations, slot_in, limit}
 use Rattle.tick_kinds.specs.Refusals.{is_kind, use_refusals, use_refusals_by, declaration_refusals, declarations_refusals, refusals}
 use Rattle.tick_kinds.specs.Resolution.{number_by, slot_number, resolved}
 use Rattle.tick_kinds.specs.Uses.{Use, expression_uses, statement_uses, block_uses}
-use Rattle.tick_syntax.specs.Plain.{Name, Expression, number, named, me, count, binary, Statement, assign, get, put, stamp, scan, copy, older, out, branch, repeat, Block, nil, cons, map_expression, map_statement, map_block, WholeProgram}
+use Rattle.tick_syntax.specs.Plain.{Name, Expression, number, named, me, count, binary, Statement, assign, get, put, stamp, clear, scan, copy, older, held, out, branch, repeat, Block, nil, cons, map_expression, map_statement, map_block, WholeProgram}
 
 -- the first of the faults, else the value
 abbrev pub told : {A : Type 0} → List KindFault → A → Checked A
@@ -80,7 +80,7 @@ module _ (look : List ℕ → Option Slot) where
       ∙ split (expression_uses a) (expression_uses b) _
 
   mutual
-    unfolding checked_statement checked_block checked_assign checked_get checked_put checked_copy checked_older
+    unfolding checked_statement checked_block checked_assign checked_get checked_put checked_copy checked_older checked_held
 
     pub statement_told :
         (s : Statement Name) → checked_statement look s ≡ told (faults (statement_uses s)) (map_statement num s)
@@ -92,6 +92,7 @@ module _ (look : List ℕ → Option Slot) where
     statement_told (put r e) =
         told-then _ _ _ _ _ _ (name_told K.Register r) (told-last _ _ _ _ (expression_told e))
     statement_told stamp = refl
+    statement_told clear = refl
     statement_told (scan s) = told-then _ _ [] _ _ _ (name_told K.Scan s) refl
     statement_told (copy t s) =
         told-then _ _ _ _ _ _ (name_told K.Scan t) (told-then _ _ [] _ _ _ (name_told K.Scan s) refl)
@@ -100,6 +101,9 @@ module _ (look : List ℕ → Option Slot) where
         (told-then _ _ _ _ _ _ (name_told K.Scan s)
         (told-then _ _ _ _ _ _ (expression_told a) (told-last _ _ _ _ (expression_told b))
         ∙ split (expression_uses a) (expression_uses b) _))
+    statement_told (held x s e) =
+        told-then _ _ _ _ _ _ (name_told K.Variable x)
+        (told-then _ _ _ _ _ _ (name_told K.Scan s) (told-last _ _ _ _ (expression_told e)))
     statement_told (out e) = told-last _ _ _ _ (expression_told e)
     statement_told (branch e a b) =
         told-then _ _ _ _ _ _ (expression_told e)

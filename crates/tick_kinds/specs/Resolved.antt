@@ -5,7 +5,7 @@ use Rattle.tick_kinds.specs.declared.resolved.Expression.TheVariants as E
 use Rattle.tick_kinds.specs.declared.resolved.Statement.{Row_of-Statement, end_of-Statement, more_of-Statement}
 use Rattle.tick_kinds.specs.declared.resolved.Statement as DeclaredStatement
 use Rattle.tick_kinds.specs.declared.resolved.Statement.TheVariants as S
-use Rattle.tick_syntax.specs.Plain.{Expression, number, named, me, count, binary, Statement, assign, get, put, stamp, scan, copy, older, out, branch, repeat, Block, nil, cons}
+use Rattle.tick_syntax.specs.Plain.{Expression, number, named, me, count, binary, Statement, assign, get, put, stamp, clear, scan, copy, older, held, out, branch, repeat, Block, nil, cons}
 
 abbrev pub resolved_expression : DeclaredExpression.Expression → Expression ℕ
 resolved_expression (E.Number v) = number v
@@ -20,9 +20,11 @@ abbrev mutual
   resolved_statement (S.Get x r e) = get x r (resolved_expression e)
   resolved_statement (S.Put r e) = put r (resolved_expression e)
   resolved_statement S.Stamp = stamp
+  resolved_statement S.Clear = clear
   resolved_statement (S.Scan s) = scan s
   resolved_statement (S.Copy t s) = copy t s
   resolved_statement (S.Older x s a b) = older x s (resolved_expression a) (resolved_expression b)
+  resolved_statement (S.Held x s e) = held x s (resolved_expression e)
   resolved_statement (S.Out e) = out (resolved_expression e)
   resolved_statement (S.If' e p a q b) = branch (resolved_expression e) (resolved_row a) (resolved_row b)
   resolved_statement (S.While' e p a) = repeat (resolved_expression e) (resolved_row a)

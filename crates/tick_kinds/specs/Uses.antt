@@ -2,7 +2,7 @@
 use Rattle.std.specs.Prelude.{List, [], ◌∷◌, ◌++◌}
 use Rattle.tick_kinds.specs.declared.kind.Kind.{Kind}
 use Rattle.tick_kinds.specs.declared.kind.Kind.TheVariants as K
-use Rattle.tick_syntax.specs.Plain.{Name, Expression, number, named, me, count, binary, Statement, assign, get, put, stamp, scan, copy, older, out, branch, repeat, Block, nil, cons}
+use Rattle.tick_syntax.specs.Plain.{Name, Expression, number, named, me, count, binary, Statement, assign, get, put, stamp, clear, scan, copy, older, held, out, branch, repeat, Block, nil, cons}
 
 pub record Use : Type 0 where
   pub wanted : Kind
@@ -30,9 +30,11 @@ abbrev mutual
   statement_uses (get x r e) = a_variable x ∷ a_register r ∷ expression_uses e
   statement_uses (put r e) = a_register r ∷ expression_uses e
   statement_uses stamp = []
+  statement_uses clear = []
   statement_uses (scan s) = a_scan s ∷ []
   statement_uses (copy t s) = a_scan t ∷ a_scan s ∷ []
   statement_uses (older x s a b) = a_variable x ∷ a_scan s ∷ (expression_uses a ++ expression_uses b)
+  statement_uses (held x s e) = a_variable x ∷ a_scan s ∷ expression_uses e
   statement_uses (out e) = expression_uses e
   statement_uses (branch e a b) = expression_uses e ++ (block_uses a ++ block_uses b)
   statement_uses (repeat e a) = expression_uses e ++ block_uses a

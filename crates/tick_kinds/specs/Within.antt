@@ -1,7 +1,7 @@
 -- Every number in a resolved block names something that is declared: a variable below the number of
 -- variables, a scan below that of scans, a register row below that of rows.
 use Rattle.std.specs.Prelude.{ℕ, ◌<◌}
-use Rattle.tick_syntax.specs.Plain.{Expression, number, named, me, count, binary, Statement, assign, get, put, stamp, scan, copy, older, out, branch, repeat, Block, nil, cons}
+use Rattle.tick_syntax.specs.Plain.{Expression, number, named, me, count, binary, Statement, assign, get, put, stamp, clear, scan, copy, older, held, out, branch, repeat, Block, nil, cons}
 
 module _ (variables scans registers : ℕ) where
   abbrev pub IsExpressionWithin : Expression ℕ → Type 0
@@ -17,10 +17,12 @@ module _ (variables scans registers : ℕ) where
     IsStatementWithin (get x r e) = (x < variables) × (r < registers) × IsExpressionWithin e
     IsStatementWithin (put r e) = (r < registers) × IsExpressionWithin e
     IsStatementWithin stamp = Unit {0}
+    IsStatementWithin clear = Unit {0}
     IsStatementWithin (scan s) = s < scans
     IsStatementWithin (copy t s) = (t < scans) × (s < scans)
     IsStatementWithin (older x s a b) =
         (x < variables) × (s < scans) × IsExpressionWithin a × IsExpressionWithin b
+    IsStatementWithin (held x s e) = (x < variables) × (s < scans) × IsExpressionWithin e
     IsStatementWithin (out e) = IsExpressionWithin e
     IsStatementWithin (branch e a b) = IsExpressionWithin e × IsWithin a × IsWithin b
     IsStatementWithin (repeat e a) = IsExpressionWithin e × IsWithin a

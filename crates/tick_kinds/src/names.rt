@@ -1,7 +1,7 @@
 ghost use Rattle.tick_syntax.specs.View.{tree_of, name_of, expression_of, statement_of, block_of};
 ghost use Rattle.tick_kinds.specs.Resolved.{resolved_expression, resolved_statement, resolved_block};
 ghost use Rattle.tick_kinds.specs.prover.Table.{slot_at};
-ghost use Rattle.tick_kinds.specs.prover.Checked.{Gives, checked_name, checked_expression, checked_assign, checked_get, checked_put, checked_copy, checked_older, checked_statement, checked_block, checked_declaration, checked_declarations};
+ghost use Rattle.tick_kinds.specs.prover.Checked.{Gives, checked_name, checked_expression, checked_assign, checked_get, checked_put, checked_copy, checked_older, checked_held, checked_statement, checked_block, checked_declaration, checked_declarations};
 ghost use Rattle.tick_kinds.specs.Declarations.{limit, numbered, declarations};
 ghost use Rattle.std.specs.Prelude.{◌≡◌, None, map};
 
@@ -151,6 +151,15 @@ impl<'a> Names<'a> {
         Ok(Statement::Older(target, scan, first, second))
     }
 
+    #[tactic(auto, unfolding(crate::specs::prover::Checked::checked_held))]
+    fn held(&self, target: &Named, scan: &Named, process: &Expr) -> Result<Statement, KindFault>
+        ensures { Gives resolved_statement result (checked_held (slot_at self.now.slots) (name_of target.now) (name_of scan.now) (expression_of process.now)) }
+    {
+        let target = self.number(Kind::Variable, target)?;
+        let scan = self.number(Kind::Scan, scan)?;
+        Ok(Statement::Held(target, scan, self.expression(process)?))
+    }
+
     #[cycle(statement)]
     #[tactic(auto, unfolding(crate::specs::prover::Checked::checked_statement))]
     fn statement(&self, statement: &Stmt) -> Result<Statement, KindFault>
@@ -161,9 +170,11 @@ impl<'a> Names<'a> {
             Stmt::Get(target, register, process) => self.get(target, register, process),
             Stmt::Put(register, value) => self.put(register, value),
             Stmt::Stamp => Ok(Statement::Stamp),
+            Stmt::Clear => Ok(Statement::Clear),
             Stmt::Scan(target) => Ok(Statement::Scan(self.number(Kind::Scan, target)?)),
             Stmt::Copy(target, source) => self.copy(target, source),
             Stmt::Older(target, scan, first, second) => self.older(target, scan, first, second),
+            Stmt::Held(target, scan, process) => self.held(target, scan, process),
             Stmt::Out(value) => Ok(Statement::Out(self.expression(value)?)),
             Stmt::If(test, first, second) => {
                 let test = self.expression(test)?;

@@ -23,12 +23,15 @@ pub enum Statement {
     /// A register row and the new value.
     Put(u8, Expression),
     Stamp,
+    Clear,
     /// The scan that the tickets are read into.
     Scan(u8),
     /// The scan that is written, and the one that is read.
     Copy(u8, u8),
     /// A variable, a scan, and the two processes whose tickets are compared.
     Older(u8, u8, Expression, Expression),
+    /// A variable, a scan, and the process whose ticket is looked for.
+    Held(u8, u8, Expression),
     Out(Expression),
     If(Expression, Vec<Statement>, Vec<Statement>),
     While(Expression, Vec<Statement>),

@@ -8,6 +8,8 @@ use Rattle.machine_core.specs.declared.status.Trap.TheVariants as T
 use Rattle.machine_core.specs.declared.status.Status.TheVariants as S
 use Rattle.machine_core.specs.declared.event.Act.TheVariants as A
 use Rattle.tick_play.specs.declared.schedule.ScheduleFault.TheVariants.{BadItem, NoSuchProcess, TooLong}
+use Rattle.ticket_core.specs.declared.moves.Move.TheVariants.{Stamp, Clear}
+use Rattle.tick_play.specs.Moves.{moves_of}
 use Rattle.tick_play.specs.Schedule.{schedule_of}
 use Rattle.tick_play.specs.Written.{schedule_text}
 use Rattle.code_core.specs.declared.instr.Instr.TheVariants as I
@@ -42,6 +44,32 @@ no_turns = refl
 
 too_long : schedule_of 2 (codes "0*10000001") ≡ Err TooLong
 too_long = refl
+
+-- a `c` begins no item of a schedule
+no_clears : schedule_of 2 (codes "0 c0") ≡ Err (BadItem 2)
+no_clears = refl
+
+stamps_and_clears : moves_of 2 (codes "0 c0*2 01 c1") ≡ Ok (Stamp 0 ∷ Clear 0 ∷ Clear 0 ∷ Stamp 1 ∷ Clear 1 ∷ [])
+stamps_and_clears = refl
+
+-- after the `c` stands an item of a schedule
+clear_alone : moves_of 2 (codes "0 c") ≡ Err (BadItem 2)
+clear_alone = refl
+
+clear_apart : moves_of 2 (codes "c 0") ≡ Err (BadItem 0)
+clear_apart = refl
+
+clear_twice : moves_of 2 (codes "cc0") ≡ Err (BadItem 0)
+clear_twice = refl
+
+clear_nobody : moves_of 2 (codes "c*2") ≡ Err (BadItem 0)
+clear_nobody = refl
+
+clear_stranger : moves_of 2 (codes "0 c2") ≡ Err (NoSuchProcess 2)
+clear_stranger = refl
+
+clears_too_long : moves_of 2 (codes "0 c0*10000000") ≡ Err TooLong
+clears_too_long = refl
 
 abbrev lines : List (List ℕ) → List ℕ
 lines [] = []
@@ -114,6 +142,8 @@ each_kind : report (record {
       ∷ record { process = 1; act = A.Stamp }
       ∷ record { process = 1; act = A.Scan (0 ∷ 2 ∷ 0 ∷ 0 ∷ 0 ∷ 0 ∷ []) }
       ∷ record { process = 1; act = A.Older 0 1 1 }
+      ∷ record { process = 0; act = A.Held 2 0 }
+      ∷ record { process = 1; act = A.Clear }
       ∷ record { process = 0; act = A.Out 0 }
       ∷ record { process = 2; act = A.Trap T.Overflow }
       ∷ record { process = 0; act = A.End }
@@ -123,7 +153,7 @@ each_kind : report (record {
 })
     ≡ lines
     (codes "2 put 7 4294967295" ∷ codes "0 get 1 2 30" ∷ codes "1 stamp" ∷ codes "1 scan 0 2 0" ∷ codes "1 older 0 1 1"
-    ∷ codes "0 out 0" ∷ codes "2 trap Overflow" ∷ codes "0 end"
+    ∷ codes "0 held 2 0" ∷ codes "1 clear" ∷ codes "0 out 0" ∷ codes "2 trap Overflow" ∷ codes "0 end"
     ∷ codes "reg 0 1 2 3" ∷ codes "reg 1 0 0 10"
     ∷ codes "status 0 ended" ∷ codes "status 1 running" ∷ codes "status 2 trapped Overflow" ∷ [])
 unfolding digits

@@ -1,4 +1,24 @@
 -- A schedule that is written reads back as itself.
+--
+-- The idea. Writing makes runs of steps, texts of runs, and puts a space between each two (`schedule_text`).
+-- Reading splits the text at blanks, reads each piece as an item, and puts its steps behind those so far
+-- (`schedule_of`). The page undoes one layer after the other, from the inside:
+--
+--   - The digits of a number spell it (`decimal_spells` of text_core), and none of them is a blank or a star.
+--   - So the text of a run is read as that run (`item_of-text`): as it stands where the run has one step, and else
+--     cut at the first star, which is the one that was written, since the digits before it have none.
+--   - So the joined texts split into the texts again (`split_texts`), since no text has a blank in it.
+--   - So the pieces give the steps of the runs, one run after the other (`with_runs`).
+--   - And the runs of a list of steps, one after the other, are that list (`expanded-runs`), though they are found
+--     from its end: a step is put before runs that expand to the rest (`expanded-onto`).
+--
+-- The inductions are on the list of runs (`split_texts`, `with_runs`) and on the list of steps (`expanded-runs`,
+-- `all_runs`). They carry that each run has a step and a process that there is (`IsRun`).
+--
+-- The limits come in at two places. The digits of a number are known to spell it below 2 ^ 64, and the reader
+-- refuses more than 10,000,000 steps. In a schedule within that limit each run is within it, so its numbers are
+-- small (`all_small`); and at each item the steps so far with those of the item are no more than the whole, so the
+-- reader's own test is passed.
 use Rattle.std.proofs.Common.{◌≡◌, ◌∙◌, ◌+◌, ◌^◌, ◌<◌, ◌≤◌, ◌==◌, ◌∷◌, ◌++◌, ℕ, List, [], Bool, true, false, Option, Some, None, Result, Ok, ap, append_assoc, arith, codes, cond, drop, length, map, refl, replicate, subst, sym}
 use Rattle.std.specs.Char.{is_ascii_digit}
 use Rattle.std.specs.Fmt.{decimal}
@@ -132,7 +152,7 @@ split_texts item (next ∷ runs) small all =
     slice_split_at is_blank (item_text item) 32 (item_text next ++ spaced (map item_text runs)) (item_text-no_blank item small) refl
     ∙ ap (λ (texts : List (List ℕ)). item_text item ∷ texts) (split_texts next runs all.0 all.1)
 
-with_piece-some : (n place : ℕ) (steps text : List ℕ) → 0 < length text → with_piece n place steps text ≡ with_item n place steps (item_of text)
+with_piece-some : (n place : ℕ) (steps text : List ℕ) → 0 < length text → with_piece n place steps text ≡ with_item (λ p. p) n place steps (item_of text)
 with_piece-some n place steps [] some = absurd (omega arith)
 with_piece-some n place steps (byte ∷ bytes) some = refl
 
@@ -140,7 +160,7 @@ with_run : (n place : ℕ) (steps : List ℕ) (item : Item) → Small item → i
     → with_piece n place steps (item_text item) ≡ Ok (steps ++ replicate item.steps item.process)
 with_run n place steps item small below few =
     with_piece-some n place steps (item_text item) (item_text-some item small)
-    ∙ ap (with_item n place steps) (item_of-text item small)
+    ∙ ap (with_item (λ p. p) n place steps) (item_of-text item small)
     ∙ rw (lt-leb n item.process below, le-ltb 10000000 (length steps + item.steps) few) refl
 
 -- a run of a schedule of `n` processes
@@ -150,7 +170,7 @@ record IsRun (n : ℕ) (item : Item) : Type 0 where
 
 with_runs : (n place : ℕ) (steps : List ℕ) (runs : List Item) → n ≤ 2 ^ 64 → AllByRecursion (IsRun n) runs
     → length steps + length (expanded runs) ≤ 10000000
-    → with_pieces n place (Ok steps) (map item_text runs) ≡ Ok (steps ++ expanded runs)
+    → with_pieces (with_piece n) place (Ok steps) (map item_text runs) ≡ Ok (steps ++ expanded runs)
 with_runs n place steps [] few_processes all few = ap Ok (sym (append-nil steps))
 with_runs n place steps (item ∷ runs) few_processes all few =
     let its : List ℕ = replicate item.steps item.process in
@@ -163,7 +183,7 @@ with_runs n place steps (item ∷ runs) few_processes all few =
     let some : 0 < item.steps = is_run.some in
     let short : item.steps ≤ 10000000 = omega arith in
     let small : Small item = record { process = omega arith; steps = omega arith; some = some } in
-    ap (λ (so : Result (List ℕ) ScheduleFault). with_pieces n (place + length (item_text item) + 1) so (map item_text runs))
+    ap (λ (so : Result (List ℕ) ScheduleFault). with_pieces (with_piece n) (place + length (item_text item) + 1) so (map item_text runs))
     (with_run n place steps item small below (omega arith))
     ∙ with_runs n (place + length (item_text item) + 1) (steps ++ its) runs few_processes all.1 (omega arith)
     ∙ ap Ok (append_assoc steps its (expanded runs))
@@ -185,7 +205,7 @@ read_runs : (n : ℕ) (runs : List Item) → n ≤ 2 ^ 64 → AllByRecursion (Is
 read_runs n [] few_processes all few = refl
 read_runs n (item ∷ runs) few_processes all few =
     let small : AllByRecursion Small (item ∷ runs) = all_small n (item ∷ runs) few_processes all few in
-    ap (with_pieces n 0 (Ok [])) (split_texts item runs small.0 small.1)
+    ap (with_pieces (with_piece n) 0 (Ok [])) (split_texts item runs small.0 small.1)
     ∙ with_runs n 0 [] (item ∷ runs) few_processes all (omega arith)
 
 -- the runs of a list of steps

@@ -17,8 +17,10 @@ abbrev pub act_text : ℕ → Act → List ℕ
 act_text n (A.Put r v) = codes " put " ++ decimal r ++ codes " " ++ decimal v
 act_text n (A.Get r i v) = codes " get " ++ decimal r ++ codes " " ++ decimal i ++ codes " " ++ decimal v
 act_text n A.Stamp = codes " stamp"
+act_text n A.Clear = codes " clear"
 act_text n (A.Scan ranks) = codes " scan" ++ spaced (map decimal (take n ranks))
 act_text n (A.Older i j answer) = codes " older " ++ decimal i ++ codes " " ++ decimal j ++ codes " " ++ decimal answer
+act_text n (A.Held i answer) = codes " held " ++ decimal i ++ codes " " ++ decimal answer
 act_text n (A.Out v) = codes " out " ++ decimal v
 act_text n (A.Trap t) = codes " trap " ++ trap_text t
 act_text n A.End = codes " end"

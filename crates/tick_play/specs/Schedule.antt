@@ -31,25 +31,26 @@ item_of text = item_cut (position is_star text) text
 abbrev pub capped_item : Item → Item
 capped_item item = record { process = capped item.process; steps = capped item.steps }
 
-abbrev pub with_item : ℕ → ℕ → List ℕ → Option Item → Result (List ℕ) ScheduleFault
-with_item n place steps None = Err (BadItem place)
-with_item n place steps (Some item) =
+-- the steps so far and then those of an item, each made of its process
+abbrev pub with_item : {S : Type 0} → (ℕ → S) → ℕ → ℕ → List S → Option Item → Result (List S) ScheduleFault
+with_item make n place steps None = Err (BadItem place)
+with_item make n place steps (Some item) =
     if nat_le n item.process then Err (NoSuchProcess place)
     else if nat_lt 10000000 (length steps + item.steps) then Err TooLong
-    else Ok (steps ++ replicate item.steps item.process)
+    else Ok (steps ++ replicate item.steps (make item.process))
 
 -- the steps so far and then those of the piece of text at this place, where an empty piece has none
 abbrev pub with_piece : ℕ → ℕ → List ℕ → List ℕ → Result (List ℕ) ScheduleFault
 with_piece n place steps [] = Ok steps
-with_piece n place steps (byte ∷ bytes) = with_item n place steps (item_of (byte ∷ bytes))
+with_piece n place steps (byte ∷ bytes) = with_item (λ process. process) n place steps (item_of (byte ∷ bytes))
 
--- the same for pieces in order, with a blank between each two
-abbrev pub with_pieces : ℕ → ℕ → Result (List ℕ) ScheduleFault → List (List ℕ) → Result (List ℕ) ScheduleFault
-with_pieces n place steps [] = steps
-with_pieces n place (Err fault) (piece ∷ pieces) = Err fault
-with_pieces n place (Ok steps) (piece ∷ pieces) =
-    with_pieces n (place + length piece + 1) (with_piece n place steps piece) pieces
+-- the same for pieces in order, with a blank between each two, where `add` adds those of one piece
+abbrev pub with_pieces : {S : Type 0} → (ℕ → List S → List ℕ → Result (List S) ScheduleFault) → ℕ → Result (List S) ScheduleFault → List (List ℕ)
+    → Result (List S) ScheduleFault
+with_pieces add place steps [] = steps
+with_pieces add place (Err fault) (piece ∷ pieces) = Err fault
+with_pieces add place (Ok steps) (piece ∷ pieces) = with_pieces add (place + length piece + 1) (add place steps piece) pieces
 
 -- the steps of `n` processes that a text spells, or the fault of its first faulty item
 abbrev pub schedule_of : ℕ → List ℕ → Result (List ℕ) ScheduleFault
-schedule_of n text = with_pieces n 0 (Ok []) (slice_split is_blank text)
+schedule_of n text = with_pieces (with_piece n) 0 (Ok []) (slice_split is_blank text)

@@ -47,6 +47,7 @@ fn push_act(text: &mut String, n: usize, act: Act) -> Result<(), AllocError>
             push_told(text, " get", &[u32::from(row), u32::from(index), value])
         }
         Act::Stamp => text.push_str(" stamp"),
+        Act::Clear => text.push_str(" clear"),
         Act::Scan(ranks) => {
             text.push_str(" scan")?;
             push_ranks(text, n, &ranks)
@@ -57,6 +58,9 @@ fn push_act(text: &mut String, n: usize, act: Act) -> Result<(), AllocError>
                 " older",
                 &[u32::from(i), u32::from(j), u32::from(answer)],
             )
+        }
+        Act::Held(index, answer) => {
+            push_told(text, " held", &[u32::from(index), u32::from(answer)])
         }
         Act::Out(value) => push_told(text, " out", &[value]),
         Act::Trap(trap) => {

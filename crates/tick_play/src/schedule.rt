@@ -1,6 +1,7 @@
-ghost use Rattle.std.specs.Prelude.{◌≡◌, ◌≢◌, ◌<◌, All, IfErr, IfOk, IfSome, OnOk, length, option_map};
+ghost use Rattle.std.specs.Prelude.{◌≡◌, ◌≢◌, ◌+◌, ◌<◌, ◌≤◌, All, IfErr, IfOk, IfSome, OnOk, length, option_map};
 ghost use Rattle.std.specs.List.{position};
 ghost use Rattle.tick_play.specs.Schedule.{capped_item, is_star, item_of as item_spelled, item_of_numbers, schedule_of, with_item, with_piece};
+ghost use Rattle.tick_play.specs.prover.Misfits.{IsMisfit};
 ghost use Rattle.tick_play.specs.declared.schedule.ScheduleFault.TheVariants.{NoMemory};
 
 use std::alloc::{AllocFailed, Global};
@@ -73,23 +74,33 @@ fn push_piece(steps: &mut Vec<u8>, place: usize, piece: &[u8], n: u8) -> Result<
 }
 
 fn push_item(steps: &mut Vec<u8>, place: usize, item: Item, n: u8) -> Result<(), ScheduleFault>
-    ensures ok { OnOk result (with_item n place steps.old.items (Some item) ≡ Ok steps.new.items) }
-    ensures err { IfErr result (λ fault. fault ≢ NoMemory → with_item n place steps.old.items (Some item) ≡ Err fault) }
+    ensures ok { OnOk result (with_item (λ process. process) n place steps.old.items (Some item) ≡ Ok steps.new.items) }
+    ensures err { IfErr result (λ fault. fault ≢ NoMemory → with_item (λ process. process) n place steps.old.items (Some item) ≡ Err fault) }
 {
-    if item.process >= u64::from(n) {
-        return Err(ScheduleFault::NoSuchProcess(place));
-    }
-    if item.steps.saturating_add(steps.len() as u64) > STEP_LIMIT {
-        return Err(ScheduleFault::TooLong);
-    }
-    let process = item.process as u8;
+    let process = process_of(place, item, n, steps.len())?;
     'steps: for _ in 0..item.steps {
         steps.push(process)?;
     }
     Ok(())
 }
 
-fn read_item(text: &[u8]) -> Option<Item>
+/// The process of an item, where there is such a process and its steps are not too many after so many
+/// others.
+pub fn process_of(place: usize, item: Item, n: u8, steps: usize) -> Result<u8, ScheduleFault>
+    ensures ok { IfOk result (λ process. (process ≡ item.process) × (process < n) × (steps + item.steps ≤ 10000000)) }
+    ensures err { IfErr result (IsMisfit n place steps item) }
+{
+    if item.process >= u64::from(n) {
+        return Err(ScheduleFault::NoSuchProcess(place));
+    }
+    if item.steps.saturating_add(steps as u64) > STEP_LIMIT {
+        return Err(ScheduleFault::TooLong);
+    }
+    Ok(item.process as u8)
+}
+
+/// The item that a text spells.
+pub fn read_item(text: &[u8]) -> Option<Item>
     ensures { result ≡ option_map capped_item (item_spelled text.now) }
 {
     match star_in(text) {

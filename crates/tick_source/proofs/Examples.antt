@@ -1,7 +1,7 @@
 -- Small programs, and what the definitions make of them.
-use Rattle.std.proofs.Common.{◌≡◌, ℕ, List, [], ◌∷◌, Err, refl}
+use Rattle.std.proofs.Common.{◌≡◌, ℕ, List, [], ◌∷◌, ◌++◌, Err, refl, replicate}
 use Rattle.machine_core.specs.declared.operator.Op.TheVariants as O
-use Rattle.tick_syntax.specs.Plain.{number, named, me, binary, assign, get, put, stamp, scan, older, out, repeat, Block, nil, cons, WholeProgram}
+use Rattle.tick_syntax.specs.Plain.{Expression, number, named, me, binary, assign, get, put, stamp, clear, scan, older, held, out, branch, repeat, Block, nil, cons, WholeProgram}
 use Rattle.machine_core.specs.declared.status.Trap.TheVariants as T
 use Rattle.machine_core.specs.declared.status.Status.TheVariants.{Running, Ended, Trapped}
 use Rattle.machine_core.specs.declared.event.Act.{Act}
@@ -69,6 +69,50 @@ operands_first : observables (source (program 2 (0 ∷ []) (0 ∷ []) [] (cons (
   statuses = Trapped T.Zero ∷ Running ∷ [];
 }
 operands_first = refl
+
+-- processes 2; var x; scan s; begin stamp; s = scan; x = held s 1; out x; clear; s = scan; x = held s me; out x; end
+-- A process holds its ticket from its stamp to its clear, and the scan after it finds none.
+given_up : observables (source (program 2 (0 ∷ []) (0 ∷ []) []
+    (cons stamp (cons (scan 0) (cons (held 0 0 (number 1)) (cons (out (named 0))
+    (cons clear (cons (scan 0) (cons (held 0 0 me) (cons (out (named 0)) nil)))))))))
+    (replicate 9 0)) ≡ record {
+      events = by 0 A.Stamp ∷ by 0 (A.Scan (1 ∷ 0 ∷ 0 ∷ 0 ∷ 0 ∷ 0 ∷ [])) ∷ by 0 (A.Held 1 0) ∷ by 0 (A.Out 0)
+          ∷ by 0 A.Clear ∷ by 0 (A.Scan (0 ∷ 0 ∷ 0 ∷ 0 ∷ 0 ∷ 0 ∷ [])) ∷ by 0 (A.Held 0 0) ∷ by 0 (A.Out 0) ∷ by 0 A.End ∷ [];
+      rows = [];
+      statuses = Ended ∷ Running ∷ [];
+    }
+given_up = refl
+
+-- stamp; clear; clear; stamp: one who gives up what it doesn't hold changes nothing, and the next ticket is 1 again
+taken_again : (source (program 2 [] [] [] (cons stamp (cons clear (cons clear (cons stamp nil))))) (replicate 4 1)).tickets ≡ 0 ∷ 1 ∷ []
+taken_again = refl
+
+-- x = held s 2, of two processes
+none_there : observables (source (program 2 (0 ∷ []) (0 ∷ []) [] (cons (held 0 0 (number 2)) nil)) (0 ∷ [])) ≡ record {
+  events = by 0 (A.Trap T.Index) ∷ [];
+  rows = [];
+  statuses = Trapped T.Index ∷ Running ∷ [];
+}
+none_there = refl
+
+-- A lock for two: who comes takes a ticket, and waits while the other holds an older one. Process 0 came
+-- first; process 1 goes in once it has left.
+abbrev the_other : Expression ℕ
+the_other = binary (number 1) O.Sub me
+
+a_lock : observables (source (program 2 (0 ∷ []) (0 ∷ []) []
+    (cons stamp (cons (assign 0 (number 1))
+    (cons (repeat (named 0) (cons (scan 0) (cons (held 0 0 the_other)
+    (cons (branch (named 0) (cons (older 0 0 the_other me) nil) nil) nil))))
+    (cons (out me) (cons clear nil))))))
+    (0 ∷ replicate 7 1 ++ replicate 9 0 ++ replicate 6 1)) ≡ record {
+      events = by 0 A.Stamp ∷ by 1 A.Stamp ∷ by 1 (A.Scan (0 ∷ 1 ∷ 0 ∷ 0 ∷ 0 ∷ 0 ∷ [])) ∷ by 1 (A.Held 0 1) ∷ by 1 (A.Older 0 1 1)
+          ∷ by 0 (A.Scan (0 ∷ 1 ∷ 0 ∷ 0 ∷ 0 ∷ 0 ∷ [])) ∷ by 0 (A.Held 1 1) ∷ by 0 (A.Older 1 0 0) ∷ by 0 (A.Out 0) ∷ by 0 A.Clear
+          ∷ by 1 (A.Scan (0 ∷ 1 ∷ 0 ∷ 0 ∷ 0 ∷ 0 ∷ [])) ∷ by 1 (A.Held 0 0) ∷ by 1 (A.Out 1) ∷ [];
+      rows = [];
+      statuses = Running ∷ Running ∷ [];
+    }
+a_lock = refl
 
 -- processes 2; begin end
 nothing_to_do : observables (source (program 2 [] [] [] nil) (0 ∷ 0 ∷ 1 ∷ [])) ≡ record {

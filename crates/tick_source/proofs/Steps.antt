@@ -6,7 +6,7 @@ use Rattle.std.proofs.lemmas.List.Elements.{All-set}
 use Rattle.std.proofs.Math.Seq.{drop-cons, drop-length}
 use Rattle.std.specs.List.{All}
 use Rattle.ticket_core.specs.Tickets.{start_tickets, greatest_ticket}
-use Rattle.tick_syntax.specs.Plain.{Statement, assign, get, put, stamp, scan, copy, older, out, branch, repeat, Block, nil, cons}
+use Rattle.tick_syntax.specs.Plain.{Statement, assign, get, put, stamp, clear, scan, copy, older, held, out, branch, repeat, Block, nil, cons}
 use Rattle.machine_core.specs.declared.status.Trap.{Trap}
 use Rattle.machine_core.specs.declared.status.Status.{Status}
 use Rattle.machine_core.specs.declared.status.Status.TheVariants.{Running, Ended, Trapped}
@@ -51,6 +51,7 @@ module _ (n p : ℕ) (tickets : List ℕ) (rows : List (List ℕ)) (variables : 
   does_fits (put r e) rest =
       value_fits rest (value n p variables e) _ λ v. record { tickets = refl; rows = length-set rows r _; scans = λ long are. are }
   does_fits stamp rest = record { tickets = length-set tickets p (1 + greatest_ticket tickets); rows = refl; scans = λ long are. are }
+  does_fits clear rest = record { tickets = length-set tickets p 0; rows = refl; scans = λ long are. are }
   does_fits (scan s) rest = record { tickets = refl; rows = refl; scans = λ long are. All-set (λ x. length x ≡ n) scans s tickets long are }
   does_fits (copy t s) rest = record {
     tickets = refl;
@@ -60,6 +61,8 @@ module _ (n p : ℕ) (tickets : List ℕ) (rows : List (List ℕ)) (variables : 
   does_fits (older x s e f) rest =
       value_fits rest (value n p variables e) _ λ i. value_fits rest (value n p variables f) _ λ j.
       index_fits rest i _ (index_fits rest j _ (record { tickets = refl; rows = refl; scans = λ long are. are }))
+  does_fits (held x s e) rest =
+      value_fits rest (value n p variables e) _ λ i. index_fits rest i _ (record { tickets = refl; rows = refl; scans = λ long are. are })
   does_fits (out e) rest = value_fits rest (value n p variables e) _ λ v. record { tickets = refl; rows = refl; scans = λ long are. are }
   does_fits (branch e a b) rest = value_fits rest (value n p variables e) _ λ v. record { tickets = refl; rows = refl; scans = λ long are. are }
   does_fits (repeat e a) rest = value_fits rest (value n p variables e) _ λ v. record { tickets = refl; rows = refl; scans = λ long are. are }

@@ -1,7 +1,7 @@
 -- A ticket program as it runs on whole-number tickets: the state, what one step does, and the run.
 use Rattle.std.specs.Prelude.{◌≡◌, ℕ, ◌==◌, nat_lt, if◌then◌else◌, List, [], ◌∷◌, length, map, replicate, slice_get, slice_set, slice_index_or, Option, Some, None, Result, Ok, Err, IsOk}
-use Rattle.ticket_core.specs.Tickets.{start_tickets, stamp_ticket, ticket_ranks, older_ticket}
-use Rattle.tick_syntax.specs.Plain.{Statement, assign, get, put, stamp, scan, copy, older, out, branch, repeat, Block, nil, cons, onto, WholeProgram}
+use Rattle.ticket_core.specs.Tickets.{start_tickets, stamp_ticket, clear_ticket, ticket_ranks, older_ticket, holds_ticket}
+use Rattle.tick_syntax.specs.Plain.{Statement, assign, get, put, stamp, clear, scan, copy, older, held, out, branch, repeat, Block, nil, cons, onto, WholeProgram}
 use Rattle.machine_core.specs.declared.status.Trap.{Trap}
 use Rattle.machine_core.specs.declared.status.Trap.TheVariants as T
 use Rattle.machine_core.specs.declared.status.Status.{Status}
@@ -81,6 +81,7 @@ module _ (n p : ℕ) (tickets : List ℕ) (rows : List (List ℕ)) (variables : 
       with_value rest (value n p variables e) λ v.
       record (goes variables scans rest (Some (A.Put r v))) { rows = register_set rows r p v }
   does stamp rest = record (goes variables scans rest (Some A.Stamp)) { tickets = stamp_ticket p tickets }
+  does clear rest = record (goes variables scans rest (Some A.Clear)) { tickets = clear_ticket p tickets }
   does (scan s) rest = goes variables (slice_set scans s tickets) rest (Some (A.Scan (told_ranks (length tickets) (ticket_ranks tickets))))
   does (copy t s) rest = goes variables (slice_set scans t (scan_at n scans s)) rest None
   does (older x s e f) rest =
@@ -88,6 +89,11 @@ module _ (n p : ℕ) (tickets : List ℕ) (rows : List (List ℕ)) (variables : 
       with_index rest i (with_index rest j (
       let answer = truth_value (older_ticket (scan_at n scans s) i j) in
       goes (slice_set variables x answer) scans rest (Some (A.Older i j answer))))
+  does (held x s e) rest =
+      with_value rest (value n p variables e) λ i.
+      with_index rest i (
+      let answer = truth_value (holds_ticket (scan_at n scans s) i) in
+      goes (slice_set variables x answer) scans rest (Some (A.Held i answer)))
   does (out e) rest = with_value rest (value n p variables e) λ v. goes variables scans rest (Some (A.Out v))
   does (branch e a b) rest =
       with_value rest (value n p variables e) λ v. goes variables scans (if v == 0 then onto b rest else onto a rest) None

@@ -1,6 +1,6 @@
-// A ticket program, run step by step on whole-number tickets under a schedule that is given.
-//
-// Start with `SourceMachine::new`, or with `run` for a whole schedule.
+//! A ticket program, run step by step on whole-number tickets under a schedule that is given.
+//!
+//! Start with `SourceMachine::new`, or with `run` for a whole schedule.
 #![tactic(auto)]
 
 mod machine;

@@ -18,7 +18,7 @@ pub struct SourceMemory {
 
 impl SourceMemory {
     ghost use Rattle.std.specs.Prelude.{◌≡◌, ◌<◌, ◌≤◌, ◌++◌, ◌∷◌, [], length, OnOk, OnErr, IfOk};
-    ghost use Rattle.ticket_core.specs.Tickets.{start_tickets, stamp_ticket};
+    ghost use Rattle.ticket_core.specs.Tickets.{start_tickets, stamp_ticket, clear_ticket};
     ghost use Rattle.machine_core.specs.Rows.{start_rows, register_set};
     ghost use Rattle.tick_source.specs.prover.Steps.{Shares};
 
@@ -67,6 +67,19 @@ impl SourceMemory {
     {
         self.tell(p, Act::Stamp)?;
         self.tickets.stamp(p);
+        Ok(())
+    }
+
+    /// Adds the event of a clear, and takes process `p` its ticket.
+    pub fn clear(&mut self, p: u8) -> Result<(), NoMemory>
+        requires { p < length self.old.tickets }
+        ensures registers { self.new.registers ≡ self.old.registers }
+        ensures ok_tickets { OnOk result (self.new.tickets ≡ clear_ticket p self.old.tickets) }
+        ensures ok_events { OnOk result (self.new.events.items ≡ self.old.events.items ++ record { process = p; act = Act.Clear } ∷ []) }
+        ensures err { OnErr result (Shares self.old self.new) }
+    {
+        self.tell(p, Act::Clear)?;
+        self.tickets.clear(p);
         Ok(())
     }
 }

@@ -1,7 +1,7 @@
 ghost use Rattle.std.specs.Prelude.{◌≡◌, ◌<◌, length, OnOk, OnErr, IfOk, IsOk};
 ghost use Rattle.std.specs.List.{All};
 ghost use Rattle.tick_kinds.specs.Resolved.{resolved_expression, resolved_statement, resolved_block};
-ghost use Rattle.tick_syntax.specs.Plain.{assign, get, put, stamp, scan, copy, older, out, branch, repeat, number, cons};
+ghost use Rattle.tick_syntax.specs.Plain.{assign, get, put, stamp, clear, scan, copy, older, held, out, branch, repeat, number, cons};
 ghost use Rattle.tick_source.specs.prover.Remaining.{after_first};
 ghost use Rattle.tick_source.specs.Source.{scan_at, start_process, IsQuiet, HasQuietFirst};
 ghost use Rattle.tick_source.specs.prover.Machine.{process_of};
@@ -117,6 +117,17 @@ impl<'a> Process<'a> {
         ensures err { OnErr result (Keeps shared.old shared.new self.old self.new) }
     {
         shared.stamp(p)?;
+        self.rest.advance();
+        Ok(())
+    }
+
+    fn clear(&mut self, p: u8, shared: &mut SourceMemory) -> Result<(), NoMemory>
+        requires running { self.old.status ≡ Status.Running }
+        requires in_range { p < length shared.old.tickets }
+        ensures ok { OnOk result (Makes p (does_from p shared.old self.old (clear)) shared.old shared.new self.new) }
+        ensures err { OnErr result (Keeps shared.old shared.new self.old self.new) }
+    {
+        shared.clear(p)?;
         self.rest.advance();
         Ok(())
     }
@@ -237,6 +248,34 @@ impl<'a> Process<'a> {
         Ok(())
     }
 
+    // Whether a process holds a ticket in a scan.
+    fn held(
+        &mut self,
+        p: u8,
+        shared: &mut SourceMemory,
+        x: u8,
+        s: u8,
+        expression: &Expression,
+    ) -> Result<(), NoMemory>
+        requires running { self.old.status ≡ Status.Running }
+        requires scans { All (λ scan. length scan ≡ length shared.old.tickets) self.old.scans.items }
+        ensures ok { OnOk result (Makes p (does_from p shared.old self.old (held x s (resolved_expression expression.now))) shared.old shared.new self.new) }
+        ensures err { OnErr result (Keeps shared.old shared.new self.old self.new) }
+    {
+        let n = u32::from(shared.tickets.count());
+        match self.value(p, shared, expression) {
+            Ok(i) if i < n => {
+                let answer = u8::from(self.scan(shared, s).held(i as u8));
+                shared.tell(p, Act::Held(i as u8, answer))?;
+                set_at(&mut self.variables, x as usize, u32::from(answer));
+                self.rest.advance();
+                Ok(())
+            }
+            Ok(_) => self.trap(p, shared, Trap::Index),
+            Err(trap) => self.trap(p, shared, trap),
+        }
+    }
+
     fn branch(
         &mut self,
         p: u8,
@@ -299,6 +338,7 @@ impl<'a> Process<'a> {
             Statement::Get(x, r, place) => self.get(p, shared, *x, *r, place),
             Statement::Put(r, value) => self.put(p, shared, *r, value),
             Statement::Stamp => self.stamp(p, shared),
+            Statement::Clear => self.clear(p, shared),
             Statement::Scan(s) => self.take(p, shared, *s),
             Statement::Copy(target, copied) => {
                 self.copy(p, shared, *target, *copied);
@@ -307,6 +347,7 @@ impl<'a> Process<'a> {
             Statement::Older(x, s, first, second) => {
                 self.compare(p, shared, *x, *s, first, second)
             }
+            Statement::Held(x, s, place) => self.held(p, shared, *x, *s, place),
             Statement::Out(value) => self.give(p, shared, value),
             Statement::If(test, then_block, else_block) => {
                 self.branch(p, shared, test, then_block, else_block)

@@ -1,4 +1,29 @@
 -- What the grammar has the reader reads.
+--
+-- The idea. `Sound` says that whatever the reader gives is right; this page says that it does give it. The tokens
+-- of a program are one list (`program_tokens`), put together of the lists of its parts. So where tokens say such a
+-- list, their front says the list of the first part; the reader takes just that part from the front, and hands on
+-- what is left.
+--
+-- `Takes m v rest` is that as a statement: the reading `m` gives the value `v`, and what is left says `rest`. Each
+-- part of the grammar has a lemma of one form: where the tokens say the part's list with `rest` after it, and no
+-- more brackets stand within one another in it than there is room for, the reading of that part takes it.
+--
+-- The induction is on the tree, and follows the grammar. A rule has two lemmas. The one named `.._gives` opens the
+-- reader's function and computes it, once each of its parts is known to have read: a chain of results that are all
+-- `Ok`. The one named `.._takes` finds these results: a terminal, a name or a number, with which the list begins,
+-- by `terminal_in`, `name_in`, `number_in`; a part by its own lemma, one level down. Lemmas as `append_assoc` turn
+-- `(a ++ b) ++ rest`, as the rule has it, into `a ++ (b ++ rest)`, as the reader meets it.
+--
+-- Three things can't be read off the tree:
+--
+--   - The reader of statements takes at most so many, `most`, since it has to end. Each statement takes a token
+--     (`statement_shorter`), so what is left always has fewer tokens than statements may still come.
+--   - A list of statements ends at its terminal, and no statement begins with that (`not_ended`).
+--   - A section that is left out is skipped, since what follows it begins with another terminal (`IsLater`).
+--
+-- It goes through because the first token of what is left decides which rule it is: `statement_terminal` and
+-- `right_terminal` say so, and hold by computation.
 use Rattle.std.proofs.Common.{append_assoc, map, ◌≡◌, ℕ, zero, suc, ◌<◌, ◌≤◌, false, List, [], ◌∷◌, ◌++◌, length, Ok, Bor, refl, sym, ◌∙◌, ap, subst, arith}
 use Rattle.tick_syntax.specs.declared.span.Span.{Span}
 use Rattle.tick_syntax.specs.declared.valued_token.ValuedToken.{ValuedToken}
@@ -12,12 +37,12 @@ use Rattle.machine_core.specs.declared.operator.Op.{Op}
 use Rattle.tick_syntax.specs.declared.terminals.Terminal.{Terminal}
 use Rattle.tick_syntax.specs.declared.terminals.Terminal.TheVariants as T
 use Rattle.tick_syntax.specs.Lexeme.{Lexeme, a_name, a_number, a_terminal}
-use Rattle.tick_syntax.specs.Plain.{Name, Expression, number, named, me, count, binary, Statement, assign, get, put, stamp, scan, copy, older, out, branch, repeat, Block, nil, cons, WholeProgram}
+use Rattle.tick_syntax.specs.Plain.{Name, Expression, number, named, me, count, binary, Statement, assign, get, put, stamp, clear, scan, copy, older, held, out, branch, repeat, Block, nil, cons, WholeProgram}
 use Rattle.tick_syntax.specs.Grammar.{expression_tokens, in_braces, statement_tokens, block_tokens, names_tokens, section_tokens, program_tokens, second_span}
 use Rattle.tick_syntax.specs.Nesting.{expression_nesting, statement_nesting, block_nesting, nesting}
 use Rattle.machine_core.specs.Refusing.{◌>>=◌}
 use Rattle.tick_syntax.specs.prover.ValuedTokens.{plain}
-use Rattle.tick_syntax.specs.prover.Reading.{Reading, next_at, terminal_by, terminal_at, number_at, brace_at, operator_at, name_at, pair_at, brackets_at, expression_at, last_at, get_at, scan_at, copy_at, older_at, plain_at, right_at, assignment_at, put_at, stamp_at, out_at, branch_at, repeat_at, statement_with, statement_at, block_by, ends, statements_with, block_at, statements_at, names_at, begins, section_by, section_at, body_at, whole_at, program_at}
+use Rattle.tick_syntax.specs.prover.Reading.{Reading, next_at, terminal_by, terminal_at, number_at, brace_at, operator_at, name_at, pair_at, brackets_at, expression_at, last_at, ended_at, named_last_at, copy_at, older_at, plain_at, right_at, assignment_at, out_at, branch_at, repeat_at, statement_with, statement_at, block_by, ends, statements_with, block_at, statements_at, names_at, begins, section_by, section_at, body_at, whole_at, program_at}
 use Rattle.tick_syntax.proofs.Symbols.{said_by, said, says}
 use Rattle.tick_syntax.proofs.Loops.{statement_shorter, branch_gives, repeat_gives}
 use Rattle.tick_syntax.proofs.Sound.{pair_regroups}
@@ -149,10 +174,15 @@ module _ (end : ℕ) where
       let q = terminal_takes T.Semicolon (λ span js. refl) p.0 rest p.1 in
       (q.0, q.1, last_gives room is p.0 q.0 e p.2 q.2)
 
-  -- What the first token is, and what then follows.
-  from_first : {V : Type 0} (f : List ValuedToken → Reading V) (is : List ValuedToken) (i : ValuedToken) (js : List ValuedToken) (next value : Reading V)
-      → is ≡ i ∷ js → f (i ∷ js) ≡ next → next ≡ value → f is ≡ value
-  from_first f is i js next value first h k = ap f first ∙ h ∙ k
+  -- The terminal that comes first says what is read next.
+  by_terminal : {V : Type 0} (f next : List ValuedToken → Reading V) (w : Terminal)
+      → ((span : Span) (js : List ValuedToken) → f (token (M.Terminal w) span ∷ js) ≡ next js)
+      → (is : List ValuedToken) (t rest : List Lexeme) (v : V) → says is ≡ a_terminal w ∷ t
+      → ((js : List ValuedToken) → says js ≡ t → Takes (next js) v rest) → Takes (f is) v rest
+  by_terminal f next w goes is t rest v h takes =
+      let g = terminal_in w is t h in
+      let p = takes g.1 g.2 in
+      (p.0, p.1, ap f g.3 ∙ goes g.0 g.1 ∙ p.2)
 
   -- an expression on the right-hand side
   plain_right : (room : ℕ) (x : Name) (e : Expression Name) (is : List ValuedToken) (rest : List Lexeme)
@@ -164,14 +194,22 @@ module _ (end : ℕ) where
   plain_right room x count is rest d = let r = terminal_in T.Count is rest d in subst (λ z. right_at end room x z ≡ plain_at end room x z) (sym r.3) refl
   plain_right room x (binary a op b) is rest d = let r = terminal_in T.Open is _ d in subst (λ z. right_at end room x z ≡ plain_at end room x z) (sym r.3) refl
 
-  get_gives : (room : ℕ) (x r : Name) (is p q : List ValuedToken) (e : Expression Name)
-      → name_at end is ≡ Ok (r, p) → last_at end room p ≡ Ok (e, q) → get_at end room x is ≡ Ok (get x r e, q)
-  unfolding get_at
-  get_gives room x r is p q e h k = rw (h, k) refl
+  ended_takes : (s : Statement Name) (is : List ValuedToken) (rest : List Lexeme) → says is ≡ a_terminal T.Semicolon ∷ rest → Takes (ended_at end s is) s rest
+  unfolding ended_at
+  ended_takes s is rest d = let p = terminal_takes T.Semicolon (λ span js. refl) is rest d in (p.0, p.1, rw p.2 refl)
 
-  scan_gives : (x : Name) (is p : List ValuedToken) → terminal_at end T.Semicolon is ≡ Ok (tt, p) → scan_at end x is ≡ Ok (scan x, p)
-  unfolding scan_at
-  scan_gives x is p h = rw h refl
+  named_last_gives : (make : Name → Expression Name → Statement Name) (room : ℕ) (x : Name) (is p q : List ValuedToken) (e : Expression Name)
+      → name_at end is ≡ Ok (x, p) → last_at end room p ≡ Ok (e, q) → named_last_at end make room is ≡ Ok (make x e, q)
+  unfolding named_last_at
+  named_last_gives make room x is p q e h k = rw (h, k) refl
+
+  named_last_takes : (make : Name → Expression Name → Statement Name) (room : ℕ) (x : Name) (e : Expression Name) (is : List ValuedToken) (rest : List Lexeme)
+      → says is ≡ a_name x ∷ ((expression_tokens e ++ a_terminal T.Semicolon ∷ []) ++ rest) → expression_nesting e ≤ room
+      → Takes (named_last_at end make room is) (make x e) rest
+  named_last_takes make room x e is rest d n =
+      let m = name_takes x is _ d in
+      let p = last_takes room e m.0 rest m.1 n in
+      (p.0, p.1, named_last_gives make room x is m.0 p.0 e m.2 p.2)
 
   copy_gives : (x s : Name) (is p q : List ValuedToken) → name_at end is ≡ Ok (s, p) → terminal_at end T.Semicolon p ≡ Ok (tt, q) → copy_at end x is ≡ Ok (copy x s, q)
   unfolding copy_at
@@ -188,27 +226,19 @@ module _ (end : ℕ) where
   unfolding plain_at
   plain_gives room x is p e h = rw h refl
 
-  put_gives : (room : ℕ) (r : Name) (is p q : List ValuedToken) (e : Expression Name)
-      → name_at end is ≡ Ok (r, p) → last_at end room p ≡ Ok (e, q) → put_at end room is ≡ Ok (put r e, q)
-  unfolding put_at
-  put_gives room r is p q e h k = rw (h, k) refl
-
-  stamp_gives : (is p : List ValuedToken) → terminal_at end T.Semicolon is ≡ Ok (tt, p) → stamp_at end is ≡ Ok (stamp, p)
-  unfolding stamp_at
-  stamp_gives is p h = rw h refl
-
   out_gives : (room : ℕ) (is p : List ValuedToken) (e : Expression Name) → last_at end room is ≡ Ok (e, p) → out_at end room is ≡ Ok (out e, p)
   unfolding out_at
   out_gives room is p e h = rw h refl
 
   -- the right-hand side, by the terminal that it begins with
-  right_terminal : (room : ℕ) (x : Name) (is : List ValuedToken) (span : Span) (js : List ValuedToken) →
-      (right_at end room x (token (M.Terminal T.Get) span ∷ js) ≡ get_at end room x js)
-      × (right_at end room x (token (M.Terminal T.Scan) span ∷ js) ≡ scan_at end x js)
+  right_terminal : (room : ℕ) (x : Name) (span : Span) (js : List ValuedToken) →
+      (right_at end room x (token (M.Terminal T.Get) span ∷ js) ≡ named_last_at end (get x) room js)
+      × (right_at end room x (token (M.Terminal T.Held) span ∷ js) ≡ named_last_at end (held x) room js)
+      × (right_at end room x (token (M.Terminal T.Scan) span ∷ js) ≡ ended_at end (scan x) js)
       × (right_at end room x (token (M.Terminal T.Copy) span ∷ js) ≡ copy_at end x js)
       × (right_at end room x (token (M.Terminal T.Older) span ∷ js) ≡ older_at end room x js)
   unfolding right_at next_at
-  right_terminal room x is span js = (refl, refl, refl, refl)
+  right_terminal room x span js = (refl, refl, refl, refl, refl)
 
   assignment_gives : (room : ℕ) (x : Name) (is p q : List ValuedToken) (s : Statement Name)
       → terminal_at end T.Becomes is ≡ Ok (tt, p) → right_at end room x p ≡ Ok (s, q) → assignment_at end room x is ≡ Ok (s, q)
@@ -229,13 +259,14 @@ module _ (end : ℕ) where
 
   -- a statement by the terminal that it begins with
   statement_terminal : (room : ℕ) (span : Span) (js : List ValuedToken) →
-      (statement_at end room (token (M.Terminal T.Put) span ∷ js) ≡ put_at end room js)
-      × (statement_at end room (token (M.Terminal T.Stamp) span ∷ js) ≡ stamp_at end js)
+      (statement_at end room (token (M.Terminal T.Put) span ∷ js) ≡ named_last_at end put room js)
+      × (statement_at end room (token (M.Terminal T.Stamp) span ∷ js) ≡ ended_at end stamp js)
+      × (statement_at end room (token (M.Terminal T.Clear) span ∷ js) ≡ ended_at end clear js)
       × (statement_at end room (token (M.Terminal T.Out) span ∷ js) ≡ out_at end room js)
       × (statement_at end room (token (M.Terminal T.If) span ∷ js) ≡ branch_at end (block_at end room) room js)
       × (statement_at end room (token (M.Terminal T.While) span ∷ js) ≡ repeat_at end (block_at end room) room js)
   unfolding statement_at statement_with next_at
-  statement_terminal room span js = (refl, refl, refl, refl, refl)
+  statement_terminal room span js = (refl, refl, refl, refl, refl, refl)
 
   -- no statement begins with the terminal that ends a list
   not_ended : (room : ℕ) (ending : Ending) (m : Meaning) (span : Span) (js : List ValuedToken) (x : Statement Name × List ValuedToken)
@@ -293,63 +324,47 @@ module _ (end : ℕ) where
         let p = last_takes room e js rest h n in
         (p.0, p.1, plain_right room x e js _ (h ∙ append_assoc (expression_tokens e) (a_terminal T.Semicolon ∷ []) rest) ∙ plain_gives room x js p.0 e p.2))
     statement_takes room (get x r e) is rest d n = named_statement room x (get x r e) is _ rest d (λ js h.
-        let g = terminal_in T.Get js _ h in
-        let m = name_takes r g.1 _ g.2 in
-        let p = last_takes room e m.0 rest m.1 n in
-        (p.0, p.1, from_first (right_at end room x) js (token (M.Terminal T.Get) g.0) g.1 (get_at end room x g.1) (Ok (get x r e, p.0)) g.3 (right_terminal room x js g.0 g.1).0 (get_gives room x r g.1 m.0 p.0 e m.2 p.2)))
+        by_terminal (right_at end room x) _ T.Get (λ span ks. (right_terminal room x span ks).0) js _ rest _ h (λ ks k. named_last_takes (get x) room r e ks rest k n))
+    statement_takes room (held x s e) is rest d n = named_statement room x (held x s e) is _ rest d (λ js h.
+        by_terminal (right_at end room x) _ T.Held (λ span ks. (right_terminal room x span ks).1) js _ rest _ h (λ ks k. named_last_takes (held x) room s e ks rest k n))
     statement_takes room (put r e) is rest d n =
-        let g = terminal_in T.Put is _ d in
-        let m = name_takes r g.1 _ g.2 in
-        let p = last_takes room e m.0 rest m.1 n in
-        (p.0, p.1, from_first (statement_at end room) is (token (M.Terminal T.Put) g.0) g.1 (put_at end room g.1) (Ok (put r e, p.0)) g.3 (statement_terminal room g.0 g.1).0 (put_gives room r g.1 m.0 p.0 e m.2 p.2))
+        by_terminal (statement_at end room) _ T.Put (λ span js. (statement_terminal room span js).0) is _ rest _ d (λ js h. named_last_takes put room r e js rest h n)
     statement_takes room stamp is rest d n =
-        let g = terminal_in T.Stamp is _ d in
-        let p = terminal_takes T.Semicolon (λ span js. refl) g.1 rest g.2 in
-        (p.0, p.1, from_first (statement_at end room) is (token (M.Terminal T.Stamp) g.0) g.1 (stamp_at end g.1) (Ok (stamp, p.0)) g.3 (statement_terminal room g.0 g.1).1 (stamp_gives g.1 p.0 p.2))
+        by_terminal (statement_at end room) _ T.Stamp (λ span js. (statement_terminal room span js).1) is _ rest _ d (λ js h. ended_takes stamp js rest h)
+    statement_takes room clear is rest d n =
+        by_terminal (statement_at end room) _ T.Clear (λ span js. (statement_terminal room span js).2) is _ rest _ d (λ js h. ended_takes clear js rest h)
     statement_takes room (scan s) is rest d n = named_statement room s (scan s) is _ rest d (λ js h.
-        let g = terminal_in T.Scan js _ h in
-        let p = terminal_takes T.Semicolon (λ span js. refl) g.1 rest g.2 in
-        (p.0, p.1, from_first (right_at end room s) js (token (M.Terminal T.Scan) g.0) g.1 (scan_at end s g.1) (Ok (scan s, p.0)) g.3 (right_terminal room s js g.0 g.1).1 (scan_gives s g.1 p.0 p.2)))
+        by_terminal (right_at end room s) _ T.Scan (λ span ks. (right_terminal room s span ks).2) js _ rest _ h (λ ks k. ended_takes (scan s) ks rest k))
     statement_takes room (copy t s) is rest d n = named_statement room t (copy t s) is _ rest d (λ js h.
-        let g = terminal_in T.Copy js _ h in
-        let m = name_takes s g.1 _ g.2 in
-        let p = terminal_takes T.Semicolon (λ span js. refl) m.0 rest m.1 in
-        (p.0, p.1, from_first (right_at end room t) js (token (M.Terminal T.Copy) g.0) g.1 (copy_at end t g.1) (Ok (copy t s, p.0)) g.3 (right_terminal room t js g.0 g.1).2 (copy_gives t s g.1 m.0 p.0 m.2 p.2)))
+        by_terminal (right_at end room t) _ T.Copy (λ span ks. (right_terminal room t span ks).3) js _ rest _ h (λ ks k.
+        let m = name_takes s ks _ k in
+        let p = terminal_takes T.Semicolon (λ span is. refl) m.0 rest m.1 in
+        (p.0, p.1, copy_gives t s ks m.0 p.0 m.2 p.2)))
     statement_takes room (older x s a b) is rest d n = named_statement room x (older x s a b) is _ rest d (λ js h.
-        let g = terminal_in T.Older js _ h in
-        let m = name_takes s g.1 _ g.2 in
+        by_terminal (right_at end room x) _ T.Older (λ span ks. (right_terminal room x span ks).4) js _ rest _ h (λ ks k.
+        let m = name_takes s ks _ k in
         let p = expression_takes room a m.0 _ (m.1 ∙ append_assoc (expression_tokens a) (expression_tokens b ++ a_terminal T.Semicolon ∷ []) rest) (omega arith) in
         let q = last_takes room b p.0 rest p.1 (omega arith) in
-        (q.0, q.1, from_first (right_at end room x) js (token (M.Terminal T.Older) g.0) g.1 (older_at end room x g.1) (Ok (older x s a b, q.0)) g.3 (right_terminal room x js g.0 g.1).3 (older_gives room x s g.1 m.0 p.0 q.0 a b m.2 p.2 q.2)))
+        (q.0, q.1, older_gives room x s ks m.0 p.0 q.0 a b m.2 p.2 q.2)))
     statement_takes room (out e) is rest d n =
-        let g = terminal_in T.Out is _ d in
-        let p = last_takes room e g.1 rest g.2 n in
-        (p.0, p.1, from_first (statement_at end room) is (token (M.Terminal T.Out) g.0) g.1 (out_at end room g.1) (Ok (out e, p.0)) g.3 (statement_terminal room g.0 g.1).2 (out_gives room g.1 p.0 e p.2))
+        by_terminal (statement_at end room) _ T.Out (λ span js. (statement_terminal room span js).3) is _ rest _ d (λ js h.
+        let p = last_takes room e js rest h n in
+        (p.0, p.1, out_gives room js p.0 e p.2))
     statement_takes zero (branch e a b) is rest d n = absurd (omega arith)
     statement_takes (suc room) (branch e a b) is rest d n =
-        let g = terminal_in T.If is _ d in
-        let p = expression_takes (suc room) e g.1 _
-        (g.2 ∙ sym (branch_regroups (expression_tokens e) (in_braces (block_tokens a)) (a_terminal T.Else) (in_braces (block_tokens b)) rest)) (omega arith) in
+        by_terminal (statement_at end (suc room)) _ T.If (λ span js. (statement_terminal (suc room) span js).4) is _ rest _ d (λ js h.
+        let p = expression_takes (suc room) e js _
+        (h ∙ sym (branch_regroups (expression_tokens e) (in_braces (block_tokens a)) (a_terminal T.Else) (in_braces (block_tokens b)) rest)) (omega arith) in
         let q = block_takes room a p.0 _ p.1 (λ js k. list_takes room N.Braces a (suc (length js)) js _ k (omega arith) (omega arith)) in
         let f = terminal_takes T.Else (λ span js. refl) q.0 _ q.1 in
-        let v = block_takes room b f.0 rest f.1 (λ js k. list_takes room N.Braces b (suc (length js)) js rest k (omega arith) (omega arith)) in (
-          v.0,
-          v.1,
-          from_first (statement_at end (suc room)) is (token (M.Terminal T.If) g.0) g.1 (branch_at end (block_at end (suc room)) (suc room) g.1) (Ok (branch e a b, v.0)) g.3
-              (statement_terminal (suc room) g.0 g.1).3
-              (branch_gives end (block_at end (suc room)) (suc room) g.1 p.0 q.0 f.0 v.0 e a b p.2 q.2 f.2 v.2),
-        )
+        let v = block_takes room b f.0 rest f.1 (λ js k. list_takes room N.Braces b (suc (length js)) js rest k (omega arith) (omega arith)) in
+        (v.0, v.1, branch_gives end (block_at end (suc room)) (suc room) js p.0 q.0 f.0 v.0 e a b p.2 q.2 f.2 v.2))
     statement_takes zero (repeat e a) is rest d n = absurd (omega arith)
     statement_takes (suc room) (repeat e a) is rest d n =
-        let g = terminal_in T.While is _ d in
-        let p = expression_takes (suc room) e g.1 _ (g.2 ∙ append_assoc (expression_tokens e) (in_braces (block_tokens a)) rest) (omega arith) in
-        let q = block_takes room a p.0 rest p.1 (λ js k. list_takes room N.Braces a (suc (length js)) js rest k (omega arith) (omega arith)) in (
-          q.0,
-          q.1,
-          from_first (statement_at end (suc room)) is (token (M.Terminal T.While) g.0) g.1 (repeat_at end (block_at end (suc room)) (suc room) g.1) (Ok (repeat e a, q.0)) g.3
-              (statement_terminal (suc room) g.0 g.1).4
-              (repeat_gives end (block_at end (suc room)) (suc room) g.1 p.0 q.0 e a p.2 q.2),
-        )
+        by_terminal (statement_at end (suc room)) _ T.While (λ span js. (statement_terminal (suc room) span js).5) is _ rest _ d (λ js h.
+        let p = expression_takes (suc room) e js _ (h ∙ append_assoc (expression_tokens e) (in_braces (block_tokens a)) rest) (omega arith) in
+        let q = block_takes room a p.0 rest p.1 (λ js k. list_takes room N.Braces a (suc (length js)) js rest k (omega arith) (omega arith)) in
+        (q.0, q.1, repeat_gives end (block_at end (suc room)) (suc room) js p.0 q.0 e a p.2 q.2))
 
     pub list_takes : (room : ℕ) (ending : Ending) (b : Block Name) (most : ℕ) (is : List ValuedToken) (rest : List Lexeme)
         → says is ≡ block_tokens b ++ a_terminal (ending_terminal ending) ∷ rest → block_nesting b ≤ room → length is < most

@@ -1,4 +1,27 @@
 -- Tokens that go on to a program are those that leave symbols which may still come.
+--
+-- The idea. That some program goes on from these tokens (`GoesOn`) speaks of all programs, and nobody can look
+-- through them. `run ts st` can be computed: the symbols that are left once the tokens `ts` were read from the
+-- stack `st`, or none, where a token had no place. This page shows that the two say the same. Tokens go on to a
+-- program exactly where `run` leaves a stack (`goes_on`, `goes_on_runs`), and they are a program exactly where
+-- that is empty (`program_back`, `program_runs`).
+--
+-- From symbols to programs: each symbol can be completed, by tokens that a text can have (`complete`, `completes`,
+-- `complete_stands`), so each stack can (`completes_all`). Tokens with this completion run out of symbols, and
+-- such tokens are a program: the reader reads them, since what it refuses the stack refuses (`program_err` of
+-- `SoundPrograms`), and what it reads the tokens say (`program_ok`). From programs to symbols: a program's tokens
+-- are read (`program_takes` of `Complete`), so the stack refused none of them, and `run` comes to its end.
+--
+-- The reader has a limit of open brackets, and `run` has none. So for a list of tokens a reader is taken whose
+-- limit is above the length of the list: there no bracket is one too many (`no_fault`). For this the count of open
+-- brackets is followed along `run`: what a symbol turns into closes just the brackets that are open then (`opens`,
+-- a case for each symbol and each token), and a token opens one at most (`grows_by`).
+--
+-- The reader reads tokens with their places, and here there are none. So tokens are made up that say what is
+-- wanted (`some_say`); all that their places decide is where the number of processes stands (`number_stands`).
+--
+-- The inductions are on the list of tokens, for any stack. A whole program is looked at by the reader alone; that
+-- is why each half needs no induction on trees, which `Sound` and `Complete` have done.
 use Rattle.std.proofs.Common.{map, append_assoc, ◌≡◌, ◌≢◌, ℕ, suc, ◌+◌, ◌<◌, ◌≤◌, Bool, true, false, List, [], ◌∷◌, ◌++◌, length, Option, Some, None, Result, Ok, Err, refl, sym, ◌∙◌, ap, subst, arith, max}
 use Rattle.std.proofs.lemmas.Bool.{ne_eqb, eqb-true, eqb-false}
 use Rattle.tick_syntax.specs.declared.span.Span.{Span}
@@ -37,6 +60,7 @@ statement_opens : (x : Lexeme) → Opens s_statement x (statement_step x)
 statement_opens (a_name n) = λ st. refl
 statement_opens (a_terminal T.Put) = λ st. refl
 statement_opens (a_terminal T.Stamp) = λ st. refl
+statement_opens (a_terminal T.Clear) = λ st. refl
 statement_opens (a_terminal T.Out) = λ st. refl
 statement_opens (a_terminal T.If) = λ st. refl
 statement_opens (a_terminal T.While) = λ st. refl
@@ -94,6 +118,7 @@ opens s_right (a_terminal T.Get) = λ st. refl
 opens s_right (a_terminal T.Scan) = λ st. refl
 opens s_right (a_terminal T.Copy) = λ st. refl
 opens s_right (a_terminal T.Older) = λ st. refl
+opens s_right (a_terminal T.Held) = λ st. refl
 opens s_right x = opens_after s_expression s_semicolon x (expression_step x) (λ st. refl) (expression_opens x)
 opens s_statement x = statement_opens x
 opens (s_until N.Program) (a_terminal T.End) = λ st. refl

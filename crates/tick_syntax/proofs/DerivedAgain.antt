@@ -9,7 +9,7 @@ use Rattle.tick_syntax.specs.Lexeme.{Lexeme, a_name, a_number, a_terminal, nothi
 use Rattle.tick_syntax.specs.Grammar.{program_tokens}
 use Rattle.tick_syntax.specs.Refusal.{AllCanStand}
 use Rattle.tick_syntax.specs.declared.span.Span.{Span}
-use Rattle.tick_syntax.specs.Plain.{Name, Expression, number, named, me, count, binary, map_expression, Statement, assign, get, put, stamp, scan, copy, older, out, branch, repeat, map_statement, Block, nil, cons, map_block, WholeProgram, without_spans}
+use Rattle.tick_syntax.specs.Plain.{Name, Expression, number, named, me, count, binary, map_expression, Statement, assign, get, put, stamp, clear, scan, copy, older, held, out, branch, repeat, map_statement, Block, nil, cons, map_block, WholeProgram, without_spans}
 use Rattle.tick_syntax.proofs.Symbols.{Symbol, s_program, s_until, step, on_stack, run_by, run}
 use Rattle.tick_syntax.proofs.Spanless.{letters_of, spanless, spanless_all}
 use Rattle.tick_syntax.proofs.SpansAside.{name_at_none, program_at_none, program_plain}
@@ -31,9 +31,11 @@ module _ {A B C : Type 0} (f : A → B) (g : B → C) where
     statement_twice (get x r e) = rw (expression_twice e) refl
     statement_twice (put r e) = rw (expression_twice e) refl
     statement_twice stamp = refl
+    statement_twice clear = refl
     statement_twice (scan s) = refl
     statement_twice (copy t s) = refl
     statement_twice (older x s a b) = rw (expression_twice a, expression_twice b) refl
+    statement_twice (held x s e) = rw (expression_twice e) refl
     statement_twice (out e) = rw (expression_twice e) refl
     statement_twice (branch e a b) = rw (expression_twice e, block_twice a, block_twice b) refl
     statement_twice (repeat e a) = rw (expression_twice e, block_twice a) refl

@@ -1,4 +1,36 @@
 -- What the reader reads is what the grammar has, and where it stops nothing goes on.
+--
+-- The idea. A reader that descends by the grammar has, at any moment, a list of what has still to come: after `x =
+-- (` an expression, an operator, an expression, `)` and `;`. Here that list is written down, as a stack of symbols
+-- (`Symbols`). `step s x` are the symbols that stand in the place of `s` once the token `x` was read, or none,
+-- where `s` can't begin with `x`; `fault is st` is the first token of `is` that the stack `st` refuses. The stack
+-- knows nothing of the reader. It is what refusals are proved about in the end (`Continuations`, `Stops`).
+--
+-- `Reads syms P room is m` ties a reading to it: the reading `m` of the tokens `is` does what the symbols `syms`
+-- do, where `room` more brackets may be opened. It has four parts:
+--
+--     found      what was read stands in front of what is left, as P says: these are the grammar's tokens
+--     shorter    fewer tokens are left
+--     goes       where it read, the stack goes on with what is left, whatever stands below these symbols
+--     stops      where it refused, the stack refuses at the same place and for the same reason
+--
+-- A reader is put together of a few things, and each has its lemma:
+--
+--     reads_bind, reads_map    one reading after another: their symbols stand one after the other
+--     accept, refuse           a token that is all that the symbol stands for; one that it doesn't take
+--     enter                    a token after which other symbols stand in the symbol's place
+--     refuse_deep              a bracket that is one too many
+--     stand_in, weaken         a symbol that takes what others take; a weaker P
+--     by_next                  the next token, if there is one
+--
+-- The induction is on how many brackets may still be opened (`brackets_read`): what stands inside a bracket has
+-- room for one less. Within one level the proof follows the rules. `SoundStatements` goes on with statements and
+-- blocks, `SoundPrograms` with whole programs.
+--
+-- It goes through because `goes` and `stops` hold whatever symbols `st` stand below: so two readings in a row are
+-- put together without looking into either. Brackets are counted by the stack itself, as the symbols of it that
+-- close one (`opened`); and `opened (syms ++ st) + room` is the limit at every place. So the reader's room and the
+-- stack's count agree on which bracket is one too many.
 use Rattle.std.proofs.Common.{sym, ◌≡◌, ◌≢◌, ℕ, zero, suc, ◌+◌, ◌<◌, ◌≤◌, ◌⊎◌, inl, inr, true, false, List, [], ◌∷◌, ◌++◌, length, Some, None, Result, Ok, Err, refl, ◌∙◌, ap, subst, append_assoc, arith, nat_eq, eq-eqb}
 use Rattle.std.proofs.lemmas.Bool.{ne_eqb}
 use Rattle.tick_syntax.specs.declared.span.Span.{Span}

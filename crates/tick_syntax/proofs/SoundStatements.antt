@@ -1,4 +1,20 @@
 -- What the reader reads is what the grammar has: statements.
+--
+-- As `Sound` does it for expressions, and by its lemmas: each reading does what its symbols do (`Reads`), and what
+-- it found are the tokens of the statement before what is left, of no more brackets within one another than there
+-- was room for. `IsStatementIn` says so of a statement, `IsBlockIn` of statements with the terminal that ends
+-- them, `IsBraced` of a block in its braces.
+--
+-- There are two inductions, one inside the other. The outer one is on the room: inside braces there is room for
+-- one bracket less (`block_reads`). A statement is read with whatever reads its blocks, so `with_reads` takes a
+-- reader of blocks as an argument, with the proof that it reads them; `block_reads` hands in the one for less
+-- room. The inner one is on how many statements may still be read (`list_reads`): each takes a token, so fewer
+-- tokens are left than statements may come, and the case of none never comes.
+--
+-- Which statement it is the first token decides (`statement_front`), and so it is for a right-hand side
+-- (`right_front`). A token with which nothing begins is refused by the symbol as by the reader, in one line for
+-- all such tokens. A right-hand side that begins with no keyword of its own is an expression and a `;`: the symbol
+-- `s_right` then takes what these two take (`stand_in`).
 use Rattle.std.proofs.Common.{append_assoc, ◌≡◌, ℕ, zero, suc, ◌<◌, ◌≤◌, List, [], ◌∷◌, ◌++◌, length, Ok, refl, sym, ◌∙◌, ap, subst, arith}
 use Rattle.tick_syntax.specs.declared.span.Span.{Span}
 use Rattle.tick_syntax.specs.declared.valued_token.ValuedToken.{ValuedToken}
@@ -9,11 +25,11 @@ use Rattle.tick_syntax.specs.declared.valued_token.Meaning.TheVariants as M
 use Rattle.tick_syntax.specs.declared.terminals.Terminal.{Terminal}
 use Rattle.tick_syntax.specs.declared.terminals.Terminal.TheVariants as T
 use Rattle.tick_syntax.specs.Lexeme.{Lexeme, a_name, a_terminal}
-use Rattle.tick_syntax.specs.Plain.{Name, Statement, Block, nil}
+use Rattle.tick_syntax.specs.Plain.{Name, Expression, Statement, get, put, stamp, clear, scan, held, Block, nil}
 use Rattle.tick_syntax.specs.Grammar.{expression_tokens, in_braces, statement_tokens, block_tokens}
 use Rattle.tick_syntax.specs.Nesting.{expression_nesting, statement_nesting, block_nesting}
 use Rattle.machine_core.specs.Refusing.{◌>>=◌}
-use Rattle.tick_syntax.specs.prover.Reading.{Reading, next_at, brace_at, brace_by, get_at, scan_at, copy_at, older_at, plain_at, right_by, right_at, assignment_at, put_at, stamp_at, out_at, branch_at, repeat_at, statement_by, statement_with, block_by, ends, statements_with, block_at, statement_at, statements_at}
+use Rattle.tick_syntax.specs.prover.Reading.{Reading, next_at, brace_at, brace_by, ended_at, named_last_at, copy_at, older_at, plain_at, right_by, right_at, assignment_at, out_at, branch_at, repeat_at, statement_by, statement_with, block_by, ends, statements_with, block_at, statement_at, statements_at}
 use Rattle.tick_syntax.proofs.Symbols.{said_by, says, s_semicolon, s_name, s_becomes, s_else, s_expression, s_right, s_block, s_statement, s_until, opened}
 use Rattle.tick_syntax.proofs.Sound.{Reads, reads_bind, reads_bind_shorter, reads_map, refuse, refuse_deep, accept, enter, by_next, by_next_whole, by_next_then, stand_in, weaken, nothing_left, semicolon_one, becomes_one, else_one, terminal_reads, name_reads, expression_reads, last_reads, full_at, free_at}
 
@@ -31,22 +47,30 @@ module _ (end limit : ℕ) where
   abbrev pub IsBraced : ℕ → List Lexeme → Block Name → List Lexeme → Type 0
   IsBraced room ts b rest = (ts ≡ in_braces (block_tokens b) ++ rest) × (suc (block_nesting b) ≤ room)
 
-  get_reads : (room : ℕ) (x : Name) (is : List ValuedToken)
-      → Reads end limit (s_name ∷ s_expression ∷ s_semicolon ∷ [])
-      (IsStatementIn room (a_name x ∷ a_terminal T.Becomes ∷ a_terminal T.Get ∷ says is)) room is (get_at end room x is)
-  unfolding get_at
-  get_reads room x is =
-      reads_bind end limit (s_name ∷ []) (s_expression ∷ s_semicolon ∷ []) _ _ room is _ _ (λ st. refl) (name_reads end limit room is) (λ r dr.
-      reads_map end limit (s_expression ∷ s_semicolon ∷ []) _ _ room r.1 _ _ (last_reads end limit room r.1) (λ e rest de.
-      (ap (λ z. a_name x ∷ a_terminal T.Becomes ∷ a_terminal T.Get ∷ z) (dr ∙ ap (λ z. a_name r.0 ∷ z) de.0), de.1)))
+  -- the `;` after what stands in front
+  ended_reads : (front : List Lexeme) (s : Statement Name) → statement_tokens s ≡ front ++ a_terminal T.Semicolon ∷ [] → statement_nesting s ≡ 0
+      → (room : ℕ) (is : List ValuedToken) → Reads end limit (s_semicolon ∷ []) (IsStatementIn room (front ++ says is)) room is (ended_at end s is)
+  unfolding ended_at
+  ended_reads front s tokens flat room is =
+      reads_map end limit (s_semicolon ∷ []) _ _ room is _ _ (terminal_reads end limit s_semicolon T.Semicolon (semicolon_one end limit) room is) (λ e rest de. (
+        ap (λ z. front ++ z) de ∙ sym (append_assoc front (a_terminal T.Semicolon ∷ []) rest) ∙ ap (λ z. z ++ rest) (sym tokens),
+        omega (arith, flat),
+      ))
 
-  scan_reads : (room : ℕ) (x : Name) (is : List ValuedToken)
-      → Reads end limit (s_semicolon ∷ [])
-      (IsStatementIn room (a_name x ∷ a_terminal T.Becomes ∷ a_terminal T.Scan ∷ says is)) room is (scan_at end x is)
-  unfolding scan_at
-  scan_reads room x is =
-      reads_map end limit (s_semicolon ∷ []) _ _ room is _ _ (terminal_reads end limit s_semicolon T.Semicolon (semicolon_one end limit) room is) (λ s rest ds.
-      (ap (λ z. a_name x ∷ a_terminal T.Becomes ∷ a_terminal T.Scan ∷ z) ds, omega arith))
+  -- a name, an expression and the `;` after what stands in front
+  named_last_reads : (front : List Lexeme) (make : Name → Expression Name → Statement Name)
+      → ((x : Name) (e : Expression Name) → statement_tokens (make x e) ≡ front ++ a_name x ∷ (expression_tokens e ++ a_terminal T.Semicolon ∷ []))
+      → ((x : Name) (e : Expression Name) → statement_nesting (make x e) ≡ expression_nesting e)
+      → (room : ℕ) (is : List ValuedToken)
+      → Reads end limit (s_name ∷ s_expression ∷ s_semicolon ∷ []) (IsStatementIn room (front ++ says is)) room is (named_last_at end make room is)
+  unfolding named_last_at
+  named_last_reads front make tokens deep room is =
+      reads_bind end limit (s_name ∷ []) (s_expression ∷ s_semicolon ∷ []) _ _ room is _ _ (λ st. refl) (name_reads end limit room is) (λ x dx.
+      reads_map end limit (s_expression ∷ s_semicolon ∷ []) _ _ room x.1 _ _ (last_reads end limit room x.1) (λ e rest de. (
+        ap (λ z. front ++ z) (dx ∙ ap (λ z. a_name x.0 ∷ z) de.0)
+            ∙ sym (append_assoc front (a_name x.0 ∷ (expression_tokens e ++ a_terminal T.Semicolon ∷ [])) rest) ∙ ap (λ z. z ++ rest) (sym (tokens x.0 e)),
+        (let l : expression_nesting e ≤ room = de.1 in omega (arith, deep x.0 e)),
+      )))
 
   copy_reads : (room : ℕ) (x : Name) (is : List ValuedToken)
       → Reads end limit (s_name ∷ s_semicolon ∷ [])
@@ -81,8 +105,12 @@ module _ (end limit : ℕ) where
   right_front : (room : ℕ) (x : Name) (m : Meaning) (span : Span) (rest : List ValuedToken)
       → Reads end limit (s_right ∷ []) (IsStatementIn room (a_name x ∷ a_terminal T.Becomes ∷ said_by m span ∷ says rest)) room
       (record { meaning = m; span = span } ∷ rest) (right_by end m room x (record { meaning = m; span = span } ∷ rest) rest)
-  right_front room x (M.Terminal T.Get) span rest = enter end limit _ _ room room _ span rest _ _ refl (λ st o. (refl, o)) (get_reads room x rest)
-  right_front room x (M.Terminal T.Scan) span rest = enter end limit _ _ room room _ span rest _ _ refl (λ st o. (refl, o)) (scan_reads room x rest)
+  right_front room x (M.Terminal T.Get) span rest =
+      enter end limit _ _ room room _ span rest _ _ refl (λ st o. (refl, o)) (named_last_reads (a_name x ∷ a_terminal T.Becomes ∷ a_terminal T.Get ∷ []) (get x) (λ r e. refl) (λ r e. refl) room rest)
+  right_front room x (M.Terminal T.Held) span rest =
+      enter end limit _ _ room room _ span rest _ _ refl (λ st o. (refl, o)) (named_last_reads (a_name x ∷ a_terminal T.Becomes ∷ a_terminal T.Held ∷ []) (held x) (λ s e. refl) (λ s e. refl) room rest)
+  right_front room x (M.Terminal T.Scan) span rest =
+      enter end limit _ _ room room _ span rest _ _ refl (λ st o. (refl, o)) (ended_reads (a_name x ∷ a_terminal T.Becomes ∷ a_terminal T.Scan ∷ []) (scan x) refl refl room rest)
   right_front room x (M.Terminal T.Copy) span rest = enter end limit _ _ room room _ span rest _ _ refl (λ st o. (refl, o)) (copy_reads room x rest)
   right_front room x (M.Terminal T.Older) span rest = enter end limit _ _ room room _ span rest _ _ refl (λ st o. (refl, o)) (older_reads room x rest)
   right_front room x m span rest =
@@ -102,21 +130,6 @@ module _ (end limit : ℕ) where
       reads_bind end limit (s_becomes ∷ []) (s_right ∷ []) _ _ room is _ _ (λ st. refl) (terminal_reads end limit s_becomes T.Becomes (becomes_one end limit) room is) (λ b db.
       subst (λ z. Reads end limit (s_right ∷ []) (IsStatementIn room (a_name x ∷ z)) room b.1 (right_at end room x b.1)) (sym db)
       (right_reads room x b.1))
-
-  put_reads : (room : ℕ) (is : List ValuedToken)
-      → Reads end limit (s_name ∷ s_expression ∷ s_semicolon ∷ []) (IsStatementIn room (a_terminal T.Put ∷ says is)) room is (put_at end room is)
-  unfolding put_at
-  put_reads room is =
-      reads_bind end limit (s_name ∷ []) (s_expression ∷ s_semicolon ∷ []) _ _ room is _ _ (λ st. refl) (name_reads end limit room is) (λ r dr.
-      reads_map end limit (s_expression ∷ s_semicolon ∷ []) _ _ room r.1 _ _ (last_reads end limit room r.1) (λ e rest de.
-      (ap (λ z. a_terminal T.Put ∷ z) (dr ∙ ap (λ z. a_name r.0 ∷ z) de.0), de.1)))
-
-  stamp_reads : (room : ℕ) (is : List ValuedToken)
-      → Reads end limit (s_semicolon ∷ []) (IsStatementIn room (a_terminal T.Stamp ∷ says is)) room is (stamp_at end is)
-  unfolding stamp_at
-  stamp_reads room is =
-      reads_map end limit (s_semicolon ∷ []) _ _ room is _ _ (terminal_reads end limit s_semicolon T.Semicolon (semicolon_one end limit) room is) (λ s rest ds.
-      (ap (λ z. a_terminal T.Stamp ∷ z) ds, omega arith))
 
   out_reads : (room : ℕ) (is : List ValuedToken)
       → Reads end limit (s_expression ∷ s_semicolon ∷ []) (IsStatementIn room (a_terminal T.Out ∷ says is)) room is (out_at end room is)
@@ -161,8 +174,12 @@ module _ (end limit : ℕ) where
       (record { meaning = m; span = span } ∷ rest) (statement_by end m span block room rest)
   statement_front room block reads (M.Name letters) span rest =
       enter end limit _ _ room room _ span rest _ _ refl (λ st o. (refl, o)) (assignment_reads room _ rest)
-  statement_front room block reads (M.Terminal T.Put) span rest = enter end limit _ _ room room _ span rest _ _ refl (λ st o. (refl, o)) (put_reads room rest)
-  statement_front room block reads (M.Terminal T.Stamp) span rest = enter end limit _ _ room room _ span rest _ _ refl (λ st o. (refl, o)) (stamp_reads room rest)
+  statement_front room block reads (M.Terminal T.Put) span rest =
+      enter end limit _ _ room room _ span rest _ _ refl (λ st o. (refl, o)) (named_last_reads (a_terminal T.Put ∷ []) put (λ r e. refl) (λ r e. refl) room rest)
+  statement_front room block reads (M.Terminal T.Stamp) span rest =
+      enter end limit _ _ room room _ span rest _ _ refl (λ st o. (refl, o)) (ended_reads (a_terminal T.Stamp ∷ []) stamp refl refl room rest)
+  statement_front room block reads (M.Terminal T.Clear) span rest =
+      enter end limit _ _ room room _ span rest _ _ refl (λ st o. (refl, o)) (ended_reads (a_terminal T.Clear ∷ []) clear refl refl room rest)
   statement_front room block reads (M.Terminal T.Out) span rest = enter end limit _ _ room room _ span rest _ _ refl (λ st o. (refl, o)) (out_reads room rest)
   statement_front room block reads (M.Terminal T.If) span rest =
       enter end limit _ _ room room _ span rest _ _ refl (λ st o. (refl, o)) (branch_reads room block reads rest)

@@ -5,7 +5,7 @@ use Rattle.tick_syntax.specs.declared.terminals.Terminal.{Terminal}
 use Rattle.tick_syntax.specs.declared.terminals.Terminal.TheVariants as T
 use Rattle.tick_syntax.specs.Lexeme.{Lexeme, a_name, a_number, a_terminal, nothing}
 use Rattle.tick_syntax.specs.Nesting.{expression_nesting, statement_nesting, block_nesting, nesting}
-use Rattle.tick_syntax.specs.Plain.{nowhere, Name, Expression, number, named, me, count, binary, map_expression, Statement, assign, get, put, stamp, scan, copy, older, out, branch, repeat, map_statement, Block, nil, cons, map_block, WholeProgram, without_spans}
+use Rattle.tick_syntax.specs.Plain.{nowhere, Name, Expression, number, named, me, count, binary, map_expression, Statement, assign, get, put, stamp, clear, scan, copy, older, held, out, branch, repeat, map_statement, Block, nil, cons, map_block, WholeProgram, without_spans}
 use Rattle.tick_syntax.specs.Grammar.{expression_tokens, statement_tokens, block_tokens, names_tokens, section_tokens, program_tokens}
 use Rattle.tick_syntax.specs.Printed.{printed_token, printed_tokens, printed}
 use Rattle.tick_syntax.proofs.Spanless.{letters_of, spanless, spanless_all}
@@ -26,10 +26,12 @@ module _ {A B : Type 0} (f : A → B) where
     statement_as_deep (get x r e) = expression_as_deep e
     statement_as_deep (put r e) = expression_as_deep e
     statement_as_deep stamp = refl
+    statement_as_deep clear = refl
     statement_as_deep (scan s) = refl
     statement_as_deep (copy t s) = refl
     statement_as_deep (older x s a b) =
         ap (λ n. max n (expression_nesting (map_expression f b))) (expression_as_deep a) ∙ ap (max (expression_nesting a)) (expression_as_deep b)
+    statement_as_deep (held x s e) = expression_as_deep e
     statement_as_deep (out e) = expression_as_deep e
     statement_as_deep (branch e a b) =
         ap (λ n. max n (suc (max (block_nesting (map_block f a)) (block_nesting (map_block f b))))) (expression_as_deep e)
@@ -65,9 +67,11 @@ mutual
   statement_plain (get x r e) = simp (map-append, expression_plain e)
   statement_plain (put r e) = simp (map-append, expression_plain e)
   statement_plain stamp = refl
+  statement_plain clear = refl
   statement_plain (scan s) = refl
   statement_plain (copy t s) = refl
   statement_plain (older x s a b) = simp (map-append, expression_plain a, expression_plain b)
+  statement_plain (held x s e) = simp (map-append, expression_plain e)
   statement_plain (out e) = simp (map-append, expression_plain e)
   statement_plain (branch e a b) = simp (map-append, expression_plain e, block_plain a, block_plain b)
   statement_plain (repeat e a) = simp (map-append, expression_plain e, block_plain a)

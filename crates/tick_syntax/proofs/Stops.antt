@@ -1,4 +1,25 @@
 -- Where the reader stops, no program goes on.
+--
+-- The idea. By `Sound` a refusal of the reader is the first fault of the stack of symbols (`fault`). What a
+-- refusal promises speaks of programs. `IsUnexpected`: the tokens in front begin a program within the limits, and
+-- with the next one no program does. `IsTooDeep`: the next one is a bracket that may stand there, and would be the
+-- 65th that is open.
+--
+-- `stopped` goes along the tokens with the stack, up to the one that is refused, by induction on the list. What it
+-- finds is the record `Stopped`: the front and the rest, the symbols that the front leaves (`runs`), that nowhere
+-- in it more than 64 brackets were open (`shallow`), how many are open at its end (`depth`), and how the symbols
+-- refuse what comes next (`stop`). A token that is taken goes to the front of what the induction gives.
+--
+-- Then `Continuations` makes programs of symbols. The front leaves symbols, so a program goes on from it
+-- (`goes_on`). With one token more none are left, so no program goes on from that (`goes_on_runs`). At the end of
+-- the text there is no token more; symbols are left there, and the tokens of a program would leave none
+-- (`program_runs`). A bracket that is one too many the symbols do take, so a program would go on.
+--
+-- It goes through because the brackets that are open are those that the stack still closes (`opened`). `opens_to`
+-- says that this number changes as the definition `open_by` has it, so the depth needs no walk of its own.
+--
+-- The end of the page closes the other doors: the reader has no refusals but these two (`of_fault`), and those of
+-- the tokens are told as they are (`first_is_refused`).
 use Rattle.std.proofs.Common.{append_assoc, ◌≡◌, ℕ, ◌≤◌, ◌⊎◌, inl, inr, Bool, true, false, List, [], ◌∷◌, ◌++◌, length, Option, Some, None, refl, sym, ◌∙◌, ap, subst, arith}
 use Rattle.tick_syntax.specs.declared.span.Span.{Span}
 use Rattle.tick_syntax.specs.declared.fault.TextFault.{TextFault}

@@ -61,12 +61,14 @@ right_step (a_terminal T.Get) = Some (s_name ∷ s_expression ∷ s_semicolon �
 right_step (a_terminal T.Scan) = Some (s_semicolon ∷ [])
 right_step (a_terminal T.Copy) = Some (s_name ∷ s_semicolon ∷ [])
 right_step (a_terminal T.Older) = Some (s_name ∷ s_expression ∷ s_expression ∷ s_semicolon ∷ [])
+right_step (a_terminal T.Held) = Some (s_name ∷ s_expression ∷ s_semicolon ∷ [])
 right_step x = after (expression_step x) s_semicolon
 
 abbrev pub statement_step : Lexeme → Option (List Symbol)
 statement_step (a_name x) = Some (s_becomes ∷ s_right ∷ [])
 statement_step (a_terminal T.Put) = Some (s_name ∷ s_expression ∷ s_semicolon ∷ [])
 statement_step (a_terminal T.Stamp) = Some (s_semicolon ∷ [])
+statement_step (a_terminal T.Clear) = Some (s_semicolon ∷ [])
 statement_step (a_terminal T.Out) = Some (s_expression ∷ s_semicolon ∷ [])
 statement_step (a_terminal T.If) = Some (s_expression ∷ s_block ∷ s_else ∷ s_block ∷ [])
 statement_step (a_terminal T.While) = Some (s_expression ∷ s_block ∷ [])

@@ -5,7 +5,7 @@ use Rattle.tick_syntax.specs.declared.terminals.Terminal.{Terminal}
 use Rattle.tick_syntax.specs.declared.terminals.Terminal.TheVariants as T
 use Rattle.tick_syntax.specs.declared.token.Token.{Token}
 use Rattle.tick_syntax.specs.Lexeme.{Lexeme, a_name, a_number, a_terminal, lexemes}
-use Rattle.tick_syntax.specs.Plain.{nowhere, Name, Expression, number, named, me, count, binary, Statement, assign, get, put, stamp, scan, copy, older, out, branch, repeat, Block, nil, cons, WholeProgram}
+use Rattle.tick_syntax.specs.Plain.{nowhere, Name, Expression, number, named, me, count, binary, Statement, assign, get, put, stamp, clear, scan, copy, older, held, out, branch, repeat, Block, nil, cons, WholeProgram}
 
 -- NUM, NAME, `me`, `n`, or two expressions about an operator, all in brackets
 abbrev pub expression_tokens : Expression Name → List Lexeme
@@ -26,11 +26,14 @@ abbrev mutual
       a_name x ∷ a_terminal T.Becomes ∷ a_terminal T.Get ∷ a_name r ∷ (expression_tokens e ++ a_terminal T.Semicolon ∷ [])
   statement_tokens (put r e) = a_terminal T.Put ∷ a_name r ∷ (expression_tokens e ++ a_terminal T.Semicolon ∷ [])
   statement_tokens stamp = a_terminal T.Stamp ∷ a_terminal T.Semicolon ∷ []
+  statement_tokens clear = a_terminal T.Clear ∷ a_terminal T.Semicolon ∷ []
   statement_tokens (scan s) = a_name s ∷ a_terminal T.Becomes ∷ a_terminal T.Scan ∷ a_terminal T.Semicolon ∷ []
   statement_tokens (copy t s) = a_name t ∷ a_terminal T.Becomes ∷ a_terminal T.Copy ∷ a_name s ∷ a_terminal T.Semicolon ∷ []
   statement_tokens (older x s a b) =
       a_name x ∷ a_terminal T.Becomes ∷ a_terminal T.Older ∷ a_name s
       ∷ (expression_tokens a ++ (expression_tokens b ++ a_terminal T.Semicolon ∷ []))
+  statement_tokens (held x s e) =
+      a_name x ∷ a_terminal T.Becomes ∷ a_terminal T.Held ∷ a_name s ∷ (expression_tokens e ++ a_terminal T.Semicolon ∷ [])
   statement_tokens (out e) = a_terminal T.Out ∷ (expression_tokens e ++ a_terminal T.Semicolon ∷ [])
   statement_tokens (branch e a b) =
       a_terminal T.If ∷ (expression_tokens e ++ (in_braces (block_tokens a) ++ a_terminal T.Else ∷ in_braces (block_tokens b)))

@@ -2,7 +2,7 @@
 use Rattle.std.specs.Prelude.{ℕ, suc, ◌-◌, ◌≤◌, List, [], ◌∷◌, max}
 use Rattle.tick_syntax.specs.declared.terminals.Terminal.TheVariants as T
 use Rattle.tick_syntax.specs.Lexeme.{Lexeme, a_terminal}
-use Rattle.tick_syntax.specs.Plain.{Expression, number, named, me, count, binary, Statement, assign, get, put, stamp, scan, copy, older, out, branch, repeat, Block, nil, cons, WholeProgram}
+use Rattle.tick_syntax.specs.Plain.{Expression, number, named, me, count, binary, Statement, assign, get, put, stamp, clear, scan, copy, older, held, out, branch, repeat, Block, nil, cons, WholeProgram}
 
 -- the deepest `(` and `{` of a tree: how many are open at once where most are
 module _ {A : Type 0} where
@@ -19,9 +19,11 @@ module _ {A : Type 0} where
     statement_nesting (get x r e) = expression_nesting e
     statement_nesting (put r e) = expression_nesting e
     statement_nesting stamp = 0
+    statement_nesting clear = 0
     statement_nesting (scan s) = 0
     statement_nesting (copy t s) = 0
     statement_nesting (older x s a b) = max (expression_nesting a) (expression_nesting b)
+    statement_nesting (held x s e) = expression_nesting e
     statement_nesting (out e) = expression_nesting e
     statement_nesting (branch e a b) = max (expression_nesting e) (suc (max (block_nesting a) (block_nesting b)))
     statement_nesting (repeat e a) = max (expression_nesting e) (suc (block_nesting a))

@@ -20,17 +20,19 @@ pub data Expression (A : Type 0) : Type 0 where
   count : Expression A
   binary : Expression A → Op → Expression A → Expression A
 
--- In order: `x = e;`, `x = get r e;`, `put r e;`, `stamp;`, `s = scan;`, `t = copy s;`,
--- `x = older s e f;`, `out e;`, `if e {..} else {..}`, `while e {..}`.
+-- In order: `x = e;`, `x = get r e;`, `put r e;`, `stamp;`, `clear;`, `s = scan;`, `t = copy s;`,
+-- `x = older s e f;`, `x = held s e;`, `out e;`, `if e {..} else {..}`, `while e {..}`.
 mutual
   pub data Statement (A : Type 0) : Type 0 where
     assign : A → Expression A → Statement A
     get : A → A → Expression A → Statement A
     put : A → Expression A → Statement A
     stamp : Statement A
+    clear : Statement A
     scan : A → Statement A
     copy : A → A → Statement A
     older : A → A → Expression A → Expression A → Statement A
+    held : A → A → Expression A → Statement A
     out : Expression A → Statement A
     branch : Expression A → Block A → Block A → Statement A
     repeat : Expression A → Block A → Statement A
@@ -68,9 +70,11 @@ module _ {A B : Type 0} (f : A → B) where
     map_statement (get x r e) = get (f x) (f r) (map_expression e)
     map_statement (put r e) = put (f r) (map_expression e)
     map_statement stamp = stamp
+    map_statement clear = clear
     map_statement (scan s) = scan (f s)
     map_statement (copy t s) = copy (f t) (f s)
     map_statement (older x s a b) = older (f x) (f s) (map_expression a) (map_expression b)
+    map_statement (held x s e) = held (f x) (f s) (map_expression e)
     map_statement (out e) = out (map_expression e)
     map_statement (branch e a b) = branch (map_expression e) (map_block a) (map_block b)
     map_statement (repeat e a) = repeat (map_expression e) (map_block a)

@@ -17,8 +17,10 @@ spelling T.End = codes "end"
 spelling T.Get = codes "get"
 spelling T.Put = codes "put"
 spelling T.Stamp = codes "stamp"
+spelling T.Clear = codes "clear"
 spelling T.Copy = codes "copy"
 spelling T.Older = codes "older"
+spelling T.Held = codes "held"
 spelling T.Out = codes "out"
 spelling T.If = codes "if"
 spelling T.Else = codes "else"
@@ -42,7 +44,7 @@ signs =
 
 abbrev pub keywords : List Terminal
 keywords =
-    T.Me ∷ T.Count ∷ T.Put ∷ T.Get ∷ T.Out ∷ T.If ∷ T.Else ∷ T.While ∷ T.Stamp ∷ T.Scan ∷ T.Copy ∷ T.Older ∷
+    T.Me ∷ T.Count ∷ T.Put ∷ T.Get ∷ T.Out ∷ T.If ∷ T.Else ∷ T.While ∷ T.Stamp ∷ T.Clear ∷ T.Scan ∷ T.Copy ∷ T.Older ∷ T.Held ∷
     T.Processes ∷ T.Var ∷ T.Reg ∷ T.Begin ∷ T.End ∷ []
 
 -- of these the one that is spelled so, if one is

@@ -6,7 +6,7 @@ use Rattle.tick_syntax.specs.declared.tree.Expr.TheVariants as E
 use Rattle.tick_syntax.specs.declared.tree.Stmt.{Stmt, Row_of-Stmt, end_of-Stmt, more_of-Stmt}
 use Rattle.tick_syntax.specs.declared.tree.Stmt.TheVariants as S
 use Rattle.tick_syntax.specs.declared.tree.Tree.{Tree}
-use Rattle.tick_syntax.specs.Plain.{Name, Expression, number, named, me, count, binary, Statement, assign, get, put, stamp, scan, copy, older, out, branch, repeat, Block, nil, cons, WholeProgram}
+use Rattle.tick_syntax.specs.Plain.{Name, Expression, number, named, me, count, binary, Statement, assign, get, put, stamp, clear, scan, copy, older, held, out, branch, repeat, Block, nil, cons, WholeProgram}
 
 abbrev pub name_of : Named → Name
 name_of x = record { letters = string_bytes x.name; span = x.span }
@@ -24,9 +24,11 @@ abbrev mutual
   statement_of (S.Get x r e) = get (name_of x) (name_of r) (expression_of e)
   statement_of (S.Put r e) = put (name_of r) (expression_of e)
   statement_of S.Stamp = stamp
+  statement_of S.Clear = clear
   statement_of (S.Scan s) = scan (name_of s)
   statement_of (S.Copy t s) = copy (name_of t) (name_of s)
   statement_of (S.Older x s a b) = older (name_of x) (name_of s) (expression_of a) (expression_of b)
+  statement_of (S.Held x s e) = held (name_of x) (name_of s) (expression_of e)
   statement_of (S.Out e) = out (expression_of e)
   statement_of (S.If' e p a q b) = branch (expression_of e) (row_of a) (row_of b)
   statement_of (S.While' e p a) = repeat (expression_of e) (row_of a)

@@ -1,6 +1,6 @@
-// The text form of a ticket program: its tokens, its grammar and its tree.
-//
-// Start with `parse`, from a text to its tree, and `print`, back to the one printed text.
+//! The text form of a ticket program: its tokens, its grammar and its tree.
+//!
+//! Start with `parse`, from a text to its tree, and `print`, back to the one printed text.
 #![tactic(auto)]
 
 mod characters;

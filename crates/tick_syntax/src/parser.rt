@@ -1,8 +1,8 @@
 // From the tokens of a text to its tree: a descent by the grammar, one method for each of its rules.
 ghost use Rattle.std.specs.Prelude.{◌≡◌, ◌≢◌, ◌<◌, ◌≤◌, ◌⊎◌, ℕ, List, [], length, drop, map, IfOk, IfErr, IsOkUnless, MatchResult};
-ghost use Rattle.tick_syntax.specs.prover.Reading.{Gives, GivesAlways, GivesWhole, IsOkUnlessMemory, next_at, terminal_at, brace_at, operator_at, name_at, number_at, pair_at, brackets_at, expression_at, last_at, get_at, scan_at, copy_at, older_at, plain_at, right_at, assignment_at, put_at, stamp_at, out_at, branch_at, repeat_at, block_at, statement_at, statements_at, names_at, section_at, body_at, whole_at, program_at};
+ghost use Rattle.tick_syntax.specs.prover.Reading.{Gives, GivesAlways, GivesWhole, IsOkUnlessMemory, next_at, terminal_at, brace_at, operator_at, name_at, number_at, pair_at, brackets_at, expression_at, last_at, ended_at, named_last_at, copy_at, older_at, plain_at, right_at, assignment_at, out_at, branch_at, repeat_at, block_at, statement_at, statements_at, names_at, section_at, body_at, whole_at, program_at};
 ghost use Rattle.tick_syntax.specs.Nesting.{nesting};
-ghost use Rattle.tick_syntax.specs.Plain.{Name, WholeProgram};
+ghost use Rattle.tick_syntax.specs.Plain.{Name, WholeProgram, get, put, held};
 ghost use Rattle.tick_syntax.specs.declared.fault.TextFault.TheVariants.{NoMemory, TextTooLong, Unexpected, TooDeep};
 ghost use Rattle.tick_syntax.specs.Refusal.{IsTextRefused};
 ghost use Rattle.tick_syntax.specs.declared.fault.TextFault.{TextFault};
@@ -194,21 +194,31 @@ impl Parser<'_> {
         Ok((value, at))
     }
 
-    #[tactic(auto, unfolding(crate::specs::prover::Reading::get_at))]
+    // The `;` after a statement of which all else was read.
+    #[tactic(auto, unfolding(crate::specs::prover::Reading::ended_at))]
+    fn ended(&self, statement: Stmt, at: usize) -> Read<Stmt>
+        ensures { Gives statement_of self.now.tokens.now result (ended_at self.now.end (statement_of statement) (drop at self.now.tokens.now)) }
+    {
+        let (_, at) = self.terminal(Terminal::Semicolon, at)?;
+        Ok((statement, at))
+    }
+
+    #[tactic(auto, unfolding(crate::specs::prover::Reading::named_last_at))]
     fn get(&self, room: usize, target: Named, at: usize) -> Read<Stmt>
-        ensures { Gives statement_of self.now.tokens.now result (get_at self.now.end room (name_of target) (drop at self.now.tokens.now)) }
+        ensures { Gives statement_of self.now.tokens.now result (named_last_at self.now.end (get (name_of target)) room (drop at self.now.tokens.now)) }
     {
         let (register, at) = self.name(at)?;
         let (process, at) = self.last(room, at)?;
         Ok((Stmt::Get(target, register, process), at))
     }
 
-    #[tactic(auto, unfolding(crate::specs::prover::Reading::scan_at))]
-    fn scan(&self, target: Named, at: usize) -> Read<Stmt>
-        ensures { Gives statement_of self.now.tokens.now result (scan_at self.now.end (name_of target) (drop at self.now.tokens.now)) }
+    #[tactic(auto, unfolding(crate::specs::prover::Reading::named_last_at))]
+    fn held(&self, room: usize, target: Named, at: usize) -> Read<Stmt>
+        ensures { Gives statement_of self.now.tokens.now result (named_last_at self.now.end (held (name_of target)) room (drop at self.now.tokens.now)) }
     {
-        let (_, at) = self.terminal(Terminal::Semicolon, at)?;
-        Ok((Stmt::Scan(target), at))
+        let (scan, at) = self.name(at)?;
+        let (process, at) = self.last(room, at)?;
+        Ok((Stmt::Held(target, scan, process), at))
     }
 
     #[tactic(auto, unfolding(crate::specs::prover::Reading::copy_at))]
@@ -246,7 +256,8 @@ impl Parser<'_> {
         let (token, after) = self.next(at)?;
         match token.meaning {
             Meaning::Terminal(Terminal::Get) => self.get(room, target, after),
-            Meaning::Terminal(Terminal::Scan) => self.scan(target, after),
+            Meaning::Terminal(Terminal::Held) => self.held(room, target, after),
+            Meaning::Terminal(Terminal::Scan) => self.ended(Stmt::Scan(target), after),
             Meaning::Terminal(Terminal::Copy) => self.copy(target, after),
             Meaning::Terminal(Terminal::Older) => self.older(room, target, after),
             _ => self.plain(room, target, at),
@@ -262,21 +273,13 @@ impl Parser<'_> {
         self.right(room, target, at)
     }
 
-    #[tactic(auto, unfolding(crate::specs::prover::Reading::put_at))]
+    #[tactic(auto, unfolding(crate::specs::prover::Reading::named_last_at))]
     fn put(&self, room: usize, at: usize) -> Read<Stmt>
-        ensures { Gives statement_of self.now.tokens.now result (put_at self.now.end room (drop at self.now.tokens.now)) }
+        ensures { Gives statement_of self.now.tokens.now result (named_last_at self.now.end put room (drop at self.now.tokens.now)) }
     {
         let (register, at) = self.name(at)?;
         let (value, at) = self.last(room, at)?;
         Ok((Stmt::Put(register, value), at))
-    }
-
-    #[tactic(auto, unfolding(crate::specs::prover::Reading::stamp_at))]
-    fn stamp(&self, at: usize) -> Read<Stmt>
-        ensures { Gives statement_of self.now.tokens.now result (stamp_at self.now.end (drop at self.now.tokens.now)) }
-    {
-        let (_, at) = self.terminal(Terminal::Semicolon, at)?;
-        Ok((Stmt::Stamp, at))
     }
 
     #[tactic(auto, unfolding(crate::specs::prover::Reading::out_at))]
@@ -320,7 +323,8 @@ impl Parser<'_> {
         match token.meaning {
             Meaning::Name(letters) => self.assignment(room, self.named(letters, token.span)?, at),
             Meaning::Terminal(Terminal::Put) => self.put(room, at),
-            Meaning::Terminal(Terminal::Stamp) => self.stamp(at),
+            Meaning::Terminal(Terminal::Stamp) => self.ended(Stmt::Stamp, at),
+            Meaning::Terminal(Terminal::Clear) => self.ended(Stmt::Clear, at),
             Meaning::Terminal(Terminal::Out) => self.out(room, at),
             Meaning::Terminal(Terminal::If) => self.branch(room, at),
             Meaning::Terminal(Terminal::While) => self.repeat(room, at),

@@ -2,7 +2,7 @@
 // follows it, all written to the end of one buffer.
 ghost use Rattle.std.specs.Prelude.{◌≡◌, ℕ, List, ◌++◌, ◌∷◌, [], map, OnOk, IfOk, IfErr, string_bytes};
 ghost use Rattle.tick_syntax.specs.Lexeme.{a_name, a_number, a_terminal};
-ghost use Rattle.tick_syntax.specs.Plain.{get, copy, older};
+ghost use Rattle.tick_syntax.specs.Plain.{copy, older};
 ghost use Rattle.tick_syntax.specs.Grammar.{expression_tokens, in_braces, statement_tokens, block_tokens, section_tokens};
 ghost use Rattle.tick_syntax.specs.Printed.{after_terminal, printed_token, printed_tokens, printed};
 ghost use Rattle.tick_syntax.specs.prover.Printing.{more_names, declaration_tokens};
@@ -81,18 +81,27 @@ fn push_target(out: &mut String, name: &Named) -> Result<(), AllocError>
     push_terminal(out, Terminal::Becomes)
 }
 
-/// `x = get r e;`.
-fn push_get(
+/// A keyword that is a statement, or the end of one, and the `;` after it.
+fn push_ended(out: &mut String, keyword: Terminal) -> Result<(), AllocError>
+    ensures { OnOk result (string_bytes out.new ≡ string_bytes out.old ++ printed_tokens (a_terminal keyword ∷ a_terminal Terminal.Semicolon ∷ [])) }
+{
+    push_terminal(out, keyword)?;
+    push_terminal(out, Terminal::Semicolon)
+}
+
+/// `x = get r e;` or `x = held s e;`, by its keyword.
+fn push_asked(
     out: &mut String,
     target: &Named,
-    register: &Named,
+    keyword: Terminal,
+    asked: &Named,
     process: &Expr,
 ) -> Result<(), AllocError>
-    ensures { OnOk result (string_bytes out.new ≡ string_bytes out.old ++ printed_tokens (statement_tokens (get (name_of target.now) (name_of register.now) (expression_of process.now)))) }
+    ensures { OnOk result (string_bytes out.new ≡ string_bytes out.old ++ printed_tokens (a_name (name_of target.now) ∷ a_terminal Terminal.Becomes ∷ a_terminal keyword ∷ a_name (name_of asked.now) ∷ (expression_tokens (expression_of process.now) ++ a_terminal Terminal.Semicolon ∷ []))) }
 {
     push_target(out, target)?;
-    push_terminal(out, Terminal::Get)?;
-    push_name(out, register)?;
+    push_terminal(out, keyword)?;
+    push_name(out, asked)?;
     push_last(out, process)
 }
 
@@ -132,23 +141,21 @@ fn push_statement(out: &mut String, statement: &Stmt) -> Result<(), AllocError>
             push_target(out, target)?;
             push_last(out, value)
         }
-        Stmt::Get(target, register, process) => push_get(out, target, register, process),
+        Stmt::Get(target, row, process) => push_asked(out, target, Terminal::Get, row, process),
         Stmt::Put(register, value) => {
             push_terminal(out, Terminal::Put)?;
             push_name(out, register)?;
             push_last(out, value)
         }
-        Stmt::Stamp => {
-            push_terminal(out, Terminal::Stamp)?;
-            push_terminal(out, Terminal::Semicolon)
-        }
+        Stmt::Stamp => push_ended(out, Terminal::Stamp),
+        Stmt::Clear => push_ended(out, Terminal::Clear),
         Stmt::Scan(target) => {
             push_target(out, target)?;
-            push_terminal(out, Terminal::Scan)?;
-            push_terminal(out, Terminal::Semicolon)
+            push_ended(out, Terminal::Scan)
         }
         Stmt::Copy(target, source) => push_copy(out, target, source),
         Stmt::Older(target, scan, first, second) => { push_older(out, target, scan, first, second) }
+        Stmt::Held(target, scan, process) => push_asked(out, target, Terminal::Held, scan, process),
         Stmt::Out(value) => {
             push_terminal(out, Terminal::Out)?;
             push_last(out, value)

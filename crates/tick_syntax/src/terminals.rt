@@ -15,8 +15,10 @@ pub enum Terminal {
     Get,
     Put,
     Stamp,
+    Clear,
     Copy,
     Older,
+    Held,
     Out,
     If,
     Else,
@@ -48,8 +50,10 @@ impl Terminal {
             Terminal::Get => "get",
             Terminal::Put => "put",
             Terminal::Stamp => "stamp",
+            Terminal::Clear => "clear",
             Terminal::Copy => "copy",
             Terminal::Older => "older",
+            Terminal::Held => "held",
             Terminal::Out => "out",
             Terminal::If => "if",
             Terminal::Else => "else",
@@ -88,7 +92,7 @@ const SIGNS: [Terminal; 16] = [
     Terminal::Operator(Op::Differs),
 ];
 
-const KEYWORDS: [Terminal; 17] = [
+const KEYWORDS: [Terminal; 19] = [
     Terminal::Me,
     Terminal::Count,
     Terminal::Put,
@@ -98,9 +102,11 @@ const KEYWORDS: [Terminal; 17] = [
     Terminal::Else,
     Terminal::While,
     Terminal::Stamp,
+    Terminal::Clear,
     Terminal::Scan,
     Terminal::Copy,
     Terminal::Older,
+    Terminal::Held,
     Terminal::Processes,
     Terminal::Var,
     Terminal::Reg,

@@ -31,12 +31,16 @@ pub enum Stmt {
     Put(Named, Expr),
     /// `stamp;`
     Stamp,
+    /// `clear;`
+    Clear,
     /// `target = scan;`
     Scan(Named),
     /// `target = copy source;`
     Copy(Named, Named),
     /// `target = older scan process process;`
     Older(Named, Named, Expr, Expr),
+    /// `target = held scan process;`
+    Held(Named, Named, Expr),
     /// `out expression;`
     Out(Expr),
     /// `if expression { .. } else { .. }`

@@ -1,4 +1,6 @@
-// Tests of `tick_syntax`, apart from it: each call with ample memory, on each kind of input.
+//! Tests of `tick_syntax`, apart from it: each call with ample memory, on each kind of input.
+//!
+//! Start with `parse`.
 #![tactic(auto)]
 
 #[cfg(test)]

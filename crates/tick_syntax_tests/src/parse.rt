@@ -81,23 +81,27 @@ enum Form {
     Get,
     Put,
     Stamp,
+    Clear,
     Scan,
     Copy,
     Older,
+    Held,
     Out,
     Branch,
     Repeat,
     Difference,
 }
 
-static STATEMENTS: [(&str, Form); 11] = [
+static STATEMENTS: [(&str, Form); 13] = [
     ("processes 1; begin x = 7; end", Form::Assignment),
     ("processes 1; begin y = get r me; end", Form::Get),
     ("processes 1; begin put r n; end", Form::Put),
     ("processes 1; begin stamp; end", Form::Stamp),
+    ("processes 1; begin clear; end", Form::Clear),
     ("processes 1; begin s = scan; end", Form::Scan),
     ("processes 1; begin t = copy s; end", Form::Copy),
     ("processes 1; begin z = older s 0 y; end", Form::Older),
+    ("processes 1; begin x = held s n; end", Form::Held),
     ("processes 1; begin out x; end", Form::Out),
     (
         "processes 1; begin if me { stamp; } else { out 1; out 2; } end",
@@ -127,11 +131,13 @@ fn is_read(form: Form, statement: &Stmt) -> bool {
         (Form::Get, Stmt::Get(y, r, Expr::Me)) => is(y, "y", 19, 20) && is(r, "r", 27, 28),
         (Form::Put, Stmt::Put(r, Expr::Count)) => is(r, "r", 23, 24),
         (Form::Stamp, Stmt::Stamp) => true,
+        (Form::Clear, Stmt::Clear) => true,
         (Form::Scan, Stmt::Scan(s)) => is(s, "s", 19, 20),
         (Form::Copy, Stmt::Copy(t, s)) => is(t, "t", 19, 20) && is(s, "s", 28, 29),
         (Form::Older, Stmt::Older(z, s, Expr::Num(0), Expr::Name(y))) => {
             is(z, "z", 19, 20) && is(s, "s", 29, 30) && is(y, "y", 33, 34)
         }
+        (Form::Held, Stmt::Held(x, s, Expr::Count)) => is(x, "x", 19, 20) && is(s, "s", 28, 29),
         (Form::Out, Stmt::Out(Expr::Name(x))) => is(x, "x", 23, 24),
         (Form::Branch, Stmt::If(Expr::Me, first, second)) => {
             first.len() == 1 && second.len() == 2
@@ -177,7 +183,7 @@ fn each_operator(rt: HostRuntime) -> Result<(), Fail> {
     Ok(())
 }
 
-static NO_PROGRAMS: [(&str, usize, usize); 17] = [
+static NO_PROGRAMS: [(&str, usize, usize); 25] = [
     ("", 0, 0),
     (" # nothing", 10, 10),
     ("process 2;", 0, 7),
@@ -195,6 +201,16 @@ static NO_PROGRAMS: [(&str, usize, usize); 17] = [
     ("processes 2; begin while 1 stamp; end", 27, 32),
     ("processes 2; begin } end", 19, 20),
     ("processes 2; begin end end", 23, 26),
+    // `clear` takes nothing, `held` a name and one expression
+    ("processes 2; begin clear s; end", 25, 26),
+    ("processes 2; begin held s 1; end", 19, 23),
+    ("processes 2; begin x = held 1; end", 28, 29),
+    ("processes 2; begin x = held s; end", 29, 30),
+    ("processes 2; begin x = held s 1 2; end", 32, 33),
+    ("processes 2; begin x = clear; end", 23, 28),
+    // and both are keywords, so no names
+    ("processes 2; var x, held; begin end", 20, 24),
+    ("processes 2; reg clear; begin end", 17, 22),
 ];
 
 #[test]

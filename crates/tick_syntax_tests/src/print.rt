@@ -37,12 +37,19 @@ fn older(alloc: Global) -> Result<Stmt, AllocError> {
     Ok(Stmt::Older(target, scan, Expr::Num(0), Expr::Num(1)))
 }
 
-// stamp; s = scan; x = older s 0 1; out x;
+fn held(alloc: Global) -> Result<Stmt, AllocError> {
+    let target = named(alloc, "x")?;
+    Ok(Stmt::Held(target, named(alloc, "s")?, Expr::Me))
+}
+
+// stamp; s = scan; x = older s 0 1; x = held s me; clear; out x;
 fn queue(alloc: Global) -> Result<Vec<Stmt>, AllocError> {
     let mut body = Vec::new(alloc);
     body.push(Stmt::Stamp)?;
     body.push(Stmt::Scan(named(alloc, "s")?))?;
     body.push(older(alloc)?)?;
+    body.push(held(alloc)?)?;
+    body.push(Stmt::Clear)?;
     body.push(Stmt::Out(Expr::Name(named(alloc, "x")?)))?;
     Ok(body)
 }
@@ -56,7 +63,7 @@ fn a_program_on_its_lines(rt: HostRuntime) -> Result<(), Fail> {
     prints(
         &rt,
         program,
-        "processes 2 ;\nvar x ;\nscan s ;\nbegin\nstamp ;\ns = scan ;\nx = older s 0 1 ;\nout x ;\nend\n",
+        "processes 2 ;\nvar x ;\nscan s ;\nbegin\nstamp ;\ns = scan ;\nx = older s 0 1 ;\nx = held s me ;\nclear ;\nout x ;\nend\n",
     )
 }
 
@@ -125,9 +132,9 @@ fn prints_as<R: AllocGlobal + Abort>(rt: &R, text: &str, printed: &str) -> Resul
 
 #[test]
 fn a_printed_text_stays(rt: HostRuntime) -> Result<(), Fail> {
-    let text = "processes 007;var x,y;begin x=(1+y);#c\nwhile x{out me;}end";
+    let text = "processes 007;var x,y;scan s;begin x=(1+y);clear;#c\nwhile x{x=held s(n-1);}end";
     let printed =
-        "processes 7 ;\nvar x , y ;\nbegin\nx = ( 1 + y ) ;\nwhile x {\nout me ;\n}\nend\n";
+        "processes 7 ;\nvar x , y ;\nscan s ;\nbegin\nx = ( 1 + y ) ;\nclear ;\nwhile x {\nx = held s ( n - 1 ) ;\n}\nend\n";
     prints_as(&rt, text, printed)?;
     prints_as(&rt, printed, printed)
 }

@@ -11,7 +11,7 @@ use Rattle.tick_kinds.specs.declared.kind.Kind.TheVariants as K
 use Rattle.tick_kinds.specs.Declarations.{Slot, Declaration, declarations, limit}
 use Rattle.tick_kinds.specs.Refusals.{is_kind}
 use Rattle.tick_syntax.specs.declared.span.Span.{Span}
-use Rattle.tick_syntax.specs.Plain.{Name, Expression, number, named, me, count, binary, Statement, assign, get, put, stamp, scan, copy, older, out, branch, repeat, Block, nil, cons, WholeProgram}
+use Rattle.tick_syntax.specs.Plain.{Name, Expression, number, named, me, count, binary, Statement, assign, get, put, stamp, clear, scan, copy, older, held, out, branch, repeat, Block, nil, cons, WholeProgram}
 
 abbrev pub Checked : Type 0 → Type 0
 Checked A = Result A KindFault
@@ -63,15 +63,22 @@ module _ (look : List ℕ → Option Slot) where
       checked_name K.Variable x >>= λ x. checked_name K.Scan s >>= λ s.
       checked_expression a >>= λ a. checked_expression b >>= λ b. Ok (older x s a b)
 
+  unfoldable pub checked_held : Name → Name → Expression Name → Checked (Statement ℕ)
+  checked_held x s e =
+      checked_name K.Variable x >>= λ x. checked_name K.Scan s >>= λ s. checked_expression e >>= λ e.
+      Ok (held x s e)
+
   unfoldable mutual
     pub checked_statement : Statement Name → Checked (Statement ℕ)
     checked_statement (assign x e) = checked_assign x e
     checked_statement (get x r e) = checked_get x r e
     checked_statement (put r e) = checked_put r e
     checked_statement stamp = Ok stamp
+    checked_statement clear = Ok clear
     checked_statement (scan s) = checked_name K.Scan s >>= λ s. Ok (scan s)
     checked_statement (copy t s) = checked_copy t s
     checked_statement (older x s a b) = checked_older x s a b
+    checked_statement (held x s e) = checked_held x s e
     checked_statement (out e) = checked_expression e >>= λ e. Ok (out e)
     checked_statement (branch e a b) =
         checked_expression e >>= λ e. checked_block a >>= λ a. checked_block b >>= λ b. Ok (branch e a b)

@@ -4,7 +4,7 @@ use Rattle.std.specs.Prelude.{◌≡◌, ℕ, List, [], ◌∷◌, ◌==◌, if�
 use Rattle.std.proofs.Common.{ap, sym, ◌∙◌}
 use Rattle.machine_core.specs.declared.operator.Op.{Op}
 use Rattle.machine_core.specs.declared.operator.Op.TheVariants as O
-use Rattle.tick_syntax.specs.Plain.{Name, Expression, number, named, me, count, binary, Statement, assign, get, put, stamp, scan, copy, older, out, branch, repeat, Block, nil, cons}
+use Rattle.tick_syntax.specs.Plain.{Name, Expression, number, named, me, count, binary, Statement, assign, get, put, stamp, clear, scan, copy, older, held, out, branch, repeat, Block, nil, cons}
 
 abbrev operator_number : Op → ℕ
 operator_number O.Add = 0
@@ -74,6 +74,8 @@ module _ {A : Type 0} (stored : A → Gv) (read : Gv → A) (back : (x : A) → 
     stored_statement (out e) = node 7 gnil gnil (stored_expression e) gnil gnil
     stored_statement (branch e a b) = node 8 gnil gnil (stored_expression e) (stored_block a) (stored_block b)
     stored_statement (repeat e a) = node 9 gnil gnil (stored_expression e) (stored_block a) gnil
+    stored_statement clear = node 10 gnil gnil gnil gnil gnil
+    stored_statement (held x s e) = node 11 (stored x) (stored s) (stored_expression e) gnil gnil
 
     stored_block : Block A → Gv
     stored_block nil = gnil
@@ -83,7 +85,7 @@ module _ {A : Type 0} (stored : A → Gv) (read : Gv → A) (back : (x : A) → 
   statement_from k x y e f a b =
       if k == 0 then assign x e else if k == 1 then get x y e else if k == 2 then put x e else if k == 3 then stamp
       else if k == 4 then scan x else if k == 5 then copy x y else if k == 6 then older x y e f else if k == 7 then out e
-      else if k == 8 then branch e a b else repeat e a
+      else if k == 8 then branch e a b else if k == 9 then repeat e a else if k == 10 then clear else held x y e
 
   abbrev mutual
     statement_read : Gv → Statement A
@@ -107,6 +109,8 @@ module _ {A : Type 0} (stored : A → Gv) (read : Gv → A) (back : (x : A) → 
     statement_back (out e) = ap out (expression_back e)
     statement_back (branch e a b) = λ i. branch (expression_back e i) (block_back a i) (block_back b i)
     statement_back (repeat e a) = λ i. repeat (expression_back e i) (block_back a i)
+    statement_back clear = refl
+    statement_back (held x s e) = λ i. held (back x i) (back s i) (expression_back e i)
 
     pub block_back : (b : Block A) → block_read (stored_block b) ≡ b
     block_back nil = refl

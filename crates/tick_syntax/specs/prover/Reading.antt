@@ -15,7 +15,7 @@ use Rattle.machine_core.specs.declared.operator.Op.{Op}
 use Rattle.machine_core.specs.Refusing.{◌>>=◌, FailsBut, GivesBut}
 use Rattle.tick_syntax.specs.declared.terminals.Terminal.{Terminal}
 use Rattle.tick_syntax.specs.declared.terminals.Terminal.TheVariants as T
-use Rattle.tick_syntax.specs.Plain.{Name, Expression, number, named, me, count, binary, Statement, assign, get, put, stamp, scan, copy, older, out, branch, repeat, Block, nil, cons, WholeProgram}
+use Rattle.tick_syntax.specs.Plain.{Name, Expression, number, named, me, count, binary, Statement, assign, get, put, stamp, clear, scan, copy, older, held, out, branch, repeat, Block, nil, cons, WholeProgram}
 
 -- what was read and the tokens after it, or a refusal
 abbrev pub Reading : Type 0 → Type 0
@@ -143,16 +143,18 @@ module _ (end : ℕ) where
     s ← terminal_at T.Semicolon e.1
     Ok (e.0, s.1)
 
-  unfoldable pub get_at : ℕ → Name → List ValuedToken → Reading (Statement Name)
-  get_at room x is = do
-    r ← name_at is
-    e ← last_at room r.1
-    Ok (get x r.0 e.0, e.1)
+  -- the `;` after a statement of which all else was read
+  unfoldable pub ended_at : Statement Name → List ValuedToken → Reading (Statement Name)
+  ended_at s is = do
+    e ← terminal_at T.Semicolon is
+    Ok (s, e.1)
 
-  unfoldable pub scan_at : Name → List ValuedToken → Reading (Statement Name)
-  scan_at x is = do
-    s ← terminal_at T.Semicolon is
-    Ok (scan x, s.1)
+  -- a name, an expression and the `;`, of which a statement is made
+  unfoldable pub named_last_at : (Name → Expression Name → Statement Name) → ℕ → List ValuedToken → Reading (Statement Name)
+  named_last_at make room is = do
+    x ← name_at is
+    e ← last_at room x.1
+    Ok (make x.0 e.0, e.1)
 
   unfoldable pub copy_at : Name → List ValuedToken → Reading (Statement Name)
   copy_at x is = do
@@ -174,8 +176,9 @@ module _ (end : ℕ) where
 
   -- the right-hand side from its first token on, which stands before rest
   abbrev pub right_by : Meaning → ℕ → Name → List ValuedToken → List ValuedToken → Reading (Statement Name)
-  right_by (M.Terminal T.Get) room x is rest = get_at room x rest
-  right_by (M.Terminal T.Scan) room x is rest = scan_at x rest
+  right_by (M.Terminal T.Get) room x is rest = named_last_at (get x) room rest
+  right_by (M.Terminal T.Held) room x is rest = named_last_at (held x) room rest
+  right_by (M.Terminal T.Scan) room x is rest = ended_at (scan x) rest
   right_by (M.Terminal T.Copy) room x is rest = copy_at x rest
   right_by (M.Terminal T.Older) room x is rest = older_at room x rest
   right_by _ room x is rest = plain_at room x is
@@ -186,17 +189,6 @@ module _ (end : ℕ) where
   -- the rest of a statement that begins with a name
   unfoldable pub assignment_at : ℕ → Name → List ValuedToken → Reading (Statement Name)
   assignment_at room x is = terminal_at T.Becomes is >>= λ b. right_at room x b.1
-
-  unfoldable pub put_at : ℕ → List ValuedToken → Reading (Statement Name)
-  put_at room is = do
-    r ← name_at is
-    e ← last_at room r.1
-    Ok (put r.0 e.0, e.1)
-
-  unfoldable pub stamp_at : List ValuedToken → Reading (Statement Name)
-  stamp_at is = do
-    s ← terminal_at T.Semicolon is
-    Ok (stamp, s.1)
 
   unfoldable pub out_at : ℕ → List ValuedToken → Reading (Statement Name)
   out_at room is = do
@@ -219,8 +211,9 @@ module _ (end : ℕ) where
 
   abbrev pub statement_by : Meaning → Span → (List ValuedToken → Reading (Block Name)) → ℕ → List ValuedToken → Reading (Statement Name)
   statement_by (M.Name letters) span block room rest = assignment_at room (record { letters = letters.now; span = span }) rest
-  statement_by (M.Terminal T.Put) span block room rest = put_at room rest
-  statement_by (M.Terminal T.Stamp) span block room rest = stamp_at rest
+  statement_by (M.Terminal T.Put) span block room rest = named_last_at put room rest
+  statement_by (M.Terminal T.Stamp) span block room rest = ended_at stamp rest
+  statement_by (M.Terminal T.Clear) span block room rest = ended_at clear rest
   statement_by (M.Terminal T.Out) span block room rest = out_at room rest
   statement_by (M.Terminal T.If) span block room rest = branch_at block room rest
   statement_by (M.Terminal T.While) span block room rest = repeat_at block room rest

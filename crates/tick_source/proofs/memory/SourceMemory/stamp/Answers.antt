@@ -1,6 +1,6 @@
 use Rattle.std.proofs.Common.{◌≤◌, arith, length}
 use Rattle.ticket_core.specs.Tickets.{greatest_ticket}
-use Rattle.tick_source.proofs.Counted.{counted_on}
+use Rattle.tick_source.proofs.Counted.{stamped_on}
 use Rattle.tick_source.proofs.memory.SourceMemory.stamp.Goals as goal
 
 pub invariant_of-self : goal.invariant_of-self
@@ -12,7 +12,7 @@ invariant_of-self c =
       counted = omega (
         arith,
         told.events.ok,
-        counted_on c.args.p old.tickets told.tickets c.stamp.new.self old.events.items told.events.items _
-            c.in_ok-tell.ensures.tickets c.stamp.ensures c.in_ok-tell.ensures.ok counted,
+        stamped_on c.args.p old.tickets told.tickets c.stamp.new.self old.events.items told.events.items _
+            c.in_ok-tell.ensures.tickets c.in_ok-tell.ensures.ok counted c.stamp.ensures,
       );
     }
