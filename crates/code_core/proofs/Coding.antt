@@ -12,7 +12,7 @@ use Rattle.code_core.specs.declared.instr.Instr.TheVariants as I
 use Rattle.code_core.specs.Words.{kind, sign_number, operands, word_of, constant_in, constants_of, words_from, words_of, sign_of, of_kind, decoded, decoded_all}
 use Rattle.code_core.specs.prover.Coding.{SlotsFit, IsWord, AreCoded, Coding}
 
-kind_known : (i : Instr) → kind i ≤ 17
+kind_known : (i : Instr) → kind i ≤ 19
 kind_known (I.Push v) = omega arith
 kind_known _ = omega arith
 
@@ -32,6 +32,7 @@ operands_small constant (I.Exchange l) few slots = slots
 operands_small constant (I.Scan s) few slots = omega (arith, slots)
 operands_small constant (I.Copy s t) few slots = omega (arith, slots.0, slots.1)
 operands_small constant (I.Older s x) few slots = omega (arith, slots.0, slots.1)
+operands_small constant (I.Held s x) few slots = omega (arith, slots.0, slots.1)
 operands_small constant (I.JumpZero l) few slots = slots
 operands_small constant (I.Jump l) few slots = slots
 operands_small constant _ few slots = omega arith
@@ -71,6 +72,7 @@ said constants constant (I.Exchange l) few slots there = ap I.Exchange (low 10 l
 said constants constant (I.Scan s) few slots there = ap I.Scan (alone 11 s slots)
 said constants constant (I.Copy s t) few slots there = (λ j. I.Copy (first 12 s t slots.0 j) (second 12 s t slots.0 slots.1 j))
 said constants constant (I.Older s x) few slots there = (λ j. I.Older (first 13 s x slots.0 j) (second 13 s x slots.0 slots.1 j))
+said constants constant (I.Held s x) few slots there = (λ j. I.Held (first 19 s x slots.0 j) (second 19 s x slots.0 slots.1 j))
 said constants constant (I.JumpZero l) few slots there = ap I.JumpZero (low 15 l slots)
 said constants constant (I.Jump l) few slots there = ap I.Jump (low 16 l slots)
 said constants constant _ few slots there = refl

@@ -1,4 +1,29 @@
 -- A pass over the places of a code tells its first fault.
+--
+-- The idea. By definition a place has the height that the instruction before it hands on, else the one that the
+-- first jump to it leaves, and `known passed q` looks for it among all instructions that were passed. The code
+-- keeps a table in its place: for each place that was passed its height, and for each one ahead what the first
+-- jump to it left, if one did. What holds after `k` places is the record `Passing` (`specs/prover/Passing.antt`):
+--
+--     each           the entry of each place `q` is `known passed q`
+--     told           the first fault of the whole code is the first fault from here on: none was passed
+--     whole          the heights of the whole code are those that were passed, and then those from here on
+--     low            no height is above `k`, so that 16 bits hold it; nor is what is handed on (`low_before`)
+--     greatest_is    the greatest height so far
+--     long, held     as many places were passed, and the table has as many entries as the code
+--
+-- One step takes the instruction at place `k`: it gets its height `h`, its fault is looked for, and what it leaves
+-- is noted at the place to which it jumps. Each part of `Passing` is a lemma for `k + 1`. What becomes of the
+-- entry of a place `q` depends on where `q` lies (`order`): below `k` it is what it was, at `k` it is the one just
+-- written, and ahead of `k` it is what jumps left, earlier ones first (`either`).
+--
+-- The turn is `fault_is`. The definition looks for a fault with all that is known once this instruction was passed
+-- too; the code looks into its table before it notes this instruction's own jump. They differ where the jump goes
+-- ahead to a place of which nothing was known. But there the definition compares what the instruction leaves with
+-- itself, so neither finds a difference (`there_same`).
+--
+-- The induction is the loop's: `pass_start` before the first place, `pass_on` for one place more where there is no
+-- fault, `fault_told` where there is one, and `pass_end` after the last.
 use Rattle.std.proofs.Common.{◌≡◌, ⊎_elim, ℕ, zero, suc, ◌+◌, ◌<◌, ◌≤◌, max, Bool, true, false, if◌then◌else◌, List, [], ◌∷◌, ◌++◌, refl, ap, ◌∙◌, sym, subst, length, map, drop, set, get_or, replicate, arith, Option, Some, None, append_assoc}
 use Rattle.std.specs.Prelude.{slice_get}
 use Rattle.std.proofs.lemmas.Bool.{cases_eq, ne_eqb}

@@ -28,6 +28,7 @@ pops (I.Store x) = 1
 pops (I.Get r x) = 1
 pops (I.Put r) = 1
 pops (I.Older s x) = 2
+pops (I.Held s x) = 1
 pops I.Out = 1
 pops (I.JumpZero l) = 1
 pops _ = 0
@@ -66,6 +67,7 @@ fits z (I.Put r) = nat_lt r z.rows
 fits z (I.Scan s) = nat_lt s z.scans
 fits z (I.Copy s t) = nat_lt s z.scans && nat_lt t z.scans
 fits z (I.Older s x) = nat_lt s z.scans && nat_lt x z.variables
+fits z (I.Held s x) = nat_lt s z.scans && nat_lt x z.variables
 fits z _ = true
 
 -- a list of instructions with its sizes

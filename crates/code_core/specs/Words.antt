@@ -26,6 +26,8 @@ kind I.Out = 14
 kind (I.JumpZero l) = 15
 kind (I.Jump l) = 16
 kind I.Halt = 17
+kind I.Clear = 18
+kind (I.Held s x) = 19
 
 abbrev pub sign_number : Op → ℕ
 sign_number O.Add = 0
@@ -51,6 +53,7 @@ operands constant (I.Exchange l) = l
 operands constant (I.Scan s) = s
 operands constant (I.Copy s t) = t * 256 + s
 operands constant (I.Older s x) = x * 256 + s
+operands constant (I.Held s x) = x * 256 + s
 operands constant (I.JumpZero l) = l
 operands constant (I.Jump l) = l
 operands constant _ = 0
@@ -105,6 +108,8 @@ of_kind constants word kind =
     ∷ I.JumpZero place
     ∷ I.Jump place
     ∷ I.Halt
+    ∷ I.Clear
+    ∷ I.Held first second
     ∷ []
     )
     kind I.Halt

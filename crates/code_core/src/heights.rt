@@ -11,7 +11,12 @@ pub fn pops(instruction: Instr) -> u16
 {
     match instruction {
         Instr::Bin(_) | Instr::Older(..) => 2,
-        Instr::Store(_) | Instr::Get(..) | Instr::Put(_) | Instr::Out | Instr::JumpZero(_) => 1,
+        Instr::Store(_)
+        | Instr::Get(..)
+        | Instr::Put(_)
+        | Instr::Held(..)
+        | Instr::Out
+        | Instr::JumpZero(_) => 1,
         _ => 0,
     }
 }
@@ -63,7 +68,7 @@ pub fn fits(sizes: Sizes, instruction: Instr) -> bool
         Instr::Put(r) => r < sizes.registers(),
         Instr::Scan(s) => s < sizes.scans(),
         Instr::Copy(s, t) => s < sizes.scans() && t < sizes.scans(),
-        Instr::Older(s, x) => s < sizes.scans() && x < sizes.variables(),
+        Instr::Older(s, x) | Instr::Held(s, x) => s < sizes.scans() && x < sizes.variables(),
         _ => true,
     }
 }

@@ -42,4 +42,9 @@ pub enum Instr {
     Jump(u16),
     /// Ends the process.
     Halt,
+    /// Makes the process absent from the shared labels, which gives its ticket up.
+    Clear,
+    /// Takes the number of a process, and puts into this variable whether it is present in this scan:
+    /// 1 where it is, else 0.
+    Held(u8, u8),
 }

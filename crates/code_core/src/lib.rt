@@ -1,8 +1,8 @@
-// Step code: the instructions that a ticket program becomes, and which lists of them are codes.
-//
-// Start with `Instr`. `verify` accepts a list of instructions as a `Code` exactly where no place of
-// it has a fault: then a process that runs it always finds its operands, its slots and its next
-// instruction, and a stamp is made of its three instructions in a row.
+//! Step code: the instructions that a ticket program becomes, and which lists of them are codes.
+//!
+//! Start with `Instr`. `verify` accepts a list of instructions as a `Code` exactly where no place
+//! of it has a fault: then a process that runs it always finds its operands, its slots and its next
+//! instruction, and a stamp is made of its three instructions in a row.
 #![tactic(auto)]
 
 mod code;

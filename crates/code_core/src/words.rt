@@ -16,7 +16,7 @@ pub struct Words {
 // The place of the instruction's name in the list of all.
 fn kind(instruction: Instr) -> u32
     ensures exact { result ≡ kind instruction }
-    ensures known { result ≤ 17 }
+    ensures known { result ≤ 19 }
 {
     match instruction {
         Instr::Push(_) => 0,
@@ -37,6 +37,8 @@ fn kind(instruction: Instr) -> u32
         Instr::JumpZero(_) => 15,
         Instr::Jump(_) => 16,
         Instr::Halt => 17,
+        Instr::Clear => 18,
+        Instr::Held(..) => 19,
     }
 }
 
@@ -77,9 +79,10 @@ fn operands(constant: u16, instruction: Instr) -> u32
         Instr::Load(slot) | Instr::Store(slot) | Instr::Put(slot) | Instr::Scan(slot) => {
             u32::from(slot)
         }
-        Instr::Get(first, second) | Instr::Copy(first, second) | Instr::Older(first, second) => {
-            slots(first, second)
-        }
+        Instr::Get(first, second)
+        | Instr::Copy(first, second)
+        | Instr::Older(first, second)
+        | Instr::Held(first, second) => slots(first, second),
         Instr::Exchange(place) | Instr::JumpZero(place) | Instr::Jump(place) => u32::from(place),
         _ => 0,
     }
@@ -146,7 +149,7 @@ fn sign_of(number: u32) -> Op
 /// The instruction that a word of a code says.
 #[inline(always)]
 pub fn decoded(constants: &[u32], word: u32) -> Instr
-    requires known { word / 16777216 ≤ 17 }
+    requires known { word / 16777216 ≤ 19 }
     requires constant { word / 16777216 ≡ 0 → word % 65536 < length constants.now }
     requires sign { word / 16777216 ≡ 4 → word % 256 ≤ 8 }
     ensures { result ≡ decoded constants.now word }
@@ -173,6 +176,8 @@ pub fn decoded(constants: &[u32], word: u32) -> Instr
         15 => Instr::JumpZero(place),
         16 => Instr::Jump(place),
         17 => Instr::Halt,
+        18 => Instr::Clear,
+        19 => Instr::Held(first, second),
         _ => unreachable!(),
     }
 }

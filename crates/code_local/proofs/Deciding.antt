@@ -14,25 +14,28 @@ use Rattle.code_local.specs.Local.{Local, act_of, TellsLabels, moved_with, GoesO
 use Rattle.code_local.specs.Laws.{OncePerAnswersLaw}
 
 -- what was asked for and the act tell what was replied
-same_reply : (n : ℕ) → n ≤ 6 → (ask : Ask) (a b : Reply) (act : SharedAct) → TellsLabels n a → TellsLabels n b
-    → act_of ask a ≡ Some act → act_of ask b ≡ Some act → a ≡ b
-same_reply n few Q.LoadWord (R.Word x) (R.Word y) act tx ty ex ey = ap R.Word (distinct_law n few x y tx ty (cc))
-same_reply n few Q.LoadWord (R.Word x) _ act tx ty ex ey = absurd (cc)
-same_reply n few Q.LoadWord _ b act tx ty ex ey = absurd (cc)
-same_reply n few Q.Scan (R.Word x) (R.Word y) act tx ty ex ey = ap R.Word (distinct_law n few x y tx ty (cc))
-same_reply n few Q.Scan (R.Word x) _ act tx ty ex ey = absurd (cc)
-same_reply n few Q.Scan _ b act tx ty ex ey = absurd (cc)
-same_reply n few (Q.Exchange old new) R.Won R.Won act tx ty ex ey = λ i. R.Won
-same_reply n few (Q.Exchange old new) (R.Lost x) (R.Lost y) act tx ty ex ey = ap R.Lost (distinct_law n few x y tx ty (cc))
-same_reply n few (Q.Exchange old new) R.Won _ act tx ty ex ey = absurd (cc)
-same_reply n few (Q.Exchange old new) (R.Lost x) _ act tx ty ex ey = absurd (cc)
-same_reply n few (Q.Exchange old new) _ b act tx ty ex ey = absurd (cc)
-same_reply n few (Q.Get r i) (R.Value v) (R.Value w) act tx ty ex ey = cc
-same_reply n few (Q.Get r i) (R.Value v) _ act tx ty ex ey = absurd (cc)
-same_reply n few (Q.Get r i) _ b act tx ty ex ey = absurd (cc)
-same_reply n few (Q.Put r v) R.Written R.Written act tx ty ex ey = λ i. R.Written
-same_reply n few (Q.Put r v) R.Written _ act tx ty ex ey = absurd (cc)
-same_reply n few (Q.Put r v) _ b act tx ty ex ey = absurd (cc)
+same_reply : (n : ℕ) → n ≤ 6 → (ask : Ask) (a b : Reply) (act : SharedAct) (found other : ℕ) → TellsLabels n a → TellsLabels n b
+    → act_of found ask a ≡ Some act → act_of other ask b ≡ Some act → a ≡ b
+same_reply n few Q.LoadWord (R.Word x) (R.Word y) act found other tx ty ex ey = ap R.Word (distinct_law n few x y tx ty (cc))
+same_reply n few Q.LoadWord (R.Word x) _ act found other tx ty ex ey = absurd (cc)
+same_reply n few Q.LoadWord _ b act found other tx ty ex ey = absurd (cc)
+same_reply n few Q.Scan (R.Word x) (R.Word y) act found other tx ty ex ey = ap R.Word (distinct_law n few x y tx ty (cc))
+same_reply n few Q.Scan (R.Word x) _ act found other tx ty ex ey = absurd (cc)
+same_reply n few Q.Scan _ b act found other tx ty ex ey = absurd (cc)
+same_reply n few (Q.Exchange old new) R.Won R.Won act found other tx ty ex ey = λ i. R.Won
+same_reply n few (Q.Exchange old new) (R.Lost x) (R.Lost y) act found other tx ty ex ey = ap R.Lost (distinct_law n few x y tx ty (cc))
+same_reply n few (Q.Exchange old new) R.Won _ act found other tx ty ex ey = absurd (cc)
+same_reply n few (Q.Exchange old new) (R.Lost x) _ act found other tx ty ex ey = absurd (cc)
+same_reply n few (Q.Exchange old new) _ b act found other tx ty ex ey = absurd (cc)
+same_reply n few (Q.Get r i) (R.Value v) (R.Value w) act found other tx ty ex ey = cc
+same_reply n few (Q.Get r i) (R.Value v) _ act found other tx ty ex ey = absurd (cc)
+same_reply n few (Q.Get r i) _ b act found other tx ty ex ey = absurd (cc)
+same_reply n few (Q.Put r v) R.Written R.Written act found other tx ty ex ey = λ i. R.Written
+same_reply n few (Q.Put r v) R.Written _ act found other tx ty ex ey = absurd (cc)
+same_reply n few (Q.Put r v) _ b act found other tx ty ex ey = absurd (cc)
+same_reply n few Q.Clear R.Cleared R.Cleared act found other tx ty ex ey = λ i. R.Cleared
+same_reply n few Q.Clear R.Cleared _ act found other tx ty ex ey = absurd (cc)
+same_reply n few Q.Clear _ b act found other tx ty ex ey = absurd (cc)
 
 -- an instruction adds to the steps
 pub makes_more : (n p : ℕ) (l : Local) (d : CodeStep) (next : Local) → Makes n p l d next → (more : List Shared) × (next.steps ≡ l.steps ++ more)
@@ -55,7 +58,7 @@ went_same n p few l ask answered a b left_over others by_a by_b same =
     append_cancel_left l.steps _ _ (sym first ∙ same ∙ second) in
     let acts : by_a.act ≡ by_b.act = ap (first_act by_a.act) heads in
     let replies : by_a.reply ≡ by_b.reply =
-    same_reply n few ask by_a.reply by_b.reply by_b.act by_a.labels by_b.labels (by_a.fits ∙ ap Some acts) by_b.fits in
+    same_reply n few ask by_a.reply by_b.reply by_b.act by_a.found by_b.found by_a.labels by_b.labels (by_a.fits ∙ ap Some acts) by_b.fits in
     by_a.makes ∙ (λ i. moved_with p l (acts i) (answered (replies i))) ∙ sym by_b.makes
 
 makes_same : (n p : ℕ) → n ≤ 6 → (l : Local) (d : CodeStep) (a b : Local) (left_over others : List Shared) → Makes n p l d a → Makes n p l d b

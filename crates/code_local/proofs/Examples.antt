@@ -5,7 +5,7 @@ use Rattle.machine_core.specs.declared.status.Status.TheVariants.{Running, Ended
 use Rattle.machine_core.specs.declared.operator.Op.TheVariants as O
 use Rattle.code_core.specs.declared.instr.Instr.TheVariants as I
 use Rattle.code_core.specs.Instructions.{sizes, StepCode}
-use Rattle.word_core.specs.Stamps.{start_labels, stamped}
+use Rattle.word_core.specs.Stamps.{Labels, start_labels, stamped}
 use Rattle.word_core.specs.Packed.{word}
 use Rattle.word_core.specs.declared.history.SharedAct.TheVariants.{Load, Lost}
 use Rattle.word_core.proofs.Offered.{start_are, start_ordered, stamped_are}
@@ -81,10 +81,10 @@ ran_to_its_end = alone_run counts_to_two 0 25 refl
 abbrev stamps_once : StepCode
 stamps_once = record { sizes = sizes 2 0 0 0; instructions = I.LoadWord ∷ I.Next ∷ I.Exchange 0 ∷ I.Halt ∷ [] }
 
-abbrev none : List (List ℕ)
+abbrev none : Labels
 none = start_labels 2
 
-abbrev others : List (List ℕ)
+abbrev others : Labels
 others = stamped 1 none
 
 abbrev has_loaded : Local
@@ -104,7 +104,7 @@ lost_its_exchange = (
     (
       local_start stamps_once,
       refl,
-      record { running = refl; makes = record { reply = R.Word none; act = Load (word none); labels = start_are 2; fits = refl; makes = refl } },
+      record { running = refl; makes = record { reply = R.Word none; act = Load (word none); found = 0; labels = start_are 2; fits = refl; makes = refl } },
     ),
     record { running = refl; makes = refl },
   ),
@@ -113,6 +113,7 @@ lost_its_exchange = (
     makes = record {
       reply = R.Lost others;
       act = Lost (word none) (word others);
+      found = 0;
       labels = stamped_are 2 1 none (start_are 2) (start_ordered 2) (omega arith);
       fits = refl;
       makes = refl;
@@ -124,5 +125,5 @@ lost_its_exchange = (
 goes_back : has_lost.process.place ≡ 0
 goes_back = refl
 
-two_steps : has_lost.steps ≡ record { process = 0; act = Load 0 } ∷ record { process = 0; act = Lost 0 256 } ∷ []
+two_steps : has_lost.steps ≡ record { process = 0; act = Load 0 } ∷ record { process = 0; act = Lost 0 562949953421312 } ∷ []
 two_steps = refl

@@ -8,7 +8,7 @@ use Rattle.machine_core.specs.Observables.{told}
 use Rattle.word_core.specs.Packed.{AreLabels, word}
 use Rattle.word_core.specs.declared.history.Shared.{Shared}
 use Rattle.word_core.specs.declared.history.SharedAct.{SharedAct}
-use Rattle.word_core.specs.declared.history.SharedAct.TheVariants.{Load, Won, Lost, Read, Write}
+use Rattle.word_core.specs.declared.history.SharedAct.TheVariants.{Load, Won, Lost, Read, Write, Clear}
 use Rattle.code_core.specs.Instructions.{StepCode}
 use Rattle.step_code.specs.declared.ask.Ask.{Ask}
 use Rattle.step_code.specs.declared.ask.Ask.TheVariants as Q
@@ -27,15 +27,16 @@ abbrev pub local_start : StepCode → Local
 local_start c = record { process = start_process c.sizes; events = []; steps = [] }
 
 -- What a process asked for and what it was told, as an act on what is shared; none where it was told
--- of something else.
-abbrev pub act_of : Ask → Reply → Option SharedAct
-act_of Q.LoadWord (R.Word labels) = Some (Load (word labels))
-act_of Q.Scan (R.Word labels) = Some (Load (word labels))
-act_of (Q.Exchange old new) R.Won = Some (Won (word old) (word new))
-act_of (Q.Exchange old new) (R.Lost found) = Some (Lost (word old) (word found))
-act_of (Q.Get r i) (R.Value v) = Some (Read r i v)
-act_of (Q.Put r v) R.Written = Some (Write r v)
-act_of _ _ = None
+-- of something else. A clear is told nothing of the word that it found.
+abbrev pub act_of : ℕ → Ask → Reply → Option SharedAct
+act_of found Q.LoadWord (R.Word labels) = Some (Load (word labels))
+act_of found Q.Scan (R.Word labels) = Some (Load (word labels))
+act_of found (Q.Exchange old new) R.Won = Some (Won (word old) (word new))
+act_of found (Q.Exchange old new) (R.Lost other) = Some (Lost (word old) (word other))
+act_of found (Q.Get r i) (R.Value v) = Some (Read r i v)
+act_of found (Q.Put r v) R.Written = Some (Write r v)
+act_of found Q.Clear R.Cleared = Some (Clear found)
+act_of found _ _ = None
 
 -- the labels that a reply tells are labels of `n` processes
 abbrev pub TellsLabels : ℕ → Reply → Type 0
@@ -59,8 +60,9 @@ moved_with p l act m = record {
 pub record GoesOnBy (n p : ℕ) (l : Local) (ask : Ask) (answered : Reply → Moved) (next : Local) : Type 0 where
   pub reply : Reply
   pub act : SharedAct
+  pub found : ℕ
   pub labels : TellsLabels n reply
-  pub fits : act_of ask reply ≡ Some act
+  pub fits : act_of found ask reply ≡ Some act
   pub makes : next ≡ moved_with p l act (answered reply)
 
 abbrev pub Makes : ℕ → ℕ → Local → CodeStep → Local → Type 0

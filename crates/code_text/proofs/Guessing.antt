@@ -1,14 +1,15 @@
 -- The instruction whose line begins a text is guessed.
-use Rattle.std.proofs.Common.{◌≡◌, ℕ, ◌%◌, ◌^◌, ◌<◌, List, ◌∷◌, ◌++◌, refl, ap, ◌∙◌, sym, subst, arith, codes, drop, append_assoc}
+use Rattle.std.proofs.Common.{◌≡◌, ⊎_elim, ℕ, ◌+◌, ◌==◌, if◌then◌else◌, ◌%◌, ◌^◌, ◌<◌, List, ◌∷◌, ◌++◌, refl, ap, ◌∙◌, sym, subst, arith, codes, drop, append_assoc}
 use Rattle.std.specs.Fmt.{decimal}
+use Rattle.std.proofs.lemmas.Fmt.{decimal_digit}
 use Rattle.text_core.specs.Lines.{line_end}
 use Rattle.machine_core.specs.declared.operator.Op.{Op}
 use Rattle.machine_core.specs.declared.operator.Op.TheVariants as O
 use Rattle.code_core.specs.declared.instr.Instr.{Instr}
 use Rattle.code_core.specs.declared.instr.Instr.TheVariants as I
 use Rattle.code_core.specs.Instructions.{CodeSizes, AreSizes}
-use Rattle.code_text.specs.CodeText.{instr_line, header_line, InRange, HasNoLine, HasNoHeader}
-use Rattle.code_text.specs.prover.Guess.{leading, second, guess, guessed_sizes}
+use Rattle.code_text.specs.CodeText.{instr_line, sizes_text, header_line, InRange, IsIn, IsVersion, HasNoLine, HasNoHeader}
+use Rattle.code_text.specs.prover.Guess.{leading, second, guess, guessed_version, guessed_sizes}
 use Rattle.code_text.proofs.Leading.{last_number, number_then}
 
 slot_same : (x : ℕ) → x < 2 ^ 8 → x % 256 ≡ x
@@ -71,24 +72,54 @@ guess_line I.Out more small = refl
 guess_line (I.JumpZero l) more small = ap I.JumpZero (place_read l more small)
 guess_line (I.Jump l) more small = ap I.Jump (place_read l more small)
 guess_line I.Halt more small = refl
+guess_line I.Clear more small = refl
+guess_line (I.Held s x) more small = λ j. I.Held (first_read s x more small.0 j) (second_read s x more small.0 small.1 j)
 
--- where the guessed line does not begin the text, no line does
-pub no_line : (text : List ℕ) → ((more : List ℕ) → instr_line (guess text) ++ more ≡ text → ⊥) → HasNoLine text
-no_line text not_this i more small is =
-    not_this more (ap (λ j. instr_line j ++ more) (ap guess (sym is) ∙ guess_line i more small) ∙ is)
+-- where the version lacks what was guessed, or its line does not begin the text, no line does
+pub no_line : (version : ℕ) (text : List ℕ)
+    → (IsIn version (guess text) → (more : List ℕ) → instr_line (guess text) ++ more ≡ text → ⊥) → HasNoLine version text
+no_line version text not_this i more may is =
+    let guessed : guess text ≡ i = ap guess (sym is) ∙ guess_line i more may.1 in
+    not_this (subst (IsIn version) (sym guessed) may.0) more (ap (λ j. instr_line j ++ more) guessed ∙ is)
 
 regrouped_header : (a b c d e f g h k : List ℕ)
     → (((((((a ++ b) ++ c) ++ d) ++ e) ++ f) ++ g) ++ h) ++ k ≡ a ++ (b ++ (c ++ (d ++ (e ++ (f ++ ((g ++ h) ++ k))))))
 regrouped_header a b c d e f g h k = simp append_assoc
 
-pub guess_header : (z : CodeSizes) (more : List ℕ) → AreSizes z → guessed_sizes (header_line z ++ more) ≡ z
-guess_header z more are =
-    let text = header_line z ++ more in
+-- the header with these digits of its version
+abbrev header_with : List ℕ → CodeSizes → List ℕ
+header_with digits z =
+    codes "tickcode " ++ digits ++ codes " " ++ (sizes_text z ++ line_end)
+
+pub guess_version : (version : ℕ) (z : CodeSizes) (more : List ℕ) → IsVersion version
+    → guessed_version (header_line version z ++ more) ≡ version
+guess_version version z more =
+    ⊎_elim
+    (λ one. ap (λ v. guessed_version (header_line v z ++ more)) one ∙ guessed 1 (omega arith) ∙ sym one)
+    (λ two. ap (λ v. guessed_version (header_line v z ++ more)) two ∙ guessed 2 (omega arith) ∙ sym two)
+  where
+    guessed : (v : ℕ) → v < 10 → guessed_version (header_line v z ++ more) ≡ (if 48 + v == 49 then 1 else 2)
+    guessed v small = ap (λ digit. guessed_version (header_with digit z ++ more)) (decimal_digit v small)
+
+after_version : (version : ℕ) (z : CodeSizes) (more : List ℕ) → IsVersion version
+    → drop 11 (header_line version z ++ more) ≡ (sizes_text z ++ line_end) ++ more
+after_version version z more =
+    ⊎_elim
+    (λ one. ap (λ v. drop 11 (header_line v z ++ more)) one ∙ dropped 1 (omega arith))
+    (λ two. ap (λ v. drop 11 (header_line v z ++ more)) two ∙ dropped 2 (omega arith))
+  where
+    dropped : (v : ℕ) → v < 10 → drop 11 (header_line v z ++ more) ≡ (sizes_text z ++ line_end) ++ more
+    dropped v small = ap (λ digit. drop 11 (header_with digit z ++ more)) (decimal_digit v small)
+
+pub guess_header : (version : ℕ) (z : CodeSizes) (more : List ℕ) → IsVersion version → AreSizes z
+    → guessed_sizes (header_line version z ++ more) ≡ z
+guess_header version z more known are =
+    let text = header_line version z ++ more in
     let last = (decimal z.rows ++ line_end) ++ more in
     let third = decimal z.scans ++ 32 ∷ last in
     let other = decimal z.variables ++ 32 ∷ third in
     let first : leading 0 (drop 11 text) ≡ (z.processes, 32 ∷ other) =
-    ap (leading 0) (regrouped_header (decimal z.processes) (codes " ") (decimal z.variables) (codes " ") (decimal z.scans) (codes " ") (decimal z.rows) line_end more)
+    ap (leading 0) (after_version version z more known ∙ regrouped_header (decimal z.processes) (codes " ") (decimal z.variables) (codes " ") (decimal z.scans) (codes " ") (decimal z.rows) line_end more)
     ∙ number_then z.processes other (omega (arith, are.at_most_six)) in
     let two : leading 0 (drop 1 (leading 0 (drop 11 text)).1) ≡ (z.variables, 32 ∷ third) =
     ap (λ a. leading 0 (drop 1 a.1)) first ∙ number_then z.variables third (omega (arith, are.variables)) in
@@ -105,8 +136,12 @@ guess_header z more are =
 
 -- where the guessed sizes are none, or their line does not begin the text, no line of sizes does
 pub no_sizes : (text : List ℕ) → (AreSizes (guessed_sizes text) → ⊥) → HasNoHeader text
-no_sizes text none z more are is = none (subst AreSizes (sym (ap guessed_sizes (sym is) ∙ guess_header z more are)) are)
+no_sizes text none version z more known are is =
+    none (subst AreSizes (sym (ap guessed_sizes (sym is) ∙ guess_header version z more known are)) are)
 
-pub no_header : (text : List ℕ) → ((more : List ℕ) → header_line (guessed_sizes text) ++ more ≡ text → ⊥) → HasNoHeader text
-no_header text not_this z more are is =
-    not_this more (ap (λ y. header_line y ++ more) (ap guessed_sizes (sym is) ∙ guess_header z more are) ∙ is)
+pub no_header : (text : List ℕ) → ((more : List ℕ) → header_line (guessed_version text) (guessed_sizes text) ++ more ≡ text → ⊥)
+    → HasNoHeader text
+no_header text not_this version z more known are is =
+    let digit : guessed_version text ≡ version = ap guessed_version (sym is) ∙ guess_version version z more known in
+    let sizes : guessed_sizes text ≡ z = ap guessed_sizes (sym is) ∙ guess_header version z more known are in
+    not_this more (ap (λ v. header_line v (guessed_sizes text) ++ more) digit ∙ ap (λ y. header_line version y ++ more) sizes ∙ is)

@@ -1,21 +1,22 @@
 -- One line more.
-use Rattle.std.proofs.Common.{◌≡◌, ℕ, zero, suc, false, ◌+◌, ◌<◌, List, [], ◌∷◌, ◌++◌, length, take, refl, ap, ◌∙◌, sym, arith, append_assoc, length-append, Some}
+use Rattle.std.proofs.Common.{◌≡◌, ℕ, zero, suc, false, ◌+◌, ◌<◌, List, [], ◌∷◌, ◌++◌, length, take, refl, ap, ◌∙◌, sym, arith, append_assoc, length-append, subst, Option, Some, None}
 use Rattle.std.specs.Prelude.{◌==◌, slice_get}
+use Rattle.std.specs.Borrow.{Bor}
 use Rattle.std.proofs.lemmas.List.{append-nil, take_more}
 use Rattle.std.proofs.lemmas.Option.{slice_get_within, get_or_from_slice_get}
 use Rattle.text_core.specs.Lines.{line_end}
 use Rattle.code_core.specs.declared.instr.Instr.{Instr}
-use Rattle.code_text.specs.CodeText.{instr_text, instr_line, code_lines, InRange, AllInRange, HasBadLine}
-use Rattle.code_text.specs.prover.Guess.{guess}
+use Rattle.code_text.specs.CodeText.{instr_text, instr_line, code_lines, IsIn, MayStand, AllMayStand, HasBadLine}
+use Rattle.code_text.specs.prover.Guess.{guess, Follows}
 use Rattle.code_text.proofs.Guessing.{no_line}
 
 pub lines_more : (is : List Instr) (i : Instr) → code_lines (is ++ i ∷ []) ≡ code_lines is ++ instr_line i
 lines_more [] i = append-nil (instr_line i)
 lines_more (j ∷ is) i = ap (λ x. instr_line j ++ x) (lines_more is i) ∙ sym (append_assoc (instr_line j) (code_lines is) (instr_line i))
 
-pub range_more : (is : List Instr) (i : Instr) → AllInRange is → InRange i → AllInRange (is ++ i ∷ [])
-range_more [] i all small = (small, tt)
-range_more (j ∷ is) i all small = (all.0, range_more is i all.1 small)
+pub may_more : (version : ℕ) (is : List Instr) (i : Instr) → AllMayStand version is → MayStand version i → AllMayStand version (is ++ i ∷ [])
+may_more version [] i all may = (may, tt)
+may_more version (j ∷ is) i all may = (all.0, may_more version is i all.1 may)
 
 pub written_more : (is : List Instr) (k : ℕ) (i : Instr) → slice_get is k ≡ Some i → code_lines (take (k + 1) is) ≡ code_lines (take k is) ++ instr_line i
 written_more is k i here =
@@ -32,19 +33,29 @@ pub shorter : (i : Instr) (more rest : List ℕ) → instr_line i ++ more ≡ re
 shorter i more rest here =
     omega (arith, ap length here, length-append (instr_line i) more, length-append (instr_text i) line_end)
 
--- the line that was guessed does not stand there
-pub bad_line : (is : List Instr) (rest text : List ℕ) → AllInRange is → code_lines is ++ rest ≡ text → 0 < length rest
-    → ((more : List ℕ) → instr_line (guess rest) ++ more ≡ rest → ⊥) → HasBadLine (length is) text
-bad_line is rest text numbers so_far some not_this = record {
+-- the version lacks what was guessed, or its line does not stand there
+pub bad_line : (version : ℕ) (is : List Instr) (rest text : List ℕ) → AllMayStand version is → code_lines is ++ rest ≡ text → 0 < length rest
+    → (IsIn version (guess rest) → (more : List ℕ) → instr_line (guess rest) ++ more ≡ rest → ⊥) → HasBadLine version (length is) text
+bad_line version is rest text lines so_far some not_this = record {
   good = is;
-  numbers = numbers;
+  lines = lines;
   rest = rest;
   some = some;
   spelled = so_far;
-  bad = no_line rest not_this;
+  bad = no_line version rest not_this;
   line = refl;
 }
 
 pub not_empty : (n : ℕ) → (n == 0) ≡ false → 0 < n
 not_empty zero e = absurd (cc)
 not_empty (suc n) e = omega arith
+
+pub follows_some : (version : ℕ) (i : Instr) (text : List ℕ) (found : Option (Bor (List ℕ))) (rest : Bor (List ℕ)) → found ≡ Some rest
+    → Follows version i text found → Follows version i text (Some rest)
+follows_some version i text found rest is follows = subst (Follows version i text) is follows
+
+-- no line follows, in the words of the line that was guessed
+pub none_follows : (version : ℕ) (i j : Instr) (text : List ℕ) (found : Option (Bor (List ℕ))) → ((rest : Bor (List ℕ)) → found ≡ Some rest → ⊥)
+    → i ≡ j → Follows version i text found → IsIn version j → (more : List ℕ) → instr_line j ++ more ≡ text → ⊥
+none_follows version i j text None not same follows = subst (λ k. Follows version k text None) same follows
+none_follows version i j text (Some rest) not same follows = absurd (not rest refl)

@@ -1,6 +1,6 @@
 -- Each text is a code or has a fault.
-use Rattle.std.proofs.Common.{◌≡◌, ◌⊎◌, ⊎_elim, inl, inr, ℕ, zero, suc, ◌+◌, ◌<◌, ◌≤◌, ◌^◌, List, [], ◌∷◌, ◌++◌, length, refl, ap, ◌∙◌, sym, subst, arith, append_assoc, drop, get_or, Option, Some, None, Result, Ok, Err}
-use Rattle.std.proofs.lemmas.Bool.{cases_lt}
+use Rattle.std.proofs.Common.{◌≡◌, ◌⊎◌, ⊎_elim, inl, inr, ℕ, zero, suc, ◌+◌, ◌<◌, ◌≤◌, ◌^◌, ◌==◌, if◌then◌else◌, List, [], ◌∷◌, ◌++◌, length, refl, ap, ◌∙◌, sym, subst, arith, append_assoc, drop, get_or, Option, Some, None, Result, Ok, Err}
+use Rattle.std.proofs.lemmas.Bool.{cases_Bool, cases_eq, cases_lt}
 use Rattle.std.proofs.lemmas.Bool.Decides.{eqb_tells}
 use Rattle.code_core.specs.declared.instr.Instr.{Instr}
 use Rattle.code_core.specs.declared.instr.Instr.TheVariants as I
@@ -8,9 +8,9 @@ use Rattle.code_core.specs.declared.fault.CodeFault.{CodeFault}
 use Rattle.code_core.specs.declared.fault.CodeFault.TheVariants as F
 use Rattle.code_core.specs.Instructions.{CodeSizes, AreSizes, StepCode}
 use Rattle.code_core.specs.Verified.{code_fault}
-use Rattle.code_text.specs.CodeText.{instr_line, code_lines, header_line, InRange, AllInRange, HasNoHeader, HasNoLine, HasBadLine, ReadsAs}
+use Rattle.code_text.specs.CodeText.{instr_line, code_lines, header_line, InRange, IsIn, IsVersion, MayStand, AllMayStand, IsTextOf, HasNoHeader, HasNoLine, HasBadLine, ReadsAs}
 use Rattle.code_text.specs.Laws.{SomeReadingLaw}
-use Rattle.code_text.specs.prover.Guess.{guess, guessed_sizes}
+use Rattle.code_text.specs.prover.Guess.{guess, version_at, guessed_version, guessed_sizes}
 use Rattle.code_text.proofs.Guessing.{guess_line, no_header, no_line, no_sizes}
 use Rattle.code_text.proofs.Lines.{shorter}
 
@@ -44,6 +44,13 @@ decided_range I.Out = inl tt
 decided_range (I.JumpZero l) = decided_below l (2 ^ 16)
 decided_range (I.Jump l) = decided_below l (2 ^ 16)
 decided_range I.Halt = inl tt
+decided_range I.Clear = inl tt
+decided_range (I.Held s x) = decided_both (decided_below s (2 ^ 8)) (decided_below x (2 ^ 8))
+
+decided_in : (version : ℕ) (i : Instr) → Decided (IsIn version i)
+decided_in version I.Clear = cases_eq version 2
+decided_in version (I.Held s x) = cases_eq version 2
+decided_in version _ = inl tt
 
 decided_sizes : (z : CodeSizes) → Decided (AreSizes z)
 decided_sizes z =
@@ -79,27 +86,30 @@ begins_or_not (b ∷ bs) (c ∷ cs) =
     (eqb_tells b c)
 
 -- the text begins with a line of an instruction, or with none
-line_or_none : (text : List ℕ) → ((i : Instr) × InRange i × Begins (instr_line i) text) ⊎ HasNoLine text
-line_or_none text =
+line_or_none : (version : ℕ) (text : List ℕ) → ((i : Instr) × MayStand version i × Begins (instr_line i) text) ⊎ HasNoLine version text
+line_or_none version text =
     ⊎_elim
-    (λ small. ⊎_elim (λ begins. inl (guess text, small, begins)) (λ not. inr (no_line text not)) (begins_or_not (instr_line (guess text)) text))
-    (λ large. inr (λ i more small is. large (subst InRange (sym (ap guess (sym is) ∙ guess_line i more small)) small)))
-    (decided_range (guess text))
+    (λ may. ⊎_elim
+    (λ begins. inl (guess text, may, begins))
+    (λ not. inr (no_line version text (λ inside. not)))
+    (begins_or_not (instr_line (guess text)) text))
+    (λ never. inr (λ i more may is. never (subst (MayStand version) (sym (ap guess (sym is) ∙ guess_line i more may.1)) may)))
+    (decided_both (decided_in version (guess text)) (decided_range (guess text)))
 
-abbrev Lines : List ℕ → Type 0
-Lines text = (is : List Instr) × AllInRange is × (code_lines is ≡ text)
+abbrev Lines : ℕ → List ℕ → Type 0
+Lines version text = (is : List Instr) × AllMayStand version is × (code_lines is ≡ text)
 
-abbrev Bad : List ℕ → Type 0
-Bad text = (k : ℕ) × HasBadLine k text
+abbrev Bad : ℕ → List ℕ → Type 0
+Bad version text = (k : ℕ) × HasBadLine version k text
 
 -- a good line before others
-bad_after : (i : Instr) (more text : List ℕ) → InRange i → instr_line i ++ more ≡ text → Bad more → Bad text
-bad_after i more text small is bad =
+bad_after : (version : ℕ) (i : Instr) (more text : List ℕ) → MayStand version i → instr_line i ++ more ≡ text → Bad version more → Bad version text
+bad_after version i more text may is bad =
     let has = bad.1 in (
       suc bad.0,
       record {
         good = i ∷ has.good;
-        numbers = (small, has.numbers);
+        lines = (may, has.lines);
         rest = has.rest;
         some = has.some;
         spelled = append_assoc (instr_line i) (code_lines has.good) has.rest ∙ ap (λ x. instr_line i ++ x) has.spelled ∙ is;
@@ -108,10 +118,10 @@ bad_after i more text small is bad =
       },
     )
 
-lines_or_bad : (fuel : ℕ) (text : List ℕ) → length text ≤ fuel → Lines text ⊎ Bad text
-lines_or_bad fuel [] few = inl ([], tt, refl)
-lines_or_bad zero (b ∷ bs) few = absurd (omega arith)
-lines_or_bad (suc fuel) (b ∷ bs) few =
+lines_or_bad : (version fuel : ℕ) (text : List ℕ) → length text ≤ fuel → Lines version text ⊎ Bad version text
+lines_or_bad version fuel [] few = inl ([], tt, refl)
+lines_or_bad version zero (b ∷ bs) few = absurd (omega arith)
+lines_or_bad version (suc fuel) (b ∷ bs) few =
     ⊎_elim
     (λ line.
     let i = line.0 in
@@ -119,13 +129,13 @@ lines_or_bad (suc fuel) (b ∷ bs) few =
     let less : length more < length (b ∷ bs) = shorter i more (b ∷ bs) line.2.1 in
     ⊎_elim
     (λ lines. inl (i ∷ lines.0, (line.1, lines.1), ap (λ x. instr_line i ++ x) lines.2 ∙ line.2.1))
-    (λ bad. inr (bad_after i more (b ∷ bs) line.1 line.2.1 bad))
-    (lines_or_bad fuel more (omega arith)))
+    (λ bad. inr (bad_after version i more (b ∷ bs) line.1 line.2.1 bad))
+    (lines_or_bad version fuel more (omega arith)))
     (λ none. inr (
       0,
       record {
         good = [];
-        numbers = tt;
+        lines = tt;
         rest = b ∷ bs;
         some = omega arith;
         spelled = refl;
@@ -133,34 +143,74 @@ lines_or_bad (suc fuel) (b ∷ bs) few =
         line = refl;
       },
     ))
-    (line_or_none (b ∷ bs))
+    (line_or_none version (b ∷ bs))
 
-header_or_none : (text : List ℕ) → ((z : CodeSizes) × AreSizes z × Begins (header_line z) text) ⊎ HasNoHeader text
+known_version : (text : List ℕ) → IsVersion (guessed_version text)
+known_version text = known (drop 9 text)
+  where
+    known : (bs : List ℕ) → IsVersion (version_at bs)
+    known [] = inr refl
+    known (b ∷ bs) =
+        ⊎_elim
+        (λ one. inl (ap (λ c. if c then 1 else 2) one))
+        (λ other. inr (ap (λ c. if c then 1 else 2) other))
+        (cases_Bool (b == 49))
+
+header_or_none : (text : List ℕ) → ((z : CodeSizes) × AreSizes z × Begins (header_line (guessed_version text) z) text) ⊎ HasNoHeader text
 header_or_none text =
     ⊎_elim
-    (λ are. ⊎_elim (λ begins. inl (guessed_sizes text, are, begins)) (λ not. inr (no_header text not)) (begins_or_not (header_line (guessed_sizes text)) text))
+    (λ are. ⊎_elim
+    (λ begins. inl (guessed_sizes text, are, begins))
+    (λ not. inr (no_header text not))
+    (begins_or_not (header_line (guessed_version text) (guessed_sizes text)) text))
     (λ none. inr (no_sizes text none))
     (decided_sizes (guessed_sizes text))
 
 abbrev Read : List ℕ → Type 0
 Read text = (r : Result StepCode CodeFault) × ReadsAs text r
 
-verified_or_not : (c : StepCode) (text : List ℕ) → AreSizes c.sizes → AllInRange c.instructions → header_line c.sizes ++ code_lines c.instructions ≡ text → Read text
-verified_or_not c text are numbers spelled = by_fault (code_fault c.sizes c.instructions) refl
+verified_or_not : (c : StepCode) (text : List ℕ) → IsTextOf c text → Read text
+verified_or_not c text is_text = by_fault (code_fault c.sizes c.instructions) refl
   where
     by_fault : (o : Option CodeFault) → code_fault c.sizes c.instructions ≡ o → Read text
-    by_fault None none = (Ok c, (record { sizes = are; numbers = numbers; spelled = spelled }, none))
-    by_fault (Some fault) is = (Err fault, inr (c, record { sizes = are; numbers = numbers; spelled = spelled }, is))
+    by_fault None none = (Ok c, (is_text, none))
+    by_fault (Some fault) is = (Err fault, inr (c, is_text, is))
 
 pub some_reading : SomeReadingLaw
 some_reading text =
     ⊎_elim
     (λ header.
     let z = header.0 in
+    let version = guessed_version text in
     let rest = header.2.0 in
     ⊎_elim
-    (λ lines. verified_or_not (record { sizes = z; instructions = lines.0 }) text header.1 lines.1 (ap (λ x. header_line z ++ x) lines.2 ∙ header.2.1))
-    (λ bad. (Err (F.BadLine (bad.0 + 2)), inl (bad.0 + 2, refl, inr (z, rest, bad.0, header.1, header.2.1, bad.1, refl))))
-    (lines_or_bad (length rest) rest (omega arith)))
+    (λ lines. verified_or_not (record { sizes = z; instructions = lines.0 }) text (record {
+      version = version;
+      known = known_version text;
+      sizes = header.1;
+      lines = lines.1;
+      spelled = ap (λ x. header_line version z ++ x) lines.2 ∙ header.2.1;
+    }))
+    (λ bad. (
+      Err (F.BadLine (bad.0 + 2)),
+      inl (
+        bad.0 + 2,
+        refl,
+        inr (
+          bad.0,
+          record {
+            version = version;
+            known = known_version text;
+            z = z;
+            sizes = header.1;
+            rest = rest;
+            spelled = header.2.1;
+            bad = bad.1;
+          },
+          refl,
+        ),
+      ),
+    ))
+    (lines_or_bad version (length rest) rest (omega arith)))
     (λ none. (Err (F.BadLine 1), inl (1, refl, inl (refl, none))))
     (header_or_none text)

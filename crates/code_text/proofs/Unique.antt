@@ -1,5 +1,5 @@
 -- A text is one code or has one fault.
-use Rattle.std.proofs.Common.{◌≡◌, ⊎_elim, ℕ, suc, ◌<◌, List, [], ◌∷◌, ◌++◌, length, refl, ap, ◌∙◌, sym, arith, append_assoc, length-append, Ok, Err}
+use Rattle.std.proofs.Common.{◌≡◌, ⊎_elim, inr, ℕ, suc, ◌+◌, ◌<◌, List, [], ◌∷◌, ◌++◌, length, refl, ap, ◌∙◌, sym, subst, arith, append_assoc, length-append, Ok, Err}
 use Rattle.std.proofs.lemmas.List.{append_cancel_left}
 use Rattle.std.proofs.lemmas.Option.{same_Some, none-some}
 use Rattle.text_core.specs.Lines.{line_end}
@@ -8,83 +8,103 @@ use Rattle.code_core.specs.declared.fault.CodeFault.{CodeFault}
 use Rattle.code_core.specs.declared.fault.CodeFault.TheVariants as F
 use Rattle.code_core.specs.Instructions.{CodeSizes, AreSizes, StepCode}
 use Rattle.code_core.specs.Verified.{code_fault, IsVerified}
-use Rattle.code_text.specs.CodeText.{instr_text, instr_line, code_lines, header_line, InRange, AllInRange, IsTextOf, HasNoLine, IsBadLine, ReadsAs}
+use Rattle.code_text.specs.CodeText.{instr_text, instr_line, code_lines, header_line, MayStand, AllMayStand, IsVersion, IsTextOf, HasNoHeader, HasNoLine, HasBadRest, IsBadLine, ReadsAs}
 use Rattle.code_text.specs.Laws.{OneReadingLaw, RoundTripLaw}
-use Rattle.code_text.specs.prover.Guess.{guess, guessed_sizes}
-use Rattle.code_text.proofs.Guessing.{guess_line, guess_header}
+use Rattle.code_text.specs.prover.Guess.{guess, guessed_version, guessed_sizes}
+use Rattle.code_text.proofs.Guessing.{guess_line, guess_version, guess_header}
 
-line_unique : (i j : Instr) (a b : List ℕ) → InRange i → InRange j → instr_line i ++ a ≡ instr_line j ++ b → (i ≡ j) × (a ≡ b)
-line_unique i j a b small other same =
-    let first : i ≡ j = sym (guess_line i a small) ∙ ap guess same ∙ guess_line j b other in
+line_unique : (version : ℕ) (i j : Instr) (a b : List ℕ) → MayStand version i → MayStand version j → instr_line i ++ a ≡ instr_line j ++ b → (i ≡ j) × (a ≡ b)
+line_unique version i j a b may other same =
+    let first : i ≡ j = sym (guess_line i a may.1) ∙ ap guess same ∙ guess_line j b other.1 in
     (first, append_cancel_left (instr_line i) a b (same ∙ ap (λ k. instr_line k ++ b) (sym first)))
 
-header_unique : (y z : CodeSizes) (a b : List ℕ) → AreSizes y → AreSizes z → header_line y ++ a ≡ header_line z ++ b → (y ≡ z) × (a ≡ b)
-header_unique y z a b are other same =
-    let first : y ≡ z = sym (guess_header y a are) ∙ ap guessed_sizes same ∙ guess_header z b other in
-    (first, append_cancel_left (header_line y) a b (same ∙ ap (λ k. header_line k ++ b) (sym first)))
+header_unique : (v w : ℕ) (y z : CodeSizes) (a b : List ℕ) → IsVersion v → IsVersion w → AreSizes y → AreSizes z
+    → header_line v y ++ a ≡ header_line w z ++ b → (v ≡ w) × (y ≡ z) × (a ≡ b)
+header_unique v w y z a b known too are other same =
+    let digit : v ≡ w = sym (guess_version v y a known) ∙ ap guessed_version same ∙ guess_version w z b too in
+    let sizes : y ≡ z = sym (guess_header v y a known are) ∙ ap guessed_sizes same ∙ guess_header w z b too other in (
+      digit,
+      sizes,
+      append_cancel_left (header_line v y) a b
+          (same ∙ ap (λ u. header_line u z ++ b) (sym digit) ∙ ap (λ x. header_line v x ++ b) (sym sizes)),
+    )
 
 no_empty_line : (i : Instr) (more : List ℕ) → instr_line i ++ more ≡ [] → ⊥
 no_empty_line i more e =
     let long : length (instr_line i ++ more) ≡ 0 = ap length e in
     absurd (omega (arith, length-append (instr_line i) more, length-append (instr_text i) line_end))
 
-lines_unique : (is js : List Instr) → AllInRange is → AllInRange js → code_lines is ≡ code_lines js → is ≡ js
-lines_unique [] [] a b same = refl
-lines_unique [] (j ∷ js) a b same = absurd (no_empty_line j (code_lines js) (sym same))
-lines_unique (i ∷ is) [] a b same = absurd (no_empty_line i (code_lines is) same)
-lines_unique (i ∷ is) (j ∷ js) a b same =
-    let both = line_unique i j (code_lines is) (code_lines js) a.0 b.0 same in
-    λ k. both.0 k ∷ lines_unique is js a.1 b.1 both.1 k
+lines_unique : (version : ℕ) (is js : List Instr) → AllMayStand version is → AllMayStand version js → code_lines is ≡ code_lines js → is ≡ js
+lines_unique version [] [] a b same = refl
+lines_unique version [] (j ∷ js) a b same = absurd (no_empty_line j (code_lines js) (sym same))
+lines_unique version (i ∷ is) [] a b same = absurd (no_empty_line i (code_lines is) same)
+lines_unique version (i ∷ is) (j ∷ js) a b same =
+    let both = line_unique version i j (code_lines is) (code_lines js) a.0 b.0 same in
+    λ k. both.0 k ∷ lines_unique version is js a.1 b.1 both.1 k
 
-bad_unique : (g h : List Instr) (r s : List ℕ) → AllInRange g → AllInRange h → HasNoLine r → HasNoLine s
+bad_unique : (version : ℕ) (g h : List Instr) (r s : List ℕ) → AllMayStand version g → AllMayStand version h → HasNoLine version r → HasNoLine version s
     → code_lines g ++ r ≡ code_lines h ++ s → length g ≡ length h
-bad_unique [] [] r s a b bad worse same = refl
-bad_unique [] (j ∷ h) r s a b bad worse same = absurd (bad j (code_lines h ++ s) b.0 (sym (same ∙ append_assoc (instr_line j) (code_lines h) s)))
-bad_unique (i ∷ g) [] r s a b bad worse same = absurd (worse i (code_lines g ++ r) a.0 (sym (append_assoc (instr_line i) (code_lines g) r) ∙ same))
-bad_unique (i ∷ g) (j ∷ h) r s a b bad worse same =
-    let both = line_unique i j (code_lines g ++ r) (code_lines h ++ s) a.0 b.0
+bad_unique version [] [] r s a b bad worse same = refl
+bad_unique version [] (j ∷ h) r s a b bad worse same = absurd (bad j (code_lines h ++ s) b.0 (sym (same ∙ append_assoc (instr_line j) (code_lines h) s)))
+bad_unique version (i ∷ g) [] r s a b bad worse same = absurd (worse i (code_lines g ++ r) a.0 (sym (append_assoc (instr_line i) (code_lines g) r) ∙ same))
+bad_unique version (i ∷ g) (j ∷ h) r s a b bad worse same =
+    let both = line_unique version i j (code_lines g ++ r) (code_lines h ++ s) a.0 b.0
     (sym (append_assoc (instr_line i) (code_lines g) r) ∙ same ∙ append_assoc (instr_line j) (code_lines h) s) in
-    ap suc (bad_unique g h r s a.1 b.1 bad worse both.1)
+    ap suc (bad_unique version g h r s a.1 b.1 bad worse both.1)
 
-good_or_bad : (g is : List Instr) (r : List ℕ) → AllInRange g → AllInRange is → HasNoLine r → 0 < length r → code_lines g ++ r ≡ code_lines is → ⊥
-good_or_bad [] [] r a b bad some same = let none : length r ≡ 0 = ap length same in absurd (omega arith)
-good_or_bad [] (j ∷ js) r a b bad some same = bad j (code_lines js) b.0 (sym same)
-good_or_bad (i ∷ g) [] r a b bad some same = no_empty_line i (code_lines g ++ r) (sym (append_assoc (instr_line i) (code_lines g) r) ∙ same)
-good_or_bad (i ∷ g) (j ∷ js) r a b bad some same =
-    let both = line_unique i j (code_lines g ++ r) (code_lines js) a.0 b.0 (sym (append_assoc (instr_line i) (code_lines g) r) ∙ same) in
-    good_or_bad g js r a.1 b.1 bad some both.1
+good_or_bad : (version : ℕ) (g is : List Instr) (r : List ℕ) → AllMayStand version g → AllMayStand version is → HasNoLine version r → 0 < length r → code_lines g ++ r ≡ code_lines is → ⊥
+good_or_bad version [] [] r a b bad some same = let none : length r ≡ 0 = ap length same in absurd (omega arith)
+good_or_bad version [] (j ∷ js) r a b bad some same = bad j (code_lines js) b.0 (sym same)
+good_or_bad version (i ∷ g) [] r a b bad some same = no_empty_line i (code_lines g ++ r) (sym (append_assoc (instr_line i) (code_lines g) r) ∙ same)
+good_or_bad version (i ∷ g) (j ∷ js) r a b bad some same =
+    let both = line_unique version i j (code_lines g ++ r) (code_lines js) a.0 b.0 (sym (append_assoc (instr_line i) (code_lines g) r) ∙ same) in
+    good_or_bad version g js r a.1 b.1 bad some both.1
 
 text_unique : (c d : StepCode) (text : List ℕ) → IsTextOf c text → IsTextOf d text → c ≡ d
 text_unique c d text a b =
-    let both = header_unique c.sizes d.sizes (code_lines c.instructions) (code_lines d.instructions) a.sizes b.sizes (a.spelled ∙ sym b.spelled) in
-    let same = lines_unique c.instructions d.instructions a.numbers b.numbers both.1 in
-    λ j. record { sizes = both.0 j; instructions = same j }
+    let both = header_unique a.version b.version c.sizes d.sizes (code_lines c.instructions) (code_lines d.instructions) a.known b.known
+    a.sizes b.sizes (a.spelled ∙ sym b.spelled) in
+    let lines = subst (λ v. AllMayStand v d.instructions) (sym both.0) b.lines in
+    let same = lines_unique a.version c.instructions d.instructions a.lines lines both.2 in
+    λ j. record { sizes = both.1 j; instructions = same j }
 
 not_both : (k : ℕ) (c : StepCode) (text : List ℕ) → IsBadLine k text → IsTextOf c text → ⊥
 not_both k c text bad is =
     ⊎_elim
-    (λ first. first.1 c.sizes (code_lines c.instructions) is.sizes is.spelled)
+    (λ first. first.1 is.version c.sizes (code_lines c.instructions) is.known is.sizes is.spelled)
     (λ later.
-    let both = header_unique later.0 c.sizes later.1 (code_lines c.instructions) later.3 is.sizes (later.4 ∙ sym is.spelled) in
-    let has = later.5 in
-    good_or_bad has.good c.instructions has.rest has.numbers is.numbers has.bad has.some (has.spelled ∙ both.1))
+    let rest = later.1 in
+    let both = header_unique rest.version is.version rest.z c.sizes rest.rest (code_lines c.instructions) rest.known is.known
+    rest.sizes is.sizes (rest.spelled ∙ sym is.spelled) in
+    let has = rest.bad in
+    let lines = subst (λ v. AllMayStand v c.instructions) (sym both.0) is.lines in
+    good_or_bad rest.version has.good c.instructions has.rest has.lines lines has.bad has.some (has.spelled ∙ both.2))
     bad
+
+-- two bad lines after headers of one text are the same
+rest_same : (k j : ℕ) (text : List ℕ) → HasBadRest k text → HasBadRest j text → k ≡ j
+rest_same k j text a b =
+    let both = header_unique a.version b.version a.z b.z a.rest b.rest a.known b.known a.sizes b.sizes (a.spelled ∙ sym b.spelled) in
+    let x = a.bad in
+    let y = b.bad in
+    let lines = subst (λ v. AllMayStand v y.good) (sym both.0) y.lines in
+    let none = subst (λ v. HasNoLine v y.rest) (sym both.0) y.bad in
+    let many : length x.good ≡ length y.good =
+    bad_unique a.version x.good y.good x.rest y.rest x.lines lines x.bad none (x.spelled ∙ both.2 ∙ sym y.spelled) in
+    x.line ∙ many ∙ sym y.line
+
+no_header_before : (j : ℕ) (text : List ℕ) → HasNoHeader text → HasBadRest j text → ⊥
+no_header_before j text none rest = none rest.version rest.z rest.rest rest.known rest.sizes rest.spelled
 
 bad_same : (k j : ℕ) (text : List ℕ) → IsBadLine k text → IsBadLine j text → k ≡ j
 bad_same k j text a b =
     ⊎_elim
     (λ first. ⊎_elim
     (λ one. first.0 ∙ sym one.0)
-    (λ later. absurd (first.1 later.0 later.1 later.3 later.4)) b)
+    (λ later. absurd (no_header_before later.0 text first.1 later.1)) b)
     (λ later. ⊎_elim
-    (λ one. absurd (one.1 later.0 later.1 later.3 later.4))
-    (λ other.
-    let both = header_unique later.0 other.0 later.1 other.1 later.3 other.3 (later.4 ∙ sym other.4) in
-    let x = later.5 in
-    let y = other.5 in
-    let many : length x.good ≡ length y.good =
-    bad_unique x.good y.good x.rest y.rest x.numbers y.numbers x.bad y.bad (x.spelled ∙ both.1 ∙ sym y.spelled) in
-    omega (arith, later.6, other.6, x.line, y.line, many)) b) a
+    (λ one. absurd (no_header_before later.0 text one.1 later.1))
+    (λ other. later.2 ∙ ap (λ l. l + 2) (rest_same later.0 other.0 text later.1 other.1) ∙ sym other.2) b) a
 
 good_no_fault : (text : List ℕ) (c : StepCode) (f : CodeFault) → IsTextOf c text → IsVerified c.sizes c.instructions → ReadsAs text (Err f) → ⊥
 good_no_fault text c f is verified r =
@@ -112,4 +132,5 @@ one_reading text (Err f) (Ok c) a b = absurd (good_no_fault text c f b.0 b.1 a)
 one_reading text (Err f) (Err g) a b = ap Err (same_fault text f g a b)
 
 pub round_trip : RoundTripLaw
-round_trip c sizes numbers verified = (record { sizes = sizes; numbers = numbers; spelled = refl }, verified)
+round_trip c sizes lines verified =
+    (record { version = 2; known = inr refl; sizes = sizes; lines = lines; spelled = refl }, verified)

@@ -1,6 +1,6 @@
 ghost use Rattle.std.specs.Prelude.{◌≡◌, IfSome, IsSome, ◌↔◌};
-ghost use Rattle.code_text.specs.CodeText.{InRange};
-ghost use Rattle.code_text.specs.prover.Guess.{guess, guessed_sizes, operator, named};
+ghost use Rattle.code_text.specs.CodeText.{InRange, IsVersion};
+ghost use Rattle.code_text.specs.prover.Guess.{guess, guessed_version, guessed_sizes, operator, named};
 ghost use Rattle.code_core.specs.Instructions.{AreSizes};
 
 use crate::reader::Reader;
@@ -63,6 +63,10 @@ fn named(name: &[u8], first: u32, second: u32) -> Instr
         Instr::JumpZero(place)
     } else if name == b"Jump".as_slice() {
         Instr::Jump(place)
+    } else if name == b"Clear".as_slice() {
+        Instr::Clear
+    } else if name == b"Held".as_slice() {
+        Instr::Held(slot, other)
     } else {
         Instr::Halt
     }
@@ -89,6 +93,19 @@ fn operator(sign: &[u8]) -> Op
         Op::Equal
     } else {
         Op::Differs
+    }
+}
+
+/// The version of a text, if it is one of a code; else any.
+pub fn guess_version(text: &[u8]) -> u8
+    ensures version { result ≡ guessed_version text.now }
+    ensures known { IsVersion result }
+{
+    let mut reader = Reader { rest: text };
+    reader.skip(9);
+    match reader.rest.first() {
+        Some(b'1') => 1,
+        _ => 2,
     }
 }
 

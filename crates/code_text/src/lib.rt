@@ -1,6 +1,6 @@
-// Step code as a text, written and read.
-//
-// Start with `write_code` and `read_code`. `laws` has that a text is one code or has one fault.
+//! Step code as a text, written and read.
+//!
+//! Start with `write_code` and `read_code`. `laws` has that a text is one code or has one fault.
 #![tactic(auto)]
 
 mod guess;

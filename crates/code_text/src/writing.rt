@@ -12,25 +12,23 @@ pub fn write_code(alloc: Global, code: &Code) -> Result<String, CodeFault>
     ensures err { IfErr result (λ fault. fault ≡ NoMemory) }
 {
     let mut text = String::new(alloc);
-    push_header(&mut text, code.sizes())?;
+    push_header(&mut text, 2, code.sizes())?;
     for place in 0..code.len() as u16 {
         push_line(&mut text, code.instr(place))?;
     }
     Ok(text)
 }
 
-/// Adds the first line.
-pub fn push_header(text: &mut String, sizes: Sizes) -> Result<(), AllocError>
-    ensures { OnOk result (string_bytes text.new ≡ string_bytes text.old ++ header_line sizes) }
+/// Adds the first line, with this version of the text.
+pub fn push_header(text: &mut String, version: u8, sizes: Sizes) -> Result<(), AllocError>
+    ensures { OnOk result (string_bytes text.new ≡ string_bytes text.old ++ header_line version sizes) }
 {
     let processes = sizes.processes();
     let variables = sizes.variables();
     let scans = sizes.scans();
     let registers = sizes.registers();
-    writeln!(
-        text,
-        "tickcode 1 {processes} {variables} {scans} {registers}"
-    )
+    write!(text, "tickcode {version} ")?;
+    writeln!(text, "{processes} {variables} {scans} {registers}")
 }
 
 /// Adds the line of an instruction.
@@ -56,5 +54,7 @@ pub fn push_line(text: &mut String, instruction: Instr) -> Result<(), AllocError
         Instr::JumpZero(place) => writeln!(text, "JumpZero {place}"),
         Instr::Jump(place) => writeln!(text, "Jump {place}"),
         Instr::Halt => writeln!(text, "Halt"),
+        Instr::Clear => writeln!(text, "Clear"),
+        Instr::Held(s, x) => writeln!(text, "Held {s} {x}"),
     }
 }

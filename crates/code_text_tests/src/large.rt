@@ -5,7 +5,7 @@ use code_core::{CodeFault, Instr};
 use std::test::Fail;
 use testing::repeated;
 
-const SIZES: &str = "tickcode 1 1 0 0 0\n";
+const SIZES: &str = "tickcode 2 1 0 0 0\n";
 
 // So many of an instruction, and what is answered of them: the greatest height, or a fault.
 static REPEATED: [(Instr, usize, Result<u16, CodeFault>); 6] = [

@@ -1,5 +1,7 @@
-// Tests of verified codes and of their texts, in files named by what they test. They stand in a crate
-// of their own, since a crate with tests is proved twice.
+//! Tests of verified codes and of their texts. They stand in a crate of their own, since a crate
+//! with tests is proved twice.
+//!
+//! Start with the file that is named by what you look for; `answers` has what they share.
 #![tactic(auto)]
 
 #[cfg(test)]

@@ -7,7 +7,7 @@ use std::process::Abort;
 use std::test::Fail;
 
 // Texts whose first line is none of sizes.
-static HEADERS: [&str; 32] = [
+static HEADERS: [&str; 34] = [
     "",
     "\n",
     "Halt\n",
@@ -29,7 +29,9 @@ static HEADERS: [&str; 32] = [
     "tickcode 1 1 0 0\nHalt\n",
     "tickcode 1 1 0 0 0 0\nHalt\n",
     // no number of the form
-    "tickcode 2 1 0 0 0\nHalt\n",
+    "tickcode 0 1 0 0 0\nHalt\n",
+    "tickcode 3 1 0 0 0\nHalt\n",
+    "tickcode 12 1 0 0 0\nHalt\n",
     "tickcode 01 1 0 0 0\nHalt\n",
     "tickcode 1 01 0 0 0\nHalt\n",
     "tickcode 1 +1 0 0 0\nHalt\n",
@@ -46,7 +48,10 @@ static HEADERS: [&str; 32] = [
 ];
 
 // What follows a line of sizes, and which line of the text is bad first.
-static LINES: [(&str, usize); 80] = [
+static LINES: [(&str, usize); 82] = [
+    // the first version has no such instruction
+    ("Clear\nHalt\n", 2),
+    ("Me\nHeld 0 0\nHalt\n", 3),
     // the last line has no line feed, or there is one too many
     ("Halt", 2),
     ("Push 1\nOut\nHalt", 4),
@@ -138,7 +143,10 @@ static LINES: [(&str, usize); 80] = [
 ];
 
 // Texts whose lines are all of the form, and the first fault of their instructions.
-static FAULTS: [(&str, CodeFault); 14] = [
+static FAULTS: [(&str, CodeFault); 16] = [
+    // the second version has two instructions more
+    ("tickcode 2 1 1 1 0\nClear\nHeld 0 0\nHalt\n", StackShort(1)),
+    ("tickcode 2 1 1 0 0\nMe\nHeld 0 0\nHalt\n", BadSlot(1)),
     ("tickcode 1 1 0 0 0\n", Empty),
     ("tickcode 1 2 0 0 0\nNext\nHalt\n", BadStamp(0)),
     ("tickcode 1 1 0 0 0\nOut\nHalt\n", StackShort(0)),

@@ -2,15 +2,15 @@ use crate::answers::{read, written};
 use code_core::CodeFault::BadLine;
 use code_core::Instr;
 use code_core::Instr::{
-    Bin, Copy, Count, Exchange, Get, Halt, Jump, JumpZero, Load, LoadWord, Me, Next, Older, Out,
-    Push, Put, Scan, Store,
+    Bin, Clear, Copy, Count, Exchange, Get, Halt, Held, Jump, JumpZero, Load, LoadWord, Me, Next,
+    Older, Out, Push, Put, Scan, Store,
 };
 use machine_core::Op;
 use std::str;
 use std::test::Fail;
 
 // Each instruction and each operator, with numbers of one digit and more.
-const EVERY: &str = "tickcode 1 6 64 16 8
+const EVERY: &str = "tickcode 2 6 64 16 8
 LoadWord
 Next
 Exchange 0
@@ -37,7 +37,7 @@ Bin <
 Bin <=
 Bin ==
 Bin !=
-JumpZero 36
+JumpZero 39
 Me
 Get 7 62
 Count
@@ -46,12 +46,15 @@ Me
 Count
 Older 14 61
 Me
+Held 13 60
+Clear
+Me
 Out
-Jump 37
+Jump 40
 Halt
 ";
 
-static INSTRUCTIONS: [Instr; 38] = [
+static INSTRUCTIONS: [Instr; 41] = [
     LoadWord,
     Next,
     Exchange(0),
@@ -78,7 +81,7 @@ static INSTRUCTIONS: [Instr; 38] = [
     Bin(Op::AtMost),
     Bin(Op::Equal),
     Bin(Op::Differs),
-    JumpZero(36),
+    JumpZero(39),
     Me,
     Get(7, 62),
     Count,
@@ -87,23 +90,26 @@ static INSTRUCTIONS: [Instr; 38] = [
     Count,
     Older(14, 61),
     Me,
+    Held(13, 60),
+    Clear,
+    Me,
     Out,
-    Jump(37),
+    Jump(40),
     Halt,
 ];
 
 static TEXTS: [&str; 5] = [
     EVERY,
-    "tickcode 1 1 0 0 0\nHalt\n",
-    "tickcode 1 1 0 0 0\nPush 7\nOut\nHalt\n",
-    "tickcode 1 2 1 1 0\nLoadWord\nNext\nExchange 0\nScan 0\nPush 0\nPush 1\nOlder 0 0\nLoad 0\nOut\nHalt\n",
-    "tickcode 1 1 1 0 0\nLoad 0\nPush 2\nBin <\nJumpZero 9\nLoad 0\nPush 1\nBin +\nStore 0\nJump 0\nLoad 0\nOut\nHalt\n",
+    "tickcode 2 1 0 0 0\nHalt\n",
+    "tickcode 2 1 0 0 0\nPush 7\nOut\nHalt\n",
+    "tickcode 2 2 1 1 0\nLoadWord\nNext\nExchange 0\nScan 0\nPush 0\nPush 1\nOlder 0 0\nLoad 0\nOut\nHalt\n",
+    "tickcode 2 1 1 0 0\nLoad 0\nPush 2\nBin <\nJumpZero 9\nLoad 0\nPush 1\nBin +\nStore 0\nJump 0\nLoad 0\nOut\nHalt\n",
 ];
 
 #[test]
 fn each_instruction(rt: HostRuntime) -> Result<(), Fail> {
     let code = read(rt.alloc(), EVERY)?;
-    assert_eq!(rt; (code.len(), code.height()), (38, 10));
+    assert_eq!(rt; (code.len(), code.height()), (41, 10));
     for (place, instruction) in INSTRUCTIONS.iter().enumerate() {
         if place < code.len() {
             assert_eq!(rt; code.instr(place as u16), *instruction, "at {place}");

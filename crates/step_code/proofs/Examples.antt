@@ -89,7 +89,7 @@ comes_back =
 abbrev stamp_of : ℕ → Event
 stamp_of p = record { process = p; act = A.Stamp }
 
-its_word : word (run_of (sizes 3 0 1 0) stamps_twice comes_back).labels ≡ 395011
+its_word : word (run_of (sizes 3 0 1 0) stamps_twice comes_back).labels ≡ 1970324837172224
 its_word = refl
 
 same_labels_again : observables (run_of (sizes 3 0 1 0) stamps_twice (comes_back ++ replicate 2 0)) ≡ record {

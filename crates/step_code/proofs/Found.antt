@@ -27,6 +27,7 @@ module _ (z : CodeSizes) (q : CodeProcess) (variables : length q.variables ≡ z
   has_slots (I.Scan s) fit = in_scans s fit
   has_slots (I.Copy s t) fit = let h = both_true (nat_lt s z.scans) (nat_lt t z.scans) fit in (in_scans s h.0, in_scans t h.1)
   has_slots (I.Older s x) fit = let h = both_true (nat_lt s z.scans) (nat_lt x z.variables) fit in (in_scans s h.0, in_variables x h.1)
+  has_slots (I.Held s x) fit = let h = both_true (nat_lt s z.scans) (nat_lt x z.variables) fit in (in_scans s h.0, in_variables x h.1)
   has_slots _ fit = tt
 
 module _ (code : StepCode) (one : OneProcess) (of : IsOf code one) (instruction : Instr) (here : slice_get code.instructions one.process.place ≡ Some instruction) where

@@ -1,5 +1,6 @@
 -- The lemmas on the machine of step code that other crates may cite.
-use Rattle.std.proofs.Common.{◌≡◌, ℕ, true, List}
+use Rattle.std.proofs.Common.{◌≡◌, true}
+use Rattle.word_core.specs.Stamps.{Labels}
 use Rattle.step_code.specs.Machine.{same_labels}
 use Rattle.step_code.specs.Laws.{NeverStuckLaw}
 use Rattle.step_code.proofs.Runs
@@ -10,8 +11,8 @@ pub never_stuck_law : NeverStuckLaw
 never_stuck_law = Runs.never_stuck_law
 
 -- an exchange is won exactly where it finds the labels that it has
-pub equal_from_same : (a b : List (List ℕ)) → same_labels a b ≡ true → a ≡ b
+pub equal_from_same : (a b : Labels) → same_labels a b ≡ true → a ≡ b
 equal_from_same = Words.equal_labels
 
-pub same_self : (a : List (List ℕ)) → same_labels a a ≡ true
+pub same_self : (a : Labels) → same_labels a a ≡ true
 same_self = Words.labels_self

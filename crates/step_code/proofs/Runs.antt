@@ -11,7 +11,7 @@ use Rattle.code_core.specs.declared.instr.Instr.{Instr}
 use Rattle.code_core.specs.Instructions.{CodeSizes, pops}
 use Rattle.code_core.specs.Verified.{is_exchange}
 use Rattle.code_core.proofs.Offered.{get-set, get-replicate}
-use Rattle.word_core.specs.Stamps.{start_labels}
+use Rattle.word_core.specs.Stamps.{Labels, start_labels}
 use Rattle.step_code.specs.declared.ask.Ask.{Ask}
 use Rattle.step_code.specs.declared.ask.Ask.TheVariants as Q
 use Rattle.step_code.specs.declared.ask.Reply.TheVariants as R
@@ -19,21 +19,22 @@ use Rattle.step_code.specs.Machine.{CodeProcess, CodeState, Moved, CodeStep, alo
 use Rattle.step_code.specs.Safety.{AreOrdered, IsSafe, NeverStuck, AllSafe, HasWord, IsLawful}
 use Rattle.step_code.specs.Laws.{IsNeverStuck, NeverStuckLaw}
 use Rattle.step_code.proofs.Fine.{Places, verified_places}
-use Rattle.step_code.proofs.Words.{start_in_order, stamped_in_order}
+use Rattle.step_code.proofs.Words.{start_in_order, stamped_in_order, cleared_in_order}
 use Rattle.step_code.proofs.Safe.{DidSafe, did_safe}
 
 -- the answers of safe words are lawful
-pub has_word : (n : ℕ) (labels rows : List (List ℕ)) (ask : Ask) → AreOrdered n labels → HasWord n (reply_in labels rows ask)
+pub has_word : (n : ℕ) (labels : Labels) (rows : List (List ℕ)) (ask : Ask) → AreOrdered n labels → HasWord n (reply_in labels rows ask)
 has_word n labels rows Q.LoadWord are = are
 has_word n labels rows Q.Scan are = are
 has_word n labels rows (Q.Exchange old new) are =
     elim (same_labels labels old) as (λ b. HasWord n (if b then R.Won else R.Lost labels)) [ true ↦ tt | false ↦ tt ]
 has_word n labels rows (Q.Get r i) are = tt
 has_word n labels rows (Q.Put r v) are = tt
+has_word n labels rows Q.Clear are = tt
 
 module _ (sizes : CodeSizes) (p : ℕ) (in_p : p < sizes.processes) where
-  pub labels_ordered : (ask : Ask) (labels : List (List ℕ)) → IsLawful sizes p ask → AreOrdered sizes.processes labels
-      → AreOrdered sizes.processes (labels_by ask labels)
+  pub labels_ordered : (ask : Ask) (labels : Labels) → IsLawful sizes p ask → AreOrdered sizes.processes labels
+      → AreOrdered sizes.processes (labels_by p ask labels)
   labels_ordered (Q.Exchange old new) labels lawful are =
       elim (same_labels labels old) as (λ b. AreOrdered sizes.processes (if b then new else labels)) [
         | true ↦ subst (AreOrdered sizes.processes) (sym lawful.1) (stamped_in_order sizes.processes p old lawful.0 in_p)
@@ -43,6 +44,7 @@ module _ (sizes : CodeSizes) (p : ℕ) (in_p : p < sizes.processes) where
   labels_ordered Q.Scan labels lawful are = are
   labels_ordered (Q.Get r i) labels lawful are = are
   labels_ordered (Q.Put r v) labels lawful are = are
+  labels_ordered Q.Clear labels lawful are = cleared_in_order sizes.processes p labels are
 
   pub rows_kept : (ask : Ask) (rows : List (List ℕ)) → length (rows_by p ask rows) ≡ length rows
   rows_kept (Q.Put r v) rows = length-set rows r _
@@ -50,6 +52,7 @@ module _ (sizes : CodeSizes) (p : ℕ) (in_p : p < sizes.processes) where
   rows_kept Q.Scan rows = refl
   rows_kept (Q.Exchange old new) rows = refl
   rows_kept (Q.Get r i) rows = refl
+  rows_kept Q.Clear rows = refl
 
   registers_kept : (ask : Ask) (rows : List (List ℕ)) → IsLawful sizes p ask → length rows ≡ sizes.rows
       → All (λ row. length row ≡ sizes.processes) rows → All (λ row. length row ≡ sizes.processes) (rows_by p ask rows)
@@ -61,6 +64,7 @@ module _ (sizes : CodeSizes) (p : ℕ) (in_p : p < sizes.processes) where
   registers_kept Q.Scan rows lawful many all = all
   registers_kept (Q.Exchange old new) rows lawful many all = all
   registers_kept (Q.Get r i) rows lawful many all = all
+  registers_kept Q.Clear rows lawful many all = all
 
 module _ (sizes : CodeSizes) (code : List Instr) (p : ℕ) (in_p : p < sizes.processes) where
   each_after : (qs : List CodeProcess) (q : CodeProcess) → IsSafe sizes code p q

@@ -16,7 +16,7 @@ use Rattle.code_core.specs.declared.instr.Instr.TheVariants as I
 use Rattle.code_core.specs.Instructions.{CodeSizes, pops, left, target, goes_on}
 use Rattle.code_core.specs.Heights.{height_at}
 use Rattle.code_core.specs.Verified.{is_next, is_exchange}
-use Rattle.word_core.specs.Stamps.{start_labels}
+use Rattle.word_core.specs.Stamps.{Labels, start_labels}
 use Rattle.step_code.specs.declared.ask.Ask.TheVariants as Q
 use Rattle.step_code.specs.declared.ask.Reply.{Reply}
 use Rattle.step_code.specs.declared.ask.Reply.TheVariants as R
@@ -86,7 +86,7 @@ module _ (sizes : CodeSizes) (code : List Instr) (fine : Places sizes code) (p :
     sets_safe x v stack on other long =
         on_safe (M.sets q x v stack None).process on other refl long (length-set q.variables x v) refl safe.filled safe.scratch safe.beside
 
-    keeps_safe : (s : ℕ) (labels : List (List ℕ)) → goes_on i ≡ true → is_next (Some i) ≡ false → left i (length q.stack) ≡ length q.stack
+    keeps_safe : (s : ℕ) (labels : Labels) → goes_on i ≡ true → is_next (Some i) ≡ false → left i (length q.stack) ≡ length q.stack
         → AreOrdered sizes.processes labels → IsSafe sizes code p (M.keeps q s labels None).process
     keeps_safe s labels on other long are =
         on_safe (M.keeps q s labels None).process on other refl (sym long) refl (length-set q.scans s labels)
@@ -135,6 +135,7 @@ module _ (sizes : CodeSizes) (code : List Instr) (fine : Places sizes code) (p :
   loads_safe here (R.Lost found) are = safe
   loads_safe here (R.Value v) are = safe
   loads_safe here R.Written are = safe
+  loads_safe here R.Cleared are = safe
 
   scans_safe : (s : ℕ) → Here (I.Scan s) → (r : Reply) → HasWord sizes.processes r → Safe (M.scans q sizes.processes s r)
   scans_safe s here (R.Word labels) are = keeps_safe (I.Scan s) here s labels refl refl (omega arith) are
@@ -142,6 +143,7 @@ module _ (sizes : CodeSizes) (code : List Instr) (fine : Places sizes code) (p :
   scans_safe s here (R.Lost found) are = safe
   scans_safe s here (R.Value v) are = safe
   scans_safe s here R.Written are = safe
+  scans_safe s here R.Cleared are = safe
 
   lost_safe : (l : ℕ) → Here (I.Exchange l) → Safe (M.goes q l q.stack None)
   lost_safe l here =
@@ -155,6 +157,7 @@ module _ (sizes : CodeSizes) (code : List Instr) (fine : Places sizes code) (p :
   exchanges_safe l here (R.Word labels) = safe
   exchanges_safe l here (R.Value v) = safe
   exchanges_safe l here R.Written = safe
+  exchanges_safe l here R.Cleared = safe
 
   receives_safe : (r x i : ℕ) → Here (I.Get r x) → (reply : Reply) → Safe (M.receives q r i x reply)
   receives_safe r x i here (R.Value v) = sets_safe (I.Get r x) here x v _ refl refl (omega (arith, length-drop 1 q.stack))
@@ -162,6 +165,7 @@ module _ (sizes : CodeSizes) (code : List Instr) (fine : Places sizes code) (p :
   receives_safe r x i here R.Won = safe
   receives_safe r x i here (R.Lost found) = safe
   receives_safe r x i here R.Written = safe
+  receives_safe r x i here R.Cleared = safe
 
   gets_safe : (r x i : ℕ) → Here (I.Get r x) → (b : Bool) → nat_lt i sizes.processes ≡ b
       → DidSafe sizes code p (if b then asks (Q.Get r i) (M.receives q r i x) else alone (M.traps q T.Index))
@@ -176,11 +180,25 @@ module _ (sizes : CodeSizes) (code : List Instr) (fine : Places sizes code) (p :
   writes_safe r v here (R.Word labels) = safe
   writes_safe r v here R.Won = safe
   writes_safe r v here (R.Lost found) = safe
+  writes_safe r v here R.Cleared = safe
 
   compares_safe : (s x i j : ℕ) → Here (I.Older s x) → (b : Bool) (v : ℕ) (act : Option Act)
       → Safe (if b then M.sets q x v (drop 2 q.stack) act else M.traps q T.Index)
   compares_safe s x i j here true v act = sets_safe (I.Older s x) here x v _ refl refl (omega (arith, length-drop 2 q.stack))
   compares_safe s x i j here false v act = stops_safe (I.Older s x) here _
+
+  clears_safe : Here I.Clear → (r : Reply) → Safe (M.clears q r)
+  clears_safe here R.Cleared = goes_on_safe I.Clear here q.stack refl refl (omega arith)
+  clears_safe here (R.Word labels) = safe
+  clears_safe here R.Won = safe
+  clears_safe here (R.Lost found) = safe
+  clears_safe here (R.Value v) = safe
+  clears_safe here R.Written = safe
+
+  held_safe : (s x i : ℕ) → Here (I.Held s x) → (b : Bool) (v : ℕ) (act : Option Act)
+      → Safe (if b then M.sets q x v (drop 1 q.stack) act else M.traps q T.Index)
+  held_safe s x i here true v act = sets_safe (I.Held s x) here x v _ refl refl (omega (arith, length-drop 1 q.stack))
+  held_safe s x i here false v act = stops_safe (I.Held s x) here _
 
   jump_zero_safe : (l : ℕ) → Here (I.JumpZero l) → (b : Bool) → Safe (M.goes q (if b then l else q.place + 1) (drop 1 q.stack) None)
   jump_zero_safe l here true = jumps_safe (I.JumpZero l) here l _ refl (omega (arith, length-drop 1 q.stack))
@@ -221,6 +239,8 @@ module _ (sizes : CodeSizes) (code : List Instr) (fine : Places sizes code) (p :
   does_safe (I.JumpZero l) here = jump_zero_safe l here (slice_index q.stack 0 == 0)
   does_safe (I.Jump l) here = jumps_safe (I.Jump l) here l _ refl (omega arith)
   does_safe I.Halt here = stops_safe I.Halt here _
+  does_safe I.Clear here = (tt, λ reply has. clears_safe here reply)
+  does_safe (I.Held s x) here = held_safe s x (slice_index q.stack 0) here (nat_lt (slice_index q.stack 0) sizes.processes) _ _
 
   -- one step
   pub did_safe : DidSafe sizes code p (M.did sizes.processes p code q)

@@ -1,7 +1,7 @@
 -- A step of the machine is the defined step, and keeps the machine sound.
-use Rattle.std.proofs.Common.{◌≡◌, ⊎_elim, ℕ, suc, ◌+◌, ◌<◌, false, List, [], ◌∷◌, ◌++◌, refl, ap, ◌∙◌, sym, subst, length, map, set, drop, get_or, replicate, arith, Result, Ok, Err, Option, None, Some, OnOk, OnErr}
+use Rattle.std.proofs.Common.{◌≡◌, ⊎_elim, ℕ, suc, ◌+◌, ◌<◌, false, List, [], ◌∷◌, ◌++◌, refl, ap, ◌∙◌, sym, subst, length, map, set, drop, get_or, replicate, arith, Result, Ok, Err, Option, None, Some, OnOk, OnErr, IfOk, IfSome}
 use Rattle.std.specs.Prelude.{slice_get, slice_set, is_some, IsOk}
-use Rattle.std.specs.Option.{option_map}
+use Rattle.std.specs.Option.{option_map, option_and_then}
 use Rattle.std.proofs.lemmas.List.{map-set, set-get_or, length-map, length-append}
 use Rattle.std.proofs.lemmas.Option.{none-some, slice_get-map, slice_get_read, get_or_from_slice_get}
 use Rattle.std.proofs.Math.Seq.{drop-cons, drop-length}
@@ -13,9 +13,11 @@ use Rattle.base.specs.declared.no_memory.NoMemory.{NoMemory}
 use Rattle.machine_core.specs.Observables.{told}
 use Rattle.code_core.specs.declared.instr.Instr.{Instr}
 use Rattle.code_core.specs.Instructions.{StepCode, CodeSizes}
+use Rattle.word_core.specs.Stamps.{Labels}
 use Rattle.code_core.proofs.Offered.{get-set, get-snoc}
 use Rattle.step_code.specs.declared.machine.CodeMachine.TheInside.{Inside}
-use Rattle.step_code.specs.Machine.{CodeProcess, CodeState, CodeRun, CodeStep, alone, asks, did, step_as, step_of, code_step, code_run, start_process}
+use Rattle.step_code.specs.declared.machine.Made.{Made}
+use Rattle.step_code.specs.Machine.{CodeProcess, CodeState, CodeRun, CodeStep, alone, asks, did, made, step_as, step_of, code_step, running_as, next_instruction, next_act, code_run, start_process}
 use Rattle.step_code.specs.Safety.{AreOrdered}
 use Rattle.step_code.specs.Process.{OneProcess, IsOf, next_of}
 use Rattle.step_code.specs.prover.Parts.{moved_as, labels_as, rows_as, Makes, Keeps, state_of, IsSound, AreNew}
@@ -32,7 +34,7 @@ held xs p x here inside = slice_get_read xs (length xs) p x refl inside here
 -- the state after a step of a process, part by part
 abbrev parts : ℕ → CodeState → CodeProcess → Status → CodeStep → CodeState
 parts p s q status d = record {
-  labels = labels_as status d s.labels;
+  labels = labels_as status p d s.labels;
   rows = rows_as status p d s.rows;
   processes = slice_set s.processes p (moved_as status q s.labels s.rows d).process;
   events = told p (moved_as status q s.labels s.rows d).act s.events;
@@ -44,8 +46,16 @@ as_parts n code p s q Running here = refl
 as_parts n code p s q Ended here = ap (λ qs. record s { processes = qs }) (set_here s.processes p q here)
 as_parts n code p s q (Trapped t) here = ap (λ qs. record s { processes = qs }) (set_here s.processes p q here)
 
-labels_kept : (sizes : CodeSizes) (code : List Instr) (p : ℕ) (in_p : p < sizes.processes) (status : Status) (d : CodeStep) (labels : List (List ℕ))
-    → DidSafe sizes code p d → AreOrdered sizes.processes labels → AreOrdered sizes.processes (labels_as status d labels)
+-- what others see of it
+act_as : (n : ℕ) (code : List Instr) (p : ℕ) (labels : Labels) (rows : List (List ℕ)) (q : CodeProcess) (status : Status)
+    → (moved_as status q labels rows (did n p code q)).act
+    ≡ option_and_then (λ q. (made labels rows (did n p code q)).act) (running_as q status)
+act_as n code p labels rows q Running = refl
+act_as n code p labels rows q Ended = refl
+act_as n code p labels rows q (Trapped t) = refl
+
+labels_kept : (sizes : CodeSizes) (code : List Instr) (p : ℕ) (in_p : p < sizes.processes) (status : Status) (d : CodeStep) (labels : Labels)
+    → DidSafe sizes code p d → AreOrdered sizes.processes labels → AreOrdered sizes.processes (labels_as status p d labels)
 labels_kept sizes code p in_p Running (alone m) labels safe are = are
 labels_kept sizes code p in_p Running (asks ask answered) labels safe are = labels_ordered sizes p in_p ask labels safe.0 are
 labels_kept sizes code p in_p Ended d labels safe are = are
@@ -65,8 +75,10 @@ told_same p (Some act) events same =
     absurd (omega arith)
 
 -- What the machine has become once process `p` has stepped, or was refused memory.
-pub record Stepped (m' : Inside) (p : ℕ) (run : CodeRun) (r : Result (Unit {0}) NoMemory) : Type 0 where
+pub record Stepped (m' : Inside) (p : ℕ) (run : CodeRun) (r : Result (Option Made) NoMemory) : Type 0 where
   pub sound : IsSound m'
+  pub instruction : IfOk r (λ step. option_map (λ x. x.instruction) step ≡ next_instruction run.code.instructions p run.state)
+  pub told : IfOk r (λ step. IfSome step (λ x. x.told ≡ is_some (next_act run.code.sizes.processes run.code.instructions p run.state)))
   pub ok : OnOk r (state_of m' ≡ code_step run.code.sizes.processes run.code.instructions p run.state)
   pub err : OnErr r (state_of m' ≡ run.state)
   pub silent : (code_step run.code.sizes.processes run.code.instructions p run.state).events ≡ run.state.events → IsOk r
@@ -124,7 +136,7 @@ module _ (m m' : Inside) (sound : IsSound m) (p : ℕ) (one one' : OneProcess) (
       (get-set m.processes.items p k one' x (sym (ap (λ xs. slice_get xs k) put_back) ∙ at)) in
       subst (λ b. IsSound (record m' { code = b })) (sym same_code) (record { verified = sound.verified; labels = labels; each = each })
 
-  labels_after : AreOrdered code.sizes.processes (labels_as one.process.status (next_of code one) m.shared.labels)
+  labels_after : AreOrdered code.sizes.processes (labels_as one.process.status p (next_of code one) m.shared.labels)
   labels_after =
       labels_kept code.sizes code.instructions p in_p one.process.status (next_of code one) m.shared.labels
       (subst (λ k. DidSafe code.sizes code.instructions k (next_of code one)) held_me (next_safe code one held_of)) sound.labels
@@ -136,19 +148,40 @@ module _ (m m' : Inside) (sound : IsSound m) (p : ℕ) (one one' : OneProcess) (
         told_same p (moved_as one.process.status one.process m.shared.labels m.shared.registers (next_of code one)).act m.events.items
         (ap (λ s. s.events) is_parts ∙ ap (λ x. (code_step x.code.sizes.processes x.code.instructions p x.state).events) is ∙ same ∙ ap (λ x. x.state.events) (sym is))
 
-    pub stepped : (r : Result (Unit {0}) NoMemory) → OnOk r (Makes code p m.shared m'.shared one one' m.events.items m'.events.items)
+    instruction_made : option_and_then (λ q. slice_get code.instructions q.place) (running_as one.process one.process.status)
+        ≡ next_instruction run.code.instructions p run.state
+    instruction_made =
+        ap (λ o. option_and_then (λ q. slice_get code.instructions q.place) (option_and_then (λ q. running_as q q.status) o)) (sym state_held)
+        ∙ ap (λ x. next_instruction x.code.instructions p x.state) is
+
+    act_made : (moved_as one.process.status one.process m.shared.labels m.shared.registers (next_of code one)).act
+        ≡ next_act run.code.sizes.processes run.code.instructions p run.state
+    act_made =
+        ap (λ k. (moved_as one.process.status one.process m.shared.labels m.shared.registers (did code.sizes.processes k code.instructions one.process)).act) held_me
+        ∙ act_as code.sizes.processes code.instructions p m.shared.labels m.shared.registers one.process one.process.status
+        ∙ ap (λ o. option_and_then (λ q. (made m.shared.labels m.shared.registers (did code.sizes.processes p code.instructions q)).act) (option_and_then (λ q. running_as q q.status) o)) (sym state_held)
+        ∙ ap (λ x. next_act x.code.sizes.processes x.code.instructions p x.state) is
+
+    pub stepped : (r : Result (Option Made) NoMemory)
+        → IfOk r (λ step. option_map (λ x. x.instruction) step ≡ option_and_then (λ q. slice_get code.instructions q.place) (running_as one.process one.process.status))
+        → IfOk r (λ step. IfSome step (λ x. x.told ≡ is_some (moved_as one.process.status one.process m.shared.labels m.shared.registers (next_of code one)).act))
+        → OnOk r (Makes code p m.shared m'.shared one one' m.events.items m'.events.items)
         → OnErr r (Keeps m.shared m'.shared one one' m.events.items m'.events.items)
         → (is_some (moved_as one.process.status one.process m.shared.labels m.shared.registers (next_of code one)).act ≡ false → IsOk r)
         → IsOf code one' → one'.me ≡ p → Stepped m' p run r
-    stepped (Ok u) f k quiet of me = record {
+    stepped (Ok step) which tells f k quiet of me = record {
       sound = sound_by (subst (AreOrdered code.sizes.processes) (sym f.labels) labels_after) of me;
+      instruction = which ∙ instruction_made;
+      told = subst (λ act. IfSome step (λ x. x.told ≡ is_some act)) act_made tells;
       ok = made_step f ∙ ap (λ x. code_step x.code.sizes.processes x.code.instructions p x.state) is;
       err = k;
       silent = λ same. quiet (silent_act same);
       rows = ap length f.rows ∙ length-rows_as code.sizes p in_p one.process.status (next_of code one) m.shared.registers ∙ ap (λ x. length x.state.rows) is;
     }
-    stepped (Err e) f k quiet of me = record {
+    stepped (Err e) which tells f k quiet of me = record {
       sound = sound_by (subst (AreOrdered code.sizes.processes) (sym k.labels) sound.labels) of me;
+      instruction = which;
+      told = tells;
       ok = f;
       err = kept_step k ∙ ap (λ x. x.state) is;
       silent = λ same. quiet (silent_act same);

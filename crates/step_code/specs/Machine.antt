@@ -1,8 +1,8 @@
 -- A step code as it runs on bounded labels: the state, what one step does, and the run.
-use Rattle.std.specs.Prelude.{ℕ, ◌+◌, ◌==◌, nat_lt, Bool, true, false, ◌&&◌, if◌then◌else◌, List, [], ◌∷◌, map, drop, replicate, slice_get, slice_set, slice_index, slice_index_or, Option, Some, None, Result, Ok, Err}
-use Rattle.label_core.specs.Labels.{same_label, label_ranks}
-use Rattle.word_core.specs.Stamps.{start_labels, stamped}
-use Rattle.word_core.specs.Order.{older_label}
+use Rattle.std.specs.Prelude.{ℕ, ◌+◌, ◌==◌, nat_lt, Bool, true, false, ◌&&◌, if◌then◌else◌, List, [], ◌∷◌, map, drop, replicate, slice_get, slice_set, slice_index, slice_index_or, Option, Some, None, option_and_then, Result, Ok, Err}
+use Rattle.label_core.specs.Labels.{same_label}
+use Rattle.word_core.specs.Stamps.{Labels, start_labels, label_at, is_present, stamped, cleared}
+use Rattle.word_core.specs.Order.{older_label, label_ranks}
 use Rattle.machine_core.specs.declared.status.Trap.{Trap}
 use Rattle.machine_core.specs.declared.status.Trap.TheVariants as T
 use Rattle.machine_core.specs.declared.status.Status.{Status}
@@ -23,19 +23,19 @@ use Rattle.step_code.specs.declared.ask.Reply.TheVariants as R
 
 -- A process: the place of its next instruction, its stack with the top first, its variables, its
 -- scans, its scratch and what stands beside it. Each scan, the scratch and what stands beside it
--- have a label for every process.
+-- have the labels of all processes.
 pub record CodeProcess : Type 0 where
   pub place : ℕ
   pub stack : List ℕ
   pub variables : List ℕ
-  pub scans : List (List (List ℕ))
-  pub scratch : List (List ℕ)
-  pub beside : List (List ℕ)
+  pub scans : List Labels
+  pub scratch : Labels
+  pub beside : Labels
   pub status : Status
 
 -- All processes share the labels and the register rows. A row has one number for each process.
 pub record CodeState : Type 0 where
-  pub labels : List (List ℕ)
+  pub labels : Labels
   pub rows : List (List ℕ)
   pub processes : List CodeProcess
   pub events : List Event
@@ -84,7 +84,7 @@ module _ (q : CodeProcess) where
   sets x v stack act = record { process = record q { place = q.place + 1; stack = stack; variables = slice_set q.variables x v }; act = act }
 
   -- the labels of `n` processes that a scan holds
-  abbrev pub scan_at : ℕ → ℕ → List (List ℕ)
+  abbrev pub scan_at : ℕ → ℕ → Labels
   scan_at n s = slice_index_or q.scans s (start_labels n)
 
   -- what a stamp makes of the scratch stands beside it
@@ -92,7 +92,7 @@ module _ (q : CodeProcess) where
   stamps p = record { process = record q { place = q.place + 1; beside = stamped p q.scratch }; act = None }
 
   -- labels into a scan
-  abbrev pub keeps : ℕ → List (List ℕ) → Option Act → Moved
+  abbrev pub keeps : ℕ → Labels → Option Act → Moved
   keeps s labels act = record { process = record q { place = q.place + 1; scans = slice_set q.scans s labels }; act = act }
 
   abbrev pub loads : Reply → Moved
@@ -126,6 +126,19 @@ module _ (q : CodeProcess) where
       then sets x (truth_value (older_label (scan_at n s) i j)) (drop 2 q.stack) (Some (A.Older i j (truth_value (older_label (scan_at n s) i j))))
       else traps T.Index
 
+  -- the own ticket is given up
+  abbrev pub clears : Reply → Moved
+  clears R.Cleared = goes_on q.stack (Some A.Clear)
+  clears _ = stays
+
+  abbrev pub held_in : ℕ → ℕ → ℕ → ℕ
+  held_in n s i = truth_value (is_present (label_at (scan_at n s) i))
+
+  -- whether process `i` is present in a scan
+  abbrev pub tells_held : ℕ → ℕ → ℕ → ℕ → Moved
+  tells_held n s i x =
+      if nat_lt i n then sets x (held_in n s i) (drop 1 q.stack) (Some (A.Held i (held_in n s i))) else traps T.Index
+
   -- What this instruction does, where the process is process `p` of `n`.
   abbrev pub does : ℕ → ℕ → Instr → CodeStep
   does n p (I.Push v) = alone (goes_on (v ∷ q.stack) None)
@@ -146,6 +159,8 @@ module _ (q : CodeProcess) where
   does n p (I.JumpZero l) = alone (goes (if slice_index q.stack 0 == 0 then l else q.place + 1) (drop 1 q.stack) None)
   does n p (I.Jump l) = alone (goes l q.stack None)
   does n p I.Halt = alone (stops Ended A.End)
+  does n p I.Clear = asks Q.Clear clears
+  does n p (I.Held s x) = alone (tells_held n s (slice_index q.stack 0) x)
 
   -- what the instruction at its place does
   abbrev pub does_at : ℕ → ℕ → Option Instr → CodeStep
@@ -156,25 +171,34 @@ module _ (q : CodeProcess) where
 abbrev pub did : ℕ → ℕ → List Instr → CodeProcess → CodeStep
 did n p code q = does_at q n p (slice_get code q.place)
 
+-- whether a process is absent in both, or has the same label
+abbrev pub same_held : Option (List ℕ) → Option (List ℕ) → Bool
+same_held None None = true
+same_held None (Some other) = false
+same_held (Some label) None = false
+same_held (Some label) (Some other) = same_label label other
+
 -- whether these are the same labels
-abbrev pub same_labels : List (List ℕ) → List (List ℕ) → Bool
+abbrev pub same_labels : Labels → Labels → Bool
 same_labels [] [] = true
 same_labels [] (other ∷ others) = false
 same_labels (label ∷ labels) [] = false
-same_labels (label ∷ labels) (other ∷ others) = same_label label other && same_labels labels others
+same_labels (label ∷ labels) (other ∷ others) = same_held label other && same_labels labels others
 
 -- What is shared answers what is asked.
-abbrev pub reply_in : List (List ℕ) → List (List ℕ) → Ask → Reply
+abbrev pub reply_in : Labels → List (List ℕ) → Ask → Reply
 reply_in labels rows Q.LoadWord = R.Word labels
 reply_in labels rows Q.Scan = R.Word labels
 reply_in labels rows (Q.Exchange old new) = if same_labels labels old then R.Won else R.Lost labels
 reply_in labels rows (Q.Get r i) = R.Value (register_at rows r i)
 reply_in labels rows (Q.Put r v) = R.Written
+reply_in labels rows Q.Clear = R.Cleared
 
--- only an exchange changes the labels, and only where it finds the old ones
-abbrev pub labels_by : Ask → List (List ℕ) → List (List ℕ)
-labels_by (Q.Exchange old new) labels = if same_labels labels old then new else labels
-labels_by _ labels = labels
+-- an exchange changes the labels, and only where it finds the old ones, and a clear of process `p`
+abbrev pub labels_by : ℕ → Ask → Labels → Labels
+labels_by p (Q.Exchange old new) labels = if same_labels labels old then new else labels
+labels_by p Q.Clear labels = cleared p labels
+labels_by p _ labels = labels
 
 -- only process `p` writes its own registers
 abbrev pub rows_by : ℕ → Ask → List (List ℕ) → List (List ℕ)
@@ -182,14 +206,14 @@ rows_by p (Q.Put r v) rows = register_set rows r p v
 rows_by p _ rows = rows
 
 -- what the step made, once what is shared has answered
-abbrev pub made : List (List ℕ) → List (List ℕ) → CodeStep → Moved
+abbrev pub made : Labels → List (List ℕ) → CodeStep → Moved
 made labels rows (alone m) = m
 made labels rows (asks ask answered) = answered (reply_in labels rows ask)
 
 -- the labels and the rows that it leaves
-abbrev pub labels_left : CodeStep → List (List ℕ) → List (List ℕ)
-labels_left (alone m) labels = labels
-labels_left (asks ask answered) labels = labels_by ask labels
+abbrev pub labels_left : ℕ → CodeStep → Labels → Labels
+labels_left p (alone m) labels = labels
+labels_left p (asks ask answered) labels = labels_by p ask labels
 
 abbrev pub rows_left : ℕ → CodeStep → List (List ℕ) → List (List ℕ)
 rows_left p (alone m) rows = rows
@@ -197,7 +221,7 @@ rows_left p (asks ask answered) rows = rows_by p ask rows
 
 abbrev pub state_after : ℕ → CodeState → CodeStep → CodeState
 state_after p s d = record {
-  labels = labels_left d s.labels;
+  labels = labels_left p d s.labels;
   rows = rows_left p d s.rows;
   processes = slice_set s.processes p (made s.labels s.rows d).process;
   events = told p (made s.labels s.rows d).act s.events;
@@ -215,6 +239,22 @@ step_of n code p s None = s
 -- one step of process `p` of `n`
 abbrev pub code_step : ℕ → List Instr → ℕ → CodeState → CodeState
 code_step n code p s = step_of n code p s (slice_get s.processes p)
+
+-- a process, where it runs
+abbrev pub running_as : CodeProcess → Status → Option CodeProcess
+running_as q Running = Some q
+running_as q _ = None
+
+abbrev pub running_at : ℕ → CodeState → Option CodeProcess
+running_at p s = option_and_then (λ q. running_as q q.status) (slice_get s.processes p)
+
+-- the instruction that process `p` makes next
+abbrev pub next_instruction : List Instr → ℕ → CodeState → Option Instr
+next_instruction code p s = option_and_then (λ q. slice_get code q.place) (running_at p s)
+
+-- what its next step lets others see
+abbrev pub next_act : ℕ → List Instr → ℕ → CodeState → Option Act
+next_act n code p s = option_and_then (λ q. (made s.labels s.rows (did n p code q)).act) (running_at p s)
 
 -- the processes of the list step in its order
 abbrev pub code_run : ℕ → List Instr → List ℕ → CodeState → CodeState

@@ -1,6 +1,6 @@
 -- What a process and a state of a run always have, so that no step is ever stuck.
 use Rattle.std.specs.Prelude.{◌≡◌, ℕ, ◌<◌, ◌≤◌, true, List, length, slice_get, All, Some}
-use Rattle.word_core.specs.Stamps.{stamped}
+use Rattle.word_core.specs.Stamps.{Labels, stamped}
 use Rattle.word_core.specs.Packed.{AreLabels}
 use Rattle.word_core.specs.Order.{IsOrdered}
 use Rattle.code_core.specs.declared.instr.Instr.{Instr}
@@ -13,8 +13,8 @@ use Rattle.step_code.specs.declared.ask.Reply.{Reply}
 use Rattle.step_code.specs.declared.ask.Reply.TheVariants as R
 use Rattle.step_code.specs.Machine.{CodeProcess, CodeState}
 
--- a label for each of `n` processes, in the order of whole numbers
-pub record AreOrdered (n : ℕ) (labels : List (List ℕ)) : Type 0 where
+-- labels of `n` processes, in the order of whole numbers
+pub record AreOrdered (n : ℕ) (labels : Labels) : Type 0 where
   pub are : AreLabels n labels
   pub ordered : IsOrdered labels
 

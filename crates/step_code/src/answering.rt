@@ -1,7 +1,7 @@
 // What a reply makes of the process that asked for it.
 
 ghost use Rattle.std.specs.Prelude.{◌≡◌, ℕ, slice_get, slice_index, Some};
-ghost use Rattle.step_code.specs.Machine.{gets, loads, exchanges, scans, writes};
+ghost use Rattle.step_code.specs.Machine.{gets, loads, exchanges, scans, writes, clears};
 ghost use Rattle.step_code.specs.Process.{IsOf, answered_by};
 ghost use Rattle.step_code.specs.prover.Held.{does_of, Becomes, Finds};
 
@@ -68,6 +68,16 @@ impl Proc {
         }
     }
 
+    #[inline(always)]
+    fn finish_clear(&mut self, reply: Reply)
+        requires { Finds self.old Instr.Clear }
+        ensures { Becomes self.old (clears self.old.process reply).process self.new }
+    {
+        if let Reply::Cleared = reply {
+            self.place += 1;
+        }
+    }
+
     /// The instruction at its place, which asked and has its reply.
     #[inline(always)]
     pub(crate) fn take_reply(&mut self, code: &Code, instruction: Instr, reply: Reply)
@@ -81,6 +91,7 @@ impl Proc {
             Instr::Scan(s) => self.finish_scan(s, reply),
             Instr::Get(r, x) => self.finish_get(code.sizes().processes(), r, x, reply),
             Instr::Put(r) => self.finish_put(r, reply),
+            Instr::Clear => self.finish_clear(reply),
             _ => {}
         }
     }

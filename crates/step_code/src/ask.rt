@@ -14,6 +14,8 @@ pub enum Ask {
     Get(u8, u8),
     /// A value goes into its own register of a row.
     Put(u8, u32),
+    /// Its own label is taken from the labels.
+    Clear,
 }
 
 /// What the shared words answered.
@@ -29,6 +31,8 @@ pub enum Reply {
     Value(u32),
     /// The value was written.
     Written,
+    /// The label is gone.
+    Cleared,
 }
 
 /// What became of the next instruction of a process.

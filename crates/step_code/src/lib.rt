@@ -19,6 +19,6 @@ mod telling;
 pub use ask::{Advance, Ask, Reply};
 pub use code_core::{Code, CodeFault, Instr, Sizes, verify};
 pub use code_text::{read_code, write_code};
-pub use machine::{CodeMachine, run};
+pub use machine::{CodeMachine, Made, run};
 pub use machine_core::{Act, Event, NoMemory, Op, Outcome, Status, Trap};
 pub use proc::Proc;

@@ -1,7 +1,7 @@
-ghost use Rattle.std.specs.Prelude.{◌≡◌, false, ℕ, ◌<◌, List, length, slice_get, OnOk, OnErr, IfOk, IsOk, IsTrue, Some, is_some, All};
+ghost use Rattle.std.specs.Prelude.{◌≡◌, false, ℕ, ◌<◌, List, length, slice_get, OnOk, OnErr, IfOk, IfSome, IsOk, IsTrue, Some, is_some, option_map, option_and_then, All};
 ghost use Rattle.machine_core.specs.Rows.{register_at};
 ghost use Rattle.machine_core.specs.Observables.{observed};
-ghost use Rattle.step_code.specs.Machine.{code_start, code_step, run_of, statuses_of, places_of, observables, made, labels_left, rows_left};
+ghost use Rattle.step_code.specs.Machine.{code_start, code_step, running_as, next_instruction, next_act, run_of, statuses_of, places_of, observables, made, labels_left, rows_left};
 ghost use Rattle.step_code.specs.Safety.{AreOrdered};
 ghost use Rattle.step_code.specs.Process.{IsOf, event_of, next_of};
 ghost use Rattle.step_code.specs.prover.Parts.{moved_as, Makes, Keeps};
@@ -14,6 +14,15 @@ use machine_core::{Event, NoMemory, Outcome, Status};
 use std::alloc::Global;
 use std::marker::Model;
 use word_core::LabelWord;
+
+/// What a step made.
+#[derive(Clone, Copy, PartialEq, Eq, Debug)]
+pub struct Made {
+    /// Its instruction.
+    pub instruction: Instr,
+    /// Whether others see it.
+    pub told: bool,
+}
 
 /// A code on bounded labels, one step at a time. The code says what a step does; which process steps
 /// is the caller's choice.
@@ -37,7 +46,7 @@ impl<'a> Model for CodeMachine<'a> {
 }
 
 impl<'a> CodeMachine<'a> {
-    /// The code before its first step: all variables, registers and digits of labels are 0.
+    /// The code before its first step: all variables and registers are 0, and no process is present.
     pub fn new(alloc: Global, code: &'a Code) -> Result<CodeMachine<'a>, NoMemory>
         ensures code { IfOk result (λ m. m.code ≡ code.now) }
         ensures start { IfOk result (λ m. m.state ≡ code_start code.now.sizes) }
@@ -61,6 +70,7 @@ impl<'a> CodeMachine<'a> {
 
     /// Makes the next step of process `p`, which is below the number of processes. A step of a
     /// process that has stopped changes nothing. Where memory is refused the machine is as it was.
+    #[inline(always)]
     pub fn step(&mut self, p: u8) -> Result<(), NoMemory>
         requires { p < length self.old.state.processes }
         ensures ok { OnOk result (self.new.state ≡ code_step self.old.code.sizes.processes self.old.code.instructions p self.old.state) }
@@ -70,6 +80,23 @@ impl<'a> CodeMachine<'a> {
         ensures silent { (code_step self.old.code.sizes.processes self.old.code.instructions p self.old.state).events ≡ self.old.state.events → IsOk result }
 
         // No step adds or takes a process or a register row, or changes the code.
+        ensures code { self.new.code ≡ self.old.code }
+        ensures processes { length self.new.state.processes ≡ length self.old.state.processes }
+        ensures rows { length self.new.state.rows ≡ length self.old.state.rows }
+    {
+        self.make_step(p)?;
+        Ok(())
+    }
+
+    /// As `step`, for whoever wants to know what was made; `None` where the process had stopped.
+    #[inline(always)]
+    pub fn make_step(&mut self, p: u8) -> Result<Option<Made>, NoMemory>
+        requires { p < length self.old.state.processes }
+        ensures instruction { IfOk result (λ step. option_map (λ m. m.instruction) step ≡ next_instruction self.old.code.instructions p self.old.state) }
+        ensures told { IfOk result (λ step. IfSome step (λ m. m.told ≡ is_some (next_act self.old.code.sizes.processes self.old.code.instructions p self.old.state))) }
+        ensures ok { OnOk result (self.new.state ≡ code_step self.old.code.sizes.processes self.old.code.instructions p self.old.state) }
+        ensures err { OnErr result (self.new.state ≡ self.old.state) }
+        ensures silent { (code_step self.old.code.sizes.processes self.old.code.instructions p self.old.state).events ≡ self.old.state.events → IsOk result }
         ensures code { self.new.code ≡ self.old.code }
         ensures processes { length self.new.state.processes ≡ length self.old.state.processes }
         ensures rows { length self.new.state.rows ≡ length self.old.state.rows }
@@ -147,6 +174,7 @@ pub fn run(alloc: Global, code: &Code, schedule: &[u8]) -> Result<Outcome, NoMem
 }
 
 // Makes this instruction, the next of a process that runs. What is shared answers what it asks.
+#[inline(always)]
 fn make(
     code: &Code,
     shared: &mut CodeMemory,
@@ -161,7 +189,7 @@ fn make(
     requires here { slice_get code.now.instructions process.old.process.place ≡ Some instruction }
     ensures event { result ≡ event_of p (made shared.old.labels shared.old.registers (next_of code.now process.old)).act }
     ensures process { process.new.process ≡ (made shared.old.labels shared.old.registers (next_of code.now process.old)).process }
-    ensures labels { shared.new.labels ≡ labels_left (next_of code.now process.old) shared.old.labels }
+    ensures labels { shared.new.labels ≡ labels_left p (next_of code.now process.old) shared.old.labels }
     ensures rows { shared.new.registers ≡ rows_left p (next_of code.now process.old) shared.old.registers }
     ensures me { process.new.me ≡ p }
     ensures of { IsOf code.now process.new }
@@ -180,17 +208,20 @@ fn make(
     }
 }
 
-// A step of one process with its event. Memory is taken where an event has no room.
+// A step of one process, with what it made. Memory is taken where an event has no room.
+#[inline(always)]
 fn step_one(
     code: &Code,
     shared: &mut CodeMemory,
     process: &mut Proc,
     p: u8,
     events: &mut Vec<Event>,
-) -> Result<(), NoMemory>
+) -> Result<Option<Made>, NoMemory>
     requires of { IsOf code.now process.old }
     requires me { process.old.me ≡ p }
     requires labels { AreOrdered code.now.sizes.processes shared.old.labels }
+    ensures instruction { IfOk result (λ step. option_map (λ m. m.instruction) step ≡ option_and_then (λ q. slice_get code.now.instructions q.place) (running_as process.old.process process.old.process.status)) }
+    ensures told { IfOk result (λ step. IfSome step (λ m. m.told ≡ is_some (moved_as process.old.process.status process.old.process shared.old.labels shared.old.registers (next_of code.now process.old)).act)) }
     ensures ok { OnOk result (Makes code.now p shared.old shared.new process.old process.new events.old.items events.new.items) }
     ensures err { OnErr result (Keeps shared.old shared.new process.old process.new events.old.items events.new.items) }
     ensures silent { is_some (moved_as process.old.process.status process.old.process shared.old.labels shared.old.registers (next_of code.now process.old)).act ≡ false → IsOk result }
@@ -201,10 +232,12 @@ fn step_one(
         events.reserve(1)?;
     }
     let Some(instruction) = process.instruction(code) else {
-        return Ok(());
+        return Ok(None);
     };
-    if let Some(event) = make(code, shared, process, p, instruction) {
+    let event = make(code, shared, process, p, instruction);
+    let told = event.is_some();
+    if let Some(event) = event {
         events.push_reserved(event);
     }
-    Ok(())
+    Ok(Some(Made { instruction, told }))
 }

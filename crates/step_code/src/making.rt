@@ -3,7 +3,7 @@
 ghost use Rattle.std.specs.Prelude.{◌≡◌, ◌<◌, ◌≤◌, ◌+◌, ◌==◌, ◌∷◌, ℕ, nat_lt, if◌then◌else◌, length, drop, slice_get, slice_index, Some, None};
 ghost use Rattle.machine_core.specs.Operators.{operation};
 ghost use Rattle.word_core.specs.Order.{IsOrdered};
-ghost use Rattle.step_code.specs.Machine.{alone, goes, goes_on, stops, results, sets, keeps, scan_at, stamps, gets, compares};
+ghost use Rattle.step_code.specs.Machine.{alone, goes, goes_on, stops, results, sets, keeps, scan_at, stamps, gets, compares, tells_held};
 ghost use Rattle.step_code.specs.Process.{IsOf, advance_of, after_advance};
 ghost use Rattle.step_code.specs.prover.Held.{does_of, Becomes, Finds};
 
@@ -157,6 +157,22 @@ impl Proc {
         Advance::Did(self.event(Act::Older(i, j, answer)))
     }
 
+    // Looks whether the process that the top value tells is present in a scan.
+    #[inline(always)]
+    fn look_for(&mut self, n: u8, s: u8, x: u8) -> Advance
+        requires found { Finds self.old (Instr.Held s x) }
+        requires labels { length (scan_at self.old.process n s) ≡ n }
+        ensures answer { result ≡ advance_of self.old.me (alone (tells_held self.old.process n s (slice_index self.old.process.stack 0) x)) }
+        ensures becomes { Becomes self.old (tells_held self.old.process n s (slice_index self.old.process.stack 0) x).process self.new }
+    {
+        let Some(i) = index(n, self.look(0)) else {
+            return self.stop(Status::Trapped(Trap::Index), Act::Trap(Trap::Index));
+        };
+        let answer = u8::from(self.scans[usize::from(s)].held(i));
+        self.set(x, u32::from(answer), 1);
+        Advance::Did(self.event(Act::Held(i, answer)))
+    }
+
     #[inline(always)]
     fn give_out(&mut self) -> Advance
         requires { Finds self.old Instr.Out }
@@ -235,6 +251,8 @@ impl Proc {
             Instr::JumpZero(to) => self.jump_zero(to),
             Instr::Jump(to) => self.jump(to),
             Instr::Halt => self.stop(Status::Ended, Act::End),
+            Instr::Clear => Advance::Ask(Ask::Clear),
+            Instr::Held(s, x) => self.look_for(code.sizes().processes(), s, x),
         }
     }
 }

@@ -1,4 +1,4 @@
-ghost use Rattle.std.specs.Prelude.{◌≡◌, ℕ, IfOk};
+ghost use Rattle.std.specs.Prelude.{◌≡◌, ◌<◌, ℕ, length, IfOk};
 ghost use Rattle.machine_core.specs.Rows.{start_rows};
 ghost use Rattle.word_core.specs.Stamps.{start_labels};
 ghost use Rattle.word_core.specs.Packed.{AreLabels};
@@ -18,7 +18,7 @@ pub struct CodeMemory {
 }
 
 impl CodeMemory {
-    /// All digits and registers are 0.
+    /// No process is present, and all registers are 0.
     pub fn new(alloc: Global, sizes: Sizes) -> Result<CodeMemory, NoMemory>
         ensures labels { IfOk result (λ shared. shared.labels ≡ start_labels sizes.processes) }
         ensures rows { IfOk result (λ shared. shared.registers ≡ start_rows sizes.rows sizes.processes) }
@@ -33,7 +33,7 @@ impl CodeMemory {
     fn exchange(&mut self, old: LabelWord, new: LabelWord) -> Reply
         requires { (n : ℕ) × AreLabels n self.old.labels × AreLabels n old }
         ensures reply { result ≡ reply_in self.old.labels self.old.registers (Ask.Exchange old new) }
-        ensures labels { self.new.labels ≡ labels_by (Ask.Exchange old new) self.old.labels }
+        ensures labels { (p : ℕ) → self.new.labels ≡ labels_by p (Ask.Exchange old new) self.old.labels }
         ensures registers { self.new.registers ≡ self.old.registers }
     {
         if are_same(&self.labels, &old) {
@@ -46,9 +46,10 @@ impl CodeMemory {
 
     /// Answers what process `p` asks for.
     pub fn serve(&mut self, p: u8, ask: Ask) -> Reply
-        requires { (old : _) → (new : _) → ask ≡ Ask.Exchange old new → (n : ℕ) × AreLabels n self.old.labels × AreLabels n old }
+        requires process { p < length self.old.labels }
+        requires labels { (old : _) → (new : _) → ask ≡ Ask.Exchange old new → (n : ℕ) × AreLabels n self.old.labels × AreLabels n old }
         ensures reply { result ≡ reply_in self.old.labels self.old.registers ask }
-        ensures labels { self.new.labels ≡ labels_by ask self.old.labels }
+        ensures labels { self.new.labels ≡ labels_by p ask self.old.labels }
         ensures rows { self.new.registers ≡ rows_by p ask self.old.registers }
     {
         match ask {
@@ -58,6 +59,10 @@ impl CodeMemory {
             Ask::Put(r, value) => {
                 self.registers.set(r, p, value);
                 Reply::Written
+            }
+            Ask::Clear => {
+                self.labels = self.labels.cleared(p);
+                Reply::Cleared
             }
         }
     }

@@ -51,6 +51,7 @@ impl Proc {
                 Some(self.event(Act::Get(r, i, value)))
             }
             (Instr::Put(r), Reply::Written) => Some(self.event(Act::Put(r, self.look(0)))),
+            (Instr::Clear, Reply::Cleared) => Some(self.event(Act::Clear)),
             _ => None,
         }
     }
@@ -69,6 +70,8 @@ impl Proc {
             | Instr::Put(_)
             | Instr::Scan(_)
             | Instr::Older(..)
+            | Instr::Held(..)
+            | Instr::Clear
             | Instr::Out
             | Instr::Halt => true,
             _ => false,

@@ -5,7 +5,7 @@ ghost use Rattle.step_code.specs.Machine.{code_start};
 ghost use Rattle.step_code.specs.Process.{IsOf};
 
 use std::alloc::Global;
-use step_code::{Code, CodeFault, CodeMachine, NoMemory, Outcome, Proc, run};
+use step_code::{Code, CodeFault, CodeMachine, Made, NoMemory, Outcome, Proc, run};
 
 pub fn machine_of<'a>(alloc: Global, code: &'a Code) -> Result<CodeMachine<'a>, NoMemory>
     ensures { IfOk result (λ machine. machine.state ≡ code_start code.now.sizes) }
@@ -23,6 +23,16 @@ pub fn step(machine: &mut CodeMachine<'_>, p: u8) -> Result<(), NoMemory>
     match machine.step(p) {
         Err(NoMemory) => machine.step(p),
         Ok(()) => Ok(()),
+    }
+}
+
+pub fn make_step(machine: &mut CodeMachine<'_>, p: u8) -> Result<Option<Made>, NoMemory>
+    requires { p < length machine.old.state.processes }
+    ensures { length machine.new.state.processes ≡ length machine.old.state.processes }
+{
+    match machine.make_step(p) {
+        Err(NoMemory) => machine.make_step(p),
+        made => made,
     }
 }
 

@@ -1,5 +1,7 @@
-// Tests of the machine of step code and of one process by itself. They stand in a crate of their
-// own, since a crate with tests is proved twice.
+//! Tests of the machine of step code and of one process by itself. They stand in a crate of their
+//! own, since a crate with tests is proved twice.
+//!
+//! Start with `machine` and `process`; `codes` and `answers` have what they share.
 #![tactic(auto)]
 
 #[cfg(test)]

@@ -1,8 +1,8 @@
-use crate::answers::{machine_of, outcome_of, step, step_often};
+use crate::answers::{machine_of, make_step, outcome_of, step, step_often};
 use crate::codes::{GIVES_SEVEN, STAMPS_AND_COMPARES, WRITES_AND_TRAPS, code_of};
 use crate::outcomes::is_outcome;
 use std::test::Fail;
-use step_code::{Act, Event, Instr, Op, Outcome, Status, Trap};
+use step_code::{Act, Event, Instr, Made, Op, Outcome, Status, Trap};
 use testing::{holds, is_same};
 
 fn event(process: u8, act: Act) -> Event {
@@ -112,7 +112,56 @@ fn steps_one_after_the_other(rt: HostRuntime) -> Result<(), Fail> {
     holds(is_so, "the events")?;
     is_same(&machine.status(0), &Status::Ended)?;
     is_same(&machine.status(1), &Status::Ended)?;
-    is_same(&machine.word().bits(), &513)?;
+    is_same(&machine.word().bits(), &844_424_930_132_224)?;
+    Ok(())
+}
+
+// What process 0 makes of `GIVES_SEVEN`, and whether others see it.
+static MADE: [Option<Made>; 4] = [
+    Some(Made {
+        instruction: Instr::Push(7),
+        told: false,
+    }),
+    Some(Made {
+        instruction: Instr::Out,
+        told: true,
+    }),
+    Some(Made {
+        instruction: Instr::Halt,
+        told: true,
+    }),
+    None,
+];
+
+#[test]
+fn tells_what_it_made(rt: HostRuntime) -> Result<(), Fail> {
+    let code = code_of(rt.alloc(), (1, 0, 0, 0), &GIVES_SEVEN)?;
+    assert!(rt; code.sizes().processes() == 1);
+    let mut machine = machine_of(rt.alloc(), &code)?;
+    for made in &MADE {
+        is_same(&make_step(&mut machine, 0)?, made)?;
+    }
+    Ok(())
+}
+
+// Both have loaded the same labels: the first exchange is won, and nobody sees the other.
+#[test]
+fn tells_the_exchange_that_is_won(rt: HostRuntime) -> Result<(), Fail> {
+    let code = code_of(rt.alloc(), (2, 1, 1, 0), &STAMPS_AND_COMPARES)?;
+    assert!(rt; code.sizes().processes() == 2);
+    let mut machine = machine_of(rt.alloc(), &code)?;
+    step_often(&mut machine, 0, 2)?;
+    step_often(&mut machine, 1, 2)?;
+    let won = Made {
+        instruction: Instr::Exchange(0),
+        told: true,
+    };
+    let lost = Made {
+        instruction: Instr::Exchange(0),
+        told: false,
+    };
+    is_same(&make_step(&mut machine, 1)?, &Some(won))?;
+    is_same(&make_step(&mut machine, 0)?, &Some(lost))?;
     Ok(())
 }
 

@@ -4,7 +4,7 @@ use Rattle.machine_core.specs.declared.operator.Op.TheVariants as O
 use Rattle.code_core.specs.declared.instr.Instr.TheVariants as I
 use Rattle.code_core.specs.Instructions.{sizes}
 use Rattle.code_core.specs.Verified.{IsVerified}
-use Rattle.tick_syntax.specs.Plain.{number, named, me, count, binary, assign, get, put, stamp, scan, copy, older, out, branch, repeat, Block, nil, cons, WholeProgram}
+use Rattle.tick_syntax.specs.Plain.{number, named, me, count, binary, assign, get, put, stamp, clear, scan, copy, older, held, out, branch, repeat, Block, nil, cons, WholeProgram}
 use Rattle.tick_lower.specs.Lowered.{block_code, lowered, lowered_length, lowered_sizes}
 
 abbrev program : ℕ → List ℕ → List ℕ → List ℕ → Block ℕ → WholeProgram ℕ
@@ -22,6 +22,21 @@ its_code = refl
 
 its_sizes : lowered_sizes stamps_and_compares ≡ sizes 2 1 1 0
 its_sizes = refl
+
+-- a ticket that is given up
+abbrev gives_up : WholeProgram ℕ
+gives_up =
+    program 2 (0 ∷ []) (0 ∷ []) []
+    (cons stamp (cons (scan 0) (cons (held 0 0 (number 1)) (cons (out (named 0))
+    (cons clear (cons (scan 0) (cons (held 0 0 me) (cons (out (named 0)) nil))))))))
+
+given_up_code : lowered gives_up
+    ≡ I.LoadWord ∷ I.Next ∷ I.Exchange 0 ∷ I.Scan 0 ∷ I.Push 1 ∷ I.Held 0 0 ∷ I.Load 0 ∷ I.Out
+    ∷ I.Clear ∷ I.Scan 0 ∷ I.Me ∷ I.Held 0 0 ∷ I.Load 0 ∷ I.Out ∷ I.Halt ∷ []
+given_up_code = refl
+
+given_up_verified : IsVerified (lowered_sizes gives_up) (lowered gives_up)
+given_up_verified = refl
 
 -- a loop that counts to two
 abbrev counts_to_two : WholeProgram ℕ

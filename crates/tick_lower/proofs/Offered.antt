@@ -5,7 +5,7 @@ use Rattle.std.specs.Prelude.{slice_get}
 use Rattle.std.proofs.lemmas.List.{length-append, append_assoc}
 use Rattle.code_core.specs.declared.instr.Instr.{Instr}
 use Rattle.code_core.specs.declared.instr.Instr.TheVariants as I
-use Rattle.tick_syntax.specs.Plain.{Expression, number, named, me, count, binary, Statement, assign, get, put, stamp, scan, copy, older, out, branch, repeat, Block, nil, cons, WholeProgram}
+use Rattle.tick_syntax.specs.Plain.{Expression, number, named, me, count, binary, Statement, assign, get, put, stamp, clear, scan, copy, older, held, out, branch, repeat, Block, nil, cons, WholeProgram}
 use Rattle.tick_lower.specs.Lowered.{expression_length, statement_length, block_length, expression_code, statement_code, block_code, lowered, lowered_length}
 
 pub expression_long : (e : Expression ℕ) → length (expression_code e) ≡ expression_length e
@@ -26,9 +26,11 @@ mutual
   statement_long (get x r e) k = then_long e (I.Get r x)
   statement_long (put r e) k = then_long e (I.Put r)
   statement_long stamp k = refl
+  statement_long clear k = refl
   statement_long (scan s) k = refl
   statement_long (copy t s) k = refl
   statement_long (older x s e f) k = omega (arith, length-append (expression_code e) (expression_code f ++ I.Older s x ∷ []), expression_long e, then_long f (I.Older s x))
+  statement_long (held x s e) k = then_long e (I.Held s x)
   statement_long (out e) k = then_long e I.Out
   statement_long (branch e a b) k =
       let first : ℕ = k + expression_length e + 1 in

@@ -1,4 +1,29 @@
 -- The code of a program is fine at each place.
+--
+-- The idea. Whether a code has a fault depends on the height of the stack at each place, and `placed` finds that
+-- by going through the whole code and remembering what each jump leaves. The code of a program is simpler: every
+-- jump leaves the stack empty, and goes to a place where it is empty. So the height of a place follows from the
+-- instruction before it alone (`paired`, `Along`), and only facts of single places are left to show: that operands
+-- are there, that slots exist, that stamps are whole, that jumps go where they may. `Fine.antt` has the record of
+-- these facts, and that a code which is fine at each place has no fault.
+--
+-- First the heights: an expression leaves one value more, a statement and a block leave what there was
+-- (`expression_height`, `statement_height`, `block_height`), by induction on the tree.
+--
+-- Then the facts, by the same induction. `Stands k h is` says that the instructions `is` stand in the code from
+-- place `k` on, with heights from `h` on; `AreFine k h is` says that each of them is fine there. Where a list
+-- stands, its front and its back do (`along_front`, `along_back`); a list is fine where its front is and its back,
+-- at the height that the front leaves (`along_join`).
+--
+-- Jumps are what keeps this from being local. A branch jumps to its second block and past its end, a loop past its
+-- end and back to its own beginning. So a place to which jumps may go is a record of its own (`Starts`): its
+-- height is 0, and it is not the second or third place of a stamp. Where a statement begins there is such a place
+-- (`statement_starts`, `block_starts`); that there is one after it is a premise (`Starts all q`), which is handed
+-- down the tree. And that is why the whole code has to stand before any part is shown fine: a jump speaks of a
+-- place that another part fills.
+--
+-- The whole code stands in itself (`paired_stand`), and after its body comes `Halt`, a place to which jumps may
+-- go. There the induction begins (`body_verified`).
 use Rattle.std.proofs.Common.{◌≡◌, ℕ, append_assoc, ◌+◌, ◌<◌, ◌≤◌, true, false, not, List, [], ◌∷◌, ◌++◌, refl, ap, ◌∙◌, sym, subst, length, arith, Some, None, add-one}
 use Rattle.std.specs.Prelude.{◌==◌, ◌&&◌, ◌||◌, slice_get}
 use Rattle.std.proofs.lemmas.Bool.{lt-ltb, eq-eqb, ne_eqb, and_from, and_right}
@@ -13,7 +38,7 @@ use Rattle.code_core.proofs.Offered.{get_seam}
 use Rattle.tick_kinds.specs.Declarations.{declarations, slot_in}
 use Rattle.tick_kinds.specs.Resolution.{resolved, slot_number}
 use Rattle.tick_kinds.specs.Within.{IsExpressionWithin, IsStatementWithin, IsWithin}
-use Rattle.tick_syntax.specs.Plain.{Name, Expression, number, named, me, count, binary, Statement, assign, get, put, stamp, scan, copy, older, out, branch, repeat, Block, nil, cons, WholeProgram}
+use Rattle.tick_syntax.specs.Plain.{Name, Expression, number, named, me, count, binary, Statement, assign, get, put, stamp, clear, scan, copy, older, held, out, branch, repeat, Block, nil, cons, WholeProgram}
 use Rattle.tick_lower.specs.Lowered.{expression_length, statement_length, block_length, expression_code, statement_code, block_code, lowered, lowered_length, lowered_sizes}
 use Rattle.tick_lower.specs.prover.Paired.{after, paired}
 use Rattle.tick_lower.proofs.Along.{height_after, height_after-append, Along, along_as, along_front, along_back, along_join}
@@ -43,11 +68,13 @@ mutual
   statement_height (get x r e) k = follows e (I.Get r x ∷ [])
   statement_height (put r e) k = follows e (I.Put r ∷ [])
   statement_height stamp k = refl
+  statement_height clear k = refl
   statement_height (scan s) k = refl
   statement_height (copy t s) k = refl
   statement_height (older x s e f) k =
       follows e (expression_code f ++ I.Older s x ∷ [])
       ∙ height_after-append (expression_code f) (I.Older s x ∷ []) 1 ∙ ap (λ g. height_after g (I.Older s x ∷ [])) (expression_height f 1)
+  statement_height (held x s e) k = follows e (I.Held s x ∷ [])
   statement_height (out e) k = follows e (I.Out ∷ [])
   statement_height (branch e a b) k =
       let first : ℕ = k + expression_length e + 1 in
@@ -155,9 +182,11 @@ module _ (z : CodeSizes) (code : List Instr) where
   statement_starts (get x r e) k stands = from_expression e k (I.Get r x ∷ []) stands
   statement_starts (put r e) k stands = from_expression e k (I.Put r ∷ []) stands
   statement_starts stamp k stands = record { instr = I.LoadWord; at = stands.0; apart = refl }
+  statement_starts clear k stands = record { instr = I.Clear; at = stands.0; apart = refl }
   statement_starts (scan s) k stands = record { instr = I.Scan s; at = stands.0; apart = refl }
   statement_starts (copy t s) k stands = record { instr = I.Copy s t; at = stands.0; apart = refl }
   statement_starts (older x s e f) k stands = from_expression e k (expression_code f ++ I.Older s x ∷ []) stands
+  statement_starts (held x s e) k stands = from_expression e k (I.Held s x ∷ []) stands
   statement_starts (out e) k stands = from_expression e k (I.Out ∷ []) stands
   statement_starts (branch e a b) k stands = from_expression e k _ stands
   statement_starts (repeat e a) k stands = from_expression e k _ stands
@@ -179,6 +208,7 @@ module _ (z : CodeSizes) (code : List Instr) where
     statement_fine (put r e) k q ends within stands start =
         then_fine e k (I.Put r ∷ []) within.1 (plain _ 1 (I.Put r) refl refl (lt-ltb r z.rows within.0) (omega arith), tt)
     statement_fine stamp k q ends within stands start = stamp_fine k stands
+    statement_fine clear k q ends within stands start = (plain k 0 I.Clear refl refl refl (omega arith), tt)
     statement_fine (scan s) k q ends within stands start = (plain k 0 (I.Scan s) refl refl (lt-ltb s z.scans within) (omega arith), tt)
     statement_fine (copy t s) k q ends within stands start =
         (plain k 0 (I.Copy s t) refl refl (and_from _ _ (lt-ltb s z.scans within.1) (lt-ltb t z.scans within.0)) (omega arith), tt)
@@ -187,6 +217,9 @@ module _ (z : CodeSizes) (code : List Instr) where
         then_fine e k (expression_code f ++ I.Older s x ∷ []) within.2
         (along_join IsFine second (second + length (expression_code f)) 1 2 (expression_code f) (I.Older s x ∷ []) refl (expression_height f 1) (expression_fine f second 1 within.3)
         (plain _ 2 (I.Older s x) refl refl (and_from _ _ (lt-ltb s z.scans within.1) (lt-ltb x z.variables within.0)) (omega arith), tt))
+    statement_fine (held x s e) k q ends within stands start =
+        then_fine e k (I.Held s x ∷ []) within.2
+        (plain _ 1 (I.Held s x) refl refl (and_from _ _ (lt-ltb s z.scans within.1) (lt-ltb x z.variables within.0)) (omega arith), tt)
     statement_fine (out e) k q ends within stands start = then_fine e k (I.Out ∷ []) within (plain _ 1 I.Out refl refl refl (omega arith), tt)
     statement_fine (branch e a b) k q ends within stands start =
         let first : ℕ = k + expression_length e + 1 in

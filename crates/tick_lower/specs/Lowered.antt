@@ -3,7 +3,7 @@ use Rattle.std.specs.Prelude.{ℕ, ◌+◌, List, [], ◌∷◌, ◌++◌, lengt
 use Rattle.code_core.specs.declared.instr.Instr.{Instr}
 use Rattle.code_core.specs.declared.instr.Instr.TheVariants as I
 use Rattle.code_core.specs.Instructions.{CodeSizes, sizes}
-use Rattle.tick_syntax.specs.Plain.{Expression, number, named, me, count, binary, Statement, assign, get, put, stamp, scan, copy, older, out, branch, repeat, Block, nil, cons, WholeProgram}
+use Rattle.tick_syntax.specs.Plain.{Expression, number, named, me, count, binary, Statement, assign, get, put, stamp, clear, scan, copy, older, held, out, branch, repeat, Block, nil, cons, WholeProgram}
 
 -- How many instructions an expression, a statement or a block becomes.
 abbrev pub expression_length : Expression ℕ → ℕ
@@ -19,9 +19,11 @@ abbrev mutual
   statement_length (get x r e) = expression_length e + 1
   statement_length (put r e) = expression_length e + 1
   statement_length stamp = 3
+  statement_length clear = 1
   statement_length (scan s) = 1
   statement_length (copy t s) = 1
   statement_length (older x s e f) = expression_length e + expression_length f + 1
+  statement_length (held x s e) = expression_length e + 1
   statement_length (out e) = expression_length e + 1
   statement_length (branch e a b) = expression_length e + block_length a + block_length b + 2
   statement_length (repeat e a) = expression_length e + block_length a + 2
@@ -45,9 +47,11 @@ abbrev mutual
   statement_code k (get x r e) = expression_code e ++ I.Get r x ∷ []
   statement_code k (put r e) = expression_code e ++ I.Put r ∷ []
   statement_code k stamp = I.LoadWord ∷ I.Next ∷ I.Exchange k ∷ []
+  statement_code k clear = I.Clear ∷ []
   statement_code k (scan s) = I.Scan s ∷ []
   statement_code k (copy t s) = I.Copy s t ∷ []
   statement_code k (older x s e f) = expression_code e ++ (expression_code f ++ I.Older s x ∷ [])
+  statement_code k (held x s e) = expression_code e ++ I.Held s x ∷ []
   statement_code k (out e) = expression_code e ++ I.Out ∷ []
   statement_code k (branch e a b) =
       let first = k + expression_length e + 1 in

@@ -120,12 +120,17 @@ fn emit_statement(code: &mut Vec<Instr>, statement: &Statement) -> Result<(), Al
             emit(code, Instr::Put(*register))
         }
         Statement::Stamp => emit_stamp(code),
+        Statement::Clear => emit(code, Instr::Clear),
         Statement::Scan(scan) => emit(code, Instr::Scan(*scan)),
         Statement::Copy(target, source) => emit(code, Instr::Copy(*source, *target)),
         Statement::Older(variable, scan, first, second) => {
             emit_expression(code, first)?;
             emit_expression(code, second)?;
             emit(code, Instr::Older(*scan, *variable))
+        }
+        Statement::Held(variable, scan, process) => {
+            emit_expression(code, process)?;
+            emit(code, Instr::Held(*scan, *variable))
         }
         Statement::Out(value) => {
             emit_expression(code, value)?;

@@ -23,10 +23,11 @@ fn statement_length(statement: &Statement) -> u32
 {
     match statement {
         Statement::Stamp => 3,
-        Statement::Scan(_) | Statement::Copy(..) => 1,
+        Statement::Clear | Statement::Scan(_) | Statement::Copy(..) => 1,
         Statement::Assign(_, value)
         | Statement::Get(_, _, value)
         | Statement::Put(_, value)
+        | Statement::Held(_, _, value)
         | Statement::Out(value) => expression_length(value).saturating_add(1),
         Statement::Older(_, _, first, second) => expression_length(first)
             .saturating_add(expression_length(second))

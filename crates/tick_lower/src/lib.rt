@@ -1,7 +1,8 @@
-// The compiler: the step code that an accepted program becomes.
-//
-// Start with `lower`. Contracts see the code as `lowered` of the resolved program, a recursion on its
-// tree; `laws` says that every such code is verified. `commit` tells where a step of the program ends.
+//! The compiler: the step code that an accepted program becomes.
+//!
+//! Start with `lower`. Contracts see the code as `lowered` of the resolved program, a recursion on
+//! its tree; `laws` says that every such code is verified. `commit` tells where a step of the
+//! program ends.
 #![tactic(auto)]
 
 mod emitter;

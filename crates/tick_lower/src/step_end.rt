@@ -23,9 +23,11 @@ pub fn ends_step(instruction: Instr) -> bool
             | Instr::Get(..)
             | Instr::Put(_)
             | Instr::Exchange(_)
+            | Instr::Clear
             | Instr::Scan(_)
             | Instr::Copy(..)
             | Instr::Older(..)
+            | Instr::Held(..)
             | Instr::Out
             | Instr::JumpZero(_)
             | Instr::Halt

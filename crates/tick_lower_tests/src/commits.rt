@@ -9,7 +9,7 @@ fn ends_a_step_where_a_statement_is_done(rt: HostRuntime) -> Result<(), Fail> {
         rt.alloc(),
         "processes 2; var x; scan s, t; reg r; begin \
         x = (me + n); x = get r x; put r 1; stamp; s = scan; t = copy s; x = older t 0 1; \
-        while x { out x; } end",
+        x = held t 0; clear; while x { out x; } end",
     )?;
     let expected = [
         (false, "Me"),
@@ -28,6 +28,9 @@ fn ends_a_step_where_a_statement_is_done(rt: HostRuntime) -> Result<(), Fail> {
         (false, "Push"),
         (false, "Push"),
         (true, "Older"),
+        (false, "Push"),
+        (true, "Held"),
+        (true, "Clear"),
         (false, "Load"),
         (true, "JumpZero"),
         (false, "Load"),

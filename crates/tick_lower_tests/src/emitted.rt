@@ -1,8 +1,8 @@
 use crate::programs::{instructions, lowered};
 use code_core::Instr;
 use code_core::Instr::{
-    Bin, Copy, Count, Exchange, Get, Halt, Jump, JumpZero, Load, LoadWord, Me, Next, Older, Out,
-    Push, Put, Scan, Store,
+    Bin, Clear, Copy, Count, Exchange, Get, Halt, Held, Jump, JumpZero, Load, LoadWord, Me, Next,
+    Older, Out, Push, Put, Scan, Store,
 };
 use machine_core::Op;
 use std::alloc::Global;
@@ -35,6 +35,30 @@ fn stamps_and_compares(rt: HostRuntime) -> Result<(), Fail> {
     is_same(&sizes.scans(), &1)?;
     is_same(&sizes.registers(), &0)?;
     Ok(())
+}
+
+#[test]
+fn gives_a_ticket_up(rt: HostRuntime) -> Result<(), Fail> {
+    let text = "processes 2; var x; scan s; begin stamp; s = scan; x = held s 1; out x; \
+        clear; s = scan; x = held s me; out x; end";
+    let expected = [
+        LoadWord,
+        Next,
+        Exchange(0),
+        Scan(0),
+        Push(1),
+        Held(0, 0),
+        Load(0),
+        Out,
+        Clear,
+        Scan(0),
+        Me,
+        Held(0, 0),
+        Load(0),
+        Out,
+        Halt,
+    ];
+    becomes(rt.alloc(), text, expected.as_slice())
 }
 
 #[test]
@@ -101,7 +125,7 @@ fn branches_to_stamps(rt: HostRuntime) -> Result<(), Fail> {
 #[test]
 fn takes_each_other_statement(rt: HostRuntime) -> Result<(), Fail> {
     let text = "processes 2; var x, y; scan s, t; reg r, q; begin \
-        put q (n - 1); y = get q (1 - me); t = copy s; y = older t me 1; end";
+        put q (n - 1); y = get q (1 - me); t = copy s; y = older t me 1; x = held t 0; end";
     let expected = [
         Count,
         Push(1),
@@ -115,6 +139,8 @@ fn takes_each_other_statement(rt: HostRuntime) -> Result<(), Fail> {
         Me,
         Push(1),
         Older(1, 1),
+        Push(0),
+        Held(1, 0),
         Halt,
     ];
     becomes(rt.alloc(), text, expected.as_slice())

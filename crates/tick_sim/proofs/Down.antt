@@ -6,6 +6,7 @@ use Rattle.std.proofs.Common.{◌≡◌, ℕ, Bool, true, false, if◌then◌els
 use Rattle.std.specs.Prelude.{slice_get}
 use Rattle.machine_core.specs.declared.status.Status.TheVariants.{Running}
 use Rattle.code_core.specs.declared.instr.Instr.{Instr}
+use Rattle.word_core.specs.Stamps.{Labels}
 use Rattle.tick_source.specs.Source as S
 use Rattle.tick_source.specs.Source.{SourceProcess, SourceState}
 use Rattle.step_code.specs.Machine as C
@@ -20,7 +21,7 @@ use Rattle.tick_sim.proofs.States.{MatchStates, seen_same, match_weaker, commit_
 use Rattle.tick_sim.proofs.Start.{start_between}
 
 -- of the labels that a stamp has loaded nothing is known
-abbrev Loaded : List (List ℕ) → Type 0
+abbrev Loaded : Labels → Type 0
 Loaded labels = Unit {0}
 
 module _ (n : ℕ) (code : List Instr) where

@@ -8,7 +8,7 @@ use Rattle.machine_core.specs.declared.event.Act.TheVariants as A
 use Rattle.machine_core.specs.declared.event.Event.{Event}
 use Rattle.machine_core.specs.Observables.{Observables}
 use Rattle.word_core.specs.Packed.{word}
-use Rattle.tick_syntax.specs.Plain.{number, named, me, binary, assign, stamp, scan, older, out, branch, repeat, Block, nil, cons, WholeProgram}
+use Rattle.tick_syntax.specs.Plain.{number, named, me, binary, assign, stamp, clear, scan, older, held, out, branch, repeat, Block, nil, cons, WholeProgram}
 use Rattle.step_code.specs.Machine.{run_of}
 use Rattle.tick_lower.specs.Lowered.{lowered, lowered_sizes}
 use Rattle.tick_sim.specs.Maps.{down, up}
@@ -124,10 +124,10 @@ until_back =
     replicate 7 0 ++ replicate 7 1 ++ replicate 7 2 ++ replicate 3 1 ++ replicate 2 0 ++ replicate 3 2 ++ replicate 3 1 ++ replicate 3 2
     ++ replicate 3 1 ++ replicate 3 2 ++ replicate 3 1
 
-its_word : word (run_of (lowered_sizes stamps_and_scans) (lowered stamps_and_scans) until_back).labels ≡ 395011
+its_word : word (run_of (lowered_sizes stamps_and_scans) (lowered stamps_and_scans) until_back).labels ≡ 1970324837172224
 its_word = refl
 
-next_word : word (run_of (lowered_sizes stamps_and_scans) (lowered stamps_and_scans) (until_back ++ 0 ∷ [])).labels ≡ 395008
+next_word : word (run_of (lowered_sizes stamps_and_scans) (lowered stamps_and_scans) (until_back ++ 0 ∷ [])).labels ≡ 1970324837172230
 next_word = refl
 
 abbrev came_back : Observables
@@ -148,3 +148,48 @@ back_down = refl
 
 back_source : seen stamps_and_scans back_steps ≡ came_back
 back_source = refl
+
+-- a ticket that is given up, and asked for before and after
+abbrev gives_up : WholeProgram ℕ
+gives_up =
+    program 2 (0 ∷ []) (0 ∷ []) []
+    (cons stamp (cons (scan 0) (cons (held 0 0 (number 1)) (cons (out (named 0))
+    (cons clear (cons (scan 0) (cons (held 0 0 me) (cons (out (named 0)) nil))))))))
+
+abbrev given_up : Observables
+given_up = record {
+  events =
+      by 0 A.Stamp ∷ by 0 (ranks 1 0 0) ∷ by 0 (A.Held 1 0) ∷ by 0 (A.Out 0)
+      ∷ by 0 A.Clear ∷ by 0 (ranks 0 0 0) ∷ by 0 (A.Held 0 0) ∷ by 0 (A.Out 0) ∷ by 0 A.End ∷ [];
+  rows = [];
+  statuses = Ended ∷ Running ∷ [];
+}
+
+gives_up_source : seen gives_up (replicate 9 0) ≡ given_up
+gives_up_source = refl
+
+gives_up_up : up (lowered_sizes gives_up) (lowered gives_up) (replicate 9 0) ≡ replicate 15 0
+gives_up_up = refl
+
+gives_up_code : seen_of_code gives_up (replicate 15 0) ≡ given_up
+gives_up_code = refl
+
+-- Process 1 loads the labels; process 0 gives its ticket up and takes one again, which brings the same labels
+-- back; and the exchange of process 1 is won.
+abbrev stamps_and_clears : WholeProgram ℕ
+stamps_and_clears = program 2 [] [] [] (cons (repeat (number 1) (cons stamp (cons clear nil))) nil)
+
+abbrev around : List ℕ
+around = replicate 5 0 ++ replicate 4 1 ++ replicate 7 0 ++ 1 ∷ []
+
+abbrev taken_again : Observables
+taken_again = record { events = by 0 A.Stamp ∷ by 0 A.Clear ∷ by 0 A.Stamp ∷ by 1 A.Stamp ∷ []; rows = []; statuses = Running ∷ Running ∷ [] }
+
+around_code : seen_of_code stamps_and_clears around ≡ taken_again
+around_code = refl
+
+around_down : down (lowered_sizes stamps_and_clears) (lowered stamps_and_clears) around ≡ 0 ∷ 0 ∷ 1 ∷ 0 ∷ 0 ∷ 0 ∷ 1 ∷ []
+around_down = refl
+
+around_source : seen stamps_and_clears (0 ∷ 0 ∷ 1 ∷ 0 ∷ 0 ∷ 0 ∷ 1 ∷ []) ≡ taken_again
+around_source = refl

@@ -18,7 +18,7 @@ use Rattle.machine_core.specs.declared.status.Status.TheVariants.{Running}
 use Rattle.machine_core.specs.declared.status.Trap.{Trap}
 use Rattle.code_core.specs.declared.instr.Instr.{Instr}
 use Rattle.code_core.specs.declared.instr.Instr.TheVariants as I
-use Rattle.word_core.specs.Stamps.{stamped}
+use Rattle.word_core.specs.Stamps.{Labels, stamped}
 use Rattle.word_core.specs.Agreement.{Agrees}
 use Rattle.tick_syntax.specs.Plain.{stamp, Block, cons}
 use Rattle.tick_source.specs.Source as S
@@ -59,9 +59,9 @@ pub record StampBegins (code : List Instr) (rest : Block ℕ) (k : ℕ) (stack :
 
 module _ (n : ℕ) (code : List Instr) (p : ℕ) where
   -- Instruction `o` ended a step of the program, and what it did, `e`, is what that step did, `d`.
-  pub record SameStep (labels rows : List (List ℕ)) (d : S.SourceStep) (e : CodeStep) (o : Option Instr) : Type 0 where
+  pub record SameStep (labels : Labels) (rows : List (List ℕ)) (d : S.SourceStep) (e : CodeStep) (o : Option Instr) : Type 0 where
     pub ends : ended_at o (made labels rows e).act ≡ true
-    pub agrees : Agrees n d.tickets (labels_left e labels)
+    pub agrees : Agrees n d.tickets (labels_left p e labels)
     pub same_rows : d.rows ≡ rows_left p e rows
     pub same_act : d.act ≡ (made labels rows e).act
     pub between : Between n code d.process (made labels rows e).process
@@ -73,7 +73,7 @@ module _ (n : ℕ) (code : List Instr) (p : ℕ) where
     -- shared, and then the instruction that ends it, whatever is shared, or a stamp.
     pub data Leads : ℕ → ℕ → List ℕ → Type 0 where
       ends_here : {m k : ℕ} {stack : List ℕ} → 1 ≤ m → (i : Instr) → slice_get code k ≡ Some i
-          → ((tickets : List ℕ) (labels rows : List (List ℕ)) → Agrees n tickets labels
+          → ((tickets : List ℕ) (labels : Labels) (rows : List (List ℕ)) → Agrees n tickets labels
           → SameStep labels rows (S.did n p tickets rows q.variables scans rest) (C.does (at q k stack) n p i) (Some i))
           → Leads m k stack
       stamps : {m k : ℕ} {stack : List ℕ} → 3 ≤ m → StampBegins code rest k stack → Leads m k stack
@@ -89,7 +89,7 @@ module _ (n : ℕ) (code : List Instr) (p : ℕ) where
         → S.did n p tickets rows q.variables scans rest ≡ S.traps n p tickets rows q.variables scans after t)
 
   -- `Loaded` is what is known of the labels that a stamp has loaded: it may be nothing.
-  module _ (Loaded : List (List ℕ) → Type 0) where
+  module _ (Loaded : Labels → Type 0) where
     -- At most so many steps of process `p` end the next step of the program, unless an exchange is lost.
     pub data Matches (m : ℕ) (x : SourceProcess) (y : CodeProcess) : Type 0 where
       stopped : x.status ≡ y.status → HasStopped x.status → Matches m x y
@@ -102,12 +102,12 @@ module _ (n : ℕ) (code : List Instr) (p : ℕ) where
 
     -- What step `d` of the program is to what `e` of the code did, by instruction `o`: the same step, or
     -- nobody sees it, and there is less to do or an exchange was lost.
-    pub data ProcessStep (m : ℕ) (x : SourceProcess) (labels rows : List (List ℕ)) (d : S.SourceStep) (e : CodeStep)
+    pub data ProcessStep (m : ℕ) (x : SourceProcess) (labels : Labels) (rows : List (List ℕ)) (d : S.SourceStep) (e : CodeStep)
         (o : Option Instr) : Type 0 where
       together : 1 ≤ m → SameStep labels rows d e o → ProcessStep m x labels rows d e o
-      apart : ended_at o (made labels rows e).act ≡ false → labels_left e labels ≡ labels → rows_left p e rows ≡ rows
+      apart : ended_at o (made labels rows e).act ≡ false → labels_left p e labels ≡ labels → rows_left p e rows ≡ rows
           → (made labels rows e).act ≡ None → (m' : ℕ)
-          → (suc m' ≤ m) ⊎ ((scratch : List (List ℕ)) × Loaded scratch × (C.same_labels labels scratch ≡ false))
+          → (suc m' ≤ m) ⊎ ((scratch : Labels) × Loaded scratch × (C.same_labels labels scratch ≡ false))
           → Matches m' x (made labels rows e).process → ProcessStep m x labels rows d e o
 
     -- the next step of the process in these two states

@@ -9,6 +9,7 @@ use Rattle.machine_core.specs.declared.status.Trap.{Trap}
 use Rattle.machine_core.specs.Operators.{operation}
 use Rattle.code_core.specs.declared.instr.Instr.{Instr}
 use Rattle.code_core.specs.declared.instr.Instr.TheVariants as I
+use Rattle.word_core.specs.Stamps.{Labels}
 use Rattle.word_core.specs.Agreement.{Agrees}
 use Rattle.tick_syntax.specs.Plain.{Expression, number, named, me, count, binary, Block}
 use Rattle.tick_source.specs.Values.{operated, value}
@@ -104,7 +105,7 @@ module _ (n : ℕ) (code : List Instr) (p : ℕ) (q : CodeProcess) (scans : List
       (then_this : List ℕ → List (List ℕ) → ℕ → S.SourceStep) → HasAt code k (expression_code e ++ i ∷ is)
       → ((tickets : List ℕ) (rows : List (List ℕ)) → S.did n p tickets rows q.variables scans rest
       ≡ S.with_value n p tickets rows q.variables scans after (value n p q.variables e) (then_this tickets rows))
-      → ((v : ℕ) (tickets : List ℕ) (labels rows : List (List ℕ)) → Agrees n tickets labels
+      → ((v : ℕ) (tickets : List ℕ) (labels : Labels) (rows : List (List ℕ)) → Agrees n tickets labels
       → M.SameStep n code p labels rows (then_this tickets rows v)
       (C.does (at q (k + expression_length e) (v ∷ stack)) n p i) (Some i))
       → Leads (expression_length e + 1) k stack
@@ -137,7 +138,7 @@ module _ (n : ℕ) (code : List Instr) (p : ℕ) (q : CodeProcess) (scans : List
       → ((tickets : List ℕ) (rows : List (List ℕ)) → S.did n p tickets rows q.variables scans rest
       ≡ S.with_value n p tickets rows q.variables scans after (value n p q.variables e)
       (λ a. S.with_value n p tickets rows q.variables scans after (value n p q.variables f) (then_this tickets rows a)))
-      → ((a b : ℕ) (tickets : List ℕ) (labels rows : List (List ℕ)) → Agrees n tickets labels
+      → ((a b : ℕ) (tickets : List ℕ) (labels : Labels) (rows : List (List ℕ)) → Agrees n tickets labels
       → M.SameStep n code p labels rows (then_this tickets rows a b)
       (C.does (at q (k + expression_length e + expression_length f) (b ∷ a ∷ [])) n p i) (Some i))
       → Leads (expression_length e + (expression_length f + 1)) k []

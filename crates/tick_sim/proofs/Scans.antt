@@ -2,12 +2,12 @@
 use Rattle.std.proofs.Common.{◌≡◌, ℕ, zero, suc, List, [], ◌∷◌, ◌∙◌, sym, length, set, get_or, replicate, arith}
 use Rattle.std.proofs.lemmas.List.{length-set, length-replicate}
 use Rattle.ticket_core.specs.Tickets.{start_tickets}
-use Rattle.word_core.specs.Stamps.{start_labels}
+use Rattle.word_core.specs.Stamps.{Labels, start_labels}
 use Rattle.word_core.specs.Agreement.{Agrees}
 use Rattle.word_core.proofs.Offered.{agreement_law}
 
 -- each scan of labels agrees with the scan of tickets in the same slot
-pub record ScansAgree (n : ℕ) (scans : List (List ℕ)) (held : List (List (List ℕ))) : Type 0 where
+pub record ScansAgree (n : ℕ) (scans : List (List ℕ)) (held : List Labels) : Type 0 where
   pub many : length held ≡ length scans
   pub each : (s : ℕ) → Agrees n (get_or scans s (start_tickets n)) (get_or held s (start_labels n))
 
@@ -24,8 +24,8 @@ written R (x' ∷ xs) (y' ∷ ys) (suc s) x c y d same h all zero = all 0
 written R (x' ∷ xs) (y' ∷ ys) (suc s) x c y d same h all (suc k) =
     written R xs ys s x c y d (omega arith) h (λ j. all (suc j)) k
 
-pub scan_taken : (n s : ℕ) (tickets : List ℕ) (labels : List (List ℕ)) (scans : List (List ℕ))
-    (held : List (List (List ℕ)))
+pub scan_taken : (n s : ℕ) (tickets : List ℕ) (labels : Labels) (scans : List (List ℕ))
+    (held : List Labels)
     → Agrees n tickets labels → ScansAgree n scans held → ScansAgree n (set scans s tickets) (set held s labels)
 scan_taken n s tickets labels scans held agrees are = record {
   many = length-set held s labels ∙ are.many ∙ sym (length-set scans s tickets);

@@ -16,12 +16,12 @@ use Rattle.machine_core.specs.Observables.{told_ranks}
 use Rattle.machine_core.specs.Rows.{register_at, register_set}
 use Rattle.code_core.specs.declared.instr.Instr.{Instr}
 use Rattle.code_core.specs.declared.instr.Instr.TheVariants as I
-use Rattle.ticket_core.specs.Tickets.{ticket_ranks, older_ticket}
-use Rattle.label_core.specs.Labels.{label_ranks}
-use Rattle.word_core.specs.Order.{older_label}
+use Rattle.ticket_core.specs.Tickets.{ticket_ranks, older_ticket, holds_ticket}
+use Rattle.word_core.specs.Stamps.{Labels, label_at, is_present}
+use Rattle.word_core.specs.Order.{older_label, label_ranks}
 use Rattle.word_core.specs.Agreement.{Agrees}
 use Rattle.word_core.proofs.Offered.{agreement_law}
-use Rattle.tick_syntax.specs.Plain.{Expression, Statement, assign, get, put, stamp, scan, copy, older, out, branch, repeat, Block, nil, cons, onto}
+use Rattle.tick_syntax.specs.Plain.{Expression, Statement, assign, get, put, stamp, clear, scan, copy, older, held, out, branch, repeat, Block, nil, cons, onto}
 use Rattle.tick_source.specs.Source as S
 use Rattle.step_code.specs.Machine as C
 use Rattle.step_code.specs.Machine.{CodeProcess, CodeStep, alone, asks}
@@ -36,11 +36,11 @@ use Rattle.tick_sim.proofs.Quiet.{last_value, two_values}
 
 -- Process `q` runs, and its scans agree with those of the program.
 module _ (n : ℕ) (code : List Instr) (p : ℕ) (q : CodeProcess) (scans : List (List ℕ)) (runs : q.status ≡ Running)
-    (held : ScansAgree n scans q.scans) where
+    (agreed : ScansAgree n scans q.scans) where
   abbrev Leads : Block ℕ → ℕ → ℕ → List ℕ → Type 0
   Leads = M.Leads n code p q scans
 
-  abbrev SameStep : List (List ℕ) → List (List ℕ) → S.SourceStep → CodeStep → Option Instr → Type 0
+  abbrev SameStep : Labels → List (List ℕ) → S.SourceStep → CodeStep → Option Instr → Type 0
   SameStep = M.SameStep n code p
 
   -- what a step of the program does that goes on, or traps
@@ -60,10 +60,10 @@ module _ (n : ℕ) (code : List Instr) (p : ℕ) (q : CodeProcess) (scans : List
   stands_from k k' m rest same stands = (m, subst (λ k. Stands code m k rest) same stands)
 
   -- between two steps again: the code at this place does what remains
-  goes_on : {variables : List ℕ} {scans' : List (List ℕ)} {held' : List (List (List ℕ))} {k : ℕ} {rest : Block ℕ}
-      → ScansAgree n scans' held' → StandsAt code k rest
+  goes_on : {variables : List ℕ} {scans' : List (List ℕ)} {scans'' : List Labels} {k : ℕ} {rest : Block ℕ}
+      → ScansAgree n scans' scans'' → StandsAt code k rest
       → Between n code (record { variables = variables; scans = scans'; rest = rest; status = Running })
-      (record q { place = k; stack = []; variables = variables; scans = held' })
+      (record q { place = k; stack = []; variables = variables; scans = scans'' })
   goes_on agree stands = rests (refl, runs, refl, agree) refl stands
 
   assign_leads : (x : ℕ) (e : Expression ℕ) → StatementLeads (assign x e)
@@ -73,7 +73,7 @@ module _ (n : ℕ) (code : List Instr) (p : ℕ) (q : CodeProcess) (scans : List
       last_value n code p q scans (cons (assign x e) rest) rest e (I.Store x) [] k []
       (λ tickets rows v. goes tickets rows (slice_set q.variables x v) scans rest None) has (λ tickets rows. refl)
       (λ v tickets labels rows agrees.
-      record { ends = refl; agrees = agrees; same_rows = refl; same_act = refl; between = goes_on held after })
+      record { ends = refl; agrees = agrees; same_rows = refl; same_act = refl; between = goes_on agreed after })
 
   abbrev source_gets : ℕ → ℕ → ℕ → Block ℕ → List ℕ → List (List ℕ) → S.SourceStep
   source_gets x r i rest tickets rows =
@@ -81,14 +81,14 @@ module _ (n : ℕ) (code : List Instr) (p : ℕ) (q : CodeProcess) (scans : List
       goes tickets rows (slice_set q.variables x v) scans rest (Some (A.Get r i v))
 
   -- a process that there is, or a trap
-  get_same : (x r i k : ℕ) (rest : Block ℕ) (tickets : List ℕ) (labels rows : List (List ℕ)) → Agrees n tickets labels
+  get_same : (x r i k : ℕ) (rest : Block ℕ) (tickets : List ℕ) (labels : Labels) (rows : List (List ℕ)) → Agrees n tickets labels
       → StandsAt code (k + 1) rest → (inside : Bool)
       → SameStep labels rows
       (if inside then source_gets x r i rest tickets rows else traps tickets rows rest T.Index)
       (if inside then asks (Q.Get r i) (C.receives (at q k (i ∷ [])) r i x)
       else alone (C.traps (at q k (i ∷ [])) T.Index)) (Some (I.Get r x))
   get_same x r i k rest tickets labels rows agrees after true =
-      record { ends = refl; agrees = agrees; same_rows = refl; same_act = refl; between = goes_on held after }
+      record { ends = refl; agrees = agrees; same_rows = refl; same_act = refl; between = goes_on agreed after }
   get_same x r i k rest tickets labels rows agrees after false =
       record { ends = refl; agrees = agrees; same_rows = refl; same_act = refl; between = over refl tt }
 
@@ -111,7 +111,7 @@ module _ (n : ℕ) (code : List Instr) (p : ℕ) (q : CodeProcess) (scans : List
       { rows = register_set rows r p v })
       has (λ tickets rows. refl)
       (λ v tickets labels rows agrees.
-      record { ends = refl; agrees = agrees; same_rows = refl; same_act = refl; between = goes_on held after })
+      record { ends = refl; agrees = agrees; same_rows = refl; same_act = refl; between = goes_on agreed after })
 
   out_leads : (e : Expression ℕ) → StatementLeads (out e)
   out_leads e k rest m has few stands =
@@ -120,18 +120,28 @@ module _ (n : ℕ) (code : List Instr) (p : ℕ) (q : CodeProcess) (scans : List
       last_value n code p q scans (cons (out e) rest) rest e I.Out [] k []
       (λ tickets rows v. goes tickets rows q.variables scans rest (Some (A.Out v))) has (λ tickets rows. refl)
       (λ v tickets labels rows agrees.
-      record { ends = refl; agrees = agrees; same_rows = refl; same_act = refl; between = goes_on held after })
+      record { ends = refl; agrees = agrees; same_rows = refl; same_act = refl; between = goes_on agreed after })
 
   stamp_leads : StatementLeads stamp
   stamp_leads k rest m has few stands =
       stamps (omega arith) (record { after = rest; is = refl; empty = refl; has = has; stands = (m, stands) })
 
+  clear_leads : StatementLeads clear
+  clear_leads k rest m has few stands =
+      ends_here (omega arith) I.Clear has.0 (λ tickets labels rows agrees. record {
+        ends = refl;
+        agrees = agreement_law.cleared n p tickets labels agrees;
+        same_rows = refl;
+        same_act = refl;
+        between = goes_on agreed (m, stands);
+      })
+
   -- what a scan tells is the same of tickets and of labels
-  told_same : (tickets : List ℕ) (labels : List (List ℕ)) → Agrees n tickets labels
+  told_same : (tickets : List ℕ) (labels : Labels) → Agrees n tickets labels
       → Some (A.Scan (told_ranks (length tickets) (ticket_ranks tickets)))
       ≡ Some (A.Scan (told_ranks n (label_ranks labels)))
   told_same tickets labels agrees =
-      ap (λ many. Some (A.Scan (told_ranks many (ticket_ranks tickets)))) agrees.whole
+      ap (λ many. Some (A.Scan (told_ranks many (ticket_ranks tickets)))) (agrees.by.count ∙ agrees.are.count)
       ∙ ap (λ ranks. Some (A.Scan (told_ranks n ranks))) (sym (agreement_law.stands n tickets labels agrees).ranks)
 
   scan_leads : (s : ℕ) → StatementLeads (scan s)
@@ -141,12 +151,12 @@ module _ (n : ℕ) (code : List Instr) (p : ℕ) (q : CodeProcess) (scans : List
         agrees = agrees;
         same_rows = refl;
         same_act = told_same tickets labels agrees;
-        between = goes_on (scan_taken n s tickets labels scans q.scans agrees held) (m, stands);
+        between = goes_on (scan_taken n s tickets labels scans q.scans agrees agreed) (m, stands);
       })
 
   copy_leads : (t s : ℕ) → StatementLeads (copy t s)
   copy_leads t s k rest m has few stands =
-      let taken = scan_taken n t (S.scan_at n scans s) (C.scan_at q n s) scans q.scans (held.each s) held in
+      let taken = scan_taken n t (S.scan_at n scans s) (C.scan_at q n s) scans q.scans (agreed.each s) agreed in
       ends_here (omega arith) (I.Copy s t) has.0
       (λ tickets labels rows agrees.
       record { ends = refl; agrees = agrees; same_rows = refl; same_act = refl; between = goes_on taken (m, stands) })
@@ -162,7 +172,7 @@ module _ (n : ℕ) (code : List Instr) (p : ℕ) (q : CodeProcess) (scans : List
       C.sets (at q k (j ∷ i ∷ [])) x (truth_value answer) [] (Some (A.Older i j (truth_value answer)))
 
   -- both processes, or a trap
-  older_same : (x s i j k : ℕ) (rest : Block ℕ) (tickets : List ℕ) (labels rows : List (List ℕ))
+  older_same : (x s i j k : ℕ) (rest : Block ℕ) (tickets : List ℕ) (labels : Labels) (rows : List (List ℕ))
       → Agrees n tickets labels → StandsAt code (k + 1) rest → (inside inside' : Bool)
       → nat_lt i n ≡ inside → nat_lt j n ≡ inside'
       → SameStep labels rows
@@ -172,12 +182,12 @@ module _ (n : ℕ) (code : List Instr) (p : ℕ) (q : CodeProcess) (scans : List
       else C.traps (at q k (j ∷ i ∷ [])) T.Index)) (Some (I.Older s x))
   older_same x s i j k rest tickets labels rows agrees after true true i_in j_in =
       let same : older_label (C.scan_at q n s) i j ≡ older_ticket (S.scan_at n scans s) i j =
-      (agreement_law.stands n (S.scan_at n scans s) (C.scan_at q n s) (held.each s)).older i j (ltb-true i n i_in)
+      (agreement_law.stands n (S.scan_at n scans s) (C.scan_at q n s) (agreed.each s)).older i j (ltb-true i n i_in)
       (ltb-true j n j_in) in
       subst (λ b. SameStep labels rows (source_compares x s i j rest tickets rows) (alone (code_compares x i j k b))
       (Some (I.Older s x)))
       (sym same)
-      (record { ends = refl; agrees = agrees; same_rows = refl; same_act = refl; between = goes_on held after })
+      (record { ends = refl; agrees = agrees; same_rows = refl; same_act = refl; between = goes_on agreed after })
   older_same x s i j k rest tickets labels rows agrees after true false i_in j_in =
       record { ends = refl; agrees = agrees; same_rows = refl; same_act = refl; between = over refl tt }
   older_same x s i j k rest tickets labels rows agrees after false inside' i_in j_in =
@@ -198,15 +208,50 @@ module _ (n : ℕ) (code : List Instr) (p : ℕ) (q : CodeProcess) (scans : List
       omega arith in
       subst (λ m. Leads (cons (older x s e f) rest) m k []) same whole
 
+  abbrev source_holds : ℕ → ℕ → ℕ → Block ℕ → List ℕ → List (List ℕ) → S.SourceStep
+  source_holds x s i rest tickets rows =
+      let answer = truth_value (holds_ticket (S.scan_at n scans s) i) in
+      goes tickets rows (slice_set q.variables x answer) scans rest (Some (A.Held i answer))
+
+  -- the instruction, where this is its answer
+  abbrev code_holds : ℕ → ℕ → ℕ → Bool → C.Moved
+  code_holds x i k answer = C.sets (at q k (i ∷ [])) x (truth_value answer) [] (Some (A.Held i (truth_value answer)))
+
+  -- a process that there is, or a trap
+  held_same : (x s i k : ℕ) (rest : Block ℕ) (tickets : List ℕ) (labels : Labels) (rows : List (List ℕ))
+      → Agrees n tickets labels → StandsAt code (k + 1) rest → (inside : Bool) → nat_lt i n ≡ inside
+      → SameStep labels rows
+      (if inside then source_holds x s i rest tickets rows else traps tickets rows rest T.Index)
+      (alone (if inside then code_holds x i k (is_present (label_at (C.scan_at q n s) i))
+      else C.traps (at q k (i ∷ [])) T.Index)) (Some (I.Held s x))
+  held_same x s i k rest tickets labels rows agrees after true i_in =
+      let same : is_present (label_at (C.scan_at q n s) i) ≡ holds_ticket (S.scan_at n scans s) i =
+      (agreement_law.stands n (S.scan_at n scans s) (C.scan_at q n s) (agreed.each s)).held i (ltb-true i n i_in) in
+      subst (λ b. SameStep labels rows (source_holds x s i rest tickets rows) (alone (code_holds x i k b)) (Some (I.Held s x)))
+      (sym same)
+      (record { ends = refl; agrees = agrees; same_rows = refl; same_act = refl; between = goes_on agreed after })
+  held_same x s i k rest tickets labels rows agrees after false i_in =
+      record { ends = refl; agrees = agrees; same_rows = refl; same_act = refl; between = over refl tt }
+
+  held_leads : (x s : ℕ) (e : Expression ℕ) → StatementLeads (held x s e)
+  held_leads x s e k rest m has few stands =
+      let last : ℕ = k + expression_length e in
+      last_value n code p q scans (cons (held x s e) rest) rest e (I.Held s x) [] k []
+      (λ tickets rows i. S.with_index n p tickets rows q.variables scans rest i (source_holds x s i rest tickets rows))
+      has (λ tickets rows. refl)
+      (λ i tickets labels rows agrees.
+      held_same x s i last rest tickets labels rows agrees (stands_from _ (last + 1) m rest (omega arith) stands)
+      (nat_lt i n) refl)
+
   -- one of two blocks
-  test_same : (v k l : ℕ) (a b : Block ℕ) (tickets : List ℕ) (labels rows : List (List ℕ)) → Agrees n tickets labels
+  test_same : (v k l : ℕ) (a b : Block ℕ) (tickets : List ℕ) (labels : Labels) (rows : List (List ℕ)) → Agrees n tickets labels
       → StandsAt code l b → StandsAt code (k + 1) a → (zero : Bool)
       → SameStep labels rows (goes tickets rows q.variables scans (if zero then b else a) None)
       (alone (C.goes (at q k (v ∷ [])) (if zero then l else k + 1) [] None)) (Some (I.JumpZero l))
   test_same v k l a b tickets labels rows agrees at_b at_a true =
-      record { ends = refl; agrees = agrees; same_rows = refl; same_act = refl; between = goes_on held at_b }
+      record { ends = refl; agrees = agrees; same_rows = refl; same_act = refl; between = goes_on agreed at_b }
   test_same v k l a b tickets labels rows agrees at_b at_a false =
-      record { ends = refl; agrees = agrees; same_rows = refl; same_act = refl; between = goes_on held at_a }
+      record { ends = refl; agrees = agrees; same_rows = refl; same_act = refl; between = goes_on agreed at_a }
 
   branch_leads : (e : Expression ℕ) (a b : Block ℕ) → StatementLeads (branch e a b)
   branch_leads e a b k rest m has few stands =
@@ -265,9 +310,11 @@ module _ (n : ℕ) (code : List Instr) (p : ℕ) (q : CodeProcess) (scans : List
   statement_leads (get x r e) = get_leads x r e
   statement_leads (put r e) = put_leads r e
   statement_leads stamp = stamp_leads
+  statement_leads clear = clear_leads
   statement_leads (scan s) = scan_leads s
   statement_leads (copy t s) = copy_leads t s
   statement_leads (older x s e f) = older_leads x s e f
+  statement_leads (held x s e) = held_leads x s e
   statement_leads (out e) = out_leads e
   statement_leads (branch e a b) = branch_leads e a b
   statement_leads (repeat e a) = repeat_leads e a

@@ -96,7 +96,7 @@ module _ (n : ℕ) (code : List Instr) (p : ℕ) (s : SourceState) (d : CodeStat
         (subst (MatchStates n R' (S.state_after p s source_did)) (sym (code_runs n code p d y at_y runs)) after)
 
     -- the code makes a step that nobody sees
-    pub code_after : labels_left code_did d.labels ≡ d.labels → rows_left p code_did d.rows ≡ d.rows
+    pub code_after : labels_left p code_did d.labels ≡ d.labels → rows_left p code_did d.rows ≡ d.rows
         → (made d.labels d.rows code_did).act ≡ None → R' p x (made d.labels d.rows code_did).process
         → MatchStates n R' s (C.code_step n code p d)
     code_after labels rows act related =

@@ -9,7 +9,7 @@ use Rattle.machine_core.specs.declared.event.Act.TheVariants as A
 use Rattle.code_core.specs.declared.instr.Instr.{Instr}
 use Rattle.code_core.specs.declared.instr.Instr.TheVariants as I
 use Rattle.ticket_core.specs.Tickets.{stamp_ticket}
-use Rattle.word_core.specs.Stamps.{stamped}
+use Rattle.word_core.specs.Stamps.{Labels, stamped}
 use Rattle.word_core.specs.Agreement.{Agrees}
 use Rattle.word_core.proofs.Offered.{agreement_law}
 use Rattle.tick_syntax.specs.Plain.{stamp, cons}
@@ -26,11 +26,11 @@ use Rattle.tick_sim.proofs.Match as M
 use Rattle.tick_sim.proofs.Match.{HasStopped, at, RunAlike, Between, over, rests, StampBegins, Leads, ends_here, stamps, quietly, stopped, inside, has_loaded, has_labelled, together, apart}
 use Rattle.tick_sim.proofs.Statements.{stands_lead}
 
-module _ (n : ℕ) (code : List Instr) (p : ℕ) (Loaded : List (List ℕ) → Type 0) where
+module _ (n : ℕ) (code : List Instr) (p : ℕ) (Loaded : Labels → Type 0) where
   abbrev Matches : ℕ → SourceProcess → CodeProcess → Type 0
   Matches = M.Matches n code p Loaded
 
-  abbrev ProcessStep : ℕ → SourceProcess → List (List ℕ) → List (List ℕ) → S.SourceStep → CodeStep → Option Instr → Type 0
+  abbrev ProcessStep : ℕ → SourceProcess → Labels → List (List ℕ) → S.SourceStep → CodeStep → Option Instr → Type 0
   ProcessStep = M.ProcessStep n code p Loaded
 
   pub between_matches : (x : SourceProcess) (y : CodeProcess) → Between n code x y
@@ -49,7 +49,7 @@ module _ (n : ℕ) (code : List Instr) (p : ℕ) (Loaded : List (List ℕ) → T
   match_status m x y (has_loaded k few place loaded alike begun) = alike.0 ∙ sym alike.1
   match_status m x y (has_labelled k few place loaded beside alike begun) = alike.0 ∙ sym alike.1
 
-  module _ (labels rows : List (List ℕ)) (loaded : Loaded labels) where
+  module _ (labels : Labels) (rows : List (List ℕ)) (loaded : Loaded labels) where
     -- an instruction at the place of the process
     step_at : (m : ℕ) (x : SourceProcess) (y : CodeProcess) (d : S.SourceStep) (i : Instr) → slice_get code y.place ≡ Some i
         → ProcessStep m x labels rows d (C.does y n p i) (Some i)
@@ -82,7 +82,7 @@ module _ (n : ℕ) (code : List Instr) (p : ℕ) (Loaded : List (List ℕ) → T
     exchange_step m x y k few place has beside alike begun tickets agrees true won =
         let same : labels ≡ y.scratch = equal_from_same labels y.scratch won in
         let exchange : CodeStep = asks (Q.Exchange y.scratch y.beside) (C.exchanges y k) in
-        let left : labels_left exchange labels ≡ y.beside = ap (λ b. if b then y.beside else labels) won in
+        let left : labels_left p exchange labels ≡ y.beside = ap (λ b. if b then y.beside else labels) won in
         let moved : made labels rows exchange ≡ C.goes_on y y.stack (Some A.Stamp) =
         ap (λ b. C.exchanges y k (if b then R.Won else R.Lost labels)) won in
         let d : S.SourceStep = S.did n p tickets rows x.variables x.scans (cons stamp begun.after) in

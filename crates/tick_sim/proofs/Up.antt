@@ -1,12 +1,32 @@
--- A process that steps alone from between two steps ends its next step within the length of the code, since
--- nobody writes the labels that its stamp has loaded, so no exchange is lost; all stand between two steps
--- again. By induction on the number of steps that are left, and then along the schedule of the program.
+-- A process that steps alone from between two steps ends its next step within the length of the code, since nobody
+-- writes the labels that its stamp has loaded, so no exchange is lost; all stand between two steps again. So a
+-- schedule of the program leads through its code, and both show the same.
+--
+-- Three layers, from one process to a whole schedule:
+--
+--   - `solo`, by induction on the steps that are left (`fuel`). Process `p` of the code matches that of the
+--     program, and at most `m` of its steps end the next step of the program (`Matches`, with `m` at most the
+--     fuel). Its next step is either made together with the program, and that is the end, or apart from it: then
+--     fewer steps are left, or an exchange was lost. The last can't be (`not_lost`): what the stamp has loaded are
+--     the labels that are there, which is what `Loaded` says here, and nobody but `p` steps. Between two steps `m`
+--     is at most the length of the code (`between_matches`), so that much fuel is enough.
+--   - `turn`, for one item of the schedule. A process that runs moves in this way. One that has stopped, or that
+--     there is not, takes no step, and nothing changes, in the program as in the code. The map `up` is defined by
+--     a search for the first step that ends one (`steps_to_commit`); `commits_now` and `commits_later` unroll that
+--     search along `solo`.
+--   - `up_runs`, by induction on the schedule. After each item all processes stand between two steps again
+--     (`AllBetween`), so the next item can begin; and states that match show the same (`seen_same`).
+--
+-- While `p` is on its way the others are only known to stand between two steps (`OtherBetween`). They make no
+-- step, and what `p` does alone changes nothing of theirs; what it writes at the end, labels or a register, the
+-- program writes too.
 use Rattle.std.proofs.Common.{◌≡◌, ℕ, zero, suc, ◌≤◌, inl, inr, ⊎_elim, Bool, true, false, List, [], ◌∷◌, ◌++◌, length, replicate, refl, ap, sym, ◌∙◌, subst, arith, Option, Some, None}
 use Rattle.std.specs.Prelude.{◌≢◌, slice_get}
 use Rattle.std.proofs.lemmas.Bool.{both_ways}
 use Rattle.machine_core.specs.declared.status.Status.{Status}
 use Rattle.machine_core.specs.declared.status.Status.TheVariants.{Running, Ended, Trapped}
 use Rattle.code_core.specs.declared.instr.Instr.{Instr}
+use Rattle.word_core.specs.Stamps.{Labels}
 use Rattle.tick_source.specs.Source as S
 use Rattle.tick_source.specs.Source.{SourceProcess, SourceState}
 use Rattle.step_code.specs.Machine as C
@@ -61,7 +81,7 @@ commits_later : (n : ℕ) (code : List Instr) (p most k : ℕ) (d : CodeState) �
 commits_later n code p most k d quiet later = steps_by n code p most d false quiet ∙ ap one_more later
 
 -- the labels that a stamp has loaded are these
-abbrev Loaded : List (List ℕ) → List (List ℕ) → Type 0
+abbrev Loaded : Labels → Labels → Type 0
 Loaded labels loaded = loaded ≡ labels
 
 module _ (n : ℕ) (code : List Instr) where
@@ -76,10 +96,10 @@ module _ (n : ℕ) (code : List Instr) where
       × AllBetween n code (S.source_step n p s) (C.code_run n code (replicate k p) d)
 
   -- Process `p` alone steps, so the labels stay those that its stamp has loaded.
-  module _ (p : ℕ) (labels : List (List ℕ)) (s : SourceState) (x : SourceProcess)
+  module _ (p : ℕ) (labels : Labels) (s : SourceState) (x : SourceProcess)
       (at_x : slice_get s.processes p ≡ Some x)
       (source_runs : x.status ≡ Running) where
-    not_lost : (d : CodeState) (scratch : List (List ℕ)) → d.labels ≡ labels → Loaded labels scratch
+    not_lost : (d : CodeState) (scratch : Labels) → d.labels ≡ labels → Loaded labels scratch
         → C.same_labels d.labels scratch ≡ false → ⊥
     not_lost d scratch same loaded lost =
         both_ways (C.same_labels d.labels scratch) lost

@@ -47,19 +47,21 @@ fn lead_through(
     p: u8,
     steps: &mut Vec<u8>,
 ) -> Result<(), NoMemory>
-    requires reached { IsReached code.now machine.old }
+    requires reached { IsReached machine.old }
+    requires code { machine.old.code ≡ code.now }
     requires process { p < code.now.sizes.processes }
     requires commits { slice_get (statuses_of machine.old.state) p ≡ Some Status.Running → (k : ℕ) × (steps_to_commit code.now.sizes.processes code.now.instructions p (length code.now.instructions) machine.old.state ≡ Some k) }
     ensures steps { OnOk result (steps.new.items ≡ steps.old.items ++ steps_of code.now.sizes.processes code.now.instructions p machine.old.state) }
     ensures state { OnOk result (machine.new.state ≡ code_run code.now.sizes.processes code.now.instructions (steps_of code.now.sizes.processes code.now.instructions p machine.old.state) machine.old.state) }
-    ensures reached { IsReached code.now machine.new }
+    ensures reached { IsReached machine.new }
+    ensures code { machine.new.code ≡ machine.old.code }
 {
     let Status::Running = machine.status(p) else {
         return Ok(());
     };
     for _ in 0..code.len() {
         steps.push(p)?;
-        if step_ends(machine, code, p)? {
+        if step_ends(machine, p)? {
             return Ok(());
         }
     }

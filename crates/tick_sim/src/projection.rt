@@ -32,7 +32,7 @@ pub fn project(
     let mut machine = CodeMachine::new(alloc, code)?;
     let mut steps = Vec::new(alloc);
     for &p in schedule {
-        if step_ends(&mut machine, code, p)? {
+        if step_ends(&mut machine, p)? {
             steps.push(p)?;
         }
     }

@@ -1,5 +1,7 @@
-// Tests of the two maps between schedules, on programs and schedules as they are written. They stand in
-// a crate of their own, since a crate with tests is proved twice.
+//! Tests of the two maps between schedules, on programs and schedules as they are written. They
+//! stand in a crate of their own, since a crate with tests is proved twice.
+//!
+//! Start with `maps`.
 #![tactic(auto)]
 
 #[cfg(test)]

@@ -9,8 +9,8 @@ use tick_sim::expand;
 
 // Each statement, in a loop that ends in no process.
 const GOES_ROUND: &str = "processes 3; var x, y; scan s, t; reg r; begin \
-    while 1 { stamp; s = scan; t = copy s; x = older t me (n - 1); put r (x + me); y = get r x; \
-    if (x == y) { out x; } else { } } end";
+    while 1 { stamp; s = scan; t = copy s; x = older t me (n - 1); y = held t (n - 1); put r (x + (me + y)); \
+    y = get r x; clear; if (x == y) { out x; } else { } } end";
 
 #[test]
 fn comes_back(rt: HostRuntime) -> Result<(), Fail> {

@@ -14,13 +14,14 @@ SlotsFit (I.Exchange l) = l < 65536
 SlotsFit (I.Scan s) = s < 256
 SlotsFit (I.Copy s t) = (s < 256) × (t < 256)
 SlotsFit (I.Older s x) = (s < 256) × (x < 256)
+SlotsFit (I.Held s x) = (s < 256) × (x < 256)
 SlotsFit (I.JumpZero l) = l < 65536
 SlotsFit (I.Jump l) = l < 65536
 SlotsFit _ = Unit {0}
 
 -- there is the kind, the sign of an operator, and the constant, of which there are this many
 pub record IsWord (constants word : ℕ) : Type 0 where
-  pub known : word / 16777216 ≤ 17
+  pub known : word / 16777216 ≤ 19
   pub constant : word / 16777216 ≡ 0 → word % 65536 < constants
   pub sign : word / 16777216 ≡ 4 → word % 256 ≤ 8
 

@@ -1,5 +1,6 @@
 -- The instruction whose line begins a text, if one does; and the sizes.
-use Rattle.std.specs.Prelude.{ℕ, ◌+◌, ◌-◌, ◌*◌, ◌%◌, ◌==◌, ◌||◌, if◌then◌else◌, List, [], ◌∷◌, codes, drop}
+use Rattle.std.specs.Prelude.{◌≡◌, ℕ, ◌+◌, ◌-◌, ◌*◌, ◌%◌, ◌==◌, ◌||◌, if◌then◌else◌, List, [], ◌∷◌, ◌++◌, codes, drop, Option, None, Some}
+use Rattle.std.specs.Borrow.{Bor}
 use Rattle.std.specs.Char.{is_ascii_digit}
 use Rattle.std.specs.Str.{bytes_eq}
 use Rattle.machine_core.specs.declared.operator.Op.{Op}
@@ -7,6 +8,12 @@ use Rattle.machine_core.specs.declared.operator.Op.TheVariants as O
 use Rattle.code_core.specs.declared.instr.Instr.{Instr}
 use Rattle.code_core.specs.declared.instr.Instr.TheVariants as I
 use Rattle.code_core.specs.Instructions.{CodeSizes}
+use Rattle.code_text.specs.CodeText.{instr_line, IsIn}
+
+-- what follows the line of an instruction, where a text begins with it and texts of the version have it
+abbrev pub Follows : ℕ → Instr → List ℕ → Option (Bor (List ℕ)) → Type 0
+Follows version i text None = IsIn version i → (more : List ℕ) → instr_line i ++ more ≡ text → ⊥
+Follows version i text (Some rest) = IsIn version i × (instr_line i ++ rest.now ≡ text)
 
 -- the bytes before the first space or line feed, and the others
 abbrev pub word : List ℕ → List ℕ × List ℕ
@@ -48,6 +55,8 @@ named name a b =
     else if bytes_eq name (codes "Out") then I.Out
     else if bytes_eq name (codes "JumpZero") then I.JumpZero (a % 65536)
     else if bytes_eq name (codes "Jump") then I.Jump (a % 65536)
+    else if bytes_eq name (codes "Clear") then I.Clear
+    else if bytes_eq name (codes "Held") then I.Held (a % 256) (b % 256)
     else I.Halt
 
 abbrev pub second : List ℕ → ℕ × List ℕ
@@ -60,6 +69,14 @@ guessed name text =
 
 abbrev pub guess : List ℕ → Instr
 guess text = guessed (word text).0 (drop 1 (word text).1)
+
+-- the version that a digit tells
+abbrev pub version_at : List ℕ → ℕ
+version_at [] = 2
+version_at (b ∷ bs) = if b == 49 then 1 else 2
+
+abbrev pub guessed_version : List ℕ → ℕ
+guessed_version text = version_at (drop 9 text)
 
 abbrev pub guessed_sizes : List ℕ → CodeSizes
 guessed_sizes text =

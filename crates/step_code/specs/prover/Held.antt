@@ -52,6 +52,7 @@ HasSlots q (I.Get r x) = x < length q.variables
 HasSlots q (I.Scan s) = s < length q.scans
 HasSlots q (I.Copy s t) = (s < length q.scans) × (t < length q.scans)
 HasSlots q (I.Older s x) = (s < length q.scans) × (x < length q.variables)
+HasSlots q (I.Held s x) = (s < length q.scans) × (x < length q.variables)
 HasSlots q _ = Unit {0}
 
 -- The instruction finds its operands, room for what it leaves and, where it goes on, a place to go to.

@@ -5,6 +5,7 @@ use Rattle.machine_core.specs.declared.status.Status.TheVariants.{Running}
 use Rattle.machine_core.specs.declared.event.Event.{Event}
 use Rattle.machine_core.specs.Observables.{told}
 use Rattle.code_core.specs.Verified.{IsVerified}
+use Rattle.word_core.specs.Stamps.{Labels}
 use Rattle.code_core.specs.Instructions.{StepCode}
 use Rattle.step_code.specs.declared.machine.CodeMachine.TheInside.{Inside}
 use Rattle.step_code.specs.declared.memory.CodeMemory.{CodeMemory}
@@ -13,13 +14,13 @@ use Rattle.step_code.specs.Safety.{AreOrdered}
 use Rattle.step_code.specs.Process.{OneProcess, IsOf, next_of}
 
 -- a process that has stopped makes nothing
-abbrev pub moved_as : Status → CodeProcess → List (List ℕ) → List (List ℕ) → CodeStep → Moved
+abbrev pub moved_as : Status → CodeProcess → Labels → List (List ℕ) → CodeStep → Moved
 moved_as Running q labels rows d = made labels rows d
 moved_as _ q labels rows d = stays q
 
-abbrev pub labels_as : Status → CodeStep → List (List ℕ) → List (List ℕ)
-labels_as Running d labels = labels_left d labels
-labels_as _ d labels = labels
+abbrev pub labels_as : Status → ℕ → CodeStep → Labels → Labels
+labels_as Running p d labels = labels_left p d labels
+labels_as _ p d labels = labels
 
 abbrev pub rows_as : Status → ℕ → CodeStep → List (List ℕ) → List (List ℕ)
 rows_as Running p d rows = rows_left p d rows
@@ -28,7 +29,7 @@ rows_as _ p d rows = rows
 -- the process made its step, and with it what it does to what is shared
 pub record Makes (code : StepCode) (p : ℕ) (old new : CodeMemory) (one one' : OneProcess) (events events' : List Event) : Type 0 where
   pub process : one'.process ≡ (moved_as one.process.status one.process old.labels old.registers (next_of code one)).process
-  pub labels : new.labels ≡ labels_as one.process.status (next_of code one) old.labels
+  pub labels : new.labels ≡ labels_as one.process.status p (next_of code one) old.labels
   pub rows : new.registers ≡ rows_as one.process.status p (next_of code one) old.registers
   pub told_events : events' ≡ told p (moved_as one.process.status one.process old.labels old.registers (next_of code one)).act events
 

@@ -8,5 +8,5 @@ loop-place-preserved c =
     let code = c.args.code.now in
     c.in_ok-push_line.ensures
     ∙ ap (λ x. x ++ instr_line c.instr.result) c.loop-place.invariant
-    ∙ append_assoc (header_line code.sizes) (code_lines (take c.loop-place.place code.instructions)) (instr_line c.instr.result)
-    ∙ ap (λ x. header_line code.sizes ++ x) (sym (written_more code.instructions c.loop-place.place c.instr.result c.instr.ensures))
+    ∙ append_assoc (header_line 2 code.sizes) (code_lines (take c.loop-place.place code.instructions)) (instr_line c.instr.result)
+    ∙ ap (λ x. header_line 2 code.sizes ++ x) (sym (written_more code.instructions c.loop-place.place c.instr.result c.instr.ensures))

@@ -4,4 +4,4 @@ use Rattle.code_text.proofs.writing.write_code.Given as goal
 
 -- the lines so far
 abbrev pub invariant-loop-place : goal.invariant-loop-place
-invariant-loop-place l = string_bytes l.text ≡ header_line l.code.sizes ++ code_lines (take l.place l.code.instructions)
+invariant-loop-place l = string_bytes l.text ≡ header_line 2 l.code.sizes ++ code_lines (take l.place l.code.instructions)

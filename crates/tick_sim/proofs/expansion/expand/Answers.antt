@@ -1,10 +1,11 @@
-use Rattle.std.proofs.Common.{ℕ, ◌<◌, ◌++◌, [], ◌∙◌, ap, sym, refl, subst, get_or, All}
+use Rattle.std.proofs.Common.{ℕ, ◌<◌, ◌++◌, ◌∙◌, ap, sym, refl, subst, get_or, All}
 use Rattle.tick_kinds.specs.Resolution.{resolved}
 use Rattle.tick_source.specs.Source.{SourceState, source_start}
 use Rattle.step_code.specs.Machine.{code_start}
 use Rattle.tick_sim.specs.Maps.{up, up_from}
 use Rattle.tick_sim.specs.Laws.{seen_of_code}
 use Rattle.tick_sim.proofs.Maps.{all_done, up_more, up_lawful, running_commits, item_rests}
+use Rattle.tick_sim.proofs.Reached.{reached_start}
 use Rattle.tick_sim.proofs.Start.{start_between}
 use Rattle.tick_sim.proofs.States.{AllBetween}
 use Rattle.tick_sim.proofs.Up.{up_law}
@@ -15,27 +16,25 @@ loop-p-init c =
     let a = resolved c.args.program.now in
     let start =
     subst (λ code. (s : SourceState) × AllBetween code.sizes.processes code.instructions s (code_start code.sizes))
-    (sym c.requires.code) (source_start a, start_between a) in (
-      ap (λ s. s ++ up_from c.args.code.now.sizes.processes c.args.code.now.instructions c.args.schedule.now
+    (sym c.requires.code) (source_start a, start_between a) in
+    record {
+      led = ap (λ s. s ++ up_from c.args.code.now.sizes.processes c.args.code.now.instructions c.args.schedule.now
           c.in_ok-machine.machine.state) c.new-steps.ensures.items
           ∙ ap (up_from c.args.code.now.sizes.processes c.args.code.now.instructions c.args.schedule.now)
-          c.in_ok-machine.ensures.start,
-      record {
-        same = c.in_ok-machine.ensures.code;
-        verified = c.sizes-sizes.ensures.verified;
-        schedule = [];
-        state = c.in_ok-machine.ensures.start;
-      },
-      start.0,
-      subst (AllBetween c.args.code.now.sizes.processes c.args.code.now.instructions start.0)
-          (sym c.in_ok-machine.ensures.start) start.1,
-    )
+          c.in_ok-machine.ensures.start;
+      reached = reached_start c.args.code.now c.in_ok-machine.machine c.in_ok-machine.ensures.code
+          c.sizes-sizes.ensures.verified c.in_ok-machine.ensures.start;
+      same = c.in_ok-machine.ensures.code;
+      beside = start.0;
+      between = subst (AllBetween c.args.code.now.sizes.processes c.args.code.now.instructions start.0)
+          (sym c.in_ok-machine.ensures.start) start.1;
+    }
 
 pub lead_through-requires-clause-commits : goal.lead_through-requires-clause-commits
 lead_through-requires-clause-commits c = λ runs.
     let ends =
     running_commits c.args.code.now.sizes.processes c.args.code.now.instructions
-    (get_or c.args.schedule.now c.loop-p.p-index 0) c.loop-p.invariant.2 c.loop-p.machine.state c.loop-p.invariant.3
+    (get_or c.args.schedule.now c.loop-p.p-index 0) c.loop-p.invariant.beside c.loop-p.machine.state c.loop-p.invariant.between
     runs in
     (ends.0, ends.1)
 
@@ -44,17 +43,19 @@ loop-p-preserved c =
     let code = c.args.code.now in
     let rests =
     item_rests code.sizes.processes code.instructions (get_or c.args.schedule.now c.loop-p.p-index 0)
-    c.loop-p.invariant.2 c.loop-p.machine.state c.lead_through.new.machine.state
-    c.loop-p.invariant.3 c.in_ok-lead_through.ensures.state in (
-      up_more code.sizes.processes code.instructions c.loop-p.p-index c.args.schedule.now c.loop-p.steps.items
+    c.loop-p.invariant.beside c.loop-p.machine.state c.lead_through.new.machine.state
+    c.loop-p.invariant.between c.in_ok-lead_through.ensures.state in
+    record {
+      led = up_more code.sizes.processes code.instructions c.loop-p.p-index c.args.schedule.now c.loop-p.steps.items
           c.lead_through.new.steps.items c.loop-p.machine.state
           c.lead_through.new.machine.state (up code.sizes code.instructions c.args.schedule.now) c.loop-p-test.true
           c.in_ok-lead_through.ensures.state
-          c.in_ok-lead_through.ensures.steps c.loop-p.invariant.0,
-      c.lead_through.ensures.reached,
-      rests.0,
-      rests.1,
-    )
+          c.in_ok-lead_through.ensures.steps c.loop-p.invariant.led;
+      reached = c.lead_through.ensures.reached;
+      same = c.lead_through.ensures.code ∙ c.loop-p.invariant.same;
+      beside = rests.0;
+      between = rests.1;
+    }
 
 pub returns-clause-seen : goal.returns-clause-seen
 returns-clause-seen c =
@@ -63,7 +64,7 @@ returns-clause-seen c =
     let is =
     all_done (λ t. up_from code.sizes.processes code.instructions t c.loop-p.machine.state) refl c.loop-p.p-index
     c.args.schedule.now c.loop-p.steps.items (up code.sizes code.instructions c.args.schedule.now)
-    c.loop-p-test.false c.loop-p.auto.p-index-end c.loop-p.invariant.0 in
+    c.loop-p-test.false c.loop-p.auto.p-index-end c.loop-p.invariant.led in
     ap (seen_of_code a) (is ∙ ap (λ code. up code.sizes code.instructions c.args.schedule.now) c.requires.code)
     ∙ sym (up_law a c.args.schedule.now)
 
@@ -74,7 +75,7 @@ returns-clause-lawful c =
     let is =
     all_done (λ t. up_from code.sizes.processes code.instructions t c.loop-p.machine.state) refl c.loop-p.p-index
     c.args.schedule.now c.loop-p.steps.items (up code.sizes code.instructions c.args.schedule.now)
-    c.loop-p-test.false c.loop-p.auto.p-index-end c.loop-p.invariant.0 in
+    c.loop-p-test.false c.loop-p.auto.p-index-end c.loop-p.invariant.led in
     subst (All lawful) (sym is)
     (up_lawful code.sizes.processes code.instructions lawful c.args.schedule.now (code_start code.sizes)
     c.requires.processes)

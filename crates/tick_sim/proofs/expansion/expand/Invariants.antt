@@ -8,8 +8,11 @@ use Rattle.tick_sim.proofs.States.{AllBetween}
 use Rattle.tick_sim.proofs.expansion.expand.Given as goal
 
 abbrev pub invariant-loop-p : goal.invariant-loop-p
-invariant-loop-p l =
-    (l.steps.items ++ up_from l.code.sizes.processes l.code.instructions (drop l.p-index l.schedule) l.machine.state
-    ≡ up l.code.sizes l.code.instructions l.schedule)
-    × IsReached l.code l.machine
-    × (s : SourceState) × AllBetween l.code.sizes.processes l.code.instructions s l.machine.state
+invariant-loop-p l = record {
+  led : l.steps.items ++ up_from l.code.sizes.processes l.code.instructions (drop l.p-index l.schedule) l.machine.state
+      ≡ up l.code.sizes l.code.instructions l.schedule;
+  reached : IsReached l.machine;
+  same : l.machine.code ≡ l.code;
+  beside : SourceState;
+  between : AllBetween l.code.sizes.processes l.code.instructions beside l.machine.state;
+}

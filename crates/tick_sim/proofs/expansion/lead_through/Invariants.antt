@@ -6,12 +6,15 @@ use Rattle.tick_sim.specs.prover.Stepping.{IsReached}
 use Rattle.tick_sim.proofs.expansion.lead_through.Given as goal
 
 abbrev pub invariant-loop : goal.invariant-loop
-invariant-loop l =
-    IsReached l.code l.machine
-    × (k : ℕ) × (steps_to_commit l.code.sizes.processes l.code.instructions l.p (length l.code.instructions - l.counter)
-    l.machine.state ≡ Some k)
-    × (l.steps.items ++ replicate k l.p
-    ≡ l.initial.steps.items ++ steps_of l.code.sizes.processes l.code.instructions l.p l.initial.machine.state)
-    × (code_run l.code.sizes.processes l.code.instructions (replicate k l.p) l.machine.state
-    ≡ code_run l.code.sizes.processes l.code.instructions
-    (steps_of l.code.sizes.processes l.code.instructions l.p l.initial.machine.state) l.initial.machine.state)
+invariant-loop l = record {
+  reached : IsReached l.machine;
+  same : l.machine.code ≡ l.code;
+  left : ℕ;
+  commits : steps_to_commit l.code.sizes.processes l.code.instructions l.p (length l.code.instructions - l.counter) l.machine.state
+      ≡ Some left;
+  steps : l.steps.items ++ replicate left l.p
+      ≡ l.initial.steps.items ++ steps_of l.code.sizes.processes l.code.instructions l.p l.initial.machine.state;
+  leads : code_run l.code.sizes.processes l.code.instructions (replicate left l.p) l.machine.state
+      ≡ code_run l.code.sizes.processes l.code.instructions
+      (steps_of l.code.sizes.processes l.code.instructions l.p l.initial.machine.state) l.initial.machine.state;
+}

@@ -14,7 +14,7 @@ returns-clause-seen c =
     let is =
     all_done (λ t. down_from code.sizes.processes code.instructions t c.loop-p.machine.state) refl c.loop-p.p-index
     c.args.schedule.now c.loop-p.steps.items (down code.sizes code.instructions c.args.schedule.now)
-    c.loop-p-test.false c.loop-p.auto.p-index-end c.loop-p.invariant.0 in
+    c.loop-p-test.false c.loop-p.auto.p-index-end c.loop-p.invariant.kept in
     ap (seen a) (is ∙ ap (λ code. down code.sizes code.instructions c.args.schedule.now) c.requires.code)
     ∙ sym (down_law a c.args.schedule.now)
 
@@ -25,7 +25,7 @@ returns-clause-lawful c =
     let is =
     all_done (λ t. down_from code.sizes.processes code.instructions t c.loop-p.machine.state) refl c.loop-p.p-index
     c.args.schedule.now c.loop-p.steps.items (down code.sizes code.instructions c.args.schedule.now)
-    c.loop-p-test.false c.loop-p.auto.p-index-end c.loop-p.invariant.0 in
+    c.loop-p-test.false c.loop-p.auto.p-index-end c.loop-p.invariant.kept in
     subst (All lawful) (sym is)
     (down_lawful code.sizes.processes code.instructions lawful c.args.schedule.now (code_start code.sizes)
     c.requires.processes)

@@ -5,7 +5,9 @@ use Rattle.tick_sim.specs.prover.Stepping.{IsReached}
 use Rattle.tick_sim.proofs.projection.project.Given as goal
 
 abbrev pub invariant-loop-p : goal.invariant-loop-p
-invariant-loop-p l =
-    (l.steps.items ++ down_from l.code.sizes.processes l.code.instructions (drop l.p-index l.schedule) l.machine.state
-    ≡ down l.code.sizes l.code.instructions l.schedule)
-    × IsReached l.code l.machine
+invariant-loop-p l = record {
+  kept : l.steps.items ++ down_from l.code.sizes.processes l.code.instructions (drop l.p-index l.schedule) l.machine.state
+      ≡ down l.code.sizes l.code.instructions l.schedule;
+  reached : IsReached l.machine;
+  same : l.machine.code ≡ l.code;
+}

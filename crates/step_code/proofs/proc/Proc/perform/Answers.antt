@@ -1,5 +1,7 @@
-use Rattle.std.proofs.Common.{◌∙◌, ap, sym, length, arith}
+use Rattle.std.proofs.Common.{◌∙◌, ap, sym, subst, length, arith}
 use Rattle.step_code.specs.Machine.{scan_at}
+use Rattle.step_code.specs.Process.{after_advance}
+use Rattle.step_code.specs.prover.Held.{does_of, Becomes}
 use Rattle.step_code.proofs.Found.{found, scan_labels}
 use Rattle.step_code.proofs.proc.Proc.perform.Goals as goal
 
@@ -47,3 +49,18 @@ compare-requires-clause-labels c =
     let many = c.processes-in-Older.ensures.count ∙ ap (λ sizes. sizes.processes) c.sizes-in-Older.ensures.sizes in
     ap (λ n. length (scan_at c.args.self.now.process n c.in-Older.s)) many
     ∙ (scan_labels c.args.code.now c.args.self.now c.requires.of c.in-Older.s (found c.requires.of c.requires.here c.in-Older.is).slots.0).are.count ∙ sym many
+
+pub look_for-requires-clause-found : goal.look_for-requires-clause-found
+look_for-requires-clause-found c = found c.requires.of c.requires.here c.in-Held.is
+
+pub look_for-requires-clause-labels : goal.look_for-requires-clause-labels
+look_for-requires-clause-labels c =
+    let many = c.processes-in-Held.ensures.count ∙ ap (λ sizes. sizes.processes) c.sizes-in-Held.ensures.sizes in
+    ap (λ n. length (scan_at c.args.self.now.process n c.in-Held.s)) many
+    ∙ (scan_labels c.args.code.now c.args.self.now c.requires.of c.in-Held.s (found c.requires.of c.requires.here c.in-Held.is).slots.0).are.count ∙ sym many
+
+pub returns-in-Copy-clause-becomes : goal.returns-in-Copy-clause-becomes
+returns-in-Copy-clause-becomes c =
+    let one = c.args.self.now in
+    subst (λ i. Becomes one (after_advance one.process (does_of c.args.code.now one i)) c.copy.new.self)
+    (sym c.in-Copy.is) (c.copy.ensures.becomes c.args.code.now.sizes.processes)

@@ -19,6 +19,9 @@ finish_get-requires c = found c.requires.of c.requires.here c.in-Get.is
 pub finish_put-requires : goal.finish_put-requires
 finish_put-requires c = found c.requires.of c.requires.here c.in-Put.is
 
+pub finish_clear-requires : goal.finish_clear-requires
+finish_clear-requires c = found c.requires.of c.requires.here c.in-Clear.is
+
 pub returns-in-Scan : goal.returns-in-Scan
 returns-in-Scan c =
     subst (λ i. Becomes c.args.self.now (answered_by c.args.self.now.process (does_of c.args.code.now c.args.self.now i) c.args.reply).process c.finish_scan.new.self)

@@ -3,7 +3,7 @@ use Rattle.std.specs.Vec.{with_item}
 use Rattle.step_code.specs.declared.machine.CodeMachine.TheInside.{Inside}
 use Rattle.step_code.specs.Process.{IsOf}
 use Rattle.step_code.proofs.Steps.{Stepped, in_range, held, stepped}
-use Rattle.step_code.proofs.machine.CodeMachine.step.Goals as goal
+use Rattle.step_code.proofs.machine.CodeMachine.make_step.Goals as goal
 
 -- the process that steps
 own : (c : goal.After-step_one-arg-2-1) → IsOf c.self.inside.code.now c.index_mut-process.result.now × (c.index_mut-process.result.now.me ≡ c.args.p)
@@ -31,10 +31,17 @@ whole c =
     let m = c.self.inside in
     stepped m (after c) c.self.invariant c.args.p c.index_mut-process.result.now c.step_one.new.process c.index_mut-process.ensures.value
     (in_range m c.args.self.now c.args.p c.self.view_is c.requires) refl refl c.args.self.now c.self.view_is
-    c.step_one.result c.step_one.ensures.ok c.step_one.ensures.err c.step_one.ensures.silent c.step_one.ensures.of c.step_one.ensures.me
+    c.step_one.result c.step_one.ensures.instruction c.step_one.ensures.told c.step_one.ensures.ok c.step_one.ensures.err c.step_one.ensures.silent
+    c.step_one.ensures.of c.step_one.ensures.me
 
 pub invariant_of-self : goal.invariant_of-self
 invariant_of-self c = (whole c).sound
+
+pub returns-clause-instruction : goal.returns-clause-instruction
+returns-clause-instruction c = (whole c).instruction
+
+pub returns-clause-told : goal.returns-clause-told
+returns-clause-told c = (whole c).told
 
 pub returns-clause-ok : goal.returns-clause-ok
 returns-clause-ok c = (whole c).ok
