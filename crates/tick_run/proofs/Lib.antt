@@ -5,4 +5,3 @@ mod Ending
 mod Readying
 mod Together
 mod Final
-mod Whole

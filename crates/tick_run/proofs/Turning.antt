@@ -53,12 +53,17 @@ compares_out : (q : CodeProcess) (b : Bool) (m : Moved) (i j w v : ℕ) (t : Tra
 compares_out q true m i j w v t older e = cc
 compares_out q false m i j w v t older e = cc
 
+held_out : (q : CodeProcess) (b : Bool) (m : Moved) (i w v : ℕ) (t : Trap) → m.act ≡ Some (A.Held i w) → (if b then m else M.traps q t).act ≡ Some (A.Out v) → ⊥
+held_out q true m i w v t held e = cc
+held_out q false m i w v t held e = cc
+
 out_at_out : (q : CodeProcess) (n p : ℕ) (o : Option Instr) (v : ℕ) → act_alone (M.does_at q n p o) ≡ Some (A.Out v) → is_out o ≡ true
 out_at_out q n p (Some I.Out) v e = refl
 out_at_out q n p None v e = absurd (cc)
 out_at_out q n p (Some (I.Bin op)) v e = absurd (results_out q _ _ v e)
 out_at_out q n p (Some (I.Get r x)) v e = absurd (gets_out q (nat_lt (slice_index q.stack 0) n) _ _ v refl e)
 out_at_out q n p (Some (I.Older s x)) v e = absurd (compares_out q (nat_lt (slice_index q.stack 1) n && nat_lt (slice_index q.stack 0) n) _ _ _ _ v _ refl e)
+out_at_out q n p (Some (I.Held s x)) v e = absurd (held_out q (nat_lt (slice_index q.stack 0) n) _ _ _ v _ refl e)
 out_at_out q n p (Some _) v e = absurd (cc)
 
 -- an instruction that asks gives nothing out, whatever the reply
@@ -83,6 +88,10 @@ writes_quiet : (q : CodeProcess) (r v : ℕ) (reply : Reply) → values_of (M.wr
 writes_quiet q r v R.Written = refl
 writes_quiet q r v _ = refl
 
+clears_quiet : (q : CodeProcess) (reply : Reply) → values_of (M.clears q reply).act ≡ []
+clears_quiet q R.Cleared = refl
+clears_quiet q _ = refl
+
 receives_quiet : (q : CodeProcess) (r i x : ℕ) (reply : Reply) → values_of (M.receives q r i x reply).act ≡ []
 receives_quiet q r i x (R.Value v) = refl
 receives_quiet q r i x _ = refl
@@ -99,6 +108,7 @@ quiet_reply q n p (Some (I.Scan s)) reply = scans_quiet q n s reply
 quiet_reply q n p (Some (I.Exchange l)) reply = exchanges_quiet q l reply
 quiet_reply q n p (Some (I.Put r)) reply = writes_quiet q r _ reply
 quiet_reply q n p (Some (I.Get r x)) reply = gets_quiet (nat_lt (slice_index q.stack 0) n) _ _ _ reply (receives_quiet q r (slice_index q.stack 0) x reply)
+quiet_reply q n p (Some I.Clear) reply = clears_quiet q reply
 quiet_reply q n p (Some _) reply = refl
 
 -- Process `p` runs.
@@ -123,17 +133,17 @@ module _ (c : StepCode) (p : ℕ) (q : CodeProcess) (running : q.status ≡ Runn
       }
 
   -- it makes one with a step on what is shared
-  at_asked : (count : ℕ) (ask : Ask) (answered : Reply → Moved) (reply : Reply) (act : SharedAct) (steps : List Shared) (given : List ℕ)
-      → did c.sizes.processes p c.instructions q ≡ asks ask answered → TellsLabels c.sizes.processes reply → act_of ask reply ≡ Some act
+  at_asked : (count : ℕ) (ask : Ask) (answered : Reply → Moved) (reply : Reply) (act : SharedAct) (found : ℕ) (steps : List Shared) (given : List ℕ)
+      → did c.sizes.processes p c.instructions q ≡ asks ask answered → TellsLabels c.sizes.processes reply → act_of found ask reply ≡ Some act
       → IsAt c p count q steps given → IsAt c p (count + 1) (answered reply).process (steps ++ by p act ∷ []) given
-  at_asked count ask answered reply act steps given is labels fits at =
+  at_asked count ask answered reply act found steps given is labels fits at =
       let next : Local = moved_with p at.local act (answered reply) in
       let step : LocalStep c p at.local next =
       record {
         running = ap (λ (x : CodeProcess). x.status) at.process ∙ running;
         makes =
             subst (λ d. Makes c.sizes.processes p at.local d next) (sym (ap (did c.sizes.processes p c.instructions) at.process ∙ is))
-            (record { reply = reply; act = act; labels = labels; fits = fits; makes = refl });
+            (record { reply = reply; act = act; found = found; labels = labels; fits = fits; makes = refl });
       }
       in
       let quiet : values_of (answered reply).act ≡ [] =
@@ -208,16 +218,16 @@ module _ (c : StepCode) (p : ℕ) (q : CodeProcess) (running : q.status ≡ Runn
       subst (λ x. IsTurn (turn_by event.act) c p q steps x steps) (sym goes) (made_alone m m.act event refl is same)
   made (asks ask answered) next event is same goes = absurd (cc)
 
-  pub asked : (d : CodeStep) (mid next : CodeProcess) (ask : Ask) (reply : Reply) (act : SharedAct)
+  pub asked : (d : CodeStep) (mid next : CodeProcess) (ask : Ask) (reply : Reply) (act : SharedAct) (found : ℕ)
       → did c.sizes.processes p c.instructions q ≡ d → V.Ask ask ≡ advance_of p d → mid ≡ after_advance q d
-      → TellsLabels c.sizes.processes reply → act_of ask reply ≡ Some act
+      → TellsLabels c.sizes.processes reply → act_of found ask reply ≡ Some act
       → next ≡ (answered_by mid (did c.sizes.processes p c.instructions mid) reply).process
       → IsTurn T.Went c p q steps next (steps ++ by p act ∷ [])
-  asked (asks wanted answered) mid next ask reply act is same stays labels fits goes = λ count given at.
+  asked (asks wanted answered) mid next ask reply act found is same stays labels fits goes = λ count given at.
       let it : wanted ≡ ask = ap (ask_told wanted) (sym same) in
       let becomes : next ≡ (answered reply).process =
       goes ∙ ap (λ (x : CodeProcess). (answered_by x (did c.sizes.processes p c.instructions x) reply).process) stays
       ∙ ap (λ d. (answered_by q d reply).process) is in
       subst (λ x. IsAt c p (count + 1) x (steps ++ by p act ∷ []) given) (sym becomes)
-      (at_asked c p q running count wanted answered reply act steps given is labels (ap (λ a. act_of a reply) it ∙ fits) at)
-  asked (alone m) mid next ask reply act is same stays labels fits goes = absurd (alone_asks p m m.act ask same)
+      (at_asked c p q running count wanted answered reply act found steps given is labels (ap (λ a. act_of found a reply) it ∙ fits) at)
+  asked (alone m) mid next ask reply act found is same stays labels fits goes = absurd (alone_asks p m m.act ask same)

@@ -1,7 +1,6 @@
-// Workers are started, one for each process, and what they come back with is put together.
+// Workers are started, one for each process, and what they come back with is gathered.
 
 ghost use Rattle.std.specs.Prelude.{◌≡◌, ◌≤◌, ◌<◌, ◌+◌, ◌++◌, ◌∷◌, [], IfOk, map, vec_len, vec_items, vec_capacity};
-ghost use Rattle.stamp_table.specs.Passes.{Meets};
 ghost use Rattle.tick_run.specs.prover.Turns.{IsFor};
 ghost use Rattle.tick_run.specs.prover.Work.{AreReady, Gathers, IsWork};
 
@@ -17,7 +16,7 @@ use std::thread::{Promise, Scope, Threads};
 /// What the workers of the first processes came back with.
 #[derive(Drop)]
 pub struct Gathered {
-    pub pass: Pass,
+    pub passes: Vec<Pass>,
     pub outputs: Vec<Vec<u32>>,
     pub ends: Vec<RunEnd>,
 }
@@ -50,10 +49,10 @@ pub fn run_jobs<'s, 'e, G: Gate + Send + 's, R: Threads>(
 ) -> Result<Gathered, RunFault>
     requires fits { IsFor table.now code.now }
     requires ready { AreReady table.now code.now limits.turns limits.outs jobs.items }
-    requires none { Gathers table.now code.now limits.turns limits.outs 0 none.pass (map (λ values. values.items) none.outputs.items) none.ends.items }
-    requires room { (vec_len jobs ≤ vec_capacity none.outputs) × (vec_len jobs ≤ vec_capacity none.ends) }
-    ensures gathers { IfOk result (λ all. Gathers table.now code.now limits.turns limits.outs (vec_len jobs) all.pass (map (λ values. values.items) all.outputs.items) all.ends.items) }
-    ensures room { IfOk result (λ all. (vec_capacity all.outputs ≡ vec_capacity none.outputs) × (vec_capacity all.ends ≡ vec_capacity none.ends)) }
+    requires none { Gathers table.now code.now limits.turns limits.outs 0 none.passes.items (map (λ values. values.items) none.outputs.items) none.ends.items }
+    requires room { (vec_len jobs ≤ vec_capacity none.passes) × (vec_len jobs ≤ vec_capacity none.outputs) × (vec_len jobs ≤ vec_capacity none.ends) }
+    ensures gathers { IfOk result (λ all. Gathers table.now code.now limits.turns limits.outs (vec_len jobs) all.passes.items (map (λ values. values.items) all.outputs.items) all.ends.items) }
+    ensures room { IfOk result (λ all. (vec_capacity all.passes ≡ vec_capacity none.passes) × (vec_capacity all.outputs ≡ vec_capacity none.outputs) × (vec_capacity all.ends ≡ vec_capacity none.ends)) }
 {
     let Some(job) = jobs.pop() else {
         return Ok(none);
@@ -68,30 +67,29 @@ pub fn run_jobs<'s, 'e, G: Gate + Send + 's, R: Threads>(
     let worker = scope.spawn_with(promise, move || work(table, code, limits, job))?;
     let others = run_jobs(rt, scope, table, code, limits, jobs, none);
     let worked = worker.join(rt);
-    Ok(with_worked(table, others?, worked))
+    Ok(with_worked(others?, worked))
 }
 
 // What one more worker came back with is added.
-fn with_worked(table: &StampTable, before: Gathered, worked: Worked) -> Gathered
-    requires first_here { before.pass.table ≡ table.now }
-    requires second_here { worked.pass.table ≡ table.now }
+fn with_worked(before: Gathered, worked: Worked) -> Gathered
+    requires passes_room { vec_len before.passes < vec_capacity before.passes }
     requires outputs_room { vec_len before.outputs < vec_capacity before.outputs }
     requires ends_room { vec_len before.ends < vec_capacity before.ends }
-    ensures meets { Meets before.pass worked.pass result.pass }
+    ensures passes { result.passes.items ≡ before.passes.items ++ worked.pass ∷ [] }
     ensures outputs { map (λ values. values.items) result.outputs.items ≡ map (λ values. values.items) before.outputs.items ++ worked.outputs.items ∷ [] }
     ensures ends { result.ends.items ≡ before.ends.items ++ worked.end ∷ [] }
-    ensures room { (vec_capacity result.outputs ≡ vec_capacity before.outputs) × (vec_capacity result.ends ≡ vec_capacity before.ends) }
+    ensures room { (vec_capacity result.passes ≡ vec_capacity before.passes) × (vec_capacity result.outputs ≡ vec_capacity before.outputs) × (vec_capacity result.ends ≡ vec_capacity before.ends) }
 {
     let Gathered {
-        pass,
+        mut passes,
         mut outputs,
         mut ends,
     } = before;
+    passes.push_reserved(worked.pass);
     outputs.push_reserved(worked.outputs);
     ends.push_reserved(worked.end);
-    let pass = table.meet(pass, worked.pass);
     Gathered {
-        pass,
+        passes,
         outputs,
         ends,
     }

@@ -30,7 +30,7 @@ pub struct Job<G> {
     pub outputs: Vec<u32>,
 }
 
-/// A job for each gate, and the pass that is left.
+/// A job for each gate.
 pub fn jobs_for<G: Gate>(
     alloc: Global,
     table: &StampTable,
@@ -38,14 +38,13 @@ pub fn jobs_for<G: Gate>(
     limits: Limits,
     all: Pass,
     gates: Vec<G>,
-) -> Result<(Pass, Vec<Job<G>>), RunFault>
+) -> Result<Vec<Job<G>>, RunFault>
     requires fits { IsFor table.now code.now }
     requires few { code.now.sizes.processes ≤ 6 }
     requires all { all ≡ whole table.now }
     requires gates { vec_len gates ≡ code.now.sizes.processes }
-    ensures left { IfOk result (λ made. made.0.table ≡ table.now) }
-    ensures count { IfOk result (λ made. vec_len made.1 ≡ code.now.sizes.processes) }
-    ensures ready { IfOk result (λ made. AreReady table.now code.now limits.turns limits.outs made.1.items) }
+    ensures count { IfOk result (λ jobs. vec_len jobs ≡ code.now.sizes.processes) }
+    ensures ready { IfOk result (λ jobs. AreReady table.now code.now limits.turns limits.outs jobs.items) }
 {
     let room = u64::min(limits.turns, u64::from(limits.outs)) as usize;
     let mut jobs = Vec::with_capacity(alloc, gates.len())?;
@@ -65,5 +64,5 @@ pub fn jobs_for<G: Gate>(
         });
         process += 1;
     }
-    Ok((left, jobs))
+    Ok(jobs)
 }

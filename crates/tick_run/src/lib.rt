@@ -1,14 +1,13 @@
-// Runs a code with each of its processes on a thread of its own, over one table that they share.
-//
-// Start with `run`. What each process did stands in one history of all; a `Gate` is told before each
-// instruction that touches what is shared.
+//! Runs a code with each of its processes on a thread of its own, over one table that they share.
+//!
+//! Start with `run`. What each process did stands in one history of all; a `Gate` is told before
+//! each instruction that touches what is shared.
 #![tactic(auto)]
 
 mod fault;
 mod gate;
 mod gathering;
 mod jobs;
-pub mod laws;
 mod registers;
 mod runner;
 mod worker;

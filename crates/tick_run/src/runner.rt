@@ -1,6 +1,6 @@
 ghost use Rattle.std.specs.Prelude.{◌≡◌, ◌≤◌, IfOk, map, vec_len, vec_items, vec_capacity};
 ghost use Rattle.machine_core.specs.Observables.{run_observed};
-ghost use Rattle.tick_run.specs.Runs.{IsThreadedRun, IsWholeRun};
+ghost use Rattle.tick_run.specs.Runs.{IsThreadedRun};
 ghost use Rattle.tick_run.specs.prover.Turns.{IsFor};
 ghost use Rattle.tick_run.specs.prover.Work.{AreReady, Gathers};
 
@@ -31,18 +31,18 @@ pub fn run<G: Gate + Send, R: Threads + Wait>(
     outs: u32,
 ) -> Result<RunOutcome, RunFault>
     requires { vec_len gates ≡ code.now.sizes.processes }
-    ensures each { IfOk result (λ outcome. IsThreadedRun code.now turns outs (run_observed outcome)) }
-    ensures whole { IfOk result (λ outcome. IsWholeRun code.now turns outs (run_observed outcome)) }
+    ensures { IfOk result (λ outcome. IsThreadedRun code.now turns outs (run_observed outcome)) }
 {
     let sizes = code.sizes();
     let limits = Limits { turns, outs };
     let (table, whole) = open(alloc, sizes.processes(), sizes.registers())?;
+    let passes = Vec::with_capacity(alloc, gates.len())?;
     let outputs = Vec::with_capacity(alloc, gates.len())?;
     let ends = Vec::with_capacity(alloc, gates.len())?;
     let blank = blank_rows(alloc, sizes.registers(), sizes.processes())?;
-    let (pass, jobs) = jobs_for(alloc, &table, code, limits, whole, gates)?;
+    let jobs = jobs_for(alloc, &table, code, limits, whole, gates)?;
     let none = Gathered {
-        pass,
+        passes,
         outputs,
         ends,
     };
@@ -53,12 +53,15 @@ pub fn run<G: Gate + Send, R: Threads + Wait>(
         |scope| -> Result<Gathered, RunFault>
             requires fits { IsFor shared.now code.now }
             requires ready { AreReady shared.now code.now limits.turns limits.outs jobs.items }
-            requires none { Gathers shared.now code.now limits.turns limits.outs 0 none.pass (map (λ values. values.items) none.outputs.items) none.ends.items }
-            requires room { (vec_len jobs ≤ vec_capacity none.outputs) × (vec_len jobs ≤ vec_capacity none.ends) }
-            ensures { IfOk result (λ all. Gathers shared.entry.now code.entry.now limits.turns limits.outs (vec_len jobs) all.pass (map (λ values. values.items) all.outputs.items) all.ends.items) }
+            requires none { Gathers shared.now code.now limits.turns limits.outs 0 none.passes.items (map (λ values. values.items) none.outputs.items) none.ends.items }
+            requires room { (vec_len jobs ≤ vec_capacity none.passes) × (vec_len jobs ≤ vec_capacity none.outputs) × (vec_len jobs ≤ vec_capacity none.ends) }
+            ensures { IfOk result (λ all. Gathers shared.entry.now code.entry.now limits.turns limits.outs (vec_len jobs) all.passes.items (map (λ values. values.items) all.outputs.items) all.ends.items) }
         { run_jobs(rt, scope, shared, code, limits, jobs, none) },
     )?;
-    let end = table.close(all.pass);
+    let Some(met) = table.meet_all(all.passes) else {
+        unreachable!()
+    };
+    let end = table.close(met);
     Ok(RunOutcome {
         outputs: all.outputs,
         ends: all.ends,

@@ -167,5 +167,9 @@ fn served<G: Gate>(
             table.write(pass, p, r, v);
             Reply::Written
         }
+        Ask::Clear => {
+            table.clear(pass, p);
+            Reply::Cleared
+        }
     }
 }

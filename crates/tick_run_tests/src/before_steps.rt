@@ -1,18 +1,15 @@
 //! That a gate is called before the step that it is told of, for the process that it belongs to. The
 //! order of the steps is forced, so that a gate that came after its step would see it for sure.
 
-use crate::running::{holds, is_outcome, run_of};
-use std::hint::spin_loop;
-use std::process::Abort;
+use crate::running::{is_outcome, run_of};
 use std::sync::Wait;
 use std::sync::atomic::AtomicU64;
 use std::sync::atomic::Ordering::SeqCst;
 use std::test::Fail;
 use std::thread::Threads;
 use step_code::Ask;
+use testing::{Polls, holds, is_same};
 use tick_run::{Gate, RunEnd};
-
-const MOST_POLLS: u64 = 100_000_000;
 
 // if me { x = get r me; put r 5; x = get r me; } else { x = get r 1; out x; }
 const GETS: &str =
@@ -30,41 +27,28 @@ const SCANS: &str =
 const STAMPS: &str =
     "tickcode 1 2 1 1 1\nMe\nJumpZero 10\nMe\nGet 0 0\nLoadWord\nNext\nExchange 4\nMe\nGet 0 0\nJump 13\nLoadWord\nNext\nExchange 10\nHalt\n";
 
-// How often each of two gates was called, and how many of them waited in vain.
+// How often each of two gates was called.
 #[derive(Drop)]
 struct Calls {
     zero: AtomicU64,
     one: AtomicU64,
-    late: AtomicU64,
+    polls: Polls,
 }
 
-// Before a call it waits until the other gate was called so often.
+// Before one of its calls it waits until the other gate was called so often.
 #[derive(Drop)]
 struct Held<'a> {
     own: &'a AtomicU64,
     other: &'a AtomicU64,
-    late: &'a AtomicU64,
+    polls: &'a Polls,
     at: u64,
     until: u64,
 }
 
-impl Held<'_> {
-    fn waits(&self) -> bool {
-        for _ in 0..MOST_POLLS {
-            if self.other.load(SeqCst) >= self.until {
-                return true;
-            }
-            spin_loop();
-        }
-        false
-    }
-}
-
 impl Gate for Held<'_> {
     fn before(&mut self, _p: u8, _ask: Ask) {
-        let before = self.own.fetch_add(1, SeqCst);
-        if before == self.at && !self.waits() {
-            self.late.fetch_add(1, SeqCst);
+        if self.own.fetch_add(1, SeqCst) == self.at {
+            self.polls.wait(self.other, self.until);
         }
     }
 }
@@ -86,41 +70,40 @@ static ROWS: [Row; 5] = [
 
 fn gates<'a>(calls: &'a Calls, row: &Row) -> (Held<'a>, Held<'a>) {
     let (_, at, until, ..) = *row;
-    let (zero, one, late) = (&calls.zero, &calls.one, &calls.late);
+    let (zero, one, polls) = (&calls.zero, &calls.one, &calls.polls);
     let first = Held {
         own: zero,
         other: one,
-        late,
+        polls,
         at,
         until,
     };
     let second = Held {
         own: one,
         other: zero,
-        late,
+        polls,
         at: 0,
         until: at.wrapping_add(1),
     };
     (first, second)
 }
 
-fn is_held<R: AllocGlobal + Abort + Threads + Wait>(rt: &R, row: &Row) -> Result<(), Fail> {
+fn is_held<R: AllocGlobal + Threads + Wait>(rt: &R, row: &Row) -> Result<(), Fail> {
     let (text, _, _, zero, outputs) = *row;
     let calls = Calls {
         zero: AtomicU64::new(0),
         one: AtomicU64::new(0),
-        late: AtomicU64::new(0),
+        polls: Polls::new(),
     };
     let (first, second) = gates(&calls, row);
     let mut gates = Vec::new(rt.alloc());
     gates.push(first)?;
     gates.push(second)?;
     let outcome = run_of(rt, text, gates, 1_000, 4)?;
-    holds(rt, calls.late.load(SeqCst) == 0, text);
-    holds(rt, calls.zero.load(SeqCst) == zero, text);
+    holds(calls.polls.all_came(), text)?;
+    is_same(&calls.zero.load(SeqCst), &zero)?;
     let ends = [RunEnd::Ended, RunEnd::Ended];
-    holds(rt, is_outcome(&outcome, outputs, &ends), text);
-    Ok(())
+    holds(is_outcome(&outcome, outputs, &ends), text)
 }
 
 #[test]
@@ -180,9 +163,9 @@ fn each_process_calls_its_own_gate(rt: HostRuntime) -> Result<(), Fail> {
         number = number.wrapping_add(1);
     }
     run_of(&rt, OWN, gates, 1_000, 4)?;
-    holds(&rt, others.load(SeqCst) == 0, "no gate of another process");
+    holds(others.load(SeqCst) == 0, "no gate of another process")?;
     for own in &own {
-        holds(&rt, own.load(SeqCst) == 2, "two calls of each gate");
+        holds(own.load(SeqCst) == 2, "two calls of each gate")?;
     }
     Ok(())
 }

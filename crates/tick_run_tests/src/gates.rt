@@ -1,15 +1,16 @@
 //! What the gates are told: one call before each step on what is shared, and none besides.
 
-use crate::running::{holds, is_outcome, run_of};
+use crate::running::{is_outcome, run_of};
 use std::sync::atomic::AtomicU64;
 use std::sync::atomic::Ordering::SeqCst;
 use std::test::Fail;
 use step_code::Ask;
+use testing::{holds, is_same};
 use tick_run::{Gate, RunEnd, RunOutcome};
 
-// Process 0: put r 9; stamp; s = scan; x = get r me; out x; and process 1 ends.
+// Process 0: put r 9; stamp; s = scan; x = get r me; clear; out x; and process 1 ends.
 const EACH_STEP: &str =
-    "tickcode 1 2 1 1 1\nMe\nJumpZero 3\nHalt\nPush 9\nPut 0\nLoadWord\nNext\nExchange 5\nScan 0\nMe\nGet 0 0\nLoad 0\nOut\nHalt\n";
+    "tickcode 2 2 1 1 1\nMe\nJumpZero 3\nHalt\nPush 9\nPut 0\nLoadWord\nNext\nExchange 5\nScan 0\nMe\nGet 0 0\nClear\nLoad 0\nOut\nHalt\n";
 
 // The asks so far as a number, with a digit for each.
 struct Recorded<'a> {
@@ -33,12 +34,17 @@ fn digit_of(ask: Ask) -> u64 {
         Ask::Scan => 3,
         Ask::Get(row, index) => if row == 0 && index == 0 { 4 } else { 8 },
         Ask::Put(row, value) => if row == 0 && value == 9 { 5 } else { 8 },
+        Ask::Clear => 6,
     }
 }
 
-// The first stamp of process 0 makes 1 of the word 0.
+// The first stamp of process 0 makes it present, with a label of zeros.
 fn exchange_digit(old: u64, new: u64) -> u64 {
-    if old == 0 && new == 1 { 2 } else { 8 }
+    if old == 0 && new == 281_474_976_710_656 {
+        2
+    } else {
+        8
+    }
 }
 
 impl Drop for Recorded<'_> {
@@ -69,8 +75,7 @@ fn each_shared_step_is_told_once(rt: HostRuntime) -> Result<(), Fail> {
         })?;
     }
     let outcome = run_of(&rt, EACH_STEP, gates, 1_000, 4)?;
-    holds(&rt, asks.load(SeqCst) == 51_234, "the asks");
-    holds(&rt, dropped.load(SeqCst) == 2, "the gates that are gone");
-    holds(&rt, is_as_asked(&outcome), "the outcome");
-    Ok(())
+    is_same(&asks.load(SeqCst), &512_346)?;
+    is_same(&dropped.load(SeqCst), &2)?;
+    holds(is_as_asked(&outcome), "the outcome")
 }

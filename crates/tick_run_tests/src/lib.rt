@@ -7,6 +7,8 @@ mod alone;
 #[cfg(test)]
 mod before_steps;
 #[cfg(test)]
+mod coming_back;
+#[cfg(test)]
 mod gates;
 #[cfg(test)]
 mod overlap;

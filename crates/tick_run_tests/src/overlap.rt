@@ -1,15 +1,13 @@
 //! Workers that are under way at the same time: gates hold them until others have gone on, and no gate
 //! has to give up. Whoever ran one worker after the other, or two at a time, would meet the limit.
 
-use crate::running::{gave, holds, is_outcome, run_of};
-use std::hint::spin_loop;
+use crate::running::{gave, is_outcome, run_of};
 use std::sync::atomic::AtomicU64;
 use std::sync::atomic::Ordering::SeqCst;
 use std::test::Fail;
 use step_code::Ask;
+use testing::{Polls, holds};
 use tick_run::{Gate, RunEnd, RunOutcome};
-
-const MOST_POLLS: u64 = 10_000_000;
 
 // stamp; s = scan; x = older s 0 1; out x;
 const COMPARES: &str =
@@ -19,31 +17,20 @@ const COMPARES: &str =
 const PASSES_ON: &str =
     "tickcode 1 6 1 0 1\nMe\nPush 7\nBin +\nPut 0\nMe\nPush 1\nBin +\nCount\nBin %\nGet 0 0\nLoad 0\nOut\nHalt\n";
 
-fn reaches(count: &AtomicU64, least: u64) -> bool {
-    for _ in 0..MOST_POLLS {
-        if count.load(SeqCst) >= least {
-            return true;
-        }
-        spin_loop();
-    }
-    false
-}
-
 // Counts its calls, and holds one of them until the other gate was called twice, so that the other's
 // process has made a step.
 #[derive(Drop)]
 struct Crossed<'a> {
     own: &'a AtomicU64,
     other: &'a AtomicU64,
-    late: &'a AtomicU64,
+    polls: &'a Polls,
     held_at: u64,
 }
 
 impl Gate for Crossed<'_> {
     fn before(&mut self, _p: u8, _ask: Ask) {
-        let before = self.own.fetch_add(1, SeqCst);
-        if before == self.held_at && !reaches(self.other, 2) {
-            self.late.fetch_add(1, SeqCst);
+        if self.own.fetch_add(1, SeqCst) == self.held_at {
+            self.polls.wait(self.other, 2);
         }
     }
 }
@@ -63,34 +50,33 @@ fn is_crossed(outcome: &RunOutcome) -> bool {
 // the first of process 0. So both load the same word, and one of them has to stamp again.
 #[test]
 fn two_workers_cross(rt: HostRuntime) -> Result<(), Fail> {
-    let (zero, one, late) = (AtomicU64::new(0), AtomicU64::new(0), AtomicU64::new(0));
+    let (zero, one, polls) = (AtomicU64::new(0), AtomicU64::new(0), Polls::new());
     let mut gates = Vec::new(rt.alloc());
     gates.push(Crossed {
         own: &zero,
         other: &one,
-        late: &late,
+        polls: &polls,
         held_at: 0,
     })?;
     gates.push(Crossed {
         own: &one,
         other: &zero,
-        late: &late,
+        polls: &polls,
         held_at: 1,
     })?;
     let outcome = run_of(&rt, COMPARES, gates, 1_000, 4)?;
-    holds(&rt, late.load(SeqCst) == 0, "no gate gives up");
+    holds(polls.all_came(), "no gate gives up")?;
     let calls = (zero.load(SeqCst), one.load(SeqCst));
     let is_one_again = calls == (3, 5) || calls == (5, 3);
-    holds(&rt, is_one_again, "one stamps again");
-    holds(&rt, is_crossed(&outcome), "the outcome");
-    Ok(())
+    holds(is_one_again, "one stamps again")?;
+    holds(is_crossed(&outcome), "the outcome")
 }
 
 // Waits at each call until all six gates were called as often.
 #[derive(Drop)]
 struct Together<'a> {
     calls: &'a [AtomicU64],
-    late: &'a AtomicU64,
+    polls: &'a Polls,
     made: u64,
 }
 
@@ -101,9 +87,7 @@ impl Gate for Together<'_> {
             own.store(self.made, SeqCst);
         }
         for other in self.calls {
-            if !reaches(other, self.made) {
-                self.late.fetch_add(1, SeqCst);
-            }
+            self.polls.wait(other, self.made);
         }
     }
 }
@@ -128,20 +112,19 @@ fn six_workers_go_together(rt: HostRuntime) -> Result<(), Fail> {
         AtomicU64::new(0),
         AtomicU64::new(0),
     ];
-    let late = AtomicU64::new(0);
+    let polls = Polls::new();
     let mut gates = Vec::new(rt.alloc());
     for _ in 0..6u8 {
         gates.push(Together {
             calls: &calls,
-            late: &late,
+            polls: &polls,
             made: 0,
         })?;
     }
     let outcome = run_of(&rt, PASSES_ON, gates, 1_000, 4)?;
-    holds(&rt, late.load(SeqCst) == 0, "no gate gives up");
+    holds(polls.all_came(), "no gate gives up")?;
     for own in &calls {
-        holds(&rt, own.load(SeqCst) == 2, "two calls of each gate");
+        holds(own.load(SeqCst) == 2, "two calls of each gate")?;
     }
-    holds(&rt, is_passed_on(&outcome), "the outcome");
-    Ok(())
+    holds(is_passed_on(&outcome), "the outcome")
 }

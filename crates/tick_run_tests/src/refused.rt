@@ -1,14 +1,13 @@
 //! A thread that is refused after others have started.
 
-use crate::running::holds;
 use std::alloc::{AllocError, Global};
-use std::process::Abort;
 use std::sync::Wait;
 use std::sync::atomic::AtomicU64;
 use std::sync::atomic::Ordering::SeqCst;
 use std::test::Fail;
 use std::thread::Threads;
 use step_code::{Ask, read_code};
+use testing::{holds, is_same};
 use tick_run::{Gate, RunFault, run};
 
 // while 1 { put r me; }
@@ -59,11 +58,7 @@ fn stacks(alloc: Global, count: usize) -> Result<Vec<Vec<u8>>, AllocError> {
 // There is room for the stacks of so many threads. Where these are fewer than the processes the run is
 // refused, and every worker that had started has ended by then: all gates are gone. A worker on the
 // caller's own thread would want no stack, and the run would be made.
-fn is_refused<R: AllocGlobal + Abort + Threads + Wait>(
-    rt: &R,
-    n: u8,
-    room: usize,
-) -> Result<(), Fail> {
+fn is_refused<R: AllocGlobal + Threads + Wait>(rt: &R, n: u8, room: usize) -> Result<(), Fail> {
     let alloc = rt.alloc();
     let dropped = AtomicU64::new(0);
     let mut gates = Vec::new(alloc);
@@ -72,19 +67,16 @@ fn is_refused<R: AllocGlobal + Abort + Threads + Wait>(
     }
     let text = format!(in alloc; "tickcode 1 {n} 0 0 1\n{WRITES}")?;
     let code = read_code(alloc, text.as_str())?;
-    assert_eq!(rt; gates.len(), code.sizes().processes() as usize);
+    if gates.len() != code.sizes().processes() as usize {
+        return Err(Fail::from("a gate for each process"));
+    }
     let stacks = stacks(alloc, room)?;
     let blocks = all_space(alloc)?;
     drop(stacks);
     let fault = run(rt, alloc, &code, gates, 100_000, 4).err();
     drop(blocks);
-    holds(rt, fault == Some(RunFault::NoThread), "no thread");
-    holds(
-        rt,
-        dropped.load(SeqCst) == u64::from(n),
-        "the gates that are gone",
-    );
-    Ok(())
+    holds(fault == Some(RunFault::NoThread), "no thread")?;
+    is_same(&dropped.load(SeqCst), &u64::from(n))
 }
 
 #[test]

@@ -1,12 +1,10 @@
-//! A run of the code that a text is.
-ghost use Rattle.std.specs.Prelude.{◌≡◌, IfOk};
-
+//! Runs of the codes that texts are.
 use std::alloc::{AllocError, Global};
-use std::process::Abort;
 use std::sync::Wait;
 use std::test::Fail;
 use std::thread::Threads;
 use step_code::{Ask, read_code};
+use testing::holds;
 use tick_run::{Gate, RunEnd, RunOutcome, run};
 
 /// A gate that does nothing.
@@ -27,7 +25,7 @@ pub fn open_gates(alloc: Global, n: u8) -> Result<Vec<Open>, AllocError> {
 }
 
 /// Runs the code that the text is, one gate for each of its processes.
-pub fn run_of<G: Gate + Send, R: AllocGlobal + Abort + Threads + Wait>(
+pub fn run_of<G: Gate + Send, R: AllocGlobal + Threads + Wait>(
     rt: &R,
     text: &str,
     gates: Vec<G>,
@@ -35,14 +33,10 @@ pub fn run_of<G: Gate + Send, R: AllocGlobal + Abort + Threads + Wait>(
     outs: u32,
 ) -> Result<RunOutcome, Fail> {
     let code = read_code(rt.alloc(), text)?;
-    assert_eq!(rt; gates.len(), code.sizes().processes() as usize);
+    if gates.len() != code.sizes().processes() as usize {
+        return Err(Fail::from("a gate for each process"));
+    }
     Ok(run(rt, rt.alloc(), &code, gates, turns, outs)?)
-}
-
-/// Asserts what is true of a run, and names it. The proof of a test that calls this is far shorter
-/// than that of one with assertions of its own.
-pub fn holds<R: Abort>(rt: &R, holds: bool, row: &str) {
-    assert!(rt; holds, "{row}");
 }
 
 /// Whether process `p` gave out these numbers.
@@ -71,16 +65,15 @@ pub type Row = (
     &'static [RunEnd],
 );
 
-fn comes_to<R: AllocGlobal + Abort + Threads + Wait>(rt: &R, row: &Row) -> Result<(), Fail> {
+fn comes_to<R: AllocGlobal + Threads + Wait>(rt: &R, row: &Row) -> Result<(), Fail> {
     let (text, n, turns, outs, outputs, ends) = *row;
     let outcome = run_of(rt, text, open_gates(rt.alloc(), n)?, turns, outs)?;
     let is_so = is_outcome(&outcome, outputs, ends) && outcome.registers.len() == 0;
-    assert!(rt; is_so, "{turns} turns and {outs} outputs of {text}");
-    Ok(())
+    holds(is_so, text)
 }
 
-/// Asserts what each row says.
-pub fn come_to<R: AllocGlobal + Abort + Threads + Wait>(rt: &R, rows: &[Row]) -> Result<(), Fail> {
+/// That each row is so.
+pub fn come_to<R: AllocGlobal + Threads + Wait>(rt: &R, rows: &[Row]) -> Result<(), Fail> {
     for row in rows {
         comes_to(rt, row)?;
     }

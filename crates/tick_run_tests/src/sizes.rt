@@ -1,14 +1,13 @@
-//! Runs of each number of processes and of register rows, and of more than 1,000,000,000 turns; and
-//! the texts of the faults.
+//! Runs of each number of processes and of register rows, and of more than 1,000,000,000 turns.
 
-use crate::running::{gave, holds, open_gates, run_of};
+use crate::running::{gave, open_gates, run_of};
 use std::alloc::{AllocError, Global};
 use std::fmt::Write;
-use std::process::Abort;
 use std::sync::Wait;
 use std::test::Fail;
 use std::thread::Threads;
-use tick_run::{RunEnd, RunFault, RunOutcome};
+use testing::holds;
+use tick_run::{RunEnd, RunOutcome};
 
 // put each row's number and the own number in it; out me;
 fn writing(alloc: Global, n: u8, rows: u8) -> Result<String, AllocError> {
@@ -51,18 +50,12 @@ fn are_ends(outcome: &RunOutcome, n: u8) -> bool {
     outcome.outputs.len() == n as usize && outcome.ends.as_slice() == &ends[..(n as usize).min(6)]
 }
 
-fn runs<R: AllocGlobal + Abort + Threads + Wait>(
-    rt: &R,
-    n: u8,
-    rows: u8,
-    turns: u64,
-) -> Result<(), Fail> {
+fn runs<R: AllocGlobal + Threads + Wait>(rt: &R, n: u8, rows: u8, turns: u64) -> Result<(), Fail> {
     let text = writing(rt.alloc(), n, rows)?;
     let gates = open_gates(rt.alloc(), n)?;
     let outcome = run_of(rt, text.as_str(), gates, turns, 4)?;
     let is_so = are_rows(&outcome, n, rows) && are_ends(&outcome, n);
-    holds(rt, is_so, text.as_str());
-    Ok(())
+    holds(is_so, text.as_str())
 }
 
 static TURNS: [u64; 3] = [100, 1_000_000_001, u64::MAX];
@@ -75,20 +68,6 @@ fn each_number_of_processes_and_rows(rt: HostRuntime) -> Result<(), Fail> {
                 runs(&rt, n, rows, *turns)?;
             }
         }
-    }
-    Ok(())
-}
-
-static FAULTS: [(RunFault, &str); 2] = [
-    (RunFault::NoMemory, "out of memory"),
-    (RunFault::NoThread, "no thread"),
-];
-
-#[test]
-fn texts_of_faults(rt: HostRuntime) -> Result<(), Fail> {
-    for (fault, text) in &FAULTS {
-        let told = format!(in rt.alloc(); "{fault}")?;
-        holds(&rt, told.as_str() == *text, text);
     }
     Ok(())
 }

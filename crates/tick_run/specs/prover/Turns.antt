@@ -43,7 +43,8 @@ IsTurn (T.Gave v) c p q steps next further =
 -- Process `p` made the step that it asked for, and has this reply.
 pub record IsServed (n p : ℕ) (ask : Ask) (reply : Reply) (before after : List Shared) : Type 0 where
   pub act : SharedAct
-  pub fits : act_of ask reply ≡ Some act
+  pub found : ℕ
+  pub fits : act_of found ask reply ≡ Some act
   pub labels : TellsLabels n reply
   pub own : mine p after ≡ mine p before ++ by p act ∷ []
 

@@ -50,11 +50,10 @@ pub record AreSplit {G : Type 0} (t : TableView) (c : StepCode) (turns outs made
   pub count : length jobs ≡ made
   pub ready : AreReady t c turns outs jobs
 
--- what the first `n` processes did stands together
-pub record Gathers (t : TableView) (c : StepCode) (turns outs n : ℕ) (pass : PassView) (outputs : List (List ℕ)) (ends : List RunEnd) : Type 0 where
-  pub here : pass.table ≡ t
-  pub held : (p : ℕ) → p < n → Holds pass.held p
+-- what the workers of the first `n` processes came back with, each at its place
+pub record Gathers (t : TableView) (c : StepCode) (turns outs n : ℕ) (passes : List PassView) (outputs : List (List ℕ)) (ends : List RunEnd) : Type 0 where
+  pub all_passes : length passes ≡ n
   pub all_outputs : length outputs ≡ n
   pub all_ends : length ends ≡ n
-  pub each : (p : ℕ) (given : List ℕ) (end : RunEnd) → slice_get outputs p ≡ Some given → slice_get ends p ≡ Some end
-      → RanSo c p turns outs (mine p pass.seen) given end
+  pub each : (p : ℕ) (pass : PassView) (given : List ℕ) (end : RunEnd) → slice_get passes p ≡ Some pass → slice_get outputs p ≡ Some given
+      → slice_get ends p ≡ Some end → IsWork t c p turns outs pass given end

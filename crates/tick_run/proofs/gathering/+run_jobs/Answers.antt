@@ -20,4 +20,4 @@ returns-clause-gathers g t c =
     let work : IsWork c.args.table.now c.args.code.now (vec_len c.pop.new.self) c.args.limits.turns c.args.limits.outs
     c.join-worked.result.pass (vec_items c.join-worked.result.outputs) c.join-worked.result.end = rw (sym number) kept in
     rw (sym c.in-Some.ensures.cases)
-    (gathers_next _ _ _ _ _ _ _ _ _ _ _ _ _ _ c.in_ok-others.ensures.gathers work c.with_worked.ensures.meets c.with_worked.ensures.outputs c.with_worked.ensures.ends)
+    (gathers_next _ _ _ _ _ _ _ _ _ _ _ _ _ _ c.in_ok-others.ensures.gathers work c.with_worked.ensures.passes c.with_worked.ensures.outputs c.with_worked.ensures.ends)

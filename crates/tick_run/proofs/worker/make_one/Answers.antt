@@ -32,7 +32,7 @@ returns-in-Ask-clause-turn g c =
     let code = c.args.code.now in let q = c.args.proc.now.process in let n = code.sizes.processes in
     let mid = c.make.new.self.process in let served = c.served-reply.ensures.served in let p = c.args.process in
     subst (λ steps. IsTurn T.Went code p q (mine p c.args.pass.now.seen) c.finish.new.self.process steps) (sym served.own)
-    (asked code p q c.requires.running (mine p c.args.pass.now.seen) (did n p code.instructions q) mid c.finish.new.self.process c.in-Ask.ask c.served-reply.result served.act refl
+    (asked code p q c.requires.running (mine p c.args.pass.now.seen) (did n p code.instructions q) mid c.finish.new.self.process c.in-Ask.ask c.served-reply.result served.act served.found refl
     (c.in-Ask.ensures.answer ∙ ap (λ k. advance_of k (did n k code.instructions q)) c.requires.me)
     (c.in-Ask.ensures.process ∙ ap (λ k. after_advance q (did n k code.instructions q)) c.requires.me)
     served.labels served.fits

@@ -1,7 +1,7 @@
 use Rattle.std.proofs.Common.{rules}
 use Rattle.word_core.specs.Packed.{word}
 use Rattle.word_core.specs.declared.history.SharedAct.TheVariants.{Load}
-use Rattle.tick_run.proofs.Serving.{seen_labels, lost_served, read_served, write_served}
+use Rattle.tick_run.proofs.Serving.{seen_labels, lost_served, read_served, write_served, clear_served}
 use Rattle.tick_run.proofs.worker.served.Goals as goal
 
 pub returns-in-LoadWord-clause-word : goal.returns-in-LoadWord-clause-word
@@ -25,3 +25,8 @@ pub returns-in-Put-clause-served : goal.returns-in-Put-clause-served
 returns-in-Put-clause-served g c =
     write_served c.args.table.now c.args.code.now c.args.p c.args.ask c.args.pass.now c.write.new.pass c.requires.fits c.requires.here c.requires.held
     c.in-Put.r c.in-Put.v c.in-Put.is (search rules)
+
+pub returns-in-Clear-clause-served : goal.returns-in-Clear-clause-served
+returns-in-Clear-clause-served g c =
+    clear_served c.args.table.now c.args.code.now c.args.p c.args.ask c.args.pass.now c.clear.new.pass c.requires.fits c.requires.here c.requires.held
+    (word c.clear.ensures.clears.found) c.in-Clear.is c.clear.ensures.clears.step
