@@ -34,10 +34,15 @@ pub record NeverEnds (old new : Counts) : Type 0 where
   pub none_failed : new.failures ≡ old.failures
   pub none_ended : new.ends ≡ old.ends
 
+-- one call failed, which was the last, and none told an end before it
+pub record FailsBeforeEnd (old new : Counts) : Type 0 where
+  pub fails : FailsLast old new
+  pub none_ended : new.ends ≡ old.ends
+
 -- The fault is the reading's exactly where a read failed, which was then the last, or where calls
--- came to no end.
+-- came to no end; either way no end was told before.
 abbrev pub CountsReads : Option EndFault → Counts → Counts → Type 0
 CountsReads None old new = new.failures ≡ old.failures
-CountsReads (Some Read) old new = FailsLast old new ⊎ NeverEnds old new
+CountsReads (Some Read) old new = FailsBeforeEnd old new ⊎ NeverEnds old new
 CountsReads (Some Write) old new = new.failures ≡ old.failures
 CountsReads (Some Memory) old new = new.failures ≡ old.failures

@@ -1,8 +1,9 @@
 //! What the words of a `ticketc` command line ask for.
 //!
-//! The command line is parsed by `clap`, and this crate is the only one that calls it: a check of
-//! whatever calls `clap` takes long, so nothing else stands here. Nothing of `clap`'s own texts is
-//! printed: a line that is no command, a wish for help included, is `None`.
+//! Start with `asked`, and with `specs/Line.antt` for what it answers. The command line is parsed
+//! by `clap`, and this crate is the only one that calls it: a check of whatever calls `clap` takes
+//! long, so nothing else stands here. Nothing of `clap`'s own texts is printed: a line that is no
+//! command, a wish for help included, is `None`.
 #![tactic(auto)]
 
 mod asking;

@@ -15,7 +15,7 @@ use Rattle.engine.specs.Answer.{Answer, refused}
 use Rattle.engine.specs.Lowered.{IsCodeOf, IsEitherAnswer, IsEitherCode, IsLowered, IsRunnableAnswer, answer_unless_long, begins_as_code, code_of, lowered_answer}
 use Rattle.engine.specs.Programs.{IsProgramText, IsTextAnswer, accepted}
 use Rattle.engine.specs.Stop.{lower_stop}
-use Rattle.engine.specs.prover.Replies.{IfRefused}
+use Rattle.engine.specs.prover.Responses.{IfRefused}
 
 short_unless : (n : ℕ) → (65535 < n → ⊥) → n ≤ 65535
 short_unless n fits = elim (leb_tells 65536 n) [ inl long ↦ absurd (fits (omega (arith, long.1))) | inr short ↦ omega (arith, short.1) ]

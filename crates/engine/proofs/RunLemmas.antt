@@ -11,22 +11,22 @@ use Rattle.engine.specs.Text.{text_fault}
 use Rattle.engine.specs.declared.fault.EngineFault.{EngineFault}
 use Rattle.engine.specs.declared.fault.EngineFault.TheVariants.{Memory as NoMemory}
 use Rattle.engine.specs.declared.refusal.Refusal.{Refusal}
-use Rattle.engine.specs.declared.reply.Reply.{Reply}
+use Rattle.engine.specs.declared.response.Response.{Response}
 use Rattle.engine.specs.declared.stop.Stop.{Stop}
 use Rattle.engine.specs.declared.stop.Stop.TheVariants.{Refused, Memory}
-use Rattle.engine.specs.prover.Replies.{IfRefused, IsReplied, IsReply, IsUnreplied, RepliesStop}
+use Rattle.engine.specs.prover.Responses.{IfRefused, IsAnswered, IsResponse, IsUnanswered, SaysStop}
 
-stop_replies : (allowed : Answer → Type 0) (reply : Reply) (stop : Stop) → RepliesStop reply stop
-    → IfRefused stop (λ refusal. allowed (refused refusal)) → IsReply allowed reply
-stop_replies allowed reply (Refused refusal) told held = record { answer = refused refusal; is_allowed = held; replies = told }
-stop_replies allowed reply Memory told held = absurd told
+stop_says : (allowed : Answer → Type 0) (response : Response) (stop : Stop) → SaysStop response stop
+    → IfRefused stop (λ refusal. allowed (refused refusal)) → IsResponse allowed response
+stop_says allowed response (Refused refusal) told held = record { answer = refused refusal; is_allowed = held; says = told }
+stop_says allowed response Memory told held = absurd told
 
--- the reply to what stopped a command, or want of memory
-pub stop_replied : (command : PlainCommand) (input : List ℕ) (stop : Stop) (result : Result Reply EngineFault)
-    → IfOk result (λ reply. RepliesStop reply stop) → IfErr result (λ fault. fault ≡ NoMemory)
-    → IfRefused stop (λ refusal. InputAnswers command input (refused refusal)) → IsReplied command input result
-stop_replied command input stop (Ok reply) told fault held = stop_replies (InputAnswers command input) reply stop told held
-stop_replied command input stop (Err e) told fault held = subst (IsUnreplied (runs command)) (sym fault) tt
+-- the response to what stopped a command, or want of memory
+pub stop_answered : (command : PlainCommand) (input : List ℕ) (stop : Stop) (result : Result Response EngineFault)
+    → IfOk result (λ response. SaysStop response stop) → IfErr result (λ fault. fault ≡ NoMemory)
+    → IfRefused stop (λ refusal. InputAnswers command input (refused refusal)) → IsAnswered command input result
+stop_answered command input stop (Ok response) told fault held = stop_says (InputAnswers command input) response stop told held
+stop_answered command input stop (Err e) told fault held = subst (IsUnanswered (runs command)) (sym fault) tt
 
 pub run_done : (turns : ℕ) (input text : List ℕ) (c : StepCode) → text_fault input ≡ None → IsCodeOf input c → IsOutcomeOf c turns (done text)
     → InputAnswers (Run turns) input (done text)

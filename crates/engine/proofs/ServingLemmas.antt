@@ -1,4 +1,4 @@
--- From an input that was read to a reply, and from a reply to what is written.
+-- From an input that was read to a response, and from a response to what is written.
 use Rattle.std.proofs.Common.{◌≡◌, ℕ, ◌+◌, ◌<◌, ◌≤◌, ◌++◌, ◌⊎◌, false, inl, inr, List, [], length, Option, Some, None, Result, Ok, Err, IfErr, IfOk, OnErr, OnOk, append-nil, arith, ap, refl, string_bytes, subst, sym, ◌∙◌}
 use Rattle.std.proofs.Math.ListN.{length-append}
 use Rattle.std.proofs.lemmas.Bool.{lt-ltb}
@@ -21,9 +21,9 @@ use Rattle.engine.specs.declared.fault.EngineFault.{EngineFault}
 use Rattle.engine.specs.declared.fault.EngineFault.TheVariants.{Read, Write, Memory, Thread}
 use Rattle.engine.specs.declared.refusal.Refusal.{Refusal}
 use Rattle.engine.specs.declared.refusal.Refusal.TheVariants.{TextTooLong}
-use Rattle.engine.specs.declared.reply.Reply.{Reply}
+use Rattle.engine.specs.declared.response.Response.{Response}
 use Rattle.engine.specs.prover.Faults.{end_fault}
-use Rattle.engine.specs.prover.Replies.{IsReply, IsUnreplied, Replies, plain_command}
+use Rattle.engine.specs.prover.Responses.{IsResponse, IsUnanswered, Says, plain_command}
 
 Consumes-nil : (a : Option (List ℕ)) → Consumes a a []
 Consumes-nil None = tt
@@ -32,9 +32,9 @@ Consumes-nil (Some bytes) = refl
 too_long : (input : List ℕ) → 1000000 < length input → text_fault input ≡ Some TextTooLong
 too_long input long = rw (lt-ltb 1000000 (length input) long) refl
 
-module _ (command : PlainCommand) (reply : Reply) where
+module _ (command : PlainCommand) (response : Response) where
   abbrev By : Option Refusal → List ℕ → Type 0
-  By fault input = IsReply (λ a. UnlessRefused fault (TextAnswers command input) a) reply
+  By fault input = IsResponse (λ a. UnlessRefused fault (TextAnswers command input) a) response
 
   -- two inputs that are both too long have the same answer
   both_too_long : (read all : List ℕ) → 1000000 < length read → 1000000 < length all
@@ -63,23 +63,23 @@ module _ (command : PlainCommand) (reply : Reply) where
     ];
   }
 
--- the reply to a command, by the input
-pub replied_on_read : (command : PlainCommand) (known left : Option (List ℕ)) (read slice : List ℕ) (reply : Reply)
-    → slice ≡ read → IsRead known left read → IsReply (InputAnswers command slice) reply
-    → OnInput known (λ input. IsReply (CommandAnswers (Ok command) input) reply)
-replied_on_read command known left read slice reply same reads answered =
-    on_read command reply known left read reads (subst (λ (l : List ℕ). IsReply (InputAnswers command l) reply) same answered)
+-- the response to a command, by the input
+pub answered_on_read : (command : PlainCommand) (known left : Option (List ℕ)) (read slice : List ℕ) (response : Response)
+    → slice ≡ read → IsRead known left read → IsResponse (InputAnswers command slice) response
+    → OnInput known (λ input. IsResponse (CommandAnswers (Ok command) input) response)
+answered_on_read command known left read slice response same reads answered =
+    on_read command response known left read reads (subst (λ (l : List ℕ). IsResponse (InputAnswers command l) response) same answered)
 
--- a reply that no input changes is one on the known input
+-- a response that no input changes is one on the known input
 pub on_any : (known : Option (List ℕ)) (P : List ℕ → Type 0) → ((input : List ℕ) → P input) → OnInput known P
 on_any None P is = record { input = []; is_known = tt; holds = is [] }
 on_any (Some all) P is = record { input = all; is_known = refl; holds = is all }
 
-pub replied_on_any : (fault : LineFault) (known : Option (List ℕ)) (reply : Reply)
-    → Replies reply (line_answer fault) → OnInput known (λ input. IsReply (CommandAnswers (Err fault) input) reply)
-replied_on_any fault known reply told =
-    on_any known (λ input. IsReply (CommandAnswers (Err fault) input) reply)
-    (λ input. record { answer = line_answer fault; is_allowed = refl; replies = told })
+pub answered_on_any : (fault : LineFault) (known : Option (List ℕ)) (response : Response)
+    → Says response (line_answer fault) → OnInput known (λ input. IsResponse (CommandAnswers (Err fault) input) response)
+answered_on_any fault known response told =
+    on_any known (λ input. IsResponse (CommandAnswers (Err fault) input) response)
+    (λ input. record { answer = line_answer fault; is_allowed = refl; says = told })
 
 -- a command of another variant is no run
 pub no_run : (command : Command (Bor (List ℕ))) → ((turns : ℕ) → command ≡ Run turns → ⊥) → runs (plain_command command) ≡ false
@@ -107,57 +107,57 @@ module _ {R W : Type 0} (command : Result PlainCommand LineFault) (remaining : R
     writes_counted = writes_counted;
   }
 
-  -- where there is no reply, nothing is written
-  pub unreplied : (fault : EngineFault) → IsUnreplied (is_run command) fault → (writer : W) → (reads new).failures ≡ (reads old).failures
+  -- where there is no response, nothing is written
+  pub unanswered : (fault : EngineFault) → IsUnanswered (is_run command) fault → (writer : W) → (reads new).failures ≡ (reads old).failures
       → ServesCommand command remaining reads written writes old new writer writer (Err fault)
-  unreplied Memory why writer counted = served writer writer (Err Memory) (on_any (remaining old) _ (λ input. refl)) counted refl
-  unreplied Thread why writer counted = served writer writer (Err Thread) (on_any (remaining old) _ (λ input. (why, refl))) counted refl
-  unreplied Read why writer counted = absurd why
-  unreplied Write why writer counted = absurd why
+  unanswered Memory why writer counted = served writer writer (Err Memory) (on_any (remaining old) _ (λ input. refl)) counted refl
+  unanswered Thread why writer counted = served writer writer (Err Thread) (on_any (remaining old) _ (λ input. (why, refl))) counted refl
+  unanswered Read why writer counted = absurd why
+  unanswered Write why writer counted = absurd why
 
   -- nor where reading ends it
   pub gave_up_reading : (fault : EndFault) → (fault ≡ end.Read) ⊎ (fault ≡ end.Memory) → (writer : W) → CountsReads (Some fault) (reads old) (reads new)
       → ServesCommand command remaining reads written writes old new writer writer (Err (end_fault fault))
   gave_up_reading end.Read why writer counted = served writer writer (Err Read) (on_any (remaining old) _ (λ input. refl)) counted refl
-  gave_up_reading end.Memory why writer counted = unreplied Memory tt writer counted
+  gave_up_reading end.Memory why writer counted = unanswered Memory tt writer counted
   gave_up_reading end.Write why writer counted = absurd (elim why [ inl read ↦ cc | inr memory ↦ cc ])
 
-  -- a reply that was written is an answer that was
-  pub gave_reply : (reply : Reply) (before after : W) (result : Result ℕ EngineFault)
-      → OnInput (remaining old) (λ input. IsReply (CommandAnswers command input) reply)
+  -- a response that was written is an answer that was
+  pub gave_response : (response : Response) (before after : W) (result : Result ℕ EngineFault)
+      → OnInput (remaining old) (λ input. IsResponse (CommandAnswers command input) response)
       → (reads new).failures ≡ (reads old).failures
-      → IfOk result (λ status. status ≡ reply.status)
-      → OnOk result (Appends (written before) (written after) (string_bytes reply.text))
-      → OnErr result (WritesPrefix (written before) (written after) (string_bytes reply.text))
+      → IfOk result (λ status. status ≡ response.status)
+      → OnOk result (Appends (written before) (written after) (string_bytes response.text))
+      → OnErr result (WritesPrefix (written before) (written after) (string_bytes response.text))
       → IfErr result (λ fault. fault ≡ Write)
       → CountsWrites (end_fault_in result) (writes before) (writes after)
       → ServesCommand command remaining reads written writes old new before after result
-  gave_reply reply before after (Ok status) replied none_failed is all some fault counted =
+  gave_response response before after (Ok status) is_response none_failed is all some fault counted =
       let answers : OnInput (remaining old) (λ input. Writes (written before) (written after) status (CommandAnswers command input)) = record {
-        input = replied.input;
-        is_known = replied.is_known;
+        input = is_response.input;
+        is_known = is_response.is_known;
         holds = record {
-          answer = replied.holds.answer;
-          is_allowed = replied.holds.is_allowed;
-          status_is = is ∙ replied.holds.replies.status;
-          written = subst (λ (text : List ℕ). Appends (written before) (written after) text) replied.holds.replies.text all;
+          answer = is_response.holds.answer;
+          is_allowed = is_response.holds.is_allowed;
+          status_is = is ∙ is_response.holds.says.status;
+          written = subst (λ (text : List ℕ). Appends (written before) (written after) text) is_response.holds.says.text all;
         };
       } in
       served before after (Ok status) answers none_failed counted
-  gave_reply reply before after (Err Write) replied none_failed is all some fault counted =
+  gave_response response before after (Err Write) is_response none_failed is all some fault counted =
       let answers : OnInput (remaining old) (λ input. WritesSome (written before) (written after) (CommandAnswers command input)) = record {
-        input = replied.input;
-        is_known = replied.is_known;
+        input = is_response.input;
+        is_known = is_response.is_known;
         holds = record {
-          answer = replied.holds.answer;
-          is_allowed = replied.holds.is_allowed;
-          written = subst (λ (text : List ℕ). WritesPrefix (written before) (written after) text) replied.holds.replies.text some;
+          answer = is_response.holds.answer;
+          is_allowed = is_response.holds.is_allowed;
+          written = subst (λ (text : List ℕ). WritesPrefix (written before) (written after) text) is_response.holds.says.text some;
         };
       } in
       served before after (Err Write) answers none_failed counted
-  gave_reply reply before after (Err Read) replied none_failed is all some fault counted = absurd (cc)
-  gave_reply reply before after (Err Memory) replied none_failed is all some fault counted = absurd (cc)
-  gave_reply reply before after (Err Thread) replied none_failed is all some fault counted = absurd (cc)
+  gave_response response before after (Err Read) is_response none_failed is all some fault counted = absurd (cc)
+  gave_response response before after (Err Memory) is_response none_failed is all some fault counted = absurd (cc)
+  gave_response response before after (Err Thread) is_response none_failed is all some fault counted = absurd (cc)
 
 -- what is served from where another call left the ends is served from where that call found them, if it
 -- left them alone

@@ -16,10 +16,9 @@ use Rattle.code_core.specs.declared.fault.CodeFault.TheVariants as codes
 use Rattle.code_text.specs.CodeText.{ReadsAs}
 use Rattle.engine.specs.Answer.{Answer, refused, scheduled, stopped}
 use Rattle.engine.specs.Codes.{IsCodeAnswer}
-use Rattle.engine.specs.Order.{order_answer, stamps_text}
 use Rattle.engine.specs.Programs.{IsProgramText, IsTextAnswer, no_program, not_accepted}
 use Rattle.engine.specs.Stop.{code_stop, kinds_stop, schedule_stop, text_stop}
-use Rattle.engine.specs.prover.Replies.{IfRefused}
+use Rattle.engine.specs.prover.Responses.{IfRefused}
 use Rattle.engine.specs.declared.refusal.Refusal.{Refusal}
 use Rattle.engine.specs.declared.stop.Stop.{Stop}
 use Rattle.engine.specs.declared.stop.Stop.TheVariants.{Refused, Memory}
@@ -57,7 +56,3 @@ pub schedule_stops : (P : Answer → Type 0) (by : List ℕ → List ℕ) (n : �
 schedule_stops P by n s fault answered told =
     stop_told P (schedule_stop fault)
     (λ differs. subst (λ read. P (scheduled by read)) (told (λ same. differs (ap schedule_stop same))) answered)
-
-pub stamps_stop : (n : ℕ) (text : List ℕ) (fault : ScheduleFault) → (fault ≢ schedule.NoMemory → schedule_of n text ≡ Err fault)
-    → IfRefused (schedule_stop fault) (λ refusal. refused refusal ≡ order_answer n text)
-stamps_stop n text fault told = schedule_stops (λ a. a ≡ order_answer n text) (stamps_text n) n text fault refl told

@@ -24,7 +24,7 @@ stopped (Refused refusal) = refused refusal
 stopped Memory = record { status = 4; text = [] }
 
 -- the text of the steps that a schedule spells, or why it spells none
-abbrev pub scheduled : (List ℕ → List ℕ) → Result (List ℕ) ScheduleFault → Answer
+abbrev pub scheduled : {S : Type 0} → (List S → List ℕ) → Result (List S) ScheduleFault → Answer
 scheduled by (Ok steps) = done (by steps)
 scheduled by (Err fault) = stopped (schedule_stop fault)
 

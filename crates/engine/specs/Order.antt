@@ -1,42 +1,49 @@
--- What `order` answers: the labels that a schedule of stamps leaves, beside the ranks of the
--- whole-number tickets.
-use Rattle.std.specs.Prelude.{ℕ, ◌==◌, List, [], ◌∷◌, ◌++◌, codes, length, map, if◌then◌else◌}
+-- What `order` answers: the labels that stamps and clears leave, beside the ranks of the whole-number
+-- tickets.
+use Rattle.std.specs.Prelude.{ℕ, ◌==◌, Option, None, Some, List, [], ◌∷◌, ◌++◌, codes, length, map, if◌then◌else◌}
 use Rattle.std.specs.Fmt.{decimal}
 use Rattle.std.specs.List.{flat_map}
 use Rattle.text_core.specs.Lines.{line_end, spaced}
-use Rattle.ticket_core.specs.Tickets.{start_tickets, tickets_after, ticket_ranks}
-use Rattle.word_core.specs.Stamps.{labels_after, stamped, start_labels}
+use Rattle.ticket_core.specs.Tickets.{start_tickets, ticket_ranks, tickets_moved}
+use Rattle.ticket_core.specs.declared.moves.Move.{Move}
+use Rattle.ticket_core.specs.declared.moves.Move.TheVariants.{Stamp, Clear}
+use Rattle.word_core.specs.Stamps.{Labels, labels_moved, moved, start_labels}
 use Rattle.word_core.specs.Packed.{word}
-use Rattle.tick_play.specs.Schedule.{schedule_of}
+use Rattle.tick_play.specs.Moves.{moves_of}
 use Rattle.engine.specs.Answer.{Answer, scheduled}
 
--- process `p` stamped, which left these labels
-abbrev pub stamp_line : ℕ → List (List ℕ) → List ℕ
-stamp_line p labels = codes "stamp " ++ decimal p ++ codes " word " ++ decimal (word labels) ++ line_end
+abbrev pub move_text : Move → List ℕ
+move_text (Stamp p) = codes "stamp " ++ decimal p
+move_text (Clear p) = codes "clear " ++ decimal p
 
--- a line for each stamp, from these labels on
-abbrev pub stamp_lines : List (List ℕ) → List ℕ → List ℕ
-stamp_lines labels [] = []
-stamp_lines labels (p ∷ stamps) = stamp_line p (stamped p labels) ++ stamp_lines (stamped p labels) stamps
+-- a move, and the word of the labels that it left
+abbrev pub move_line : Move → Labels → List ℕ
+move_line move labels = move_text move ++ codes " word " ++ decimal (word labels) ++ line_end
 
--- the digits of a label, or a dash where it has none
-abbrev pub label_text : List ℕ → List ℕ
-label_text label = if length label == 0 then codes "-" else flat_map decimal label
+-- a line for each move, from these labels on
+abbrev pub move_lines : Labels → List Move → List ℕ
+move_lines labels [] = []
+move_lines labels (move ∷ moves) = move_line move (moved move labels) ++ move_lines (moved move labels) moves
+
+-- the digits of a label, a dash where it has none, and a dot for an absent process
+abbrev pub label_text : Option (List ℕ) → List ℕ
+label_text None = codes "."
+label_text (Some label) = if length label == 0 then codes "-" else flat_map decimal label
 
 -- the word of these labels, the labels, and these ranks
-abbrev pub state_lines : List (List ℕ) → List ℕ → List ℕ
+abbrev pub state_lines : Labels → List ℕ → List ℕ
 state_lines labels ranks =
     codes "word " ++ decimal (word labels) ++ line_end
     ++ codes "labels" ++ spaced (map label_text labels) ++ line_end
     ++ codes "ranks" ++ spaced (map decimal ranks) ++ line_end
 
 -- the labels are those of the choice rule, and the ranks those of the tickets
-abbrev pub stamps_text : ℕ → List ℕ → List ℕ
-stamps_text n stamps =
-    codes "layout 2" ++ line_end
-    ++ stamp_lines (start_labels n) stamps
-    ++ state_lines (labels_after (start_labels n) stamps) (ticket_ranks (tickets_after (start_tickets n) stamps))
+abbrev pub moves_text : ℕ → List Move → List ℕ
+moves_text n moves =
+    codes "layout 3" ++ line_end
+    ++ move_lines (start_labels n) moves
+    ++ state_lines (labels_moved (start_labels n) moves) (ticket_ranks (tickets_moved (start_tickets n) moves))
 
--- for `n` processes and the schedule that a text spells
+-- for `n` processes and the moves that a text spells
 abbrev pub order_answer : ℕ → List ℕ → Answer
-order_answer n text = scheduled (stamps_text n) (schedule_of n text)
+order_answer n text = scheduled (moves_text n) (moves_of n text)

@@ -1,3 +1,3 @@
 pub mod Inputs
-pub mod Replies
+pub mod Responses
 pub mod Faults

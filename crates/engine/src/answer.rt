@@ -1,8 +1,8 @@
-//! The reply to a command on an input, one case for each command that wants no threads.
+//! The response to a command on an input, one case for each command that wants no threads.
 ghost use Rattle.std.specs.Prelude.{◌≡◌, false, IfErr, IfOk, string_bytes};
 ghost use Rattle.engine.specs.Answer.{done, refused};
 ghost use Rattle.engine.specs.Commands.{InputAnswers, TextAnswers, runs};
-ghost use Rattle.engine.specs.prover.Replies.{Fits, IfRefused, IsReplied, plain_command};
+ghost use Rattle.engine.specs.prover.Responses.{Fits, IfRefused, IsAnswered, plain_command};
 
 use crate::command::Command;
 use crate::fault::EngineFault;
@@ -10,20 +10,24 @@ use crate::lowered::{code_report, emit_text};
 use crate::maps::{Way, carried_text};
 use crate::order::order_text;
 use crate::program::{check_text, source_text};
-use crate::reply::{Reply, stop_reply};
+use crate::response::{Response, stop_response};
 use crate::stop::Stop;
 use crate::text::text_of;
 use std::alloc::Global;
 
-/// The whole reply to a command, by its input.
-pub fn reply_to(alloc: Global, command: Command<&str>, input: &[u8]) -> Result<Reply, EngineFault>
+/// The whole response to a command, by its input.
+pub fn response_to(
+    alloc: Global,
+    command: Command<&str>,
+    input: &[u8],
+) -> Result<Response, EngineFault>
     requires fits { Fits (plain_command command) }
     requires no_run { runs (plain_command command) ≡ false }
-    ensures { IsReplied (plain_command command.entry) input.now result }
+    ensures { IsAnswered (plain_command command.entry) input.now result }
 {
     match input_answer(alloc, command, input) {
-        Ok(text) => Ok(Reply { status: 0, text }),
-        Err(stop) => stop_reply(alloc, stop),
+        Ok(text) => Ok(Response { status: 0, text }),
+        Err(stop) => stop_response(alloc, stop),
     }
 }
 

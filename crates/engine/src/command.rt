@@ -3,7 +3,7 @@ ghost use Rattle.std.specs.Prelude.{◌≡◌, ◌<◌, ◌^◌, IfOk, MatchResu
 ghost use Rattle.command_line.specs.Line.{plain_request};
 ghost use Rattle.text_core.specs.Number.{number_of};
 ghost use Rattle.engine.specs.Commands.{command_for, lawful as lawful_number, processes_of, turns_of};
-ghost use Rattle.engine.specs.prover.Replies.{Fits, plain_command};
+ghost use Rattle.engine.specs.prover.Responses.{Fits, plain_command};
 
 use command_line::Request;
 use text_core::number;

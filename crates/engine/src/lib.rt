@@ -16,7 +16,7 @@ mod maps;
 mod order;
 mod program;
 mod refusal;
-mod reply;
+mod response;
 mod runs;
 mod serving;
 mod stop;

@@ -5,7 +5,7 @@ ghost use Rattle.engine.specs.Answer.{Answer, done, refused};
 ghost use Rattle.engine.specs.Codes.{code_answer};
 ghost use Rattle.engine.specs.Lowered.{IsCodeOf, IsLowered, IsRunnableAnswer, begins_as_code, code_of, emit_answer, lowered_answer};
 ghost use Rattle.engine.specs.Programs.{IsTextAnswer};
-ghost use Rattle.engine.specs.prover.Replies.{IfRefused};
+ghost use Rattle.engine.specs.prover.Responses.{IfRefused};
 
 use crate::program::program_of;
 use crate::stop::Stop;

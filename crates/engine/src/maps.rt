@@ -5,7 +5,7 @@ ghost use Rattle.engine.specs.Answer.{done, refused};
 ghost use Rattle.engine.specs.Lowered.{code_of, lowered_answer};
 ghost use Rattle.engine.specs.Maps.{carried as carried_steps, carried_answer, schedule_line as line_of_schedule};
 ghost use Rattle.engine.specs.Programs.{IsTextAnswer};
-ghost use Rattle.engine.specs.prover.Replies.{IfRefused};
+ghost use Rattle.engine.specs.prover.Responses.{IfRefused};
 
 use crate::lowered::lowering_of;
 use crate::stop::Stop;

@@ -1,75 +1,99 @@
 //! The text that `order` answers.
-ghost use Rattle.std.specs.Prelude.{◌≡◌, ◌<◌, ◌≤◌, ◌++◌, All, IfErr, IfOk, OnOk, codes, length, map, string_bytes};
+ghost use Rattle.std.specs.Prelude.{◌≡◌, ◌<◌, ◌≤◌, ◌++◌, All, IfErr, IfOk, OnOk, codes, length, map, string_bytes, Some};
 ghost use Rattle.std.specs.Fmt.{decimal};
 ghost use Rattle.text_core.specs.Lines.{line_end, spaced};
-ghost use Rattle.label_core.specs.Labels.{label_ranks};
-ghost use Rattle.word_core.specs.Stamps.{label_at, labels_after, start_labels};
+ghost use Rattle.word_core.specs.Order.{IsOrdered, label_ranks};
+ghost use Rattle.word_core.specs.Packed.{word};
+ghost use Rattle.word_core.specs.Stamps.{label_at, labels_moved, moved, start_labels};
+ghost use Rattle.tick_play.specs.Moves.{mover};
 ghost use Rattle.engine.specs.Answer.{done, refused};
-ghost use Rattle.engine.specs.Order.{label_text, order_answer, stamp_line, stamp_lines, stamps_text as stamps_written, state_lines};
-ghost use Rattle.engine.specs.prover.Replies.{IfRefused};
+ghost use Rattle.engine.specs.Order.{label_text, order_answer, move_line, move_lines, moves_text as moves_written, state_lines};
+ghost use Rattle.engine.specs.prover.Responses.{IfRefused};
 
 use crate::stop::Stop;
+use label_core::Label;
 use std::alloc::{AllocError, Global};
 use std::fmt::Write;
 use text_core::push_number;
-use tick_play::read_schedule;
-use word_core::{EMPTY_LABEL, LAYOUT, LabelWord};
+use tick_play::{Move, read_moves};
+use word_core::{ABSENT_LABEL, EMPTY_LABEL, LAYOUT, LabelWord};
 
-/// The labels that `n` processes have after the stamps that a text spells, and the way there.
+/// The labels that `n` processes have after the stamps and clears that a text spells, and the way there.
 pub fn order_text(alloc: Global, n: u8, text: &str) -> Result<String, Stop>
     requires at_least_one { 1 ≤ n }
     requires at_most_six { n ≤ 6 }
     ensures ok { IfOk result (λ answer. done (string_bytes answer) ≡ order_answer n text.now) }
     ensures refused { IfErr result (λ stop. IfRefused stop (λ refusal. refused refusal ≡ order_answer n text.now)) }
 {
-    let stamps = read_schedule(alloc, text, n)?;
-    let answer = stamps_text(alloc, n, stamps.as_slice())?;
+    let moves = read_moves(alloc, text, n)?;
+    let answer = moves_text(alloc, n, moves.as_slice())?;
     Ok(answer)
 }
 
-// The words after the stamps, and the labels and ranks at their end.
-fn stamps_text(alloc: Global, n: u8, stamps: &[u8]) -> Result<String, AllocError>
+// The words after the moves, and the labels and ranks at their end.
+fn moves_text(alloc: Global, n: u8, moves: &[Move]) -> Result<String, AllocError>
     requires at_least_one { 1 ≤ n }
     requires at_most_six { n ≤ 6 }
-    requires in_range { All (λ p. p < n) stamps.now }
-    ensures { IfOk result (λ text. string_bytes text ≡ stamps_written n stamps.now) }
+    requires in_range { All (λ move. mover move < n) moves.now }
+    ensures { IfOk result (λ text. string_bytes text ≡ moves_written n moves.now) }
 {
     let mut text = layout_line(alloc)?;
-    let word = push_stamps(&mut text, n, stamps)?;
+    let word = push_moves(&mut text, n, moves)?;
     push_state(&mut text, &word)?;
     Ok(text)
 }
 
 fn layout_line(alloc: Global) -> Result<String, AllocError>
-    ensures { IfOk result (λ line. string_bytes line ≡ codes "layout 2" ++ line_end) }
+    ensures { IfOk result (λ line. string_bytes line ≡ codes "layout 3" ++ line_end) }
 {
     format!(in alloc; "{LAYOUT}\n")
 }
 
-// A line for each stamp; the word after them.
-fn push_stamps(text: &mut String, n: u8, stamps: &[u8]) -> Result<LabelWord, AllocError>
+// A line for each move; the word after them.
+fn push_moves(text: &mut String, n: u8, moves: &[Move]) -> Result<LabelWord, AllocError>
     requires at_least_one { 1 ≤ n }
     requires at_most_six { n ≤ 6 }
-    requires in_range { All (λ p. p < n) stamps.now }
-    ensures word { IfOk result (λ word. word ≡ labels_after (start_labels n) stamps.now) }
-    ensures lines { OnOk result (string_bytes text.new ≡ string_bytes text.old ++ stamp_lines (start_labels n) stamps.now) }
+    requires in_range { All (λ move. mover move < n) moves.now }
+    ensures word { IfOk result (λ word. word ≡ labels_moved (start_labels n) moves.now) }
+    ensures lines { OnOk result (string_bytes text.new ≡ string_bytes text.old ++ move_lines (start_labels n) moves.now) }
 {
     let mut word = LabelWord::start(n);
-    for &process in stamps {
-        word = word.stamped(process);
-        push_stamp(text, process, &word)?;
+    for &made in moves {
+        word = moved(&word, made);
+        push_move(text, made, &word)?;
     }
     Ok(word)
 }
 
-// No format string, since this is done for each stamp.
-fn push_stamp(text: &mut String, process: u8, word: &LabelWord) -> Result<(), AllocError>
-    ensures { OnOk result (string_bytes text.new ≡ string_bytes text.old ++ stamp_line process word.now) }
+fn moved(word: &LabelWord, made: Move) -> LabelWord
+    requires in_range { mover made < length word.now }
+    requires ordered { IsOrdered word.now }
+    ensures moved { result ≡ moved made word.now }
+    ensures ordered { IsOrdered result }
 {
-    text.push_str("stamp ")?;
+    match made {
+        Move::Stamp(process) => word.stamped(process),
+        Move::Clear(process) => word.cleared(process),
+    }
+}
+
+fn push_move(text: &mut String, made: Move, word: &LabelWord) -> Result<(), AllocError>
+    ensures { OnOk result (string_bytes text.new ≡ string_bytes text.old ++ move_line made word.now) }
+{
+    match made {
+        Move::Stamp(process) => push_line(text, "stamp ", process, word),
+        Move::Clear(process) => push_line(text, "clear ", process, word),
+    }
+}
+
+// No format string, since this is done for each move.
+fn push_line(text: &mut String, name: &str, process: u8, left: &LabelWord) -> Result<(), AllocError>
+    ensures { OnOk result (string_bytes text.new ≡ string_bytes text.old ++ name.now ++ decimal process ++ codes " word " ++ decimal (word left.now) ++ line_end) }
+{
+    text.push_str(name)?;
     push_number(text, u64::from(process))?;
     text.push_str(" word ")?;
-    push_number(text, word.bits())?;
+    push_number(text, left.bits())?;
     text.push_str("\n")
 }
 
@@ -96,12 +120,19 @@ fn push_labels(text: &mut String, word: &LabelWord) -> Result<(), AllocError>
     Ok(())
 }
 
-// The digits of a process's label.
 fn push_label(text: &mut String, word: &LabelWord, process: u8) -> Result<(), AllocError>
     requires { process < length word.now }
     ensures { OnOk result (string_bytes text.new ≡ string_bytes text.old ++ label_text (label_at word.now process)) }
 {
-    let label = word.label(process);
+    match word.label(process) {
+        Some(label) => push_digits(text, &label),
+        None => text.push_str(ABSENT_LABEL),
+    }
+}
+
+fn push_digits(text: &mut String, label: &Label) -> Result<(), AllocError>
+    ensures { OnOk result (string_bytes text.new ≡ string_bytes text.old ++ label_text (Some label.now)) }
+{
     if label.is_empty() {
         return text.push_str(EMPTY_LABEL);
     }

@@ -4,7 +4,7 @@ ghost use Rattle.tick_kinds.specs.Accepted.{IsAccepted};
 ghost use Rattle.tick_syntax.specs.Plain.{Name, WholeProgram};
 ghost use Rattle.engine.specs.Answer.{Answer, done, refused};
 ghost use Rattle.engine.specs.Programs.{IsProgramText, IsTextAnswer, check_answer, source_answer};
-ghost use Rattle.engine.specs.prover.Replies.{IfRefused};
+ghost use Rattle.engine.specs.prover.Responses.{IfRefused};
 
 use crate::stop::Stop;
 use std::alloc::Global;

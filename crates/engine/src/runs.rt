@@ -6,11 +6,11 @@ ghost use Rattle.engine.specs.declared.command.Command.TheVariants.{Code as Code
 ghost use Rattle.engine.specs.Lowered.{IsCodeOf};
 ghost use Rattle.engine.specs.Runs.{IsOutcomeOf};
 ghost use Rattle.engine.specs.Text.{text_fault};
-ghost use Rattle.engine.specs.prover.Replies.{IfRefused, IsReplied, IsUnreplied};
+ghost use Rattle.engine.specs.prover.Responses.{IfRefused, IsAnswered, IsUnanswered};
 
 use crate::fault::EngineFault;
 use crate::lowered::runnable_code;
-use crate::reply::{Reply, stop_reply};
+use crate::response::{Response, stop_response};
 use crate::stop::Stop;
 use crate::text::text_of;
 use code_core::Code;
@@ -32,20 +32,20 @@ impl Gate for OpenGate {
     fn before(&mut self, _p: u8, _ask: Ask) {}
 }
 
-/// The whole reply to a run, by its input.
-pub fn run_reply<E: AllocGlobal + Threads + Wait>(
+/// The whole response to a run, by its input.
+pub fn run_response<E: AllocGlobal + Threads + Wait>(
     rt: &E,
     turns: u64,
     input: &[u8],
-) -> Result<Reply, EngineFault>
-    ensures { IsReplied (Run turns) input.now result }
+) -> Result<Response, EngineFault>
+    ensures { IsAnswered (Run turns) input.now result }
 {
     match input_code(rt.alloc(), input) {
         Ok(code) => {
             let text = run_text(rt, &code, turns)?;
-            Ok(Reply { status: 0, text })
+            Ok(Response { status: 0, text })
         }
-        Err(stop) => stop_reply(rt.alloc(), stop),
+        Err(stop) => stop_response(rt.alloc(), stop),
     }
 }
 
@@ -65,7 +65,7 @@ fn run_text<E: AllocGlobal + Threads + Wait>(
     turns: u64,
 ) -> Result<String, EngineFault>
     ensures ok { IfOk result (λ text. IsOutcomeOf code.now turns (done (string_bytes text))) }
-    ensures err { IfErr result (λ fault. IsUnreplied true fault) }
+    ensures err { IfErr result (λ fault. IsUnanswered true fault) }
 {
     let gates = open_gates(rt.alloc(), code.sizes().processes())?;
     let outcome = run(rt, rt.alloc(), code, gates, turns, OUTPUTS)?;

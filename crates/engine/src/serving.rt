@@ -8,13 +8,13 @@ ghost use Rattle.engine.specs.Commands.{PlainCommand, command_for, is_run, runs}
 ghost use Rattle.engine.specs.declared.command.Command.TheVariants.{Run};
 ghost use Rattle.engine.specs.Faults.{end_fault_in};
 ghost use Rattle.engine.specs.Serving.{Serves, ServesCommand, UnlessRun};
-ghost use Rattle.engine.specs.prover.Replies.{Fits, IsReplied, IsRepliedBy, plain_command};
+ghost use Rattle.engine.specs.prover.Responses.{Fits, IsAnswered, IsAnsweredBy, plain_command};
 
-use crate::answer::reply_to;
+use crate::answer::response_to;
 use crate::command::{Command, command_of};
 use crate::fault::EngineFault;
-use crate::reply::{Reply, line_reply};
-use crate::runs::run_reply;
+use crate::response::{Response, line_response};
+use crate::runs::run_response;
 use byte_io::{ByteSink, ByteSource, read_input, write_text};
 use command_line::asked;
 use std::alloc::Global;
@@ -44,10 +44,10 @@ pub fn engine<A: AllocGlobal + Threads + Wait, R: ByteSource, W: ByteSink>(
     match serve(rt.alloc(), words, reader, writer)? {
         Served::Status(status) => Ok(status),
         Served::Run(turns) => {
-            let replied = |input: &[u8]|
-                ensures { IsReplied (Run turns) input.now result }
-            { run_reply(rt, turns, input) };
-            answered(rt.alloc(), reader, writer, replied)
+            let respond = |input: &[u8]|
+                ensures { IsAnswered (Run turns) input.now result }
+            { run_response(rt, turns, input) };
+            answered(rt.alloc(), reader, writer, respond)
         }
     }
 }
@@ -70,45 +70,45 @@ pub fn serve<R: ByteSource, W: ByteSink>(
         Ok(command) => match command {
             Command::Run(turns) => Ok(Served::Run(turns)),
             _ => {
-                let replied = |input: &[u8]|
+                let respond = |input: &[u8]|
                     requires fits { Fits (plain_command command) }
                     requires no_run { runs (plain_command command) ≡ false }
-                    ensures { IsReplied (plain_command command.entry) input.now result }
-                { reply_to(alloc, command, input) };
-                let status = answered(alloc, reader, writer, replied)?;
+                    ensures { IsAnswered (plain_command command.entry) input.now result }
+                { response_to(alloc, command, input) };
+                let status = answered(alloc, reader, writer, respond)?;
                 Ok(Served::Status(status))
             }
         },
         Err(fault) => {
-            let reply = line_reply(alloc, fault)?;
-            let status = write_reply(writer, &reply)?;
+            let response = line_response(alloc, fault)?;
+            let status = write_response(writer, &response)?;
             Ok(Served::Status(status))
         }
     }
 }
 
-// Reads the input, and writes the reply to it.
-fn answered<R: ByteSource, W: ByteSink, F: FnOnce(&[u8]) -> Result<Reply, EngineFault>>(
+// Reads the input, and writes the response to it.
+fn answered<R: ByteSource, W: ByteSink, F: FnOnce(&[u8]) -> Result<Response, EngineFault>>(
     alloc: Global,
     reader: &mut R,
     writer: &mut W,
-    replied: F,
+    respond: F,
 ) -> Result<u8, EngineFault>
-    requires { F.IsAlwaysCallable replied }
-    ensures { (command : PlainCommand) → IsRepliedBy command (FnOnceReturnsAt F.FnOnce replied) → ServesCommand (Ok command) R.remaining R.counts W.written W.counts reader.old reader.new writer.old writer.new result }
+    requires { F.IsAlwaysCallable respond }
+    ensures { (command : PlainCommand) → IsAnsweredBy command (FnOnceReturnsAt F.FnOnce respond) → ServesCommand (Ok command) R.remaining R.counts W.written W.counts reader.old reader.new writer.old writer.new result }
 {
     let input = read_input(alloc, reader)?;
-    let reply = replied(input.as_slice())?;
-    write_reply(writer, &reply)
+    let response = respond(input.as_slice())?;
+    write_response(writer, &response)
 }
 
-fn write_reply<W: ByteSink>(writer: &mut W, reply: &Reply) -> Result<u8, EngineFault>
-    ensures status { IfOk result (λ status. status ≡ reply.now.status) }
-    ensures ok { OnOk result (Appends (W.written writer.old) (W.written writer.new) (string_bytes reply.now.text)) }
-    ensures err { OnErr result (WritesPrefix (W.written writer.old) (W.written writer.new) (string_bytes reply.now.text)) }
+fn write_response<W: ByteSink>(writer: &mut W, response: &Response) -> Result<u8, EngineFault>
+    ensures status { IfOk result (λ status. status ≡ response.now.status) }
+    ensures ok { OnOk result (Appends (W.written writer.old) (W.written writer.new) (string_bytes response.now.text)) }
+    ensures err { OnErr result (WritesPrefix (W.written writer.old) (W.written writer.new) (string_bytes response.now.text)) }
     ensures fault { IfErr result (λ fault. fault ≡ EngineFault.Write) }
     ensures counted { CountsWrites (end_fault_in result) (W.counts writer.old) (W.counts writer.new) }
 {
-    write_text(writer, reply.text.as_bytes())?;
-    Ok(reply.status)
+    write_text(writer, response.text.as_bytes())?;
+    Ok(response.status)
 }

@@ -267,7 +267,7 @@ struct Row {
 }
 
 const ORDERED: &str =
-    "layout 2\nstamp 0 word 3\nstamp 0 word 3\nword 3\nlabels 10 00 00\nranks 2 0 0\n";
+    "layout 3\nstamp 0 word 281474976710656\nstamp 0 word 281474976710656\nword 281474976710656\nlabels 00 . .\nranks 2 0 0\n";
 
 // What the stamps come to, over an input that is read in two calls.
 fn stamps<A: AllocGlobal + Abort + Threads + Wait>(
@@ -300,7 +300,7 @@ static FAILING: [Row; 4] = [
     Row {
         reading: 1,
         writing: 0,
-        step: 100,
+        step: 200,
         status: 3,
         written: "",
         calls: (1, 0),
@@ -308,7 +308,7 @@ static FAILING: [Row; 4] = [
     Row {
         reading: 2,
         writing: 0,
-        step: 100,
+        step: 200,
         status: 3,
         written: "",
         calls: (2, 0),
@@ -316,7 +316,7 @@ static FAILING: [Row; 4] = [
     Row {
         reading: 0,
         writing: 1,
-        step: 100,
+        step: 200,
         status: 3,
         written: "",
         calls: (2, 1),
@@ -326,7 +326,7 @@ static FAILING: [Row; 4] = [
         writing: 2,
         step: 23,
         status: 3,
-        written: "layout 2\nstamp 0 word 3",
+        written: "layout 3\nstamp 0 word 2",
         calls: (2, 2),
     },
 ];
@@ -336,7 +336,7 @@ static GOING_ON: [Row; 4] = [
     Row {
         reading: 1,
         writing: 1,
-        step: 100,
+        step: 200,
         status: 0,
         written: ORDERED,
         calls: (3, 2),
@@ -344,7 +344,7 @@ static GOING_ON: [Row; 4] = [
     Row {
         reading: 2,
         writing: 2,
-        step: 30,
+        step: 45,
         status: 0,
         written: ORDERED,
         calls: (3, 4),
@@ -352,7 +352,7 @@ static GOING_ON: [Row; 4] = [
     Row {
         reading: 0,
         writing: 0,
-        step: 100,
+        step: 200,
         status: 0,
         written: ORDERED,
         calls: (2, 1),
@@ -396,13 +396,18 @@ fn repeated(alloc: Global, first: &str, text: &str, last: &str) -> Result<String
 
 static STEPS: [usize; 3] = [1_000_000, 16_384, 1000];
 
-const LAST: &str = "word 0\nlabels -\nranks 0\n";
+const LAST: &str = "word 281474976710656\nlabels -\nranks 0\n";
 
 // More bytes than are read at a time, and more than are written, whole and in parts.
 #[test]
 fn large(rt: HostRuntime) -> Result<(), Fail> {
     let input = repeated(rt.alloc(), "", "0 ", "")?;
-    let answer = repeated(rt.alloc(), "layout 2\n", "stamp 0 word 0\n", LAST)?;
+    let answer = repeated(
+        rt.alloc(),
+        "layout 3\n",
+        "stamp 0 word 281474976710656\n",
+        LAST,
+    )?;
     for step in &STEPS {
         let output = Taken::new(rt.alloc(), *step, NEVER);
         let given = Given::new(input.as_bytes(), *step, NEVER);

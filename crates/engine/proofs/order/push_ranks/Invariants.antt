@@ -1,7 +1,7 @@
 use Rattle.std.proofs.Common.{◌≡◌, ◌++◌, drop, map, string_bytes}
 use Rattle.std.specs.Fmt.{decimal}
 use Rattle.text_core.specs.Lines.{spaced}
-use Rattle.label_core.specs.Labels.{label_ranks}
+use Rattle.word_core.specs.Order.{label_ranks}
 use Rattle.engine.proofs.order.push_ranks.Given as goal
 
 abbrev pub invariant-loop-rank : goal.invariant-loop-rank

@@ -2,20 +2,20 @@ use Rattle.tick_run.specs.declared.fault.RunFault.{RunFault}
 use Rattle.tick_run.specs.declared.fault.RunFault.TheVariants.{NoMemory, NoThread}
 use Rattle.std.proofs.Common.{true, refl}
 use Rattle.engine.specs.prover.Faults.{run_fault}
-use Rattle.engine.specs.prover.Replies.{IsUnreplied}
+use Rattle.engine.specs.prover.Responses.{IsUnanswered}
 use Rattle.engine.proofs.Weakening.{err_is}
 use Rattle.engine.proofs.runs.run_text.Goals as goal
 
-unreplied : (fault : RunFault) → IsUnreplied true (run_fault fault)
-unreplied NoMemory = tt
-unreplied NoThread = refl
+unanswered : (fault : RunFault) → IsUnanswered true (run_fault fault)
+unanswered NoMemory = tt
+unanswered NoThread = refl
 
 pub returns-in_err-gates-clause-err : goal.returns-in_err-gates-clause-err
 returns-in_err-gates-clause-err g c = rw (err_is c.from_residual.result c.from_residual.ensures.1) tt
 
 pub returns-in_err-outcome-clause-err : goal.returns-in_err-outcome-clause-err
 returns-in_err-outcome-clause-err g c =
-    rw (err_is c.from_residual-in_err-outcome.result c.from_residual-in_err-outcome.ensures.1) (unreplied c.in_err-outcome.field-0.0)
+    rw (err_is c.from_residual-in_err-outcome.result c.from_residual-in_err-outcome.ensures.1) (unanswered c.in_err-outcome.field-0.0)
 
 pub returns-in_err-text-clause-err : goal.returns-in_err-text-clause-err
 returns-in_err-text-clause-err g c = rw (err_is c.from_residual-in_err-text.result c.from_residual-in_err-text.ensures.1) tt

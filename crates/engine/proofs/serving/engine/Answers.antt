@@ -1,7 +1,7 @@
 use Rattle.std.proofs.Common.{ℕ, List, Ok, ap, subst}
 use Rattle.engine.specs.Commands.{is_run}
 use Rattle.engine.specs.declared.command.Command.TheVariants.{Run}
-use Rattle.engine.specs.prover.Replies.{IsReplied}
+use Rattle.engine.specs.prover.Responses.{IsAnswered}
 use Rattle.engine.proofs.ServingLemmas.{served_from}
 use Rattle.engine.proofs.serving.engine.Goals as goal
 
@@ -11,4 +11,4 @@ returns-in-Run g c =
     let asks = (handed.run c.in-Run.turns).0 c.in-Run.is in
     let untouched = handed.untouched (ap is_run asks) in
     served_from _ (Ok (Run c.in-Run.turns)) _ _ _ _ _ _ _ _ _ _ _ asks untouched.0 untouched.1
-    (c.answered.ensures (Run c.in-Run.turns) (λ input result gave. subst (λ (l : List ℕ). IsReplied (Run c.in-Run.turns) l result) gave.2 gave.1))
+    (c.answered.ensures (Run c.in-Run.turns) (λ input result gave. subst (λ (l : List ℕ). IsAnswered (Run c.in-Run.turns) l result) gave.2 gave.1))

@@ -2,15 +2,15 @@ use Rattle.std.proofs.Common.{◌≡◌, ◌∙◌, true, false, true≢false, E
 use Rattle.command_line.specs.declared.request.Request.{Request}
 use Rattle.engine.specs.Commands.{command_for, is_run, runs}
 use Rattle.engine.specs.declared.fault.EngineFault.TheVariants.{Memory}
-use Rattle.engine.specs.prover.Replies.{IsReplied, plain_command}
-use Rattle.engine.proofs.ServingLemmas.{gave_reply, no_run, replied_on_any, served_from, takes_none, unreplied}
+use Rattle.engine.specs.prover.Responses.{IsAnswered, plain_command}
+use Rattle.engine.proofs.ServingLemmas.{gave_response, no_run, answered_on_any, served_from, takes_none, unanswered}
 use Rattle.engine.proofs.Weakening.{err_is}
 use Rattle.engine.proofs.serving.serve.Goals as goal
 
 pub returns-in_err-request-clause-served : goal.returns-in_err-request-clause-served
 returns-in_err-request-clause-served g c =
     rw (err_is c.from_residual.result c.from_residual.ensures.1)
-    (unreplied _ _ _ _ _ _ _ (λ _. refl) (takes_none _) (omega arith) Memory tt _ refl)
+    (unanswered _ _ _ _ _ _ _ (λ _. refl) (takes_none _) (omega arith) Memory tt _ refl)
 
 pub returns-in_ok-status-in_default : goal.returns-in_ok-status-in_default
 returns-in_ok-status-in_default g c =
@@ -23,13 +23,13 @@ returns-in_ok-status-in_default g c =
       untouched = λ is. absurd (other (sym (ap is_run asks) ∙ is));
       memory = λ is. tt;
       served = served_from _ (Ok command) _ _ _ _ _ _ _ _ _ _ _ asks refl refl
-          (c.in_ok-status-in_default.ensures command (λ input result gave. subst (λ (l : List ℕ). IsReplied command l result) gave.2 gave.1));
+          (c.in_ok-status-in_default.ensures command (λ input result gave. subst (λ (l : List ℕ). IsAnswered command l result) gave.2 gave.1));
     }
 
-pub returns-in_err-reply-in-Err-clause-served : goal.returns-in_err-reply-in-Err-clause-served
-returns-in_err-reply-in-Err-clause-served g c =
-    rw (err_is c.from_residual-in_err-reply-in-Err.result c.from_residual-in_err-reply-in-Err.ensures.1)
-    (unreplied _ _ _ _ _ _ _ (λ _. refl) (takes_none _) (omega arith) Memory tt _ refl)
+pub returns-in_err-response-in-Err-clause-served : goal.returns-in_err-response-in-Err-clause-served
+returns-in_err-response-in-Err-clause-served g c =
+    rw (err_is c.from_residual-in_err-response-in-Err.result c.from_residual-in_err-response-in-Err.ensures.1)
+    (unanswered _ _ _ _ _ _ _ (λ _. refl) (takes_none _) (omega arith) Memory tt _ refl)
 
 pub returns-in_err-status-in-Err-clause-served : goal.returns-in_err-status-in-Err-clause-served
 returns-in_err-status-in-Err-clause-served g c =
@@ -37,8 +37,8 @@ returns-in_err-status-in-Err-clause-served g c =
     let asks = sym (ap (λ (asked : Option (Request (List ℕ))). command_for asked) c.in_ok-request.ensures) ∙ c.in-Err.ensures.command in
     rw (err_is c.from_residual-in_err-status-in-Err.result c.from_residual-in_err-status-in-Err.ensures.1)
     (served_from _ (Err c.in-Err.fault) _ _ _ _ _ _ _ _ _ _ _ asks refl refl
-    (gave_reply (Err c.in-Err.fault) _ _ _ _ _ _ (λ _. refl) (takes_none _) (omega arith) c.in_ok-reply-in-Err.reply _ _ (Err c.in_err-status-in-Err.field-0.0)
-    (replied_on_any c.in-Err.fault _ c.in_ok-reply-in-Err.reply c.in_ok-reply-in-Err.ensures)
+    (gave_response (Err c.in-Err.fault) _ _ _ _ _ _ (λ _. refl) (takes_none _) (omega arith) c.in_ok-response-in-Err.response _ _ (Err c.in_err-status-in-Err.field-0.0)
+    (answered_on_any c.in-Err.fault _ c.in_ok-response-in-Err.response c.in_ok-response-in-Err.ensures)
     refl sent.status sent.ok sent.err sent.fault sent.counted))
 
 pub returns-in_ok-status-in-Err-clause-served : goal.returns-in_ok-status-in-Err-clause-served
@@ -46,6 +46,6 @@ returns-in_ok-status-in-Err-clause-served g c =
     let sent = c.in_ok-status-in-Err.ensures in
     let asks = sym (ap (λ (asked : Option (Request (List ℕ))). command_for asked) c.in_ok-request.ensures) ∙ c.in-Err.ensures.command in
     served_from _ (Err c.in-Err.fault) _ _ _ _ _ _ _ _ _ _ _ asks refl refl
-    (gave_reply (Err c.in-Err.fault) _ _ _ _ _ _ (λ _. refl) (takes_none _) (omega arith) c.in_ok-reply-in-Err.reply _ _ _
-    (replied_on_any c.in-Err.fault _ c.in_ok-reply-in-Err.reply c.in_ok-reply-in-Err.ensures)
+    (gave_response (Err c.in-Err.fault) _ _ _ _ _ _ (λ _. refl) (takes_none _) (omega arith) c.in_ok-response-in-Err.response _ _ _
+    (answered_on_any c.in-Err.fault _ c.in_ok-response-in-Err.response c.in_ok-response-in-Err.ensures)
     refl sent.status sent.ok sent.err sent.fault sent.counted)

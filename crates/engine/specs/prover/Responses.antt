@@ -1,4 +1,4 @@
--- Commands, replies and what stops a command, as the code has them, beside the definitions.
+-- Commands, says and what stops a command, as the code has them, beside the definitions.
 use Rattle.std.specs.Prelude.{◌≡◌, ◌≤◌, ℕ, Bool, true, List, Result, Ok, Err, string_bytes}
 use Rattle.std.specs.Borrow.{Bor}
 use Rattle.engine.specs.Answer.{Answer, refused}
@@ -8,7 +8,7 @@ use Rattle.engine.specs.declared.command.Command.TheVariants.{Order, Check, Emit
 use Rattle.engine.specs.declared.fault.EngineFault.{EngineFault}
 use Rattle.engine.specs.declared.fault.EngineFault.TheVariants.{Memory as EngineMemory, Thread}
 use Rattle.engine.specs.declared.refusal.Refusal.{Refusal}
-use Rattle.engine.specs.declared.reply.Reply.{Reply}
+use Rattle.engine.specs.declared.response.Response.{Response}
 use Rattle.engine.specs.declared.stop.Stop.{Stop}
 use Rattle.engine.specs.declared.stop.Stop.TheVariants.{Refused, Memory}
 
@@ -28,37 +28,37 @@ abbrev pub Fits : PlainCommand → Type 0
 Fits (Order n) = (1 ≤ n) × (n ≤ 6)
 Fits other = Unit {0}
 
--- the reply is this answer
-pub record Replies (reply : Reply) (a : Answer) : Type 0 where
-  pub status : reply.status ≡ a.status
-  pub text : string_bytes reply.text ≡ a.text
+-- the response is this answer
+pub record Says (response : Response) (a : Answer) : Type 0 where
+  pub status : response.status ≡ a.status
+  pub text : string_bytes response.text ≡ a.text
 
--- the reply is an answer of these
-pub record IsReply (allowed : Answer → Type 0) (reply : Reply) : Type 0 where
+-- the response is an answer of these
+pub record IsResponse (allowed : Answer → Type 0) (response : Response) : Type 0 where
   pub answer : Answer
   pub is_allowed : allowed answer
-  pub replies : Replies reply answer
+  pub says : Says response answer
 
--- what can keep a command from its reply: want of memory, or of a thread for a run
-abbrev pub IsUnreplied : Bool → EngineFault → Type 0
-IsUnreplied run EngineMemory = Unit {0}
-IsUnreplied run Thread = run ≡ true
-IsUnreplied run other = ⊥
+-- what can keep a command from its response: want of memory, or of a thread for a run
+abbrev pub IsUnanswered : Bool → EngineFault → Type 0
+IsUnanswered run EngineMemory = Unit {0}
+IsUnanswered run Thread = run ≡ true
+IsUnanswered run other = ⊥
 
-abbrev pub IsReplied : PlainCommand → List ℕ → Result Reply EngineFault → Type 0
-IsReplied command input (Ok reply) = IsReply (InputAnswers command input) reply
-IsReplied command input (Err fault) = IsUnreplied (runs command) fault
+abbrev pub IsAnswered : PlainCommand → List ℕ → Result Response EngineFault → Type 0
+IsAnswered command input (Ok response) = IsResponse (InputAnswers command input) response
+IsAnswered command input (Err fault) = IsUnanswered (runs command) fault
 
--- what is given for an input is a reply to the command on it
-abbrev pub IsRepliedBy : PlainCommand → (List ℕ → Result Reply EngineFault → Type 0) → Type 0
-IsRepliedBy command gives = (input : List ℕ) (result : Result Reply EngineFault) → gives input result → IsReplied command input result
+-- what is given for an input is a response to the command on it
+abbrev pub IsAnsweredBy : PlainCommand → (List ℕ → Result Response EngineFault → Type 0) → Type 0
+IsAnsweredBy command gives = (input : List ℕ) (result : Result Response EngineFault) → gives input result → IsAnswered command input result
 
 -- P of the refusal, where it is one
 abbrev pub IfRefused : Stop → (Refusal → Type 0) → Type 0
 IfRefused (Refused refusal) P = P refusal
 IfRefused Memory P = Unit {0}
 
--- the reply to what stops a command
-abbrev pub RepliesStop : Reply → Stop → Type 0
-RepliesStop reply (Refused refusal) = Replies reply (refused refusal)
-RepliesStop reply Memory = ⊥
+-- the response to what stops a command
+abbrev pub SaysStop : Response → Stop → Type 0
+SaysStop response (Refused refusal) = Says response (refused refusal)
+SaysStop response Memory = ⊥

@@ -1,15 +1,15 @@
 use Rattle.std.proofs.Common.{refl, string_bytes}
 use Rattle.engine.specs.Answer.{done}
 use Rattle.engine.specs.declared.command.Command.TheVariants.{Run}
-use Rattle.engine.proofs.RunLemmas.{run_done, run_refused, stop_replied}
+use Rattle.engine.proofs.RunLemmas.{run_done, run_refused, stop_answered}
 use Rattle.engine.proofs.Weakening.{err_is, if_refused}
-use Rattle.engine.proofs.runs.run_reply.Goals as goal
+use Rattle.engine.proofs.runs.run_response.Goals as goal
 
 pub returns-in_ok-text-in-Ok : goal.returns-in_ok-text-in-Ok
 returns-in_ok-text-in-Ok g c = record {
   answer = done (string_bytes c.in_ok-text-in-Ok.text);
   is_allowed = run_done c.args.turns c.args.input.now _ c.in-Ok.code c.in-Ok.ensures.text c.in-Ok.ensures.code c.in_ok-text-in-Ok.ensures.ok;
-  replies = record { status = refl; text = refl };
+  says = record { status = refl; text = refl };
 }
 
 pub returns-in_err-text-in-Ok : goal.returns-in_err-text-in-Ok
@@ -17,5 +17,5 @@ returns-in_err-text-in-Ok g c = rw (err_is c.from_residual.result c.from_residua
 
 pub returns-in-Err : goal.returns-in-Err
 returns-in-Err g c =
-    stop_replied (Run c.args.turns) c.args.input.now c.in-Err.stop c.stop_reply.result c.stop_reply.ensures.ok c.stop_reply.ensures.err
+    stop_answered (Run c.args.turns) c.args.input.now c.in-Err.stop c.stop_response.result c.stop_response.ensures.ok c.stop_response.ensures.err
     (if_refused _ _ (λ refusal told. run_refused c.args.turns c.args.input.now refusal told) c.in-Err.stop c.in-Err.ensures.refused)
