@@ -32,7 +32,7 @@ static ROWS: [Row; 6] = [
     (
         1,
         "0 0 0*2 0",
-        "layout 2\nstamp 0 word 0\nstamp 0 word 0\nstamp 0 word 0\nstamp 0 word 0\nstamp 0 word 0\nword 0\nlabels -\nranks 0\n",
+        "layout 3\nstamp 0 word 281474976710656\nstamp 0 word 281474976710656\nstamp 0 word 281474976710656\nstamp 0 word 281474976710656\nstamp 0 word 281474976710656\nword 281474976710656\nlabels -\nranks 0\n",
         "0*7 0*7",
         "0 put 0 7\n0 stamp\n0 scan 0\n0 older 0 0 0\n0 get 0 0 7\n0 out 7\n0 end\nreg 0 7\nstatus 0 ended\n",
         "0*16",
@@ -42,7 +42,7 @@ static ROWS: [Row; 6] = [
     (
         2,
         "0 1 0*2 1",
-        "layout 2\nstamp 0 word 1\nstamp 1 word 513\nstamp 0 word 512\nstamp 0 word 512\nstamp 1 word 256\nword 256\nlabels 0 1\nranks 0 1\n",
+        "layout 3\nstamp 0 word 281474976710656\nstamp 1 word 844424930132224\nstamp 0 word 844424930132226\nstamp 0 word 844424930132226\nstamp 1 word 844424930131970\nword 844424930131970\nlabels 2 0\nranks 0 1\n",
         "0*7 1*7",
         "0 put 0 7\n0 stamp\n0 scan 1 0\n0 older 0 0 0\n0 get 0 0 7\n0 out 7\n0 end\n1 put 0 8\n1 stamp\n1 scan 0 1\n1 older 1 0 0\n1 get 0 1 8\n1 out 8\n1 end\nreg 0 7 8\nstatus 0 ended\nstatus 1 ended\n",
         "0*16 1*16",
@@ -52,7 +52,7 @@ static ROWS: [Row; 6] = [
     (
         3,
         "0 2 0*2 2",
-        "layout 2\nstamp 0 word 3\nstamp 2 word 262147\nstamp 0 word 262149\nstamp 0 word 262149\nstamp 2 word 196613\nword 196613\nlabels 12 00 10\nranks 1 0 2\n",
+        "layout 3\nstamp 0 word 281474976710656\nstamp 2 word 1407374883618816\nstamp 0 word 1407374883618818\nstamp 0 word 1407374883618818\nstamp 2 word 1407374883553282\nword 1407374883553282\nlabels 02 . 00\nranks 1 0 2\n",
         "0*7 2*7",
         "0 put 0 7\n0 stamp\n0 scan 2 0 0\n0 older 0 0 0\n0 get 0 0 7\n0 out 7\n0 end\n2 put 0 9\n2 stamp\n2 scan 1 0 2\n2 older 2 0 0\n2 get 0 2 9\n2 out 9\n2 end\nreg 0 7 0 9\nstatus 0 ended\nstatus 1 running\nstatus 2 ended\n",
         "0*16 2*16",
@@ -62,7 +62,7 @@ static ROWS: [Row; 6] = [
     (
         4,
         "0 3 0*2 3",
-        "layout 2\nstamp 0 word 9\nstamp 3 word 167772169\nstamp 0 word 167772171\nstamp 0 word 167772171\nstamp 3 word 150994955\nword 150994955\nlabels 102 000 000 100\nranks 2 0 0 3\n",
+        "layout 3\nstamp 0 word 281474976710656\nstamp 3 word 2533274807173120\nstamp 0 word 2533274807173122\nstamp 0 word 2533274807173122\nstamp 3 word 2533274790395906\nword 2533274790395906\nlabels 002 . . 000\nranks 2 0 0 3\n",
         "0*7 3*7",
         "0 put 0 7\n0 stamp\n0 scan 3 0 0 0\n0 older 0 0 0\n0 get 0 0 7\n0 out 7\n0 end\n3 put 0 10\n3 stamp\n3 scan 2 0 0 3\n3 older 3 0 0\n3 get 0 3 10\n3 out 10\n3 end\nreg 0 7 0 0 10\nstatus 0 ended\nstatus 1 running\nstatus 2 running\nstatus 3 ended\n",
         "0*16 3*16",
@@ -72,7 +72,7 @@ static ROWS: [Row; 6] = [
     (
         5,
         "0 4 0*2 4",
-        "layout 2\nstamp 0 word 27\nstamp 4 word 120259084315\nstamp 0 word 120259084317\nstamp 0 word 120259084317\nstamp 4 word 115964117021\nword 115964117021\nlabels 1002 0000 0000 0000 1000\nranks 3 0 0 0 4\n",
+        "layout 3\nstamp 0 word 281474976710656\nstamp 4 word 4785078899048448\nstamp 0 word 4785078899048450\nstamp 0 word 4785078899048450\nstamp 4 word 4785074604081154\nword 4785074604081154\nlabels 0002 . . . 0000\nranks 3 0 0 0 4\n",
         "0*7 4*7",
         "0 put 0 7\n0 stamp\n0 scan 4 0 0 0 0\n0 older 0 0 0\n0 get 0 0 7\n0 out 7\n0 end\n4 put 0 11\n4 stamp\n4 scan 3 0 0 0 4\n4 older 4 0 0\n4 get 0 4 11\n4 out 11\n4 end\nreg 0 7 0 0 0 11\nstatus 0 ended\nstatus 1 running\nstatus 2 running\nstatus 3 running\nstatus 4 ended\n",
         "0*16 4*16",
@@ -82,7 +82,7 @@ static ROWS: [Row; 6] = [
     (
         6,
         "0 5 0*2 5",
-        "layout 2\nstamp 0 word 81\nstamp 5 word 90159953477713\nstamp 0 word 90159953477715\nstamp 0 word 90159953477715\nstamp 5 word 89060441849939\nword 89060441849939\nlabels 10002 00000 00000 00000 00000 10000\nranks 4 0 0 0 0 5\n",
+        "layout 3\nstamp 0 word 281474976710656\nstamp 5 word 9289773743079424\nstamp 0 word 9289773743079426\nstamp 0 word 9289773743079426\nstamp 5 word 9288674231451650\nword 9288674231451650\nlabels 00002 . . . . 00000\nranks 4 0 0 0 0 5\n",
         "0*7 5*7",
         "0 put 0 7\n0 stamp\n0 scan 5 0 0 0 0 0\n0 older 0 0 0\n0 get 0 0 7\n0 out 7\n0 end\n5 put 0 12\n5 stamp\n5 scan 4 0 0 0 0 5\n5 older 5 0 0\n5 get 0 5 12\n5 out 12\n5 end\nreg 0 7 0 0 0 0 12\nstatus 0 ended\nstatus 1 running\nstatus 2 running\nstatus 3 running\nstatus 4 running\nstatus 5 ended\n",
         "0*16 5*16",
@@ -97,7 +97,7 @@ fn texts<R: AllocGlobal + Abort + Threads + Wait>(rt: &R, row: &Row) -> Result<(
     let number = format!(in rt.alloc(); "{n}")?;
     let program = format!(in rt.alloc(); "processes {n}; {BODY}")?;
     let printed = format!(in rt.alloc(); "processes {n} ;\n{PRINTED}")?;
-    let code = format!(in rt.alloc(); "tickcode 1 {n} 1 1 1\n{CODE}")?;
+    let code = format!(in rt.alloc(); "tickcode 2 {n} 1 1 1\n{CODE}")?;
     let order = ["ticketc", "order", number.as_str()];
     answers(rt, &order, stamps.as_bytes(), 0, words)?;
     let program = program.as_bytes();

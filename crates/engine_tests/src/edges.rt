@@ -31,7 +31,7 @@ static ANSWERS: [(&[&str], &[u8], u8, &str); 24] = [
         &["ticketc", "order", "6"],
         b" \n",
         0,
-        "layout 2\nword 0\nlabels 00000 00000 00000 00000 00000 00000\nranks 0 0 0 0 0 0\n",
+        "layout 3\nword 0\nlabels . . . . . .\nranks 0 0 0 0 0 0\n",
     ),
     // numbers of 20 digits
     (
@@ -60,7 +60,7 @@ static ANSWERS: [(&[&str], &[u8], u8, &str); 24] = [
         &["ticketc", "order", "00000000000000000002"],
         b"00000000000000000001",
         0,
-        "layout 2\nstamp 1 word 256\nword 256\nlabels 0 1\nranks 0 1\n",
+        "layout 3\nstamp 1 word 562949953421312\nword 562949953421312\nlabels . 0\nranks 0 1\n",
     ),
     (
         &["ticketc", "check"],
@@ -79,13 +79,13 @@ static ANSWERS: [(&[&str], &[u8], u8, &str); 24] = [
     // first lines that are none
     (
         &["ticketc", "code", "0"],
-        b"tickcode 2 1 0 0 0\nHalt\n",
+        b"tickcode 3 1 0 0 0\nHalt\n",
         1,
         "refused 29 BadLine 1\n",
     ),
     (
         &["ticketc", "run", "5"],
-        b"tickcode 2 1 0 0 0\nHalt\n",
+        b"tickcode 0 1 0 0 0\nHalt\n",
         1,
         "refused 29 BadLine 1\n",
     ),
@@ -132,7 +132,8 @@ fn long_gaps(rt: HostRuntime) -> Result<(), Fail> {
     let report = "1 end\n0 end\nstatus 0 ended\nstatus 1 ended\n";
     let words = ["ticketc", "source", schedule.as_str()];
     answers(&rt, &words, program.as_bytes(), 0, report)?;
-    let stamps = "layout 2\nstamp 1 word 256\nstamp 0 word 258\nword 258\nlabels 2 1\nranks 1 0\n";
+    let stamps =
+        "layout 3\nstamp 1 word 562949953421312\nstamp 0 word 844424930131969\nword 844424930131969\nlabels 1 0\nranks 1 0\n";
     answers(
         &rt,
         &["ticketc", "order", "2"],
@@ -150,7 +151,7 @@ fn far_places(rt: HostRuntime) -> Result<(), Fail> {
     let code =
         "Push 0\nJumpZero 40007\nPush 2\nOut\nJump 40002\nPush 1\nJumpZero 40012\nPush 3\nOut\nJump 40014\nPush 4\nOut\nLoadWord\nNext\nExchange 40014\nHalt\n";
     let program = repeated(alloc, "processes 1; begin ", "out 1; ", 20_001, far)?;
-    let code = repeated(alloc, "tickcode 1 1 0 0 0\n", "Push 1\nOut\n", 20_001, code)?;
+    let code = repeated(alloc, "tickcode 2 1 0 0 0\n", "Push 1\nOut\n", 20_001, code)?;
     let report = "0 out 3\n0 stamp\n0 end\nstatus 0 ended\n";
     let report = repeated(alloc, "", "0 out 1\n", 20_001, report)?;
     let (program, code, report) = (program.as_bytes(), code.as_str(), report.as_str());

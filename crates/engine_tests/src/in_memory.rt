@@ -7,13 +7,18 @@ use std::alloc::Global;
 pub enum Disturbance {
     Never,
     Interrupted { from: u64, below: u64 },
+    /// Interrupted at each call whose number is so many times this one.
+    Each(u64),
     Failed(u64),
+    /// Of a writer: none of some bytes is taken.
+    TakesNone(u64),
 }
 
 impl Disturbance {
     fn interrupts(self, call: u64) -> bool {
         match self {
             Disturbance::Interrupted { from, below } => from <= call && call < below,
+            Disturbance::Each(number) => call.checked_rem(number) == Some(0),
             _ => false,
         }
     }
@@ -21,6 +26,13 @@ impl Disturbance {
     fn fails(self, call: u64) -> bool {
         match self {
             Disturbance::Failed(at) => at == call,
+            _ => false,
+        }
+    }
+
+    fn takes_none(self, call: u64) -> bool {
+        match self {
+            Disturbance::TakesNone(at) => at == call,
             _ => false,
         }
     }
@@ -104,7 +116,11 @@ impl ByteSink for Output {
             self.counts.count_write(Transfer::Interrupted, bytes);
             return Transfer::Interrupted;
         }
-        let count = self.step.min(bytes.len());
+        let count = if self.disturbance.takes_none(call) {
+            0
+        } else {
+            self.step.min(bytes.len())
+        };
         let taken = !self.disturbance.fails(call)
             && self.bytes.extend_from_slice(&bytes[..count]).is_ok();
         let transfer = if taken {

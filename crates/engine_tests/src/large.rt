@@ -33,10 +33,10 @@ fn prints<R: AllocGlobal + Abort + Threads + Wait>(
 fn hundred_thousand_stamps(rt: HostRuntime) -> Result<(), Fail> {
     let answer = repeated(
         rt.alloc(),
-        "layout 2\n",
-        "stamp 0 word 3\n",
+        "layout 3\n",
+        "stamp 0 word 281474976710656\n",
         100_000,
-        "word 3\nlabels 10 00 00\nranks 2 0 0\n",
+        "word 281474976710656\nlabels 00 . .\nranks 2 0 0\n",
     )?;
     answers(
         &rt,

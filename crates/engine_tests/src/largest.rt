@@ -76,7 +76,7 @@ static PRINTED: [Piece; 27] = [
 ];
 
 static CODE: [Piece; 19] = [
-    ("tickcode 1 6 64 16 8\n", 0, 0, 1),
+    ("tickcode 2 6 64 16 8\n", 0, 0, 1),
     ("Count\nPush @\nBin +\nStore @\n", 0, 1, 64),
     ("LoadWord\nNext\nExchange 256\n", 0, 0, 1),
     ("Scan @\n", 0, 1, 16),

@@ -1,7 +1,8 @@
 //! Tests of the library `engine`, in a crate of their own, so that they cost no second proof of it.
 //!
 //! What no clause says stands here: that each command has an answer where memory is left, that each
-//! kind of statement and each refusal comes through, and what ends that fail make of it.
+//! kind of statement and each refusal comes through, and what ends that fail make of it. Start with
+//! `answering`, over which the others stand; `orders` and `programs` have the worked cases.
 #![tactic(auto)]
 
 #[cfg(test)]
@@ -10,6 +11,8 @@ mod answering;
 mod codes;
 #[cfg(test)]
 mod disturbed;
+#[cfg(test)]
+mod each_call;
 #[cfg(test)]
 mod each_number;
 #[cfg(test)]

@@ -3,15 +3,17 @@ use crate::answering::{holds, says};
 use std::test::Fail;
 use testing::repeated;
 
-// Six stamps of two processes in turn bring the word back.
+// Two stamps of two processes, and then six in turn that bring the word back.
+const FIRST: &str = "layout 3\nstamp 0 word 281474976710656\nstamp 1 word 844424930132224\n";
+
 const ROUND: &str =
-    "stamp 0 word 1\nstamp 1 word 513\nstamp 0 word 512\nstamp 1 word 256\nstamp 0 word 258\nstamp 1 word 2\n";
+    "stamp 0 word 844424930132226\nstamp 1 word 844424930131970\nstamp 0 word 844424930131969\nstamp 1 word 844424930132481\nstamp 0 word 844424930132480\nstamp 1 word 844424930132224\n";
 
 #[test]
 fn half_a_million_stamps(rt: HostRuntime) -> Result<(), Fail> {
     let input = repeated(rt.alloc(), "", "0 1 ", 250_000, "")?;
-    let end = "stamp 0 word 1\nstamp 1 word 513\nword 513\nlabels 1 2\nranks 0 1\n";
-    let answer = repeated(rt.alloc(), "layout 2\n", ROUND, 83_333, end)?;
+    let end = "word 844424930132224\nlabels 0 1\nranks 0 1\n";
+    let answer = repeated(rt.alloc(), FIRST, ROUND, 83_333, end)?;
     says(
         &rt,
         &["ticketc", "order", "2"],

@@ -26,19 +26,19 @@ static ANSWERS: [(&[&str], &[u8], u8, &str); 19] = [
         &["ticketc", "emit"],
         QUEUE,
         0,
-        "tickcode 1 2 1 1 0\nLoadWord\nNext\nExchange 0\nScan 0\nPush 0\nPush 1\nOlder 0 0\nLoad 0\nOut\nHalt\n",
+        "tickcode 2 2 1 1 0\nLoadWord\nNext\nExchange 0\nScan 0\nPush 0\nPush 1\nOlder 0 0\nLoad 0\nOut\nHalt\n",
     ),
     (
         &["ticketc", "emit"],
         COUNT,
         0,
-        "tickcode 1 1 1 0 0\nLoad 0\nPush 2\nBin <\nJumpZero 9\nLoad 0\nPush 1\nBin +\nStore 0\nJump 0\nLoad 0\nOut\nHalt\n",
+        "tickcode 2 1 1 0 0\nLoad 0\nPush 2\nBin <\nJumpZero 9\nLoad 0\nPush 1\nBin +\nStore 0\nJump 0\nLoad 0\nOut\nHalt\n",
     ),
     (
         &["ticketc", "emit"],
         b"processes 1; var x; begin if x { out 1; } else { out 2; } end",
         0,
-        "tickcode 1 1 1 0 0\nLoad 0\nJumpZero 5\nPush 1\nOut\nJump 7\nPush 2\nOut\nHalt\n",
+        "tickcode 2 1 1 0 0\nLoad 0\nJumpZero 5\nPush 1\nOut\nJump 7\nPush 2\nOut\nHalt\n",
     ),
     (&["ticketc", "lift", "0*5 1*5"], QUEUE, 0, "0*10 1*10\n"),
     (&["ticketc", "lift", "0*7"], COUNT, 0, "0*25\n"),
@@ -137,7 +137,7 @@ static TOO_LONG: [&[&str]; 5] = [
 
 #[test]
 fn longest_code_of_a_program(rt: HostRuntime) -> Result<(), Fail> {
-    let front = "tickcode 1 1 0 0 0\n";
+    let front = "tickcode 2 1 0 0 0\n";
     let code = repeated(rt.alloc(), front, "Push 1\nOut\n", 32_767, "Halt\n")?;
     let emit = ["ticketc", "emit"];
     answers_on(&rt, &emit, "out 1; ", 32_767, 0, code.as_str())?;

@@ -1,6 +1,9 @@
-//! Runs each program of `examples/` under the schedule beside it, and tells whether the report is the
-//! one that stands there. The reports are another interpreter's. Then it runs the code of one of them
-//! under a schedule in which an exchange is lost, and the program under what that schedule stands for.
+//! Runs each program of `examples/` under the schedule beside it, and tells whether the report is
+//! the one that stands there. The reports are another interpreter's. Then it runs the code of one
+//! of them under a schedule in which an exchange is lost, and the program under what that schedule
+//! stands for.
+//!
+//! Start with the programs themselves, in `data/`.
 #![tactic(auto)]
 
 use anyhow::Error;
@@ -13,11 +16,16 @@ use tick_play::{play_code, play_source, read_schedule, write_schedule};
 use tick_sim::project;
 use tick_syntax::parse;
 
-const EXAMPLES: [&str; 4] = [
+const EXAMPLES: [&str; 9] = [
+    "two_tickets",
     "first_come_queue",
     "ticket_count",
     "registers",
     "loop_with_trap",
+    "queue_with_fault",
+    "queue_repaired",
+    "decision_with_fault",
+    "decision_repaired",
 ];
 
 fn main(rt: HostRuntime) -> Result<(), Error> {

@@ -7,10 +7,7 @@ use tick_lower::LowerFault;
 static CODE_FAULTS: [(CodeFault, &str); 10] = [
     (CodeFault::Empty, "the code is empty"),
     (CodeFault::TooLong, "the code is too long"),
-    (
-        CodeFault::BadJump(4),
-        "instruction 4 jumps past the end",
-    ),
+    (CodeFault::BadJump(4), "instruction 4 jumps past the end"),
     (
         CodeFault::StackShort(4),
         "instruction 4 takes more values than there are",

@@ -3,7 +3,8 @@ use crate::told::tells;
 use std::test::Fail;
 use tick_kinds::{Kind, KindFault};
 use tick_play::ScheduleFault;
-use tick_syntax::{TextFault, span::Span};
+use tick_syntax::TextFault;
+use tick_syntax::span::Span;
 
 const SPAN: Span = Span { start: 7, end: 12 };
 

@@ -1,5 +1,7 @@
-// What the texts of programs, codes, schedules and answers share: blanks, decimal numbers, and what
-// lines are made of. Start with `number` and `push_number`.
+//! What the texts of programs, codes, schedules and answers share: blanks, decimal numbers, and
+//! what lines are made of.
+//!
+//! Start with `number` and `push_number`.
 #![tactic(auto)]
 
 mod blank;
