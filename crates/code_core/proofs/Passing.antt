@@ -46,14 +46,16 @@ order : {P : Type 0} (a b : ℕ) → (a < b → P) → (a ≡ b → P) → (b < 
 order zero zero below at past = at refl
 order zero (suc b) below at past = below (omega arith)
 order (suc a) zero below at past = past (omega arith)
-order (suc a) (suc b) below at past = order a b (λ h. below (omega arith)) (λ h. at (ap suc h)) (λ h. past (omega arith))
+order (suc a) (suc b) below at past = order a b (λ h. below (omega arith)) (λ h. at (ap suc h))
+    (λ h. past (omega arith))
 
 pub length-noted : (hs : List (Option ℕ)) (t : Option ℕ) (h : ℕ) → length (noted hs t h) ≡ length hs
 length-noted hs None h = refl
 length-noted hs (Some l) h = length-set hs l (Some (or_this (joined (slice_get hs l)) h))
 
 -- One instruction more is passed.
-module _ (z : CodeSizes) (code : List Instr) (k : ℕ) (hs : List (Option ℕ)) (before : Option ℕ) (most : ℕ) (pass : Passing z code k hs before most)
+module _ (z : CodeSizes) (code : List Instr) (k : ℕ) (hs : List (Option ℕ)) (before : Option ℕ) (most : ℕ)
+    (pass : Passing z code k hs before most)
     (i : Instr) (here : slice_get code k ≡ Some i) (came : Option ℕ) (there_held : slice_get hs k ≡ Some came) where
   inside : k < length code
   inside = slice_get_within code k i here
@@ -76,8 +78,10 @@ module _ (z : CodeSizes) (code : List Instr) (k : ℕ) (hs : List (Option ℕ)) 
   length_more = length-append pass.passed ((i, h) ∷ []) ∙ ap (λ n. n + 1) pass.long
 
   told_more : first_fault z code [] (placed code)
-      ≡ or_else (fault_at z code (length pass.passed) i h (jump_height pass.passed (length pass.passed)) (known_to more (target i))) (first_fault z code more next)
-  told_more = pass.told ∙ ap (λ is. first_fault z code pass.passed (placed_from is pass.passed before)) (drop_here code k i here)
+      ≡ or_else (fault_at z code (length pass.passed) i h (jump_height pass.passed (length pass.passed))
+          (known_to more (target i))) (first_fault z code more next)
+  told_more = pass.told ∙ ap (λ is. first_fault z code pass.passed (placed_from is pass.passed before))
+      (drop_here code k i here)
 
   abbrev own : List (Option ℕ)
   own = set hs k (Some h)
@@ -88,18 +92,21 @@ module _ (z : CodeSizes) (code : List Instr) (k : ℕ) (hs : List (Option ℕ)) 
       ⊎_elim
       (λ same.
       ap (slice_get own) same ∙ get_set_same hs k (Some h) (omega (arith, pass.held))
-      ∙ ap Some (sym (known_inside more q (omega (arith, length_more)) ∙ ap (λ j. height_of (slice_get more j)) (same ∙ sym pass.long)
+      ∙ ap Some (sym (known_inside more q (omega (arith, length_more))
+      ∙ ap (λ j. height_of (slice_get more j)) (same ∙ sym pass.long)
       ∙ ap height_of (get_seam pass.passed (i, h) []))))
       (λ below.
       get_set_other hs k q (Some h) (λ e. absurd (omega arith)) ∙ pass.each q there
-      ∙ ap Some (known_inside pass.passed q (omega (arith, pass.long)) ∙ ap height_of (sym (get_front pass.passed ((i, h) ∷ []) q (omega (arith, pass.long))))
+      ∙ ap Some (known_inside pass.passed q (omega (arith, pass.long))
+      ∙ ap height_of (sym (get_front pass.passed ((i, h) ∷ []) q (omega (arith, pass.long))))
       ∙ sym (known_inside more q (omega (arith, length_more)))))
       (eq-or-lt_of_le upto)
 
   -- and of places ahead
   own_ahead : (q : ℕ) → k < q → q < length code → slice_get own q ≡ Some (jump_height pass.passed q)
   own_ahead q past there =
-      get_set_other hs k q (Some h) (λ e. absurd (omega arith)) ∙ pass.each q there ∙ ap Some (known_ahead pass.passed q (omega (arith, pass.long)))
+      get_set_other hs k q (Some h) (λ e. absurd (omega arith)) ∙ pass.each q there
+          ∙ ap Some (known_ahead pass.passed q (omega (arith, pass.long)))
 
   more_ahead : (q : ℕ) → k < q → known more q ≡ either (jump_height pass.passed q) (jump_height ((i, h) ∷ []) q)
   more_ahead q past = known_ahead more q (omega (arith, length_more)) ∙ jump_height-append pass.passed (i, h) q
@@ -119,7 +126,8 @@ module _ (z : CodeSizes) (code : List Instr) (k : ℕ) (hs : List (Option ℕ)) 
       ∙ ap (λ o. differs o (left i h)) (sym (more_ahead l past)))
 
   fault_is : fault_at z code k i h came (noted_to own (target i))
-      ≡ fault_at z code (length pass.passed) i h (jump_height pass.passed (length pass.passed)) (known_to more (target i))
+      ≡ fault_at z code (length pass.passed) i h (jump_height pass.passed (length pass.passed))
+          (known_to more (target i))
   fault_is =
       fault_same z code k i h came (noted_to own (target i)) (known_to more (target i)) (there_same (target i) refl)
       ∙ (λ j. fault_at z code (sym pass.long j) i h (came_is j) (known_to more (target i)))
@@ -127,11 +135,13 @@ module _ (z : CodeSizes) (code : List Instr) (k : ℕ) (hs : List (Option ℕ)) 
   pub height_is : height_by before came ≡ h
   height_is = ap (height_by before) came_is
 
-  pub fault_told : (fault : CodeFault) → fault_at z code k i (height_by before came) came (noted_to (set hs k (Some (height_by before came))) (target i)) ≡ Some fault
+  pub fault_told : (fault : CodeFault) → fault_at z code k i (height_by before came) came
+      (noted_to (set hs k (Some (height_by before came))) (target i)) ≡ Some fault
       → first_fault z code [] (placed code) ≡ Some fault
   fault_told fault is =
       told_more ∙ ap (λ f. or_else f (first_fault z code more next))
-      (sym fault_is ∙ ap (λ g. fault_at z code k i g came (noted_to (set hs k (Some g)) (target i))) (sym height_is) ∙ is)
+      (sym fault_is ∙ ap (λ g. fault_at z code k i g came (noted_to (set hs k (Some g)) (target i))) (sym height_is)
+          ∙ is)
 
   height_low : h ≤ k
   height_low =
@@ -145,11 +155,15 @@ module _ (z : CodeSizes) (code : List Instr) (k : ℕ) (hs : List (Option ℕ)) 
       ] pass.low_before)
 
   -- nothing is known yet of what the instruction leaves to where it jumps, or the same
-  module _ (none : fault_at z code k i (height_by before came) came (noted_to (set hs k (Some (height_by before came))) (target i)) ≡ None) where
-    passes : NoFault z code (length pass.passed) i h (jump_height pass.passed (length pass.passed)) (known_to more (target i))
+  module _ (none : fault_at z code k i (height_by before came) came
+      (noted_to (set hs k (Some (height_by before came))) (target i)) ≡ None) where
+    passes : NoFault z code (length pass.passed) i h (jump_height pass.passed (length pass.passed))
+        (known_to more (target i))
     passes =
-        no_fault z code (length pass.passed) i h (jump_height pass.passed (length pass.passed)) (known_to more (target i))
-        (sym fault_is ∙ ap (λ g. fault_at z code k i g came (noted_to (set hs k (Some g)) (target i))) (sym height_is) ∙ none)
+        no_fault z code (length pass.passed) i h (jump_height pass.passed (length pass.passed))
+            (known_to more (target i))
+        (sym fault_is ∙ ap (λ g. fault_at z code k i g came (noted_to (set hs k (Some g)) (target i))) (sym height_is)
+            ∙ none)
 
     -- the height of a place ahead to which it does not jump
     not_there : (l q : ℕ) → target i ≡ Some l → (q ≡ l → ⊥) → jump_height ((i, h) ∷ []) q ≡ None
@@ -166,9 +180,12 @@ module _ (z : CodeSizes) (code : List Instr) (k : ℕ) (hs : List (Option ℕ)) 
         (λ below. own_passed q (omega arith) there)
         (λ at. own_passed q (omega arith) there)
         (λ past.
-        own_ahead q past there ∙ ap Some (sym (either_none (jump_height pass.passed q)) ∙ ap (either (jump_height pass.passed q)) (sym away) ∙ sym (more_ahead q past)))
+        own_ahead q past there ∙ ap Some
+            (sym (either_none (jump_height pass.passed q)) ∙ ap (either (jump_height pass.passed q)) (sym away)
+                ∙ sym (more_ahead q past)))
 
-    noted_here : (l : ℕ) → target i ≡ Some l → l < length code → Some (or_this (joined (slice_get own l)) (left i h)) ≡ known more l
+    noted_here : (l : ℕ) → target i ≡ Some l → l < length code → Some (or_this (joined (slice_get own l)) (left i h))
+        ≡ known more l
     noted_here l to there =
         order l k
         (λ below. noted_passed l (omega arith) there)
@@ -178,11 +195,13 @@ module _ (z : CodeSizes) (code : List Instr) (k : ℕ) (hs : List (Option ℕ)) 
         ∙ sym (either_left (jump_height pass.passed l) (left i h))
         ∙ ap (either (jump_height pass.passed l)) (sym (jumps_here i h l to)) ∙ sym (more_ahead l past))
       where
-        noted_passed : (l : ℕ) → l ≤ k → l < length code → Some (or_this (joined (slice_get own l)) (left i h)) ≡ known more l
+        noted_passed : (l : ℕ) → l ≤ k → l < length code → Some (or_this (joined (slice_get own l)) (left i h))
+            ≡ known more l
         noted_passed l upto there =
             ap (λ o. Some (or_this (joined o) (left i h))) (own_passed l upto there)
             ∙ ap (λ o. Some (or_this o (left i h))) (known_inside more l (omega (arith, length_more)))
-            ∙ own_height more l (left i h) (omega (arith, length_more)) ∙ sym (known_inside more l (omega (arith, length_more)))
+            ∙ own_height more l (left i h) (omega (arith, length_more))
+            ∙ sym (known_inside more l (omega (arith, length_more)))
 
     each_more : (t : Option ℕ) → target i ≡ t → is_past t (length code) ≡ false
         → (q : ℕ) → q < length code → slice_get (noted own t (left i h)) q ≡ Some (known more q)
@@ -192,7 +211,8 @@ module _ (z : CodeSizes) (code : List Instr) (k : ℕ) (hs : List (Option ℕ)) 
         ⊎_elim
         (λ same.
         ap (slice_get (noted own (Some l) (left i h))) same
-        ∙ get_set_same own l (Some (or_this (joined (slice_get own l)) (left i h))) (omega (arith, length-set hs k (Some h), pass.held))
+        ∙ get_set_same own l (Some (or_this (joined (slice_get own l)) (left i h)))
+            (omega (arith, length-set hs k (Some h), pass.held))
         ∙ ap Some (noted_here l to target_inside ∙ ap (known more) (sym same)))
         (λ apart.
         get_set_other own l q (Some (or_this (joined (slice_get own l)) (left i h))) apart
@@ -211,13 +231,17 @@ module _ (z : CodeSizes) (code : List Instr) (k : ℕ) (hs : List (Option ℕ)) 
         order q k
         (λ below.
         let was : g ≤ k = pass.low q g there (known_inside pass.passed q (omega (arith, pass.long))
-        ∙ ap height_of (sym (get_front pass.passed ((i, h) ∷ []) q (omega (arith, pass.long)))) ∙ sym (known_inside more q (omega (arith, length_more))) ∙ e) in
+        ∙ ap height_of (sym (get_front pass.passed ((i, h) ∷ []) q (omega (arith, pass.long))))
+        ∙ sym (known_inside more q (omega (arith, length_more))) ∙ e) in
         omega arith)
         (λ at.
         let is : h ≡ g = same_Some h g (sym (ap height_of (get_seam pass.passed (i, h) []))
-        ∙ ap (λ j. height_of (slice_get more j)) (pass.long ∙ sym at) ∙ sym (known_inside more q (omega (arith, length_more))) ∙ e) in
+        ∙ ap (λ j. height_of (slice_get more j)) (pass.long ∙ sym at)
+        ∙ sym (known_inside more q (omega (arith, length_more))) ∙ e) in
         omega (arith, height_low))
-        (λ past. low_either (jump_height pass.passed q) (λ f. pass.low q g there (known_ahead pass.passed q (omega (arith, pass.long)) ∙ f)) (sym (more_ahead q past) ∙ e))
+        (λ past. low_either (jump_height pass.passed q)
+            (λ f. pass.low q g there (known_ahead pass.passed q (omega (arith, pass.long)) ∙ f))
+                (sym (more_ahead q past) ∙ e))
       where
         low_either : (x : Option ℕ) → (x ≡ Some g → g ≤ k) → either x (jump_height ((i, h) ∷ []) q) ≡ Some g → g ≤ k + 1
         low_either None was f = low_jump q g f
@@ -237,7 +261,9 @@ module _ (z : CodeSizes) (code : List Instr) (k : ℕ) (hs : List (Option ℕ)) 
       whole =
           pass.whole ∙ ap (λ is. pass.passed ++ placed_from is pass.passed before) (drop_here code k i here)
           ∙ sym (append_assoc pass.passed ((i, h) ∷ []) next);
-      told = told_more ∙ ap (λ f. or_else f (first_fault z code more next)) (sym fault_is ∙ ap (λ g. fault_at z code k i g came (noted_to (set hs k (Some g)) (target i))) (sym height_is) ∙ none);
+      told = told_more ∙ ap (λ f. or_else f (first_fault z code more next))
+          (sym fault_is ∙ ap (λ g. fault_at z code k i g came (noted_to (set hs k (Some g)) (target i))) (sym height_is)
+              ∙ none);
       held = length-noted own (target i) (left i h) ∙ length-set hs k (Some h) ∙ pass.held;
       each = each_more (target i) refl passes.inside;
       low = low_more;
@@ -250,7 +276,8 @@ module _ (z : CodeSizes) (code : List Instr) (k : ℕ) (hs : List (Option ℕ)) 
     pub pass_on : (g : ℕ) → g ≡ height_by before came
         → Passing z code (k + 1) (noted (set hs k (Some g)) (target i) (left i g)) (hands_on i g) (max most g)
     pass_on g is =
-        subst (λ x. Passing z code (k + 1) (noted (set hs k (Some x)) (target i) (left i x)) (hands_on i x) (max most x)) (sym (is ∙ height_is)) pass_more
+        subst (λ x. Passing z code (k + 1) (noted (set hs k (Some x)) (target i) (left i x)) (hands_on i x)
+            (max most x)) (sym (is ∙ height_is)) pass_more
 
   pub height_below : height_by before came ≤ k
   height_below = subst (λ g. g ≤ k) (sym height_is) height_low
@@ -268,19 +295,24 @@ pass_start z code = record {
   whole = refl;
   told = refl;
   held = length-replicate (length code) None;
-  each = λ q inside. slice_get-get_or (replicate (length code) None) q None (omega (arith, length-replicate {A = Option ℕ} (length code) None)) ∙ ap Some (none_yet (length code) q ∙ sym (known_ahead [] q (omega arith)));
+  each = λ q inside. slice_get-get_or (replicate (length code) None) q None
+      (omega (arith, length-replicate {A = Option ℕ} (length code) None))
+          ∙ ap Some (none_yet (length code) q ∙ sym (known_ahead [] q (omega arith)));
   low = λ q h inside e. absurd (none-some h (sym (known_ahead [] q (omega arith)) ∙ e));
   low_before = λ h e. omega (arith, same_Some 0 h e);
   greatest_is = refl;
 }
 
 -- all places were passed
-pub pass_end : (z : CodeSizes) (code : List Instr) (k : ℕ) (hs : List (Option ℕ)) (before : Option ℕ) (most : ℕ) → Passing z code k hs before most → k ≡ length code
+pub pass_end : (z : CodeSizes) (code : List Instr) (k : ℕ) (hs : List (Option ℕ)) (before : Option ℕ) (most : ℕ)
+    → Passing z code k hs before most → k ≡ length code
     → (first_fault z code [] (placed code) ≡ None) × (most ≡ greatest_height code)
 pass_end z code k hs before most pass done =
     let over : drop k code ≡ [] = ap (λ j. drop j code) done ∙ drop-length code in (
       pass.told ∙ ap (λ is. first_fault z code pass.passed (placed_from is pass.passed before)) over,
-      sym pass.greatest_is ∙ ap (λ es. greatest (map (λ e. e.1) es)) (sym (pass.whole ∙ ap (λ is. pass.passed ++ placed_from is pass.passed before) over ∙ append-nil pass.passed)),
+      sym pass.greatest_is ∙ ap (λ es. greatest (map (λ e. e.1) es))
+          (sym (pass.whole ∙ ap (λ is. pass.passed ++ placed_from is pass.passed before) over
+              ∙ append-nil pass.passed)),
     )
 
 pub passing_as : (z : CodeSizes) (code : List Instr) (k : ℕ) (hs hs' : List (Option ℕ)) (b b' : Option ℕ) (m m' : ℕ)

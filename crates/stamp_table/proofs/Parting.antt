@@ -1,5 +1,28 @@
--- Cutting a process off a pass, taking another pass in, and finding which of the two saw more keep the
--- rule.
+-- Cutting a process off a pass, taking another pass in, and finding which of the two saw more keep the rule.
+--
+-- The idea. The rule of a table (`IsKept`, `specs/Rule.antt`) has six parts, and three of them speak of views only
+-- through one list: what each view knows (`knows`), that no process is held twice (`apart`), and that some view has
+-- seen all (`newest`). A table's step changes one view and adds one step. The three things of this page add no step;
+-- they only deal with views. So `history`, `words` and `legal` are what they were, and each of the three parts is
+-- shown for every view `j` of the new list by asking whether `j` is a view that was changed or one that stood by.
+-- `at_set`, `at_end` and `who` are that question; `there`, `by` and `among` are the answers under which the old rule
+-- serves as it is.
+--
+-- Cutting off (`splits`). The pass keeps the others (`without p v`), and a new pass at the list's end has `p` alone
+-- (`alone p v`). Both have seen what the one had seen, so each knows what it must know. A process is held by one of
+-- the two: the left one doesn't hold `p`, the right one holds nothing else (`right_is`); whoever held nothing of the
+-- pass before still holds nothing of it. If the pass was the newest, its left part is.
+--
+-- Taking in (`joins`). The two passes may have seen unlike beginnings, and which is the longer isn't known without
+-- a look at the table. So the view keeps both (`joined v w`): its own as `seen`, with the processes `held`, and that
+-- of the other as `told`, with the processes `more`. This is why a view has two halves, and why `Knows` says things
+-- of each. The other pass's place stays in the list as a view of nobody, since views are counted and never taken out.
+--
+-- Finding which saw more (`settles`). At the next look the two halves become one. Both are beginnings of the one
+-- history, so one is a beginning of the other, and the longer one (`longer`) is a beginning too. What is to be shown
+-- is that of each process that is held it has all steps: its own half had them all, and between that half and the
+-- whole history, where the longer one lies, there are none of that process (`mine-middle`). What the caller learns
+-- from it is `Learns`; that it is legal is said of any beginning of a legal history (`beginning`).
 use Rattle.std.proofs.Common.{◌≡◌, ◌≢◌, ◌⊎◌, ℕ, zero, suc, List, [], ◌∷◌, ◌++◌, length, set, refl, sym, ap, ◌∙◌, subst, inl, inr, ⊎_elim, arith}
 use Rattle.std.specs.Prelude.{slice_index, slice_set}
 use Rattle.std.proofs.lemmas.List.{set-get_or}
@@ -19,14 +42,17 @@ use Rattle.stamp_table.proofs.Sets.{none_holds, holds_without, holds_alone, hold
 use Rattle.stamp_table.proofs.Kept.{set_at, at_one, apart_set}
 
 -- a view at the end, and its place
-at_end : (views : List View) (v w : View) (j : ℕ) → At (views ++ v ∷ []) j w → At views j w ⊎ ((v ≡ w) × (j ≡ length views))
+at_end : (views : List View) (v w : View) (j : ℕ) → At (views ++ v ∷ []) j w
+    → At views j w ⊎ ((v ≡ w) × (j ≡ length views))
 at_end [] v w zero at = inr (some-injective v w at, refl)
 at_end [] v w (suc j) at = absurd (some-ne-none w (sym at))
 at_end (x ∷ views) v w zero at = inl at
-at_end (x ∷ views) v w (suc j) at = ⊎_elim (λ there. inl there) (λ here. inr (here.0, ap suc here.1)) (at_end views v w j at)
+at_end (x ∷ views) v w (suc j) at = ⊎_elim (λ there. inl there) (λ here. inr (here.0, ap suc here.1))
+    (at_end views v w j at)
 
 -- a pass that has taken in no other has seen all where its view is the newest
-plain_newest : (history : List Shared) (v : View) → v ≡ plain v.held v.seen → StartsWith history v.seen → (v.seen ≡ history) ⊎ (v.told ≡ history)
+plain_newest : (history : List Shared) (v : View) → v ≡ plain v.held v.seen → StartsWith history v.seen
+    → (v.seen ≡ history) ⊎ (v.told ≡ history)
     → v.seen ≡ history
 plain_newest history v is starts one =
     ⊎_elim
@@ -37,7 +63,8 @@ plain_newest history v is starts one =
     starts_whole history v.seen starts (omega (arith, short)))
     one
 
-module _ (n rows id p : ℕ) (v : View) (is : v ≡ plain v.held v.seen) (held : Holds v.held p) (s : State ℕ View) (kept : IsKept n rows s) (at : At s.views id v) where
+module _ (n rows id p : ℕ) (v : View) (is : v ≡ plain v.held v.seen) (held : Holds v.held p) (s : State ℕ View)
+    (kept : IsKept n rows s) (at : At s.views id v) where
   knows_left : Knows kept.history (without p v)
   knows_left =
       let knows = kept.knows id v at in
@@ -76,7 +103,8 @@ module _ (n rows id p : ℕ) (v : View) (is : v ≡ plain v.held v.seen) (held :
       (λ there. there.0 (kept.apart j id q x v there.1 at one (inl (subst (Holds v.held) (sym same) held))))
       (at_set s.views id j (without p v) x at_x)
 
-  split_kept : IsKept n rows (record { words = s.words; homes = s.homes; views = slice_set s.views id (without p v) ++ alone p v ∷ [] })
+  split_kept : IsKept n rows (record { words = s.words; homes = s.homes;
+      views = slice_set s.views id (without p v) ++ alone p v ∷ [] })
   split_kept =
       let rest : List View = set s.views id (without p v) in
       let apart : Apart rest = apart_set s.views id v (without p v) at kept.apart less_left in
@@ -123,10 +151,12 @@ module _ (n rows id p : ℕ) (v : View) (is : v ≡ plain v.held v.seen) (held :
       }
 
 -- A process that is held can be cut off.
-pub splits : (n rows id p : ℕ) (v : View) → v ≡ plain v.held v.seen → Holds v.held p → Splits (IsKept n rows) id v (without p v) (alone p v)
+pub splits : (n rows id p : ℕ) (v : View) → v ≡ plain v.held v.seen → Holds v.held p
+    → Splits (IsKept n rows) id v (without p v) (alone p v)
 splits n rows id p v is held s kept at = split_kept n rows id p v is held s kept at
 
-module _ (n rows id other : ℕ) (v w : View) (v_is : v ≡ plain v.held v.seen) (w_is : w ≡ plain w.held w.seen) (s : State ℕ View) (kept : IsKept n rows s)
+module _ (n rows id other : ℕ) (v w : View) (v_is : v ≡ plain v.held v.seen) (w_is : w ≡ plain w.held w.seen)
+    (s : State ℕ View) (kept : IsKept n rows s)
     (at_v : At s.views id v) (differ : ¬ (other ≡ id)) (at_w : At s.views other w) where
   knows_joined : Knows kept.history (joined v w)
   knows_joined =
@@ -147,7 +177,8 @@ module _ (n rows id other : ℕ) (v w : View) (v_is : v ≡ plain v.held v.seen)
       → ((j ≡ id) × HoldsOne (joined v w) q) ⊎ ((j ≢ id) × (j ≢ other) × At s.views j x)
   who j q x at_x one =
       ⊎_elim
-      (λ here. absurd (⊎_elim (λ none. none_holds q none) (λ none. none_holds q none) (subst (λ z. HoldsOne z q) (sym here.1) one)))
+      (λ here. absurd (⊎_elim (λ none. none_holds q none) (λ none. none_holds q none)
+          (subst (λ z. HoldsOne z q) (sym here.1) one)))
       (λ there. ⊎_elim
       (λ taker. inl (taker.0, subst (λ z. HoldsOne z q) (sym taker.1) one))
       (λ by. inr (by.0, there.0, by.1))
@@ -164,9 +195,11 @@ module _ (n rows id other : ℕ) (v w : View) (v_is : v ≡ plain v.held v.seen)
 
   joined_at : At (set (set s.views id (joined v w)) other nobody) id (joined v w)
   joined_at =
-      set_else (set s.views id (joined v w)) other id nobody (λ same. differ (sym same)) ∙ set_at s.views id v (joined v w) at_v
+      set_else (set s.views id (joined v w)) other id nobody (λ same. differ (sym same))
+          ∙ set_at s.views id v (joined v w) at_v
 
-  join_kept : IsKept n rows (record { words = s.words; homes = s.homes; views = slice_set (slice_set s.views id (joined v w)) other nobody })
+  join_kept : IsKept n rows (record { words = s.words; homes = s.homes;
+      views = slice_set (slice_set s.views id (joined v w)) other nobody })
   join_kept = record {
     history = kept.history;
     words = kept.words;
@@ -195,15 +228,18 @@ module _ (n rows id other : ℕ) (v w : View) (v_is : v ≡ plain v.held v.seen)
         ⊎_elim
         (λ same.
         let here : x ≡ v = at_one s.views id x v (subst (λ k. At s.views k x) same kept.newest.2) at_v in
-        (id, joined v w, joined_at, inl (plain_newest kept.history v v_is (kept.knows id v at_v).seen (subst IsNew here kept.newest.3))))
+        (id, joined v w, joined_at, inl
+            (plain_newest kept.history v v_is (kept.knows id v at_v).seen (subst IsNew here kept.newest.3))))
         (λ not_id. ⊎_elim
         (λ same.
         let here : x ≡ w = at_one s.views other x w (subst (λ k. At s.views k x) same kept.newest.2) at_w in
-        (id, joined v w, joined_at, inr (plain_newest kept.history w w_is (kept.knows other w at_w).seen (subst IsNew here kept.newest.3))))
+        (id, joined v w, joined_at, inr
+            (plain_newest kept.history w w_is (kept.knows other w at_w).seen (subst IsNew here kept.newest.3))))
         (λ not_other. (
           j,
           x,
-          set_else (set s.views id (joined v w)) other j nobody not_other ∙ (set_else s.views id j (joined v w) not_id ∙ kept.newest.2),
+          set_else (set s.views id (joined v w)) other j nobody not_other
+              ∙ (set_else s.views id j (joined v w) not_id ∙ kept.newest.2),
           kept.newest.3,
         ))
         (cases_eq j other))
@@ -214,14 +250,17 @@ module _ (n rows id other : ℕ) (v w : View) (v_is : v ≡ plain v.held v.seen)
 pub joins : (n rows id : ℕ) (v : View) (other : ℕ) (w : View) → v ≡ plain v.held v.seen → w ≡ plain w.held w.seen
     → Joins (IsKept n rows) id v other w (joined v w) nobody
 joins n rows id v other w v_is w_is s kept at_v differ at_w =
-    join_kept n rows id other v w v_is w_is s kept at_v differ (sym (set_else s.views id other (joined v w) differ) ∙ at_w)
+    join_kept n rows id other v w v_is w_is s kept at_v differ
+        (sym (set_else s.views id other (joined v w) differ) ∙ at_w)
 
 -- What a pass that has taken in another learns when it looks at the table.
 learns : (n rows : ℕ) (history : List Shared) (v : View) → IsLegal n rows history → Knows history v → Learns n rows v
 learns n rows history v legal knows =
     let long : StartsWith history (longer v.seen v.told) = longer_starts history v.seen v.told knows.seen knows.told in
-    let over_first : StartsWith (longer v.seen v.told) v.seen = longer_first history v.seen v.told knows.seen knows.told in
-    let over_second : StartsWith (longer v.seen v.told) v.told = longer_second history v.seen v.told knows.seen knows.told in
+    let over_first : StartsWith (longer v.seen v.told) v.seen =
+        longer_first history v.seen v.told knows.seen knows.told in
+    let over_second : StartsWith (longer v.seen v.told) v.told =
+        longer_second history v.seen v.told knows.seen knows.told in
     record {
       first = over_first;
       second = over_second;
@@ -230,7 +269,8 @@ learns n rows history v legal knows =
       legal = beginning n rows (longer v.seen v.told) long.0 (subst (IsLegal n rows) long.1 legal);
     }
 
-knows_settled : (n rows : ℕ) (history : List Shared) (v : View) → IsLegal n rows history → Knows history v → Knows history (settled v)
+knows_settled : (n rows : ℕ) (history : List Shared) (v : View) → IsLegal n rows history → Knows history v
+    → Knows history (settled v)
 knows_settled n rows history v legal knows =
     let agrees = learns n rows history v legal knows in
     record {
@@ -247,7 +287,8 @@ less_settled : (v : View) (p : ℕ) → HoldsOne (settled v) p → HoldsOne v p
 less_settled v p one = ⊎_elim (λ holds. holds_together v.held v.more p holds) (λ none. absurd (none_holds p none)) one
 
 settled_kept : (n rows id : ℕ) (v : View) (s : State ℕ View) (kept : IsKept n rows s) → At s.views id v
-    → IsKept n rows (record { words = slice_set s.words 0 (slice_index s.words 0); homes = s.homes; views = slice_set s.views id (settled v) })
+    → IsKept n rows (record { words = slice_set s.words 0 (slice_index s.words 0); homes = s.homes;
+        views = slice_set s.views id (settled v) })
 settled_kept n rows id v s kept at =
     let knows : Knows kept.history v = kept.knows id v at in
     record {
@@ -276,6 +317,8 @@ settled_kept n rows id v s kept at =
     }
 
 -- A pass that has taken in another finds which of the two saw more.
-pub settles : (n rows slots id : ℕ) (me : Me ℕ View) → Allows (IsKept n rows) slots id me 0 (λ x. x) (λ found w. Settles n rows me w)
+pub settles : (n rows slots id : ℕ) (me : Me ℕ View) → Allows (IsKept n rows) slots id me 0 (λ x. x)
+    (λ found w. Settles n rows me w)
 settles n rows slots id me s kept len at fits =
-    (settled me.0, keeps, tt, settled_kept n rows id me.0 s kept at, (refl, learns n rows kept.history me.0 kept.legal (kept.knows id me.0 at)))
+    (settled me.0, keeps, tt, settled_kept n rows id me.0 s kept at,
+        (refl, learns n rows kept.history me.0 kept.legal (kept.knows id me.0 at)))

@@ -93,7 +93,8 @@ item_of-text item small = by_test (item.steps == 1) refl
 
     alone : 1 ≡ item.steps → item_of (decimal item.process) ≡ Some item
     alone one =
-        ap (λ (star : Option ℕ). item_cut star (decimal item.process)) (position_none is_star (decimal item.process) no_star)
+        ap (λ (star : Option ℕ). item_cut star (decimal item.process))
+            (position_none is_star (decimal item.process) no_star)
         ∙ ap (λ (number : Option ℕ). item_of_numbers number (Some 1)) spells.value
         ∙ ap (λ (steps : ℕ). Some (run item.process steps)) one
 
@@ -101,15 +102,20 @@ item_of-text item small = by_test (item.steps == 1) refl
     starred =
         let text : List ℕ = decimal item.process ++ 42 ∷ decimal item.steps in
         ap item_of (append_assoc (decimal item.process) (codes "*") (decimal item.steps))
-        ∙ ap (λ (star : Option ℕ). item_cut star text) (position_at is_star (decimal item.process) 42 (decimal item.steps) no_star refl)
-        ∙ ap (λ (front : List ℕ). item_of_numbers (number_of front) (number_of (drop (length (decimal item.process) + 1) text))) (take-append_seam (decimal item.process) (42 ∷ decimal item.steps))
-        ∙ ap (λ (back : List ℕ). item_of_numbers (number_of (decimal item.process)) (number_of back)) (drop-append-add (decimal item.process) (42 ∷ decimal item.steps) 1)
+        ∙ ap (λ (star : Option ℕ). item_cut star text)
+            (position_at is_star (decimal item.process) 42 (decimal item.steps) no_star refl)
+        ∙ ap (λ (front : List ℕ). item_of_numbers (number_of front)
+            (number_of (drop (length (decimal item.process) + 1) text)))
+                (take-append_seam (decimal item.process) (42 ∷ decimal item.steps))
+        ∙ ap (λ (back : List ℕ). item_of_numbers (number_of (decimal item.process)) (number_of back))
+            (drop-append-add (decimal item.process) (42 ∷ decimal item.steps) 1)
         ∙ ap (λ (number : Option ℕ). item_of_numbers number (number_of (decimal item.steps))) spells.value
         ∙ ap (item_of_numbers (Some item.process)) (decimal_spells item.steps small.steps).value
         ∙ rw (lt-ltb 0 item.steps small.some) refl
 
     by_test : (test : Bool) → (item.steps == 1) ≡ test
-        → item_of (cond test (decimal item.process) (decimal item.process ++ codes "*" ++ decimal item.steps)) ≡ Some item
+        → item_of (cond test (decimal item.process) (decimal item.process ++ codes "*" ++ decimal item.steps))
+        ≡ Some item
     by_test true is = alone (sym (eqb-true item.steps 1 is))
     by_test false is = starred
 
@@ -119,7 +125,8 @@ item_text-no_blank item small = by_test (item.steps == 1)
     plain : (n : ℕ) → n < 2 ^ 64 → All NoBlank (decimal n)
     plain n below = All-weaker IsDigit NoBlank digit_no_blank (decimal n) (decimal_spells n below).digits
 
-    by_test : (test : Bool) → All NoBlank (cond test (decimal item.process) (decimal item.process ++ codes "*" ++ decimal item.steps))
+    by_test : (test : Bool) → All NoBlank
+        (cond test (decimal item.process) (decimal item.process ++ codes "*" ++ decimal item.steps))
     by_test true = plain item.process small.process
     by_test false =
         All-append NoBlank (decimal item.process ++ codes "*") (decimal item.steps)
@@ -132,10 +139,12 @@ item_text-some item small = by_test (item.steps == 1)
     some : 0 < length (decimal item.process)
     some = (decimal_spells item.process small.process).some
 
-    by_test : (test : Bool) → 0 < length (cond test (decimal item.process) (decimal item.process ++ codes "*" ++ decimal item.steps))
+    by_test : (test : Bool) → 0 < length
+        (cond test (decimal item.process) (decimal item.process ++ codes "*" ++ decimal item.steps))
     by_test true = some
     by_test false =
-        omega (arith, some, length-append (decimal item.process ++ codes "*") (decimal item.steps), length-append (decimal item.process) (codes "*"))
+        omega (arith, some, length-append (decimal item.process ++ codes "*") (decimal item.steps),
+            length-append (decimal item.process) (codes "*"))
 
 -- runs
 
@@ -147,16 +156,20 @@ expanded (item ∷ runs) = replicate item.steps item.process ++ expanded runs
 split_texts : (item : Item) (runs : List Item) → Small item → AllByRecursion Small runs
     → slice_split is_blank (item_text item ++ spaced (map item_text runs)) ≡ item_text item ∷ map item_text runs
 split_texts item [] small all =
-    ap (slice_split is_blank) (append-nil (item_text item)) ∙ slice_split_none is_blank (item_text item) (item_text-no_blank item small)
+    ap (slice_split is_blank) (append-nil (item_text item)) ∙ slice_split_none is_blank (item_text item)
+        (item_text-no_blank item small)
 split_texts item (next ∷ runs) small all =
-    slice_split_at is_blank (item_text item) 32 (item_text next ++ spaced (map item_text runs)) (item_text-no_blank item small) refl
+    slice_split_at is_blank (item_text item) 32 (item_text next ++ spaced (map item_text runs))
+        (item_text-no_blank item small) refl
     ∙ ap (λ (texts : List (List ℕ)). item_text item ∷ texts) (split_texts next runs all.0 all.1)
 
-with_piece-some : (n place : ℕ) (steps text : List ℕ) → 0 < length text → with_piece n place steps text ≡ with_item (λ p. p) n place steps (item_of text)
+with_piece-some : (n place : ℕ) (steps text : List ℕ) → 0 < length text → with_piece n place steps text ≡ with_item
+    (λ p. p) n place steps (item_of text)
 with_piece-some n place steps [] some = absurd (omega arith)
 with_piece-some n place steps (byte ∷ bytes) some = refl
 
-with_run : (n place : ℕ) (steps : List ℕ) (item : Item) → Small item → item.process < n → length steps + item.steps ≤ 10000000
+with_run : (n place : ℕ) (steps : List ℕ) (item : Item) → Small item → item.process < n
+    → length steps + item.steps ≤ 10000000
     → with_piece n place steps (item_text item) ≡ Ok (steps ++ replicate item.steps item.process)
 with_run n place steps item small below few =
     with_piece-some n place steps (item_text item) (item_text-some item small)
@@ -175,7 +188,8 @@ with_runs n place steps [] few_processes all few = ap Ok (sym (append-nil steps)
 with_runs n place steps (item ∷ runs) few_processes all few =
     let its : List ℕ = replicate item.steps item.process in
     let in_all : length (its ++ expanded runs) ≡ item.steps + length (expanded runs) =
-    length-append its (expanded runs) ∙ ap (λ (k : ℕ). k + length (expanded runs)) (length-replicate item.steps item.process) in
+    length-append its (expanded runs) ∙ ap (λ (k : ℕ). k + length (expanded runs))
+        (length-replicate item.steps item.process) in
     let so_far : length (steps ++ its) ≡ length steps + item.steps =
     length-append steps its ∙ ap (λ (k : ℕ). length steps + k) (length-replicate item.steps item.process) in
     let is_run : IsRun n item = all.0 in
@@ -183,22 +197,26 @@ with_runs n place steps (item ∷ runs) few_processes all few =
     let some : 0 < item.steps = is_run.some in
     let short : item.steps ≤ 10000000 = omega arith in
     let small : Small item = record { process = omega arith; steps = omega arith; some = some } in
-    ap (λ (so : Result (List ℕ) ScheduleFault). with_pieces (with_piece n) (place + length (item_text item) + 1) so (map item_text runs))
+    ap (λ (so : Result (List ℕ) ScheduleFault). with_pieces (with_piece n) (place + length (item_text item) + 1) so
+        (map item_text runs))
     (with_run n place steps item small below (omega arith))
     ∙ with_runs n (place + length (item_text item) + 1) (steps ++ its) runs few_processes all.1 (omega arith)
     ∙ ap Ok (append_assoc steps its (expanded runs))
 
-all_small : (n : ℕ) (runs : List Item) → n ≤ 2 ^ 64 → AllByRecursion (IsRun n) runs → length (expanded runs) ≤ 10000000 → AllByRecursion Small runs
+all_small : (n : ℕ) (runs : List Item) → n ≤ 2 ^ 64 → AllByRecursion (IsRun n) runs → length (expanded runs) ≤ 10000000
+    → AllByRecursion Small runs
 all_small n [] few_processes all few = tt
 all_small n (item ∷ runs) few_processes all few =
     let its : List ℕ = replicate item.steps item.process in
     let in_all : length (its ++ expanded runs) ≡ item.steps + length (expanded runs) =
-    length-append its (expanded runs) ∙ ap (λ (k : ℕ). k + length (expanded runs)) (length-replicate item.steps item.process) in
+    length-append its (expanded runs) ∙ ap (λ (k : ℕ). k + length (expanded runs))
+        (length-replicate item.steps item.process) in
     let is_run : IsRun n item = all.0 in
     let below : item.process < n = is_run.below in
     let some : 0 < item.steps = is_run.some in
     let short : item.steps ≤ 10000000 = omega arith in
-    (record { process = omega arith; steps = omega arith; some = some }, all_small n runs few_processes all.1 (omega arith))
+    (record { process = omega arith; steps = omega arith; some = some }, all_small n runs few_processes all.1
+        (omega arith))
 
 read_runs : (n : ℕ) (runs : List Item) → n ≤ 2 ^ 64 → AllByRecursion (IsRun n) runs → length (expanded runs) ≤ 10000000
     → schedule_of n (joined (map item_text runs)) ≡ Ok (expanded runs)
@@ -210,7 +228,8 @@ read_runs n (item ∷ runs) few_processes all few =
 
 -- the runs of a list of steps
 
-expanded-onto : (item : Item) (runs : List Item) → expanded (run_onto item runs) ≡ replicate item.steps item.process ++ expanded runs
+expanded-onto : (item : Item) (runs : List Item) → expanded (run_onto item runs) ≡ replicate item.steps item.process
+    ++ expanded runs
 expanded-onto item [] = refl
 expanded-onto item (next ∷ runs) = by_test (item.process == next.process) refl
   where
@@ -221,9 +240,11 @@ expanded-onto item (next ∷ runs) = by_test (item.process == next.process) refl
         → expanded (cond test (run item.process (item.steps + next.steps) ∷ runs) (item ∷ next ∷ runs))
         ≡ replicate item.steps item.process ++ (replicate next.steps next.process ++ expanded runs)
     by_test true is =
-        ap (λ (steps : List ℕ). steps ++ expanded runs) (sym (replicate-append-replicate item.steps next.steps item.process))
+        ap (λ (steps : List ℕ). steps ++ expanded runs)
+            (sym (replicate-append-replicate item.steps next.steps item.process))
         ∙ append_assoc (replicate item.steps item.process) (replicate next.steps item.process) (expanded runs)
-        ∙ ap (λ (p : ℕ). replicate item.steps item.process ++ (replicate next.steps p ++ expanded runs)) (eqb-true item.process next.process is)
+        ∙ ap (λ (p : ℕ). replicate item.steps item.process ++ (replicate next.steps p ++ expanded runs))
+            (eqb-true item.process next.process is)
     by_test false is = refl
 
 expanded-runs : (steps : List ℕ) → expanded (runs_of steps) ≡ steps
@@ -231,11 +252,13 @@ expanded-runs [] = refl
 expanded-runs (p ∷ steps) =
     expanded-onto (run p 1) (runs_of steps) ∙ ap (λ (rest : List ℕ). p ∷ rest) (expanded-runs steps)
 
-onto_runs : (n : ℕ) (item : Item) (runs : List Item) → IsRun n item → AllByRecursion (IsRun n) runs → AllByRecursion (IsRun n) (run_onto item runs)
+onto_runs : (n : ℕ) (item : Item) (runs : List Item) → IsRun n item → AllByRecursion (IsRun n) runs
+    → AllByRecursion (IsRun n) (run_onto item runs)
 onto_runs n item [] is all = (is, tt)
 onto_runs n item (next ∷ runs) is all = by_test (item.process == next.process)
   where
-    by_test : (test : Bool) → AllByRecursion (IsRun n) (cond test (run item.process (item.steps + next.steps) ∷ runs) (item ∷ next ∷ runs))
+    by_test : (test : Bool) → AllByRecursion (IsRun n)
+        (cond test (run item.process (item.steps + next.steps) ∷ runs) (item ∷ next ∷ runs))
     by_test true = (record { below = is.below; some = let some : 0 < item.steps = is.some in omega arith }, all.1)
     by_test false = (is, all)
 
@@ -250,5 +273,6 @@ pub written_reads_back : (n : ℕ) (steps : List ℕ) → n ≤ 2 ^ 64 → All (
     → schedule_of n (schedule_text steps) ≡ Ok steps
 written_reads_back n steps few_processes below few =
     let same : expanded (runs_of steps) ≡ steps = expanded-runs steps in
-    let short : length (expanded (runs_of steps)) ≤ 10000000 = subst (λ (s : List ℕ). length s ≤ 10000000) (sym same) few in
+    let short : length (expanded (runs_of steps)) ≤ 10000000 = subst (λ (s : List ℕ). length s ≤ 10000000)
+        (sym same) few in
     read_runs n (runs_of steps) few_processes (all_runs n steps below) short ∙ ap Ok same

@@ -1,8 +1,31 @@
 -- From where the code of the remaining statements begins, quiet steps lead to the instruction that ends
--- the next step of the program, or to a stamp. A case for each statement: its expressions run quietly, and
--- the instruction after them does to the process and to what is shared what the statement does; it leaves
--- the process where the code of the statements after it stands. For a test that is one of two blocks with
--- what follows them, for a loop that goes round its own code again. A jump on the way is one quiet step.
+-- the next step of the program, or to a stamp.
+--
+-- The idea. A step of the program is one statement; its code is an expression or two, and one instruction that
+-- does what the statement does. The instructions of the expressions are quiet: nobody sees them, and they neither
+-- ask for what is shared nor end a step. So all that is to be compared is the last instruction with the statement,
+-- and the place at which each leaves its process.
+--
+-- `Leads rest m k stack` says it: from place `k`, with this stack, a process that has `rest` left gets to the end of
+-- the step in at most `m` quiet steps. It has three cases (`Match.antt`): the instruction at `k` ends the step
+-- (`ends_here`), it is quiet and leads on (`quietly`), or a stamp begins there (`stamps`), whose loop is another
+-- page's. Where the step ends, `SameStep` is shown for any tickets and labels that agree: tickets and labels agree
+-- again, rows and what was told are the same, and the process stands between two steps (`Between`).
+--
+-- The pages before this one give the two halves. `last_value` and `two_values` (`Quiet.antt`) run the expressions,
+-- by induction on them, and leave the instruction with its operands; a trap in them is done there too. `Stands`
+-- (`Stands.antt`) says that the code of what remains stands at a place, jumps to it counted.
+--
+-- There is a lemma for each statement, `.._leads`. Its last part is `refl` four times: with its operands known, the
+-- instruction computes to what the statement computes to. Four want more. An index may be past the processes: both
+-- sides ask the same, so it is one question about one `Bool` (`get_same`, `older_same`, `held_same`). A comparison
+-- answers by labels what the program answers by tickets: `agreement_law` has that it is the same. A test goes on with
+-- one of two blocks before what follows (`test_same`). And a loop that goes round has its own code again as what
+-- remains, which is why the size of the way (`m`) is counted along `Stands` and not along the tree: the way back to
+-- the loop's beginning is one jump, and there it begins anew.
+--
+-- `stands_lead` is the induction, over how the code of what remains stands: at the end of all, at a jump, or at the
+-- beginning of a statement's code.
 use Rattle.std.proofs.Common.{◌≡◌, ℕ, suc, ◌+◌, ◌≤◌, Bool, true, false, if◌then◌else◌, List, [], ◌∷◌, ◌++◌, length, refl, ap, sym, ◌∙◌, subst, arith, Option, Some, None}
 use Rattle.std.specs.Prelude.{◌==◌, ◌&&◌, nat_lt, slice_set}
 use Rattle.std.proofs.lemmas.Bool.{ltb-true}
@@ -81,7 +104,8 @@ module _ (n : ℕ) (code : List Instr) (p : ℕ) (q : CodeProcess) (scans : List
       goes tickets rows (slice_set q.variables x v) scans rest (Some (A.Get r i v))
 
   -- a process that there is, or a trap
-  get_same : (x r i k : ℕ) (rest : Block ℕ) (tickets : List ℕ) (labels : Labels) (rows : List (List ℕ)) → Agrees n tickets labels
+  get_same : (x r i k : ℕ) (rest : Block ℕ) (tickets : List ℕ) (labels : Labels) (rows : List (List ℕ))
+      → Agrees n tickets labels
       → StandsAt code (k + 1) rest → (inside : Bool)
       → SameStep labels rows
       (if inside then source_gets x r i rest tickets rows else traps tickets rows rest T.Index)
@@ -227,7 +251,8 @@ module _ (n : ℕ) (code : List Instr) (p : ℕ) (q : CodeProcess) (scans : List
   held_same x s i k rest tickets labels rows agrees after true i_in =
       let same : is_present (label_at (C.scan_at q n s) i) ≡ holds_ticket (S.scan_at n scans s) i =
       (agreement_law.stands n (S.scan_at n scans s) (C.scan_at q n s) (agreed.each s)).held i (ltb-true i n i_in) in
-      subst (λ b. SameStep labels rows (source_holds x s i rest tickets rows) (alone (code_holds x i k b)) (Some (I.Held s x)))
+      subst (λ b. SameStep labels rows (source_holds x s i rest tickets rows) (alone (code_holds x i k b))
+          (Some (I.Held s x)))
       (sym same)
       (record { ends = refl; agrees = agrees; same_rows = refl; same_act = refl; between = goes_on agreed after })
   held_same x s i k rest tickets labels rows agrees after false i_in =
@@ -244,7 +269,8 @@ module _ (n : ℕ) (code : List Instr) (p : ℕ) (q : CodeProcess) (scans : List
       (nat_lt i n) refl)
 
   -- one of two blocks
-  test_same : (v k l : ℕ) (a b : Block ℕ) (tickets : List ℕ) (labels : Labels) (rows : List (List ℕ)) → Agrees n tickets labels
+  test_same : (v k l : ℕ) (a b : Block ℕ) (tickets : List ℕ) (labels : Labels) (rows : List (List ℕ))
+      → Agrees n tickets labels
       → StandsAt code l b → StandsAt code (k + 1) a → (zero : Bool)
       → SameStep labels rows (goes tickets rows q.variables scans (if zero then b else a) None)
       (alone (C.goes (at q k (v ∷ [])) (if zero then l else k + 1) [] None)) (Some (I.JumpZero l))

@@ -67,10 +67,12 @@ statement_opens (a_terminal T.While) = λ st. refl
 statement_opens x = tt
 
 -- the same with a symbol after it, of one that closes nothing
-opens_after : (s u : Symbol) (x : Lexeme) (o : Option (List Symbol)) → ((st : List Symbol) → opened (s ∷ st) ≡ opened st)
+opens_after : (s u : Symbol) (x : Lexeme) (o : Option (List Symbol))
+    → ((st : List Symbol) → opened (s ∷ st) ≡ opened st)
     → Opens s x o → Opens u x (after o u)
 opens_after s u x None closes h = tt
-opens_after s u x (Some new) closes h = λ st. ap opened (append_assoc new (u ∷ []) st) ∙ h (u ∷ st) ∙ ap (open_by x) (closes (u ∷ st))
+opens_after s u x (Some new) closes h = λ st. ap opened (append_assoc new (u ∷ []) st) ∙ h (u ∷ st)
+    ∙ ap (open_by x) (closes (u ∷ st))
 
 begin_opens : (x : Lexeme) → Opens s_begin x (begin_step x)
 begin_opens (a_terminal T.Begin) = λ st. refl
@@ -122,9 +124,11 @@ opens s_right (a_terminal T.Held) = λ st. refl
 opens s_right x = opens_after s_expression s_semicolon x (expression_step x) (λ st. refl) (expression_opens x)
 opens s_statement x = statement_opens x
 opens (s_until N.Program) (a_terminal T.End) = λ st. refl
-opens (s_until N.Program) x = opens_after s_statement (s_until N.Program) x (statement_step x) (λ st. refl) (statement_opens x)
+opens (s_until N.Program) x = opens_after s_statement (s_until N.Program) x (statement_step x) (λ st. refl)
+    (statement_opens x)
 opens (s_until N.Braces) (a_terminal T.CloseBrace) = λ st. omega arith
-opens (s_until N.Braces) x = opens_after s_statement (s_until N.Braces) x (statement_step x) (λ st. refl) (statement_opens x)
+opens (s_until N.Braces) x = opens_after s_statement (s_until N.Braces) x (statement_step x) (λ st. refl)
+    (statement_opens x)
 
 pub opens_to : (s : Symbol) (x : Lexeme) (new : List Symbol) → step s x ≡ Some new → (st : List Symbol)
     → opened (new ++ st) ≡ open_by x (opened (s ∷ st))
@@ -156,7 +160,8 @@ free_by limit x depth l = refl
 
 -- a way to complete each symbol
 abbrev complete : Symbol → List Lexeme
-complete s_program = a_terminal T.Processes ∷ a_number 1 ∷ a_terminal T.Semicolon ∷ a_terminal T.Begin ∷ a_terminal T.End ∷ []
+complete s_program = a_terminal T.Processes ∷ a_number 1 ∷ a_terminal T.Semicolon ∷ a_terminal T.Begin
+    ∷ a_terminal T.End ∷ []
 complete s_number = a_number 0 ∷ []
 complete s_semicolon = a_terminal T.Semicolon ∷ []
 complete s_variables = a_terminal T.Begin ∷ a_terminal T.End ∷ []
@@ -238,11 +243,13 @@ completed_stand : (st : List Symbol) → AllCanStand (complete_all st)
 completed_stand [] = tt
 completed_stand (s ∷ st) = all_append (complete s) (complete_all st) (complete_stands s) (completed_stand st)
 
-run_by_by : (o : Option (List Symbol)) (f g : List Symbol → Option (List Symbol)) → run_by (run_by o f) g ≡ run_by o (λ st. run_by (f st) g)
+run_by_by : (o : Option (List Symbol)) (f g : List Symbol → Option (List Symbol))
+    → run_by (run_by o f) g ≡ run_by o (λ st. run_by (f st) g)
 run_by_by None f g = refl
 run_by_by (Some st) f g = refl
 
-run_by_same : (o : Option (List Symbol)) (f g : List Symbol → Option (List Symbol)) → ((st : List Symbol) → f st ≡ g st) → run_by o f ≡ run_by o g
+run_by_same : (o : Option (List Symbol)) (f g : List Symbol → Option (List Symbol)) → ((st : List Symbol) → f st ≡ g st)
+    → run_by o f ≡ run_by o g
 run_by_same None f g h = refl
 run_by_same (Some st) f g h = h st
 
@@ -255,7 +262,8 @@ run_append (x ∷ xs) ys (s ∷ st) =
 
 -- What a text can have some tokens say; those that say no name stand here.
 one_says : (span : Span) (x : Lexeme) → CanStand x → (i : ValuedToken) × (said i ≡ x)
-one_says span (a_name x) c = (record { meaning = M.Name (record { ref_ptr = (0, 0); now = x.letters }); span = x.span }, refl)
+one_says span (a_name x) c = (record { meaning = M.Name (record { ref_ptr = (0, 0); now = x.letters }); span = x.span },
+    refl)
 one_says span (a_number v) c = (record { meaning = M.Number v; span = span }, refl)
 one_says span (a_terminal w) c = (record { meaning = M.Terminal w; span = span }, refl)
 one_says span nothing c = absurd c
@@ -269,7 +277,8 @@ some_say span (x ∷ xs) c =
 
 -- where no bracket is one too many, the tokens are read to their end just where they run out of symbols
 module _ (end limit : ℕ) where
-  runs_step : (ts : List Lexeme) (st : List Symbol) (span : Span) (more : List Symbol → Option TextFault) (o : Option (List Symbol)) (b : Bool)
+  runs_step : (ts : List Lexeme) (st : List Symbol) (span : Span) (more : List Symbol → Option TextFault)
+      (o : Option (List Symbol)) (b : Bool)
       → fault_by (on_stack o st) b span more ≡ None
       → ((new : List Symbol) → more (new ++ st) ≡ None → run ts (new ++ st) ≡ Some [])
       → run_by (on_stack o st) (run ts) ≡ Some []
@@ -285,9 +294,12 @@ module _ (end limit : ℕ) where
       runs_step (says is) st i.span (fault end limit is) (step s (said i)) (is_full limit (said i) (opened (s ∷ st))) h
       (λ new k. runs_out is (new ++ st) k)
 
-  fault_step : (x : Lexeme) (ts : List Lexeme) (count : ℕ) (s : Symbol) (st : List Symbol) (span : Span) (more : List Symbol → Option TextFault)
-      (o : Option (List Symbol)) → step s x ≡ o → run_by (on_stack o st) (run ts) ≡ Some [] → opened (s ∷ st) + suc count < limit
-      → ((new : List Symbol) → run ts (new ++ st) ≡ Some [] → opened (new ++ st) + count < limit → more (new ++ st) ≡ None)
+  fault_step : (x : Lexeme) (ts : List Lexeme) (count : ℕ) (s : Symbol) (st : List Symbol) (span : Span)
+      (more : List Symbol → Option TextFault)
+      (o : Option (List Symbol)) → step s x ≡ o → run_by (on_stack o st) (run ts) ≡ Some []
+          → opened (s ∷ st) + suc count < limit
+      → ((new : List Symbol) → run ts (new ++ st) ≡ Some [] → opened (new ++ st) + count < limit
+      → more (new ++ st) ≡ None)
       → fault_by (on_stack o st) (is_full limit x (opened (s ∷ st))) span more ≡ None
   fault_step x ts count s st span more None e k l go = absurd (cc)
   fault_step x ts count s st span more (Some new) e k l go =
@@ -296,7 +308,8 @@ module _ (end limit : ℕ) where
       ap (λ z. fault_by (Some (new ++ st)) z span more) (free_by limit x (opened (s ∷ st)) (omega arith))
       ∙ go new k (omega arith)
 
-  no_fault : (is : List ValuedToken) (st : List Symbol) → run (says is) st ≡ Some [] → opened st + length is < limit → fault end limit is st ≡ None
+  no_fault : (is : List ValuedToken) (st : List Symbol) → run (says is) st ≡ Some [] → opened st + length is < limit
+      → fault end limit is st ≡ None
   no_fault [] [] h l = refl
   no_fault [] (s ∷ st) h l = absurd (cc)
   no_fault (i ∷ is) [] h l = absurd (cc)
@@ -316,7 +329,8 @@ program_by (Ok p) ts f g = (p, f p refl)
 program_by (Err e) ts f g = absurd (g e refl)
 
 -- tokens that run out of symbols are a program
-pub program_back : (ts : List Lexeme) → AllCanStand ts → run ts (s_program ∷ []) ≡ Some [] → (p : WholeProgram Name) × (ts ≡ program_tokens p)
+pub program_back : (ts : List Lexeme) → AllCanStand ts → run ts (s_program ∷ []) ≡ Some []
+    → (p : WholeProgram Name) × (ts ≡ program_tokens p)
 program_back ts stand h =
     let is = some_say nowhere ts stand in
     let limit : ℕ = suc (length is.0) in
@@ -330,11 +344,13 @@ program_back ts stand h =
     not_none e h = cc
 
 -- and a program's tokens run out of symbols
-pub program_runs : (ts : List Lexeme) → AllCanStand ts → (p : WholeProgram Name) → ts ≡ program_tokens p → run ts (s_program ∷ []) ≡ Some []
+pub program_runs : (ts : List Lexeme) → AllCanStand ts → (p : WholeProgram Name) → ts ≡ program_tokens p
+    → run ts (s_program ∷ []) ≡ Some []
 program_runs ts stand p same =
     let own : AllCanStand (program_tokens p) = subst AllCanStand same stand in
     let is = some_say p.span (program_tokens p) own in
-    let ok : program_at 0 (nesting p) is.0 ≡ Ok p = program_takes 0 (nesting p) p is.0 is.1 (number_stands p.span p _) (omega arith) in
+    let ok : program_at 0 (nesting p) is.0 ≡ Ok p = program_takes 0 (nesting p) p is.0 is.1 (number_stands p.span p _)
+        (omega arith) in
     subst (λ z. run z (s_program ∷ []) ≡ Some []) (is.1 ∙ sym same)
     (runs_out 0 (nesting p) is.0 (s_program ∷ []) (program_ok 0 (nesting p) is.0 p ok).none)
 
@@ -342,12 +358,15 @@ one_value : (p q : WholeProgram Name) → (let r : Result (WholeProgram Name) Te
 one_value p q h = cc
 
 -- a list of tokens is one program at most, but for the place of its number
-pub one_of_tokens : (p q : WholeProgram Name) → AllCanStand (program_tokens p) → program_tokens p ≡ program_tokens q → p.span ≡ q.span → p ≡ q
+pub one_of_tokens : (p q : WholeProgram Name) → AllCanStand (program_tokens p) → program_tokens p ≡ program_tokens q
+    → p.span ≡ q.span → p ≡ q
 one_of_tokens p q stand same place =
     let is = some_say p.span (program_tokens p) stand in
     let depth : ℕ = max (nesting p) (nesting q) in
-    let a : program_at 0 depth is.0 ≡ Ok p = program_takes 0 depth p is.0 is.1 (number_stands p.span p _) (omega arith) in
-    let b : program_at 0 depth is.0 ≡ Ok q = program_takes 0 depth q is.0 (is.1 ∙ same) (number_stands p.span p stand ∙ place) (omega arith) in
+    let a : program_at 0 depth is.0 ≡ Ok p = program_takes 0 depth p is.0 is.1 (number_stands p.span p _)
+        (omega arith) in
+    let b : program_at 0 depth is.0 ≡ Ok q = program_takes 0 depth q is.0 (is.1 ∙ same)
+        (number_stands p.span p stand ∙ place) (omega arith) in
     one_value p q (sym a ∙ b)
 
 pub derives_once : (text : List ℕ) (tokens : List Token) (p q : WholeProgram Name) → AllCanStand (lexemes text tokens)
@@ -357,7 +376,8 @@ derives_once text tokens p q stand d f = one_of_tokens p q (subst AllCanStand d.
 pub goes_on : (ts : List Lexeme) (st : List Symbol) → AllCanStand ts → run ts (s_program ∷ []) ≡ Some st → GoesOn ts
 goes_on ts st stand h =
     let b = program_back (ts ++ complete_all st) (all_append ts (complete_all st) stand (completed_stand st))
-    (run_append ts (complete_all st) (s_program ∷ []) ∙ ap (λ z. run_by z (run (complete_all st))) h ∙ completes_all st) in
+    (run_append ts (complete_all st) (s_program ∷ []) ∙ ap (λ z. run_by z (run (complete_all st))) h
+        ∙ completes_all st) in
     (complete_all st, completed_stand st, b.0, b.1)
 
 none_some : (st : List Symbol) → (let r : Option (List Symbol) = None in r) ≡ Some st → ⊥
@@ -365,5 +385,6 @@ none_some st h = cc
 
 pub goes_on_runs : (ts : List Lexeme) → AllCanStand ts → GoesOn ts → run ts (s_program ∷ []) ≡ None → ⊥
 goes_on_runs ts stand g h =
-    let r : run (ts ++ g.0) (s_program ∷ []) ≡ Some [] = program_runs (ts ++ g.0) (all_append ts g.0 stand g.1) g.2 g.3 in
+    let r : run (ts ++ g.0) (s_program ∷ []) ≡ Some [] =
+        program_runs (ts ++ g.0) (all_append ts g.0 stand g.1) g.2 g.3 in
     none_some [] (sym (ap (λ z. run_by z (run g.0)) h) ∙ sym (run_append ts g.0 (s_program ∷ [])) ∙ r)

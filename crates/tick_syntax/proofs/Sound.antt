@@ -85,7 +85,8 @@ pair_regroups a x b y rest = simp append_assoc
 module _ (end limit : ℕ) where
   -- The symbols are read from the front, with something that P says of the value and the rest; or the
   -- refusal is the first.
-  pub record Reads {V : Type 0} (syms : List Symbol) (P : V → List Lexeme → Type 0) (room : ℕ) (is : List ValuedToken) (m : Reading V) : Type 0 where
+  pub record Reads {V : Type 0} (syms : List Symbol) (P : V → List Lexeme → Type 0) (room : ℕ) (is : List ValuedToken)
+      (m : Reading V) : Type 0 where
     pub found : (x : V × List ValuedToken) → m ≡ Ok x → P x.0 (says x.1)
     pub shorter : (x : V × List ValuedToken) → m ≡ Ok x → length x.1 < length is
     pub goes : (x : V × List ValuedToken) → m ≡ Ok x → (st : List Symbol) → opened (syms ++ st) + room ≡ limit
@@ -93,7 +94,8 @@ module _ (end limit : ℕ) where
     pub stops : (e : TextFault) → m ≡ Err e → (st : List Symbol) → opened (syms ++ st) + room ≡ limit
         → fault end limit is (syms ++ st) ≡ Some e
 
-  pub reads_bind_shorter : {V U : Type 0} (xs ys : List Symbol) (P : V → List Lexeme → Type 0) (Q : U → List Lexeme → Type 0)
+  pub reads_bind_shorter : {V U : Type 0} (xs ys : List Symbol) (P : V → List Lexeme → Type 0)
+      (Q : U → List Lexeme → Type 0)
       (room : ℕ) (is : List ValuedToken) (m : Reading V) (f : V × List ValuedToken → Reading U)
       → ((st : List Symbol) → opened (xs ++ st) ≡ opened st)
       → Reads xs P room is m
@@ -103,14 +105,17 @@ module _ (end limit : ℕ) where
     found = λ y h. let b = bind_ok m f y h in (then_ b.0 (first.found b.0 b.1) (first.shorter b.0 b.1)).found y b.2;
     shorter = λ y h. let b = bind_ok m f y h in
         let l : length b.0.1 < length is = first.shorter b.0 b.1 in
-        let k : length y.1 < length b.0.1 = (then_ b.0 (first.found b.0 b.1) (first.shorter b.0 b.1)).shorter y b.2 in omega arith;
+        let k : length y.1 < length b.0.1 =
+            (then_ b.0 (first.found b.0 b.1) (first.shorter b.0 b.1)).shorter y b.2 in omega arith;
     goes = λ y h st o. let b = bind_ok m f y h in
-        let whole : opened (xs ++ (ys ++ st)) + room ≡ limit = subst (λ z. opened z + room ≡ limit) (append_assoc xs ys st) o in
+        let whole : opened (xs ++ (ys ++ st)) + room ≡ limit =
+            subst (λ z. opened z + room ≡ limit) (append_assoc xs ys st) o in
         let inner : opened (ys ++ st) + room ≡ limit = subst (λ z. z + room ≡ limit) (none (ys ++ st)) whole in
         ap (fault end limit is) (append_assoc xs ys st) ∙ first.goes b.0 b.1 (ys ++ st) whole
         ∙ (then_ b.0 (first.found b.0 b.1) (first.shorter b.0 b.1)).goes y b.2 st inner;
     stops = λ e h st o.
-        let whole : opened (xs ++ (ys ++ st)) + room ≡ limit = subst (λ z. opened z + room ≡ limit) (append_assoc xs ys st) o in
+        let whole : opened (xs ++ (ys ++ st)) + room ≡ limit =
+            subst (λ z. opened z + room ≡ limit) (append_assoc xs ys st) o in
         let inner : opened (ys ++ st) + room ≡ limit = subst (λ z. z + room ≡ limit) (none (ys ++ st)) whole in
         elim (bind_err m f e h) [
           | inl b ↦ ap (fault end limit is) (append_assoc xs ys st) ∙ first.stops e b (ys ++ st) whole
@@ -125,7 +130,8 @@ module _ (end limit : ℕ) where
       → Reads xs P room is m
       → ((x : V × List ValuedToken) → P x.0 (says x.1) → Reads ys Q room x.1 (f x))
       → Reads (xs ++ ys) Q room is (m >>= f)
-  reads_bind xs ys P Q room is m f none first then_ = reads_bind_shorter xs ys P Q room is m f none first (λ x p l. then_ x p)
+  reads_bind xs ys P Q room is m f none first then_ = reads_bind_shorter xs ys P Q room is m f none first
+      (λ x p l. then_ x p)
 
   pub reads_map : {V U : Type 0} (xs : List Symbol) (P : V → List Lexeme → Type 0) (Q : U → List Lexeme → Type 0)
       (room : ℕ) (is : List ValuedToken) (m : Reading V) (g : V → U)
@@ -146,7 +152,8 @@ module _ (end limit : ℕ) where
   }
 
   -- A token that no symbol takes.
-  pub refuse : {V : Type 0} (s : Symbol) (P : V → List Lexeme → Type 0) (room : ℕ) (m : Meaning) (span : Span) (rest : List ValuedToken)
+  pub refuse : {V : Type 0} (s : Symbol) (P : V → List Lexeme → Type 0) (room : ℕ) (m : Meaning) (span : Span)
+      (rest : List ValuedToken)
       → step s (said_by m span) ≡ None
       → Reads (s ∷ []) P room (record { meaning = m; span = span } ∷ rest) (refusal (F.Unexpected span))
   refuse {V} s P room m span rest none = record {
@@ -154,12 +161,14 @@ module _ (end limit : ℕ) where
     shorter = λ x h. absurd (not_ok h);
     goes = λ x h. absurd (not_ok h);
     stops = λ e h st o.
-        ap (λ z. fault_by (on_stack z st) (is_full limit (said_by m span) (opened (s ∷ st))) span (fault end limit rest)) none
+        ap (λ z. fault_by (on_stack z st) (is_full limit (said_by m span) (opened (s ∷ st))) span
+            (fault end limit rest)) none
         ∙ ap Some (the_err {A = V × List ValuedToken} _ e h);
   }
 
   -- A bracket that is one too many.
-  pub refuse_deep : {V : Type 0} (s : Symbol) (P : V → List Lexeme → Type 0) (m : Meaning) (span : Span) (rest : List ValuedToken) (new : List Symbol)
+  pub refuse_deep : {V : Type 0} (s : Symbol) (P : V → List Lexeme → Type 0) (m : Meaning) (span : Span)
+      (rest : List ValuedToken) (new : List Symbol)
       → step s (said_by m span) ≡ Some new
       → ((st : List Symbol) → opened (s ∷ st) + 0 ≡ limit → is_full limit (said_by m span) (opened (s ∷ st)) ≡ true)
       → Reads (s ∷ []) P 0 (record { meaning = m; span = span } ∷ rest) (refusal (F.TooDeep span))
@@ -168,13 +177,15 @@ module _ (end limit : ℕ) where
     shorter = λ x h. absurd (not_ok h);
     goes = λ x h. absurd (not_ok h);
     stops = λ e h st o.
-        ap (λ z. fault_by (on_stack z st) (is_full limit (said_by m span) (opened (s ∷ st))) span (fault end limit rest)) is_some
+        ap (λ z. fault_by (on_stack z st) (is_full limit (said_by m span) (opened (s ∷ st))) span
+            (fault end limit rest)) is_some
         ∙ ap (λ z. fault_by (Some (new ++ st)) z span (fault end limit rest)) (full st o)
         ∙ ap Some (the_err {A = V × List ValuedToken} _ e h);
   }
 
   -- A token that is all that the symbol stands for.
-  pub accept : {V : Type 0} (s : Symbol) (P : V → List Lexeme → Type 0) (room : ℕ) (m : Meaning) (span : Span) (rest : List ValuedToken) (v : V)
+  pub accept : {V : Type 0} (s : Symbol) (P : V → List Lexeme → Type 0) (room : ℕ) (m : Meaning) (span : Span)
+      (rest : List ValuedToken) (v : V)
       → step s (said_by m span) ≡ Some []
       → ((st : List Symbol) → is_full limit (said_by m span) (opened (s ∷ st)) ≡ false)
       → P v (says rest)
@@ -183,14 +194,16 @@ module _ (end limit : ℕ) where
     found = λ x h. subst (λ z. P z.0 (says z.1)) (the_ok h) p;
     shorter = λ x h. subst (λ z. length z.1 < suc (length rest)) (the_ok h) (omega arith);
     goes = λ x h st o.
-        ap (λ z. fault_by (on_stack z st) (is_full limit (said_by m span) (opened (s ∷ st))) span (fault end limit rest)) is_some
+        ap (λ z. fault_by (on_stack z st) (is_full limit (said_by m span) (opened (s ∷ st))) span
+            (fault end limit rest)) is_some
         ∙ ap (λ z. fault_by (Some st) z span (fault end limit rest)) (full st)
         ∙ ap (λ z. fault end limit z.1 st) (the_ok h);
     stops = λ e h. absurd (not_err h);
   }
 
   -- A token after which other symbols stand in the symbol's place.
-  pub enter : {V : Type 0} (s : Symbol) (P : V → List Lexeme → Type 0) (room inside : ℕ) (m : Meaning) (span : Span) (rest : List ValuedToken)
+  pub enter : {V : Type 0} (s : Symbol) (P : V → List Lexeme → Type 0) (room inside : ℕ) (m : Meaning) (span : Span)
+      (rest : List ValuedToken)
       (new : List Symbol) (r : Reading V)
       → step s (said_by m span) ≡ Some new
       → ((st : List Symbol) → opened (s ∷ st) + room ≡ limit
@@ -207,7 +220,8 @@ module _ (end limit : ℕ) where
       passes : (st : List Symbol) → is_full limit (said_by m span) (opened (s ∷ st)) ≡ false
           → fault end limit (record { meaning = m; span = span } ∷ rest) (s ∷ st) ≡ fault end limit rest (new ++ st)
       passes st full =
-          ap (λ z. fault_by (on_stack z st) (is_full limit (said_by m span) (opened (s ∷ st))) span (fault end limit rest)) is_some
+          ap (λ z. fault_by (on_stack z st) (is_full limit (said_by m span) (opened (s ∷ st))) span
+              (fault end limit rest)) is_some
           ∙ ap (λ z. fault_by (Some (new ++ st)) z span (fault end limit rest)) full
 
   -- No token is left.
@@ -224,7 +238,8 @@ module _ (end limit : ℕ) where
   pub by_next_whole : {V : Type 0} (s : Symbol) (P : List ValuedToken → V → List Lexeme → Type 0) (room : ℕ)
       (f : List ValuedToken → Meaning → Span → List ValuedToken → Reading V)
       → ((m : Meaning) (span : Span) (rest : List ValuedToken)
-      → Reads (s ∷ []) (P (record { meaning = m; span = span } ∷ rest)) room (record { meaning = m; span = span } ∷ rest)
+      → Reads (s ∷ []) (P (record { meaning = m; span = span } ∷ rest)) room
+          (record { meaning = m; span = span } ∷ rest)
       (f (record { meaning = m; span = span } ∷ rest) m span rest))
       → (is : List ValuedToken) → Reads (s ∷ []) (P is) room is (next_at end is >>= λ x. f is x.0.meaning x.0.span x.1)
   unfolding next_at
@@ -232,9 +247,11 @@ module _ (end limit : ℕ) where
   by_next_whole s P room f h (i ∷ is) = h i.meaning i.span is
 
   -- The same, where it goes on.
-  pub by_next : {V : Type 0} (s : Symbol) (P : List ValuedToken → V → List Lexeme → Type 0) (room : ℕ) (f : Meaning → Span → List ValuedToken → Reading V)
+  pub by_next : {V : Type 0} (s : Symbol) (P : List ValuedToken → V → List Lexeme → Type 0) (room : ℕ)
+      (f : Meaning → Span → List ValuedToken → Reading V)
       → ((m : Meaning) (span : Span) (rest : List ValuedToken)
-      → Reads (s ∷ []) (P (record { meaning = m; span = span } ∷ rest)) room (record { meaning = m; span = span } ∷ rest) (f m span rest))
+      → Reads (s ∷ []) (P (record { meaning = m; span = span } ∷ rest)) room
+          (record { meaning = m; span = span } ∷ rest) (f m span rest))
       → (is : List ValuedToken) → Reads (s ∷ []) (P is) room is (next_at end is >>= λ x. f x.0.meaning x.0.span x.1)
   by_next s P room f h is = by_next_whole s P room (λ whole m span rest. f m span rest) h is
 
@@ -242,14 +259,17 @@ module _ (end limit : ℕ) where
   pub by_next_then : {U V : Type 0} (s : Symbol) (P : List ValuedToken → V → List Lexeme → Type 0) (room : ℕ)
       (f : Meaning → Span → List ValuedToken → Reading U) (g : U × List ValuedToken → Reading V)
       → ((m : Meaning) (span : Span) (rest : List ValuedToken)
-      → Reads (s ∷ []) (P (record { meaning = m; span = span } ∷ rest)) room (record { meaning = m; span = span } ∷ rest) (f m span rest >>= g))
-      → (is : List ValuedToken) → Reads (s ∷ []) (P is) room is ((next_at end is >>= λ x. f x.0.meaning x.0.span x.1) >>= g)
+      → Reads (s ∷ []) (P (record { meaning = m; span = span } ∷ rest)) room
+          (record { meaning = m; span = span } ∷ rest) (f m span rest >>= g))
+      → (is : List ValuedToken) → Reads (s ∷ []) (P is) room is
+          ((next_at end is >>= λ x. f x.0.meaning x.0.span x.1) >>= g)
   unfolding next_at
   by_next_then {U} {V} s P room f g h [] = nothing_left s (P []) room
   by_next_then s P room f g h (i ∷ is) = h i.meaning i.span is
 
   -- A symbol that takes the tokens as others do.
-  pub stand_in : {V : Type 0} (s : Symbol) (ss : List Symbol) (P : V → List Lexeme → Type 0) (room : ℕ) (is : List ValuedToken) (r : Reading V)
+  pub stand_in : {V : Type 0} (s : Symbol) (ss : List Symbol) (P : V → List Lexeme → Type 0) (room : ℕ)
+      (is : List ValuedToken) (r : Reading V)
       → ((st : List Symbol) → opened (s ∷ st) ≡ opened (ss ++ st))
       → ((st : List Symbol) → fault end limit is (s ∷ st) ≡ fault end limit is (ss ++ st))
       → Reads ss P room is r → Reads (s ∷ []) P room is r
@@ -260,7 +280,8 @@ module _ (end limit : ℕ) where
     stops = λ e h st o. as_ st ∙ inner.stops e h st (subst (λ z. z + room ≡ limit) (same st) o);
   }
 
-  pub weaken : {V : Type 0} (ss : List Symbol) (P Q : V → List Lexeme → Type 0) (room : ℕ) (is : List ValuedToken) (r : Reading V)
+  pub weaken : {V : Type 0} (ss : List Symbol) (P Q : V → List Lexeme → Type 0) (room : ℕ) (is : List ValuedToken)
+      (r : Reading V)
       → Reads ss P room is r → ((v : V) (rest : List Lexeme) → P v rest → Q v rest) → Reads ss Q room is r
   weaken ss P Q room is r inner q = record {
     found = λ x h. q x.0 (says x.1) (inner.found x h);
@@ -273,7 +294,8 @@ module _ (end limit : ℕ) where
   abbrev pub ReadsOne : {V : Type 0} → Symbol → (V → Lexeme) → (Meaning → Span → List ValuedToken → Reading V) → Type 0
   ReadsOne s token f =
       (room : ℕ) (m : Meaning) (span : Span) (rest : List ValuedToken)
-      → Reads (s ∷ []) (λ v r. said_by m span ∷ says rest ≡ token v ∷ r) room (record { meaning = m; span = span } ∷ rest) (f m span rest)
+      → Reads (s ∷ []) (λ v r. said_by m span ∷ says rest ≡ token v ∷ r) room
+          (record { meaning = m; span = span } ∷ rest) (f m span rest)
 
   abbrev pub ReadsTerminal : Symbol → Terminal → Type 0
   ReadsTerminal s w = ReadsOne s (λ v. a_terminal w) (terminal_by w)
@@ -310,7 +332,8 @@ module _ (end limit : ℕ) where
   operator_reads : (room : ℕ) (is : List ValuedToken)
       → Reads (s_operator ∷ []) (λ v r. says is ≡ a_terminal (T.Operator v) ∷ r) room is (operator_at end is)
   unfolding operator_at
-  operator_reads room is = by_next s_operator (λ js v r. says js ≡ a_terminal (T.Operator v) ∷ r) room operator_by (operator_one room) is
+  operator_reads room is = by_next s_operator (λ js v r. says js ≡ a_terminal (T.Operator v) ∷ r) room operator_by
+      (operator_one room) is
 
   pub name_reads : (room : ℕ) (is : List ValuedToken)
       → Reads (s_name ∷ []) (λ v r. says is ≡ a_name v ∷ r) room is (name_at end is)
@@ -322,20 +345,27 @@ module _ (end limit : ℕ) where
   IsExpressionIn room ts e rest = (ts ≡ expression_tokens e ++ rest) × (expression_nesting e ≤ room)
 
   abbrev ReadsExpressions : ℕ → (List ValuedToken → Reading (Expression Name)) → Type 0
-  ReadsExpressions room read = (is : List ValuedToken) → Reads (s_expression ∷ []) (IsExpressionIn room (says is)) room is (read is)
+  ReadsExpressions room read = (is : List ValuedToken)
+      → Reads (s_expression ∷ []) (IsExpressionIn room (says is)) room is (read is)
 
-  pair_reads : (room : ℕ) (read : List ValuedToken → Reading (Expression Name)) → ReadsExpressions room read → (is : List ValuedToken)
+  pair_reads : (room : ℕ) (read : List ValuedToken → Reading (Expression Name)) → ReadsExpressions room read
+      → (is : List ValuedToken)
       → Reads (s_expression ∷ s_operator ∷ s_expression ∷ s_close ∷ [])
       (IsExpressionIn (suc room) (a_terminal T.Open ∷ says is)) room is (pair_at end read is)
   unfolding pair_at
   pair_reads room read reads is =
       let Q : Expression Name → List Lexeme → Type 0 = IsExpressionIn (suc room) (a_terminal T.Open ∷ says is) in
-      reads_bind (s_expression ∷ []) (s_operator ∷ s_expression ∷ s_close ∷ []) _ Q room is _ _ (λ st. refl) (reads is) (λ a da.
-      reads_bind (s_operator ∷ []) (s_expression ∷ s_close ∷ []) _ Q room a.1 _ _ (λ st. refl) (operator_reads room a.1) (λ op dop.
+      reads_bind (s_expression ∷ []) (s_operator ∷ s_expression ∷ s_close ∷ []) _ Q room is _ _ (λ st. refl) (reads is)
+          (λ a da.
+      reads_bind (s_operator ∷ []) (s_expression ∷ s_close ∷ []) _ Q room a.1 _ _ (λ st. refl) (operator_reads room a.1)
+          (λ op dop.
       reads_bind (s_expression ∷ []) (s_close ∷ []) _ Q room op.1 _ _ (λ st. refl) (reads op.1) (λ b db.
       reads_map (s_close ∷ []) _ Q room b.1 _ _ (terminal_reads s_close T.Close close_one room b.1) (λ c rest dc. (
-        ap (λ z. a_terminal T.Open ∷ z) (da.0 ∙ ap (λ z. expression_tokens a.0 ++ z) (dop ∙ ap (λ z. a_terminal (T.Operator op.0) ∷ z) (db.0 ∙ ap (λ z. expression_tokens b.0 ++ z) dc))
-            ∙ pair_regroups (expression_tokens a.0) (a_terminal (T.Operator op.0)) (expression_tokens b.0) (a_terminal T.Close) rest),
+        ap (λ z. a_terminal T.Open ∷ z)
+            (da.0 ∙ ap (λ z. expression_tokens a.0 ++ z)
+                (dop ∙ ap (λ z. a_terminal (T.Operator op.0) ∷ z) (db.0 ∙ ap (λ z. expression_tokens b.0 ++ z) dc))
+            ∙ pair_regroups (expression_tokens a.0) (a_terminal (T.Operator op.0)) (expression_tokens b.0)
+                (a_terminal T.Close) rest),
         (let l : expression_nesting a.0 ≤ room = da.1 in let k : expression_nesting b.0 ≤ room = db.1 in omega arith),
       )))))
 
@@ -353,10 +383,14 @@ module _ (end limit : ℕ) where
       → (m : Meaning) (span : Span) (rest : List ValuedToken)
       → Reads (s_expression ∷ []) (IsExpressionIn room (said_by m span ∷ says rest)) room
       (record { meaning = m; span = span } ∷ rest) (expression_by end m span rest (brackets span rest))
-  expression_front room brackets h (M.Number v) span rest = accept _ _ room _ span rest _ refl (λ st. refl) (refl, omega arith)
-  expression_front room brackets h (M.Name letters) span rest = accept _ _ room _ span rest _ refl (λ st. refl) (refl, omega arith)
-  expression_front room brackets h (M.Terminal T.Me) span rest = accept _ _ room _ span rest _ refl (λ st. refl) (refl, omega arith)
-  expression_front room brackets h (M.Terminal T.Count) span rest = accept _ _ room _ span rest _ refl (λ st. refl) (refl, omega arith)
+  expression_front room brackets h (M.Number v) span rest = accept _ _ room _ span rest _ refl (λ st. refl)
+      (refl, omega arith)
+  expression_front room brackets h (M.Name letters) span rest = accept _ _ room _ span rest _ refl (λ st. refl)
+      (refl, omega arith)
+  expression_front room brackets h (M.Terminal T.Me) span rest = accept _ _ room _ span rest _ refl (λ st. refl)
+      (refl, omega arith)
+  expression_front room brackets h (M.Terminal T.Count) span rest = accept _ _ room _ span rest _ refl (λ st. refl)
+      (refl, omega arith)
   expression_front room brackets h (M.Terminal T.Open) span rest = h span rest
   expression_front room brackets h m span rest = refuse _ _ room m span rest refl
 
@@ -380,9 +414,12 @@ module _ (end limit : ℕ) where
 
   pub last_reads : (room : ℕ) (is : List ValuedToken)
       → Reads (s_expression ∷ s_semicolon ∷ [])
-      (λ e rest. (says is ≡ (expression_tokens e ++ a_terminal T.Semicolon ∷ []) ++ rest) × (expression_nesting e ≤ room)) room is (last_at end room is)
+      (λ e rest. (says is ≡ (expression_tokens e ++ a_terminal T.Semicolon ∷ []) ++ rest) ×
+          (expression_nesting e ≤ room)) room is (last_at end room is)
   unfolding last_at
   last_reads room is =
       reads_bind (s_expression ∷ []) (s_semicolon ∷ []) _ _ room is _ _ (λ st. refl) (expression_reads room is) (λ e de.
-      reads_map (s_semicolon ∷ []) _ _ room e.1 _ _ (terminal_reads s_semicolon T.Semicolon semicolon_one room e.1) (λ s rest ds.
-      (de.0 ∙ ap (λ z. expression_tokens e.0 ++ z) ds ∙ sym (append_assoc (expression_tokens e.0) (a_terminal T.Semicolon ∷ []) rest), de.1)))
+      reads_map (s_semicolon ∷ []) _ _ room e.1 _ _ (terminal_reads s_semicolon T.Semicolon semicolon_one room e.1)
+          (λ s rest ds.
+      (de.0 ∙ ap (λ z. expression_tokens e.0 ++ z) ds
+          ∙ sym (append_assoc (expression_tokens e.0) (a_terminal T.Semicolon ∷ []) rest), de.1)))

@@ -72,21 +72,27 @@ module _ (end : ℕ) (text : List ℕ) where
   the_fault : (d e : TextFault) → Some d ≡ Some e → e ≡ d
   the_fault d e h = cc
 
-  stop_step : (t : Token) (ts : List Token) (span : Span) → span ≡ t.span → (s : Symbol) (st : List Symbol) (e : TextFault)
-      (o : Option (List Symbol)) (b : Bool) → step s (lexeme_of text t) ≡ o → is_full 64 (lexeme_of text t) (opened (s ∷ st)) ≡ b
+  stop_step : (t : Token) (ts : List Token) (span : Span) → span ≡ t.span
+      → (s : Symbol) (st : List Symbol) (e : TextFault)
+      (o : Option (List Symbol)) (b : Bool) → step s (lexeme_of text t) ≡ o
+          → is_full 64 (lexeme_of text t) (opened (s ∷ st)) ≡ b
       → opened (s ∷ st) ≤ 64 → (more : List Symbol → Option TextFault) → fault_by (on_stack o st) b span more ≡ Some e
       → ((new : List Symbol) → opened (new ++ st) ≤ 64 → more (new ++ st) ≡ Some e → Stopped ts (new ++ st) e)
       → Stopped (t ∷ ts) (s ∷ st) e
   stop_step t ts span same s st e None b is_none full l more k go =
       stopped_here (t ∷ ts) (s ∷ st) e
-      (inl (the_fault (F.Unexpected span) e k ∙ ap F.Unexpected same, ap (λ z. run_by (on_stack z st) (run [])) is_none))
+      (inl (the_fault (F.Unexpected span) e k ∙ ap F.Unexpected same,
+          ap (λ z. run_by (on_stack z st) (run [])) is_none))
   stop_step t ts span same s st e (Some new) true is_some full l more k go =
       let f = full_is 64 (lexeme_of text t) (opened (s ∷ st)) full in
       stopped_here (t ∷ ts) (s ∷ st) e
-      (inr (the_fault (F.TooDeep span) e k ∙ ap F.TooDeep same, f.0, f.1, new ++ st, ap (λ z. run_by (on_stack z st) (run [])) is_some))
+      (inr (the_fault (F.TooDeep span) e k ∙ ap F.TooDeep same, f.0, f.1, new ++ st,
+          ap (λ z. run_by (on_stack z st) (run [])) is_some))
   stop_step t ts span same s st e (Some new) false is_some full l more k go =
-      let d : opened (new ++ st) ≡ open_by (lexeme_of text t) (opened (s ∷ st)) = opens_to s (lexeme_of text t) new is_some st in
-      let fits : open_by (lexeme_of text t) (opened (s ∷ st)) ≤ 64 = fits_by (lexeme_of text t) (opened (s ∷ st)) l full in
+      let d : opened (new ++ st) ≡ open_by (lexeme_of text t) (opened (s ∷ st)) =
+          opens_to s (lexeme_of text t) new is_some st in
+      let fits : open_by (lexeme_of text t) (opened (s ∷ st)) ≤ 64 =
+          fits_by (lexeme_of text t) (opened (s ∷ st)) l full in
       let r = go new (subst (λ z. z ≤ 64) (sym d) fits) k in
       record {
         front = t ∷ r.front;
@@ -99,7 +105,8 @@ module _ (end : ℕ) (text : List ℕ) where
         stop = r.stop;
       }
 
-  stopped : (is : List ValuedToken) (ts : List Token) (st : List Symbol) (e : TextFault) → SayAs text is ts → opened st ≤ 64
+  stopped : (is : List ValuedToken) (ts : List Token) (st : List Symbol) (e : TextFault) → SayAs text is ts
+      → opened st ≤ 64
       → fault end 64 is st ≡ Some e → Stopped ts st e
   stopped [] [] [] e same l h = absurd (cc)
   stopped [] [] (s ∷ st) e same l h = stopped_here [] (s ∷ st) e (the_fault _ e h)
@@ -108,13 +115,16 @@ module _ (end : ℕ) (text : List ℕ) where
   stopped (i ∷ is) (t ∷ ts) [] e same l h =
       stopped_here (t ∷ ts) [] e (inl (the_fault (F.Unexpected i.span) e h ∙ ap F.Unexpected same.0.1, refl))
   stopped (i ∷ is) (t ∷ ts) (s ∷ st) e same l h =
-      stop_step t ts i.span same.0.1 s st e (step s (lexeme_of text t)) (is_full 64 (lexeme_of text t) (opened (s ∷ st))) refl refl l
+      stop_step t ts i.span same.0.1 s st e (step s (lexeme_of text t))
+          (is_full 64 (lexeme_of text t) (opened (s ∷ st))) refl refl l
       (fault end 64 is)
-      (subst (λ z. fault_by (on_stack (step s z) st) (is_full 64 z (opened (s ∷ st))) i.span (fault end 64 is) ≡ Some e) same.0.0 h)
+      (subst (λ z. fault_by (on_stack (step s z) st) (is_full 64 z (opened (s ∷ st))) i.span (fault end 64 is) ≡ Some e)
+          same.0.0 h)
       (λ new m k. stopped is ts (new ++ st) e same.1 m k)
 
 -- one token more
-runs_more : (text : List ℕ) (front : List Token) (t : Token) (left : List Symbol) → run (lexemes text front) (s_program ∷ []) ≡ Some left
+runs_more : (text : List ℕ) (front : List Token) (t : Token) (left : List Symbol)
+    → run (lexemes text front) (s_program ∷ []) ≡ Some left
     → run (lexemes text (front ++ t ∷ [])) (s_program ∷ []) ≡ run (lexeme_of text t ∷ []) left
 runs_more text front t left h =
     ap (λ z. run z (s_program ∷ [])) (map-append (lexeme_of text) front (t ∷ []))
@@ -138,17 +148,21 @@ module _ (text : List ℕ) (ts : List Token) (all : AllCanStand (lexemes text ts
   front_stands : (front rest : List Token) → ts ≡ front ++ rest → AllCanStand (lexemes text front)
   front_stands front rest e = middle_stands text [] front rest (subst (λ z. AllCanStand (lexemes text z)) e all)
 
-  more_stands : (front : List Token) (t : Token) (rest : List Token) → ts ≡ front ++ t ∷ rest → AllCanStand (lexemes text (front ++ t ∷ []))
+  more_stands : (front : List Token) (t : Token) (rest : List Token) → ts ≡ front ++ t ∷ rest
+      → AllCanStand (lexemes text (front ++ t ∷ []))
   more_stands front t rest e = front_stands (front ++ t ∷ []) rest (e ∙ sym (append_assoc front (t ∷ []) rest))
 
   unexpected_here : (front rest : List Token) (left : List Symbol) (place : Span) → ts ≡ front ++ rest
-      → run (lexemes text front) (s_program ∷ []) ≡ Some left → StopsAt (length text) text rest left (F.Unexpected place)
+      → run (lexemes text front) (s_program ∷ []) ≡ Some left
+      → StopsAt (length text) text rest left (F.Unexpected place)
       → StopsAfter text front rest place
   unexpected_here front [] [] place e r h = absurd h
   unexpected_here front [] (s ∷ st) place e r h =
-      (same_place _ _ h, λ p d. not_same s st (sym (program_runs (lexemes text front) (front_stands front [] e) p d) ∙ r))
+      (same_place _ _ h, λ p d. not_same s st
+          (sym (program_runs (lexemes text front) (front_stands front [] e) p d) ∙ r))
   unexpected_here front (t ∷ rest) left place e r (inl h) =
-      (same_place _ _ h.0, λ g. goes_on_runs (lexemes text (front ++ t ∷ [])) (more_stands front t rest e) g (runs_more text front t left r ∙ h.1))
+      (same_place _ _ h.0, λ g. goes_on_runs (lexemes text (front ++ t ∷ [])) (more_stands front t rest e) g
+          (runs_more text front t left r ∙ h.1))
   unexpected_here front (t ∷ rest) left place e r (inr h) = absurd (not_deep _ _ h.0)
 
   pub is_unexpected : (is : List ValuedToken) (place : Span) → SayAs text is ts
@@ -185,14 +199,18 @@ module _ (text : List ℕ) (ts : List Token) (all : AllCanStand (lexemes text ts
       → fault (length text) 64 is (s_program ∷ []) ≡ Some (F.TooDeep place) → IsTooDeep text ts place
   is_too_deep is place same h =
       let r = stopped (length text) text is ts (s_program ∷ []) (F.TooDeep place) same (omega arith) h in
-      deep_here r.front r.rest r.left place r.split (goes_on (lexemes text r.front) r.left (front_stands r.front r.rest r.split) r.runs, r.shallow) r.depth r.runs r.stop
+      deep_here r.front r.rest r.left place r.split
+          (goes_on (lexemes text r.front) r.left (front_stands r.front r.rest r.split) r.runs, r.shallow) r.depth r.runs
+              r.stop
 
 -- The faults of a text's tokens are none of the grammar's.
-no_unexpected : (at : ℕ) (text : List ℕ) (before : List Token) (place : Span) → FaultAfter at text before (F.Unexpected place) → ⊥
+no_unexpected : (at : ℕ) (text : List ℕ) (before : List Token) (place : Span)
+    → FaultAfter at text before (F.Unexpected place) → ⊥
 no_unexpected at text [] place h = h
 no_unexpected at text (t ∷ before) place h = no_unexpected t.span.end h.0 before place h.2
 
-no_too_deep : (at : ℕ) (text : List ℕ) (before : List Token) (place : Span) → FaultAfter at text before (F.TooDeep place) → ⊥
+no_too_deep : (at : ℕ) (text : List ℕ) (before : List Token) (place : Span)
+    → FaultAfter at text before (F.TooDeep place) → ⊥
 no_too_deep at text [] place h = h
 no_too_deep at text (t ∷ before) place h = no_too_deep t.span.end h.0 before place h.2
 
@@ -221,7 +239,8 @@ of_step None b span more e h go = subst IsStop (some_same (F.Unexpected span) e 
 of_step (Some new) true span more e h go = subst IsStop (some_same (F.TooDeep span) e h) tt
 of_step (Some new) false span more e h go = go new h
 
-pub of_fault : (end limit : ℕ) (is : List ValuedToken) (st : List Symbol) (e : TextFault) → fault end limit is st ≡ Some e → IsStop e
+pub of_fault : (end limit : ℕ) (is : List ValuedToken) (st : List Symbol) (e : TextFault)
+    → fault end limit is st ≡ Some e → IsStop e
 of_fault end limit [] [] e h = absurd (cc)
 of_fault end limit [] (s ∷ st) e h = subst IsStop (some_same (F.Unexpected (record { start = end; end = end })) e h) tt
 of_fault end limit (i ∷ is) [] e h = subst IsStop (some_same (F.Unexpected i.span) e h) tt
