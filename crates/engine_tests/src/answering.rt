@@ -6,6 +6,7 @@ use std::process::Abort;
 use std::sync::Wait;
 use std::test::Fail;
 use std::thread::Threads;
+use testing::holds;
 
 pub const USAGE: &str =
     "usage: ticketc order N | check | emit | source S | code S | lift S | drop S | run TURNS\n";
@@ -63,12 +64,6 @@ pub fn answered<R: AllocGlobal + Threads + Wait>(
     served(rt, words, reader, writer)
 }
 
-/// Asserts what is true of a row, and names the row. The proof of a test that calls this is far
-/// shorter than that of one with assertions of its own.
-pub fn holds<R: Abort>(rt: &R, holds: bool, row: &[&str]) {
-    assert!(rt; holds, "{row:?}");
-}
-
 /// Asserts that the words come to this status on an input, and write this answer.
 pub fn answers<R: AllocGlobal + Abort + Threads + Wait>(
     rt: &R,
@@ -91,6 +86,5 @@ pub fn says<R: AllocGlobal + Abort + Threads + Wait>(
     answer: &str,
 ) -> Result<(), Fail> {
     let outcome = answered(rt, words, input)?;
-    holds(rt, outcome.is(Ok(0), answer), &words[..words.len().min(2)]);
-    Ok(())
+    holds(outcome.is(Ok(0), answer), &words[..words.len().min(2)])
 }

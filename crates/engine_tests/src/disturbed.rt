@@ -1,8 +1,9 @@
 //! A writer that takes several bytes at a call or none, and words that are refused before anything is read.
-use crate::answering::{holds, served};
+use crate::answering::served;
 use crate::in_memory::{Disturbance, Input, Output};
 use engine::EngineFault;
 use std::test::Fail;
+use testing::holds;
 
 // How many bytes a write takes, how the writes are disturbed, what comes of it, what is written, and
 // the row's name.
@@ -39,7 +40,7 @@ fn writes(rt: HostRuntime) -> Result<(), Fail> {
         let input = Input::new(b"0 1 2", 1000, Disturbance::Never);
         let output = Output::new(rt.alloc(), *step, *disturbance);
         let outcome = served(&rt, &["ticketc", "order", "3"], input, output)?;
-        holds(&rt, outcome.is(*status, written), &[row]);
+        holds(outcome.is(*status, written), *row)?;
     }
     Ok(())
 }
@@ -65,11 +66,7 @@ fn refused_words_read_nothing(rt: HostRuntime) -> Result<(), Fail> {
         let reader = Input::new(QUEUE, 1000, Disturbance::Failed(1));
         let writer = Output::new(rt.alloc(), 1000, Disturbance::Never);
         let outcome = served(&rt, words, reader, writer)?;
-        holds(
-            &rt,
-            outcome.status == Ok(*status) && outcome.reads == 0,
-            words,
-        );
+        holds(outcome.status == Ok(*status) && outcome.reads == 0, *words)?;
     }
     Ok(())
 }

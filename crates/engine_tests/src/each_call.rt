@@ -1,11 +1,12 @@
 //! Each call of an end, disturbed in each way, over each command. Both ends move a byte at a time.
-use crate::answering::{Outcome, USAGE, holds, served};
+use crate::answering::{Outcome, USAGE, served};
 use crate::in_memory::{Disturbance, Input, Output};
 use engine::EngineFault;
 use std::process::Abort;
 use std::sync::Wait;
 use std::test::Fail;
 use std::thread::Threads;
+use testing::holds;
 
 // A command line, the bytes that are to be read, the status and the answer.
 type Row = (
@@ -233,10 +234,9 @@ fn each_call<R: AllocGlobal + Abort + Threads + Wait>(
     for call in 1..whole.reads.max(whole.writes).saturating_add(2) {
         let outcome = answered(rt, row, trouble.at(call))?;
         holds(
-            rt,
             wanted_under(trouble, row, call).is(&outcome, row.3),
             row.0,
-        );
+        )?;
     }
     Ok(())
 }
@@ -263,7 +263,7 @@ fn is_so_now_and_then(outcome: &Outcome, row: &Row) -> bool {
 fn now_and_then(rt: HostRuntime) -> Result<(), Fail> {
     for row in &ROWS {
         let outcome = answered(&rt, row, (Disturbance::Each(3), Disturbance::Each(2)))?;
-        holds(&rt, is_so_now_and_then(&outcome, row), row.0);
+        holds(is_so_now_and_then(&outcome, row), row.0)?;
     }
     Ok(())
 }
@@ -284,9 +284,9 @@ fn always_interrupted(rt: HostRuntime) -> Result<(), Fail> {
             below: u64::MAX,
         };
         let outcome = answered(&rt, row, (for_ever, Disturbance::Never))?;
-        holds(&rt, ends_after_all_reads(&outcome, row), row.0);
+        holds(ends_after_all_reads(&outcome, row), row.0)?;
         let outcome = answered(&rt, row, (Disturbance::Each(1), Disturbance::Never))?;
-        holds(&rt, ends_after_all_reads(&outcome, row), row.0);
+        holds(ends_after_all_reads(&outcome, row), row.0)?;
     }
     Ok(())
 }

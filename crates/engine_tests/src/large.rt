@@ -1,13 +1,13 @@
 //! One large input of each kind, and an input that is too large.
 use crate::answering;
-use crate::answering::{answered, holds};
+use crate::answering::answered;
 use std::alloc::{AllocError, Global};
 use std::fmt::Write;
 use std::process::Abort;
 use std::sync::Wait;
 use std::test::Fail;
 use std::thread::Threads;
-use testing::repeated;
+use testing::{holds, repeated};
 
 // Names the command alone, since the answer is long.
 fn answers<R: AllocGlobal + Abort + Threads + Wait>(
@@ -17,8 +17,7 @@ fn answers<R: AllocGlobal + Abort + Threads + Wait>(
     answer: &str,
 ) -> Result<(), Fail> {
     let outcome = answered(rt, words, input.as_bytes())?;
-    holds(rt, outcome.is(Ok(0), answer), words);
-    Ok(())
+    holds(outcome.is(Ok(0), answer), words)
 }
 
 fn prints<R: AllocGlobal + Abort + Threads + Wait>(

@@ -1,7 +1,7 @@
 //! Inputs, schedules and answers of 1,000,000 bytes, the longest schedule, and many events.
-use crate::answering::{holds, says};
+use crate::answering::says;
 use std::test::Fail;
-use testing::repeated;
+use testing::{holds, repeated};
 
 // Two stamps of two processes, and then six in turn that bring the word back.
 const FIRST: &str = "layout 3\nstamp 0 word 281474976710656\nstamp 1 word 844424930132224\n";
@@ -98,7 +98,7 @@ fn longest_program(rt: HostRuntime) -> Result<(), Fail> {
     let piece = format!(in alloc; "out {NAME} ;\n")?;
     let printed = repeated(alloc, front.as_str(), piece.as_str(), 14_284, "end\n")?;
     let report = repeated(alloc, "", "0 out 0\n", 14_284, "status 0 running\n")?;
-    holds(&rt, program.len() == 1_000_000, &["its length"]);
+    holds(program.len() == 1_000_000, "its length")?;
     let program = program.as_bytes();
     says(&rt, &["ticketc", "check"], program, printed.as_str())?;
     let source = ["ticketc", "source", "0*14284"];

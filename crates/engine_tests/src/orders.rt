@@ -1,7 +1,8 @@
 //! What `order` answers, and command lines that are refused.
-use crate::answering::{Outcome, USAGE, holds, served};
+use crate::answering::{Outcome, USAGE, served};
 use crate::in_memory::{Disturbance, Input, Output};
 use std::test::Fail;
+use testing::holds;
 
 // A command line, its input, the status, and how the text ends. A text that isn't cut begins so.
 static ANSWERS: [(&[&str], &[u8], u8, &str); 35] = [
@@ -194,7 +195,7 @@ fn answers(rt: HostRuntime) -> Result<(), Fail> {
         let input = Input::new(text, 7, Disturbance::Never);
         let output = Output::new(rt.alloc(), 100, Disturbance::Never);
         let outcome = served(&rt, words, input, output)?;
-        holds(&rt, ends_so(&outcome, *status, end), &[end]);
+        holds(ends_so(&outcome, *status, end), *end)?;
     }
     Ok(())
 }

@@ -1,11 +1,11 @@
 //! Each refusal of a program, of its kinds and of a schedule.
-use crate::answering::{Outcome, answered, answers, holds};
+use crate::answering::{Outcome, answered, answers};
 use std::alloc::{AllocError, Global};
 use std::fmt::Write;
 use std::sync::Wait;
 use std::test::Fail;
 use std::thread::Threads;
-use testing::repeated;
+use testing::{holds, repeated};
 
 // A program and the line that refuses it.
 static PROGRAMS: [(&[u8], &str); 18] = [
@@ -187,9 +187,9 @@ fn declared<R: AllocGlobal + Threads + Wait>(
 fn names_in_a_section(rt: HostRuntime) -> Result<(), Fail> {
     for (section, most, line) in &SECTIONS {
         let outcome = declared(&rt, section, *most)?;
-        holds(&rt, outcome.status == Ok(0), &[section]);
+        holds(outcome.status == Ok(0), *section)?;
         let outcome = declared(&rt, section, most.saturating_add(1))?;
-        holds(&rt, outcome.is(Ok(1), line), &[line]);
+        holds(outcome.is(Ok(1), line), *line)?;
     }
     Ok(())
 }

@@ -1,10 +1,10 @@
 //! What `run` answers.
-use crate::answering::{USAGE, answered, answers, holds, line};
+use crate::answering::{USAGE, answered, answers, line};
 use crate::in_memory::{Disturbance, Input, Output};
 use engine::{Served, serve};
 use std::alloc::Global;
 use std::test::Fail;
-use testing::repeated;
+use testing::{holds, repeated};
 
 const COUNT: &[u8] = b"processes 1; var x; begin while (x < 2) { x = (x + 1); } out x; end";
 
@@ -70,8 +70,7 @@ fn two_in_a_queue(rt: HostRuntime) -> Result<(), Fail> {
     let is_first = outcome.is(Ok(0), FIRST);
     let is_second = outcome.is(Ok(0), SECOND);
     let is_neither = outcome.is(Ok(0), NEITHER);
-    holds(&rt, is_first || is_second || is_neither, &["in a queue"]);
-    Ok(())
+    holds(is_first || is_second || is_neither, "in a queue")
 }
 
 #[test]
@@ -184,7 +183,7 @@ fn served_without_threads(rt: HostRuntime) -> Result<(), Fail> {
         let (served, reads, written) = handed_on(rt.alloc(), words)?;
         let is_read = *outcome == Served::Status(0);
         let is_so = served == Some(*outcome) && (reads > 0) == is_read && written == *writes;
-        holds(&rt, is_so, words);
+        holds(is_so, *words)?;
     }
     Ok(())
 }

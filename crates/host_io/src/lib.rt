@@ -7,8 +7,6 @@
 mod exit;
 mod host;
 mod program;
-#[cfg(test)]
-mod tests;
 
 pub use exit::exit_code;
 pub use host::{HostReader, HostWriter, transfer_of};
