@@ -9,3 +9,4 @@ pub mod AnswerLemmas
 pub mod RunLemmas
 pub mod Reported
 pub mod RunKinds
+pub mod RunPrograms

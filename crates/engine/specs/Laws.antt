@@ -1,5 +1,6 @@
--- Each command line but a run on threads has one answer on each input; a run has those of its code, or one refusal; and
--- what a program reports and what its code reports are the same, under schedules that the commands print.
+-- Each command line but a run on threads has one answer on each input; a run has those of its code, or one refusal, and
+-- those on a program are outcomes of the program; and what a program reports and what its code reports are the same,
+-- under schedules that the commands print.
 use Rattle.std.specs.Prelude.{◌≡◌, ◌↔◌, ℕ, ◌≤◌, ◌++◌, false, List, [], length, Option, Some, None, Ok}
 use Rattle.text_core.specs.Lines.{line_end}
 use Rattle.command_line.specs.declared.request.Request.{Request}
@@ -12,7 +13,7 @@ use Rattle.engine.specs.Answer.{Answer, done}
 use Rattle.engine.specs.Commands.{Answers, command_for, is_run}
 use Rattle.engine.specs.Lowered.{IsCodeOf}
 use Rattle.engine.specs.Maps.{schedule_line}
-use Rattle.engine.specs.Runs.{IsOutcomeOf}
+use Rattle.engine.specs.Runs.{IsOutcomeOf, IsProgramOutcome}
 use Rattle.engine.specs.Text.{text_fault}
 use Rattle.engine.specs.declared.command.Command.TheVariants.{Run}
 
@@ -42,6 +43,13 @@ RunRefusalLaw =
     (asked : Option (Request (List ℕ))) (turns : ℕ) (input : List ℕ) (a : Answer)
     → command_for asked ≡ Ok (Run turns) → ((c : StepCode) → HasCode input c → ⊥)
     → Answers asked input a ↔ (Answers (Some (Code [])) input a × (a.status ≡ 1))
+
+-- Where the input is a program, what a run is answered, if it is no refusal, is an outcome of that program on whole-number
+-- tickets, under one schedule.
+abbrev pub RunProgramLaw : Type 0
+RunProgramLaw =
+    (asked : Option (Request (List ℕ))) (turns : ℕ) (input : List ℕ) (p : WholeProgram Name) (a : Answer)
+    → command_for asked ≡ Ok (Run turns) → IsTextOf input p → Answers asked input a → a.status ≡ 0 → IsProgramOutcome p turns a
 
 -- Where `code` reports on a program, `drop` prints a line, and `source` reports the same under it.
 abbrev pub DropLaw : Type 0

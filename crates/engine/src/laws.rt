@@ -1,5 +1,5 @@
 //! What the answers of `specs/Commands.antt` are, whatever program gives them.
-ghost use Rattle.engine.specs.Laws.{AtMostOneAnswerLaw, DropLaw, LiftLaw, RunOutcomeLaw, RunRefusalLaw, SomeAnswerLaw};
+ghost use Rattle.engine.specs.Laws.{AtMostOneAnswerLaw, DropLaw, LiftLaw, RunOutcomeLaw, RunProgramLaw, RunRefusalLaw, SomeAnswerLaw};
 
 /// Each command line has an answer on each input, and no two.
 pub fn law_answers()
@@ -8,9 +8,11 @@ pub fn law_answers()
 {}
 
 /// An answer to `run` is of one kind or the other: an outcome of the code that the input has, or, where it
-/// has none, the one refusal that `code` has too.
+/// has none, the one refusal that `code` has too. An outcome of a program's code is one of the program, on
+/// whole-number tickets under one schedule.
 pub fn law_run_answers()
     ensures outcome { RunOutcomeLaw }
+    ensures program { RunProgramLaw }
     ensures refusal { RunRefusalLaw }
 {}
 

@@ -233,10 +233,7 @@ fn each_call<R: AllocGlobal + Abort + Threads + Wait>(
     let whole = Wanted::of(row);
     for call in 1..whole.reads.max(whole.writes).saturating_add(2) {
         let outcome = answered(rt, row, trouble.at(call))?;
-        holds(
-            wanted_under(trouble, row, call).is(&outcome, row.3),
-            row.0,
-        )?;
+        holds(wanted_under(trouble, row, call).is(&outcome, row.3), row.0)?;
     }
     Ok(())
 }

@@ -3,7 +3,7 @@ use crate::answering::answers;
 use std::test::Fail;
 
 // A statement over a variable x, a scan s and a register r, and the line that refuses it.
-static WRONG: [(&str, &str); 27] = [
+static WRONG: [(&str, &str); 33] = [
     ("out s;", "refused 14 WrongKind 45 46 Variable Scan\n"),
     ("out r;", "refused 14 WrongKind 45 46 Variable Register\n"),
     (
@@ -65,6 +65,30 @@ static WRONG: [(&str, &str); 27] = [
     (
         "x = older s 0 r;",
         "refused 14 WrongKind 55 56 Variable Register\n",
+    ),
+    (
+        "s = held s 0;",
+        "refused 14 WrongKind 41 42 Variable Scan\n",
+    ),
+    (
+        "r = held s 0;",
+        "refused 14 WrongKind 41 42 Variable Register\n",
+    ),
+    (
+        "x = held x 0;",
+        "refused 14 WrongKind 50 51 Scan Variable\n",
+    ),
+    (
+        "x = held r 0;",
+        "refused 14 WrongKind 50 51 Scan Register\n",
+    ),
+    (
+        "x = held s s;",
+        "refused 14 WrongKind 52 53 Variable Scan\n",
+    ),
+    (
+        "x = held s r;",
+        "refused 14 WrongKind 52 53 Variable Register\n",
     ),
     ("s = x;", "refused 14 WrongKind 41 42 Variable Scan\n"),
 ];

@@ -18,6 +18,8 @@ mod each_number;
 #[cfg(test)]
 mod edges;
 #[cfg(test)]
+mod given_up;
+#[cfg(test)]
 mod in_memory;
 #[cfg(test)]
 mod kinds;

@@ -6,7 +6,7 @@ use std::test::Fail;
 use std::thread::Threads;
 
 // A statement and the trap that it comes to.
-static TRAPS: [(&str, &str); 11] = [
+static TRAPS: [(&str, &str); 13] = [
     ("x = (4294967295 + 1);", "Overflow"),
     ("x = (65536 * 65536);", "Overflow"),
     ("out (0 - 1);", "Below"),
@@ -16,6 +16,8 @@ static TRAPS: [(&str, &str); 11] = [
     ("x = older s 2 0;", "Index"),
     ("x = older s 0 n;", "Index"),
     ("x = older s (1 % 0) 9;", "Zero"),
+    ("x = held s 2;", "Index"),
+    ("x = held s (1 / 0);", "Zero"),
     ("if (1 / 0) { } else { }", "Zero"),
     ("while (0 - 1) { }", "Below"),
 ];

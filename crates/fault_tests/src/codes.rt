@@ -1,8 +1,9 @@
-//! Faults of codes.
+//! Faults of codes, and of histories that are no run of one.
 use crate::told::tells;
 use code_core::CodeFault;
 use std::test::Fail;
 use tick_lower::LowerFault;
+use tick_merge::MergeFault;
 
 static CODE_FAULTS: [(CodeFault, &str); 10] = [
     (CodeFault::Empty, "the code is empty"),
@@ -41,4 +42,21 @@ fn code_faults(rt: HostRuntime) -> Result<(), Fail> {
 fn lower_faults(rt: HostRuntime) -> Result<(), Fail> {
     tells(rt.alloc(), &LowerFault::TooLong, "the code is too long")?;
     tells(rt.alloc(), &LowerFault::NoMemory, "out of memory")
+}
+
+static MERGE_FAULTS: [(MergeFault, &str); 3] = [
+    (MergeFault::NotLegal(4), "step 4 can't come next"),
+    (
+        MergeFault::NotThisCode(1, 4),
+        "process 1 doesn't go so at step 4",
+    ),
+    (MergeFault::NoMemory, "out of memory"),
+];
+
+#[test]
+fn merge_faults(rt: HostRuntime) -> Result<(), Fail> {
+    for (fault, text) in &MERGE_FAULTS {
+        tells(rt.alloc(), fault, text)?;
+    }
+    Ok(())
 }

@@ -64,11 +64,7 @@ const ORDERED: &str =
     "layout 3\nstamp 0 word 281474976710656\nstamp 0 word 281474976710656\nword 281474976710656\nlabels 00 . .\nranks 2 0 0\n";
 
 // What the stamps come to, over an input that is read in two calls.
-fn stamps<A: AllocGlobal + Threads + Wait>(
-    rt: &A,
-    kind: ErrorKind,
-    row: &Row,
-) -> Result<(), Fail> {
+fn stamps<A: AllocGlobal + Threads + Wait>(rt: &A, kind: ErrorKind, row: &Row) -> Result<(), Fail> {
     let reading = Failing {
         call: row.reading,
         kind,

@@ -14,7 +14,7 @@ pub fn code_of(alloc: Global, small: &Small) -> Result<Code, Fail> {
     Ok(lower(alloc, &accepted(alloc, small.0)?)?)
 }
 
-pub static PROGRAMS: [Small; 12] = [
+pub static PROGRAMS: [Small; 15] = [
     // both take a ticket, and compare
     (
         "processes 2; var x; scan s; begin stamp; s = scan; x = older s 0 1; out x; end",
@@ -105,5 +105,29 @@ pub static PROGRAMS: [Small; 12] = [
         1_000,
         1,
         4,
+    ),
+    // a lock that each tries once, by the other's ticket alone, and gives up by a clear
+    (
+        "processes 2; var w; scan s; begin stamp; s = scan; w = held s (1 - me); \
+        if w { w = older s (1 - me) me; } else { } if w { } else { out me; } clear; end",
+        1_000,
+        4,
+        3,
+    ),
+    // two come and go, and another looks twice
+    (
+        "processes 3; var x; scan s; begin if (me < 2) { stamp; clear; } else { \
+        s = scan; x = held s 0; out x; x = held s 1; out x; \
+        s = scan; x = held s 0; out x; x = held s 1; out x; x = older s 0 1; out x; } end",
+        1_000,
+        8,
+        18,
+    ),
+    // each goes and comes back
+    (
+        "processes 2; var x; scan s; begin stamp; clear; stamp; s = scan; x = older s me (1 - me); out x; end",
+        1_000,
+        4,
+        3,
     ),
 ];

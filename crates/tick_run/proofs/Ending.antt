@@ -9,7 +9,8 @@ use Rattle.code_core.specs.Instructions.{StepCode}
 use Rattle.step_code.specs.Machine.{CodeProcess, start_process}
 use Rattle.step_code.specs.Process.{gives_out}
 use Rattle.code_local.specs.Local.{local_start}
-use Rattle.tick_run.specs.Runs.{RanSo, EndsAs}
+use Rattle.tick_run.specs.Runs.{EndsAs}
+use Rattle.tick_run.specs.prover.Alone.{RanSo}
 use Rattle.tick_run.specs.prover.Turns.{IsAt, end_by}
 
 -- before its first instruction

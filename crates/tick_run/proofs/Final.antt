@@ -1,5 +1,5 @@
 -- The registers that a history leaves.
-use Rattle.std.proofs.Common.{◌≡◌, ℕ, List, length, ap, sym, subst, ◌∙◌}
+use Rattle.std.proofs.Common.{◌≡◌, ℕ, length, ap, sym, subst, ◌∙◌}
 use Rattle.std.specs.Prelude.{All}
 use Rattle.word_core.specs.History.{Memory, IsLegal, memory_of}
 use Rattle.word_core.proofs.OfferedHistory.{history_rows}

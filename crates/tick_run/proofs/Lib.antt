@@ -5,3 +5,4 @@ mod Ending
 mod Readying
 mod Together
 mod Final
+mod Whole

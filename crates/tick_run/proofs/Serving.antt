@@ -1,5 +1,5 @@
 -- A step on the table is what was asked for.
-use Rattle.std.proofs.Common.{◌≡◌, ◌⊎◌, ⊎_elim, ℕ, List, ap, sym, subst, ◌∙◌}
+use Rattle.std.proofs.Common.{◌≡◌, ◌⊎◌, ⊎_elim, ℕ, ap, sym, subst, ◌∙◌}
 use Rattle.std.specs.Prelude.{Some}
 use Rattle.word_core.specs.Stamps.{Labels}
 use Rattle.word_core.specs.Packed.{AreLabels, word}

@@ -9,7 +9,7 @@ use Rattle.machine_core.specs.declared.run_outcome.RunEnd.TheVariants.{Ended}
 use Rattle.code_core.specs.Instructions.{StepCode}
 use Rattle.stamp_table.specs.Passes.{TableView, PassView, Holds, mine, AllMeet}
 use Rattle.stamp_table.proofs.Offered.{held_by_all}
-use Rattle.tick_run.specs.Runs.{RanSo}
+use Rattle.tick_run.specs.prover.Alone.{RanSo}
 use Rattle.tick_run.specs.declared.jobs.Job.{Job}
 use Rattle.tick_run.specs.prover.Work.{CanWork, IsWork, AreReady, Gathers}
 use Rattle.step_code.proofs.Offered.{get-snoc}

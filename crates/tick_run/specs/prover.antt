@@ -1,3 +1,4 @@
 pub mod Turns
 pub mod Rows
+pub mod Alone
 pub mod Work

@@ -1,6 +1,6 @@
 ghost use Rattle.std.specs.Prelude.{◌≡◌, ◌≤◌, IfOk, map, vec_len, vec_items, vec_capacity};
 ghost use Rattle.machine_core.specs.Observables.{run_observed};
-ghost use Rattle.tick_run.specs.Runs.{IsThreadedRun};
+ghost use Rattle.tick_run.specs.Runs.{IsWholeRun};
 ghost use Rattle.tick_run.specs.prover.Turns.{IsFor};
 ghost use Rattle.tick_run.specs.prover.Work.{AreReady, Gathers};
 
@@ -31,7 +31,7 @@ pub fn run<G: Gate + Send, R: Threads + Wait>(
     outs: u32,
 ) -> Result<RunOutcome, RunFault>
     requires { vec_len gates ≡ code.now.sizes.processes }
-    ensures { IfOk result (λ outcome. IsThreadedRun code.now turns outs (run_observed outcome)) }
+    ensures { IfOk result (λ outcome. IsWholeRun code.now turns outs (run_observed outcome)) }
 {
     let sizes = code.sizes();
     let limits = Limits { turns, outs };

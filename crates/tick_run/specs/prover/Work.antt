@@ -5,7 +5,7 @@ use Rattle.code_core.specs.Instructions.{StepCode}
 use Rattle.step_code.specs.Machine.{start_process}
 use Rattle.step_code.specs.Process.{OneProcess, IsOf}
 use Rattle.stamp_table.specs.Passes.{TableView, PassView, Holds, mine}
-use Rattle.tick_run.specs.Runs.{RanSo}
+use Rattle.tick_run.specs.prover.Alone.{RanSo}
 use Rattle.tick_run.specs.prover.Turns.{IsAt}
 use Rattle.tick_run.specs.declared.jobs.Job.{Job}
 

@@ -1,10 +1,9 @@
-use Rattle.std.proofs.Common.{rules, ◌≡◌, map, vec_items, ap, sym, subst, ◌∙◌}
-use Rattle.stamp_table.specs.Passes.{TableView}
-use Rattle.word_core.specs.History.{IsLegal, memory_of}
+use Rattle.std.proofs.Common.{rules, map, vec_items, ◌∙◌}
 use Rattle.tick_run.specs.prover.Turns.{IsFor}
 use Rattle.tick_run.specs.prover.Work.{Gathers}
 use Rattle.tick_run.proofs.Final.{rows_left, final_rows}
 use Rattle.tick_run.proofs.Together.{all_here, all_held, all_ran}
+use Rattle.tick_run.proofs.Whole.{whole_run}
 use Rattle.tick_run.proofs.runner.run.Given as given
 use Rattle.tick_run.proofs.runner.run.Goals as goal
 use Rattle.tick_run.proofs.runner.run.Goals.{In_ok-all}
@@ -34,7 +33,9 @@ returns g c =
     let to = (goal.at.returns g c).In_ok-all in
     let all = gathered g to in
     let fits = is_for g to in
-    let met = c.in-Some.met in record {
+    let met = c.in-Some.met in
+    whole_run c.args.code.now c.args.turns c.args.outs _ c.sizes-sizes.ensures.verified (search rules)
+    (record {
       history = met.seen;
       legal = rw (← fits.processes, ← fits.rows) c.close-end.ensures.legal;
       all_outputs = all.all_outputs;
@@ -43,4 +44,4 @@ returns g c =
       registers =
           rw (← fits.processes, ← fits.rows)
           (c.filled_rows.ensures ∙ rows_left c.in_ok-table.table c.close-end.result met c.in-Some.ensures.met.table c.close-end.ensures.memory);
-    }
+    })

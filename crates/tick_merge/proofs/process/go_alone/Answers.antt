@@ -1,0 +1,41 @@
+use Rattle.std.proofs.Common.{◌≡◌, ⊎_elim, true, false, ap, sym, ◌∙◌, vec_items}
+use Rattle.std.proofs.lemmas.List.{append-nil}
+use Rattle.step_code.specs.Machine.{did}
+use Rattle.step_code.specs.Process.{advance_as, after_advance_as}
+use Rattle.tick_merge.proofs.Lists.{pushed_more}
+use Rattle.tick_merge.proofs.Advancing.{went, goes_start, goes_more, goes_stop}
+use Rattle.tick_merge.proofs.process.go_alone.Goals as goal
+
+pub loop-count-init : goal.loop-count-init
+loop-count-init c =
+    let code = c.args.code.now in
+    (c.requires.of, c.requires.me, sym (append-nil (vec_items c.args.schedule.now)), goes_start code.sizes.processes code.instructions c.args.p c.args.most c.args.proc.now.process)
+
+pub returns-in-Ask-clause-count : goal.returns-in-Ask-clause-count
+returns-in-Ask-clause-count c =
+    let code = c.args.code.now in let n = code.sizes.processes in let q = c.loop-count.proc.process in let me = c.loop-count.invariant.1 in
+    let told : went c.advance.result ≡ false = ⊎_elim (λ a. ap went a.1) (λ a. ap went a) c.in-Ask.is in
+    (goes_stop n code.instructions c.args.p c.args.most c.args.proc.now.process c.loop-count.count q c.advance.new.self.process c.loop-count.invariant.3
+    (ap went (ap (λ k. advance_as q.status k (did n k code.instructions q)) (sym me) ∙ sym c.advance.ensures.answer) ∙ told)
+    (c.advance.ensures.process ∙ ap (λ k. after_advance_as q.status q (did n k code.instructions q)) me)).0
+
+pub returns-in-Ask-clause-process : goal.returns-in-Ask-clause-process
+returns-in-Ask-clause-process c =
+    let code = c.args.code.now in let n = code.sizes.processes in let q = c.loop-count.proc.process in let me = c.loop-count.invariant.1 in
+    let told : went c.advance.result ≡ false = ⊎_elim (λ a. ap went a.1) (λ a. ap went a) c.in-Ask.is in
+    (goes_stop n code.instructions c.args.p c.args.most c.args.proc.now.process c.loop-count.count q c.advance.new.self.process c.loop-count.invariant.3
+    (ap went (ap (λ k. advance_as q.status k (did n k code.instructions q)) (sym me) ∙ sym c.advance.ensures.answer) ∙ told)
+    (c.advance.ensures.process ∙ ap (λ k. after_advance_as q.status q (did n k code.instructions q)) me)).1
+
+pub loop-count-preserved : goal.loop-count-preserved
+loop-count-preserved c =
+    let code = c.args.code.now in let n = code.sizes.processes in let q = c.loop-count.proc.process in let me = c.loop-count.invariant.1 in
+    let told : went c.advance.result ≡ true = ⊎_elim (λ a. ap went a) (λ a. ap went a.1) c.in-Silent.is in (
+      c.advance.ensures.of,
+      c.advance.ensures.me ∙ me,
+      pushed_more c.args.p c.loop-count.count (vec_items c.args.schedule.now) (vec_items c.loop-count.schedule) (vec_items c.push.new.self) c.loop-count.invariant.2
+          c.in_ok-push-in-Silent.ensures.items,
+      goes_more n code.instructions c.args.p c.args.most c.args.proc.now.process c.loop-count.count q c.advance.new.self.process c.loop-count.invariant.3 c.loop-count-test.true
+          (ap went (ap (λ k. advance_as q.status k (did n k code.instructions q)) (sym me) ∙ sym c.advance.ensures.answer) ∙ told)
+          (c.advance.ensures.process ∙ ap (λ k. after_advance_as q.status q (did n k code.instructions q)) me),
+    )

@@ -1,0 +1,5 @@
+pub mod Ran
+pub mod Merged
+pub mod Laws
+pub mod Refusals
+pub mod prover
