@@ -1,0 +1,11 @@
+use Rattle.std.proofs.Common.{ℕ, List, Err, subst}
+use Rattle.code_text.specs.CodeText.{ReadsAs}
+use Rattle.tick_explain.specs.Refusals.{no_code}
+use Rattle.tick_explain.proofs.judgement.code_refusal.Goals as goal
+
+pub returns-in_ok-of_code-in-Err-read_code : goal.returns-in_ok-of_code-in-Err-read_code
+returns-in_ok-of_code-in-Err-read_code c =
+    let fault = c.in-Err-read_code.fault in
+    let told = c.in_ok-of_code-in-Err-read_code.ensures in
+    let P : List ℕ → Type 0 = λ t. ReadsAs t (Err fault) in
+    no_code fault c.in-Ok.ensures.0 (subst P c.in-Ok.ensures.1 (c.in-Err-read_code.ensures.err told.0)) told.1

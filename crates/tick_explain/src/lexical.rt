@@ -1,0 +1,64 @@
+// The words for bytes that are no tokens, and for tokens that are too long, too great or too deep.
+
+use crate::character_slips::character_slip;
+use crate::hint::plain;
+use crate::report::Told;
+use crate::scene::text_at;
+use machine_core::NoMemory;
+use std::alloc::Global;
+use std::str;
+use tick_syntax::span::Span;
+
+/// The words for a character that begins no token.
+pub fn bad_character(alloc: Global, text: &[u8], span: Span) -> Result<Told, NoMemory> {
+    let message = if str::from_utf8(text).is_err() {
+        String::from_str(alloc, "these bytes are no UTF-8")?
+    } else {
+        let found = text_at(text, span);
+        format!(in alloc; "no token begins with `{found}`")?
+    };
+    let hint = character_slip(alloc, text, span)?;
+    Ok(Told { message, hint })
+}
+
+/// The words for a text that is too long.
+pub fn too_long(alloc: Global, length: usize) -> Result<Told, NoMemory> {
+    let message = format!(in alloc; "the input has {length} bytes, and at most 1000000 are read")?;
+    Ok(Told {
+        message,
+        hint: None,
+    })
+}
+
+/// The words for a number that is too great.
+pub fn too_big(alloc: Global) -> Result<Told, NoMemory> {
+    helped(
+        alloc,
+        "this number is too great",
+        "the greatest number is 4294967295",
+    )
+}
+
+/// The words for a name that is too long.
+pub fn too_long_name(alloc: Global, span: Span) -> Result<Told, NoMemory> {
+    let length = span.end.saturating_sub(span.start);
+    let message = format!(in alloc; "this name has {length} bytes")?;
+    let hint = plain(alloc, "a name has at most 64 bytes")?;
+    Ok(Told { message, hint })
+}
+
+/// The words for a bracket too many.
+pub fn too_deep(alloc: Global) -> Result<Told, NoMemory> {
+    helped(
+        alloc,
+        "this bracket is the 65th that is open at once",
+        "at most 64 are: give a part its own statement",
+    )
+}
+
+/// A message with a hint.
+pub fn helped(alloc: Global, message: &str, help: &str) -> Result<Told, NoMemory> {
+    let message = String::from_str(alloc, message)?;
+    let hint = plain(alloc, help)?;
+    Ok(Told { message, hint })
+}
