@@ -11,3 +11,4 @@ mod value;
 
 pub use machine::{SourceMachine, run};
 pub use machine_core::{Act, Event, NoMemory, Outcome, Status, Trap};
+pub use value::value_of;
