@@ -117,6 +117,18 @@ fn longest_code(rt: HostRuntime) -> Result<(), Fail> {
     says(&rt, &["ticketc", "run", "62506"], code, outcome)
 }
 
+// The greatest stack and the most constants: a value for each instruction but the last.
+#[test]
+fn greatest_stack(rt: HostRuntime) -> Result<(), Fail> {
+    let front = "tickcode 1 1 0 0 0\n";
+    let code = repeated(rt.alloc(), front, "Push 7\n", 65_534, "Halt\n")?;
+    let code = code.as_bytes();
+    let report = "0 end\nstatus 0 ended\n";
+    says(&rt, &["ticketc", "code", "0*65535"], code, report)?;
+    let outcome = "outputs 0\nstatus 0 ended\n";
+    says(&rt, &["ticketc", "run", "65535"], code, outcome)
+}
+
 const GREATEST: &[u8] = b"processes 6; begin while 1 { out 4294967295; } end";
 
 // What one process gives out, with its number.

@@ -11,7 +11,7 @@ use tick_syntax::token::Sort;
 
 /// Whether a token is wanted that is told by this sample.
 pub fn wants(wanted: &[Wanted], sample: &str) -> bool {
-    wanted.iter().any(|one| one.sample == sample)
+    wanted.iter().any(|one| one.sample() == sample)
 }
 
 /// What may help: the first that fits, of the text as a whole, of words, and of signs.

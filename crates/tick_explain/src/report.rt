@@ -32,7 +32,7 @@ pub fn report(
     refusal: Refusal,
     told: &Told,
 ) -> Result<Vec<u8>, NoMemory>
-    ensures { IfOk result (λ report. IsReport name.now text.now refusal report.items) }
+    ensures { IfOk result (λ report. IsReport name.now text.now refusal (string_bytes told.now.message) report.items) }
 {
     let mut out = Vec::new(alloc);
     push_head(alloc, &mut out, name, text, refusal, &told.message)?;
@@ -49,7 +49,7 @@ fn push_head(
     refusal: Refusal,
     message: &str,
 ) -> Result<(), AllocError>
-    ensures { OnOk result ((head : List ℕ) × IsHead name.now text.now refusal head × (out.new.items ≡ out.old.items ++ head)) }
+    ensures { OnOk result ((head : List ℕ) × IsHead name.now text.now refusal message.now head × (out.new.items ≡ out.old.items ++ head)) }
 {
     match span_at(text, spot_of(refusal)) {
         Some(span) => push_placed(alloc, out, name, text, span, message)?,

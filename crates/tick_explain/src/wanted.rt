@@ -1,12 +1,58 @@
 // What a place may want, told by what stands before it. Whether it does, the parser says.
+ghost use Rattle.std.specs.Prelude.{◌≡◌, ◌++◌, OnOk, string_bytes};
+ghost use Rattle.tick_explain.specs.Following.{sample, told};
 
 use crate::scene::Scene;
+use std::alloc::AllocError;
+use tick_syntax::terminals::Terminal;
 
-/// What may be expected: how it is told, and a token that stands for all that are told so.
+/// What may be expected: all tokens of a kind, or one word or sign.
 #[derive(Clone, Copy, PartialEq, Eq, Debug)]
-pub struct Wanted {
-    pub told: &'static str,
-    pub sample: &'static str,
+pub enum Wanted {
+    Statement,
+    /// What stands after `=`.
+    Value,
+    Expression,
+    Operator,
+    Name,
+    Number,
+    Word(Terminal),
+}
+
+impl Wanted {
+    /// A token of the kind. Where it may stand, so may the others.
+    pub fn sample(self) -> &'static str
+        ensures { result.now ≡ sample self }
+    {
+        match self {
+            Wanted::Statement => "stamp",
+            Wanted::Value => "get",
+            Wanted::Expression => "me",
+            Wanted::Operator => "+",
+            Wanted::Name => "x",
+            Wanted::Number => "0",
+            Wanted::Word(terminal) => terminal.text(),
+        }
+    }
+
+    /// Adds how it is told.
+    pub fn push_told(self, text: &mut String) -> Result<(), AllocError>
+        ensures { OnOk result (string_bytes text.new ≡ string_bytes text.old ++ told self) }
+    {
+        match self {
+            Wanted::Statement => text.push_str("a statement"),
+            Wanted::Value => text.push_str("a value"),
+            Wanted::Expression => text.push_str("an expression"),
+            Wanted::Operator => text.push_str("an operator"),
+            Wanted::Name => text.push_str("a name"),
+            Wanted::Number => text.push_str("a number"),
+            Wanted::Word(terminal) => {
+                text.push_str("`")?;
+                text.push_str(terminal.text())?;
+                text.push_str("`")
+            }
+        }
+    }
 }
 
 /// What a place may want, and whether it wants no more than one of these.
@@ -16,140 +62,50 @@ pub struct Choice {
     pub one: bool,
 }
 
-static PROCESSES: [Wanted; 1] = [Wanted {
-    told: "`processes`",
-    sample: "processes",
-}];
+static PROCESSES: [Wanted; 1] = [Wanted::Word(Terminal::Processes)];
 
-static NUMBER: [Wanted; 1] = [Wanted {
-    told: "a number",
-    sample: "0",
-}];
+static NUMBER: [Wanted; 1] = [Wanted::Number];
 
-static NAME: [Wanted; 1] = [Wanted {
-    told: "a name",
-    sample: "x",
-}];
+static NAME: [Wanted; 1] = [Wanted::Name];
 
-static VALUE: [Wanted; 1] = [Wanted {
-    told: "a value",
-    sample: "get",
-}];
+static VALUE: [Wanted; 1] = [Wanted::Value];
 
-static EXPRESSION: [Wanted; 1] = [Wanted {
-    told: "an expression",
-    sample: "me",
-}];
+static EXPRESSION: [Wanted; 1] = [Wanted::Expression];
 
-static SEMICOLON: [Wanted; 1] = [Wanted {
-    told: "`;`",
-    sample: ";",
-}];
+static SEMICOLON: [Wanted; 1] = [Wanted::Word(Terminal::Semicolon)];
 
-static OPEN_BRACE: [Wanted; 1] = [Wanted {
-    told: "`{`",
-    sample: "{",
-}];
+static OPEN_BRACE: [Wanted; 1] = [Wanted::Word(Terminal::OpenBrace)];
 
 static AFTER_NAME: [Wanted; 2] = [
-    Wanted {
-        told: "`,`",
-        sample: ",",
-    },
-    Wanted {
-        told: "`;`",
-        sample: ";",
-    },
+    Wanted::Word(Terminal::Comma),
+    Wanted::Word(Terminal::Semicolon),
 ];
 
 static SECTIONS: [Wanted; 4] = [
-    Wanted {
-        told: "`var`",
-        sample: "var",
-    },
-    Wanted {
-        told: "`scan`",
-        sample: "scan",
-    },
-    Wanted {
-        told: "`reg`",
-        sample: "reg",
-    },
-    Wanted {
-        told: "`begin`",
-        sample: "begin",
-    },
+    Wanted::Word(Terminal::Var),
+    Wanted::Word(Terminal::Scan),
+    Wanted::Word(Terminal::Reg),
+    Wanted::Word(Terminal::Begin),
 ];
 
-static IN_BODY: [Wanted; 2] = [
-    Wanted {
-        told: "a statement",
-        sample: "stamp",
-    },
-    Wanted {
-        told: "`end`",
-        sample: "end",
-    },
-];
+static IN_BODY: [Wanted; 2] = [Wanted::Statement, Wanted::Word(Terminal::End)];
 
-static IN_BLOCK: [Wanted; 2] = [
-    Wanted {
-        told: "a statement",
-        sample: "stamp",
-    },
-    Wanted {
-        told: "`}`",
-        sample: "}",
-    },
-];
+static IN_BLOCK: [Wanted; 2] = [Wanted::Statement, Wanted::Word(Terminal::CloseBrace)];
 
 static AFTER_BLOCK: [Wanted; 4] = [
-    Wanted {
-        told: "`else`",
-        sample: "else",
-    },
-    Wanted {
-        told: "a statement",
-        sample: "stamp",
-    },
-    Wanted {
-        told: "`}`",
-        sample: "}",
-    },
-    Wanted {
-        told: "`end`",
-        sample: "end",
-    },
+    Wanted::Word(Terminal::Else),
+    Wanted::Statement,
+    Wanted::Word(Terminal::CloseBrace),
+    Wanted::Word(Terminal::End),
 ];
 
-static IN_BRACKET: [Wanted; 2] = [
-    Wanted {
-        told: "an operator",
-        sample: "+",
-    },
-    Wanted {
-        told: "`)`",
-        sample: ")",
-    },
-];
+static IN_BRACKET: [Wanted; 2] = [Wanted::Operator, Wanted::Word(Terminal::Close)];
 
 static AFTER_OPERAND: [Wanted; 4] = [
-    Wanted {
-        told: "`;`",
-        sample: ";",
-    },
-    Wanted {
-        told: "`{`",
-        sample: "{",
-    },
-    Wanted {
-        told: "`=`",
-        sample: "=",
-    },
-    Wanted {
-        told: "an expression",
-        sample: "me",
-    },
+    Wanted::Word(Terminal::Semicolon),
+    Wanted::Word(Terminal::OpenBrace),
+    Wanted::Word(Terminal::Becomes),
+    Wanted::Expression,
 ];
 
 static NOTHING: [Wanted; 0] = [];

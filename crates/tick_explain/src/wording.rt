@@ -1,4 +1,6 @@
 // The words for each refusal.
+ghost use Rattle.std.specs.Prelude.{◌≡◌, IfOk, string_bytes};
+ghost use Rattle.tick_explain.specs.Reports.{IsWorded, text_worded};
 
 use crate::coded::miscoded;
 use crate::grammar::unexpected;
@@ -12,22 +14,19 @@ use crate::spot::{span_at, spot_of};
 use machine_core::NoMemory;
 use std::alloc::Global;
 use std::str;
-use tick_play::ScheduleFault;
 use tick_syntax::span::Span;
 use tick_syntax::token::Token;
 use tick_syntax::{TextFault, tokens};
 
 /// What is wrong with an input, and what may help.
-pub fn told(alloc: Global, input: &[u8], refusal: Refusal) -> Result<Told, NoMemory> {
+pub fn told(alloc: Global, input: &[u8], refusal: Refusal) -> Result<Told, NoMemory>
+    ensures { IfOk result (λ told. IsWorded input.now refusal (string_bytes told.message)) }
+{
     let span = match span_at(input, spot_of(refusal)) {
         Some(span) => span,
         None => Span { start: 0, end: 0 },
     };
     match refusal {
-        Refusal::Text(TextFault::Unexpected(_)) => {
-            let tokens = tokens_of(alloc, input)?;
-            unexpected(alloc, &Scene::of(input, &tokens, span.start))
-        }
         Refusal::Text(fault) => mistaken(alloc, input, span, fault),
         Refusal::Kinds(fault) => {
             let tokens = tokens_of(alloc, input)?;
@@ -38,29 +37,32 @@ pub fn told(alloc: Global, input: &[u8], refusal: Refusal) -> Result<Told, NoMem
     }
 }
 
-fn mistaken(alloc: Global, input: &[u8], span: Span, fault: TextFault) -> Result<Told, NoMemory> {
+fn mistaken(alloc: Global, input: &[u8], span: Span, fault: TextFault) -> Result<Told, NoMemory>
+    ensures { IfOk result (λ told. text_worded input.now fault (string_bytes told.message)) }
+{
     match fault {
         TextFault::TextTooLong => too_long(alloc, input.len()),
         TextFault::BadCharacter(_) => bad_character(alloc, input, span),
         TextFault::NumberTooBig(_) => too_big(alloc),
         TextFault::NameTooLong(_) => too_long_name(alloc, span),
         TextFault::TooDeep(_) => too_deep(alloc),
-        TextFault::Unexpected(_) => unexpected(alloc, &Scene::of(input, &[], span.start)),
+        TextFault::Unexpected(token) => {
+            let tokens = tokens_of(alloc, input)?;
+            unexpected(alloc, input, &tokens, token.start.min(input.len()))
+        }
         TextFault::NoMemory => Err(NoMemory),
     }
 }
 
 /// What is wrong with a schedule of so many processes, and what may help.
-pub fn told_schedule(
-    alloc: Global,
-    text: &[u8],
-    n: u8,
-    refusal: Refusal,
-) -> Result<Told, NoMemory> {
-    let span = span_at(text, spot_of(refusal));
+pub fn told_schedule(alloc: Global, text: &[u8], n: u8, refusal: Refusal) -> Result<Told, NoMemory>
+    ensures { IfOk result (λ told. IsWorded text.now refusal (string_bytes told.message)) }
+{
     match refusal {
-        Refusal::Schedule(fault) => misscheduled(alloc, text, span, n, fault),
-        _ => misscheduled(alloc, text, span, n, ScheduleFault::TooLong),
+        Refusal::Schedule(fault) => {
+            misscheduled(alloc, text, span_at(text, spot_of(refusal)), n, fault)
+        }
+        refusal => told(alloc, text, refusal),
     }
 }
 

@@ -1,0 +1,19 @@
+-- What holds of the code of a program where it holds of the program.
+use Rattle.std.specs.Prelude.{◌≡◌, ℕ, Bool, true, false, List}
+use Rattle.std.specs.List.{list_any}
+use Rattle.tick_syntax.specs.Plain.{WholeProgram}
+use Rattle.tick_source.specs.Source.{source}
+use Rattle.tick_lower.specs.Lowered.{lowered, lowered_sizes}
+use Rattle.tick_sim.specs.Maps.{up}
+use Rattle.tick_sim.specs.Laws.{seen_of_code}
+use Rattle.tick_explore.specs.Explored.{is_trap, has_trapped}
+use Rattle.tick_explore.specs.Searching.{NeverTraps}
+
+-- whether some process of the code has trapped under this schedule
+abbrev pub code_has_trapped : WholeProgram ℕ → List ℕ → Bool
+code_has_trapped a schedule = list_any is_trap (seen_of_code a schedule).statuses
+
+pub record CodeLaw : Type 0 where
+  pub never : (a : WholeProgram ℕ) → NeverTraps a → (schedule : List ℕ) → code_has_trapped a schedule ≡ false
+  pub traps : (a : WholeProgram ℕ) (schedule : List ℕ) → has_trapped (source a schedule) ≡ true
+      → code_has_trapped a (up (lowered_sizes a) (lowered a) schedule) ≡ true

@@ -1,0 +1,4 @@
+//! What an exploration of a program says of the program's code on bounded labels.
+#![tactic(auto)]
+
+pub mod laws;
