@@ -79,7 +79,7 @@ module _ (z : CodeSizes) (code : List Instr) (k : ℕ) (hs : List (Option ℕ)) 
 
   told_more : first_fault z code [] (placed code)
       ≡ or_else (fault_at z code (length pass.passed) i h (jump_height pass.passed (length pass.passed))
-          (known_to more (target i))) (first_fault z code more next)
+      (known_to more (target i))) (first_fault z code more next)
   told_more = pass.told ∙ ap (λ is. first_fault z code pass.passed (placed_from is pass.passed before))
       (drop_here code k i here)
 
@@ -106,7 +106,7 @@ module _ (z : CodeSizes) (code : List Instr) (k : ℕ) (hs : List (Option ℕ)) 
   own_ahead : (q : ℕ) → k < q → q < length code → slice_get own q ≡ Some (jump_height pass.passed q)
   own_ahead q past there =
       get_set_other hs k q (Some h) (λ e. absurd (omega arith)) ∙ pass.each q there
-          ∙ ap Some (known_ahead pass.passed q (omega (arith, pass.long)))
+      ∙ ap Some (known_ahead pass.passed q (omega (arith, pass.long)))
 
   more_ahead : (q : ℕ) → k < q → known more q ≡ either (jump_height pass.passed q) (jump_height ((i, h) ∷ []) q)
   more_ahead q past = known_ahead more q (omega (arith, length_more)) ∙ jump_height-append pass.passed (i, h) q
@@ -127,7 +127,7 @@ module _ (z : CodeSizes) (code : List Instr) (k : ℕ) (hs : List (Option ℕ)) 
 
   fault_is : fault_at z code k i h came (noted_to own (target i))
       ≡ fault_at z code (length pass.passed) i h (jump_height pass.passed (length pass.passed))
-          (known_to more (target i))
+      (known_to more (target i))
   fault_is =
       fault_same z code k i h came (noted_to own (target i)) (known_to more (target i)) (there_same (target i) refl)
       ∙ (λ j. fault_at z code (sym pass.long j) i h (came_is j) (known_to more (target i)))
@@ -141,7 +141,7 @@ module _ (z : CodeSizes) (code : List Instr) (k : ℕ) (hs : List (Option ℕ)) 
   fault_told fault is =
       told_more ∙ ap (λ f. or_else f (first_fault z code more next))
       (sym fault_is ∙ ap (λ g. fault_at z code k i g came (noted_to (set hs k (Some g)) (target i))) (sym height_is)
-          ∙ is)
+      ∙ is)
 
   height_low : h ≤ k
   height_low =
@@ -161,9 +161,9 @@ module _ (z : CodeSizes) (code : List Instr) (k : ℕ) (hs : List (Option ℕ)) 
         (known_to more (target i))
     passes =
         no_fault z code (length pass.passed) i h (jump_height pass.passed (length pass.passed))
-            (known_to more (target i))
+        (known_to more (target i))
         (sym fault_is ∙ ap (λ g. fault_at z code k i g came (noted_to (set hs k (Some g)) (target i))) (sym height_is)
-            ∙ none)
+        ∙ none)
 
     -- the height of a place ahead to which it does not jump
     not_there : (l q : ℕ) → target i ≡ Some l → (q ≡ l → ⊥) → jump_height ((i, h) ∷ []) q ≡ None
@@ -181,8 +181,8 @@ module _ (z : CodeSizes) (code : List Instr) (k : ℕ) (hs : List (Option ℕ)) 
         (λ at. own_passed q (omega arith) there)
         (λ past.
         own_ahead q past there ∙ ap Some
-            (sym (either_none (jump_height pass.passed q)) ∙ ap (either (jump_height pass.passed q)) (sym away)
-                ∙ sym (more_ahead q past)))
+        (sym (either_none (jump_height pass.passed q)) ∙ ap (either (jump_height pass.passed q)) (sym away)
+        ∙ sym (more_ahead q past)))
 
     noted_here : (l : ℕ) → target i ≡ Some l → l < length code → Some (or_this (joined (slice_get own l)) (left i h))
         ≡ known more l
@@ -212,7 +212,7 @@ module _ (z : CodeSizes) (code : List Instr) (k : ℕ) (hs : List (Option ℕ)) 
         (λ same.
         ap (slice_get (noted own (Some l) (left i h))) same
         ∙ get_set_same own l (Some (or_this (joined (slice_get own l)) (left i h)))
-            (omega (arith, length-set hs k (Some h), pass.held))
+        (omega (arith, length-set hs k (Some h), pass.held))
         ∙ ap Some (noted_here l to target_inside ∙ ap (known more) (sym same)))
         (λ apart.
         get_set_other own l q (Some (or_this (joined (slice_get own l)) (left i h))) apart
@@ -240,8 +240,8 @@ module _ (z : CodeSizes) (code : List Instr) (k : ℕ) (hs : List (Option ℕ)) 
         ∙ sym (known_inside more q (omega (arith, length_more))) ∙ e) in
         omega (arith, height_low))
         (λ past. low_either (jump_height pass.passed q)
-            (λ f. pass.low q g there (known_ahead pass.passed q (omega (arith, pass.long)) ∙ f))
-                (sym (more_ahead q past) ∙ e))
+        (λ f. pass.low q g there (known_ahead pass.passed q (omega (arith, pass.long)) ∙ f))
+        (sym (more_ahead q past) ∙ e))
       where
         low_either : (x : Option ℕ) → (x ≡ Some g → g ≤ k) → either x (jump_height ((i, h) ∷ []) q) ≡ Some g → g ≤ k + 1
         low_either None was f = low_jump q g f
@@ -263,7 +263,7 @@ module _ (z : CodeSizes) (code : List Instr) (k : ℕ) (hs : List (Option ℕ)) 
           ∙ sym (append_assoc pass.passed ((i, h) ∷ []) next);
       told = told_more ∙ ap (λ f. or_else f (first_fault z code more next))
           (sym fault_is ∙ ap (λ g. fault_at z code k i g came (noted_to (set hs k (Some g)) (target i))) (sym height_is)
-              ∙ none);
+          ∙ none);
       held = length-noted own (target i) (left i h) ∙ length-set hs k (Some h) ∙ pass.held;
       each = each_more (target i) refl passes.inside;
       low = low_more;
@@ -277,7 +277,7 @@ module _ (z : CodeSizes) (code : List Instr) (k : ℕ) (hs : List (Option ℕ)) 
         → Passing z code (k + 1) (noted (set hs k (Some g)) (target i) (left i g)) (hands_on i g) (max most g)
     pass_on g is =
         subst (λ x. Passing z code (k + 1) (noted (set hs k (Some x)) (target i) (left i x)) (hands_on i x)
-            (max most x)) (sym (is ∙ height_is)) pass_more
+        (max most x)) (sym (is ∙ height_is)) pass_more
 
   pub height_below : height_by before came ≤ k
   height_below = subst (λ g. g ≤ k) (sym height_is) height_low
@@ -297,7 +297,7 @@ pass_start z code = record {
   held = length-replicate (length code) None;
   each = λ q inside. slice_get-get_or (replicate (length code) None) q None
       (omega (arith, length-replicate {A = Option ℕ} (length code) None))
-          ∙ ap Some (none_yet (length code) q ∙ sym (known_ahead [] q (omega arith)));
+      ∙ ap Some (none_yet (length code) q ∙ sym (known_ahead [] q (omega arith)));
   low = λ q h inside e. absurd (none-some h (sym (known_ahead [] q (omega arith)) ∙ e));
   low_before = λ h e. omega (arith, same_Some 0 h e);
   greatest_is = refl;
@@ -312,7 +312,7 @@ pass_end z code k hs before most pass done =
       pass.told ∙ ap (λ is. first_fault z code pass.passed (placed_from is pass.passed before)) over,
       sym pass.greatest_is ∙ ap (λ es. greatest (map (λ e. e.1) es))
           (sym (pass.whole ∙ ap (λ is. pass.passed ++ placed_from is pass.passed before) over
-              ∙ append-nil pass.passed)),
+          ∙ append-nil pass.passed)),
     )
 
 pub passing_as : (z : CodeSizes) (code : List Instr) (k : ℕ) (hs hs' : List (Option ℕ)) (b b' : Option ℕ) (m m' : ℕ)

@@ -103,8 +103,11 @@ module _ (n rows id p : ℕ) (v : View) (is : v ≡ plain v.held v.seen) (held :
       (λ there. there.0 (kept.apart j id q x v there.1 at one (inl (subst (Holds v.held) (sym same) held))))
       (at_set s.views id j (without p v) x at_x)
 
-  split_kept : IsKept n rows (record { words = s.words; homes = s.homes;
-      views = slice_set s.views id (without p v) ++ alone p v ∷ [] })
+  split_kept : IsKept n rows (record {
+    words = s.words;
+    homes = s.homes;
+    views = slice_set s.views id (without p v) ++ alone p v ∷ [];
+  })
   split_kept =
       let rest : List View = set s.views id (without p v) in
       let apart : Apart rest = apart_set s.views id v (without p v) at kept.apart less_left in
@@ -178,7 +181,7 @@ module _ (n rows id other : ℕ) (v w : View) (v_is : v ≡ plain v.held v.seen)
   who j q x at_x one =
       ⊎_elim
       (λ here. absurd (⊎_elim (λ none. none_holds q none) (λ none. none_holds q none)
-          (subst (λ z. HoldsOne z q) (sym here.1) one)))
+      (subst (λ z. HoldsOne z q) (sym here.1) one)))
       (λ there. ⊎_elim
       (λ taker. inl (taker.0, subst (λ z. HoldsOne z q) (sym taker.1) one))
       (λ by. inr (by.0, there.0, by.1))
@@ -196,10 +199,13 @@ module _ (n rows id other : ℕ) (v w : View) (v_is : v ≡ plain v.held v.seen)
   joined_at : At (set (set s.views id (joined v w)) other nobody) id (joined v w)
   joined_at =
       set_else (set s.views id (joined v w)) other id nobody (λ same. differ (sym same))
-          ∙ set_at s.views id v (joined v w) at_v
+      ∙ set_at s.views id v (joined v w) at_v
 
-  join_kept : IsKept n rows (record { words = s.words; homes = s.homes;
-      views = slice_set (slice_set s.views id (joined v w)) other nobody })
+  join_kept : IsKept n rows (record {
+    words = s.words;
+    homes = s.homes;
+    views = slice_set (slice_set s.views id (joined v w)) other nobody;
+  })
   join_kept = record {
     history = kept.history;
     words = kept.words;
@@ -227,14 +233,22 @@ module _ (n rows id other : ℕ) (v w : View) (v_is : v ≡ plain v.held v.seen)
         let IsNew : View → Type 0 = λ (z : View). (z.seen ≡ kept.history) ⊎ (z.told ≡ kept.history) in
         ⊎_elim
         (λ same.
-        let here : x ≡ v = at_one s.views id x v (subst (λ k. At s.views k x) same kept.newest.2) at_v in
-        (id, joined v w, joined_at, inl
-            (plain_newest kept.history v v_is (kept.knows id v at_v).seen (subst IsNew here kept.newest.3))))
+        let here : x ≡ v = at_one s.views id x v (subst (λ k. At s.views k x) same kept.newest.2) at_v in (
+          id,
+          joined v w,
+          joined_at,
+          inl
+              (plain_newest kept.history v v_is (kept.knows id v at_v).seen (subst IsNew here kept.newest.3)),
+        ))
         (λ not_id. ⊎_elim
         (λ same.
-        let here : x ≡ w = at_one s.views other x w (subst (λ k. At s.views k x) same kept.newest.2) at_w in
-        (id, joined v w, joined_at, inr
-            (plain_newest kept.history w w_is (kept.knows other w at_w).seen (subst IsNew here kept.newest.3))))
+        let here : x ≡ w = at_one s.views other x w (subst (λ k. At s.views k x) same kept.newest.2) at_w in (
+          id,
+          joined v w,
+          joined_at,
+          inr
+              (plain_newest kept.history w w_is (kept.knows other w at_w).seen (subst IsNew here kept.newest.3)),
+        ))
         (λ not_other. (
           j,
           x,
@@ -251,16 +265,16 @@ pub joins : (n rows id : ℕ) (v : View) (other : ℕ) (w : View) → v ≡ plai
     → Joins (IsKept n rows) id v other w (joined v w) nobody
 joins n rows id v other w v_is w_is s kept at_v differ at_w =
     join_kept n rows id other v w v_is w_is s kept at_v differ
-        (sym (set_else s.views id other (joined v w) differ) ∙ at_w)
+    (sym (set_else s.views id other (joined v w) differ) ∙ at_w)
 
 -- What a pass that has taken in another learns when it looks at the table.
 learns : (n rows : ℕ) (history : List Shared) (v : View) → IsLegal n rows history → Knows history v → Learns n rows v
 learns n rows history v legal knows =
     let long : StartsWith history (longer v.seen v.told) = longer_starts history v.seen v.told knows.seen knows.told in
     let over_first : StartsWith (longer v.seen v.told) v.seen =
-        longer_first history v.seen v.told knows.seen knows.told in
+    longer_first history v.seen v.told knows.seen knows.told in
     let over_second : StartsWith (longer v.seen v.told) v.told =
-        longer_second history v.seen v.told knows.seen knows.told in
+    longer_second history v.seen v.told knows.seen knows.told in
     record {
       first = over_first;
       second = over_second;
@@ -287,8 +301,11 @@ less_settled : (v : View) (p : ℕ) → HoldsOne (settled v) p → HoldsOne v p
 less_settled v p one = ⊎_elim (λ holds. holds_together v.held v.more p holds) (λ none. absurd (none_holds p none)) one
 
 settled_kept : (n rows id : ℕ) (v : View) (s : State ℕ View) (kept : IsKept n rows s) → At s.views id v
-    → IsKept n rows (record { words = slice_set s.words 0 (slice_index s.words 0); homes = s.homes;
-        views = slice_set s.views id (settled v) })
+    → IsKept n rows (record {
+      words = slice_set s.words 0 (slice_index s.words 0);
+      homes = s.homes;
+      views = slice_set s.views id (settled v);
+    })
 settled_kept n rows id v s kept at =
     let knows : Knows kept.history v = kept.knows id v at in
     record {
@@ -319,6 +336,10 @@ settled_kept n rows id v s kept at =
 -- A pass that has taken in another finds which of the two saw more.
 pub settles : (n rows slots id : ℕ) (me : Me ℕ View) → Allows (IsKept n rows) slots id me 0 (λ x. x)
     (λ found w. Settles n rows me w)
-settles n rows slots id me s kept len at fits =
-    (settled me.0, keeps, tt, settled_kept n rows id me.0 s kept at,
-        (refl, learns n rows kept.history me.0 kept.legal (kept.knows id me.0 at)))
+settles n rows slots id me s kept len at fits = (
+  settled me.0,
+  keeps,
+  tt,
+  settled_kept n rows id me.0 s kept at,
+  (refl, learns n rows kept.history me.0 kept.legal (kept.knows id me.0 at)),
+)

@@ -111,7 +111,7 @@ module _ (sizes : CodeSizes) (code : List Instr) (fine : Places sizes code) (p :
         → IsSafe sizes code p (M.sets q x v stack None).process
     sets_safe x v stack on other long =
         on_safe (M.sets q x v stack None).process on other refl long (length-set q.variables x v) refl safe.filled
-            safe.scratch safe.beside
+        safe.scratch safe.beside
 
     keeps_safe : (s : ℕ) (labels : Labels) → goes_on i ≡ true → is_next (Some i) ≡ false
         → left i (length q.stack) ≡ length q.stack
@@ -142,7 +142,7 @@ module _ (sizes : CodeSizes) (code : List Instr) (fine : Places sizes code) (p :
         → IsSafe sizes code p (M.goes q l stack None).process
     jumps_safe l stack to long =
         arrives (M.goes q l stack None).process (fine.within q.place i l here to)
-            (long ∙ ap (left i) safe.height ∙ sym (fine.to q.place i l here to))
+        (long ∙ ap (left i) safe.height ∙ sym (fine.to q.place i l here to))
         refl refl safe.filled safe.scratch safe.beside (fine.apart q.place i l here to)
 
     operands : pops i ≤ length q.stack
@@ -158,12 +158,12 @@ module _ (sizes : CodeSizes) (code : List Instr) (fine : Places sizes code) (p :
       → AreOrdered sizes.processes (M.scan_at q sizes.processes s)
   in_scans i here s slot =
       All-get_or (AreOrdered sizes.processes) q.scans s (start_labels sizes.processes)
-          (omega (arith, safe.scans, ltb-true s sizes.scans slot)) safe.filled
+      (omega (arith, safe.scans, ltb-true s sizes.scans slot)) safe.filled
 
   loads_safe : Here I.LoadWord → (r : Reply) → HasWord sizes.processes r → Safe (M.loads q r)
   loads_safe here (R.Word labels) are =
       on_safe I.LoadWord here (M.loads q (R.Word labels)).process refl refl refl
-          (omega arith) refl refl safe.filled are safe.beside
+      (omega arith) refl refl safe.filled are safe.beside
   loads_safe here R.Won are = safe
   loads_safe here (R.Lost found) are = safe
   loads_safe here (R.Value v) are = safe
@@ -183,7 +183,7 @@ module _ (sizes : CodeSizes) (code : List Instr) (fine : Places sizes code) (p :
   lost_safe l here =
       let load : slice_get code l ≡ Some I.LoadWord = fine.back q.place l here in
       arrives (I.Exchange l) here (M.goes q l q.stack None).process (slice_get_within code l I.LoadWord load)
-          (safe.height ∙ sym (fine.back_height q.place l here))
+      (safe.height ∙ sym (fine.back_height q.place l here))
       refl refl safe.filled safe.scratch safe.beside (ap is_exchange load)
 
   exchanges_safe : (l : ℕ) → Here (I.Exchange l) → (r : Reply) → Safe (M.exchanges q l r)
@@ -261,12 +261,14 @@ module _ (sizes : CodeSizes) (code : List Instr) (fine : Places sizes code) (p :
   does_safe I.Count here = goes_on_safe I.Count here _ refl refl (omega arith)
   does_safe (I.Bin op) here =
       results_safe (I.Bin op) here (drop 2 q.stack) (operation op (slice_index q.stack 1) (slice_index q.stack 0)) refl
-          refl (omega (arith, length-drop 2 q.stack))
+      refl (omega (arith, length-drop 2 q.stack))
   does_safe (I.Store x) here = sets_safe (I.Store x) here x _ _ refl refl (omega (arith, length-drop 1 q.stack))
   does_safe (I.Get r x) here = gets_safe r x (slice_index q.stack 0) here
       (nat_lt (slice_index q.stack 0) sizes.processes) refl
-  does_safe (I.Put r) here = (ltb-true r sizes.rows (fine.slots q.place (I.Put r) here),
-      λ reply has. writes_safe r (slice_index q.stack 0) here reply)
+  does_safe (I.Put r) here = (
+    ltb-true r sizes.rows (fine.slots q.place (I.Put r) here),
+    λ reply has. writes_safe r (slice_index q.stack 0) here reply,
+  )
   does_safe I.LoadWord here = (tt, loads_safe here)
   does_safe I.Next here = next_safe here
   does_safe (I.Exchange l) here = ((safe.scratch, safe.next l here), λ reply has. exchanges_safe l here reply)
@@ -274,10 +276,10 @@ module _ (sizes : CodeSizes) (code : List Instr) (fine : Places sizes code) (p :
   does_safe (I.Copy s t) here =
       let slots = both_true (nat_lt s sizes.scans) (nat_lt t sizes.scans) (fine.slots q.place (I.Copy s t) here) in
       keeps_safe (I.Copy s t) here t (M.scan_at q sizes.processes s) refl refl (omega arith)
-          (in_scans (I.Copy s t) here s slots.0)
+      (in_scans (I.Copy s t) here s slots.0)
   does_safe (I.Older s x) here =
       compares_safe s x (slice_index q.stack 1) (slice_index q.stack 0) here
-          (nat_lt (slice_index q.stack 1) sizes.processes && nat_lt (slice_index q.stack 0) sizes.processes) _ _
+      (nat_lt (slice_index q.stack 1) sizes.processes && nat_lt (slice_index q.stack 0) sizes.processes) _ _
   does_safe I.Out here = goes_on_safe I.Out here _ refl refl (omega (arith, length-drop 1 q.stack))
   does_safe (I.JumpZero l) here = jump_zero_safe l here (slice_index q.stack 0 == 0)
   does_safe (I.Jump l) here = jumps_safe (I.Jump l) here l _ refl (omega arith)
@@ -290,7 +292,7 @@ module _ (sizes : CodeSizes) (code : List Instr) (fine : Places sizes code) (p :
   pub did_safe : DidSafe sizes code p (M.did sizes.processes p code q)
   did_safe =
       let case : (o : Option Instr) → slice_get code q.place ≡ o
-          → DidSafe sizes code p (M.does_at q sizes.processes p o) =
+      → DidSafe sizes code p (M.does_at q sizes.processes p o) =
       λ o at. elim o as (λ o. slice_get code q.place ≡ o → DidSafe sizes code p (M.does_at q sizes.processes p o)) [
         | None ↦ λ at. safe
         | Some i ↦ λ at. does_safe i at

@@ -13,9 +13,15 @@ fn each_limit(rt: HostRuntime) -> Result<(), Fail> {
         return Err("not safe")?;
     };
     for limit in 0..states {
-        is_same(&explore(alloc, &program, limit)?, &Explored::Limit { states: limit })?;
+        is_same(
+            &explore(alloc, &program, limit)?,
+            &Explored::Limit { states: limit },
+        )?;
     }
-    is_same(&explore(alloc, &program, states)?, &Explored::Safe { states })
+    is_same(
+        &explore(alloc, &program, states)?,
+        &Explored::Safe { states },
+    )
 }
 
 #[test]

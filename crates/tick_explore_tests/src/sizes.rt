@@ -1,7 +1,8 @@
 //! How many states programs have, as another program counted them.
 
 use crate::programs::{
-    BAKERY, BAKERY_BROKEN, CONSENSUS_BROKEN, FIRST_COME_QUEUE, LEADER, PETERSON, REGISTERS, TICKET_COUNT,
+    BAKERY, BAKERY_BROKEN, CONSENSUS_BROKEN, FIRST_COME_QUEUE, LEADER, PETERSON, REGISTERS,
+    TICKET_COUNT,
 };
 use std::alloc::Global;
 use std::test::Fail;
@@ -10,7 +11,10 @@ use tick_explore::{Explored, explore};
 
 fn has(alloc: Global, text: &str, states: u32) -> Result<(), Fail> {
     let program = accepted(alloc, text)?;
-    is_same(&explore(alloc, &program, 1_000_000)?, &Explored::Safe { states })
+    is_same(
+        &explore(alloc, &program, 1_000_000)?,
+        &Explored::Safe { states },
+    )
 }
 
 #[test]

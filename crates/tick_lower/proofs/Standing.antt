@@ -74,7 +74,7 @@ mutual
   statement_height (older x s e f) k =
       follows e (expression_code f ++ I.Older s x ∷ [])
       ∙ height_after-append (expression_code f) (I.Older s x ∷ []) 1 ∙ ap (λ g. height_after g (I.Older s x ∷ []))
-          (expression_height f 1)
+      (expression_height f 1)
   statement_height (held x s e) k = follows e (I.Held s x ∷ [])
   statement_height (out e) k = follows e (I.Out ∷ [])
   statement_height (branch e a b) k =
@@ -135,19 +135,19 @@ module _ (z : CodeSizes) (code : List Instr) where
       let load : slice_get code k ≡ Some I.LoadWord = code_get k 0 I.LoadWord stands.0 in
       let next : slice_get code (k + 1) ≡ Some I.Next = code_get (k + 1) 0 I.Next stands.1.0 in
       let exchange : slice_get code (k + 1 + 1) ≡ Some (I.Exchange k) =
-          code_get (k + 1 + 1) 0 (I.Exchange k) stands.1.1.0 in
+      code_get (k + 1 + 1) 0 (I.Exchange k) stands.1.1.0 in
       let load_before : before code (k + 1) ≡ Some I.LoadWord = ap (before code) (add-one k) ∙ load in
       let next_before : before code (k + 1 + 1) ≡ Some I.Next = ap (before code) (add-one (k + 1)) ∙ next in
       let goes_back : (k + 2 == k + 1 + 1) ≡ true = eq-eqb (k + 2) (k + 1 + 1) (omega arith) in
       let load_fine : IsFine k 0 I.LoadWord = plain k 0 I.LoadWord refl (ap (λ o. not (is_next o)) next) refl
-          (omega arith) in
+      (omega arith) in
       let next_fine : IsFine (k + 1) 0 I.Next =
       plain (k + 1) 0 I.Next refl
       (ap (λ o. not (is_load o && is_exchange (slice_get code (k + 1 + 1)))) load_before
-          ∙ ap (λ o. not (is_exchange o)) exchange) refl (omega arith) in
+      ∙ ap (λ o. not (is_exchange o)) exchange) refl (omega arith) in
       let exchange_fine : IsFine (k + 1 + 1) 0 (I.Exchange k) =
       plain (k + 1 + 1) 0 (I.Exchange k) refl
-          (ap (λ o. not (is_next o && (k + 2 == k + 1 + 1))) next_before ∙ ap not goes_back) refl (omega arith) in
+      (ap (λ o. not (is_next o && (k + 2 == k + 1 + 1))) next_before ∙ ap not goes_back) refl (omega arith) in
       (load_fine, (next_fine, (exchange_fine, tt)))
 
   expression_fine : (e : Expression ℕ) (k h : ℕ) → IsExpressionWithin z.variables z.scans z.rows e
@@ -160,9 +160,9 @@ module _ (z : CodeSizes) (code : List Instr) where
   expression_fine (binary a op b) k h within =
       let second : ℕ = k + length (expression_code a) in
       along_join IsFine k second h (h + 1) (expression_code a) (expression_code b ++ I.Bin op ∷ []) refl
-          (expression_height a h) (expression_fine a k h within.0)
+      (expression_height a h) (expression_fine a k h within.0)
       (along_join IsFine second (second + length (expression_code b)) (h + 1) (h + 1 + 1) (expression_code b)
-          (I.Bin op ∷ []) refl (expression_height b (h + 1)) (expression_fine b second (h + 1) within.1)
+      (I.Bin op ∷ []) refl (expression_height b (h + 1)) (expression_fine b second (h + 1) within.1)
       (plain _ (h + 1 + 1) (I.Bin op) refl refl refl (omega arith), tt))
 
   -- an expression from an empty stack, then one that is fine over its value
@@ -170,13 +170,13 @@ module _ (z : CodeSizes) (code : List Instr) where
       → AreFine (k + expression_length e) 1 is → AreFine k 0 (expression_code e ++ is)
   then_fine e k is within fine =
       along_join IsFine k (k + expression_length e) 0 1 (expression_code e) is (omega (arith, expression_long e))
-          (expression_height e 0) (expression_fine e k 0 within) fine
+      (expression_height e 0) (expression_fine e k 0 within) fine
 
   after_expression : (e : Expression ℕ) (k : ℕ) (is : List Instr) → Stands k 0 (expression_code e ++ is)
       → Stands (k + expression_length e) 1 is
   after_expression e k is stands =
       along_back (λ k h i. slice_get all k ≡ Some (i, h)) k (k + expression_length e) 0 1 (expression_code e) is
-          (omega (arith, expression_long e)) (expression_height e 0) stands
+      (omega (arith, expression_long e)) (expression_height e 0) stands
 
   expression_front : (e : Expression ℕ) (k : ℕ) (is : List Instr) → Stands k 0 (expression_code e ++ is)
       → Stands k 0 (expression_code e)
@@ -213,7 +213,7 @@ module _ (z : CodeSizes) (code : List Instr) where
   block_starts nil k q ends stands start = let same : q ≡ k = omega arith in subst (Starts all) same start
   block_starts (cons s b) k q ends stands start =
       statement_starts s k (along_front (λ k h i. slice_get all k ≡ Some (i, h)) k 0 (statement_code k s)
-          (block_code (k + statement_length s) b) stands)
+      (block_code (k + statement_length s) b) stands)
 
   mutual
     -- where the instructions of a statement stand, and the place after it is one to which jumps may go
@@ -222,32 +222,40 @@ module _ (z : CodeSizes) (code : List Instr) where
         → Stands k 0 (statement_code k s) → Starts all q → AreFine k 0 (statement_code k s)
     statement_fine (assign x e) k q ends within stands start =
         then_fine e k (I.Store x ∷ []) within.1
-            (plain _ 1 (I.Store x) refl refl (lt-ltb x z.variables within.0) (omega arith), tt)
+        (plain _ 1 (I.Store x) refl refl (lt-ltb x z.variables within.0) (omega arith), tt)
     statement_fine (get x r e) k q ends within stands start =
-        then_fine e k (I.Get r x ∷ []) within.2
-        (plain _ 1 (I.Get r x) refl refl (and_from _ _ (lt-ltb r z.rows within.1) (lt-ltb x z.variables within.0))
-            (omega arith), tt)
+        then_fine e k (I.Get r x ∷ []) within.2 (
+          plain _ 1 (I.Get r x) refl refl (and_from _ _ (lt-ltb r z.rows within.1) (lt-ltb x z.variables within.0))
+              (omega arith),
+          tt,
+        )
     statement_fine (put r e) k q ends within stands start =
         then_fine e k (I.Put r ∷ []) within.1
-            (plain _ 1 (I.Put r) refl refl (lt-ltb r z.rows within.0) (omega arith), tt)
+        (plain _ 1 (I.Put r) refl refl (lt-ltb r z.rows within.0) (omega arith), tt)
     statement_fine stamp k q ends within stands start = stamp_fine k stands
     statement_fine clear k q ends within stands start = (plain k 0 I.Clear refl refl refl (omega arith), tt)
     statement_fine (scan s) k q ends within stands start =
         (plain k 0 (I.Scan s) refl refl (lt-ltb s z.scans within) (omega arith), tt)
-    statement_fine (copy t s) k q ends within stands start =
-        (plain k 0 (I.Copy s t) refl refl (and_from _ _ (lt-ltb s z.scans within.1) (lt-ltb t z.scans within.0))
-            (omega arith), tt)
+    statement_fine (copy t s) k q ends within stands start = (
+      plain k 0 (I.Copy s t) refl refl (and_from _ _ (lt-ltb s z.scans within.1) (lt-ltb t z.scans within.0))
+          (omega arith),
+      tt,
+    )
     statement_fine (older x s e f) k q ends within stands start =
         let second : ℕ = k + expression_length e in
         then_fine e k (expression_code f ++ I.Older s x ∷ []) within.2
         (along_join IsFine second (second + length (expression_code f)) 1 2 (expression_code f) (I.Older s x ∷ []) refl
-            (expression_height f 1) (expression_fine f second 1 within.3)
-        (plain _ 2 (I.Older s x) refl refl (and_from _ _ (lt-ltb s z.scans within.1) (lt-ltb x z.variables within.0))
-            (omega arith), tt))
+        (expression_height f 1) (expression_fine f second 1 within.3) (
+          plain _ 2 (I.Older s x) refl refl (and_from _ _ (lt-ltb s z.scans within.1) (lt-ltb x z.variables within.0))
+              (omega arith),
+          tt,
+        ))
     statement_fine (held x s e) k q ends within stands start =
-        then_fine e k (I.Held s x ∷ []) within.2
-        (plain _ 1 (I.Held s x) refl refl (and_from _ _ (lt-ltb s z.scans within.1) (lt-ltb x z.variables within.0))
-            (omega arith), tt)
+        then_fine e k (I.Held s x ∷ []) within.2 (
+          plain _ 1 (I.Held s x) refl refl (and_from _ _ (lt-ltb s z.scans within.1) (lt-ltb x z.variables within.0))
+              (omega arith),
+          tt,
+        )
     statement_fine (out e) k q ends within stands start =
         then_fine e k (I.Out ∷ []) within (plain _ 1 I.Out refl refl refl (omega arith), tt)
     statement_fine (branch e a b) k q ends within stands start =
@@ -257,22 +265,22 @@ module _ (z : CodeSizes) (code : List Instr) where
         let second_end : ℕ = second + block_length b in
         let jump : Instr = I.Jump second_end in
         let tested : Stands (k + expression_length e) 1
-            (I.JumpZero second ∷ (block_code first a ++ jump ∷ block_code second b)) =
+        (I.JumpZero second ∷ (block_code first a ++ jump ∷ block_code second b)) =
         after_expression e k (I.JumpZero second ∷ (block_code first a ++ jump ∷ block_code second b)) stands in
         let long : first + length (block_code first a) ≡ first_end = ap (λ n. first + n) (block_long a first) in
         let later : Stands first_end 0 (jump ∷ block_code second b) =
         along_back (λ k h i. slice_get all k ≡ Some (i, h)) first first_end 0 0 (block_code first a)
-            (jump ∷ block_code second b) long (block_height a first) tested.1 in
+        (jump ∷ block_code second b) long (block_height a first) tested.1 in
         let same : q ≡ second_end = omega arith in
         let past : Starts all second_end = subst (Starts all) same start in
         let jump_start : Starts all first_end = record { instr = jump; at = later.0; apart = refl } in
         let second_start : Starts all second = block_starts b second second_end refl later.1 past in
         let first_fine : AreFine first 0 (block_code first a) =
         block_fine a first first_end refl within.1
-            (along_front (λ k h i. slice_get all k ≡ Some (i, h)) first 0 (block_code first a)
-                (jump ∷ block_code second b) tested.1) jump_start in
+        (along_front (λ k h i. slice_get all k ≡ Some (i, h)) first 0 (block_code first a)
+        (jump ∷ block_code second b) tested.1) jump_start in
         let second_fine : AreFine second 0 (block_code second b) =
-            block_fine b second second_end refl within.2 later.1 past in
+        block_fine b second second_end refl within.2 later.1 past in
         then_fine e k (I.JumpZero second ∷ (block_code first a ++ jump ∷ block_code second b)) within.0 (
           jump_fine (k + expression_length e) 1 (I.JumpZero second) second second_start refl refl refl refl
               (omega arith),
@@ -284,26 +292,28 @@ module _ (z : CodeSizes) (code : List Instr) where
         let first : ℕ = k + expression_length e + 1 in
         let first_end : ℕ = first + block_length a in
         let tested : Stands (k + expression_length e) 1
-            (I.JumpZero (first_end + 1) ∷ (block_code first a ++ I.Jump k ∷ [])) =
+        (I.JumpZero (first_end + 1) ∷ (block_code first a ++ I.Jump k ∷ [])) =
         after_expression e k (I.JumpZero (first_end + 1) ∷ (block_code first a ++ I.Jump k ∷ [])) stands in
         let long : first + length (block_code first a) ≡ first_end = ap (λ n. first + n) (block_long a first) in
         let later : Stands first_end 0 (I.Jump k ∷ []) =
         along_back (λ k h i. slice_get all k ≡ Some (i, h)) first first_end 0 0 (block_code first a)
-            (I.Jump k ∷ []) long (block_height a first) tested.1 in
+        (I.Jump k ∷ []) long (block_height a first) tested.1 in
         let same : q ≡ first_end + 1 = omega arith in
         let jump_start : Starts all first_end = record { instr = I.Jump k; at = later.0; apart = refl } in
         let first_fine : AreFine first 0 (block_code first a) =
         block_fine a first first_end refl within.1
-            (along_front (λ k h i. slice_get all k ≡ Some (i, h)) first 0 (block_code first a) (I.Jump k ∷ []) tested.1)
-                jump_start in
+        (along_front (λ k h i. slice_get all k ≡ Some (i, h)) first 0 (block_code first a) (I.Jump k ∷ []) tested.1)
+        jump_start in
         then_fine e k (I.JumpZero (first_end + 1) ∷ (block_code first a ++ I.Jump k ∷ [])) within.0 (
           jump_fine (k + expression_length e) 1 (I.JumpZero (first_end + 1)) (first_end + 1)
               (subst (Starts all) same start) refl refl refl refl (omega arith),
           along_join IsFine first first_end 0 0 (block_code first a) (I.Jump k ∷ []) long
-              (block_height a first) first_fine
-              (jump_fine first_end 0 (I.Jump k) k
-                  (from_expression e k (I.JumpZero (first_end + 1) ∷ (block_code first a ++ I.Jump k ∷ [])) stands) refl
-                      refl refl refl (omega arith), tt),
+              (block_height a first) first_fine (
+                jump_fine first_end 0 (I.Jump k) k
+                    (from_expression e k (I.JumpZero (first_end + 1) ∷ (block_code first a ++ I.Jump k ∷ [])) stands) refl
+                    refl refl refl (omega arith),
+                tt,
+              ),
         )
 
     block_fine : (b : Block ℕ) (k q : ℕ) → k + block_length b ≡ q → IsWithin z.variables z.scans z.rows b
@@ -314,11 +324,11 @@ module _ (z : CodeSizes) (code : List Instr) where
         let long : k + length (statement_code k s) ≡ next = ap (λ n. k + n) (statement_long s k) in
         let later : Stands next 0 (block_code next b) =
         along_back (λ k h i. slice_get all k ≡ Some (i, h)) k next 0 0 (statement_code k s) (block_code next b) long
-            (statement_height s k) stands in
+        (statement_height s k) stands in
         let ends_later : next + block_length b ≡ q = omega arith in
         let first_fine : AreFine k 0 (statement_code k s) =
         statement_fine s k next refl within.0
-            (along_front (λ k h i. slice_get all k ≡ Some (i, h)) k 0 (statement_code k s) (block_code next b) stands)
+        (along_front (λ k h i. slice_get all k ≡ Some (i, h)) k 0 (statement_code k s) (block_code next b) stands)
         (block_starts b next q ends_later later start) in
         along_join IsFine k next 0 0 (statement_code k s) (block_code next b) long (statement_height s k) first_fine
         (block_fine b next q ends_later within.1 later start)
@@ -333,7 +343,7 @@ paired_stand passed (i ∷ is) h =
       along_as (λ k g j. slice_get (passed ++ paired h (i ∷ is)) k ≡ Some (j, g)) (length more) (length passed + 1)
           (after i h) (after i h) is (length-append passed ((i, h) ∷ [])) refl
           (subst (λ all. Along (λ k g j. slice_get all k ≡ Some (j, g)) (length more) (after i h) is)
-              (append_assoc passed ((i, h) ∷ []) (paired (after i h) is)) (paired_stand more is (after i h))),
+          (append_assoc passed ((i, h) ∷ []) (paired (after i h) is)) (paired_stand more is (after i h))),
     )
 
 inside_before : (code is : List Instr) (k h : ℕ) → k + length is < length code → Along (Inside code) k h is
@@ -359,17 +369,17 @@ body_verified z b within few =
     let whole : Stands z code 0 0 code = paired_stand [] code 0 in
     let halt : Stands z code end 0 (I.Halt ∷ []) =
     along_back (λ k h i. slice_get (paired 0 code) k ≡ Some (i, h)) 0 end 0 0 body (I.Halt ∷ []) long
-        (block_height b 0) whole in
+    (block_height b 0) whole in
     let halt_start : Starts (paired 0 code) end = record { instr = I.Halt; at = halt.0; apart = refl } in
     let body_fine : AreFine z code 0 0 body =
     block_fine z code b 0 end (omega arith) within
-        (along_front (λ k h i. slice_get (paired 0 code) k ≡ Some (i, h)) 0 0 body (I.Halt ∷ []) whole) halt_start in
+    (along_front (λ k h i. slice_get (paired 0 code) k ≡ Some (i, h)) 0 0 body (I.Halt ∷ []) whole) halt_start in
     let fine : AreFine z code 0 0 code =
     along_join (IsFine z code) 0 end 0 0 body (I.Halt ∷ []) long (block_height b 0) body_fine
-        (plain z code end 0 I.Halt refl refl refl (omega arith), tt) in
+    (plain z code end 0 I.Halt refl refl refl (omega arith), tt) in
     let inside : Along (Inside code) 0 0 code =
     along_join (Inside code) 0 end 0 0 body (I.Halt ∷ []) long (block_height b 0)
-        (inside_before code body 0 0 (omega arith)) (refl, tt) in
+    (inside_before code body 0 0 (omega arith)) (refl, tt) in
     fine_verified z code fine inside (omega arith) (omega arith)
 
 pub lowered_verified : (p : WholeProgram ℕ) → IsWithin (length p.variables) (length p.scans) (length p.registers) p.body
@@ -387,7 +397,7 @@ resolved_plain p b z code sizes is within few =
     (subst (IsPlain (lowered_sizes (resolved p))) (sym is)
     (body_verified (lowered_sizes (resolved p)) b
     (subst (λ n. IsWithin (length (resolved p).variables) (length (resolved p).scans) n b)
-        (sym (length-map p.registers number))
+    (sym (length-map p.registers number))
     (subst (λ n. IsWithin (length (resolved p).variables) n (length p.registers) b) (sym (length-map p.scans number))
     (subst (λ n. IsWithin n (length p.scans) (length p.registers) b) (sym (length-map p.variables number)) within)))
-        few))
+    few))

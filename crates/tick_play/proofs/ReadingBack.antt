@@ -94,7 +94,7 @@ item_of-text item small = by_test (item.steps == 1) refl
     alone : 1 ≡ item.steps → item_of (decimal item.process) ≡ Some item
     alone one =
         ap (λ (star : Option ℕ). item_cut star (decimal item.process))
-            (position_none is_star (decimal item.process) no_star)
+        (position_none is_star (decimal item.process) no_star)
         ∙ ap (λ (number : Option ℕ). item_of_numbers number (Some 1)) spells.value
         ∙ ap (λ (steps : ℕ). Some (run item.process steps)) one
 
@@ -103,12 +103,12 @@ item_of-text item small = by_test (item.steps == 1) refl
         let text : List ℕ = decimal item.process ++ 42 ∷ decimal item.steps in
         ap item_of (append_assoc (decimal item.process) (codes "*") (decimal item.steps))
         ∙ ap (λ (star : Option ℕ). item_cut star text)
-            (position_at is_star (decimal item.process) 42 (decimal item.steps) no_star refl)
+        (position_at is_star (decimal item.process) 42 (decimal item.steps) no_star refl)
         ∙ ap (λ (front : List ℕ). item_of_numbers (number_of front)
-            (number_of (drop (length (decimal item.process) + 1) text)))
-                (take-append_seam (decimal item.process) (42 ∷ decimal item.steps))
+        (number_of (drop (length (decimal item.process) + 1) text)))
+        (take-append_seam (decimal item.process) (42 ∷ decimal item.steps))
         ∙ ap (λ (back : List ℕ). item_of_numbers (number_of (decimal item.process)) (number_of back))
-            (drop-append-add (decimal item.process) (42 ∷ decimal item.steps) 1)
+        (drop-append-add (decimal item.process) (42 ∷ decimal item.steps) 1)
         ∙ ap (λ (number : Option ℕ). item_of_numbers number (number_of (decimal item.steps))) spells.value
         ∙ ap (item_of_numbers (Some item.process)) (decimal_spells item.steps small.steps).value
         ∙ rw (lt-ltb 0 item.steps small.some) refl
@@ -143,8 +143,12 @@ item_text-some item small = by_test (item.steps == 1)
         (cond test (decimal item.process) (decimal item.process ++ codes "*" ++ decimal item.steps))
     by_test true = some
     by_test false =
-        omega (arith, some, length-append (decimal item.process ++ codes "*") (decimal item.steps),
-            length-append (decimal item.process) (codes "*"))
+        omega (
+          arith,
+          some,
+          length-append (decimal item.process ++ codes "*") (decimal item.steps),
+          length-append (decimal item.process) (codes "*"),
+        )
 
 -- runs
 
@@ -157,10 +161,10 @@ split_texts : (item : Item) (runs : List Item) → Small item → AllByRecursion
     → slice_split is_blank (item_text item ++ spaced (map item_text runs)) ≡ item_text item ∷ map item_text runs
 split_texts item [] small all =
     ap (slice_split is_blank) (append-nil (item_text item)) ∙ slice_split_none is_blank (item_text item)
-        (item_text-no_blank item small)
+    (item_text-no_blank item small)
 split_texts item (next ∷ runs) small all =
     slice_split_at is_blank (item_text item) 32 (item_text next ++ spaced (map item_text runs))
-        (item_text-no_blank item small) refl
+    (item_text-no_blank item small) refl
     ∙ ap (λ (texts : List (List ℕ)). item_text item ∷ texts) (split_texts next runs all.0 all.1)
 
 with_piece-some : (n place : ℕ) (steps text : List ℕ) → 0 < length text → with_piece n place steps text ≡ with_item
@@ -189,7 +193,7 @@ with_runs n place steps (item ∷ runs) few_processes all few =
     let its : List ℕ = replicate item.steps item.process in
     let in_all : length (its ++ expanded runs) ≡ item.steps + length (expanded runs) =
     length-append its (expanded runs) ∙ ap (λ (k : ℕ). k + length (expanded runs))
-        (length-replicate item.steps item.process) in
+    (length-replicate item.steps item.process) in
     let so_far : length (steps ++ its) ≡ length steps + item.steps =
     length-append steps its ∙ ap (λ (k : ℕ). length steps + k) (length-replicate item.steps item.process) in
     let is_run : IsRun n item = all.0 in
@@ -198,7 +202,7 @@ with_runs n place steps (item ∷ runs) few_processes all few =
     let short : item.steps ≤ 10000000 = omega arith in
     let small : Small item = record { process = omega arith; steps = omega arith; some = some } in
     ap (λ (so : Result (List ℕ) ScheduleFault). with_pieces (with_piece n) (place + length (item_text item) + 1) so
-        (map item_text runs))
+    (map item_text runs))
     (with_run n place steps item small below (omega arith))
     ∙ with_runs n (place + length (item_text item) + 1) (steps ++ its) runs few_processes all.1 (omega arith)
     ∙ ap Ok (append_assoc steps its (expanded runs))
@@ -210,13 +214,15 @@ all_small n (item ∷ runs) few_processes all few =
     let its : List ℕ = replicate item.steps item.process in
     let in_all : length (its ++ expanded runs) ≡ item.steps + length (expanded runs) =
     length-append its (expanded runs) ∙ ap (λ (k : ℕ). k + length (expanded runs))
-        (length-replicate item.steps item.process) in
+    (length-replicate item.steps item.process) in
     let is_run : IsRun n item = all.0 in
     let below : item.process < n = is_run.below in
     let some : 0 < item.steps = is_run.some in
-    let short : item.steps ≤ 10000000 = omega arith in
-    (record { process = omega arith; steps = omega arith; some = some }, all_small n runs few_processes all.1
-        (omega arith))
+    let short : item.steps ≤ 10000000 = omega arith in (
+      record { process = omega arith; steps = omega arith; some = some },
+      all_small n runs few_processes all.1
+          (omega arith),
+    )
 
 read_runs : (n : ℕ) (runs : List Item) → n ≤ 2 ^ 64 → AllByRecursion (IsRun n) runs → length (expanded runs) ≤ 10000000
     → schedule_of n (joined (map item_text runs)) ≡ Ok (expanded runs)
@@ -241,10 +247,10 @@ expanded-onto item (next ∷ runs) = by_test (item.process == next.process) refl
         ≡ replicate item.steps item.process ++ (replicate next.steps next.process ++ expanded runs)
     by_test true is =
         ap (λ (steps : List ℕ). steps ++ expanded runs)
-            (sym (replicate-append-replicate item.steps next.steps item.process))
+        (sym (replicate-append-replicate item.steps next.steps item.process))
         ∙ append_assoc (replicate item.steps item.process) (replicate next.steps item.process) (expanded runs)
         ∙ ap (λ (p : ℕ). replicate item.steps item.process ++ (replicate next.steps p ++ expanded runs))
-            (eqb-true item.process next.process is)
+        (eqb-true item.process next.process is)
     by_test false is = refl
 
 expanded-runs : (steps : List ℕ) → expanded (runs_of steps) ≡ steps
@@ -274,5 +280,5 @@ pub written_reads_back : (n : ℕ) (steps : List ℕ) → n ≤ 2 ^ 64 → All (
 written_reads_back n steps few_processes below few =
     let same : expanded (runs_of steps) ≡ steps = expanded-runs steps in
     let short : length (expanded (runs_of steps)) ≤ 10000000 = subst (λ (s : List ℕ). length s ≤ 10000000)
-        (sym same) few in
+    (sym same) few in
     read_runs n (runs_of steps) few_processes (all_runs n steps below) short ∙ ap Ok same

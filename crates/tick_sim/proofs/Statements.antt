@@ -252,7 +252,7 @@ module _ (n : ℕ) (code : List Instr) (p : ℕ) (q : CodeProcess) (scans : List
       let same : is_present (label_at (C.scan_at q n s) i) ≡ holds_ticket (S.scan_at n scans s) i =
       (agreement_law.stands n (S.scan_at n scans s) (C.scan_at q n s) (agreed.each s)).held i (ltb-true i n i_in) in
       subst (λ b. SameStep labels rows (source_holds x s i rest tickets rows) (alone (code_holds x i k b))
-          (Some (I.Held s x)))
+      (Some (I.Held s x)))
       (sym same)
       (record { ends = refl; agrees = agrees; same_rows = refl; same_act = refl; between = goes_on agreed after })
   held_same x s i k rest tickets labels rows agrees after false i_in =

@@ -87,7 +87,7 @@ number_in v is t h =
 
 name_in : (x : Name) (is : List ValuedToken) (t : List Lexeme) → says is ≡ a_name x ∷ t
     → (l : Bor (List ℕ)) × (span : Span) × (js : List ValuedToken) × (says js ≡ t) ×
-        (record { letters = l.now; span = span } ≡ x)
+    (record { letters = l.now; span = span } ≡ x)
     × (is ≡ token (M.Name l) span ∷ js)
 name_in x is t h =
     let r = token_in is (a_name x) t h in
@@ -153,7 +153,7 @@ module _ (end : ℕ) where
       → expression_at end (suc room) is ≡ Ok (binary a op b, rest)
   open_takes room span is js p q r rest a b op first h k l m =
       ap (expression_at end (suc room)) first ∙ open_gives room span js
-          ∙ pair_gives (expression_at end room) js p q r rest a b op h k l m
+      ∙ pair_gives (expression_at end room) js p q r rest a b op h k l m
 
   pub expression_takes : (room : ℕ) (e : Expression Name) (is : List ValuedToken) (rest : List Lexeme)
       → says is ≡ expression_tokens e ++ rest → expression_nesting e ≤ room → Takes (expression_at end room is) e rest
@@ -170,9 +170,9 @@ module _ (end : ℕ) where
   expression_takes (suc room) (binary a op b) is rest d n =
       let o = terminal_in T.Open is _ d in
       let p = expression_takes room a o.1
-          (a_terminal (T.Operator op) ∷ (expression_tokens b ++ a_terminal T.Close ∷ rest))
+      (a_terminal (T.Operator op) ∷ (expression_tokens b ++ a_terminal T.Close ∷ rest))
       (o.2 ∙ sym (pair_regroups (expression_tokens a) (a_terminal (T.Operator op)) (expression_tokens b)
-          (a_terminal T.Close) rest)) (omega arith) in
+      (a_terminal T.Close) rest)) (omega arith) in
       let q = operator_takes op p.0 _ p.1 in
       let r = expression_takes room b q.0 (a_terminal T.Close ∷ rest) q.1 (omega arith) in
       let s = terminal_takes T.Close (λ span js. refl) r.0 rest r.1 in
@@ -189,7 +189,7 @@ module _ (end : ℕ) where
       → Takes (last_at end room is) e rest
   last_takes room e is rest d n =
       let p = expression_takes room e is (a_terminal T.Semicolon ∷ rest)
-          (d ∙ append_assoc (expression_tokens e) (a_terminal T.Semicolon ∷ []) rest) n in
+      (d ∙ append_assoc (expression_tokens e) (a_terminal T.Semicolon ∷ []) rest) n in
       let q = terminal_takes T.Semicolon (λ span js. refl) p.0 rest p.1 in
       (q.0, q.1, last_gives room is p.0 q.0 e p.2 q.2)
 
@@ -285,9 +285,12 @@ module _ (end : ℕ) where
   named_statement room x s is t rest h k =
       let n = name_in x is (a_terminal T.Becomes ∷ t) h in
       let b = terminal_takes T.Becomes (λ span js. refl) n.2 t n.3 in
-      let r = k b.0 b.1 in
-      (r.0, r.1, ap (statement_at end room) n.5 ∙ ap (λ z. assignment_at end room z n.2) n.4
-          ∙ assignment_gives room x n.2 b.0 r.0 s b.2 r.2)
+      let r = k b.0 b.1 in (
+        r.0,
+        r.1,
+        ap (statement_at end room) n.5 ∙ ap (λ z. assignment_at end room z n.2) n.4
+            ∙ assignment_gives room x n.2 b.0 r.0 s b.2 r.2,
+      )
 
   -- a statement by the terminal that it begins with
   statement_terminal : (room : ℕ) (span : Span) (js : List ValuedToken) →
@@ -320,7 +323,7 @@ module _ (end : ℕ) where
   list_gives room ending most [] p q s b h k = absurd (none_left room (s, p) h)
   list_gives room ending most (i ∷ is) p q s b h k =
       ap (λ z. block_by end z is (statement_at end room (i ∷ is))
-          (statements_with end (statement_at end room) ending most))
+      (statements_with end (statement_at end room) ending most))
       (not_ended room ending i.meaning i.span is (s, p) h)
       ∙ ap (λ z. block_by end false is z (statements_with end (statement_at end room) ending most)) h
       ∙ ap (λ z. z >>= λ c. Ok (cons s c.0, c.1)) k
@@ -331,14 +334,14 @@ module _ (end : ℕ) where
 
   list_ends : (room : ℕ) (ending : Ending) (most : ℕ) (span : Span) (js : List ValuedToken)
       → statements_with end (statement_at end room) ending (suc most)
-          (token (M.Terminal (ending_terminal ending)) span ∷ js) ≡ Ok (nil, js)
+      (token (M.Terminal (ending_terminal ending)) span ∷ js) ≡ Ok (nil, js)
   unfolding statements_with next_at
   list_ends room N.Program most span js = refl
   list_ends room N.Braces most span js = refl
 
   block_gives : (room : ℕ) (is p q : List ValuedToken) (b : Block Name)
       → brace_at end (suc room) is ≡ Ok (tt, p) → statements_with end (statement_at end room) N.Braces
-          (suc (length p)) p ≡ Ok (b, q)
+      (suc (length p)) p ≡ Ok (b, q)
       → block_at end (suc room) is ≡ Ok (b, q)
   unfolding block_at statement_at
   block_gives room is p q b h k = rw (h, k) refl
@@ -358,27 +361,30 @@ module _ (end : ℕ) where
     pub statement_takes : (room : ℕ) (s : Statement Name) (is : List ValuedToken) (rest : List Lexeme)
         → says is ≡ statement_tokens s ++ rest → statement_nesting s ≤ room → Takes (statement_at end room is) s rest
     statement_takes room (assign x e) is rest d n = named_statement room x (assign x e) is _ rest d (λ js h.
-        let p = last_takes room e js rest h n in
-        (p.0, p.1, plain_right room x e js _ (h ∙ append_assoc (expression_tokens e) (a_terminal T.Semicolon ∷ []) rest)
-            ∙ plain_gives room x js p.0 e p.2))
+        let p = last_takes room e js rest h n in (
+          p.0,
+          p.1,
+          plain_right room x e js _ (h ∙ append_assoc (expression_tokens e) (a_terminal T.Semicolon ∷ []) rest)
+              ∙ plain_gives room x js p.0 e p.2,
+        ))
     statement_takes room (get x r e) is rest d n = named_statement room x (get x r e) is _ rest d (λ js h.
         by_terminal (right_at end room x) _ T.Get (λ span ks. (right_terminal room x span ks).0) js _ rest _ h
-            (λ ks k. named_last_takes (get x) room r e ks rest k n))
+        (λ ks k. named_last_takes (get x) room r e ks rest k n))
     statement_takes room (held x s e) is rest d n = named_statement room x (held x s e) is _ rest d (λ js h.
         by_terminal (right_at end room x) _ T.Held (λ span ks. (right_terminal room x span ks).1) js _ rest _ h
-            (λ ks k. named_last_takes (held x) room s e ks rest k n))
+        (λ ks k. named_last_takes (held x) room s e ks rest k n))
     statement_takes room (put r e) is rest d n =
         by_terminal (statement_at end room) _ T.Put (λ span js. (statement_terminal room span js).0) is _ rest _ d
-            (λ js h. named_last_takes put room r e js rest h n)
+        (λ js h. named_last_takes put room r e js rest h n)
     statement_takes room stamp is rest d n =
         by_terminal (statement_at end room) _ T.Stamp (λ span js. (statement_terminal room span js).1) is _ rest _ d
-            (λ js h. ended_takes stamp js rest h)
+        (λ js h. ended_takes stamp js rest h)
     statement_takes room clear is rest d n =
         by_terminal (statement_at end room) _ T.Clear (λ span js. (statement_terminal room span js).2) is _ rest _ d
-            (λ js h. ended_takes clear js rest h)
+        (λ js h. ended_takes clear js rest h)
     statement_takes room (scan s) is rest d n = named_statement room s (scan s) is _ rest d (λ js h.
         by_terminal (right_at end room s) _ T.Scan (λ span ks. (right_terminal room s span ks).2) js _ rest _ h
-            (λ ks k. ended_takes (scan s) ks rest k))
+        (λ ks k. ended_takes (scan s) ks rest k))
     statement_takes room (copy t s) is rest d n = named_statement room t (copy t s) is _ rest d (λ js h.
         by_terminal (right_at end room t) _ T.Copy (λ span ks. (right_terminal room t span ks).3) js _ rest _ h (λ ks k.
         let m = name_takes s ks _ k in
@@ -386,39 +392,39 @@ module _ (end : ℕ) where
         (p.0, p.1, copy_gives t s ks m.0 p.0 m.2 p.2)))
     statement_takes room (older x s a b) is rest d n = named_statement room x (older x s a b) is _ rest d (λ js h.
         by_terminal (right_at end room x) _ T.Older (λ span ks. (right_terminal room x span ks).4) js _ rest _ h
-            (λ ks k.
+        (λ ks k.
         let m = name_takes s ks _ k in
         let p = expression_takes room a m.0 _
-            (m.1 ∙ append_assoc (expression_tokens a) (expression_tokens b ++ a_terminal T.Semicolon ∷ []) rest)
-                (omega arith) in
+        (m.1 ∙ append_assoc (expression_tokens a) (expression_tokens b ++ a_terminal T.Semicolon ∷ []) rest)
+        (omega arith) in
         let q = last_takes room b p.0 rest p.1 (omega arith) in
         (q.0, q.1, older_gives room x s ks m.0 p.0 q.0 a b m.2 p.2 q.2)))
     statement_takes room (out e) is rest d n =
         by_terminal (statement_at end room) _ T.Out (λ span js. (statement_terminal room span js).3) is _ rest _ d
-            (λ js h.
+        (λ js h.
         let p = last_takes room e js rest h n in
         (p.0, p.1, out_gives room js p.0 e p.2))
     statement_takes zero (branch e a b) is rest d n = absurd (omega arith)
     statement_takes (suc room) (branch e a b) is rest d n =
         by_terminal (statement_at end (suc room)) _ T.If (λ span js. (statement_terminal (suc room) span js).4) is _
-            rest _ d (λ js h.
+        rest _ d (λ js h.
         let p = expression_takes (suc room) e js _
         (h ∙ sym (branch_regroups (expression_tokens e) (in_braces (block_tokens a)) (a_terminal T.Else)
-            (in_braces (block_tokens b)) rest)) (omega arith) in
+        (in_braces (block_tokens b)) rest)) (omega arith) in
         let q = block_takes room a p.0 _ p.1
-            (λ js k. list_takes room N.Braces a (suc (length js)) js _ k (omega arith) (omega arith)) in
+        (λ js k. list_takes room N.Braces a (suc (length js)) js _ k (omega arith) (omega arith)) in
         let f = terminal_takes T.Else (λ span js. refl) q.0 _ q.1 in
         let v = block_takes room b f.0 rest f.1
-            (λ js k. list_takes room N.Braces b (suc (length js)) js rest k (omega arith) (omega arith)) in
+        (λ js k. list_takes room N.Braces b (suc (length js)) js rest k (omega arith) (omega arith)) in
         (v.0, v.1, branch_gives end (block_at end (suc room)) (suc room) js p.0 q.0 f.0 v.0 e a b p.2 q.2 f.2 v.2))
     statement_takes zero (repeat e a) is rest d n = absurd (omega arith)
     statement_takes (suc room) (repeat e a) is rest d n =
         by_terminal (statement_at end (suc room)) _ T.While (λ span js. (statement_terminal (suc room) span js).5) is _
-            rest _ d (λ js h.
+        rest _ d (λ js h.
         let p = expression_takes (suc room) e js _
-            (h ∙ append_assoc (expression_tokens e) (in_braces (block_tokens a)) rest) (omega arith) in
+        (h ∙ append_assoc (expression_tokens e) (in_braces (block_tokens a)) rest) (omega arith) in
         let q = block_takes room a p.0 rest p.1
-            (λ js k. list_takes room N.Braces a (suc (length js)) js rest k (omega arith) (omega arith)) in
+        (λ js k. list_takes room N.Braces a (suc (length js)) js rest k (omega arith) (omega arith)) in
         (q.0, q.1, repeat_gives end (block_at end (suc room)) (suc room) js p.0 q.0 e a p.2 q.2))
 
     pub list_takes : (room : ℕ) (ending : Ending) (b : Block Name) (most : ℕ) (is : List ValuedToken)
@@ -428,28 +434,31 @@ module _ (end : ℕ) where
         → Takes (statements_with end (statement_at end room) ending most is) b rest
     list_takes room ending nil zero is rest d n l = absurd (omega arith)
     list_takes room ending nil (suc most) is rest d n l =
-        let g = terminal_in (ending_terminal ending) is rest d in
-        (g.1, g.2, ap (statements_with end (statement_at end room) ending (suc most)) g.3
-            ∙ list_ends room ending most g.0 g.1)
+        let g = terminal_in (ending_terminal ending) is rest d in (
+          g.1,
+          g.2,
+          ap (statements_with end (statement_at end room) ending (suc most)) g.3
+              ∙ list_ends room ending most g.0 g.1,
+        )
     list_takes room ending (cons s b) zero is rest d n l = absurd (omega arith)
     list_takes room ending (cons s b) (suc most) is rest d n l =
         let p = statement_takes room s is _
-            (d ∙ append_assoc (statement_tokens s) (block_tokens b) (a_terminal (ending_terminal ending) ∷ rest))
-                (omega arith) in
+        (d ∙ append_assoc (statement_tokens s) (block_tokens b) (a_terminal (ending_terminal ending) ∷ rest))
+        (omega arith) in
         let k : length p.0 < length is = statement_shorter end room is p.0 s p.2 in
         let q = list_takes room ending b most p.0 rest p.1 (omega arith) (omega arith) in
         (q.0, q.1, list_gives room ending most is p.0 q.0 s b p.2 q.2)
 
   names_last_gives : (l : Bor (List ℕ)) (s t : Span) (js : List ValuedToken)
       → names_at end (token (M.Name l) s ∷ token (M.Terminal T.Semicolon) t ∷ js) ≡ Ok
-          (record { letters = l.now; span = s } ∷ [], js)
+      (record { letters = l.now; span = s } ∷ [], js)
   unfolding names_at
   names_last_gives l s t js = refl
 
   names_more_gives : (l : Bor (List ℕ)) (s t : Span) (js r : List ValuedToken) (xs : List Name)
       → names_at end js ≡ Ok (xs, r)
       → names_at end (token (M.Name l) s ∷ token (M.Terminal T.Comma) t ∷ js) ≡ Ok
-          (record { letters = l.now; span = s } ∷ xs, r)
+      (record { letters = l.now; span = s } ∷ xs, r)
   unfolding names_at
   names_more_gives l s t js r xs h = ap (λ z. z >>= λ ys. Ok (record { letters = l.now; span = s } ∷ ys.0, ys.1)) h
 
@@ -514,7 +523,7 @@ module _ (end : ℕ) where
 
   body_gives : (room : ℕ) (is p q : List ValuedToken) (b : Block Name)
       → terminal_at end T.Begin is ≡ Ok (tt, p) → statements_with end (statement_at end room) N.Program
-          (suc (length p)) p ≡ Ok (b, q)
+      (suc (length p)) p ≡ Ok (b, q)
       → body_at end room is ≡ Ok (b, q)
   unfolding body_at statements_at
   body_gives room is p q b h k = rw (h, k) refl
@@ -543,7 +552,7 @@ module _ (end : ℕ) where
       let ls : IsLater C.Scans registers = later_than C.Scans T.Reg p.registers last refl (T.Begin, _, refl, refl) in
       let lv : IsLater C.Variables (section_tokens T.Scan p.scans ++ registers) =
       later_than C.Variables T.Scan p.scans registers refl
-          (later_than C.Variables T.Reg p.registers last refl (T.Begin, _, refl, refl)) in
+      (later_than C.Variables T.Reg p.registers last refl (T.Begin, _, refl, refl)) in
       let i1 = terminal_in T.Processes is _ d in
       let i2 = number_in p.processes i1.1 _ i1.2 in
       let i3 = terminal_takes T.Semicolon (λ span js. refl) i2.1 _ i2.2 in
@@ -553,10 +562,10 @@ module _ (end : ℕ) where
       let i7 = terminal_takes T.Begin (λ span js. refl) i6.0 _ i6.1 in
       let i8 = list_takes room N.Program p.body (suc (length i7.0)) i7.0 [] i7.1 n (omega arith) in
       let first : terminal_at end T.Processes is ≡ Ok (tt, i1.1) = ap (terminal_at end T.Processes) i1.3
-          ∙ terminal_gives T.Processes (λ span js. refl) i1.0 i1.1 in
+      ∙ terminal_gives T.Processes (λ span js. refl) i1.0 i1.1 in
       let stands : i2.0 ≡ p.span =
       sym (ap (λ z. second_span (map plain z)) (i1.3 ∙ ap (λ z. token (M.Terminal T.Processes) i1.0 ∷ z) i2.3))
-          ∙ place in
+      ∙ place in
       let second : number_at end i1.1 ≡ Ok ((p.processes, p.span), i2.1) =
       ap (number_at end) i2.3 ∙ number_gives p.processes i2.0 i2.1 ∙ ap (λ z. Ok ((p.processes, z), i2.1)) stands in
       finishes room is i8.0 p (whole_gives room is i1.1 i2.1 i3.0 i4.0 i5.0 i6.0 i8.0 p first second i3.2 i4.2 i5.2 i6.2

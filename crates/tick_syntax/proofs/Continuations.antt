@@ -262,8 +262,10 @@ run_append (x ∷ xs) ys (s ∷ st) =
 
 -- What a text can have some tokens say; those that say no name stand here.
 one_says : (span : Span) (x : Lexeme) → CanStand x → (i : ValuedToken) × (said i ≡ x)
-one_says span (a_name x) c = (record { meaning = M.Name (record { ref_ptr = (0, 0); now = x.letters }); span = x.span },
-    refl)
+one_says span (a_name x) c = (
+  record { meaning = M.Name (record { ref_ptr = (0, 0); now = x.letters }); span = x.span },
+  refl,
+)
 one_says span (a_number v) c = (record { meaning = M.Number v; span = span }, refl)
 one_says span (a_terminal w) c = (record { meaning = M.Terminal w; span = span }, refl)
 one_says span nothing c = absurd c
@@ -297,7 +299,7 @@ module _ (end limit : ℕ) where
   fault_step : (x : Lexeme) (ts : List Lexeme) (count : ℕ) (s : Symbol) (st : List Symbol) (span : Span)
       (more : List Symbol → Option TextFault)
       (o : Option (List Symbol)) → step s x ≡ o → run_by (on_stack o st) (run ts) ≡ Some []
-          → opened (s ∷ st) + suc count < limit
+      → opened (s ∷ st) + suc count < limit
       → ((new : List Symbol) → run ts (new ++ st) ≡ Some [] → opened (new ++ st) + count < limit
       → more (new ++ st) ≡ None)
       → fault_by (on_stack o st) (is_full limit x (opened (s ∷ st))) span more ≡ None
@@ -350,7 +352,7 @@ program_runs ts stand p same =
     let own : AllCanStand (program_tokens p) = subst AllCanStand same stand in
     let is = some_say p.span (program_tokens p) own in
     let ok : program_at 0 (nesting p) is.0 ≡ Ok p = program_takes 0 (nesting p) p is.0 is.1 (number_stands p.span p _)
-        (omega arith) in
+    (omega arith) in
     subst (λ z. run z (s_program ∷ []) ≡ Some []) (is.1 ∙ sym same)
     (runs_out 0 (nesting p) is.0 (s_program ∷ []) (program_ok 0 (nesting p) is.0 p ok).none)
 
@@ -364,9 +366,9 @@ one_of_tokens p q stand same place =
     let is = some_say p.span (program_tokens p) stand in
     let depth : ℕ = max (nesting p) (nesting q) in
     let a : program_at 0 depth is.0 ≡ Ok p = program_takes 0 depth p is.0 is.1 (number_stands p.span p _)
-        (omega arith) in
+    (omega arith) in
     let b : program_at 0 depth is.0 ≡ Ok q = program_takes 0 depth q is.0 (is.1 ∙ same)
-        (number_stands p.span p stand ∙ place) (omega arith) in
+    (number_stands p.span p stand ∙ place) (omega arith) in
     one_value p q (sym a ∙ b)
 
 pub derives_once : (text : List ℕ) (tokens : List Token) (p q : WholeProgram Name) → AllCanStand (lexemes text tokens)
@@ -377,7 +379,7 @@ pub goes_on : (ts : List Lexeme) (st : List Symbol) → AllCanStand ts → run t
 goes_on ts st stand h =
     let b = program_back (ts ++ complete_all st) (all_append ts (complete_all st) stand (completed_stand st))
     (run_append ts (complete_all st) (s_program ∷ []) ∙ ap (λ z. run_by z (run (complete_all st))) h
-        ∙ completes_all st) in
+    ∙ completes_all st) in
     (complete_all st, completed_stand st, b.0, b.1)
 
 none_some : (st : List Symbol) → (let r : Option (List Symbol) = None in r) ≡ Some st → ⊥
@@ -386,5 +388,5 @@ none_some st h = cc
 pub goes_on_runs : (ts : List Lexeme) → AllCanStand ts → GoesOn ts → run ts (s_program ∷ []) ≡ None → ⊥
 goes_on_runs ts stand g h =
     let r : run (ts ++ g.0) (s_program ∷ []) ≡ Some [] =
-        program_runs (ts ++ g.0) (all_append ts g.0 stand g.1) g.2 g.3 in
+    program_runs (ts ++ g.0) (all_append ts g.0 stand g.1) g.2 g.3 in
     none_some [] (sym (ap (λ z. run_by z (run g.0)) h) ∙ sym (run_append ts g.0 (s_program ∷ [])) ∙ r)

@@ -106,16 +106,16 @@ module _ (end limit : ℕ) where
     shorter = λ y h. let b = bind_ok m f y h in
         let l : length b.0.1 < length is = first.shorter b.0 b.1 in
         let k : length y.1 < length b.0.1 =
-            (then_ b.0 (first.found b.0 b.1) (first.shorter b.0 b.1)).shorter y b.2 in omega arith;
+        (then_ b.0 (first.found b.0 b.1) (first.shorter b.0 b.1)).shorter y b.2 in omega arith;
     goes = λ y h st o. let b = bind_ok m f y h in
         let whole : opened (xs ++ (ys ++ st)) + room ≡ limit =
-            subst (λ z. opened z + room ≡ limit) (append_assoc xs ys st) o in
+        subst (λ z. opened z + room ≡ limit) (append_assoc xs ys st) o in
         let inner : opened (ys ++ st) + room ≡ limit = subst (λ z. z + room ≡ limit) (none (ys ++ st)) whole in
         ap (fault end limit is) (append_assoc xs ys st) ∙ first.goes b.0 b.1 (ys ++ st) whole
         ∙ (then_ b.0 (first.found b.0 b.1) (first.shorter b.0 b.1)).goes y b.2 st inner;
     stops = λ e h st o.
         let whole : opened (xs ++ (ys ++ st)) + room ≡ limit =
-            subst (λ z. opened z + room ≡ limit) (append_assoc xs ys st) o in
+        subst (λ z. opened z + room ≡ limit) (append_assoc xs ys st) o in
         let inner : opened (ys ++ st) + room ≡ limit = subst (λ z. z + room ≡ limit) (none (ys ++ st)) whole in
         elim (bind_err m f e h) [
           | inl b ↦ ap (fault end limit is) (append_assoc xs ys st) ∙ first.stops e b (ys ++ st) whole
@@ -162,7 +162,7 @@ module _ (end limit : ℕ) where
     goes = λ x h. absurd (not_ok h);
     stops = λ e h st o.
         ap (λ z. fault_by (on_stack z st) (is_full limit (said_by m span) (opened (s ∷ st))) span
-            (fault end limit rest)) none
+        (fault end limit rest)) none
         ∙ ap Some (the_err {A = V × List ValuedToken} _ e h);
   }
 
@@ -178,7 +178,7 @@ module _ (end limit : ℕ) where
     goes = λ x h. absurd (not_ok h);
     stops = λ e h st o.
         ap (λ z. fault_by (on_stack z st) (is_full limit (said_by m span) (opened (s ∷ st))) span
-            (fault end limit rest)) is_some
+        (fault end limit rest)) is_some
         ∙ ap (λ z. fault_by (Some (new ++ st)) z span (fault end limit rest)) (full st o)
         ∙ ap Some (the_err {A = V × List ValuedToken} _ e h);
   }
@@ -195,7 +195,7 @@ module _ (end limit : ℕ) where
     shorter = λ x h. subst (λ z. length z.1 < suc (length rest)) (the_ok h) (omega arith);
     goes = λ x h st o.
         ap (λ z. fault_by (on_stack z st) (is_full limit (said_by m span) (opened (s ∷ st))) span
-            (fault end limit rest)) is_some
+        (fault end limit rest)) is_some
         ∙ ap (λ z. fault_by (Some st) z span (fault end limit rest)) (full st)
         ∙ ap (λ z. fault end limit z.1 st) (the_ok h);
     stops = λ e h. absurd (not_err h);
@@ -221,7 +221,7 @@ module _ (end limit : ℕ) where
           → fault end limit (record { meaning = m; span = span } ∷ rest) (s ∷ st) ≡ fault end limit rest (new ++ st)
       passes st full =
           ap (λ z. fault_by (on_stack z st) (is_full limit (said_by m span) (opened (s ∷ st))) span
-              (fault end limit rest)) is_some
+          (fault end limit rest)) is_some
           ∙ ap (λ z. fault_by (Some (new ++ st)) z span (fault end limit rest)) full
 
   -- No token is left.
@@ -239,7 +239,7 @@ module _ (end limit : ℕ) where
       (f : List ValuedToken → Meaning → Span → List ValuedToken → Reading V)
       → ((m : Meaning) (span : Span) (rest : List ValuedToken)
       → Reads (s ∷ []) (P (record { meaning = m; span = span } ∷ rest)) room
-          (record { meaning = m; span = span } ∷ rest)
+      (record { meaning = m; span = span } ∷ rest)
       (f (record { meaning = m; span = span } ∷ rest) m span rest))
       → (is : List ValuedToken) → Reads (s ∷ []) (P is) room is (next_at end is >>= λ x. f is x.0.meaning x.0.span x.1)
   unfolding next_at
@@ -251,7 +251,7 @@ module _ (end limit : ℕ) where
       (f : Meaning → Span → List ValuedToken → Reading V)
       → ((m : Meaning) (span : Span) (rest : List ValuedToken)
       → Reads (s ∷ []) (P (record { meaning = m; span = span } ∷ rest)) room
-          (record { meaning = m; span = span } ∷ rest) (f m span rest))
+      (record { meaning = m; span = span } ∷ rest) (f m span rest))
       → (is : List ValuedToken) → Reads (s ∷ []) (P is) room is (next_at end is >>= λ x. f x.0.meaning x.0.span x.1)
   by_next s P room f h is = by_next_whole s P room (λ whole m span rest. f m span rest) h is
 
@@ -260,9 +260,9 @@ module _ (end limit : ℕ) where
       (f : Meaning → Span → List ValuedToken → Reading U) (g : U × List ValuedToken → Reading V)
       → ((m : Meaning) (span : Span) (rest : List ValuedToken)
       → Reads (s ∷ []) (P (record { meaning = m; span = span } ∷ rest)) room
-          (record { meaning = m; span = span } ∷ rest) (f m span rest >>= g))
+      (record { meaning = m; span = span } ∷ rest) (f m span rest >>= g))
       → (is : List ValuedToken) → Reads (s ∷ []) (P is) room is
-          ((next_at end is >>= λ x. f x.0.meaning x.0.span x.1) >>= g)
+      ((next_at end is >>= λ x. f x.0.meaning x.0.span x.1) >>= g)
   unfolding next_at
   by_next_then {U} {V} s P room f g h [] = nothing_left s (P []) room
   by_next_then s P room f g h (i ∷ is) = h i.meaning i.span is
@@ -295,7 +295,7 @@ module _ (end limit : ℕ) where
   ReadsOne s token f =
       (room : ℕ) (m : Meaning) (span : Span) (rest : List ValuedToken)
       → Reads (s ∷ []) (λ v r. said_by m span ∷ says rest ≡ token v ∷ r) room
-          (record { meaning = m; span = span } ∷ rest) (f m span rest)
+      (record { meaning = m; span = span } ∷ rest) (f m span rest)
 
   abbrev pub ReadsTerminal : Symbol → Terminal → Type 0
   ReadsTerminal s w = ReadsOne s (λ v. a_terminal w) (terminal_by w)
@@ -356,16 +356,16 @@ module _ (end limit : ℕ) where
   pair_reads room read reads is =
       let Q : Expression Name → List Lexeme → Type 0 = IsExpressionIn (suc room) (a_terminal T.Open ∷ says is) in
       reads_bind (s_expression ∷ []) (s_operator ∷ s_expression ∷ s_close ∷ []) _ Q room is _ _ (λ st. refl) (reads is)
-          (λ a da.
+      (λ a da.
       reads_bind (s_operator ∷ []) (s_expression ∷ s_close ∷ []) _ Q room a.1 _ _ (λ st. refl) (operator_reads room a.1)
-          (λ op dop.
+      (λ op dop.
       reads_bind (s_expression ∷ []) (s_close ∷ []) _ Q room op.1 _ _ (λ st. refl) (reads op.1) (λ b db.
       reads_map (s_close ∷ []) _ Q room b.1 _ _ (terminal_reads s_close T.Close close_one room b.1) (λ c rest dc. (
         ap (λ z. a_terminal T.Open ∷ z)
             (da.0 ∙ ap (λ z. expression_tokens a.0 ++ z)
-                (dop ∙ ap (λ z. a_terminal (T.Operator op.0) ∷ z) (db.0 ∙ ap (λ z. expression_tokens b.0 ++ z) dc))
+            (dop ∙ ap (λ z. a_terminal (T.Operator op.0) ∷ z) (db.0 ∙ ap (λ z. expression_tokens b.0 ++ z) dc))
             ∙ pair_regroups (expression_tokens a.0) (a_terminal (T.Operator op.0)) (expression_tokens b.0)
-                (a_terminal T.Close) rest),
+            (a_terminal T.Close) rest),
         (let l : expression_nesting a.0 ≤ room = da.1 in let k : expression_nesting b.0 ≤ room = db.1 in omega arith),
       )))))
 
@@ -415,11 +415,13 @@ module _ (end limit : ℕ) where
   pub last_reads : (room : ℕ) (is : List ValuedToken)
       → Reads (s_expression ∷ s_semicolon ∷ [])
       (λ e rest. (says is ≡ (expression_tokens e ++ a_terminal T.Semicolon ∷ []) ++ rest) ×
-          (expression_nesting e ≤ room)) room is (last_at end room is)
+      (expression_nesting e ≤ room)) room is (last_at end room is)
   unfolding last_at
   last_reads room is =
       reads_bind (s_expression ∷ []) (s_semicolon ∷ []) _ _ room is _ _ (λ st. refl) (expression_reads room is) (λ e de.
       reads_map (s_semicolon ∷ []) _ _ room e.1 _ _ (terminal_reads s_semicolon T.Semicolon semicolon_one room e.1)
-          (λ s rest ds.
-      (de.0 ∙ ap (λ z. expression_tokens e.0 ++ z) ds
-          ∙ sym (append_assoc (expression_tokens e.0) (a_terminal T.Semicolon ∷ []) rest), de.1)))
+      (λ s rest ds. (
+        de.0 ∙ ap (λ z. expression_tokens e.0 ++ z) ds
+            ∙ sym (append_assoc (expression_tokens e.0) (a_terminal T.Semicolon ∷ []) rest),
+        de.1,
+      )))

@@ -75,24 +75,31 @@ module _ (end : ℕ) (text : List ℕ) where
   stop_step : (t : Token) (ts : List Token) (span : Span) → span ≡ t.span
       → (s : Symbol) (st : List Symbol) (e : TextFault)
       (o : Option (List Symbol)) (b : Bool) → step s (lexeme_of text t) ≡ o
-          → is_full 64 (lexeme_of text t) (opened (s ∷ st)) ≡ b
+      → is_full 64 (lexeme_of text t) (opened (s ∷ st)) ≡ b
       → opened (s ∷ st) ≤ 64 → (more : List Symbol → Option TextFault) → fault_by (on_stack o st) b span more ≡ Some e
       → ((new : List Symbol) → opened (new ++ st) ≤ 64 → more (new ++ st) ≡ Some e → Stopped ts (new ++ st) e)
       → Stopped (t ∷ ts) (s ∷ st) e
   stop_step t ts span same s st e None b is_none full l more k go =
       stopped_here (t ∷ ts) (s ∷ st) e
-      (inl (the_fault (F.Unexpected span) e k ∙ ap F.Unexpected same,
-          ap (λ z. run_by (on_stack z st) (run [])) is_none))
+      (inl (
+        the_fault (F.Unexpected span) e k ∙ ap F.Unexpected same,
+        ap (λ z. run_by (on_stack z st) (run [])) is_none,
+      ))
   stop_step t ts span same s st e (Some new) true is_some full l more k go =
       let f = full_is 64 (lexeme_of text t) (opened (s ∷ st)) full in
       stopped_here (t ∷ ts) (s ∷ st) e
-      (inr (the_fault (F.TooDeep span) e k ∙ ap F.TooDeep same, f.0, f.1, new ++ st,
-          ap (λ z. run_by (on_stack z st) (run [])) is_some))
+      (inr (
+        the_fault (F.TooDeep span) e k ∙ ap F.TooDeep same,
+        f.0,
+        f.1,
+        new ++ st,
+        ap (λ z. run_by (on_stack z st) (run [])) is_some,
+      ))
   stop_step t ts span same s st e (Some new) false is_some full l more k go =
       let d : opened (new ++ st) ≡ open_by (lexeme_of text t) (opened (s ∷ st)) =
-          opens_to s (lexeme_of text t) new is_some st in
+      opens_to s (lexeme_of text t) new is_some st in
       let fits : open_by (lexeme_of text t) (opened (s ∷ st)) ≤ 64 =
-          fits_by (lexeme_of text t) (opened (s ∷ st)) l full in
+      fits_by (lexeme_of text t) (opened (s ∷ st)) l full in
       let r = go new (subst (λ z. z ≤ 64) (sym d) fits) k in
       record {
         front = t ∷ r.front;
@@ -116,10 +123,10 @@ module _ (end : ℕ) (text : List ℕ) where
       stopped_here (t ∷ ts) [] e (inl (the_fault (F.Unexpected i.span) e h ∙ ap F.Unexpected same.0.1, refl))
   stopped (i ∷ is) (t ∷ ts) (s ∷ st) e same l h =
       stop_step t ts i.span same.0.1 s st e (step s (lexeme_of text t))
-          (is_full 64 (lexeme_of text t) (opened (s ∷ st))) refl refl l
+      (is_full 64 (lexeme_of text t) (opened (s ∷ st))) refl refl l
       (fault end 64 is)
       (subst (λ z. fault_by (on_stack (step s z) st) (is_full 64 z (opened (s ∷ st))) i.span (fault end 64 is) ≡ Some e)
-          same.0.0 h)
+      same.0.0 h)
       (λ new m k. stopped is ts (new ++ st) e same.1 m k)
 
 -- one token more
@@ -157,12 +164,16 @@ module _ (text : List ℕ) (ts : List Token) (all : AllCanStand (lexemes text ts
       → StopsAt (length text) text rest left (F.Unexpected place)
       → StopsAfter text front rest place
   unexpected_here front [] [] place e r h = absurd h
-  unexpected_here front [] (s ∷ st) place e r h =
-      (same_place _ _ h, λ p d. not_same s st
-          (sym (program_runs (lexemes text front) (front_stands front [] e) p d) ∙ r))
-  unexpected_here front (t ∷ rest) left place e r (inl h) =
-      (same_place _ _ h.0, λ g. goes_on_runs (lexemes text (front ++ t ∷ [])) (more_stands front t rest e) g
-          (runs_more text front t left r ∙ h.1))
+  unexpected_here front [] (s ∷ st) place e r h = (
+    same_place _ _ h,
+    λ p d. not_same s st
+        (sym (program_runs (lexemes text front) (front_stands front [] e) p d) ∙ r),
+  )
+  unexpected_here front (t ∷ rest) left place e r (inl h) = (
+    same_place _ _ h.0,
+    λ g. goes_on_runs (lexemes text (front ++ t ∷ [])) (more_stands front t rest e) g
+        (runs_more text front t left r ∙ h.1),
+  )
   unexpected_here front (t ∷ rest) left place e r (inr h) = absurd (not_deep _ _ h.0)
 
   pub is_unexpected : (is : List ValuedToken) (place : Span) → SayAs text is ts
@@ -200,8 +211,8 @@ module _ (text : List ℕ) (ts : List Token) (all : AllCanStand (lexemes text ts
   is_too_deep is place same h =
       let r = stopped (length text) text is ts (s_program ∷ []) (F.TooDeep place) same (omega arith) h in
       deep_here r.front r.rest r.left place r.split
-          (goes_on (lexemes text r.front) r.left (front_stands r.front r.rest r.split) r.runs, r.shallow) r.depth r.runs
-              r.stop
+      (goes_on (lexemes text r.front) r.left (front_stands r.front r.rest r.split) r.runs, r.shallow) r.depth r.runs
+      r.stop
 
 -- The faults of a text's tokens are none of the grammar's.
 no_unexpected : (at : ℕ) (text : List ℕ) (before : List Token) (place : Span)
