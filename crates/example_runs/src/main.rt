@@ -3,6 +3,7 @@
 //!
 //! - `reports`: each program under its schedule;
 //! - `both_ways`: programs beside their codes, with schedules carried there and back;
+//! - `pictures`: pictures that the documents show, drawn again;
 //! - `threads`: programs on threads, and `allowed`: what may come of that.
 //!
 //! Start with the programs themselves, in `data/`.
@@ -11,6 +12,7 @@
 mod allowed;
 mod both_ways;
 mod files;
+mod pictures;
 mod reports;
 mod threads;
 
@@ -20,6 +22,7 @@ use tick_lower::lower;
 fn main(rt: HostRuntime) -> Result<(), Error> {
     reports::all_reports(&rt)?;
     both_ways::all_ways(&rt)?;
+    pictures::all_pictures(&rt)?;
     for (name, allowed) in &threads::PROGRAMS {
         let code = lower(rt.alloc(), &files::program(&rt, name)?)?;
         match threads::not_allowed(&rt, &code, *allowed)? {

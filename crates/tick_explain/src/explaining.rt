@@ -30,12 +30,24 @@ pub fn explain_program(alloc: Global, name: &str, input: &[u8]) -> Result<Option
 {
     match program_refusal(alloc, input)? {
         Some(refusal) => {
-            let told = told(alloc, input, refusal)?;
-            let text = report(alloc, name, input, refusal, &told)?;
+            let text = explain_refusal(alloc, name, input, refusal)?;
             Ok(Some(text))
         }
         None => Ok(None),
     }
+}
+
+/// The report of a refusal that an input has.
+pub fn explain_refusal(
+    alloc: Global,
+    name: &str,
+    input: &[u8],
+    refusal: Refusal,
+) -> Result<Vec<u8>, NoMemory>
+    ensures { IfOk result (λ text. Tells (λ told. told ≡ refusal) name.now input.now text.items) }
+{
+    let told = told(alloc, input, refusal)?;
+    report(alloc, name, input, refusal, &told)
 }
 
 /// The same of an input that has to be a code.

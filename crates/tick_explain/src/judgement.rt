@@ -4,12 +4,12 @@ ghost use Rattle.tick_play.specs.Schedule.{schedule_of};
 ghost use Rattle.tick_explain.specs.Refusals.{BeginsCode, IsCode, IsCodeRefused, IsInputRefused, IsNoText, IsProgram, IsProgramRefused, IsScheduleRefused, IsTakenInput, IsText};
 
 use crate::refusal::Refusal;
-use code_core::CodeFault;
+use code_core::{Code, CodeFault};
 use code_text::read_code;
 use machine_core::NoMemory;
 use std::alloc::Global;
 use std::str;
-use tick_kinds::{KindFault, check};
+use tick_kinds::{KindFault, Program, check};
 use tick_play::{ScheduleFault, read_schedule};
 use tick_syntax::{TextFault, parse};
 
@@ -65,21 +65,42 @@ fn of_schedule(fault: ScheduleFault) -> Result<Refusal, NoMemory>
     }
 }
 
+/// The accepted program that an input is, or why it is none.
+pub fn program_in(alloc: Global, input: &[u8]) -> Result<Result<Program, Refusal>, NoMemory>
+    ensures { IfOk result (λ found. MatchResult found (λ program. (is : IsProgram input.now) × (program ≡ is.program)) (IsProgramRefused input.now)) }
+{
+    let text = match text_of(input) {
+        Ok(text) => text,
+        Err(refusal) => return Ok(Err(refusal)),
+    };
+    let tree = match parse(alloc, text) {
+        Ok(tree) => tree,
+        Err(fault) => return Ok(Err(of_text(fault)?)),
+    };
+    match check(alloc, tree) {
+        Ok(program) => Ok(Ok(program)),
+        Err((_tree, fault)) => Ok(Err(of_kinds(fault)?)),
+    }
+}
+
 /// Why an input is no accepted program, where it is none.
 pub fn program_refusal(alloc: Global, input: &[u8]) -> Result<Option<Refusal>, NoMemory>
     ensures { IfOk result (λ found. MatchOption found (IsProgram input.now) (IsProgramRefused input.now)) }
 {
+    Ok(program_in(alloc, input)?.err())
+}
+
+/// The verified code that an input is, or why it is none.
+pub fn code_in(alloc: Global, input: &[u8]) -> Result<Result<Code, Refusal>, NoMemory>
+    ensures { IfOk result (λ found. MatchResult found (λ code. (is : IsCode input.now) × (code ≡ is.code)) (IsCodeRefused input.now)) }
+{
     let text = match text_of(input) {
         Ok(text) => text,
-        Err(refusal) => return Ok(Some(refusal)),
+        Err(refusal) => return Ok(Err(refusal)),
     };
-    let tree = match parse(alloc, text) {
-        Ok(tree) => tree,
-        Err(fault) => return Ok(Some(of_text(fault)?)),
-    };
-    match check(alloc, tree) {
-        Ok(_program) => Ok(None),
-        Err((_tree, fault)) => Ok(Some(of_kinds(fault)?)),
+    match read_code(alloc, text) {
+        Ok(code) => Ok(Ok(code)),
+        Err(fault) => Ok(Err(of_code(fault)?)),
     }
 }
 
@@ -87,14 +108,7 @@ pub fn program_refusal(alloc: Global, input: &[u8]) -> Result<Option<Refusal>, N
 pub fn code_refusal(alloc: Global, input: &[u8]) -> Result<Option<Refusal>, NoMemory>
     ensures { IfOk result (λ found. MatchOption found (IsCode input.now) (IsCodeRefused input.now)) }
 {
-    let text = match text_of(input) {
-        Ok(text) => text,
-        Err(refusal) => return Ok(Some(refusal)),
-    };
-    match read_code(alloc, text) {
-        Ok(_code) => Ok(None),
-        Err(fault) => Ok(Some(of_code(fault)?)),
-    }
+    Ok(code_in(alloc, input)?.err())
 }
 
 /// Whether an input begins as codes do.

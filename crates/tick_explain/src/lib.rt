@@ -29,5 +29,7 @@ mod wanted;
 mod wording;
 mod writing;
 
-pub use explaining::{explain, explain_code, explain_program, explain_schedule};
-pub use judgement::{code_refusal, program_refusal, schedule_refusal};
+pub use explaining::{explain, explain_code, explain_program, explain_refusal, explain_schedule};
+pub use judgement::{
+    begins_code, code_in, code_refusal, program_in, program_refusal, schedule_refusal,
+};

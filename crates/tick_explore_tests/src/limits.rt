@@ -1,6 +1,9 @@
 //! A search that may see fewer states than there are tells so, and one more makes it whole.
 
-use crate::programs::{FIFO, TWO_TICKETS};
+use crate::examples::{LEADER_ELECTION, TICKET_LOCK, TWO_EXCLUSION, TWO_EXCLUSION_WITH_FAULT};
+use crate::programs;
+use crate::programs::{BARRIER, FCFS_BROKEN, FCFS3, FIFO, LEXCLUSION, MWMR, TWO_TICKETS};
+use std::alloc::Global;
 use std::test::Fail;
 use testing::{accepted, is_same};
 use tick_explore::{Explored, explore};
@@ -24,11 +27,34 @@ fn each_limit(rt: HostRuntime) -> Result<(), Fail> {
     )
 }
 
-#[test]
-fn six_processes(rt: HostRuntime) -> Result<(), Fail> {
-    let program = accepted(rt.alloc(), FIFO)?;
+fn has_more(alloc: Global, text: &str) -> Result<(), Fail> {
+    let program = accepted(alloc, text)?;
     is_same(
-        &explore(rt.alloc(), &program, 50_000)?,
-        &Explored::Limit { states: 50_000 },
+        &explore(alloc, &program, 1_000_000)?,
+        &Explored::Limit { states: 1_000_000 },
     )
+}
+
+#[test]
+fn three_processes(rt: HostRuntime) -> Result<(), Fail> {
+    for text in [
+        LEADER_ELECTION,
+        TICKET_LOCK,
+        TWO_EXCLUSION,
+        TWO_EXCLUSION_WITH_FAULT,
+        FCFS3,
+        FCFS_BROKEN,
+        MWMR,
+        programs::TICKET_LOCK,
+    ] {
+        has_more(rt.alloc(), text)?;
+    }
+    Ok(())
+}
+
+#[test]
+fn four_and_six_processes(rt: HostRuntime) -> Result<(), Fail> {
+    has_more(rt.alloc(), BARRIER)?;
+    has_more(rt.alloc(), LEXCLUSION)?;
+    has_more(rt.alloc(), FIFO)
 }

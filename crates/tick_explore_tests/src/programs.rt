@@ -593,3 +593,51 @@ begin
   put want 0;
 end
 ";
+
+// `CONSENSUS_BROKEN`, with what has to hold: who finds that the other has decided decided so too.
+pub static CONSENSUS_ASSERT: &str = "\
+processes 2;
+var o, c, d, q, x;
+scan s;
+reg input, decided;
+begin
+  put input (100 + me);
+  stamp;
+  s = scan;
+  o = (1 - me);
+  c = get input o;
+  d = (100 + me);
+  if c { q = older s o me; if q { d = c; } else { } } else { }
+  put decided d;
+  c = get decided o;
+  x = (1 / ((c == 0) + (c == d)));
+end
+";
+
+// `FCFS_BROKEN`, with what has to hold: who is in finds nobody else in.
+pub static FCFS_ASSERT: &str = "\
+processes 3;
+var j, b, round, x;
+scan s;
+reg waiting, inside;
+begin
+  while (round < 3) {
+    stamp;
+    put waiting 1;
+    j = 0;
+    while (j < n) {
+      b = get waiting j;
+      if b { s = scan; b = older s j me; } else { }
+      if b { } else { j = (j + 1); }
+    }
+    put inside 1;
+    b = get inside ((me + 1) % n);
+    x = (1 / (b == 0));
+    b = get inside ((me + 2) % n);
+    x = (1 / (b == 0));
+    put inside 0;
+    put waiting 0;
+    round = (round + 1);
+  }
+end
+";

@@ -3,7 +3,13 @@ ghost use Rattle.std.specs.Prelude.{◌<◌, length};
 ghost use Rattle.std.specs.List.{All};
 ghost use Rattle.tick_kinds.specs.Resolution.{resolved};
 
-use crate::programs::{BAKERY_ASSERT, LOOP_WITH_TRAP};
+use crate::examples::{
+    BAKERY_WITH_FAULT, BARRIER_WITH_FAULT, MULTI_WRITER_REGISTER_WITH_FAULT, TICKET_LOCK_WITH_FAULT,
+};
+use crate::programs::{
+    BAKERY_ASSERT, CONSENSUS_ASSERT, DECISION_WITH_FAULT, FCFS_ASSERT, LOOP_WITH_TRAP,
+    QUEUE_WITH_FAULT,
+};
 use std::alloc::Global;
 use std::test::Fail;
 use testing::{accepted, holds, is_same};
@@ -42,8 +48,21 @@ fn trapped_after(alloc: Global, text: &str, steps: usize) -> Result<(), Fail> {
 
 #[test]
 fn broken_programs(rt: HostRuntime) -> Result<(), Fail> {
-    trapped_after(rt.alloc(), LOOP_WITH_TRAP, 7)?;
-    trapped_after(rt.alloc(), BAKERY_ASSERT, 58)
+    let alloc = rt.alloc();
+    trapped_after(alloc, LOOP_WITH_TRAP, 7)?;
+    trapped_after(alloc, BAKERY_ASSERT, 58)?;
+    trapped_after(alloc, CONSENSUS_ASSERT, 24)?;
+    trapped_after(alloc, QUEUE_WITH_FAULT, 36)?;
+    trapped_after(alloc, DECISION_WITH_FAULT, 22)?;
+    trapped_after(alloc, BAKERY_WITH_FAULT, 58)?;
+    trapped_after(alloc, BARRIER_WITH_FAULT, 28)?;
+    trapped_after(alloc, TICKET_LOCK_WITH_FAULT, 16)?;
+    trapped_after(alloc, MULTI_WRITER_REGISTER_WITH_FAULT, 64)
+}
+
+#[test]
+fn first_come_first_served(rt: HostRuntime) -> Result<(), Fail> {
+    trapped_after(rt.alloc(), FCFS_ASSERT, 50)
 }
 
 #[test]

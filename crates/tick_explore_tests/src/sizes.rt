@@ -1,8 +1,10 @@
 //! How many states programs have, as another program counted them.
 
+use crate::examples;
 use crate::programs::{
-    BAKERY, BAKERY_BROKEN, CONSENSUS_BROKEN, FIRST_COME_QUEUE, LEADER, PETERSON, REGISTERS,
-    TICKET_COUNT,
+    BAKERY, BAKERY_BROKEN, BAKERY3, CONSENSUS_BROKEN, DECISION_REPAIRED, FIRST_COME_QUEUE, LEADER,
+    MWMR_BROKEN, PETERSON, QUEUE_REPAIRED, REGISTERS, SNAPSHOT, TICKET_COUNT, TRANSACTIONS,
+    TWO_TICKETS,
 };
 use std::alloc::Global;
 use std::test::Fail;
@@ -24,7 +26,30 @@ fn two_processes(rt: HostRuntime) -> Result<(), Fail> {
     has(alloc, BAKERY_BROKEN, 2_283)?;
     has(alloc, CONSENSUS_BROKEN, 602)?;
     has(alloc, FIRST_COME_QUEUE, 1_186)?;
-    has(alloc, PETERSON, 14_668)
+    has(alloc, PETERSON, 14_668)?;
+    has(alloc, TWO_TICKETS, 101)?;
+    has(alloc, QUEUE_REPAIRED, 1_372)?;
+    has(alloc, examples::BAKERY, 3_436)?;
+    has(alloc, examples::PETERSON, 6_677)
+}
+
+#[test]
+fn three_processes(rt: HostRuntime) -> Result<(), Fail> {
+    has(rt.alloc(), DECISION_REPAIRED, 3_225)?;
+    has(rt.alloc(), SNAPSHOT, 219_072)?;
+    has(rt.alloc(), MWMR_BROKEN, 237_722)?;
+    has(rt.alloc(), examples::BARRIER, 134_221)?;
+    has(rt.alloc(), examples::MULTI_WRITER_REGISTER, 120_004)
+}
+
+#[test]
+fn transactions(rt: HostRuntime) -> Result<(), Fail> {
+    has(rt.alloc(), TRANSACTIONS, 580_397)
+}
+
+#[test]
+fn bakery(rt: HostRuntime) -> Result<(), Fail> {
+    has(rt.alloc(), BAKERY3, 724_929)
 }
 
 #[test]

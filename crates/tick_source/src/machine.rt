@@ -1,4 +1,4 @@
-ghost use Rattle.std.specs.Prelude.{◌≡◌, ◌<◌, length, OnOk, OnErr, IfOk, IsOk, Some, slice_get};
+ghost use Rattle.std.specs.Prelude.{◌≡◌, ◌<◌, length, OnOk, OnErr, IfOk, IsOk, Some, map, slice_get};
 ghost use Rattle.std.specs.List.{All};
 ghost use Rattle.tick_kinds.specs.Resolution.{resolved};
 ghost use Rattle.machine_core.specs.Rows.{register_at};
@@ -11,6 +11,7 @@ use machine_core::{Event, NoMemory, Outcome, Status};
 use std::alloc::Global;
 use std::marker::Model;
 use tick_kinds::Program;
+use ticket_core::Tickets;
 
 /// A program on whole-number tickets, one step at a time. The program says what a step does; which
 /// process steps is the caller's choice.
@@ -97,6 +98,21 @@ impl<'a> SourceMachine<'a> {
         ensures { slice_get (statuses_of self.now) p ≡ Some result }
     {
         self.processes[p as usize].status
+    }
+
+    /// The variables of process `p`, in the order in which they are declared.
+    pub fn variables(&self, p: u8) -> &[u32]
+        requires { p < length self.now.processes }
+        ensures { slice_get (map (λ q. q.variables) self.now.processes) p ≡ Some result.now }
+    {
+        self.processes[p as usize].variables.as_slice()
+    }
+
+    /// The tickets of all processes.
+    pub fn tickets(&self) -> Tickets
+        ensures { result ≡ self.now.tickets }
+    {
+        self.shared.tickets
     }
 
     // What the run lets others see.

@@ -6,7 +6,7 @@
 //! Start with `Tickets::new`.
 #![tactic(auto)]
 
-ghost use Rattle.std.specs.Prelude.{◌≡◌, ◌+◌, ◌-◌, ◌^◌, ◌<◌, ◌≤◌, ℕ, List, ◌++◌, length, take, drop, replicate};
+ghost use Rattle.std.specs.Prelude.{◌≡◌, ◌+◌, ◌-◌, ◌^◌, ◌<◌, ◌≤◌, ℕ, List, ◌++◌, length, take, drop, replicate, slice_index};
 ghost use Rattle.ticket_core.specs.Tickets.{start_tickets, greatest_ticket, stamp_ticket, clear_ticket, tickets_below, ticket_ranks, older_ticket, holds_ticket};
 
 mod moves;
@@ -88,6 +88,14 @@ impl Tickets {
         ensures { result ≡ holds_ticket self.now i }
     {
         self.all()[i as usize] > 0
+    }
+
+    /// The ticket of process `i`, 0 where it holds none.
+    pub fn ticket(&self, i: u8) -> u64
+        requires { i < length self.now }
+        ensures { result ≡ slice_index self.now i }
+    {
+        self.all()[usize::from(i)]
     }
 
     /// For each process, how many processes hold a smaller ticket; the entries past the last

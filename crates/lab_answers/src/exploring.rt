@@ -1,0 +1,112 @@
+//! `ticklab explore`.
+ghost use Rattle.std.specs.Prelude.{◌<◌, All, IfErr, IfOk};
+ghost use Rattle.tick_kinds.specs.Resolution.{resolved};
+ghost use Rattle.tick_explore.specs.Searching.{IfTrapped};
+ghost use Rattle.tick_explain.specs.Refusals.{IsProgramRefused};
+ghost use Rattle.tick_explain.specs.Reports.{Tells};
+ghost use Rattle.lab_answers.specs.Answers.{Explores, IsExplored, IsMerged, Merges};
+ghost use Rattle.lab_answers.specs.Shown.{Shows};
+ghost use Rattle.lab_answers.specs.Stops.{IfRefused};
+
+use crate::fault::AnswerFault;
+use crate::reading::program_of;
+use crate::response::{DONE, LIMIT, Response, TRAPPED, answer, settled};
+use crate::stop::Stop;
+use crate::trapping::trap_text;
+use base::NoMemory;
+use std::alloc::Global;
+use tick_explore::{Explored, Watch, explore_merged_watched, explore_watched};
+use tick_kinds::Program;
+
+const SHORTEST: &str = "a process traps under this schedule, and under no shorter one:";
+
+const SOME: &str = "a process traps under this schedule:";
+
+/// Whether a process of the program traps under some schedule, as far as the program has at most `limit`
+/// states; `name` is that of its file. The watch is told how far the search is.
+pub fn explored<W: Watch>(
+    alloc: Global,
+    name: &str,
+    input: &[u8],
+    limit: u32,
+    watch: &mut W,
+) -> Result<Response, AnswerFault>
+    ensures { IfOk result (Explores name.now input.now) }
+{
+    settled(alloc, all_schedules(alloc, name, input, limit, watch))
+}
+
+/// The same by fewer states, where the private steps of a process go with the step before them. The
+/// schedule that is found need not be a shortest one.
+pub fn explored_merged<W: Watch>(
+    alloc: Global,
+    name: &str,
+    input: &[u8],
+    limit: u32,
+    watch: &mut W,
+) -> Result<Response, AnswerFault>
+    ensures { IfOk result (Merges name.now input.now) }
+{
+    settled(alloc, merged_schedules(alloc, name, input, limit, watch))
+}
+
+fn all_schedules<W: Watch>(
+    alloc: Global,
+    name: &str,
+    input: &[u8],
+    limit: u32,
+    watch: &mut W,
+) -> Result<Response, Stop>
+    ensures ok { IfOk result (IsExplored input.now) }
+    ensures refused { IfErr result (λ stop. IfRefused stop (Tells (IsProgramRefused input.now) name.now input.now)) }
+{
+    let program = program_of(alloc, name, input)?;
+    let explored = explore_watched(alloc, &program, limit, watch)?;
+    Ok(shown(alloc, SHORTEST, &program, input, &explored)?)
+}
+
+fn merged_schedules<W: Watch>(
+    alloc: Global,
+    name: &str,
+    input: &[u8],
+    limit: u32,
+    watch: &mut W,
+) -> Result<Response, Stop>
+    ensures ok { IfOk result (IsMerged input.now) }
+    ensures refused { IfErr result (λ stop. IfRefused stop (Tells (IsProgramRefused input.now) name.now input.now)) }
+{
+    let program = program_of(alloc, name, input)?;
+    let explored = explore_merged_watched(alloc, &program, limit, watch)?;
+    Ok(shown(alloc, SOME, &program, input, &explored)?)
+}
+
+// The answer that tells what was explored.
+fn shown(
+    alloc: Global,
+    found: &str,
+    program: &Program,
+    input: &[u8],
+    explored: &Explored,
+) -> Result<Response, NoMemory>
+    requires { IfTrapped explored.now (All (λ p. p < (resolved program.now).processes)) }
+    ensures { IfOk result (Shows found.now explored.now) }
+{
+    match explored {
+        Explored::Safe { states } => {
+            let text = format!(in alloc;
+                "no process traps under any schedule ({states} states)\n"
+            )?;
+            Ok(answer(alloc, DONE, text))
+        }
+        Explored::Trapped(schedule) => {
+            let text = trap_text(alloc, found, program, input, schedule.as_slice())?;
+            Ok(answer(alloc, TRAPPED, text))
+        }
+        Explored::Limit { states } => {
+            let text = format!(in alloc;
+                "there are more than {states} states: nothing is said of all schedules\n"
+            )?;
+            Ok(answer(alloc, LIMIT, text))
+        }
+    }
+}

@@ -1,0 +1,64 @@
+//! `ticklab hunt`, but for its runs on threads.
+ghost use Rattle.std.specs.Prelude.{◌<◌, All, IfErr, IfOk};
+ghost use Rattle.tick_kinds.specs.Resolution.{resolved};
+ghost use Rattle.tick_hunt.specs.Hunts.{IfFound, IsMinimalTrap};
+ghost use Rattle.tick_explain.specs.Refusals.{IsProgramRefused};
+ghost use Rattle.tick_explain.specs.Reports.{Tells};
+ghost use Rattle.lab_answers.specs.Answers.{Hunts, IsHunted};
+ghost use Rattle.lab_answers.specs.Shown.{ShowsHunt};
+ghost use Rattle.lab_answers.specs.Stops.{IfRefused};
+
+use crate::fault::AnswerFault;
+use crate::reading::program_of;
+use crate::response::{DONE, Response, TRAPPED, answer, settled};
+use crate::stop::Stop;
+use crate::trapping::trap_text;
+use base::NoMemory;
+use std::alloc::Global;
+use tick_hunt::{Hunted, Plan, hunt};
+use tick_kinds::Program;
+
+const MINIMAL: &str =
+    "a process traps under this schedule, and where any one step is left out none does:";
+
+/// Whether a process of the program traps under a schedule of the plan; `name` is that of its file.
+pub fn hunted(alloc: Global, name: &str, input: &[u8], plan: Plan) -> Result<Response, AnswerFault>
+    ensures { IfOk result (Hunts name.now plan input.now) }
+{
+    settled(alloc, random_schedules(alloc, name, input, plan))
+}
+
+fn random_schedules(alloc: Global, name: &str, input: &[u8], plan: Plan) -> Result<Response, Stop>
+    ensures ok { IfOk result (IsHunted plan input.now) }
+    ensures refused { IfErr result (λ stop. IfRefused stop (Tells (IsProgramRefused input.now) name.now input.now)) }
+{
+    let program = program_of(alloc, name, input)?;
+    let hunted = hunt(alloc, &program, plan)?;
+    Ok(shown(alloc, &program, input, plan, &hunted)?)
+}
+
+// The answer that tells what the hunt came to.
+fn shown(
+    alloc: Global,
+    program: &Program,
+    input: &[u8],
+    plan: Plan,
+    hunted: &Hunted,
+) -> Result<Response, NoMemory>
+    requires { IfFound hunted.now (λ run schedule. IsMinimalTrap (resolved program.now) schedule) }
+    ensures { IfOk result (ShowsHunt hunted.now) }
+{
+    match hunted {
+        Hunted::Found { schedule, .. } => {
+            let text = trap_text(alloc, MINIMAL, program, input, schedule.as_slice())?;
+            Ok(answer(alloc, TRAPPED, text))
+        }
+        Hunted::Nothing => {
+            let text = format!(in alloc;
+                "no process traps in {} runs of at most {} steps of seed {}\n",
+                plan.runs, plan.steps, plan.seed
+            )?;
+            Ok(answer(alloc, DONE, text))
+        }
+    }
+}

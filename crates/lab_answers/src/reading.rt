@@ -1,0 +1,79 @@
+//! What was read, as what it has to be.
+ghost use Rattle.std.specs.Prelude.{◌≡◌, ◌<◌, All, IfErr, IfOk, Ok};
+ghost use Rattle.tick_kinds.specs.Resolution.{resolved};
+ghost use Rattle.tick_lower.specs.Lowered.{lowered, lowered_sizes};
+ghost use Rattle.tick_play.specs.Moves.{moves_of as moves_spelled, mover};
+ghost use Rattle.tick_play.specs.Schedule.{schedule_of as schedule_spelled};
+ghost use Rattle.tick_explain.specs.Refusals.{IsProgram, IsProgramRefused, IsScheduleRefused};
+ghost use Rattle.tick_explain.specs.Reports.{Tells};
+ghost use Rattle.lab_answers.specs.Stops.{IfRefused};
+
+use crate::fault::AnswerFault;
+use crate::stop::Stop;
+use code_core::Code;
+use std::alloc::Global;
+use tick_explain::{explain_refusal, explain_schedule, program_in};
+use tick_kinds::Program;
+use tick_lower::{LowerFault, lower};
+use tick_play::{Move, ScheduleFault, read_moves, read_schedule};
+
+/// The accepted program that an input is; `name` is that of its file.
+pub fn program_of(alloc: Global, name: &str, input: &[u8]) -> Result<Program, Stop>
+    ensures ok { IfOk result (λ program. (is : IsProgram input.now) × (program ≡ is.program)) }
+    ensures refused { IfErr result (λ stop. IfRefused stop (Tells (IsProgramRefused input.now) name.now input.now)) }
+{
+    match program_in(alloc, input)? {
+        Ok(program) => Ok(program),
+        Err(refusal) => {
+            let report = explain_refusal(alloc, name, input, refusal)?;
+            Err(Stop::Refused(report))
+        }
+    }
+}
+
+/// The schedule of so many processes that a text spells; `name` says where the text is from.
+pub fn schedule_of(alloc: Global, name: &str, text: &str, n: u8) -> Result<Vec<u8>, Stop>
+    ensures ok { IfOk result (λ steps. schedule_spelled n text.now ≡ Ok steps.items) }
+    ensures in_range { IfOk result (λ steps. All (λ p. p < n) steps.items) }
+    ensures refused { IfErr result (λ stop. IfRefused stop (Tells (IsScheduleRefused n text.now) name.now text.now)) }
+{
+    match read_schedule(alloc, text, n) {
+        Ok(steps) => Ok(steps),
+        Err(ScheduleFault::NoMemory) => Err(Stop::Fault(AnswerFault::NoMemory)),
+        Err(_) => match explain_schedule(alloc, name, text, n)? {
+            Some(report) => Err(Stop::Refused(report)),
+            None => unreachable!(),
+        },
+    }
+}
+
+/// The code of a program; `name` is that of its file.
+pub fn code_of(alloc: Global, name: &str, program: &Program) -> Result<Code, Stop>
+    ensures { IfOk result (λ code. code ≡ record { sizes = lowered_sizes (resolved program.now); instructions = lowered (resolved program.now) }) }
+{
+    match lower(alloc, program) {
+        Ok(code) => Ok(code),
+        Err(LowerFault::NoMemory) => Err(Stop::Fault(AnswerFault::NoMemory)),
+        Err(LowerFault::TooLong) => {
+            let text = format!(in alloc;
+                "{name}: error: its code would have more than 65535 instructions\n"
+            )?;
+            Err(Stop::Refused(text.into_bytes()))
+        }
+    }
+}
+
+/// The stamps and clears of so many processes that a text spells.
+pub fn moves_of(alloc: Global, text: &str, n: u8) -> Result<Vec<Move>, Stop>
+    ensures ok { IfOk result (λ moves. moves_spelled n text.now ≡ Ok moves.items) }
+    ensures in_range { IfOk result (λ moves. All (λ move. mover move < n) moves.items) }
+{
+    match read_moves(alloc, text, n) {
+        Ok(moves) => Ok(moves),
+        Err(ScheduleFault::NoMemory) => Err(Stop::Fault(AnswerFault::NoMemory)),
+        Err(fault) => {
+            let text = format!(in alloc; "STAMPS: error: {fault}\n")?;
+            Err(Stop::Refused(text.into_bytes()))
+        }
+    }
+}

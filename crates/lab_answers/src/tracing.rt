@@ -1,0 +1,97 @@
+//! `ticklab trace`.
+ghost use Rattle.std.specs.Prelude.{◌≡◌, ◌<◌, All, IfOk};
+ghost use Rattle.tick_kinds.specs.Resolution.{resolved};
+ghost use Rattle.lab_answers.specs.Answers.{IsDoneOrRefused};
+
+use crate::fault::AnswerFault;
+use crate::reading::{code_of, program_of, schedule_of};
+use crate::response::{DONE, Response, answer, settled};
+use crate::stop::Stop;
+use base::NoMemory;
+use code_core::CodeFault;
+use code_text::write_code;
+use std::alloc::Global;
+use std::str;
+use tick_kinds::Program;
+use tick_syntax::TextFault;
+use tick_trace::{
+    Spot, code_steps, code_trace, instruction_lines, places, source_steps, source_trace,
+};
+
+/// A line for each step of the program under the schedule that a text spells, or of its code; `name` is that
+/// of the program's file, `from` that of the schedule's.
+pub fn traced(
+    alloc: Global,
+    name: &str,
+    input: &[u8],
+    from: &str,
+    schedule: &str,
+    is_code: bool,
+) -> Result<Response, AnswerFault>
+    ensures { IfOk result (λ response. IsDoneOrRefused response.status) }
+{
+    settled(
+        alloc,
+        steps_told(alloc, name, input, from, schedule, is_code),
+    )
+}
+
+fn steps_told(
+    alloc: Global,
+    name: &str,
+    input: &[u8],
+    from: &str,
+    schedule: &str,
+    is_code: bool,
+) -> Result<Response, Stop>
+    ensures { IfOk result (λ response. response.status ≡ 0) }
+{
+    let program = program_of(alloc, name, input)?;
+    let schedule = schedule_of(alloc, from, schedule, program.processes())?;
+    let text = if is_code {
+        code_text(alloc, name, &program, schedule.as_slice())?
+    } else {
+        source_text(alloc, &program, input, schedule.as_slice())?
+    };
+    Ok(answer(alloc, DONE, text))
+}
+
+/// The steps of the program that this text is.
+pub fn source_text(
+    alloc: Global,
+    program: &Program,
+    input: &[u8],
+    schedule: &[u8],
+) -> Result<String, NoMemory>
+    requires { All (λ p. p < (resolved program.now).processes) schedule.now }
+{
+    let spots = spots_in(alloc, input)?;
+    let steps = source_steps(alloc, program, schedule)?;
+    source_trace(alloc, program, spots.as_slice(), steps.as_slice())
+}
+
+// Where the statements of a program stand; of what is no program, nowhere.
+fn spots_in<'a>(alloc: Global, input: &'a [u8]) -> Result<Vec<Spot<'a>>, NoMemory> {
+    let Ok(text) = str::from_utf8(input) else {
+        return Ok(Vec::new(alloc));
+    };
+    match places(alloc, text) {
+        Ok(spots) => Ok(spots),
+        Err(TextFault::NoMemory) => Err(NoMemory),
+        Err(_) => Ok(Vec::new(alloc)),
+    }
+}
+
+fn code_text(alloc: Global, name: &str, program: &Program, schedule: &[u8]) -> Result<String, Stop>
+    requires { All (λ p. p < (resolved program.now).processes) schedule.now }
+{
+    let code = code_of(alloc, name, program)?;
+    let listing = match write_code(alloc, &code) {
+        Ok(listing) => listing,
+        Err(CodeFault::NoMemory) => return Err(Stop::Fault(AnswerFault::NoMemory)),
+        Err(_) => unreachable!(),
+    };
+    let lines = instruction_lines(alloc, &listing)?;
+    let steps = code_steps(alloc, &code, schedule)?;
+    Ok(code_trace(alloc, program, lines.as_slice(), steps.as_slice())?)
+}

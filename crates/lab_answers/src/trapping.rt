@@ -1,0 +1,31 @@
+//! What is told of a schedule under which a process traps.
+ghost use Rattle.std.specs.Prelude.{◌≡◌, ◌<◌, ◌++◌, All, List, ℕ, IfOk, string_bytes};
+ghost use Rattle.tick_kinds.specs.Resolution.{resolved};
+ghost use Rattle.lab_answers.specs.Lines.{BeginsWith, trap_lines};
+
+use crate::tracing::source_text;
+use base::NoMemory;
+use std::alloc::Global;
+use tick_kinds::Program;
+use tick_play::write_schedule;
+
+/// How it was found, the schedule, and what each of its steps does in the program that this text is.
+pub fn trap_text(
+    alloc: Global,
+    found: &str,
+    program: &Program,
+    input: &[u8],
+    schedule: &[u8],
+) -> Result<String, NoMemory>
+    requires { All (λ p. p < (resolved program.now).processes) schedule.now }
+    ensures { IfOk result (λ text. BeginsWith (trap_lines found.now schedule.now) (string_bytes text)) }
+{
+    let written = write_schedule(alloc, schedule)?;
+    let steps = source_text(alloc, program, input, schedule)?;
+    let mut text = String::from_str(alloc, found)?;
+    text.push_str("\n")?;
+    text.push_str(&written)?;
+    text.push_str("\n")?;
+    text.push_str(&steps)?;
+    Ok(text)
+}

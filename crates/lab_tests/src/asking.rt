@@ -1,0 +1,25 @@
+// A command line as the program gets it.
+use lab_line::{Line, asked};
+use std::alloc::{AllocError, Global};
+use std::test::Fail;
+
+/// The words after the program's name, each as a text of its own.
+pub fn words_of(alloc: Global, words: &[&str]) -> Result<Vec<String>, AllocError> {
+    let mut all = Vec::new(alloc);
+    all.push(String::from_str(alloc, "ticklab")?)?;
+    for word in words {
+        all.push(String::from_str(alloc, word)?)?;
+    }
+    Ok(all)
+}
+
+/// What the words ask for, as it is written for people who debug.
+pub fn asked_for(alloc: Global, words: &[&str]) -> Result<String, Fail> {
+    let words = words_of(alloc, words)?;
+    match asked(alloc, words.as_slice())? {
+        Line::Request(request) => Ok(format!(in alloc; "{request:?}")?),
+        Line::Runs(runs) => Ok(format!(in alloc; "{runs:?}")?),
+        Line::Help(_text) => Ok(String::from_str(alloc, "help")?),
+        Line::Refused(text) => Ok(format!(in alloc; "{text}")?),
+    }
+}

@@ -1,0 +1,8 @@
+pub mod Captions
+pub mod Figures
+pub mod Frames
+pub mod Laws
+pub mod Layout
+pub mod Pictures
+pub mod Shapes
+pub mod Writing

@@ -1,0 +1,17 @@
+//! Tests of `label_draw`: whole pictures, labels and order by hand and by `LabelWord`'s own calls, and
+//! that each picture is well-formed.
+//!
+//! Start with `frames`, and `pictures` for the texts. Where a growth is refused, a call is made once
+//! more, so that the tests pass too where any one growth of such a call is refused.
+#![tactic(auto)]
+
+#[cfg(test)]
+mod asking;
+#[cfg(test)]
+mod markup;
+#[cfg(test)]
+mod pictures;
+#[cfg(test)]
+mod rows;
+#[cfg(test)]
+mod walks;

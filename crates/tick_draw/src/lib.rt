@@ -1,0 +1,21 @@
+//! Runs as pictures: the marks of a run, and the marks drawn as SVG.
+//!
+//! Start with `marks` and `code_marks`, which run a program or a code under a schedule, and with
+//! `picture`, which draws a list of marks.
+#![tactic(auto)]
+
+mod holding;
+mod lanes;
+mod layout;
+pub mod mark;
+mod marking;
+mod page;
+mod run;
+mod shapes;
+mod words;
+mod writing;
+
+pub use machine_core::NoMemory;
+pub use mark::{Holdings, Mark, Sight};
+pub use page::picture;
+pub use run::{code_marks, marks};

@@ -1,0 +1,59 @@
+// What all that is written is made of.
+ghost use Rattle.std.specs.Prelude.{◌≡◌, ◌++◌, OnOk};
+ghost use Rattle.std.specs.Fmt.{decimal};
+ghost use Rattle.std.specs.List.{flat_map};
+ghost use Rattle.tick_draw.specs.Escapes.{escaped, escaped_byte};
+
+use itoa::Buffer;
+use std::alloc::AllocError;
+
+/// Adds a text that is markup.
+pub fn push(out: &mut Vec<u8>, text: &str) -> Result<(), AllocError>
+    ensures { OnOk result (out.new.items ≡ out.old.items ++ text.now) }
+{
+    out.extend_from_slice(text.as_bytes())
+}
+
+/// Adds the digits of a number.
+pub fn push_number(out: &mut Vec<u8>, number: u64) -> Result<(), AllocError>
+    ensures { OnOk result (out.new.items ≡ out.old.items ++ decimal number) }
+{
+    push(out, Buffer::new().format(number))
+}
+
+/// Adds the digits of a great number.
+pub fn push_wide(out: &mut Vec<u8>, number: u128) -> Result<(), AllocError>
+    ensures { OnOk result (out.new.items ≡ out.old.items ++ decimal number) }
+{
+    push(out, Buffer::new().format(number))
+}
+
+/// Adds a text that is no markup.
+pub fn push_escaped(out: &mut Vec<u8>, text: &str) -> Result<(), AllocError>
+    ensures { OnOk result (out.new.items ≡ out.old.items ++ escaped text.now) }
+{
+    push_escaped_bytes(out, text.as_bytes())
+}
+
+fn push_escaped_bytes(out: &mut Vec<u8>, bytes: &[u8]) -> Result<(), AllocError>
+    ensures { OnOk result (out.new.items ≡ out.old.items ++ flat_map escaped_byte bytes.now) }
+{
+    for byte in bytes {
+        push_byte(out, *byte)?;
+    }
+    Ok(())
+}
+
+fn push_byte(out: &mut Vec<u8>, byte: u8) -> Result<(), AllocError>
+    ensures { OnOk result (out.new.items ≡ out.old.items ++ escaped_byte byte) }
+{
+    match byte {
+        b'&' => push(out, "&amp;"),
+        b'<' => push(out, "&lt;"),
+        b'>' => push(out, "&gt;"),
+        b'"' => push(out, "&quot;"),
+        b'\'' => push(out, "&#39;"),
+        0..=31 | 127 => push(out, "?"),
+        _ => out.extend_from_slice(&[byte]),
+    }
+}

@@ -1,0 +1,3 @@
+pub mod Draws
+pub mod Hunts
+pub mod prover

@@ -1,0 +1,4 @@
+pub mod Linked
+pub mod Followed
+pub mod Running
+pub mod Growing

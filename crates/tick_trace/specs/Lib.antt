@@ -1,0 +1,6 @@
+pub mod Numbers
+pub mod Shown
+pub mod StatementSteps
+pub mod InstructionSteps
+pub mod TraceText
+pub mod prover

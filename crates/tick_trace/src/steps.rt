@@ -1,0 +1,45 @@
+use code_core::Instr;
+use machine_core::Act;
+use ticket_core::Tickets;
+use word_core::LabelWord;
+
+/// A variable that a step wrote.
+#[derive(Clone, Copy, PartialEq, Eq, Debug)]
+pub struct Written {
+    /// Its number, in the order in which variables are declared.
+    pub variable: u8,
+    /// Its new value.
+    pub value: u32,
+}
+
+/// A step of a program on whole-number tickets. A step of a process that had stopped has neither a
+/// number nor an act.
+#[derive(Clone, Copy, PartialEq, Eq, Debug)]
+pub struct StatementStep {
+    pub process: u8,
+    /// Of the statement that it did, from 0 on in the order of the text; `None` where the process had
+    /// stopped or has ended with this step.
+    pub number: Option<usize>,
+    /// What others see of it.
+    pub act: Option<Act>,
+    /// What it wrote of the process's own variables.
+    pub written: Option<Written>,
+    /// The tickets of all processes after a stamp or a clear.
+    pub tickets: Option<Tickets>,
+}
+
+/// A step of a code on bounded labels.
+#[derive(Clone, Copy, PartialEq, Eq, Debug)]
+pub struct InstructionStep {
+    pub process: u8,
+    /// Where its instruction stands; of a process that had stopped, where its last stands.
+    pub place: u16,
+    /// `None` where the process had stopped.
+    pub instruction: Option<Instr>,
+    /// What others see of it.
+    pub act: Option<Act>,
+    /// Whether it is an exchange that was lost.
+    pub lost: bool,
+    /// The labels of all processes after a stamp or a clear.
+    pub labels: Option<LabelWord>,
+}

@@ -1,0 +1,47 @@
+//! What the program reads: files by their names, and standard input.
+use crate::fault::LabFault;
+use anyhow::{Error, anyhow};
+use std::fs::File;
+use std::io::Read;
+
+/// The most bytes that are read of a file: more than any program, code or schedule has.
+const MOST_BYTES: u64 = 64 * 1024 * 1024;
+
+/// The bytes of a file, or of standard input where the name is `-`.
+pub fn bytes_of(rt: &HostRuntime, name: &str) -> Result<Vec<u8>, LabFault> {
+    match opened(rt, name) {
+        Ok(bytes) => Ok(bytes),
+        Err(error) => Err(unread(rt, name, error)?),
+    }
+}
+
+/// A schedule, and where it is from: what is given itself, or after an `@` the file that has it.
+pub fn text_of<'a>(rt: &HostRuntime, given: &'a str) -> Result<(&'a str, String), LabFault> {
+    match given.strip_prefix("@") {
+        None => Ok(("SCHEDULE", String::from_str(rt.alloc(), given)?)),
+        Some(name) => match String::from_utf8(bytes_of(rt, name)?) {
+            Ok(text) => Ok((name, text)),
+            Err(_) => Err(unread(rt, name, anyhow!("no UTF-8"))?),
+        },
+    }
+}
+
+fn opened(rt: &HostRuntime, name: &str) -> Result<Vec<u8>, Error> {
+    if name == "-" {
+        return read(rt, rt.stdin());
+    }
+    read(rt, File::open(rt, name)?)
+}
+
+fn read<R: Read + Drop>(rt: &HostRuntime, reader: R) -> Result<Vec<u8>, Error> {
+    let mut bytes = Vec::new(rt.alloc());
+    reader.take(MOST_BYTES).read_to_end(&mut bytes)?;
+    if bytes.len() as u64 == MOST_BYTES {
+        return Err(anyhow!("longer than 64 MiB"));
+    }
+    Ok(bytes)
+}
+
+fn unread(rt: &HostRuntime, name: &str, error: Error) -> Result<LabFault, LabFault> {
+    Ok(LabFault::Host(error.context(String::from_str(rt.alloc(), name)?)))
+}
