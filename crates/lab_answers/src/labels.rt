@@ -12,11 +12,19 @@ use std::alloc::Global;
 
 /// The labels of `n` processes under the stamps and clears that a text spells, as a picture.
 pub fn labelled(alloc: Global, n: u8, text: &str) -> Result<Response, AnswerFault>
-    requires at_least_one { 1 ≤ n }
-    requires at_most_six { n ≤ 6 }
     ensures { IfOk result (DrawsLabels n text.now) }
 {
-    settled(alloc, frames_drawn(alloc, n, text))
+    settled(alloc, labels_drawn(alloc, n, text))
+}
+
+fn labels_drawn(alloc: Global, n: u8, text: &str) -> Result<Response, Stop>
+    ensures { IfOk result (λ response. (DrawsLabels n text.now response) × (response.status ≡ 0)) }
+{
+    if n < 1 || n > 6 {
+        let text = format!(in alloc; "N: error: there are 1 to 6 processes\n")?;
+        return Err(Stop::Refused(text.into_bytes()));
+    }
+    frames_drawn(alloc, n, text)
 }
 
 fn frames_drawn(alloc: Global, n: u8, text: &str) -> Result<Response, Stop>

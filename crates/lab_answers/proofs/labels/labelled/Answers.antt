@@ -4,5 +4,5 @@ use Rattle.lab_answers.proofs.labels.labelled.Goals as goal
 
 pub returns : goal.returns
 returns c =
-    settled_by c.frames_drawn.result c.settled.result (λ x h. h.0) (λ x report t told. undrawn t.nothing t.status)
-    c.frames_drawn.ensures (whatever_refused c.frames_drawn.result) c.settled.ensures
+    settled_by c.labels_drawn.result c.settled.result (λ x h. h.0) (λ x report t told. undrawn t.nothing t.status)
+    c.labels_drawn.ensures (whatever_refused c.labels_drawn.result) c.settled.ensures
