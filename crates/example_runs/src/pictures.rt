@@ -1,8 +1,8 @@
 //! Pictures that the documents show, drawn again.
 
 use crate::files::{file, program, tell};
-use anyhow::Error;
-use label_draw::{frames, write_frames};
+use anyhow::{Error, anyhow};
+use label_draw::{MOST_MOVES, frames, write_frames};
 use tick_draw::{marks, picture};
 use tick_play::{read_moves, read_schedule};
 
@@ -37,6 +37,9 @@ fn run_drawn(rt: &HostRuntime, name: &str) -> Result<String, Error> {
 
 fn labels_drawn(rt: &HostRuntime) -> Result<String, Error> {
     let moves = read_moves(rt.alloc(), MOVES, 3)?;
+    if moves.len() > MOST_MOVES {
+        return Err(anyhow!("too many moves"));
+    }
     let frames = frames(rt.alloc(), 3, moves.as_slice())?;
     Ok(write_frames(rt.alloc(), 3, frames.as_slice())?)
 }
