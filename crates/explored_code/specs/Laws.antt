@@ -1,11 +1,16 @@
 -- What holds of the code of a program where it holds of the program.
-use Rattle.std.specs.Prelude.{◌≡◌, ℕ, Bool, true, false, List}
+use Rattle.std.specs.Prelude.{◌≡◌, ℕ, Bool, true, false, List, slice_get, Some}
 use Rattle.std.specs.List.{list_any}
+use Rattle.machine_core.specs.declared.status.Trap.{Trap}
+use Rattle.machine_core.specs.declared.run_outcome.RunEnd.TheVariants.{Trapped}
+use Rattle.machine_core.specs.Observables.{RunObservables}
 use Rattle.tick_syntax.specs.Plain.{WholeProgram}
 use Rattle.tick_source.specs.Source.{source}
 use Rattle.tick_lower.specs.Lowered.{lowered, lowered_sizes}
 use Rattle.tick_sim.specs.Maps.{up}
 use Rattle.tick_sim.specs.Laws.{seen_of_code}
+use Rattle.tick_run.specs.Runs.{IsWholeRun}
+use Rattle.threaded_source.specs.Laws.{code_of}
 use Rattle.tick_explore.specs.Explored.{is_trap, has_trapped}
 use Rattle.tick_explore.specs.Searching.{NeverTraps}
 
@@ -17,3 +22,8 @@ pub record CodeLaw : Type 0 where
   pub never : (a : WholeProgram ℕ) → NeverTraps a → (schedule : List ℕ) → code_has_trapped a schedule ≡ false
   pub traps : (a : WholeProgram ℕ) (schedule : List ℕ) → has_trapped (source a schedule) ≡ true
       → code_has_trapped a (up (lowered_sizes a) (lowered a) schedule) ≡ true
+
+-- Where no process of a program traps under any schedule, none ends trapped in a run of its code on threads.
+abbrev pub ThreadsLaw : Type 0
+ThreadsLaw = (a : WholeProgram ℕ) → NeverTraps a → (turns outs : ℕ) (o : RunObservables) → IsWholeRun (code_of a) turns outs o
+    → (p : ℕ) (trap : Trap) → slice_get o.ends p ≡ Some (Trapped trap) → ⊥
