@@ -12,6 +12,8 @@ const STATUSES: &str = "Exit status: \
 6 explore met its limit. \
 All but the answer is told on standard error.";
 
+static RUNS_AND_TURNS: [&str; 2] = ["TIMES", "TURNS"];
+
 const ABOUT: &str =
     "Shows what a ticket program does under every schedule, under random ones, and step by step";
 
@@ -86,12 +88,12 @@ fn hunt<'a>(alloc: Global) -> Result<Command<'a>, AllocError> {
 fn threads<'a>(alloc: Global) -> Result<Arg<'a>, AllocError> {
     Arg::new(alloc, "threads")
         .long("threads")
-        .value_name("N")
+        .value_names(&RUNS_AND_TURNS)
         .num_args(2)
         .value_parser(value_parser!(u64).range(0..=1_000_000_000))
         .help(
-            "Runs the code on threads instead: the first N is how many times, the second how many turns \
-each process has; and prints how often each outcome came",
+            "Runs the code on threads instead, so many times, each process for at most so many turns; \
+and prints how often each outcome came",
         )
         .conflicts_with("seed")?
         .conflicts_with("runs")?
