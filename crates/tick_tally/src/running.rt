@@ -1,8 +1,8 @@
-ghost use Rattle.std.specs.Prelude.{◌≡◌, length, IfOk, string_bytes, vec_len};
+ghost use Rattle.std.specs.Prelude.{◌≡◌, ◌≤◌, length, IfOk, string_bytes, vec_len};
 ghost use Rattle.std.specs.List.{All, sum_by};
-ghost use Rattle.tick_tally.specs.Tallies.{IsOutcomeText};
+ghost use Rattle.tick_tally.specs.Tallies.{IsOutcomeText, AreDistinct, AreCommonestFirst, AreTiesInOrder};
 
-use crate::counting::{Counted, count_equal};
+use crate::counting::{Counted, count_texts};
 use code_core::Code;
 use machine_core::NoMemory;
 use std::alloc::{AllocError, Global};
@@ -77,10 +77,12 @@ pub fn tally<R: AllocGlobal + Threads + Wait>(
     turns: u64,
 ) -> Result<Vec<Counted>, RunFault>
     ensures times { IfOk result (λ all. sum_by (λ c. c.times) all.items ≡ times) }
+    ensures each { IfOk result (λ all. All (λ c. IsOutcomeText code.now turns (string_bytes c.outcome)) all.items) }
+    ensures positive { IfOk result (λ all. All (λ c. 1 ≤ c.times) all.items) }
+    ensures distinct { IfOk result (λ all. AreDistinct all.items) }
+    ensures commonest_first { IfOk result (λ all. AreCommonestFirst all.items) }
+    ensures ties { IfOk result (λ all. AreTiesInOrder all.items) }
 {
-    let mut texts = outcomes(rt, code, times, turns)?;
-    texts.sort()?;
-    let mut counts = count_equal(rt.alloc(), texts)?;
-    counts.sort_by_key(|c| !c.times)?;
-    Ok(counts)
+    let texts = outcomes(rt, code, times, turns)?;
+    Ok(count_texts(rt.alloc(), texts)?)
 }
