@@ -1,26 +1,21 @@
--- What the answers of the commands say, by their status.
-use Rattle.std.specs.Prelude.{◌≡◌, ◌≤◌, ◌⊎◌, ℕ, List, [], length, Ok}
+-- What the answers of `explore` and `hunt` say, by their status.
+use Rattle.std.specs.Prelude.{◌≡◌, ℕ, List}
 use Rattle.tick_kinds.specs.Resolution.{resolved}
-use Rattle.ticket_core.specs.declared.moves.Move.{Move}
-use Rattle.tick_play.specs.Moves.{moves_of}
-use Rattle.tick_explain.specs.Refusals.{IsProgram, IsProgramRefused, IsInputRefused, IsTakenInput}
+use Rattle.tick_explain.specs.Refusals.{IsProgram, IsProgramRefused}
 use Rattle.tick_explain.specs.Reports.{Tells}
 use Rattle.tick_syntax.specs.Plain.{WholeProgram}
 use Rattle.tick_explore.specs.Searching.{IsShortestTrap, NeverTraps}
 use Rattle.tick_explore.specs.Trap.{IsTrap}
 use Rattle.tick_hunt.specs.Hunts.{IsFirstTrap, IsMinimalTrap, NoRunTraps}
 use Rattle.tick_hunt.specs.declared.plan.Plan.{Plan}
-use Rattle.label_draw.specs.Frames.{frames_of}
-use Rattle.label_draw.specs.Pictures.{picture}
 use Rattle.lab_answers.specs.Lines.{minimal_line, shortest_line, some_line}
+use Rattle.lab_answers.specs.Responses.{Refuses}
 use Rattle.lab_answers.specs.Shown.{ShowsTrap}
 use Rattle.lab_answers.specs.declared.response.Response.{Response}
 
--- an input that is no accepted program: nothing goes out, and a report of its refusal is told
-pub record IsRefused (name input : List ℕ) (response : Response) : Type 0 where
-  pub status : response.status ≡ 1
-  pub nothing : response.out.items ≡ []
-  pub told : Tells (IsProgramRefused input) name input response.told.items
+-- an input that is no accepted program
+abbrev pub IsRefused : List ℕ → List ℕ → Response → Type 0
+IsRefused name input = Refuses (Tells (IsProgramRefused input) name input)
 
 -- All schedules of an accepted program: where a process traps under one this has P.
 pub data IsSearched (P : WholeProgram ℕ → List ℕ → Type 0) (found input : List ℕ) (response : Response) : Type 0 where
@@ -52,18 +47,3 @@ pub data IsHunted (plan : Plan) (input : List ℕ) (response : Response) : Type 
 pub data Hunts (name : List ℕ) (plan : Plan) (input : List ℕ) (response : Response) : Type 0 where
   hunted : IsHunted plan input response → Hunts name plan input response
   unhunted : IsRefused name input response → Hunts name plan input response
-
--- an input and what is wrong with it, which goes out
-pub data Explains (name input : List ℕ) (response : Response) : Type 0 where
-  taken : IsTakenInput input → response.status ≡ 0 → Explains name input response
-  explained : Tells (IsInputRefused input) name input response.out.items → response.status ≡ 1 → Explains name input response
-
--- it is done, or an input is refused
-abbrev pub IsDoneOrRefused : ℕ → Type 0
-IsDoneOrRefused status = (status ≡ 0) ⊎ (status ≡ 1)
-
--- the labels under the stamps and clears that a text spells, as a picture, of at most 400 moves
-pub data DrawsLabels (n : ℕ) (text : List ℕ) (response : Response) : Type 0 where
-  drawn : (moves : List Move) → moves_of n text ≡ Ok moves → length moves ≤ 400
-      → response.out.items ≡ picture n (frames_of n moves) → response.status ≡ 0 → DrawsLabels n text response
-  undrawn : response.out.items ≡ [] → response.status ≡ 1 → DrawsLabels n text response

@@ -1,4 +1,10 @@
 pub mod Answers
+pub mod Codes
+pub mod Explanations
+pub mod Labels
 pub mod Lines
+pub mod Responses
+pub mod Runs
 pub mod Shown
 pub mod Stops
+pub mod Tallies

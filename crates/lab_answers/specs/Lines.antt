@@ -1,7 +1,13 @@
--- The first lines of the answer where a trap was found: how it was found, and the schedule.
-use Rattle.std.specs.Prelude.{◌≡◌, ◌++◌, ℕ, List, codes}
+-- Lines of the answers.
+use Rattle.std.specs.Prelude.{◌≡◌, ◌++◌, ℕ, List, [], ◌∷◌, codes, string_bytes}
+use Rattle.std.specs.Fmt.{decimal}
 use Rattle.text_core.specs.Lines.{line_end}
 use Rattle.tick_play.specs.Written.{schedule_text}
+use Rattle.tick_play.specs.declared.schedule.ScheduleFault.{ScheduleFault}
+use Rattle.tick_play.specs.declared.schedule.ScheduleFault.TheVariants.{BadItem, NoSuchProcess, TooLong, NoMemory}
+use Rattle.tick_tally.specs.declared.counting.Counted.{Counted}
+
+-- The first lines where a trap was found: how it was found, and the schedule.
 
 abbrev pub shortest_line : List ℕ
 shortest_line = codes "a process traps under this schedule, and under no shorter one:"
@@ -18,3 +24,35 @@ trap_lines found schedule = found ++ line_end ++ schedule_text schedule ++ line_
 pub record BeginsWith (front text : List ℕ) : Type 0 where
   pub more : List ℕ
   pub whole : text ≡ front ++ more
+
+-- an input that is taken, and one with a schedule that is
+abbrev pub taken_line : List ℕ → List ℕ
+taken_line name = name ++ codes ": nothing is wrong\n"
+
+abbrev pub both_taken_line : List ℕ → List ℕ
+both_taken_line name = name ++ codes ": nothing is wrong, nor with the schedule\n"
+
+-- a program whose code isn't made
+abbrev pub too_long_line : List ℕ → List ℕ
+too_long_line name = name ++ codes ": error: its code would have more than 65535 instructions\n"
+
+-- labels that aren't drawn
+abbrev pub number_line : List ℕ
+number_line = codes "N: error: there are 1 to 6 processes\n"
+
+abbrev pub spelling_line : ScheduleFault → List ℕ
+spelling_line (BadItem place) = codes "STAMPS: error: bad item at " ++ decimal place ++ codes "\n"
+spelling_line (NoSuchProcess place) = codes "STAMPS: error: no such process at " ++ decimal place ++ codes "\n"
+spelling_line TooLong = codes "STAMPS: error: too many steps\n"
+spelling_line NoMemory = []
+
+abbrev pub many_line : ℕ → List ℕ
+many_line count = codes "STAMPS: error: there are " ++ decimal count ++ codes " moves, and at most 400 are drawn\n"
+
+-- how many of so many runs came to an outcome, and the outcome
+abbrev pub count_text : ℕ → Counted → List ℕ
+count_text times counted = decimal counted.times ++ codes " of " ++ decimal times ++ codes " runs:\n" ++ string_bytes counted.outcome
+
+abbrev pub count_texts : ℕ → List Counted → List ℕ
+count_texts times [] = []
+count_texts times (counted ∷ counts) = count_text times counted ++ count_texts times counts

@@ -1,18 +1,21 @@
 //! `ticklab explain`.
-ghost use Rattle.std.specs.Prelude.{◌≡◌, IfOk};
-ghost use Rattle.lab_answers.specs.Answers.{Explains, IsDoneOrRefused};
+ghost use Rattle.std.specs.Prelude.{◌≡◌, IfOk, MatchResult};
+ghost use Rattle.tick_explain.specs.Refusals.{IsInputRefused};
+ghost use Rattle.tick_explain.specs.Reports.{Tells};
+ghost use Rattle.lab_answers.specs.Explanations.{Explains, ExplainsBoth, ExplainsSchedule, HasProcesses};
 
 use crate::fault::AnswerFault;
-use crate::response::{DONE, REFUSED, Response, answer};
+use crate::response::{DONE, REFUSED, Response, answer, output};
+use base::NoMemory;
 use std::alloc::Global;
-use tick_explain::{begins_code, code_in, explain, explain_schedule, program_in};
+use tick_explain::{begins_code, code_in, explain, explain_refusal, explain_schedule, program_in};
 
 /// What is wrong with an input, a program or a code; `name` is that of its file. The report is the answer.
 pub fn explained(alloc: Global, name: &str, input: &[u8]) -> Result<Response, AnswerFault>
     ensures { IfOk result (Explains name.now input.now) }
 {
     match explain(alloc, name, input)? {
-        Some(report) => Ok(reported(alloc, report)),
+        Some(report) => Ok(output(alloc, REFUSED, report)),
         None => {
             let text = format!(in alloc; "{name}: nothing is wrong\n")?;
             Ok(answer(alloc, DONE, text))
@@ -29,40 +32,46 @@ pub fn schedule_explained(
     from: &str,
     schedule: &str,
 ) -> Result<Response, AnswerFault>
-    ensures { IfOk result (λ response. IsDoneOrRefused response.status) }
+    ensures { IfOk result (ExplainsBoth name.now input.now from.now schedule.now) }
 {
-    if let Some(report) = explain(alloc, name, input)? {
-        return Ok(reported(alloc, report));
-    }
-    let n = processes_of(alloc, input)?;
-    if let Some(report) = explain_schedule(alloc, from, schedule, n)? {
-        return Ok(reported(alloc, report));
-    }
-    let text = format!(in alloc; "{name}: nothing is wrong, nor with the schedule\n")?;
-    Ok(answer(alloc, DONE, text))
-}
-
-fn reported(alloc: Global, report: Vec<u8>) -> Response
-    ensures status { result.status ≡ 1 }
-    ensures out { result.out ≡ report }
-{
-    Response {
-        status: REFUSED,
-        out: report,
-        told: Vec::new(alloc),
+    match processes_of(alloc, name, input)? {
+        Ok(n) => explained_for(alloc, n, name, from, schedule),
+        Err(report) => Ok(output(alloc, REFUSED, report)),
     }
 }
 
-// How many processes a program or a code has; what is neither has none.
-fn processes_of(alloc: Global, input: &[u8]) -> Result<u8, AnswerFault> {
+// What is wrong with a schedule of so many processes.
+fn explained_for(
+    alloc: Global,
+    n: u8,
+    name: &str,
+    from: &str,
+    schedule: &str,
+) -> Result<Response, AnswerFault>
+    ensures { IfOk result (ExplainsSchedule n name.now from.now schedule.now) }
+{
+    match explain_schedule(alloc, from, schedule, n)? {
+        Some(report) => Ok(output(alloc, REFUSED, report)),
+        None => {
+            let text = format!(in alloc; "{name}: nothing is wrong, nor with the schedule\n")?;
+            Ok(answer(alloc, DONE, text))
+        }
+    }
+}
+
+// How many processes an input has, or the report of its refusal.
+fn processes_of(alloc: Global, name: &str, input: &[u8]) -> Result<Result<u8, Vec<u8>>, NoMemory>
+    ensures { IfOk result (λ found. MatchResult found (HasProcesses input.now) (λ report. Tells (IsInputRefused input.now) name.now input.now report.items)) }
+{
     if begins_code(input) {
-        return match code_in(alloc, input)? {
-            Ok(code) => Ok(code.sizes().processes()),
-            Err(_) => Ok(0),
-        };
-    }
-    match program_in(alloc, input)? {
-        Ok(program) => Ok(program.processes()),
-        Err(_) => Ok(0),
+        match code_in(alloc, input)? {
+            Ok(code) => Ok(Ok(code.sizes().processes())),
+            Err(refusal) => Ok(Err(explain_refusal(alloc, name, input, refusal)?)),
+        }
+    } else {
+        match program_in(alloc, input)? {
+            Ok(program) => Ok(Ok(program.processes())),
+            Err(refusal) => Ok(Err(explain_refusal(alloc, name, input, refusal)?)),
+        }
     }
 }

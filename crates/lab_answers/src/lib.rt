@@ -1,7 +1,8 @@
 //! What `ticklab` answers: for each command what goes to standard output, what to standard error, and
 //! the exit status, by the texts that were read.
 //!
-//! Start with `explored`; each command has a file of its own. `specs/Answers.antt` says what a status means.
+//! Start with `explored`; each command has a file of its own. `specs/Answers.antt` says what a status of
+//! `explore` and `hunt` means, the files beside it what the others give out.
 #![tactic(auto)]
 
 mod drawing;

@@ -1,17 +1,17 @@
 //! What was read, as what it has to be.
-ghost use Rattle.std.specs.Prelude.{◌≡◌, ◌<◌, All, IfErr, IfOk, Ok};
-ghost use Rattle.tick_kinds.specs.Resolution.{resolved};
-ghost use Rattle.tick_lower.specs.Lowered.{lowered, lowered_sizes};
+ghost use Rattle.std.specs.Prelude.{◌≡◌, ◌<◌, All, Err, IfErr, IfOk, Ok, string_bytes};
 ghost use Rattle.tick_play.specs.Moves.{moves_of as moves_spelled, mover};
 ghost use Rattle.tick_play.specs.Schedule.{schedule_of as schedule_spelled};
 ghost use Rattle.tick_explain.specs.Refusals.{IsProgram, IsProgramRefused, IsScheduleRefused};
 ghost use Rattle.tick_explain.specs.Reports.{Tells};
+ghost use Rattle.lab_answers.specs.Codes.{HasCode, HasNoCode, program_code};
+ghost use Rattle.lab_answers.specs.Lines.{spelling_line};
 ghost use Rattle.lab_answers.specs.Stops.{IfRefused};
 
 use crate::fault::AnswerFault;
 use crate::stop::Stop;
 use code_core::Code;
-use std::alloc::Global;
+use std::alloc::{AllocError, Global};
 use tick_explain::{explain_refusal, explain_schedule, program_in};
 use tick_kinds::Program;
 use tick_lower::{LowerFault, lower};
@@ -49,7 +49,9 @@ pub fn schedule_of(alloc: Global, name: &str, text: &str, n: u8) -> Result<Vec<u
 
 /// The code of a program; `name` is that of its file.
 pub fn code_of(alloc: Global, name: &str, program: &Program) -> Result<Code, Stop>
-    ensures { IfOk result (λ code. code ≡ record { sizes = lowered_sizes (resolved program.now); instructions = lowered (resolved program.now) }) }
+    ensures code { IfOk result (λ code. code ≡ program_code program.now) }
+    ensures has_code { IfOk result (λ code. HasCode program.now) }
+    ensures refused { IfErr result (λ stop. IfRefused stop (HasNoCode name.now program.now)) }
 {
     match lower(alloc, program) {
         Ok(code) => Ok(code),
@@ -67,13 +69,30 @@ pub fn code_of(alloc: Global, name: &str, program: &Program) -> Result<Code, Sto
 pub fn moves_of(alloc: Global, text: &str, n: u8) -> Result<Vec<Move>, Stop>
     ensures ok { IfOk result (λ moves. moves_spelled n text.now ≡ Ok moves.items) }
     ensures in_range { IfOk result (λ moves. All (λ move. mover move < n) moves.items) }
+    ensures refused { IfErr result (λ stop. IfRefused stop (λ report. (fault : ScheduleFault) × (moves_spelled n text.now ≡ Err fault) × (report ≡ spelling_line fault))) }
 {
     match read_moves(alloc, text, n) {
         Ok(moves) => Ok(moves),
         Err(ScheduleFault::NoMemory) => Err(Stop::Fault(AnswerFault::NoMemory)),
         Err(fault) => {
-            let text = format!(in alloc; "STAMPS: error: {fault}\n")?;
-            Err(Stop::Refused(text.into_bytes()))
+            let line = spelling_line(alloc, fault)?;
+            Err(Stop::Refused(line.into_bytes()))
         }
+    }
+}
+
+// Why a text spells no moves.
+fn spelling_line(alloc: Global, fault: ScheduleFault) -> Result<String, AllocError>
+    ensures { IfOk result (λ line. string_bytes line ≡ spelling_line fault) }
+{
+    match fault {
+        ScheduleFault::BadItem(place) => {
+            format!(in alloc; "STAMPS: error: bad item at {place}\n")
+        }
+        ScheduleFault::NoSuchProcess(place) => {
+            format!(in alloc; "STAMPS: error: no such process at {place}\n")
+        }
+        ScheduleFault::TooLong => String::from_str(alloc, "STAMPS: error: too many steps\n"),
+        ScheduleFault::NoMemory => Ok(String::new(alloc)),
     }
 }

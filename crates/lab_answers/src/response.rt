@@ -31,9 +31,18 @@ pub fn answer(alloc: Global, status: u8, text: String) -> Response
     ensures out { result.out.items ≡ string_bytes text }
     ensures told { result.told.items ≡ [] }
 {
+    output(alloc, status, text.into_bytes())
+}
+
+/// The same of bytes.
+pub fn output(alloc: Global, status: u8, out: Vec<u8>) -> Response
+    ensures status { result.status ≡ status }
+    ensures out { result.out ≡ out }
+    ensures told { result.told.items ≡ [] }
+{
     Response {
         status,
-        out: text.into_bytes(),
+        out,
         told: Vec::new(alloc),
     }
 }

@@ -1,12 +1,16 @@
 //! `ticklab hunt --threads`.
-ghost use Rattle.std.specs.Prelude.{◌≡◌, IfOk};
-ghost use Rattle.lab_answers.specs.Answers.{IsDoneOrRefused};
+ghost use Rattle.std.specs.Prelude.{◌≡◌, ◌++◌, IfErr, IfOk, OnOk, string_bytes};
+ghost use Rattle.lab_answers.specs.Lines.{count_text, count_texts};
+ghost use Rattle.lab_answers.specs.Responses.{Gives};
+ghost use Rattle.lab_answers.specs.Stops.{IfRefused};
+ghost use Rattle.lab_answers.specs.Tallies.{IsTally, IsUncoded, Tallies};
 
 use crate::fault::AnswerFault;
 use crate::reading::{code_of, program_of};
 use crate::response::{DONE, Response, answer, settled};
 use crate::stop::Stop;
 use base::NoMemory;
+use std::alloc::{AllocError, Global};
 use std::fmt::Write;
 use std::sync::Wait;
 use std::thread::Threads;
@@ -21,7 +25,7 @@ pub fn tallied<R: AllocGlobal + Threads + Wait>(
     times: u32,
     turns: u64,
 ) -> Result<Response, AnswerFault>
-    ensures { IfOk result (λ response. IsDoneOrRefused response.status) }
+    ensures { IfOk result (Tallies name.now input.now times turns) }
 {
     settled(rt.alloc(), runs_counted(rt, name, input, times, turns))
 }
@@ -33,14 +37,29 @@ fn runs_counted<R: AllocGlobal + Threads + Wait>(
     times: u32,
     turns: u64,
 ) -> Result<Response, Stop>
-    ensures { IfOk result (λ response. response.status ≡ 0) }
+    ensures ok { IfOk result (Gives 0 (IsTally times turns input.now)) }
+    ensures refused { IfErr result (λ stop. IfRefused stop (IsUncoded name.now input.now)) }
 {
     let program = program_of(rt.alloc(), name, input)?;
     let code = code_of(rt.alloc(), name, &program)?;
-    let mut text = String::new(rt.alloc());
-    for counted in &tally(rt, &code, times, turns)? {
-        writeln!(text, "{} of {times} runs:", counted.times)?;
-        text.push_str(&counted.outcome)?;
-    }
+    let counts = tally(rt, &code, times, turns)?;
+    let text = counts_text(rt.alloc(), times, counts.as_slice())?;
     Ok(answer(rt.alloc(), DONE, text))
+}
+
+fn counts_text(alloc: Global, times: u32, counts: &[Counted]) -> Result<String, AllocError>
+    ensures { IfOk result (λ text. string_bytes text ≡ count_texts times counts.now) }
+{
+    let mut text = String::new(alloc);
+    for counted in counts {
+        push_counted(&mut text, times, counted)?;
+    }
+    Ok(text)
+}
+
+fn push_counted(text: &mut String, times: u32, counted: &Counted) -> Result<(), AllocError>
+    ensures { OnOk result (string_bytes text.new ≡ string_bytes text.old ++ count_text times counted.now) }
+{
+    writeln!(text, "{} of {times} runs:", counted.times)?;
+    text.push_str(&counted.outcome)
 }

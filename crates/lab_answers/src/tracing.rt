@@ -1,7 +1,10 @@
 //! `ticklab trace`.
-ghost use Rattle.std.specs.Prelude.{◌≡◌, ◌<◌, All, IfOk};
+ghost use Rattle.std.specs.Prelude.{◌≡◌, ◌<◌, All, IfErr, IfOk, string_bytes};
 ghost use Rattle.tick_kinds.specs.Resolution.{resolved};
-ghost use Rattle.lab_answers.specs.Answers.{IsDoneOrRefused};
+ghost use Rattle.lab_answers.specs.Codes.{HasNoCode, IsCodeless};
+ghost use Rattle.lab_answers.specs.Responses.{Gives};
+ghost use Rattle.lab_answers.specs.Runs.{IsInstructionTrace, IsRun, IsStatementTrace, IsTrace, IsUnrun, Traces};
+ghost use Rattle.lab_answers.specs.Stops.{IfRefused};
 
 use crate::fault::AnswerFault;
 use crate::reading::{code_of, program_of, schedule_of};
@@ -28,7 +31,7 @@ pub fn traced(
     schedule: &str,
     is_code: bool,
 ) -> Result<Response, AnswerFault>
-    ensures { IfOk result (λ response. IsDoneOrRefused response.status) }
+    ensures { IfOk result (Traces name.now input.now from.now schedule.now is_code) }
 {
     settled(
         alloc,
@@ -44,16 +47,32 @@ fn steps_told(
     schedule: &str,
     is_code: bool,
 ) -> Result<Response, Stop>
-    ensures { IfOk result (λ response. response.status ≡ 0) }
+    ensures ok { IfOk result (Gives 0 (IsRun (IsTrace is_code) input.now schedule.now)) }
+    ensures refused { IfErr result (λ stop. IfRefused stop (IsUnrun name.now input.now from.now schedule.now is_code)) }
 {
     let program = program_of(alloc, name, input)?;
-    let schedule = schedule_of(alloc, from, schedule, program.processes())?;
-    let text = if is_code {
-        code_text(alloc, name, &program, schedule.as_slice())?
-    } else {
-        source_text(alloc, &program, input, schedule.as_slice())?
-    };
+    let steps = schedule_of(alloc, from, schedule, program.processes())?;
+    let text = trace_of(alloc, name, &program, input, steps.as_slice(), is_code)?;
     Ok(answer(alloc, DONE, text))
+}
+
+fn trace_of(
+    alloc: Global,
+    name: &str,
+    program: &Program,
+    input: &[u8],
+    schedule: &[u8],
+    is_code: bool,
+) -> Result<String, Stop>
+    requires { All (λ p. p < (resolved program.now).processes) schedule.now }
+    ensures ok { IfOk result (λ text. IsTrace is_code program.now schedule.now (string_bytes text)) }
+    ensures refused { IfErr result (λ stop. IfRefused stop (IsCodeless is_code name.now program.now)) }
+{
+    if is_code {
+        code_text(alloc, name, program, schedule)
+    } else {
+        Ok(source_text(alloc, program, input, schedule)?)
+    }
 }
 
 /// The steps of the program that this text is.
@@ -64,6 +83,7 @@ pub fn source_text(
     schedule: &[u8],
 ) -> Result<String, NoMemory>
     requires { All (λ p. p < (resolved program.now).processes) schedule.now }
+    ensures { IfOk result (λ text. IsStatementTrace program.now schedule.now (string_bytes text)) }
 {
     let spots = spots_in(alloc, input)?;
     let steps = source_steps(alloc, program, schedule)?;
@@ -84,6 +104,8 @@ fn spots_in<'a>(alloc: Global, input: &'a [u8]) -> Result<Vec<Spot<'a>>, NoMemor
 
 fn code_text(alloc: Global, name: &str, program: &Program, schedule: &[u8]) -> Result<String, Stop>
     requires { All (λ p. p < (resolved program.now).processes) schedule.now }
+    ensures ok { IfOk result (λ text. IsInstructionTrace program.now schedule.now (string_bytes text)) }
+    ensures refused { IfErr result (λ stop. IfRefused stop (HasNoCode name.now program.now)) }
 {
     let code = code_of(alloc, name, program)?;
     let listing = match write_code(alloc, &code) {

@@ -1,0 +1,72 @@
+-- What is answered of the run of a program, or of its code, under a schedule: a trace, or a picture.
+use Rattle.std.specs.Prelude.{◌≡◌, ℕ, Bool, true, false, List, map, Ok}
+use Rattle.std.proofs.Common.{Bor}
+use Rattle.tick_syntax.specs.Plain.{Name, WholeProgram}
+use Rattle.tick_kinds.specs.Resolution.{resolved}
+use Rattle.tick_play.specs.Schedule.{schedule_of}
+use Rattle.tick_explain.specs.Refusals.{IsProgram, IsProgramRefused, IsScheduleRefused}
+use Rattle.tick_explain.specs.Reports.{Tells}
+use Rattle.tick_trace.specs.declared.spots.Spot.{Spot}
+use Rattle.tick_trace.specs.declared.steps.InstructionStep.{InstructionStep}
+use Rattle.tick_trace.specs.declared.steps.StatementStep.{StatementStep}
+use Rattle.tick_trace.specs.InstructionSteps.{AreInstructionSteps}
+use Rattle.tick_trace.specs.StatementSteps.{AreStatementSteps}
+use Rattle.tick_trace.specs.TraceText.{instruction_lines, statement_lines}
+use Rattle.tick_draw.specs.Marks.{marks_of_code, program_marks}
+use Rattle.tick_draw.specs.Pictures.{IsPicture}
+use Rattle.lab_answers.specs.Codes.{HasCode, IsCodeless, program_code}
+use Rattle.lab_answers.specs.Responses.{Gives, Refuses}
+use Rattle.lab_answers.specs.declared.response.Response.{Response}
+
+-- The report of a run that isn't made: the program, the schedule or the code, in this order.
+pub data IsUnrun (name input from text : List ℕ) (is_code : Bool) (report : List ℕ) : Type 0 where
+  program_refused : Tells (IsProgramRefused input) name input report → IsUnrun name input from text is_code report
+  schedule_refused : (is : IsProgram input) → Tells (IsScheduleRefused is.program.processes text) from text report
+      → IsUnrun name input from text is_code report
+  code_refused : (is : IsProgram input) (schedule : List ℕ) → schedule_of is.program.processes text ≡ Ok schedule
+      → IsCodeless is_code name is.program report → IsUnrun name input from text is_code report
+
+-- Of the run of the program that the input is, under the schedule that the text spells, this is told.
+pub record IsRun (P : WholeProgram Name → List ℕ → List ℕ → Type 0) (input text out : List ℕ) : Type 0 where
+  pub is : IsProgram input
+  pub schedule : List ℕ
+  pub spelled : schedule_of is.program.processes text ≡ Ok schedule
+  pub told : P is.program schedule out
+
+pub data AnswersRun (P : WholeProgram Name → List ℕ → List ℕ → Type 0) (name input from text : List ℕ) (is_code : Bool) (response : Response) : Type 0 where
+  run : Gives 0 (IsRun P input text) response → AnswersRun P name input from text is_code response
+  unrun : Refuses (IsUnrun name input from text is_code) response → AnswersRun P name input from text is_code response
+
+-- The lines of the steps of a program. The spots are those of its statements in the text; where these are, no contract says.
+pub record IsStatementTrace (a : WholeProgram Name) (schedule out : List ℕ) : Type 0 where
+  pub spots : List Spot
+  pub steps : List StatementStep
+  pub are_steps : AreStatementSteps (resolved a) schedule steps
+  pub lines : out ≡ statement_lines a spots 0 steps
+
+-- The same of its code. The words are those of its instructions; which these are, no contract says.
+pub record IsInstructionTrace (a : WholeProgram Name) (schedule out : List ℕ) : Type 0 where
+  pub has_code : HasCode a
+  pub words : List (Bor (List ℕ))
+  pub steps : List InstructionStep
+  pub are_steps : AreInstructionSteps (program_code a) schedule steps
+  pub lines : out ≡ instruction_lines a words 0 steps
+
+abbrev pub IsTrace : Bool → WholeProgram Name → List ℕ → List ℕ → Type 0
+IsTrace true a schedule out = IsInstructionTrace a schedule out
+IsTrace false a schedule out = IsStatementTrace a schedule out
+
+abbrev pub Traces : List ℕ → List ℕ → List ℕ → List ℕ → Bool → Response → Type 0
+Traces name input from text is_code = AnswersRun (IsTrace is_code) name input from text is_code
+
+abbrev pub row_names : WholeProgram Name → List (List ℕ)
+row_names a = map (λ row. row.letters) a.registers
+
+-- the picture of the program's run, or of its code's
+abbrev pub IsRunPicture : Bool → List ℕ → WholeProgram Name → List ℕ → List ℕ → Type 0
+IsRunPicture true name a schedule out =
+    HasCode a × IsPicture name a.processes (row_names a) (marks_of_code (program_code a) schedule) out
+IsRunPicture false name a schedule out = IsPicture name a.processes (row_names a) (program_marks (resolved a) schedule) out
+
+abbrev pub Draws : List ℕ → List ℕ → List ℕ → List ℕ → Bool → Response → Type 0
+Draws name input from text is_code = AnswersRun (IsRunPicture is_code name) name input from text is_code
