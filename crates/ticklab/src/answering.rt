@@ -23,19 +23,13 @@ pub fn response_to(rt: &HostRuntime, request: Request<'_>) -> Result<Response, L
             steps,
             is_uniform,
         } => {
-            let mode = if is_uniform {
-                Mode::Uniform
-            } else {
-                Mode::Bursts
-            };
             let plan = Plan {
                 seed,
                 runs,
                 steps,
-                mode,
+                mode: mode(is_uniform),
             };
-            let input = bytes_of(rt, file)?;
-            Ok(hunted(rt.alloc(), file, input.as_slice(), plan)?)
+            hunt(rt, file, plan)
         }
         Request::Trace {
             file,
@@ -67,6 +61,18 @@ fn explore(
     };
     progress.end();
     Ok(response)
+}
+
+fn mode(is_uniform: bool) -> Mode {
+    if is_uniform {
+        return Mode::Uniform;
+    }
+    Mode::Bursts
+}
+
+fn hunt(rt: &HostRuntime, file: &str, plan: Plan) -> Result<Response, LabFault> {
+    let input = bytes_of(rt, file)?;
+    Ok(hunted(rt.alloc(), file, input.as_slice(), plan)?)
 }
 
 fn trace(

@@ -1,12 +1,20 @@
 use anyhow::Error as Cause;
 use lab_answers::AnswerFault;
 use std::alloc::AllocError;
+use std::io;
+use std::io::ErrorKind;
 use thiserror::Error;
 
 /// Why the program comes to no answer.
 #[derive(Debug, Drop, Error)]
 pub enum LabFault {
-    /// A file can't be read, or the answer not be written.
+    /// The words of the command line can't be had, as where one is no UTF-8.
+    #[error("the command line: {0:#}")]
+    Words(Cause),
+    /// A file can't be read: its name, and why.
+    #[error("{0}: {1:#}")]
+    Unread(String, Cause),
+    /// The answer can't be written.
     #[error("{0:#}")]
     Host(Cause),
     /// Memory or a thread was refused.
@@ -18,7 +26,8 @@ impl LabFault {
     /// The exit status that tells it.
     pub fn status(&self) -> u8 {
         match self {
-            LabFault::Host(_) => 3,
+            LabFault::Words(_) => 2,
+            LabFault::Unread(..) | LabFault::Host(_) => 3,
             LabFault::Answer(_) => 4,
         }
     }
@@ -33,5 +42,14 @@ impl From<AnswerFault> for LabFault {
 impl From<AllocError> for LabFault {
     fn from(error: AllocError) -> LabFault {
         LabFault::Answer(AnswerFault::from(error))
+    }
+}
+
+impl From<io::Error> for LabFault {
+    fn from(error: io::Error) -> LabFault {
+        match error.kind() {
+            ErrorKind::OutOfMemory => LabFault::Answer(AnswerFault::NoMemory),
+            _ => LabFault::Host(Cause::from(error)),
+        }
     }
 }

@@ -1,6 +1,6 @@
 //! What the program reads: files by their names, and standard input.
 use crate::fault::LabFault;
-use anyhow::{Error, anyhow};
+use anyhow::anyhow;
 use std::fs::File;
 use std::io::Read;
 
@@ -10,8 +10,10 @@ const MOST_BYTES: u64 = 64 * 1024 * 1024;
 /// The bytes of a file, or of standard input where the name is `-`.
 pub fn bytes_of(rt: &HostRuntime, name: &str) -> Result<Vec<u8>, LabFault> {
     match opened(rt, name) {
-        Ok(bytes) => Ok(bytes),
-        Err(error) => Err(unread(rt, name, error)?),
+        Err(LabFault::Host(cause)) => {
+            Err(LabFault::Unread(String::from_str(rt.alloc(), name)?, cause))
+        }
+        answer => answer,
     }
 }
 
@@ -21,27 +23,26 @@ pub fn text_of<'a>(rt: &HostRuntime, given: &'a str) -> Result<(&'a str, String)
         None => Ok(("SCHEDULE", String::from_str(rt.alloc(), given)?)),
         Some(name) => match String::from_utf8(bytes_of(rt, name)?) {
             Ok(text) => Ok((name, text)),
-            Err(_) => Err(unread(rt, name, anyhow!("no UTF-8"))?),
+            Err(_) => Err(LabFault::Unread(
+                String::from_str(rt.alloc(), name)?,
+                anyhow!("no UTF-8"),
+            )),
         },
     }
 }
 
-fn opened(rt: &HostRuntime, name: &str) -> Result<Vec<u8>, Error> {
+fn opened(rt: &HostRuntime, name: &str) -> Result<Vec<u8>, LabFault> {
     if name == "-" {
         return read(rt, rt.stdin());
     }
     read(rt, File::open(rt, name)?)
 }
 
-fn read<R: Read + Drop>(rt: &HostRuntime, reader: R) -> Result<Vec<u8>, Error> {
+fn read<R: Read + Drop>(rt: &HostRuntime, reader: R) -> Result<Vec<u8>, LabFault> {
     let mut bytes = Vec::new(rt.alloc());
     reader.take(MOST_BYTES).read_to_end(&mut bytes)?;
     if bytes.len() as u64 == MOST_BYTES {
-        return Err(anyhow!("longer than 64 MiB"));
+        return Err(LabFault::Host(anyhow!("longer than 64 MiB")));
     }
     Ok(bytes)
-}
-
-fn unread(rt: &HostRuntime, name: &str, error: Error) -> Result<LabFault, LabFault> {
-    Ok(LabFault::Host(error.context(String::from_str(rt.alloc(), name)?)))
 }

@@ -12,7 +12,6 @@ mod progress;
 use crate::answering::response_to;
 use crate::fault::LabFault;
 use crate::files::bytes_of;
-use anyhow::Error;
 use lab_answers::{Response, tallied};
 use lab_line::{Line, Request, asked};
 use std::env::args;
@@ -55,8 +54,18 @@ fn main(rt: HostRuntime) -> ExitCode {
 
 fn words_of(rt: &HostRuntime) -> Result<Vec<String>, LabFault> {
     match args(rt) {
-        Ok(words) => Ok(words.collect(rt.alloc())?),
-        Err(error) => Err(LabFault::Host(Error::from(error))),
+        Ok(given) => {
+            let mut words = Vec::new(rt.alloc());
+            for word in given {
+                words.reserve(1)?;
+                words.push_reserved(word);
+            }
+            Ok(words)
+        }
+        Err(error) => match LabFault::from(error) {
+            LabFault::Host(cause) => Err(LabFault::Words(cause)),
+            fault => Err(fault),
+        },
     }
 }
 
@@ -79,8 +88,5 @@ fn written(rt: &HostRuntime, response: &Response) -> Result<u8, LabFault> {
 }
 
 fn write_all<W: Write + Drop>(mut writer: W, bytes: &[u8]) -> Result<(), LabFault> {
-    match writer.write_all(bytes) {
-        Ok(()) => Ok(()),
-        Err(error) => Err(LabFault::Host(Error::from(error))),
-    }
+    Ok(writer.write_all(bytes)?)
 }
