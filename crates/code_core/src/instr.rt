@@ -2,20 +2,24 @@ use machine_core::Op;
 
 /// One instruction of a process. Values stand on a stack of the process's own; slots of variables,
 /// scans and register rows count from 0, and so do the places of a code.
+// They don't stand in the order of their kinds in a word: where each variant has its kind's number,
+// LLVM takes the one for the other, and a step jumps by a table twice, once to decode and once to make.
 #[derive(Clone, Copy, PartialEq, Eq, Debug)]
 pub enum Instr {
     /// Pushes this value.
     Push(u32),
-    /// Pushes a variable.
-    Load(u8),
     /// Pushes the number of the process.
     Me,
     /// Pushes the number of processes.
     Count,
-    /// Takes two values, the right operand on top, and pushes what the operator makes of them.
-    Bin(Op),
+    /// Pushes a variable.
+    Load(u8),
     /// Takes a value into a variable.
     Store(u8),
+    /// Takes two values, the right operand on top, and pushes what the operator makes of them.
+    Bin(Op),
+    /// Takes a value and gives it out.
+    Out,
     /// Takes the number of a process, and reads its register of this row into this variable.
     Get(u8, u8),
     /// Takes a value into the process's own register of this row.
@@ -27,24 +31,22 @@ pub enum Instr {
     /// Where the shared labels are those of the scratch, puts what stands beside it in their place,
     /// which is the stamp, and goes on; else goes back to this place.
     Exchange(u16),
+    /// Makes the process absent from the shared labels, which gives its ticket up.
+    Clear,
     /// Copies the shared labels to a scan.
     Scan(u8),
     /// Copies the first scan into the second.
     Copy(u8, u8),
+    /// Takes the number of a process, and puts into this variable whether it is present in this scan:
+    /// 1 where it is, else 0.
+    Held(u8, u8),
     /// Takes the numbers of two processes, the second on top, and compares their labels in this
     /// scan into this variable.
     Older(u8, u8),
-    /// Takes a value and gives it out.
-    Out,
     /// Takes a value, and goes to this place where it is 0.
     JumpZero(u16),
     /// Goes to this place.
     Jump(u16),
     /// Ends the process.
     Halt,
-    /// Makes the process absent from the shared labels, which gives its ticket up.
-    Clear,
-    /// Takes the number of a process, and puts into this variable whether it is present in this scan:
-    /// 1 where it is, else 0.
-    Held(u8, u8),
 }
