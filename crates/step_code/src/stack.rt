@@ -42,8 +42,10 @@ impl Stack {
         ensures stack { on_stack self.new ≡ drop count (on_stack self.old) }
         ensures room { vec_capacity self.new.values ≡ vec_capacity self.old.values }
     {
-        let rest = self.values.len() - count;
-        self.values.truncate(rest);
+        // Each is known to be there, so none is asked for.
+        for _ in 0..count {
+            self.values.take_last();
+        }
     }
 
     /// The value that so many stand above.
