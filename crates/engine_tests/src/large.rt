@@ -118,6 +118,27 @@ fn deepest(rt: HostRuntime) -> Result<(), Fail> {
     prints(&rt, program.as_str(), printed.as_str())
 }
 
+// As many loops as there may be open at once, of which the innermost gives out.
+#[test]
+fn deepest_runs(rt: HostRuntime) -> Result<(), Fail> {
+    let opened = repeated(
+        rt.alloc(),
+        "processes 1; begin ",
+        "while 1 { ",
+        64,
+        "out 7; ",
+    )?;
+    let program = repeated(rt.alloc(), opened.as_str(), "} ", 64, "end")?;
+    let report = "0 out 7\nstatus 0 running\n";
+    answers(
+        &rt,
+        &["ticketc", "source", "0*65"],
+        program.as_str(),
+        report,
+    )?;
+    answers(&rt, &["ticketc", "code", "0*130"], program.as_str(), report)
+}
+
 #[test]
 fn longest_name(rt: HostRuntime) -> Result<(), Fail> {
     let name = repeated(rt.alloc(), "", "x", 64, "")?;

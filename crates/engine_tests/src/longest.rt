@@ -52,6 +52,13 @@ fn long_maps(rt: HostRuntime) -> Result<(), Fail> {
     says(&rt, &back, IDLE, schedule.as_str())
 }
 
+// 10,000,000 steps of the code, as many as a schedule may have.
+#[test]
+fn longest_lifted(rt: HostRuntime) -> Result<(), Fail> {
+    let lift = ["ticketc", "lift", "0*1666667 1*1666667"];
+    says(&rt, &lift, IDLE, "0*5000000 1*5000000\n")
+}
+
 const ONE_SEVENS: &[u8] = b"processes 1; begin while 1 { out 7; } end";
 
 #[test]

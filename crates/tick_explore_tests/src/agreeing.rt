@@ -1,14 +1,7 @@
 //! What is explored, beside a second search.
 
-use crate::examples::{
-    BAKERY_WITH_FAULT, BARRIER_WITH_FAULT, MULTI_WRITER_REGISTER_WITH_FAULT, TICKET_LOCK_WITH_FAULT,
-};
-use crate::programs::{
-    BAKERY, BAKERY_ASSERT, BAKERY_BROKEN, CONSENSUS_BROKEN, DECISION_REPAIRED, DECISION_WITH_FAULT,
-    FIRST_COME_QUEUE, LOOP_WITH_TRAP, PETERSON, QUEUE_REPAIRED, QUEUE_WITH_FAULT, TICKET_COUNT,
-    TWO_TICKETS,
-};
 use crate::second::{Found, second_search};
+use algorithms::{examples, known};
 use std::alloc::Global;
 use std::test::Fail;
 use testing::{accepted, is_same};
@@ -30,20 +23,20 @@ fn agrees(alloc: Global, text: &str) -> Result<(), Fail> {
 #[test]
 fn two_processes(rt: HostRuntime) -> Result<(), Fail> {
     for text in [
-        TWO_TICKETS,
-        FIRST_COME_QUEUE,
-        LOOP_WITH_TRAP,
-        QUEUE_WITH_FAULT,
-        QUEUE_REPAIRED,
-        DECISION_WITH_FAULT,
-        BAKERY,
-        BAKERY_ASSERT,
-        BAKERY_BROKEN,
-        CONSENSUS_BROKEN,
-        PETERSON,
-        BAKERY_WITH_FAULT,
-        BARRIER_WITH_FAULT,
-        TICKET_LOCK_WITH_FAULT,
+        examples::TWO_TICKETS,
+        examples::FIRST_COME_QUEUE,
+        examples::LOOP_WITH_TRAP,
+        examples::QUEUE_WITH_FAULT,
+        examples::QUEUE_REPAIRED,
+        examples::DECISION_WITH_FAULT,
+        known::BAKERY,
+        known::BAKERY_ASSERT,
+        known::BAKERY_BROKEN,
+        known::CONSENSUS_BROKEN,
+        known::PETERSON,
+        examples::BAKERY_WITH_FAULT,
+        examples::BARRIER_WITH_FAULT,
+        examples::TICKET_LOCK_WITH_FAULT,
     ] {
         agrees(rt.alloc(), text)?;
     }
@@ -52,7 +45,7 @@ fn two_processes(rt: HostRuntime) -> Result<(), Fail> {
 
 #[test]
 fn three_processes(rt: HostRuntime) -> Result<(), Fail> {
-    agrees(rt.alloc(), DECISION_REPAIRED)?;
-    agrees(rt.alloc(), MULTI_WRITER_REGISTER_WITH_FAULT)?;
-    agrees(rt.alloc(), TICKET_COUNT)
+    agrees(rt.alloc(), examples::DECISION_REPAIRED)?;
+    agrees(rt.alloc(), examples::MULTI_WRITER_REGISTER_WITH_FAULT)?;
+    agrees(rt.alloc(), examples::TICKET_COUNT)
 }

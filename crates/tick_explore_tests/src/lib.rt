@@ -1,17 +1,15 @@
 //! Tests of what is explored: how many states programs have, which schedules trap, where a search is cut
-//! off, and that a second, slow search finds the same.
+//! off, that a second, slow search finds the same, and that merged steps say what single ones say.
 //!
-//! Start with `sizes`; `programs` has the texts.
+//! Start with `sizes`; the texts stand in the crate `algorithms`.
 #![tactic(auto)]
 
 #[cfg(test)]
 mod agreeing;
 #[cfg(test)]
-mod examples;
-#[cfg(test)]
 mod limits;
 #[cfg(test)]
-mod programs;
+mod merged;
 #[cfg(test)]
 mod schedules;
 #[cfg(test)]
@@ -20,3 +18,5 @@ mod second;
 mod sizes;
 #[cfg(test)]
 mod watching;
+#[cfg(test)]
+mod ways;

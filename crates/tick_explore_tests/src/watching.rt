@@ -1,6 +1,6 @@
 //! How far a search is, as a watch is told it.
 
-use crate::programs::{TICKET_COUNT, TWO_TICKETS};
+use algorithms::examples::{TICKET_COUNT, TWO_TICKETS};
 use std::alloc::Global;
 use std::test::Fail;
 use testing::{accepted, is_same};

@@ -1,10 +1,8 @@
 //! Faults that are found, each by a schedule that needs all its steps, and programs that have none.
 
-use crate::programs::{
-    ALONE, BAKERY, BAKERY_WITH_FAULT, DECISION_REPAIRED, DECISION_WITH_FAULT, QUEUE_REPAIRED,
-    QUEUE_WITH_FAULT, SERVICE_WITH_FAULT, SIX, WRITERS_WITH_FAULT,
-};
-use crate::replay::{needs_all, traps};
+use crate::programs::{ALONE, SERVICE_WITH_FAULT, SIX};
+use crate::replay::needs_all;
+use algorithms::{examples, traps};
 use std::alloc::Global;
 use std::test::Fail;
 use testing::{accepted, holds, is_same};
@@ -32,9 +30,9 @@ fn is_found(alloc: Global, text: &str, mode: Mode) -> Result<(), Fail> {
 
 fn each_fault(alloc: Global, mode: Mode) -> Result<(), Fail> {
     for text in [
-        QUEUE_WITH_FAULT,
-        BAKERY_WITH_FAULT,
-        DECISION_WITH_FAULT,
+        examples::QUEUE_WITH_FAULT,
+        examples::BAKERY_WITH_FAULT,
+        examples::DECISION_WITH_FAULT,
         SERVICE_WITH_FAULT,
         ALONE,
         SIX,
@@ -47,7 +45,11 @@ fn each_fault(alloc: Global, mode: Mode) -> Result<(), Fail> {
 #[test]
 fn faults_by_bursts(rt: HostRuntime) -> Result<(), Fail> {
     each_fault(rt.alloc(), Mode::Bursts)?;
-    is_found(rt.alloc(), WRITERS_WITH_FAULT, Mode::Bursts)
+    is_found(
+        rt.alloc(),
+        examples::MULTI_WRITER_REGISTER_WITH_FAULT,
+        Mode::Bursts,
+    )
 }
 
 #[test]
@@ -57,7 +59,11 @@ fn faults_step_by_step(rt: HostRuntime) -> Result<(), Fail> {
 
 #[test]
 fn right_programs(rt: HostRuntime) -> Result<(), Fail> {
-    for text in [QUEUE_REPAIRED, BAKERY, DECISION_REPAIRED] {
+    for text in [
+        examples::QUEUE_REPAIRED,
+        examples::BAKERY,
+        examples::DECISION_REPAIRED,
+    ] {
         let program = accepted(rt.alloc(), text)?;
         for mode in [Mode::Bursts, Mode::Uniform] {
             is_same(

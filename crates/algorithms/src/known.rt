@@ -1,176 +1,5 @@
-//! Programs that are explored, without their comments.
-
-pub static TWO_TICKETS: &str = "\
-processes 2;
-var first;
-scan tickets;
-begin
-  stamp;
-  tickets = scan;
-  first = older tickets 0 1;
-  out first;
-end
-";
-
-pub static FIRST_COME_QUEUE: &str = "\
-processes 2;
-var other, before;
-scan s;
-reg waiting;
-begin
-  put waiting 1;
-  stamp;
-  while (other < n) {
-    before = get waiting other;
-    if before {
-      s = scan;
-      before = older s other me;
-    } else { }
-    if before { } else { other = (other + 1); }
-  }
-  out me;
-  put waiting 0;
-end
-";
-
-pub static LOOP_WITH_TRAP: &str = "\
-processes 2;
-var left, sum;
-begin
-  left = (me + 1);
-  while (sum < 100) {
-    sum = (sum + (12 / left));
-    out sum;
-    left = (left - 1);
-  }
-end
-";
-
-pub static TICKET_COUNT: &str = "\
-processes 3;
-var other, below, count;
-scan s;
-begin
-  stamp;
-  s = scan;
-  while (other < n) {
-    below = older s other me;
-    count = (count + below);
-    other = (other + 1);
-  }
-  out count;
-end
-";
-
-pub static REGISTERS: &str = "\
-processes 3;
-var other, youngest, younger, value;
-scan s;
-reg values;
-begin
-  put values ((me + 1) * 100);
-  stamp;
-  s = scan;
-  while (other < n) {
-    younger = older s youngest other;
-    if younger { youngest = other; } else { }
-    other = (other + 1);
-  }
-  value = get values youngest;
-  out value;
-end
-";
-
-pub static QUEUE_WITH_FAULT: &str = "\
-processes 2;
-var other, before, alone;
-scan s;
-reg waiting, inside;
-begin
-  stamp;
-  put waiting 1;
-  while (other < n) {
-    before = get waiting other;
-    if before {
-      s = scan;
-      before = older s other me;
-    } else { }
-    if before { } else { other = (other + 1); }
-  }
-  put inside 1;
-  other = get inside (1 - me);
-  alone = (1 / (other == 0));
-  put inside 0;
-  put waiting 0;
-end
-";
-
-pub static QUEUE_REPAIRED: &str = "\
-processes 2;
-var other, before, alone;
-scan s;
-reg waiting, inside;
-begin
-  put waiting 1;
-  stamp;
-  while (other < n) {
-    before = get waiting other;
-    if before {
-      s = scan;
-      before = older s other me;
-    } else { }
-    if before { } else { other = (other + 1); }
-  }
-  put inside 1;
-  other = get inside (1 - me);
-  alone = (1 / (other == 0));
-  put inside 0;
-  put waiting 0;
-end
-";
-
-pub static DECISION_WITH_FAULT: &str = "\
-processes 2;
-var other, input, decision, before, same;
-scan s;
-reg inputs, decisions;
-begin
-  put inputs (100 + me);
-  stamp;
-  s = scan;
-  decision = (100 + me);
-  input = get inputs (1 - me);
-  before = older s (1 - me) me;
-  if (input * before) { decision = input; } else { }
-  out decision;
-  put decisions decision;
-  other = get decisions (1 - me);
-  same = (1 / ((other == 0) + (other == decision)));
-end
-";
-
-pub static DECISION_REPAIRED: &str = "\
-processes 3;
-var other, input, decision, before, came, same;
-scan s;
-reg inputs, decisions;
-begin
-  if (me < 2) {
-    put inputs (100 + me);
-    stamp;
-    s = scan;
-    decision = (100 + me);
-    input = get inputs (1 - me);
-    before = older s (1 - me) me;
-    came = older s 2 (1 - me);
-    if (came * before) { decision = input; } else { }
-    out decision;
-    put decisions decision;
-    other = get decisions (1 - me);
-    same = (1 / ((other == 0) + (other == decision)));
-  } else { }
-end
-";
+//! Algorithms that read registers, labels and queues, without their comments. Those that end in `_BROKEN`
+//! don't do what they claim, and those in `_ASSERT` trap where that shows.
 
 pub static BAKERY: &str = "\
 processes 2;
@@ -302,6 +131,25 @@ begin
 end
 ";
 
+pub static CONSENSUS_ASSERT: &str = "\
+processes 2;
+var o, c, d, q, x;
+scan s;
+reg input, decided;
+begin
+  put input (100 + me);
+  stamp;
+  s = scan;
+  o = (1 - me);
+  c = get input o;
+  d = (100 + me);
+  if c { q = older s o me; if q { d = c; } else { } } else { }
+  put decided d;
+  c = get decided o;
+  x = (1 / ((c == 0) + (c == d)));
+end
+";
+
 pub static CONSENSUS_BROKEN: &str = "\
 processes 2;
 var o, c, d, q;
@@ -338,6 +186,33 @@ begin
     }
     out 1;
     out 0;
+    put waiting 0;
+    round = (round + 1);
+  }
+end
+";
+
+pub static FCFS_ASSERT: &str = "\
+processes 3;
+var j, b, round, x;
+scan s;
+reg waiting, inside;
+begin
+  while (round < 3) {
+    stamp;
+    put waiting 1;
+    j = 0;
+    while (j < n) {
+      b = get waiting j;
+      if b { s = scan; b = older s j me; } else { }
+      if b { } else { j = (j + 1); }
+    }
+    put inside 1;
+    b = get inside ((me + 1) % n);
+    x = (1 / (b == 0));
+    b = get inside ((me + 2) % n);
+    x = (1 / (b == 0));
+    put inside 0;
     put waiting 0;
     round = (round + 1);
   }
@@ -591,53 +466,5 @@ begin
   put account (bal + me);
   out 0;
   put want 0;
-end
-";
-
-// `CONSENSUS_BROKEN`, with what has to hold: who finds that the other has decided decided so too.
-pub static CONSENSUS_ASSERT: &str = "\
-processes 2;
-var o, c, d, q, x;
-scan s;
-reg input, decided;
-begin
-  put input (100 + me);
-  stamp;
-  s = scan;
-  o = (1 - me);
-  c = get input o;
-  d = (100 + me);
-  if c { q = older s o me; if q { d = c; } else { } } else { }
-  put decided d;
-  c = get decided o;
-  x = (1 / ((c == 0) + (c == d)));
-end
-";
-
-// `FCFS_BROKEN`, with what has to hold: who is in finds nobody else in.
-pub static FCFS_ASSERT: &str = "\
-processes 3;
-var j, b, round, x;
-scan s;
-reg waiting, inside;
-begin
-  while (round < 3) {
-    stamp;
-    put waiting 1;
-    j = 0;
-    while (j < n) {
-      b = get waiting j;
-      if b { s = scan; b = older s j me; } else { }
-      if b { } else { j = (j + 1); }
-    }
-    put inside 1;
-    b = get inside ((me + 1) % n);
-    x = (1 / (b == 0));
-    b = get inside ((me + 2) % n);
-    x = (1 / (b == 0));
-    put inside 0;
-    put waiting 0;
-    round = (round + 1);
-  }
 end
 ";

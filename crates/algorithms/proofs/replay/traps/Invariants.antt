@@ -1,7 +1,7 @@
 use Rattle.std.proofs.Common.{◌<◌}
 use Rattle.std.specs.List.{All}
 use Rattle.tick_kinds.specs.Resolution.{resolved}
-use Rattle.tick_hunt_tests.proofs.replay.traps.Given as goal
+use Rattle.algorithms.proofs.replay.traps.Given as goal
 
 -- no number that no process has
 abbrev pub invariant-loop-p : goal.invariant-loop-p
