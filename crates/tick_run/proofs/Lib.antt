@@ -1,7 +1,7 @@
 mod Serving
 mod Turning
-mod Working
 mod Ending
+mod Working
 mod Readying
 mod Together
 mod Final

@@ -10,8 +10,11 @@ use Rattle.code_core.specs.Instructions.{StepCode}
 use Rattle.step_code.specs.Process.{OneProcess, IsOf, is_out, gives_out}
 use Rattle.stamp_table.specs.Passes.{TableView, PassView, Holds, mine}
 use Rattle.tick_run.specs.declared.worker.Turn.TheVariants as T
-use Rattle.tick_run.specs.prover.Turns.{IsTurn}
-use Rattle.tick_run.specs.prover.Work.{IsWorking}
+use Rattle.machine_core.specs.declared.run_outcome.RunEnd.{RunEnd}
+use Rattle.tick_run.specs.prover.Alone.{RanSo}
+use Rattle.tick_run.specs.prover.Turns.{IsTurn, end_by}
+use Rattle.tick_run.specs.prover.Work.{IsWorking, IsWork}
+use Rattle.tick_run.proofs.Ending.{ran_out}
 
 module _ (t : TableView) (c : StepCode) (p turns outs count : ℕ) (one next : OneProcess) (pass further : PassView) (given : List ℕ) (room : ℕ)
     (was : IsWorking t c p turns outs count one pass given room) (me : next.me ≡ p) (of : IsOf c next)
@@ -46,6 +49,18 @@ module _ (t : TableView) (c : StepCode) (p turns outs count : ℕ) (one next : O
         few = omega (arith, few, longer);
         has_room = was.has_room;
       }
+
+-- it makes no further one
+pub worked : (t : TableView) (c : StepCode) (p turns outs count : ℕ) (one : OneProcess) (pass : PassView) (given : List ℕ) (room : ℕ) (end : RunEnd)
+    → IsWorking t c p turns outs count one pass given room → count ≤ turns → (one.process.status ≡ Running → count ≡ turns)
+    → end ≡ end_by one.process.status → IsWork t c p turns outs pass given end
+worked t c p turns outs count one pass given room end was turns_kept spent ends = record {
+  here = was.here;
+  held = was.held;
+  ran =
+      subst (RanSo c p turns outs (mine p pass.seen) given) (sym ends)
+      (ran_out c p turns outs count one.process (mine p pass.seen) given was.at turns_kept was.few spent);
+}
 
 -- an instruction that gives out a value, and not one too many
 pub room_for_one : (status : Status) (next : Option Instr) (instruction : Instr) (given outs : ℕ) → status ≡ Running → next ≡ Some instruction

@@ -1,6 +1,6 @@
 // One process on its thread.
 
-ghost use Rattle.std.specs.Prelude.{◌≡◌, ◌&&◌, nat_le, Some, slice_get, vec_items, vec_capacity};
+ghost use Rattle.std.specs.Prelude.{◌≡◌, ◌≢◌, ◌↔◌, ◌&&◌, nat_le, IsTrue, Some, slice_get, vec_items, vec_capacity};
 ghost use Rattle.step_code.specs.Process.{IsOf, is_out};
 ghost use Rattle.step_code.specs.Safety.{HasWord, IsLawful};
 ghost use Rattle.stamp_table.specs.Passes.{Holds, mine};
@@ -60,7 +60,12 @@ pub fn work<G: Gate>(table: &StampTable, code: &Code, limits: Limits, job: Job<G
             &mut pass,
             &mut gate,
         ) {
-            Turn::Went => {}
+            // A process that has stopped leaves here, so that no turn has to ask whether it had.
+            Turn::Went => {
+                if has_stopped(proc.status()) {
+                    break;
+                }
+            }
             Turn::Gave(value) => outputs.push_reserved(value),
         }
     }
@@ -74,6 +79,13 @@ fn is_past(instruction: Instr, given: usize, outs: u32) -> bool
     ensures { result ≡ (is_out (Some instruction) && nat_le outs given) }
 {
     matches!(instruction, Instr::Out) && given >= outs as usize
+}
+
+#[inline(always)]
+fn has_stopped(status: Status) -> bool
+    ensures { IsTrue result ↔ status ≢ Status.Running }
+{
+    !matches!(status, Status::Running)
 }
 
 // How a process of this status ends where it makes no further instruction.
