@@ -30,17 +30,15 @@ returns g c =
     let turns = c.args.limits.turns in let outs = c.args.limits.outs in
     elim c.loop-test.branch [
       | else-loop-test w ↦
-          let turns_done : turns ≤ c.loop.counter = w.loop-test.false in let counted : c.loop.counter ≤ turns = c.loop.auto.counter-end in
           rw w.pass-is (worked t code p turns outs c.loop.counter c.loop.proc c.loop.pass (vec_items c.loop.outputs) (vec_capacity c.loop.outputs) c.end_of-end.result
-          c.loop.invariant counted (λ running. omega (arith, turns_done, counted)) (search rules))
+          c.loop.invariant (omega (arith, c.loop.auto.counter-end)) (λ running. omega (arith, w.loop-test.false, c.loop.auto.counter-end)) (search rules))
       | then-loop-test+in_default w ↦
-          let counted : c.loop.counter ≤ turns = c.loop.auto.counter-end in
           rw w.pass-is (worked t code p turns outs c.loop.counter c.loop.proc c.loop.pass (vec_items c.loop.outputs) (vec_capacity c.loop.outputs) c.end_of-end.result
-          c.loop.invariant counted (λ running. absurd (w.in_default.ensures.stopped running)) (search rules))
+          c.loop.invariant (omega (arith, c.loop.auto.counter-end)) (λ running. absurd (w.in_default.ensures.stopped running)) (search rules))
       | then-loop-test+in-Some+else-is_past+in-Went+then-has_stopped w ↦
-          let made = w.make_one.ensures in let more : c.loop.counter < turns = w.loop-test.true in
+          let made = w.make_one.ensures in
           rw w.pass-is (worked t code p turns outs (c.loop.counter + 1) w.make_one.new.proc w.make_one.new.pass (vec_items c.loop.outputs) (vec_capacity c.loop.outputs) c.end_of-end.result
           (after_went t code p turns outs c.loop.counter c.loop.proc w.make_one.new.proc c.loop.pass w.make_one.new.pass (vec_items c.loop.outputs) (vec_capacity c.loop.outputs)
           c.loop.invariant made.me made.of made.here made.held w.in-Went.ensures.turn)
-          (omega (arith, more)) (search rules) (search rules))
+          (omega (arith, w.loop-test.true)) (search rules) (search rules))
     ]
