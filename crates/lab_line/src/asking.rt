@@ -1,3 +1,8 @@
+ghost use Rattle.std.specs.Prelude.{◌≢◌, IfOk, map, string_bytes};
+ghost use Rattle.clap.specs.Simple.{subcommand_rows_of};
+ghost use Rattle.clap.specs.Values.{kind_of};
+ghost use Rattle.lab_line.specs.Lines.{Answers, IsFound, IsTold};
+
 use crate::commands::command_line;
 use crate::reading::{request_in, runs_in};
 use crate::request::{Request, Runs};
@@ -8,8 +13,8 @@ use std::alloc::{AllocError, Global};
 /// What a command line asks for, or what is told in place of an answer.
 #[derive(Debug, Drop)]
 pub enum Line<'a> {
-    Request(Request<'a>),
-    Runs(Runs<'a>),
+    Request(Request<&'a str>),
+    Runs(Runs<&'a str>),
     /// The help that was asked for.
     Help(String),
     /// The words are no command, and why.
@@ -18,7 +23,9 @@ pub enum Line<'a> {
 
 /// What the words of a command line ask for, of which the first is the program's name. The only error is
 /// that memory was refused.
-pub fn asked<'a>(alloc: Global, words: &'a [String]) -> Result<Line<'a>, AllocError> {
+pub fn asked<'a>(alloc: Global, words: &'a [String]) -> Result<Line<'a>, AllocError>
+    ensures { IfOk result (Answers (map string_bytes words.entry.now)) }
+{
     match command_line(alloc)?.try_get_matches_from(words) {
         Ok(matches) => match line_in(&matches) {
             Some(line) => Ok(line),
@@ -28,14 +35,19 @@ pub fn asked<'a>(alloc: Global, words: &'a [String]) -> Result<Line<'a>, AllocEr
     }
 }
 
-fn line_in<'a>(matches: &ArgMatches<'a>) -> Option<Line<'a>> {
+// Nothing where `clap` took a number that is out of its range.
+fn line_in<'a>(matches: &ArgMatches<'a>) -> Option<Line<'a>>
+    ensures { IsFound (subcommand_rows_of matches.now) result }
+{
     match runs_in(matches) {
         Some(runs) => Some(Line::Runs(runs)),
         None => Some(Line::Request(request_in(matches)?)),
     }
 }
 
-fn told<'a>(alloc: Global, error: Error) -> Result<Line<'a>, AllocError> {
+fn told<'a>(alloc: Global, error: Error) -> Result<Line<'a>, AllocError>
+    ensures { IfOk result (λ line. IsTold line × (kind_of error ≢ ErrorKind.OutOfMemory)) }
+{
     match error.kind() {
         ErrorKind::OutOfMemory => Err(AllocError),
         ErrorKind::DisplayHelp => Ok(Line::Help(format!(in alloc; "{error}")?)),

@@ -1,15 +1,25 @@
 //! The answer to a request: its files are read, and `lab_answers` makes the rest.
+ghost use Rattle.std.specs.Prelude.{◌≡◌, IfOk, option_map};
+ghost use Rattle.lab_answers.specs.Labels.{DrawsLabels};
+ghost use Rattle.lab_answers.specs.Runs.{Draws, Traces};
+ghost use Rattle.lab_line.specs.Found.{plain_request};
+ghost use Rattle.ticklab.specs.Responses.{Responds, RespondsAfterReading, RespondsExplaining, RespondsExploring, RespondsHunting, SearchesBy, mode_of};
+
 use crate::fault::LabFault;
 use crate::files::{bytes_of, text_of};
 use crate::progress::Progress;
 use lab_answers::{
-    Response, drawn, explained, explored, explored_merged, hunted, labelled, schedule_explained,
-    traced,
+    AnswerFault, Response, drawn, explained, explored, explored_merged, hunted, labelled,
+    schedule_explained, traced,
 };
 use lab_line::Request;
+use std::alloc::Global;
+use tick_explore::Watch;
 use tick_hunt::{Mode, Plan};
 
-pub fn response_to(rt: &HostRuntime, request: Request<'_>) -> Result<Response, LabFault> {
+pub fn response_to(rt: &HostRuntime, request: Request<&str>) -> Result<Response, LabFault>
+    ensures { IfOk result (Responds (plain_request request.entry)) }
+{
     match request {
         Request::Explore {
             file,
@@ -42,57 +52,78 @@ pub fn response_to(rt: &HostRuntime, request: Request<'_>) -> Result<Response, L
             is_code,
         } => draw(rt, file, schedule, is_code),
         Request::Explain { file, schedule } => explain(rt, file, schedule),
-        Request::Labels { processes, moves } => Ok(labelled(rt.alloc(), processes, moves)?),
+        Request::Labels { processes, moves } => label(rt, processes, moves),
     }
 }
 
-fn explore(
-    rt: &HostRuntime,
-    file: &str,
-    limit: u32,
-    is_merged: bool,
-) -> Result<Response, LabFault> {
+fn explore(rt: &HostRuntime, file: &str, limit: u32, is_merged: bool) -> Result<Response, LabFault>
+    ensures { IfOk result (RespondsExploring file.now is_merged) }
+{
     let input = bytes_of(rt, file)?;
     let mut progress = Progress::new(rt);
-    let response = if is_merged {
-        explored_merged(rt.alloc(), file, input.as_slice(), limit, &mut progress)?
-    } else {
-        explored(rt.alloc(), file, input.as_slice(), limit, &mut progress)?
-    };
+    let response = searched(
+        rt.alloc(),
+        file,
+        input.as_slice(),
+        limit,
+        is_merged,
+        &mut progress,
+    )?;
     progress.end();
     Ok(response)
 }
 
-fn mode(is_uniform: bool) -> Mode {
+fn searched<W: Watch>(
+    alloc: Global,
+    file: &str,
+    input: &[u8],
+    limit: u32,
+    is_merged: bool,
+    watch: &mut W,
+) -> Result<Response, AnswerFault>
+    ensures { IfOk result (SearchesBy is_merged file.now input.now) }
+{
+    if is_merged {
+        return explored_merged(alloc, file, input, limit, watch);
+    }
+    explored(alloc, file, input, limit, watch)
+}
+
+fn mode(is_uniform: bool) -> Mode
+    ensures { result ≡ mode_of is_uniform }
+{
     if is_uniform {
         return Mode::Uniform;
     }
     Mode::Bursts
 }
 
-fn hunt(rt: &HostRuntime, file: &str, plan: Plan) -> Result<Response, LabFault> {
+fn hunt(rt: &HostRuntime, file: &str, plan: Plan) -> Result<Response, LabFault>
+    ensures { IfOk result (RespondsHunting file.now plan) }
+{
     let input = bytes_of(rt, file)?;
     Ok(hunted(rt.alloc(), file, input.as_slice(), plan)?)
 }
 
-fn trace(
-    rt: &HostRuntime,
-    file: &str,
-    schedule: &str,
-    is_code: bool,
-) -> Result<Response, LabFault> {
+fn trace(rt: &HostRuntime, file: &str, schedule: &str, is_code: bool) -> Result<Response, LabFault>
+    ensures { IfOk result (RespondsAfterReading Traces file.now schedule.now is_code) }
+{
     let input = bytes_of(rt, file)?;
     let (from, text) = text_of(rt, schedule)?;
     Ok(traced(rt.alloc(), file, input.as_slice(), from, &text, is_code)?)
 }
 
-fn draw(rt: &HostRuntime, file: &str, schedule: &str, is_code: bool) -> Result<Response, LabFault> {
+fn draw(rt: &HostRuntime, file: &str, schedule: &str, is_code: bool) -> Result<Response, LabFault>
+    ensures { IfOk result (RespondsAfterReading Draws file.now schedule.now is_code) }
+{
     let input = bytes_of(rt, file)?;
     let (from, text) = text_of(rt, schedule)?;
     Ok(drawn(rt.alloc(), file, input.as_slice(), from, &text, is_code)?)
 }
 
-fn explain(rt: &HostRuntime, file: &str, schedule: Option<&str>) -> Result<Response, LabFault> {
+fn explain(rt: &HostRuntime, file: &str, schedule: Option<&str>) -> Result<Response, LabFault>
+    ensures { IfOk result (RespondsExplaining file.now (option_map (λ text. text.now) schedule.entry)) }
+{
     let input = bytes_of(rt, file)?;
     match schedule {
         None => Ok(explained(rt.alloc(), file, input.as_slice())?),
@@ -101,4 +132,10 @@ fn explain(rt: &HostRuntime, file: &str, schedule: Option<&str>) -> Result<Respo
             Ok(schedule_explained(rt.alloc(), file, input.as_slice(), from, &text)?)
         }
     }
+}
+
+fn label(rt: &HostRuntime, processes: u8, moves: &str) -> Result<Response, LabFault>
+    ensures { IfOk result (DrawsLabels processes moves.now) }
+{
+    Ok(labelled(rt.alloc(), processes, moves)?)
 }

@@ -1,3 +1,6 @@
+ghost use Rattle.std.specs.Prelude.{◌≡◌};
+ghost use Rattle.ticklab.specs.Faults.{status_of};
+
 use anyhow::Error as Cause;
 use lab_answers::AnswerFault;
 use std::alloc::AllocError;
@@ -23,8 +26,18 @@ pub enum LabFault {
 }
 
 impl LabFault {
+    /// Why there are no words: memory was refused, or what the host has is none.
+    pub fn of_words(error: io::Error) -> LabFault {
+        match LabFault::from(error) {
+            LabFault::Host(cause) => LabFault::Words(cause),
+            fault => fault,
+        }
+    }
+
     /// The exit status that tells it.
-    pub fn status(&self) -> u8 {
+    pub fn status(&self) -> u8
+        ensures { result ≡ status_of self.now }
+    {
         match self {
             LabFault::Words(_) => 2,
             LabFault::Unread(..) | LabFault::Host(_) => 3,

@@ -1,0 +1,41 @@
+-- One more subcommand, and an argument that has a rule on others.
+use Rattle.std.proofs.Common.{◌≡◌, ◌∙◌, ◌∷◌, ◌++◌, ◌&&◌, arith, List, [], Bool, true, false, ap, ap₂, not, refl}
+use Rattle.std.proofs.lemmas.Bool.{ne_eqb}
+use Rattle.std.specs.Prelude.{ℕ}
+use Rattle.std.specs.Borrow.{Bor}
+use Rattle.clap.specs.Adds.{AddsConflicts}
+use Rattle.clap.specs.Walk.{is_empty, rule_of}
+use Rattle.clap.specs.Words.{AddsSubcommand}
+use Rattle.clap.specs.Simple.{App, app_of, with_subcommand}
+use Rattle.clap.specs.declared.builder.arg.Arg.{Arg}
+use Rattle.clap.specs.declared.builder.command.Command.{Command}
+use Rattle.clap.specs.declared.builder.command.Command.TheViews.{out-Command}
+use Rattle.lab_line.specs.CommandLine.{with_app}
+
+pub with_one_more : (old sub new : Command) (above app : App)
+    → AddsSubcommand old sub new
+    → (out-Command sub).has_globals ≡ false
+    → app_of old ≡ above
+    → app_of sub ≡ app
+    → app_of new ≡ with_app above app
+with_one_more old sub new above app adds is_local is_above is_app =
+    adds.shape is_local ∙ ap₂ (λ (a b : App). with_subcommand a b.top) is_above is_app
+
+-- that no rule on other arguments stands but for its conflicts
+abbrev free_aside : Arg → Bool
+free_aside a = is_empty a.needs.items && (is_empty a.r_ifs.items && (is_empty a.r_ifs_all.items
+    && (is_empty a.r_unless.items && is_empty a.r_unless_all.items)))
+
+never_empty : {X : Type 0} (xs : List X) (x : X) → is_empty (xs ++ x ∷ []) ≡ false
+never_empty [] x = refl
+never_empty (y ∷ ys) x = ne_eqb _ 0 (λ none. absurd (omega (arith, none)))
+
+-- the rule is no longer free of others
+pub in_conflict : (old new : Arg) (id : Bor (List ℕ)) → AddsConflicts old new (id ∷ [])
+    → rule_of new ≡ record (rule_of old) { is_free = false }
+in_conflict old new id adds =
+    ap rule_of adds.0 ∙ go old.exclusive _ (ap is_empty adds.1 ∙ never_empty old.conflicts.items id)
+  where
+    go : (e b : Bool) → b ≡ false → record (rule_of old) { is_free = not e && (b && free_aside old) } ≡ record (rule_of old) { is_free = false }
+    go true b none = refl
+    go false b none = rw none refl

@@ -1,0 +1,4 @@
+pub mod CommandLine
+pub mod Found
+pub mod Lines
+pub mod Laws

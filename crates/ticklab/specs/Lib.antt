@@ -1,0 +1,4 @@
+pub mod Schedules
+pub mod Responses
+pub mod Faults
+pub mod Serving
