@@ -1,5 +1,5 @@
 ghost use Rattle.std.specs.Prelude.{◌≡◌};
-ghost use Rattle.ticklab.specs.Faults.{status_of};
+ghost use Rattle.ticklab.specs.Faults.{IsOfHost, IsOfWords, status_of};
 
 use anyhow::Error as Cause;
 use lab_answers::AnswerFault;
@@ -27,7 +27,9 @@ pub enum LabFault {
 
 impl LabFault {
     /// Why there are no words: memory was refused, or what the host has is none.
-    pub fn of_words(error: io::Error) -> LabFault {
+    pub fn of_words(error: io::Error) -> LabFault
+        ensures { IsOfWords result }
+    {
         match LabFault::from(error) {
             LabFault::Host(cause) => LabFault::Words(cause),
             fault => fault,
@@ -53,12 +55,19 @@ impl From<AnswerFault> for LabFault {
 }
 
 impl From<AllocError> for LabFault {
-    fn from(error: AllocError) -> LabFault {
-        LabFault::Answer(AnswerFault::from(error))
+    ghost use Rattle.lab_answers.specs.declared.fault.AnswerFault.TheVariants.{NoMemory};
+    ghost use Rattle.ticklab.specs.declared.fault.LabFault.TheVariants.{Answer};
+
+    ghost from_gives = { λ _ fault. fault ≡ Answer NoMemory };
+
+    fn from(_error: AllocError) -> LabFault {
+        LabFault::Answer(AnswerFault::NoMemory)
     }
 }
 
 impl From<io::Error> for LabFault {
+    ghost from_gives = { λ _ fault. IsOfHost fault };
+
     fn from(error: io::Error) -> LabFault {
         match error.kind() {
             ErrorKind::OutOfMemory => LabFault::Answer(AnswerFault::NoMemory),

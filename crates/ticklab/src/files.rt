@@ -1,5 +1,6 @@
 //! What the program reads: files by their names, and standard input.
-ghost use Rattle.std.specs.Prelude.{◌≡◌, ◌<◌, ◌∷◌, IfOk, MatchOption, string_bytes, vec_len};
+ghost use Rattle.std.specs.Prelude.{◌≡◌, ◌<◌, ◌∷◌, IfErr, IfOk, MatchOption, string_bytes, vec_len};
+ghost use Rattle.ticklab.specs.Faults.{IsOfFile, IsOfHost};
 ghost use Rattle.ticklab.specs.Schedules.{BeginsWithAt, IsSchedule};
 
 use crate::fault::LabFault;
@@ -12,7 +13,8 @@ const MOST_BYTES: u64 = 64 * 1024 * 1024;
 
 /// The bytes of a file, or of standard input where the name is `-`.
 pub fn bytes_of(rt: &HostRuntime, name: &str) -> Result<Vec<u8>, LabFault>
-    ensures { IfOk result (λ bytes. vec_len bytes < 67108864) }
+    ensures ok { IfOk result (λ bytes. vec_len bytes < 67108864) }
+    ensures err { IfErr result (IsOfFile name.now) }
 {
     match opened(rt, name) {
         Err(LabFault::Host(cause)) => {
@@ -45,7 +47,8 @@ fn name_after_at(given: &str) -> Option<&str>
 }
 
 fn opened(rt: &HostRuntime, name: &str) -> Result<Vec<u8>, LabFault>
-    ensures { IfOk result (λ bytes. vec_len bytes < 67108864) }
+    ensures ok { IfOk result (λ bytes. vec_len bytes < 67108864) }
+    ensures err { IfErr result IsOfHost }
 {
     if name == "-" {
         return read(rt, rt.stdin());
@@ -54,7 +57,8 @@ fn opened(rt: &HostRuntime, name: &str) -> Result<Vec<u8>, LabFault>
 }
 
 fn read<R: Read + Drop>(rt: &HostRuntime, reader: R) -> Result<Vec<u8>, LabFault>
-    ensures { IfOk result (λ bytes. vec_len bytes < 67108864) }
+    ensures ok { IfOk result (λ bytes. vec_len bytes < 67108864) }
+    ensures err { IfErr result IsOfHost }
 {
     let mut bytes = Vec::new(rt.alloc());
     reader.take(MOST_BYTES).read_to_end(&mut bytes)?;

@@ -1,4 +1,6 @@
 //! How far a search is, told on standard error where that is a terminal.
+ghost use Rattle.std.specs.Prelude.{◌≡◌, false};
+
 use std::io::IsTerminal;
 use tick_explore::Watch;
 
@@ -10,7 +12,9 @@ pub struct Progress<'a> {
 }
 
 impl<'a> Progress<'a> {
-    pub fn new(rt: &'a HostRuntime) -> Progress<'a> {
+    pub fn new(rt: &'a HostRuntime) -> Progress<'a>
+        ensures { result.is_told ≡ false }
+    {
         Progress { rt, is_told: false }
     }
 
