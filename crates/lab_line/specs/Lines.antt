@@ -22,7 +22,8 @@ is_taken words = takes ticklab words
 abbrev pub IsAsked : Option (Text × List Row) → Option (Request Text) → Option (Runs Text) → Type 0
 IsAsked found request runs = (request_in found ≡ request) × (runs_in found ≡ runs)
 
--- The words ask for this. Words that `clap` is known to take are told neither help nor a refusal.
+-- The words ask for this. Words that `clap` is known to take are told no help, and refused only
+-- where they ask for nothing.
 abbrev pub Answers : List Text → Line → Type 0
 Answers words (line.Request request) = IsAsked (command_in words) (Some (plain_request request)) None
 Answers words (line.Runs runs) = runs_in (command_in words) ≡ Some (plain_runs runs)
