@@ -10,4 +10,4 @@ mod reading;
 mod writing;
 
 pub use reading::read_code;
-pub use writing::write_code;
+pub use writing::{push_instruction, write_code};

@@ -1,5 +1,5 @@
 ghost use Rattle.std.specs.Prelude.{◌≡◌, ◌++◌, IfOk, IfErr, OnOk, string_bytes};
-ghost use Rattle.code_text.specs.CodeText.{instr_line, code_lines, header_line, code_text};
+ghost use Rattle.code_text.specs.CodeText.{instr_text, instr_line, code_lines, header_line, code_text};
 ghost use Rattle.code_core.specs.declared.fault.CodeFault.TheVariants.{NoMemory};
 
 use code_core::{Code, CodeFault, Instr, Sizes};
@@ -35,26 +35,34 @@ pub fn push_header(text: &mut String, version: u8, sizes: Sizes) -> Result<(), A
 pub fn push_line(text: &mut String, instruction: Instr) -> Result<(), AllocError>
     ensures { OnOk result (string_bytes text.new ≡ string_bytes text.old ++ instr_line instruction) }
 {
+    push_instruction(text, instruction)?;
+    text.push_str("\n")
+}
+
+/// Adds an instruction as its line has it: its name, and its operands after one space each.
+pub fn push_instruction(text: &mut String, instruction: Instr) -> Result<(), AllocError>
+    ensures { OnOk result (string_bytes text.new ≡ string_bytes text.old ++ instr_text instruction) }
+{
     match instruction {
-        Instr::Push(value) => writeln!(text, "Push {value}"),
-        Instr::Load(x) => writeln!(text, "Load {x}"),
-        Instr::Me => writeln!(text, "Me"),
-        Instr::Count => writeln!(text, "Count"),
-        Instr::Bin(op) => writeln!(text, "Bin {}", op.text()),
-        Instr::Store(x) => writeln!(text, "Store {x}"),
-        Instr::Get(r, x) => writeln!(text, "Get {r} {x}"),
-        Instr::Put(r) => writeln!(text, "Put {r}"),
-        Instr::LoadWord => writeln!(text, "LoadWord"),
-        Instr::Next => writeln!(text, "Next"),
-        Instr::Exchange(place) => writeln!(text, "Exchange {place}"),
-        Instr::Scan(s) => writeln!(text, "Scan {s}"),
-        Instr::Copy(s, t) => writeln!(text, "Copy {s} {t}"),
-        Instr::Older(s, x) => writeln!(text, "Older {s} {x}"),
-        Instr::Out => writeln!(text, "Out"),
-        Instr::JumpZero(place) => writeln!(text, "JumpZero {place}"),
-        Instr::Jump(place) => writeln!(text, "Jump {place}"),
-        Instr::Halt => writeln!(text, "Halt"),
-        Instr::Clear => writeln!(text, "Clear"),
-        Instr::Held(s, x) => writeln!(text, "Held {s} {x}"),
+        Instr::Push(value) => write!(text, "Push {value}"),
+        Instr::Load(x) => write!(text, "Load {x}"),
+        Instr::Me => text.push_str("Me"),
+        Instr::Count => text.push_str("Count"),
+        Instr::Bin(op) => write!(text, "Bin {}", op.text()),
+        Instr::Store(x) => write!(text, "Store {x}"),
+        Instr::Get(r, x) => write!(text, "Get {r} {x}"),
+        Instr::Put(r) => write!(text, "Put {r}"),
+        Instr::LoadWord => text.push_str("LoadWord"),
+        Instr::Next => text.push_str("Next"),
+        Instr::Exchange(place) => write!(text, "Exchange {place}"),
+        Instr::Scan(s) => write!(text, "Scan {s}"),
+        Instr::Copy(s, t) => write!(text, "Copy {s} {t}"),
+        Instr::Older(s, x) => write!(text, "Older {s} {x}"),
+        Instr::Out => text.push_str("Out"),
+        Instr::JumpZero(place) => write!(text, "JumpZero {place}"),
+        Instr::Jump(place) => write!(text, "Jump {place}"),
+        Instr::Halt => text.push_str("Halt"),
+        Instr::Clear => text.push_str("Clear"),
+        Instr::Held(s, x) => write!(text, "Held {s} {x}"),
     }
 }
