@@ -1,10 +1,11 @@
 -- Lines of the answers.
-use Rattle.std.specs.Prelude.{◌≡◌, ◌++◌, ℕ, List, [], ◌∷◌, codes, string_bytes}
+use Rattle.std.specs.Prelude.{◌++◌, ◌==◌, if◌then◌else◌, ℕ, List, [], ◌∷◌, codes, string_bytes}
 use Rattle.std.specs.Fmt.{decimal}
 use Rattle.text_core.specs.Lines.{line_end}
 use Rattle.tick_play.specs.Written.{schedule_text}
 use Rattle.tick_play.specs.declared.schedule.ScheduleFault.{ScheduleFault}
 use Rattle.tick_play.specs.declared.schedule.ScheduleFault.TheVariants.{BadItem, NoSuchProcess, TooLong, NoMemory}
+use Rattle.tick_hunt.specs.declared.plan.Plan.{Plan}
 use Rattle.tick_tally.specs.declared.counting.Counted.{Counted}
 
 -- The first lines where a trap was found: how it was found, and the schedule.
@@ -21,9 +22,30 @@ minimal_line = codes "a process traps under this schedule, and where any one ste
 abbrev pub trap_lines : List ℕ → List ℕ → List ℕ
 trap_lines found schedule = found ++ line_end ++ schedule_text schedule ++ line_end
 
-pub record BeginsWith (front text : List ℕ) : Type 0 where
-  pub more : List ℕ
-  pub whole : text ≡ front ++ more
+-- so many of them, as `1 run` and `2 runs`
+unfoldable pub many : ℕ → List ℕ → List ℕ → List ℕ
+many count one more = decimal count ++ codes " " ++ (if count == 1 then one else more)
+
+abbrev pub states_text : ℕ → List ℕ
+states_text count = many count (codes "state") (codes "states")
+
+abbrev pub runs_text : ℕ → List ℕ
+runs_text count = many count (codes "run") (codes "runs")
+
+abbrev pub steps_text : ℕ → List ℕ
+steps_text count = many count (codes "step") (codes "steps")
+
+-- no trap was found
+abbrev pub safe_line : ℕ → List ℕ
+safe_line states = codes "no process traps under any schedule (" ++ states_text states ++ codes ")\n"
+
+abbrev pub limit_line : ℕ → List ℕ
+limit_line states = codes "there are more than " ++ states_text states ++ codes ": nothing is said of all schedules\n"
+
+abbrev pub nothing_line : Plan → List ℕ
+nothing_line plan =
+    codes "no process traps in " ++ runs_text plan.runs ++ codes " of at most " ++ steps_text plan.steps ++ codes " of seed "
+    ++ decimal plan.seed ++ codes "\n"
 
 -- an input that is taken, and one with a schedule that is
 abbrev pub taken_line : List ℕ → List ℕ
@@ -51,7 +73,7 @@ many_line count = codes "STAMPS: error: there are " ++ decimal count ++ codes " 
 
 -- how many of so many runs came to an outcome, and the outcome
 abbrev pub count_text : ℕ → Counted → List ℕ
-count_text times counted = decimal counted.times ++ codes " of " ++ decimal times ++ codes " runs:\n" ++ string_bytes counted.outcome
+count_text times counted = decimal counted.times ++ codes " of " ++ runs_text times ++ codes ":\n" ++ string_bytes counted.outcome
 
 abbrev pub count_texts : ℕ → List Counted → List ℕ
 count_texts times [] = []

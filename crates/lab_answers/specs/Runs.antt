@@ -1,22 +1,27 @@
 -- What is answered of the run of a program, or of its code, under a schedule: a trace, or a picture.
 use Rattle.std.specs.Prelude.{◌≡◌, ℕ, Bool, true, false, List, map, Ok}
-use Rattle.std.proofs.Common.{Bor}
 use Rattle.tick_syntax.specs.Plain.{Name, WholeProgram}
+use Rattle.tick_syntax.specs.Spelling.{Spells}
+use Rattle.tick_syntax.specs.declared.token.Token.{Token}
 use Rattle.tick_kinds.specs.Resolution.{resolved}
 use Rattle.tick_play.specs.Schedule.{schedule_of}
 use Rattle.tick_explain.specs.Refusals.{IsProgram, IsProgramRefused, IsScheduleRefused}
 use Rattle.tick_explain.specs.Reports.{Tells}
-use Rattle.tick_trace.specs.declared.spots.Spot.{Spot}
 use Rattle.tick_trace.specs.declared.steps.InstructionStep.{InstructionStep}
 use Rattle.tick_trace.specs.declared.steps.StatementStep.{StatementStep}
 use Rattle.tick_trace.specs.InstructionSteps.{AreInstructionSteps}
 use Rattle.tick_trace.specs.StatementSteps.{AreStatementSteps}
+use Rattle.tick_trace.specs.Places.{standings}
 use Rattle.tick_trace.specs.TraceText.{instruction_lines, statement_lines}
 use Rattle.tick_draw.specs.Marks.{marks_of_code, program_marks}
 use Rattle.tick_draw.specs.Pictures.{IsPicture}
 use Rattle.lab_answers.specs.Codes.{HasCode, IsCodeless, program_code}
 use Rattle.lab_answers.specs.Responses.{Gives, Refuses}
 use Rattle.lab_answers.specs.declared.response.Response.{Response}
+
+-- the accepted program that the input is
+abbrev pub IsOf : List ℕ → WholeProgram Name → Type 0
+IsOf input a = (is : IsProgram input) × (a ≡ is.program)
 
 -- The report of a run that isn't made: the program, the schedule or the code, in this order.
 pub data IsUnrun (name input from text : List ℕ) (is_code : Bool) (report : List ℕ) : Type 0 where
@@ -37,27 +42,27 @@ pub data AnswersRun (P : WholeProgram Name → List ℕ → List ℕ → Type 0)
   run : Gives 0 (IsRun P input text) response → AnswersRun P name input from text is_code response
   unrun : Refuses (IsUnrun name input from text is_code) response → AnswersRun P name input from text is_code response
 
--- The lines of the steps of a program. The spots are those of its statements in the text; where these are, no contract says.
-pub record IsStatementTrace (a : WholeProgram Name) (schedule out : List ℕ) : Type 0 where
-  pub spots : List Spot
+-- The lines of the steps of the program that the input is, with its statements where they stand there.
+pub record IsStatementTrace (input : List ℕ) (a : WholeProgram Name) (schedule out : List ℕ) : Type 0 where
+  pub tokens : List Token
+  pub spelled : Spells input tokens
   pub steps : List StatementStep
   pub are_steps : AreStatementSteps (resolved a) schedule steps
-  pub lines : out ≡ statement_lines a spots 0 steps
+  pub lines : out ≡ statement_lines a (standings input tokens a) 0 steps
 
--- The same of its code. The words are those of its instructions; which these are, no contract says.
+-- The same of its code.
 pub record IsInstructionTrace (a : WholeProgram Name) (schedule out : List ℕ) : Type 0 where
   pub has_code : HasCode a
-  pub words : List (Bor (List ℕ))
   pub steps : List InstructionStep
   pub are_steps : AreInstructionSteps (program_code a) schedule steps
-  pub lines : out ≡ instruction_lines a words 0 steps
+  pub lines : out ≡ instruction_lines a 0 steps
 
-abbrev pub IsTrace : Bool → WholeProgram Name → List ℕ → List ℕ → Type 0
-IsTrace true a schedule out = IsInstructionTrace a schedule out
-IsTrace false a schedule out = IsStatementTrace a schedule out
+abbrev pub IsTrace : Bool → List ℕ → WholeProgram Name → List ℕ → List ℕ → Type 0
+IsTrace true input a schedule out = IsInstructionTrace a schedule out
+IsTrace false input a schedule out = IsStatementTrace input a schedule out
 
 abbrev pub Traces : List ℕ → List ℕ → List ℕ → List ℕ → Bool → Response → Type 0
-Traces name input from text is_code = AnswersRun (IsTrace is_code) name input from text is_code
+Traces name input from text is_code = AnswersRun (IsTrace is_code input) name input from text is_code
 
 abbrev pub row_names : WholeProgram Name → List (List ℕ)
 row_names a = map (λ row. row.letters) a.registers

@@ -1,20 +1,23 @@
 //! `ticklab explore`.
-ghost use Rattle.std.specs.Prelude.{◌<◌, All, IfErr, IfOk};
+ghost use Rattle.std.specs.Prelude.{◌≡◌, ◌<◌, All, IfErr, IfOk, string_bytes};
 ghost use Rattle.tick_kinds.specs.Resolution.{resolved};
 ghost use Rattle.tick_explore.specs.Searching.{IfTrapped};
 ghost use Rattle.tick_explain.specs.Refusals.{IsProgramRefused};
 ghost use Rattle.tick_explain.specs.Reports.{Tells};
 ghost use Rattle.lab_answers.specs.Answers.{Explores, IsExplored, IsMerged, Merges};
+ghost use Rattle.lab_answers.specs.Lines.{limit_line, safe_line};
+ghost use Rattle.lab_answers.specs.Runs.{IsOf};
 ghost use Rattle.lab_answers.specs.Shown.{Shows};
 ghost use Rattle.lab_answers.specs.Stops.{IfRefused};
 
+use crate::counts::push_many;
 use crate::fault::AnswerFault;
 use crate::reading::program_of;
 use crate::response::{DONE, LIMIT, Response, TRAPPED, answer, settled};
 use crate::stop::Stop;
 use crate::trapping::trap_text;
 use base::NoMemory;
-use std::alloc::Global;
+use std::alloc::{AllocError, Global};
 use tick_explore::{Explored, Watch, explore_merged_watched, explore_watched};
 use tick_kinds::Program;
 
@@ -31,7 +34,7 @@ pub fn explored<W: Watch>(
     limit: u32,
     watch: &mut W,
 ) -> Result<Response, AnswerFault>
-    ensures { IfOk result (Explores name.now input.now) }
+    ensures { IfOk result (Explores name.now limit input.now) }
 {
     settled(alloc, all_schedules(alloc, name, input, limit, watch))
 }
@@ -45,7 +48,7 @@ pub fn explored_merged<W: Watch>(
     limit: u32,
     watch: &mut W,
 ) -> Result<Response, AnswerFault>
-    ensures { IfOk result (Merges name.now input.now) }
+    ensures { IfOk result (Merges name.now limit input.now) }
 {
     settled(alloc, merged_schedules(alloc, name, input, limit, watch))
 }
@@ -57,7 +60,7 @@ fn all_schedules<W: Watch>(
     limit: u32,
     watch: &mut W,
 ) -> Result<Response, Stop>
-    ensures ok { IfOk result (IsExplored input.now) }
+    ensures ok { IfOk result (IsExplored limit input.now) }
     ensures refused { IfErr result (λ stop. IfRefused stop (Tells (IsProgramRefused input.now) name.now input.now)) }
 {
     let program = program_of(alloc, name, input)?;
@@ -72,7 +75,7 @@ fn merged_schedules<W: Watch>(
     limit: u32,
     watch: &mut W,
 ) -> Result<Response, Stop>
-    ensures ok { IfOk result (IsMerged input.now) }
+    ensures ok { IfOk result (IsMerged limit input.now) }
     ensures refused { IfErr result (λ stop. IfRefused stop (Tells (IsProgramRefused input.now) name.now input.now)) }
 {
     let program = program_of(alloc, name, input)?;
@@ -88,25 +91,34 @@ fn shown(
     input: &[u8],
     explored: &Explored,
 ) -> Result<Response, NoMemory>
-    requires { IfTrapped explored.now (All (λ p. p < (resolved program.now).processes)) }
-    ensures { IfOk result (Shows found.now explored.now) }
+    requires schedule { IfTrapped explored.now (All (λ p. p < (resolved program.now).processes)) }
+    requires program { IsOf input.now program.now }
+    ensures { IfOk result (Shows found.now input.now program.now explored.now) }
 {
     match explored {
-        Explored::Safe { states } => {
-            let text = format!(in alloc;
-                "no process traps under any schedule ({states} states)\n"
-            )?;
-            Ok(answer(alloc, DONE, text))
-        }
+        Explored::Safe { states } => Ok(answer(alloc, DONE, safe_line(alloc, *states)?)),
         Explored::Trapped(schedule) => {
             let text = trap_text(alloc, found, program, input, schedule.as_slice())?;
             Ok(answer(alloc, TRAPPED, text))
         }
-        Explored::Limit { states } => {
-            let text = format!(in alloc;
-                "there are more than {states} states: nothing is said of all schedules\n"
-            )?;
-            Ok(answer(alloc, LIMIT, text))
-        }
+        Explored::Limit { states } => Ok(answer(alloc, LIMIT, limit_line(alloc, *states)?)),
     }
+}
+
+fn safe_line(alloc: Global, states: u32) -> Result<String, AllocError>
+    ensures { IfOk result (λ line. string_bytes line ≡ safe_line states) }
+{
+    let mut line = String::from_str(alloc, "no process traps under any schedule (")?;
+    push_many(&mut line, states, "state", "states")?;
+    line.push_str(")\n")?;
+    Ok(line)
+}
+
+fn limit_line(alloc: Global, states: u32) -> Result<String, AllocError>
+    ensures { IfOk result (λ line. string_bytes line ≡ limit_line states) }
+{
+    let mut line = String::from_str(alloc, "there are more than ")?;
+    push_many(&mut line, states, "state", "states")?;
+    line.push_str(": nothing is said of all schedules\n")?;
+    Ok(line)
 }

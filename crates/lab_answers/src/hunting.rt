@@ -1,20 +1,24 @@
 //! `ticklab hunt`, but for its runs on threads.
-ghost use Rattle.std.specs.Prelude.{◌<◌, All, IfErr, IfOk};
+ghost use Rattle.std.specs.Prelude.{◌≡◌, ◌<◌, All, IfErr, IfOk, string_bytes};
 ghost use Rattle.tick_kinds.specs.Resolution.{resolved};
 ghost use Rattle.tick_hunt.specs.Hunts.{IfFound, IsMinimalTrap};
 ghost use Rattle.tick_explain.specs.Refusals.{IsProgramRefused};
 ghost use Rattle.tick_explain.specs.Reports.{Tells};
 ghost use Rattle.lab_answers.specs.Answers.{Hunts, IsHunted};
+ghost use Rattle.lab_answers.specs.Lines.{nothing_line};
+ghost use Rattle.lab_answers.specs.Runs.{IsOf};
 ghost use Rattle.lab_answers.specs.Shown.{ShowsHunt};
 ghost use Rattle.lab_answers.specs.Stops.{IfRefused};
 
+use crate::counts::push_many;
 use crate::fault::AnswerFault;
 use crate::reading::program_of;
 use crate::response::{DONE, Response, TRAPPED, answer, settled};
 use crate::stop::Stop;
 use crate::trapping::trap_text;
 use base::NoMemory;
-use std::alloc::Global;
+use std::alloc::{AllocError, Global};
+use std::fmt::Write;
 use tick_hunt::{Hunted, Plan, hunt};
 use tick_kinds::Program;
 
@@ -45,20 +49,26 @@ fn shown(
     plan: Plan,
     hunted: &Hunted,
 ) -> Result<Response, NoMemory>
-    requires { IfFound hunted.now (λ run schedule. IsMinimalTrap (resolved program.now) schedule) }
-    ensures { IfOk result (ShowsHunt hunted.now) }
+    requires schedule { IfFound hunted.now (λ run schedule. IsMinimalTrap (resolved program.now) schedule) }
+    requires program { IsOf input.now program.now }
+    ensures { IfOk result (ShowsHunt input.now program.now plan hunted.now) }
 {
     match hunted {
         Hunted::Found { schedule, .. } => {
             let text = trap_text(alloc, MINIMAL, program, input, schedule.as_slice())?;
             Ok(answer(alloc, TRAPPED, text))
         }
-        Hunted::Nothing => {
-            let text = format!(in alloc;
-                "no process traps in {} runs of at most {} steps of seed {}\n",
-                plan.runs, plan.steps, plan.seed
-            )?;
-            Ok(answer(alloc, DONE, text))
-        }
+        Hunted::Nothing => Ok(answer(alloc, DONE, nothing_line(alloc, plan)?)),
     }
+}
+
+fn nothing_line(alloc: Global, plan: Plan) -> Result<String, AllocError>
+    ensures { IfOk result (λ line. string_bytes line ≡ nothing_line plan) }
+{
+    let mut line = String::from_str(alloc, "no process traps in ")?;
+    push_many(&mut line, plan.runs, "run", "runs")?;
+    line.push_str(" of at most ")?;
+    push_many(&mut line, plan.steps, "step", "steps")?;
+    writeln!(line, " of seed {}", plan.seed)?;
+    Ok(line)
 }

@@ -1,10 +1,11 @@
 //! What `ticklab` answers: for each command what goes to standard output, what to standard error, and
 //! the exit status, by the texts that were read.
 //!
-//! Start with `explored`; each command has a file of its own. `specs/Answers.antt` says what a status of
-//! `explore` and `hunt` means, the files beside it what the others give out.
+//! Start with `explored`; each command has a file of its own. `specs/Answers.antt` says what `explore` and
+//! `hunt` answer, the files beside it what the others give out.
 #![tactic(auto)]
 
+mod counts;
 mod drawing;
 mod explaining;
 mod exploring;

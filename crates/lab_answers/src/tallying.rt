@@ -5,6 +5,7 @@ ghost use Rattle.lab_answers.specs.Responses.{Gives};
 ghost use Rattle.lab_answers.specs.Stops.{IfRefused};
 ghost use Rattle.lab_answers.specs.Tallies.{IsTally, IsUncoded, Tallies};
 
+use crate::counts::push_many;
 use crate::fault::AnswerFault;
 use crate::reading::{code_of, program_of};
 use crate::response::{DONE, Response, answer, settled};
@@ -60,6 +61,8 @@ fn counts_text(alloc: Global, times: u32, counts: &[Counted]) -> Result<String, 
 fn push_counted(text: &mut String, times: u32, counted: &Counted) -> Result<(), AllocError>
     ensures { OnOk result (string_bytes text.new ≡ string_bytes text.old ++ count_text times counted.now) }
 {
-    writeln!(text, "{} of {times} runs:", counted.times)?;
+    write!(text, "{} of ", counted.times)?;
+    push_many(text, times, "run", "runs")?;
+    text.push_str(":\n")?;
     text.push_str(&counted.outcome)
 }

@@ -1,7 +1,8 @@
 //! What is told of a schedule under which a process traps.
 ghost use Rattle.std.specs.Prelude.{◌≡◌, ◌<◌, ◌++◌, All, List, ℕ, IfOk, string_bytes};
 ghost use Rattle.tick_kinds.specs.Resolution.{resolved};
-ghost use Rattle.lab_answers.specs.Lines.{BeginsWith, trap_lines};
+ghost use Rattle.lab_answers.specs.Runs.{IsOf};
+ghost use Rattle.lab_answers.specs.Shown.{IsTrapText};
 
 use crate::tracing::source_text;
 use base::NoMemory;
@@ -9,7 +10,7 @@ use std::alloc::Global;
 use tick_kinds::Program;
 use tick_play::write_schedule;
 
-/// How it was found, the schedule, and what each of its steps does in the program that this text is.
+/// How it was found, the schedule, and what each of its steps does in the program that this input is.
 pub fn trap_text(
     alloc: Global,
     found: &str,
@@ -17,8 +18,9 @@ pub fn trap_text(
     input: &[u8],
     schedule: &[u8],
 ) -> Result<String, NoMemory>
-    requires { All (λ p. p < (resolved program.now).processes) schedule.now }
-    ensures { IfOk result (λ text. BeginsWith (trap_lines found.now schedule.now) (string_bytes text)) }
+    requires schedule { All (λ p. p < (resolved program.now).processes) schedule.now }
+    requires program { IsOf input.now program.now }
+    ensures { IfOk result (λ text. IsTrapText found.now input.now program.now schedule.now (string_bytes text)) }
 {
     let written = write_schedule(alloc, schedule)?;
     let steps = source_text(alloc, program, input, schedule)?;

@@ -91,7 +91,7 @@ fn just_enough_steps(rt: HostRuntime) -> Result<(), Fail> {
         is_answer(
             hunted_of(rt.alloc(), input, plan(mode, 5, 1, 2)),
             0,
-            "no process traps in 1 runs of at most 2 steps of seed 5\n",
+            "no process traps in 1 run of at most 2 steps of seed 5\n",
             "",
         )?;
         is_answer(

@@ -35,7 +35,7 @@ static TALLIES: [(&str, u32, u64, &str); 8] = [
         ALONE,
         1,
         1_000_000_000,
-        "1 of 1 runs:\noutputs 0 6\nreg 0 5\nstatus 0 ended\n",
+        "1 of 1 run:\noutputs 0 6\nreg 0 5\nstatus 0 ended\n",
     ),
     (ALONE, 0, 1_000, ""),
     (

@@ -1,3 +1,6 @@
+pub mod HeadTokens
+pub mod Cutting
+pub mod Passing
 pub mod Linked
 pub mod Followed
 pub mod Running

@@ -7,12 +7,12 @@ use Rattle.machine_core.specs.declared.status.Trap.{Trap}
 use Rattle.machine_core.specs.declared.status.Trap.TheVariants as T
 use Rattle.machine_core.specs.declared.event.Act.{Act}
 use Rattle.machine_core.specs.declared.event.Act.TheVariants as A
-use Rattle.std.proofs.Common.{Bor}
 use Rattle.word_core.specs.Stamps.{Labels, label_at, is_present}
 use Rattle.word_core.specs.Order.{label_ranks}
 use Rattle.code_core.specs.declared.instr.Instr.{Instr}
+use Rattle.code_text.specs.CodeText.{instr_text}
 use Rattle.tick_syntax.specs.Plain.{Name, WholeProgram}
-use Rattle.tick_trace.specs.declared.spots.Spot.{Spot}
+use Rattle.tick_trace.specs.Places.{Standing}
 use Rattle.tick_trace.specs.declared.steps.Written.{Written}
 use Rattle.tick_trace.specs.declared.steps.StatementStep.{StatementStep}
 use Rattle.tick_trace.specs.declared.steps.InstructionStep.{InstructionStep}
@@ -34,9 +34,13 @@ where_text line column = right line ++ codes ":" ++ left (decimal column) 3 ++ c
 abbrev pub place_text : ℕ → List ℕ
 place_text place = right place ++ codes "  "
 
+-- what comes between words of so many bytes and what the step did
+abbrev pub words_end : ℕ → List ℕ
+words_end count = replicate (32 - count) 32 ++ codes " | "
+
 -- words before what the step did
 abbrev pub words_text : List ℕ → List ℕ
-words_text words = left words 32 ++ codes " | "
+words_text words = words ++ words_end (length words)
 
 abbrev pub trap_text : Trap → List ℕ
 trap_text T.Overflow = codes "Overflow"
@@ -116,41 +120,37 @@ done_text a words p (Some act) (Some w) tickets =
     words_text words ++ act_text a p act ++ codes ", " ++ variable_text a.variables w.variable w.value
 
 -- where it stands, its words, and what it did
-abbrev pub spot_text : WholeProgram Name → StatementStep → Option Act → Option Spot → List ℕ
+abbrev pub spot_text : WholeProgram Name → StatementStep → Option Act → Option Standing → List ℕ
 spot_text a step act None = where_text 0 0 ++ done_text a [] step.process act step.written step.tickets
-spot_text a step act (Some spot) = where_text spot.line spot.column ++ done_text a spot.words.now step.process act step.written step.tickets
+spot_text a step act (Some spot) = where_text spot.line spot.column ++ done_text a spot.words step.process act step.written step.tickets
 
 -- what comes after the process
-abbrev pub step_text : WholeProgram Name → List Spot → StatementStep → Option ℕ → Option Act → List ℕ
+abbrev pub step_text : WholeProgram Name → List Standing → StatementStep → Option ℕ → Option Act → List ℕ
 step_text a spots step None None = codes "stopped"
 step_text a spots step None (Some act) = replicate 10 32 ++ done_text a [] step.process (Some act) step.written step.tickets
 step_text a spots step (Some k) act = spot_text a step act (slice_get spots k)
 
-abbrev pub statement_line : WholeProgram Name → List Spot → ℕ → StatementStep → List ℕ
+abbrev pub statement_line : WholeProgram Name → List Standing → ℕ → StatementStep → List ℕ
 statement_line a spots number step = head number step.process ++ step_text a spots step step.number step.act ++ line_end
 
 -- a line for each step, from this number on
-abbrev pub statement_lines : WholeProgram Name → List Spot → ℕ → List StatementStep → List ℕ
+abbrev pub statement_lines : WholeProgram Name → List Standing → ℕ → List StatementStep → List ℕ
 statement_lines a spots number [] = []
 statement_lines a spots number (step ∷ steps) = statement_line a spots number step ++ statement_lines a spots (number + 1) steps
 
--- The same of a code, of whose instructions these are the lines.
-abbrev pub words_of : Option (Bor (List ℕ)) → List ℕ
-words_of None = []
-words_of (Some line) = line.now
-
+-- The same of a code.
 abbrev pub made_text : WholeProgram Name → List ℕ → InstructionStep → Bool → Option Act → List ℕ
 made_text a words step true act = words_text words ++ codes "lost"
 made_text a words step false None = words
 made_text a words step false (Some act) = words_text words ++ act_text a step.process act ++ label_order_text step.labels
 
-abbrev pub instruction_text : WholeProgram Name → List (Bor (List ℕ)) → InstructionStep → Option Instr → List ℕ
-instruction_text a lines step None = codes "stopped"
-instruction_text a lines step (Some i) = place_text step.place ++ made_text a (words_of (slice_get lines step.place)) step step.lost step.act
+abbrev pub instruction_text : WholeProgram Name → InstructionStep → Option Instr → List ℕ
+instruction_text a step None = codes "stopped"
+instruction_text a step (Some i) = place_text step.place ++ made_text a (instr_text i) step step.lost step.act
 
-abbrev pub instruction_line : WholeProgram Name → List (Bor (List ℕ)) → ℕ → InstructionStep → List ℕ
-instruction_line a lines number step = head number step.process ++ instruction_text a lines step step.instruction ++ line_end
+abbrev pub instruction_line : WholeProgram Name → ℕ → InstructionStep → List ℕ
+instruction_line a number step = head number step.process ++ instruction_text a step step.instruction ++ line_end
 
-abbrev pub instruction_lines : WholeProgram Name → List (Bor (List ℕ)) → ℕ → List InstructionStep → List ℕ
-instruction_lines a lines number [] = []
-instruction_lines a lines number (step ∷ steps) = instruction_line a lines number step ++ instruction_lines a lines (number + 1) steps
+abbrev pub instruction_lines : WholeProgram Name → ℕ → List InstructionStep → List ℕ
+instruction_lines a number [] = []
+instruction_lines a number (step ∷ steps) = instruction_line a number step ++ instruction_lines a (number + 1) steps

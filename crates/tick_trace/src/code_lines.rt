@@ -1,39 +1,32 @@
 //! The lines of the steps of a code.
 
-ghost use Rattle.std.specs.Prelude.{◌≡◌, ◌<◌, ◌++◌, IfOk, OnOk, length, slice_get, string_bytes};
-ghost use Rattle.tick_trace.specs.TraceText.{instruction_line, instruction_lines, instruction_text, label_order_text, label_rank, made_text, words_of};
+ghost use Rattle.std.specs.Prelude.{◌≡◌, ◌<◌, ◌++◌, IfOk, OnOk, length, string_bytes};
+ghost use Rattle.code_text.specs.CodeText.{instr_text};
+ghost use Rattle.tick_trace.specs.TraceText.{instruction_line, instruction_lines, instruction_text, label_order_text, label_rank, made_text, words_text};
 
-use crate::columns::{push_head, push_place, push_words};
+use crate::columns::{end_words, push_head, push_place};
 use crate::steps::InstructionStep;
 use crate::wording::{push_act, push_rank};
+use code_core::Instr;
+use code_text::push_instruction;
 use machine_core::NoMemory;
 use std::alloc::{AllocError, Global};
 use tick_kinds::Program;
 use word_core::LabelWord;
 
-/// The lines of the instructions in the text of a code, which begins with a line of its own.
-pub fn instruction_lines<'a>(alloc: Global, code_text: &'a str) -> Result<Vec<&'a str>, NoMemory> {
-    let mut lines = Vec::new(alloc);
-    for line in code_text.lines().skip(1) {
-        lines.push(line)?;
-    }
-    Ok(lines)
-}
-
 /// A line for each step: its number from 1, the process, the place of its instruction and how it reads,
-/// and what it did; an exchange that was lost is told. `lines` are those of the code's instructions, and
-/// `program` is the program that it was lowered from.
+/// and what it did; an exchange that was lost is told. `program` is the program that the code was
+/// lowered from.
 pub fn code_trace(
     alloc: Global,
     program: &Program,
-    lines: &[&str],
     steps: &[InstructionStep],
 ) -> Result<String, NoMemory>
-    ensures { IfOk result (λ text. string_bytes text ≡ instruction_lines program.now lines.now 0 steps.now) }
+    ensures { IfOk result (λ text. string_bytes text ≡ instruction_lines program.now 0 steps.now) }
 {
     let mut text = String::new(alloc);
     for (number, step) in steps.iter().enumerate() {
-        push_line(&mut text, program, lines, number, *step)?;
+        push_line(&mut text, program, number, *step)?;
     }
     Ok(text)
 }
@@ -41,66 +34,60 @@ pub fn code_trace(
 fn push_line(
     text: &mut String,
     program: &Program,
-    lines: &[&str],
     number: usize,
     step: InstructionStep,
 ) -> Result<(), AllocError>
     requires { number < 18446744073709551615 }
-    ensures { OnOk result (string_bytes text.new ≡ string_bytes text.old ++ instruction_line program.now lines.now number step) }
+    ensures { OnOk result (string_bytes text.new ≡ string_bytes text.old ++ instruction_line program.now number step) }
 {
     push_head(text, number, step.process)?;
-    push_step(text, program, lines, step)?;
+    push_step(text, program, step)?;
     text.push_str("\n")
 }
 
 // What comes after the process.
-fn push_step(
-    text: &mut String,
-    program: &Program,
-    lines: &[&str],
-    step: InstructionStep,
-) -> Result<(), AllocError>
-    ensures { OnOk result (string_bytes text.new ≡ string_bytes text.old ++ instruction_text program.now lines.now step step.instruction) }
+fn push_step(text: &mut String, program: &Program, step: InstructionStep) -> Result<(), AllocError>
+    ensures { OnOk result (string_bytes text.new ≡ string_bytes text.old ++ instruction_text program.now step step.instruction) }
 {
     match step.instruction {
         None => text.push_str("stopped"),
-        Some(_) => {
+        Some(instruction) => {
             push_place(text, step.place)?;
-            push_done(text, program, words_at(lines, step.place), step)
+            push_made(text, program, instruction, step)
         }
     }
 }
 
-fn words_at<'a>(lines: &[&'a str], place: u16) -> &'a str
-    ensures { result.now ≡ words_of (slice_get lines.now place) }
-{
-    match lines.get(usize::from(place)) {
-        Some(line) => *line,
-        None => "",
-    }
-}
-
-// The words of an instruction, and what it did.
-fn push_done(
+// An instruction, and what it did.
+fn push_made(
     text: &mut String,
     program: &Program,
-    words: &str,
+    instruction: Instr,
     step: InstructionStep,
 ) -> Result<(), AllocError>
-    ensures { OnOk result (string_bytes text.new ≡ string_bytes text.old ++ made_text program.now words.now step step.lost step.act) }
+    ensures { OnOk result (string_bytes text.new ≡ string_bytes text.old ++ made_text program.now (instr_text instruction) step step.lost step.act) }
 {
     match (step.lost, step.act) {
         (true, _) => {
-            push_words(text, words)?;
+            push_words(text, instruction)?;
             text.push_str("lost")
         }
-        (false, None) => text.push_str(words),
+        (false, None) => push_instruction(text, instruction),
         (false, Some(act)) => {
-            push_words(text, words)?;
+            push_words(text, instruction)?;
             push_act(text, program, step.process, act)?;
             push_order(text, step.labels)
         }
     }
+}
+
+// An instruction before what it did.
+fn push_words(text: &mut String, instruction: Instr) -> Result<(), AllocError>
+    ensures { OnOk result (string_bytes text.new ≡ string_bytes text.old ++ words_text (instr_text instruction)) }
+{
+    let before = text.len();
+    push_instruction(text, instruction)?;
+    end_words(text, text.len() - before)
 }
 
 fn push_order(text: &mut String, labels: Option<LabelWord>) -> Result<(), AllocError>

@@ -1,7 +1,7 @@
 //! The columns of a line.
 
 ghost use Rattle.std.specs.Prelude.{◌≡◌, ◌<◌, ◌++◌, OnOk, replicate, string_bytes};
-ghost use Rattle.tick_trace.specs.TraceText.{head, left, place_text, right, where_text, words_text};
+ghost use Rattle.tick_trace.specs.TraceText.{head, left, place_text, right, where_text, words_end, words_text};
 
 use itoa::Buffer;
 use std::alloc::AllocError;
@@ -53,7 +53,15 @@ pub fn push_place(text: &mut String, place: u16) -> Result<(), AllocError>
 pub fn push_words(text: &mut String, words: &str) -> Result<(), AllocError>
     ensures { OnOk result (string_bytes text.new ≡ string_bytes text.old ++ words_text words.now) }
 {
-    push_left(text, words, WORDS)?;
+    text.push_str(words)?;
+    end_words(text, words.len())
+}
+
+/// What comes between words of so many bytes and what a step showed.
+pub fn end_words(text: &mut String, count: usize) -> Result<(), AllocError>
+    ensures { OnOk result (string_bytes text.new ≡ string_bytes text.old ++ words_end count) }
+{
+    push_blanks(text, WORDS.saturating_sub(count))?;
     text.push_str(" | ")
 }
 

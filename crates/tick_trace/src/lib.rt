@@ -2,12 +2,12 @@
 //!
 //! Start with `source_steps` for a program on whole-number tickets, or with `code_steps` for its code on
 //! bounded labels; `source_trace` and `code_trace` write them, a line a step, with the statements as
-//! `places` finds them in the program's text, and the instructions as `instruction_lines` does in the
-//! code's.
+//! `places` finds them in the program's text.
 #![tactic(auto)]
 
 mod code_lines;
 mod columns;
+mod heads;
 mod instructions;
 mod links;
 mod shown;
@@ -17,7 +17,7 @@ mod statements;
 mod steps;
 mod wording;
 
-pub use code_lines::{code_trace, instruction_lines};
+pub use code_lines::code_trace;
 pub use instructions::code_steps;
 pub use machine_core::NoMemory;
 pub use source_lines::source_trace;

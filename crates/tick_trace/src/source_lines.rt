@@ -1,6 +1,7 @@
 //! The lines of the steps of a program.
 
-ghost use Rattle.std.specs.Prelude.{◌≡◌, ◌<◌, ◌++◌, IfOk, OnOk, length, slice_get, slice_index, string_bytes};
+ghost use Rattle.std.specs.Prelude.{◌≡◌, ◌<◌, ◌++◌, IfOk, OnOk, length, map, option_map, slice_get, slice_index, string_bytes};
+ghost use Rattle.tick_trace.specs.Places.{told_standing};
 ghost use Rattle.tick_trace.specs.TraceText.{done_text, order_text, spot_text, statement_line, statement_lines, step_text, taken_text, ticket_rank};
 
 use crate::columns::{push_head, push_nowhere, push_where, push_words};
@@ -21,7 +22,7 @@ pub fn source_trace(
     spots: &[Spot<'_>],
     steps: &[StatementStep],
 ) -> Result<String, NoMemory>
-    ensures { IfOk result (λ text. string_bytes text ≡ statement_lines program.now spots.now 0 steps.now) }
+    ensures { IfOk result (λ text. string_bytes text ≡ statement_lines program.now (map told_standing spots.now) 0 steps.now) }
 {
     let mut text = String::new(alloc);
     for (number, step) in steps.iter().enumerate() {
@@ -38,7 +39,7 @@ fn push_line(
     step: StatementStep,
 ) -> Result<(), AllocError>
     requires { number < 18446744073709551615 }
-    ensures { OnOk result (string_bytes text.new ≡ string_bytes text.old ++ statement_line program.now spots.now number step) }
+    ensures { OnOk result (string_bytes text.new ≡ string_bytes text.old ++ statement_line program.now (map told_standing spots.now) number step) }
 {
     push_head(text, number, step.process)?;
     push_step(text, program, spots, step)?;
@@ -52,7 +53,7 @@ fn push_step(
     spots: &[Spot<'_>],
     step: StatementStep,
 ) -> Result<(), AllocError>
-    ensures { OnOk result (string_bytes text.new ≡ string_bytes text.old ++ step_text program.now spots.now step step.number step.act) }
+    ensures { OnOk result (string_bytes text.new ≡ string_bytes text.old ++ step_text program.now (map told_standing spots.now) step step.number step.act) }
 {
     match (step.number, step.act) {
         (None, None) => text.push_str("stopped"),
@@ -72,7 +73,7 @@ fn push_statement(
     step: StatementStep,
     act: Option<Act>,
 ) -> Result<(), AllocError>
-    ensures { OnOk result (string_bytes text.new ≡ string_bytes text.old ++ spot_text program.now step act spot.entry) }
+    ensures { OnOk result (string_bytes text.new ≡ string_bytes text.old ++ spot_text program.now step act (option_map told_standing spot.entry)) }
 {
     match spot {
         None => {

@@ -1,7 +1,16 @@
 //! Where the statements of a program stand in its text.
 
-use std::alloc::{AllocError, Global};
-use tick_syntax::token::Token;
+ghost use Rattle.std.specs.Prelude.{◌≡◌, ◌<◌, ◌≤◌, IfErr, IfOk, List, length, map, slice_range};
+ghost use Rattle.tick_syntax.specs.Spelling.{Spells};
+ghost use Rattle.tick_syntax.specs.declared.token.Token.{Token as SpelledToken};
+ghost use Rattle.tick_syntax.specs.declared.fault.TextFault.TheVariants.{NoMemory};
+ghost use Rattle.tick_trace.specs.Places.{Stand, first_line, next_place, standing_at, told_standing};
+ghost use Rattle.tick_trace.specs.prover.Heads.{HasPassed, IsCut};
+
+use crate::heads::heads;
+use std::alloc::Global;
+use tick_kinds::Program;
+use tick_syntax::span::Span;
 use tick_syntax::{TextFault, tokens};
 
 /// A statement as it stands in a text.
@@ -15,95 +24,122 @@ pub struct Spot<'a> {
     pub words: &'a str,
 }
 
-/// The statements of the text of a program, in the order of the text. Of a text that is no program it
-/// is what stands where statements would.
-pub fn places<'a>(alloc: Global, text: &'a str) -> Result<Vec<Spot<'a>>, TextFault> {
-    let mut walk = Walk {
-        text,
-        at: 0,
-        line: 1,
-        column: 1,
-        turn: Turn::Before,
-    };
-    let mut spots = Vec::new(alloc);
-    for token in &tokens(alloc, text)? {
-        walk.pass(&mut spots, *token)?;
+/// The statements of a program in its text, in their order.
+pub fn places<'a>(
+    alloc: Global,
+    program: &Program,
+    text: &'a str,
+) -> Result<Vec<Spot<'a>>, TextFault>
+    ensures spots { IfOk result (λ spots. Stand text.now program.now spots.items) }
+    ensures fault { (tokens : List SpelledToken) → length text.now ≤ 1000000 → Spells text.now tokens → IfErr result (λ fault. fault ≡ NoMemory) }
+{
+    let tokens = tokens(alloc, text)?;
+    let heads = heads(alloc, program, &tokens)?;
+    let mut spots = Vec::with_capacity(alloc, heads.len())?;
+    let mut passed = NOTHING;
+    for head in &heads {
+        passed = passed_to(text.as_bytes(), passed, head.start);
+        spots.push(spot_at(text, passed.place, *head))?;
     }
     Ok(spots)
 }
 
-// What a token of a program may be the first of.
+// A line, and a column in it.
 #[derive(Clone, Copy)]
-enum Turn {
-    // The body has not begun.
-    Before,
-    // A statement may begin.
-    Next,
-    // One has begun at this byte.
-    Open(usize),
-    // A block or the end is to come.
-    Between,
-}
-
-// A place in a text that is gone through once, with the line and the column that it is in.
-#[derive(Drop)]
-struct Walk<'a> {
-    text: &'a str,
-    at: usize,
+struct Place {
     line: usize,
     column: usize,
-    turn: Turn,
 }
 
-impl<'a> Walk<'a> {
-    fn pass(&mut self, spots: &mut Vec<Spot<'a>>, token: Token) -> Result<(), AllocError> {
-        let word = self.part(token.span.start, token.span.end);
-        match (self.turn, word) {
-            (Turn::Before, "begin") => self.turn = Turn::Next,
-            (Turn::Before, _) => {}
-            (Turn::Open(start), ";") => {
-                spots.push(self.spot(start, token.span.end))?;
-                self.turn = Turn::Next;
-            }
-            (Turn::Open(start), "{") => {
-                spots.push(self.spot(start, token.span.start))?;
-                self.turn = Turn::Next;
-            }
-            (Turn::Open(_), _) => {}
-            (_, "{" | "}") => self.turn = Turn::Next,
-            (_, "else" | "end") => self.turn = Turn::Between,
-            (_, _) => self.turn = Turn::Open(token.span.start),
-        }
-        Ok(())
-    }
+// How many bytes of a text were passed, and the place after them.
+#[derive(Clone, Copy)]
+struct Passed {
+    at: usize,
+    place: Place,
+}
 
-    // The statement from one byte to another.
-    fn spot(&mut self, start: usize, end: usize) -> Spot<'a> {
-        self.go_to(start);
-        let words = self.part(start, end);
-        Spot {
-            line: self.line,
-            column: self.column,
-            words: words.lines().next().unwrap_or("").trim_end(),
-        }
-    }
+const NOTHING: Passed = Passed {
+    at: 0,
+    place: Place { line: 1, column: 1 },
+};
 
-    fn part(&self, start: usize, end: usize) -> &'a str {
-        self.text.get(start..end).unwrap_or("")
+// Passes what stands before a byte. A place further back is sought from the first byte on.
+fn passed_to(bytes: &[u8], passed: Passed, start: usize) -> Passed
+    requires within { start ≤ length bytes.now }
+    requires passed { HasPassed bytes.now passed }
+    ensures at { result.at ≡ start }
+    ensures passed { HasPassed bytes.now result }
+{
+    if start < passed.at {
+        passed_on(bytes, NOTHING, start)
+    } else {
+        passed_on(bytes, passed, start)
     }
+}
 
-    fn go_to(&mut self, place: usize) {
-        let Some(bytes) = self.text.as_bytes().get(self.at..place) else {
-            return;
-        };
-        for byte in bytes {
-            if *byte == b'\n' {
-                self.line = self.line.saturating_add(1);
-                self.column = 1;
-            } else if *byte < 128 || *byte >= 192 {
-                self.column = self.column.saturating_add(1);
-            }
+fn passed_on(bytes: &[u8], passed: Passed, start: usize) -> Passed
+    requires order { passed.at ≤ start }
+    requires within { start ≤ length bytes.now }
+    requires passed { HasPassed bytes.now passed }
+    ensures at { result.at ≡ start }
+    ensures passed { HasPassed bytes.now result }
+{
+    let mut place = passed.place;
+    for byte in &bytes[passed.at..start] {
+        place = next_place(place, *byte);
+    }
+    Passed { at: start, place }
+}
+
+// The place after a byte.
+fn next_place(place: Place, byte: u8) -> Place
+    requires line { place.line < 18446744073709551615 }
+    requires column { place.column < 18446744073709551615 }
+    ensures { result ≡ next_place place byte }
+{
+    let Place { line, column } = place;
+    if byte == b'\n' {
+        Place {
+            line: line + 1,
+            column: 1,
         }
-        self.at = place;
+    } else if byte < 128 || byte >= 192 {
+        Place {
+            line,
+            column: column + 1,
+        }
+    } else {
+        place
+    }
+}
+
+// A statement whose head stands there.
+fn spot_at(text: &str, place: Place, head: Span) -> Spot<'_>
+    requires { IsCut text.now head }
+    ensures line { result.line ≡ place.line }
+    ensures column { result.column ≡ place.column }
+    ensures words { result.words.now ≡ first_line (slice_range text.now head.start head.end) }
+{
+    Spot {
+        line: place.line,
+        column: place.column,
+        words: first_line(part(text, head)),
+    }
+}
+
+fn part(text: &str, span: Span) -> &str
+    requires { IsCut text.now span }
+    ensures { result.now ≡ slice_range text.now span.start span.end }
+{
+    text.get(span.start..span.end).unwrap_or("")
+}
+
+// A text up to its first line feed, without the blanks at its end.
+fn first_line(text: &str) -> &str
+    ensures { result.now ≡ first_line text.now }
+{
+    match text.split_once('\n') {
+        Some((line, _)) => line.trim_end(),
+        None => text.trim_end(),
     }
 }

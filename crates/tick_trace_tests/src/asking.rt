@@ -1,12 +1,11 @@
 //! The calls over texts of programs, with the traces as texts.
 
-use code_text::write_code;
 use std::alloc::Global;
 use std::test::Fail;
 use testing::accepted;
 use tick_kinds::Program;
 use tick_lower::lower;
-use tick_trace::{code_steps, code_trace, instruction_lines, places, source_steps, source_trace};
+use tick_trace::{code_steps, code_trace, places, source_steps, source_trace};
 
 /// The program that a text is, for a schedule that it can have.
 pub fn program_for(alloc: Global, text: &str, schedule: &[u8]) -> Result<Program, Fail> {
@@ -28,7 +27,7 @@ pub fn traced(alloc: Global, text: &str, schedule: &[u8]) -> Result<String, Fail
         return Err("no such process")?;
     }
     let steps = source_steps(alloc, &program, schedule)?;
-    let spots = places(alloc, text)?;
+    let spots = places(alloc, &program, text)?;
     Ok(source_trace(alloc, &program, &spots, &steps)?)
 }
 
@@ -41,7 +40,5 @@ pub fn code_traced(alloc: Global, text: &str, schedule: &[u8]) -> Result<String,
         return Err("no such process")?;
     }
     let steps = code_steps(alloc, &code, schedule)?;
-    let listing = write_code(alloc, &code)?;
-    let lines = instruction_lines(alloc, &listing)?;
-    Ok(code_trace(alloc, &program, &lines, &steps)?)
+    Ok(code_trace(alloc, &program, &steps)?)
 }

@@ -1,7 +1,8 @@
 //! Where statements stand, in texts whose places were counted by hand.
 
+use std::alloc::Global;
 use std::test::Fail;
-use testing::is_same;
+use testing::{accepted, is_same};
 use tick_trace::{Spot, places};
 
 static TEXT: &str = "\
@@ -34,11 +35,32 @@ static SPOTS: [(usize, usize, &str); 13] = [
     (10, 5, "put r a;"),
 ];
 
-#[test]
-fn spots(rt: HostRuntime) -> Result<(), Fail> {
-    let spots = places(rt.alloc(), TEXT)?;
-    is_same(&spots.len(), &SPOTS.len())?;
-    for (spot, (line, column, words)) in spots.iter().zip(&SPOTS) {
+// A comment within a statement, before its block, and beside blanks at the end of a line.
+static COMMENTED: &str = "\
+processes 6; # é ; { begin
+var a; scan s, t; reg r, q;
+begin a = # what is é?
+ older s 1 (a + # 1
+ 2); s = scan\t\r
+; while (a < n) # é {
+  { t = copy s; if a # {
+  { a = held t me; } else { put q a; } } out
+a; end";
+
+static COMMENTED_SPOTS: [(usize, usize, &str); 8] = [
+    (3, 7, "a = # what is é?"),
+    (5, 6, "s = scan"),
+    (6, 3, "while (a < n)"),
+    (7, 5, "t = copy s;"),
+    (7, 17, "if a"),
+    (8, 5, "a = held t me;"),
+    (8, 29, "put q a;"),
+    (8, 42, "out"),
+];
+
+fn are(spots: &[Spot<'_>], wanted: &[(usize, usize, &str)]) -> Result<(), Fail> {
+    is_same(&spots.len(), &wanted.len())?;
+    for (spot, (line, column, words)) in spots.iter().zip(wanted) {
         let wanted = Spot {
             line: *line,
             column: *column,
@@ -49,10 +71,22 @@ fn spots(rt: HostRuntime) -> Result<(), Fail> {
     Ok(())
 }
 
+fn stand(alloc: Global, text: &str, wanted: &[(usize, usize, &str)]) -> Result<(), Fail> {
+    are(&places(alloc, &accepted(alloc, text)?, text)?, wanted)
+}
+
 #[test]
-fn no_statement(rt: HostRuntime) -> Result<(), Fail> {
-    is_same(
-        &places(rt.alloc(), "processes 1; var stamp_; begin end")?.len(),
-        &0,
-    )
+fn spots(rt: HostRuntime) -> Result<(), Fail> {
+    stand(rt.alloc(), TEXT, &SPOTS)?;
+    stand(rt.alloc(), COMMENTED, &COMMENTED_SPOTS)?;
+    stand(rt.alloc(), "processes 1; var stamp_; begin end", &[])
+}
+
+// Of a text that is another's the statements stand where their tokens would; past its end, at its
+// beginning, without words.
+#[test]
+fn another_text(rt: HostRuntime) -> Result<(), Fail> {
+    let program = accepted(rt.alloc(), "processes 1; begin stamp; clear; end")?;
+    let spots = places(rt.alloc(), &program, "a b c\n d stamp")?;
+    are(&spots, &[(2, 4, "stamp"), (1, 1, "")])
 }

@@ -17,12 +17,12 @@ use Rattle.ticklab.specs.Schedules.{IsSchedule}
 abbrev Text : Type 0
 Text = List ℕ
 
-abbrev pub SearchesBy : Bool → Text → Text → Response → Type 0
+abbrev pub SearchesBy : Bool → Text → ℕ → Text → Response → Type 0
 SearchesBy false = Explores
 SearchesBy true = Merges
 
-abbrev pub RespondsExploring : Text → Bool → Response → Type 0
-RespondsExploring file is_merged response = (input : Text) × SearchesBy is_merged file input response
+abbrev pub RespondsExploring : Text → ℕ → Bool → Response → Type 0
+RespondsExploring file limit is_merged response = (input : Text) × SearchesBy is_merged file limit input response
 
 abbrev pub mode_of : Bool → Mode
 mode_of false = Bursts
@@ -43,7 +43,7 @@ RespondsExplaining file (Some schedule) response =
     (input : Text) × (from : Text) × (text : Text) × IsSchedule schedule from text × ExplainsBoth file input from text response
 
 abbrev pub Responds : Request Text → Response → Type 0
-Responds (Explore file limit is_merged) = RespondsExploring file is_merged
+Responds (Explore file limit is_merged) = RespondsExploring file limit is_merged
 Responds (Hunt file seed runs steps is_uniform) =
     RespondsHunting file (record { seed = seed; runs = runs; steps = steps; mode = mode_of is_uniform })
 Responds (Trace file schedule is_code) = RespondsAfterReading Traces file schedule is_code

@@ -57,7 +57,7 @@ pub fn response_to(rt: &HostRuntime, request: Request<&str>) -> Result<Response,
 }
 
 fn explore(rt: &HostRuntime, file: &str, limit: u32, is_merged: bool) -> Result<Response, LabFault>
-    ensures { IfOk result (RespondsExploring file.now is_merged) }
+    ensures { IfOk result (RespondsExploring file.now limit is_merged) }
 {
     let input = bytes_of(rt, file)?;
     let mut progress = Progress::new(rt);
@@ -81,7 +81,7 @@ fn searched<W: Watch>(
     is_merged: bool,
     watch: &mut W,
 ) -> Result<Response, AnswerFault>
-    ensures { IfOk result (SearchesBy is_merged file.now input.now) }
+    ensures { IfOk result (SearchesBy is_merged file.now limit input.now) }
 {
     if is_merged {
         return explored_merged(alloc, file, input, limit, watch);

@@ -23,7 +23,7 @@ pub returns-clause-ok : goal.returns-clause-ok
 returns-clause-ok c = record {
   status = c.answer.ensures.status;
   quiet = c.answer.ensures.told;
-  out = run_by (IsTrace c.args.is_code) c.args.input.now c.args.schedule.now c.in_ok-program.program c.in_ok-program.ensures.ok
+  out = run_by (IsTrace c.args.is_code c.args.input.now) c.args.input.now c.args.schedule.now c.in_ok-program.program c.in_ok-program.ensures.ok
       c.processes.result c.processes.ensures.count c.in_ok-steps.steps.items c.as_slice.result.now c.in_ok-steps.ensures.ok
       c.as_slice.ensures.value (string_bytes c.in_ok-text.text) _ c.answer.ensures.out c.in_ok-text.ensures.ok;
 }

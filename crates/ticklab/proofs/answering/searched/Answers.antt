@@ -4,8 +4,8 @@ use Rattle.ticklab.proofs.answering.searched.Goals as goal
 
 pub returns-then-is_merged : goal.returns-then-is_merged
 returns-then-is_merged g c =
-    subst (λ (b : Bool). IfOk c.explored_merged.result (SearchesBy b c.args.file.now c.args.input.now)) (sym c.if-is_merged.true) c.explored_merged.ensures
+    subst (λ (b : Bool). IfOk c.explored_merged.result (SearchesBy b c.args.file.now c.args.limit c.args.input.now)) (sym c.if-is_merged.true) c.explored_merged.ensures
 
 pub returns : goal.returns
 returns g c =
-    subst (λ (b : Bool). IfOk c.explored.result (SearchesBy b c.args.file.now c.args.input.now)) (sym c.if-is_merged.false) c.explored.ensures
+    subst (λ (b : Bool). IfOk c.explored.result (SearchesBy b c.args.file.now c.args.limit c.args.input.now)) (sym c.if-is_merged.false) c.explored.ensures
