@@ -13,6 +13,16 @@ pub fn sizes_of(numbers: (u8, u8, u8, u8)) -> Result<Sizes, Fail> {
     }
 }
 
+/// How many processes, variables, scans and register rows there are.
+pub fn told(sizes: Sizes) -> [u8; 4] {
+    [
+        sizes.processes(),
+        sizes.variables(),
+        sizes.scans(),
+        sizes.registers(),
+    ]
+}
+
 pub fn verified(
     alloc: Global,
     instructions: Vec<Instr>,

@@ -3,7 +3,7 @@ use code_core::CodeFault::{BadJump, BadLine, FallsOff, TooLong};
 use code_core::Instr::{Halt, Jump, Push};
 use code_core::{CodeFault, Instr};
 use std::test::Fail;
-use testing::repeated;
+use testing::{holds, is_same, repeated};
 
 const SIZES: &str = "tickcode 2 1 0 0 0\n";
 
@@ -26,7 +26,7 @@ fn longest_codes(rt: HostRuntime) -> Result<(), Fail> {
             Ok(code) => (code.len(), Ok(code.height())),
             Err((back, fault)) => (back.len(), Err(fault)),
         };
-        assert_eq!(rt; (length, found), (count, answer), "{count} {instruction:?}");
+        holds((length, found) == (count, answer), (count, instruction))?;
     }
     Ok(())
 }
@@ -47,10 +47,11 @@ fn longest_texts(rt: HostRuntime) -> Result<(), Fail> {
         let text = repeated(rt.alloc(), SIZES, line, count, back)?;
         match read(rt.alloc(), text.as_str()) {
             Ok(code) => {
-                assert_eq!(rt; Ok(code.len()), answer);
-                assert!(rt; written(rt.alloc(), &code)?.as_str() == text.as_str());
+                is_same(&Ok(code.len()), &answer)?;
+                let is_text = written(rt.alloc(), &code)?.as_str() == text.as_str();
+                holds(is_text, (line, count))?;
             }
-            Err(fault) => assert_eq!(rt; Err(fault), answer),
+            Err(fault) => is_same(&Err(fault), &answer)?,
         }
     }
     Ok(())

@@ -3,8 +3,9 @@ use code_core::CodeFault;
 use code_core::CodeFault::{
     BadJump, BadLine, BadSlot, BadStamp, Empty, FallsOff, HeightsDiffer, StackShort,
 };
-use std::process::Abort;
+use std::alloc::Global;
 use std::test::Fail;
+use testing::holds;
 
 // Texts whose first line is none of sizes.
 static HEADERS: [&str; 34] = [
@@ -174,15 +175,16 @@ static FAULTS: [(&str, CodeFault); 16] = [
     ),
 ];
 
-fn refuses<R: AllocGlobal + Abort>(rt: &R, text: &str, fault: CodeFault) {
-    assert_eq!(rt; read(rt.alloc(), text).err(), Some(fault), "{text:?}");
+fn refuses(alloc: Global, text: &str, fault: CodeFault) -> Result<(), Fail> {
+    holds(read(alloc, text).err() == Some(fault), (text, fault))
 }
 
 #[test]
-fn first_lines(rt: HostRuntime) {
+fn first_lines(rt: HostRuntime) -> Result<(), Fail> {
     for &text in &HEADERS {
-        refuses(&rt, text, BadLine(1));
+        refuses(rt.alloc(), text, BadLine(1))?;
     }
+    Ok(())
 }
 
 #[test]
@@ -190,14 +192,15 @@ fn later_lines(rt: HostRuntime) -> Result<(), Fail> {
     for &(lines, number) in &LINES {
         let mut text = String::from_str(rt.alloc(), "tickcode 1 1 0 0 0\n")?;
         text.push_str(lines)?;
-        refuses(&rt, text.as_str(), BadLine(number));
+        refuses(rt.alloc(), text.as_str(), BadLine(number))?;
     }
     Ok(())
 }
 
 #[test]
-fn faults(rt: HostRuntime) {
+fn faults(rt: HostRuntime) -> Result<(), Fail> {
     for &(text, fault) in &FAULTS {
-        refuses(&rt, text, fault);
+        refuses(rt.alloc(), text, fault)?;
     }
+    Ok(())
 }

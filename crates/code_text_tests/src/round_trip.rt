@@ -1,4 +1,4 @@
-use crate::answers::{read, written};
+use crate::answers::{read, told, written};
 use code_core::CodeFault::BadLine;
 use code_core::Instr;
 use code_core::Instr::{
@@ -8,6 +8,7 @@ use code_core::Instr::{
 use machine_core::Op;
 use std::str;
 use std::test::Fail;
+use testing::{holds, is_same};
 
 // Each instruction and each operator, with numbers of one digit and more.
 const EVERY: &str = "tickcode 2 6 64 16 8
@@ -109,30 +110,20 @@ static TEXTS: [&str; 5] = [
 #[test]
 fn each_instruction(rt: HostRuntime) -> Result<(), Fail> {
     let code = read(rt.alloc(), EVERY)?;
-    assert_eq!(rt; (code.len(), code.height()), (41, 10));
+    is_same(&(code.len(), code.height()), &(41, 10))?;
     for (place, instruction) in INSTRUCTIONS.iter().enumerate() {
         if place < code.len() {
-            assert_eq!(rt; code.instr(place as u16), *instruction, "at {place}");
+            is_same(&(place, code.instr(place as u16)), &(place, *instruction))?;
         }
     }
-    let sizes = code.sizes();
-    assert_eq!(rt;
-        (
-            sizes.processes(),
-            sizes.variables(),
-            sizes.scans(),
-            sizes.registers()
-        ),
-        (6, 64, 16, 8)
-    );
-    Ok(())
+    is_same(&told(code.sizes()), &[6, 64, 16, 8])
 }
 
 #[test]
 fn writes_what_was_read(rt: HostRuntime) -> Result<(), Fail> {
     for &text in &TEXTS {
         let code = read(rt.alloc(), text)?;
-        assert_eq!(rt; written(rt.alloc(), &code)?.as_str(), text);
+        is_same(&written(rt.alloc(), &code)?.as_str(), &text)?;
     }
     Ok(())
 }
@@ -149,7 +140,7 @@ fn cut_off(rt: HostRuntime) -> Result<(), Fail> {
             number = number.saturating_add(1);
         }
         let is_bad = read(rt.alloc(), part).err() == Some(BadLine(number));
-        assert_eq!(rt; is_bad, !ends, "{length}");
+        holds(is_bad != ends, length)?;
     }
     Ok(())
 }

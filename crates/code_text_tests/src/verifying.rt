@@ -1,4 +1,4 @@
-use crate::answers::{sizes_of, verified};
+use crate::answers::{sizes_of, told, verified};
 use code_core::CodeFault::{
     BadJump, BadSlot, BadStamp, Empty, FallsOff, HeightsDiffer, StackShort,
 };
@@ -9,6 +9,7 @@ use code_core::Instr::{
 use code_core::{CodeFault, Instr, Sizes};
 use machine_core::Op;
 use std::test::Fail;
+use testing::{holds, is_same};
 
 // Processes, variables, scans and register rows, and whether a code can have them.
 static SIZES: [(u8, u8, u8, u8, bool); 10] = [
@@ -146,22 +147,10 @@ static ACCEPTED: [(&[Instr], u16); 7] = [
 #[test]
 fn sizes(rt: HostRuntime) -> Result<(), Fail> {
     for &(processes, variables, scans, rows, can) in &SIZES {
-        assert_eq!(rt;
-            Sizes::new(processes, variables, scans, rows).is_some(),
-            can
-        );
+        let found = Sizes::new(processes, variables, scans, rows).is_some();
+        holds(found == can, (processes, variables, scans, rows))?;
     }
-    let sizes = sizes_of((2, 3, 4, 5))?;
-    assert_eq!(rt;
-        (
-            sizes.processes(),
-            sizes.variables(),
-            sizes.scans(),
-            sizes.registers()
-        ),
-        (2, 3, 4, 5)
-    );
-    Ok(())
+    is_same(&told(sizes_of((2, 3, 4, 5))?), &[2, 3, 4, 5])
 }
 
 // The instructions come back with their first fault.
@@ -170,10 +159,10 @@ fn refuses(rt: HostRuntime) -> Result<(), Fail> {
     let sizes = sizes_of((6, 64, 16, 8))?;
     for &(instructions, fault) in &REFUSED {
         let given = Vec::from_slice(rt.alloc(), instructions)?;
-        let Err((back, told)) = verified(rt.alloc(), given, sizes) else {
+        let Err((back, found)) = verified(rt.alloc(), given, sizes) else {
             return Err(Fail::new("accepted"));
         };
-        assert_eq!(rt; (back.as_slice(), told), (instructions, fault));
+        is_same(&(back.as_slice(), found), &(instructions, fault))?;
     }
     Ok(())
 }
@@ -193,7 +182,7 @@ fn refuses_all_slots(rt: HostRuntime) -> Result<(), Fail> {
     ] {
         let given = vec![in rt.alloc(); first, Halt]?;
         let fault = verified(rt.alloc(), given, sizes).err();
-        assert!(rt; matches!(fault, Some((_, BadSlot(0)))), "{first:?}");
+        holds(matches!(fault, Some((_, BadSlot(0)))), first)?;
     }
     Ok(())
 }
@@ -206,13 +195,13 @@ fn accepts(rt: HostRuntime) -> Result<(), Fail> {
         let Ok(code) = verified(rt.alloc(), given, sizes) else {
             return Err(Fail::new("refused"));
         };
-        assert_eq!(rt;
-            (code.len(), code.height(), code.sizes()),
-            (instructions.len(), height, sizes)
-        );
+        is_same(
+            &(code.len(), code.height(), code.sizes()),
+            &(instructions.len(), height, sizes),
+        )?;
         for place in 0..code.len() as u16 {
             let given = instructions.get(usize::from(place));
-            assert_eq!(rt; Some(&code.instr(place)), given);
+            is_same(&Some(&code.instr(place)), &given)?;
         }
     }
     Ok(())

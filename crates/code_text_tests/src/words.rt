@@ -6,6 +6,7 @@ use code_core::Instr::{
 };
 use machine_core::Op;
 use std::test::Fail;
+use testing::is_same;
 
 // Instructions, the words that keep them, and the values that they push.
 static KEPT: [(&[Instr], &[u32], &[u32]); 2] = [
@@ -79,7 +80,7 @@ fn instructions_in_words(rt: HostRuntime) -> Result<(), Fail> {
         let Ok(code) = verified(rt.alloc(), given, sizes) else {
             return Err(Fail::new("refused"));
         };
-        assert_eq!(rt; (code.words(), code.constants()), (words, constants));
+        is_same(&(code.words(), code.constants()), &(words, constants))?;
     }
     Ok(())
 }
@@ -96,12 +97,12 @@ fn many_constants(rt: HostRuntime) -> Result<(), Fail> {
     let Ok(code) = verified(rt.alloc(), given, sizes_of((1, 0, 0, 0))?) else {
         return Err(Fail::new("refused"));
     };
-    assert_eq!(rt; code.constants().len(), 300);
-    assert_eq!(rt; code.words().get(598), Some(&299));
+    is_same(&code.constants().len(), &300)?;
+    is_same(&code.words().get(598), &Some(&299))?;
     for value in 0..300u16 {
         if usize::from(value * 2) < code.len() {
             let pushed = u32::from(value) * 65537;
-            assert_eq!(rt; code.instr(value * 2), Push(pushed));
+            is_same(&code.instr(value * 2), &Push(pushed))?;
         }
     }
     Ok(())

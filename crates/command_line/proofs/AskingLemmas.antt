@@ -1,5 +1,5 @@
 -- From what `clap` says of a command and its matches to the command line that is described.
-use Rattle.std.proofs.Common.{◌≡◌, ◌∙◌, ◌∷◌, List, [], Option, Some, None, true, false, ap, ap₂, codes, option_map, Box, refl, subst, inl, inr}
+use Rattle.std.proofs.Common.{◌≡◌, ◌∙◌, ◌&&◌, Bool, ◌∷◌, List, [], Option, Some, None, true, false, ap, ap₂, codes, option_map, Box, refl, subst, inl, inr}
 use Rattle.std.specs.Box.{box_value}
 use Rattle.clap.specs.Walk.{Row, Text, first_of, rows_of}
 use Rattle.clap.specs.Words.{AddsSubcommand}
@@ -47,13 +47,16 @@ named-rows (Some b) name rows is_name are_rows =
     ap₂ (λ (n : Text) (r : List Row). named n (first_of (codes "value") r)) same_name same_rows
 
 -- `clap`'s promises hold of the command line
-ticketc_is_simple : is_simple ticketc ≡ true
-unfolding clap_on_literals
-ticketc_is_simple = refl
-
 ticketc_is_free : is_simple_and_free ticketc ≡ true
 unfolding clap_on_literals
 ticketc_is_free = refl
+
+first_of_both : (a b : Bool) → (a && b) ≡ true → a ≡ true
+first_of_both true b both = refl
+first_of_both false b both = both
+
+ticketc_is_simple : is_simple ticketc ≡ true
+ticketc_is_simple = first_of_both _ _ ticketc_is_free
 
 pub asked_in-taken : (app : App) (words : List Text) (matches : ArgMatches)
     → app ≡ ticketc

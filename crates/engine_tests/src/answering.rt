@@ -2,7 +2,6 @@
 use crate::in_memory::{Disturbance, Input, Output};
 use engine::{EngineFault, engine};
 use std::alloc::{AllocError, Global};
-use std::process::Abort;
 use std::sync::Wait;
 use std::test::Fail;
 use std::thread::Threads;
@@ -64,8 +63,8 @@ pub fn answered<R: AllocGlobal + Threads + Wait>(
     served(rt, words, reader, writer)
 }
 
-/// Asserts that the words come to this status on an input, and write this answer.
-pub fn answers<R: AllocGlobal + Abort + Threads + Wait>(
+/// That the words come to this status on an input, and write this answer.
+pub fn answers<R: AllocGlobal + Threads + Wait>(
     rt: &R,
     words: &[&str],
     input: &[u8],
@@ -73,13 +72,12 @@ pub fn answers<R: AllocGlobal + Abort + Threads + Wait>(
     answer: &str,
 ) -> Result<(), Fail> {
     let outcome = answered(rt, words, input)?;
-    assert!(rt; outcome.is(Ok(status), answer), "{words:?}: {answer}");
-    Ok(())
+    holds(outcome.is(Ok(status), answer), (words, answer))
 }
 
-/// Asserts that the words write this answer on an input. Names the command alone, since the other
+/// That the words write this answer on an input. Names the command alone, since the other
 /// texts may be long.
-pub fn says<R: AllocGlobal + Abort + Threads + Wait>(
+pub fn says<R: AllocGlobal + Threads + Wait>(
     rt: &R,
     words: &[&str],
     input: &[u8],

@@ -2,7 +2,6 @@
 use crate::answering::{Outcome, USAGE, served};
 use crate::in_memory::{Disturbance, Input, Output};
 use engine::EngineFault;
-use std::process::Abort;
 use std::sync::Wait;
 use std::test::Fail;
 use std::thread::Threads;
@@ -225,7 +224,7 @@ fn answered<R: AllocGlobal + Threads + Wait>(
     served(rt, row.0, input, output)
 }
 
-fn each_call<R: AllocGlobal + Abort + Threads + Wait>(
+fn each_call<R: AllocGlobal + Threads + Wait>(
     rt: &R,
     trouble: Trouble,
     row: &Row,

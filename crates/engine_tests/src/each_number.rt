@@ -1,6 +1,5 @@
 //! Each number of processes through each command.
 use crate::answering::answers;
-use std::process::Abort;
 use std::sync::Wait;
 use std::test::Fail;
 use std::thread::Threads;
@@ -92,7 +91,7 @@ static ROWS: [Row; 6] = [
 ];
 
 // The commands that make a text of the program.
-fn texts<R: AllocGlobal + Abort + Threads + Wait>(rt: &R, row: &Row) -> Result<(), Fail> {
+fn texts<R: AllocGlobal + Threads + Wait>(rt: &R, row: &Row) -> Result<(), Fail> {
     let (n, stamps, words, ..) = *row;
     let number = format!(in rt.alloc(); "{n}")?;
     let program = format!(in rt.alloc(); "processes {n}; {BODY}")?;
@@ -106,7 +105,7 @@ fn texts<R: AllocGlobal + Abort + Threads + Wait>(rt: &R, row: &Row) -> Result<(
 }
 
 // The commands that run the program or its code, or carry schedules between them.
-fn plays<R: AllocGlobal + Abort + Threads + Wait>(rt: &R, row: &Row) -> Result<(), Fail> {
+fn plays<R: AllocGlobal + Threads + Wait>(rt: &R, row: &Row) -> Result<(), Fail> {
     let (n, _, _, schedule, report, lifted, dropped, outcome) = *row;
     let program = format!(in rt.alloc(); "processes {n}; {BODY}")?;
     let code = format!(in rt.alloc(); "tickcode 1 {n} 1 1 1\n{CODE}")?;

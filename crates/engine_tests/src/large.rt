@@ -3,14 +3,13 @@ use crate::answering;
 use crate::answering::answered;
 use std::alloc::{AllocError, Global};
 use std::fmt::Write;
-use std::process::Abort;
 use std::sync::Wait;
 use std::test::Fail;
 use std::thread::Threads;
 use testing::{holds, repeated};
 
 // Names the command alone, since the answer is long.
-fn answers<R: AllocGlobal + Abort + Threads + Wait>(
+fn answers<R: AllocGlobal + Threads + Wait>(
     rt: &R,
     words: &[&str],
     input: &str,
@@ -20,7 +19,7 @@ fn answers<R: AllocGlobal + Abort + Threads + Wait>(
     holds(outcome.is(Ok(0), answer), words)
 }
 
-fn prints<R: AllocGlobal + Abort + Threads + Wait>(
+fn prints<R: AllocGlobal + Threads + Wait>(
     rt: &R,
     program: &str,
     printed: &str,

@@ -1,6 +1,5 @@
 //! What `emit`, `code`, `lift` and `drop` answer on programs.
 use crate::answering::answers;
-use std::process::Abort;
 use std::sync::Wait;
 use std::test::Fail;
 use std::thread::Threads;
@@ -115,7 +114,7 @@ fn programs_and_their_codes(rt: HostRuntime) -> Result<(), Fail> {
 }
 
 // The words on a program of one statement so many times.
-fn answers_on<R: AllocGlobal + Abort + Threads + Wait>(
+fn answers_on<R: AllocGlobal + Threads + Wait>(
     rt: &R,
     words: &[&str],
     statement: &str,

@@ -1,6 +1,7 @@
 //! What `check` and `source` answer on programs that are accepted.
 use crate::answering::{answered, answers};
 use std::test::Fail;
+use testing::holds;
 
 const QUEUE: &[u8] =
     b"processes 2; var x; scan s; begin stamp; s = scan; x = older s 0 1; out x; end";
@@ -137,7 +138,7 @@ fn cut_off(rt: HostRuntime) -> Result<(), Fail> {
             .written
             .as_slice()
             .starts_with(b"refused 5 Unexpected ");
-        assert!(rt; outcome.status == Ok(1) && is_unexpected, "{length}");
+        holds(outcome.status == Ok(1) && is_unexpected, length)?;
     }
     Ok(())
 }

@@ -1,6 +1,5 @@
 //! Each trap, in each place that can make it, on each machine: of programs, of codes, and on threads.
 use crate::answering::answers;
-use std::process::Abort;
 use std::sync::Wait;
 use std::test::Fail;
 use std::thread::Threads;
@@ -22,11 +21,7 @@ static TRAPS: [(&str, &str); 13] = [
     ("while (0 - 1) { }", "Below"),
 ];
 
-fn traps<R: AllocGlobal + Abort + Threads + Wait>(
-    rt: &R,
-    statement: &str,
-    trap: &str,
-) -> Result<(), Fail> {
+fn traps<R: AllocGlobal + Threads + Wait>(rt: &R, statement: &str, trap: &str) -> Result<(), Fail> {
     let program = format!(in rt.alloc();
         "processes 2; var x; scan s; reg r; begin {statement} out 7; end"
     )?;

@@ -1,6 +1,5 @@
 use std::alloc::Global;
 use std::fmt::Write;
-use std::process::Abort;
 use std::test::Fail;
 use testing::{accepted, holds, is_same, refusal};
 use tick_kinds::resolved::Statement;
@@ -9,10 +8,8 @@ use tick_syntax::parse;
 use tick_syntax::span::Span;
 use tick_syntax::tree::Tree;
 
-fn refuses<R: AllocGlobal + Abort>(rt: &R, text: &str, fault: KindFault) -> Result<(), Fail> {
-    let found = refusal(rt.alloc(), text)?;
-    assert_eq!(rt; found, fault, "{text}");
-    Ok(())
+fn refuses(alloc: Global, text: &str, fault: KindFault) -> Result<(), Fail> {
+    holds(refusal(alloc, text)? == fault, text)
 }
 
 // A program, and why it isn't accepted.
@@ -84,7 +81,7 @@ static REFUSALS: [(&str, KindFault); 11] = [
 #[test]
 fn tells_each_refusal(rt: HostRuntime) -> Result<(), Fail> {
     for (text, fault) in &REFUSALS {
-        refuses(&rt, text, *fault)?;
+        refuses(rt.alloc(), text, *fault)?;
     }
     Ok(())
 }
@@ -96,32 +93,24 @@ fn tells_the_first_name_that_is_too_many(rt: HostRuntime) -> Result<(), Fail> {
         start: 263,
         end: 266,
     };
-    refuses(&rt, text.as_str(), KindFault::TooMany(first))
+    refuses(rt.alloc(), text.as_str(), KindFault::TooMany(first))
 }
 
-fn declares<R: AllocGlobal + Abort>(
-    rt: &R,
-    text: &str,
-    variables: u8,
-    scans: u8,
-    registers: u8,
-) -> Result<(), Fail> {
-    let program = accepted(rt.alloc(), text)?;
-    let is_so = program.variables() == variables
-        && program.scans() == scans
-        && program.registers() == registers;
-    holds(is_so, text)?;
-    Ok(())
+// How many variables, scans and register rows a program declares.
+fn declares(alloc: Global, text: &str, numbers: [u8; 3]) -> Result<(), Fail> {
+    let program = accepted(alloc, text)?;
+    let found = [program.variables(), program.scans(), program.registers()];
+    holds(found == numbers, text)
 }
 
 #[test]
 fn accepts_as_many_names_as_there_may_be(rt: HostRuntime) -> Result<(), Fail> {
     let text = variables(rt.alloc(), 64)?;
-    declares(&rt, text.as_str(), 64, 0, 0)?;
+    declares(rt.alloc(), text.as_str(), [64, 0, 0])?;
     let scans = "processes 6; scan a,b,c,d,e,f,g,h,i,j,k,l,m,o,p,q; begin end";
-    declares(&rt, scans, 0, 16, 0)?;
+    declares(rt.alloc(), scans, [0, 16, 0])?;
     let registers = "processes 1; reg a,b,c,d,e,f,g,h; begin end";
-    declares(&rt, registers, 0, 0, 8)
+    declares(rt.alloc(), registers, [0, 0, 8])
 }
 
 // A program that declares so many variables, at least one.
@@ -151,7 +140,7 @@ fn is_whole(program: &Program) -> bool {
 fn numbers_names_by_section(rt: HostRuntime) -> Result<(), Fail> {
     let text =
         "processes 2; var x, y; scan s; reg r; begin s = scan; y = older s 0 me; while y { out x; } end";
-    declares(&rt, text, 2, 1, 1)?;
+    declares(rt.alloc(), text, [2, 1, 1])?;
     let program = accepted(rt.alloc(), text)?;
     is_same(&program.processes(), &2)?;
     holds(is_numbered(&program), "names")?;
@@ -194,9 +183,8 @@ fn says_faults_in_words(rt: HostRuntime) -> Result<(), Fail> {
         found: Kind::Register,
     };
     let text = format!(in rt.alloc(); "{wrong}; {}", KindFault::Twice(span))?;
-    assert_eq!(rt;
-        text.as_str(),
-        "the name at bytes 3..5 is declared as register, and a variable stands here; the name at bytes 3..5 was declared before"
-    );
-    Ok(())
+    is_same(
+        &text.as_str(),
+        &"the name at bytes 3..5 is declared as register, and a variable stands here; the name at bytes 3..5 was declared before",
+    )
 }

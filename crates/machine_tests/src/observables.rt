@@ -36,22 +36,20 @@ fn holds_registers(rt: HostRuntime) -> Result<(), Fail> {
 }
 
 #[test]
-fn sets_where_there_is_a_place(rt: HostRuntime) {
+fn sets_where_there_is_a_place(_rt: HostRuntime) -> Result<(), Fail> {
     let mut values = [1, 2, 3];
     set_at(&mut values, 1, 7);
     set_at(&mut values, 3, 8);
-    assert_eq!(rt; values, [1, 7, 3]);
+    is_same(&values, &[1, 7, 3])
 }
 
 #[test]
 fn reports_events_then_registers_then_statuses(rt: HostRuntime) -> Result<(), Fail> {
     let outcome = small_outcome(rt.alloc())?;
-    let text = report_of(rt.alloc(), &outcome)?;
-    assert_eq!(rt;
-        text.as_str(),
-        "1 put 0 8\n1 scan 0 1\n0 trap Below\nreg 0 7 8\nstatus 0 trapped Below\nstatus 1 running\n"
-    );
-    Ok(())
+    is_same(
+        &report_of(rt.alloc(), &outcome)?.as_str(),
+        &"1 put 0 8\n1 scan 0 1\n0 trap Below\nreg 0 7 8\nstatus 0 trapped Below\nstatus 1 running\n",
+    )
 }
 
 fn small_outcome(alloc: Global) -> Result<Outcome, Fail> {

@@ -1,9 +1,10 @@
-ghost use Rattle.std.specs.Prelude.{◌≤◌};
+ghost use Rattle.std.specs.Prelude.{◌≡◌, ◌≤◌};
+ghost use Rattle.stamp_table.specs.Passes.{Holds};
 
 use crate::threads::all_try;
 use crate::trying::try_once;
 use label_core::Label;
-use stamp_table::{Pass, Swap, open};
+use stamp_table::{Pass, StampTable, Swap, open};
 use std::alloc::Global;
 use std::test::Fail;
 use std::thread::Threads;
@@ -67,63 +68,140 @@ fn a_label_given_up(rt: HostRuntime) -> Result<(), Fail> {
     let (table, pass) = open(rt.alloc(), 3, 0)?;
     let (rest, mut two) = table.split(pass, 2);
     let (mut zero, mut one) = table.split(rest, 1);
-    is_same(&try_once(&table, &mut zero, 0), &true)?;
-    is_same(&table.load(&mut one, 1).bits(), &281_474_976_710_656)?;
-    is_same(&try_once(&table, &mut one, 1), &true)?;
-    is_same(&try_once(&table, &mut two, 2), &true)?;
+    let zero_won = try_once(&table, &mut zero, 0);
+    let alone = table.load(&mut one, 1);
+    let others_won = [try_once(&table, &mut one, 1), try_once(&table, &mut two, 2)];
     let old = table.load(&mut zero, 0);
-    is_same(&old.bits(), &1_970_324_837_171_456)?;
     let left = table.clear(&mut one, 1);
-    is_same(&left.bits(), &1_407_374_883_749_888)?;
-    is_same(
-        &table.exchange(&mut zero, 0, old, old.stamped(0)),
-        &Swap::Lost(left),
-    )?;
-    is_same(
-        &table.exchange(&mut zero, 0, left, left.stamped(0)),
-        &Swap::Won,
-    )?;
+    let lost = table.exchange(&mut zero, 0, old, old.stamped(0));
+    let won = table.exchange(&mut zero, 0, left, left.stamped(0));
     let again = table.clear(&mut one, 1);
-    is_same(&again.bits(), &1_407_374_883_749_892)?;
     let met = table.meet(zero, one);
     let met = table.meet(met, two);
     let last = table.close(met);
+    is_same(&(zero_won, others_won), &(true, [true, true]))?;
+    is_same(
+        &[alone.bits(), old.bits(), left.bits(), again.bits()],
+        &[
+            281_474_976_710_656,
+            1_970_324_837_171_456,
+            1_407_374_883_749_888,
+            1_407_374_883_749_892,
+        ],
+    )?;
+    is_same(&[lost, won], &[Swap::Lost(left), Swap::Won])?;
     is_same(&last.word(), &again)
 }
 
-// Three processes stamp in turn until the word of an older load comes back.
+// The third process tries to stamp, and then the second: whether both won.
+fn both_try(table: &StampTable, two: &mut Pass, one: &mut Pass) -> bool
+    requires two_here { two.old.table ≡ table.now }
+    requires two_held { Holds two.old.held 2 }
+    requires one_here { one.old.table ≡ table.now }
+    requires one_held { Holds one.old.held 1 }
+    ensures two_here { two.new.table ≡ table.now }
+    ensures two_held { two.new.held ≡ two.old.held }
+    ensures one_here { one.new.table ≡ table.now }
+    ensures one_held { one.new.held ≡ one.old.held }
+{
+    let first = try_once(table, two, 2);
+    try_once(table, one, 1) && first
+}
+
+// Three processes stamp in turn until the word of an older load comes back: that word and the one that an
+// exchange of it leaves; whether each try won, that exchange too, and whether the next one lost to it.
+fn comes_back(
+    table: &StampTable,
+    zero: &mut Pass,
+    one: &mut Pass,
+    two: &mut Pass,
+) -> ([u64; 2], [bool; 8])
+    requires three { table.now.n ≡ 3 }
+    requires zero_here { zero.old.table ≡ table.now }
+    requires zero_held { Holds zero.old.held 0 }
+    requires one_here { one.old.table ≡ table.now }
+    requires one_held { Holds one.old.held 1 }
+    requires two_here { two.old.table ≡ table.now }
+    requires two_held { Holds two.old.held 2 }
+    ensures zero_here { zero.new.table ≡ table.now }
+    ensures zero_held { zero.new.held ≡ zero.old.held }
+    ensures one_here { one.new.table ≡ table.now }
+    ensures one_held { one.new.held ≡ one.old.held }
+    ensures two_here { two.new.table ≡ table.now }
+    ensures two_held { two.new.held ≡ two.old.held }
+{
+    let zero_won = try_once(table, zero, 0);
+    let one_won = try_once(table, one, 1);
+    let once = both_try(table, two, one);
+    let old = table.load(zero, 0);
+    let twice = both_try(table, two, one);
+    let thrice = both_try(table, two, one);
+    let back = both_try(table, two, one);
+    let new = old.stamped(0);
+    let won = table.exchange(zero, 0, old, new) == Swap::Won;
+    let lost = table.exchange(one, 1, old, old.stamped(1)) == Swap::Lost(new);
+    (
+        [old.bits(), new.bits()],
+        [zero_won, one_won, once, twice, thrice, back, won, lost],
+    )
+}
+
+// Then a register is written, read by another, and read at the end.
 #[test]
 fn the_word_comes_back(rt: HostRuntime) -> Result<(), Fail> {
     let (table, pass) = open(rt.alloc(), 3, 1)?;
     let (rest, mut two) = table.split(pass, 2);
     let (mut zero, mut one) = table.split(rest, 1);
-    assert!(rt; zero.holds(0) && !zero.holds(1) && one.holds(1) && two.holds(2) && !two.holds(6));
-    assert!(rt; try_once(&table, &mut zero, 0) && try_once(&table, &mut one, 1));
-    assert!(rt; try_once(&table, &mut two, 2) && try_once(&table, &mut one, 1));
-    let old = table.load(&mut zero, 0);
-    assert_eq!(rt; old.bits(), 1_970_324_837_172_224);
-    assert!(rt; try_once(&table, &mut two, 2) && try_once(&table, &mut one, 1));
-    assert!(rt; try_once(&table, &mut two, 2) && try_once(&table, &mut one, 1));
-    assert!(rt; try_once(&table, &mut two, 2) && try_once(&table, &mut one, 1));
-    let new = old.stamped(0);
-    assert_eq!(rt; new.bits(), 1_970_324_837_172_230);
-    assert_eq!(rt; table.exchange(&mut zero, 0, old, new), Swap::Won);
-    match table.exchange(&mut one, 1, old, old.stamped(1)) {
-        Swap::Won => assert!(rt; false),
-        Swap::Lost(found) => assert_eq!(rt; found.bits(), 1_970_324_837_172_230),
-    }
+    let (words, facts) = comes_back(&table, &mut zero, &mut one, &mut two);
     table.write(&mut zero, 0, 0, 5);
-    assert_eq!(rt; table.read(&mut one, 1, 0, 0), 5);
-    assert_eq!(rt; table.read(&mut one, 1, 0, 2), 0);
+    let read = [table.read(&mut one, 1, 0, 0), table.read(&mut one, 1, 0, 2)];
     let met = table.meet(zero, one);
     let met = table.meet(met, two);
-    assert!(rt; met.holds(0) && met.holds(1) && met.holds(2) && !met.holds(3));
     let last = table.close(met);
-    assert_eq!(rt; last.word().bits(), 1_970_324_837_172_230);
-    assert_eq!(rt; last.register(0, 0), 5);
-    assert_eq!(rt; last.register(0, 1), 0);
-    assert_eq!(rt; last.register(0, 2), 0);
-    Ok(())
+    is_same(&facts, &[true; 8])?;
+    is_same(&words, &[1_970_324_837_172_224, 1_970_324_837_172_230])?;
+    is_same(&last.word().bits(), &1_970_324_837_172_230)?;
+    is_same(&read, &[5, 0])?;
+    is_same(
+        &[
+            last.register(0, 0),
+            last.register(0, 1),
+            last.register(0, 2),
+        ],
+        &[5, 0, 0],
+    )
+}
+
+// Which of the processes 0 to 6 a pass holds.
+fn held(pass: &Pass) -> [bool; 7] {
+    [
+        pass.holds(0),
+        pass.holds(1),
+        pass.holds(2),
+        pass.holds(3),
+        pass.holds(4),
+        pass.holds(5),
+        pass.holds(6),
+    ]
+}
+
+// Passes that parted and met.
+#[test]
+fn passes_of_three(rt: HostRuntime) -> Result<(), Fail> {
+    let (table, pass) = open(rt.alloc(), 3, 1)?;
+    let (rest, two) = table.split(pass, 2);
+    let (zero, one) = table.split(rest, 1);
+    let apart = [held(&zero), held(&one), held(&two)];
+    let met = table.meet(table.meet(zero, one), two);
+    is_same(
+        &[apart[0], apart[1], apart[2], held(&met)],
+        &[
+            [true, false, false, false, false, false, false],
+            [false, true, false, false, false, false, false],
+            [false, false, true, false, false, false, false],
+            [true, true, true, false, false, false, false],
+        ],
+    )
 }
 
 // Whether the pass holds process `p` alone.

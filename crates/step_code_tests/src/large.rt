@@ -6,7 +6,6 @@ use crate::answers::{machine_of, outcome_of, process_of, step_often};
 use crate::codes::code_of;
 use crate::outcomes::is_outcome;
 use std::alloc::{AllocError, Global};
-use std::process::Abort;
 use std::test::Fail;
 use step_code::{Act, Advance, Code, Event, Instr, Op, Outcome, Proc, Status};
 use testing::{holds, is_same};
@@ -39,14 +38,15 @@ fn adding(alloc: Global) -> Result<Vec<Instr>, AllocError> {
 #[test]
 fn steps(rt: HostRuntime) -> Result<(), Fail> {
     let code = code_of(rt.alloc(), (1, 0, 0, 0), &adding(rt.alloc())?)?;
-    assert!(rt; code.sizes().processes() == 1);
+    is_same(&code.sizes().processes(), &1)?;
     is_same(&code.len(), &65535)?;
     let mut machine = machine_of(rt.alloc(), &code)?;
     step_often(&mut machine, 0, 65535)?;
     holds(machine.events() == DID.as_slice(), "the events")?;
-    is_same(&machine.place(0), &65534)?;
-    is_same(&machine.status(0), &Status::Ended)?;
-    Ok(())
+    is_same(
+        &(machine.place(0), machine.status(0)),
+        &(65534, Status::Ended),
+    )
 }
 
 // Runs process 0 alone.
@@ -60,31 +60,42 @@ fn run_often(alloc: Global, code: &Code, count: usize) -> Result<Outcome, Fail>
 #[test]
 fn runs(rt: HostRuntime) -> Result<(), Fail> {
     let code = code_of(rt.alloc(), (1, 0, 0, 0), &adding(rt.alloc())?)?;
-    assert!(rt; code.sizes().processes() == 1);
+    is_same(&code.sizes().processes(), &1)?;
     let outcome = run_often(rt.alloc(), &code, 65535)?;
     holds(is_outcome(&outcome, &DID, &[Status::Ended]), "the outcome")?;
     Ok(())
 }
 
-fn advance_silently(rt: &impl Abort, process: &mut Proc, code: &Code, count: u32)
+// How many of so many steps are silent.
+fn silent_steps(process: &mut Proc, code: &Code, count: u32) -> u32
     requires { IsOf code.now process.old }
     ensures { IsOf code.now process.new }
 {
+    let mut silent: u32 = 0;
     for _step in 0..count {
-        assert!(rt; process.advance(code) == Advance::Silent, "a silent step");
+        if process.advance(code) == Advance::Silent {
+            silent = silent.wrapping_add(1);
+        }
     }
+    silent
 }
 
 #[test]
 fn advances(rt: HostRuntime) -> Result<(), Fail> {
     let code = code_of(rt.alloc(), (1, 0, 0, 0), &adding(rt.alloc())?)?;
-    assert!(rt; code.sizes().processes() == 1);
+    is_same(&code.sizes().processes(), &1)?;
     is_same(&code.height(), &32767)?;
     let mut process = process_of(rt.alloc(), &code, 0)?;
-    advance_silently(&rt, &mut process, &code, 65533);
-    holds(process.will_out(&code), "an output next")?;
-    is_same(&process.advance(&code), &Advance::Did(DID[0]))?;
-    is_same(&process.advance(&code), &Advance::Did(DID[1]))?;
-    is_same(&process.advance(&code), &Advance::Stopped)?;
-    Ok(())
+    let silent = silent_steps(&mut process, &code, 65533);
+    let is_next = process.will_out(&code);
+    let found = [
+        process.advance(&code),
+        process.advance(&code),
+        process.advance(&code),
+    ];
+    is_same(&(silent, is_next), &(65533, true))?;
+    is_same(
+        &found,
+        &[Advance::Did(DID[0]), Advance::Did(DID[1]), Advance::Stopped],
+    )
 }

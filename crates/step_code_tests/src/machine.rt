@@ -1,39 +1,50 @@
+ghost use Rattle.std.specs.Prelude.{◌≡◌, ◌<◌, length};
+
 use crate::answers::{machine_of, make_step, outcome_of, step, step_often};
 use crate::codes::{GIVES_SEVEN, STAMPS_AND_COMPARES, WRITES_AND_TRAPS, code_of};
 use crate::outcomes::is_outcome;
 use std::test::Fail;
-use step_code::{Act, Event, Instr, Made, Op, Outcome, Status, Trap};
+use step_code::{Act, CodeMachine, Event, Instr, Made, NoMemory, Op, Outcome, Status, Trap};
 use testing::{holds, is_same};
 
 fn event(process: u8, act: Act) -> Event {
     Event { process, act }
 }
 
+// How many events there are after each step of `GIVES_SEVEN`, at which place its process is then, and
+// its status.
+static STEPS: [(usize, u16, Status); 4] = [
+    (0, 1, Status::Running),
+    (1, 2, Status::Running),
+    (2, 2, Status::Ended),
+    (2, 2, Status::Ended),
+];
+
+// The same of a step of process 0.
+fn stepped(machine: &mut CodeMachine<'_>) -> Result<(usize, u16, Status), NoMemory>
+    requires { 0 < length machine.old.state.processes }
+    ensures { length machine.new.state.processes ≡ length machine.old.state.processes }
+{
+    step(machine, 0)?;
+    Ok((machine.events().len(), machine.place(0), machine.status(0)))
+}
+
 #[test]
 fn steps_one_by_one(rt: HostRuntime) -> Result<(), Fail> {
     let code = code_of(rt.alloc(), (1, 0, 0, 0), &GIVES_SEVEN)?;
-    assert!(rt; code.sizes().processes() == 1);
+    is_same(&code.sizes().processes(), &1)?;
     let mut machine = machine_of(rt.alloc(), &code)?;
-    step(&mut machine, 0)?;
-    is_same(&machine.events().len(), &0)?;
-    is_same(&machine.place(0), &1)?;
-    step(&mut machine, 0)?;
-    let seven = [event(0, Act::Out(7))];
-    holds(machine.events() == seven.as_slice(), "seven")?;
-    is_same(&machine.status(0), &Status::Running)?;
-    step(&mut machine, 0)?;
-    step(&mut machine, 0)?;
-    is_same(&machine.status(0), &Status::Ended)?;
-    is_same(&machine.place(0), &2)?;
-    is_same(&machine.events().len(), &2)?;
-    is_same(&machine.word().bits(), &0)?;
-    Ok(())
+    for wanted in &STEPS {
+        is_same(&stepped(&mut machine)?, wanted)?;
+    }
+    let is_so = machine.events() == [event(0, Act::Out(7)), event(0, Act::End)].as_slice();
+    is_same(&(is_so, machine.word().bits()), &(true, 0))
 }
 
 #[test]
 fn gives_seven(rt: HostRuntime) -> Result<(), Fail> {
     let code = code_of(rt.alloc(), (1, 0, 0, 0), &GIVES_SEVEN)?;
-    assert!(rt; code.sizes().processes() == 1);
+    is_same(&code.sizes().processes(), &1)?;
     let outcome = outcome_of(rt.alloc(), &code, &[0, 0])?;
     let events = [event(0, Act::Out(7))];
     let is_so = is_outcome(&outcome, &events, &[Status::Running]);
@@ -87,7 +98,7 @@ const ONE_AFTER_THE_OTHER: [Event; 10] = [
 #[test]
 fn runs_one_after_the_other(rt: HostRuntime) -> Result<(), Fail> {
     let code = code_of(rt.alloc(), (2, 1, 1, 0), &STAMPS_AND_COMPARES)?;
-    assert!(rt; code.sizes().processes() == 2);
+    is_same(&code.sizes().processes(), &2)?;
     let outcome = outcome_of(
         rt.alloc(),
         &code,
@@ -104,16 +115,14 @@ fn runs_one_after_the_other(rt: HostRuntime) -> Result<(), Fail> {
 #[test]
 fn steps_one_after_the_other(rt: HostRuntime) -> Result<(), Fail> {
     let code = code_of(rt.alloc(), (2, 1, 1, 0), &STAMPS_AND_COMPARES)?;
-    assert!(rt; code.sizes().processes() == 2);
+    is_same(&code.sizes().processes(), &2)?;
     let mut machine = machine_of(rt.alloc(), &code)?;
     step_often(&mut machine, 0, 10)?;
     step_often(&mut machine, 1, 10)?;
+    let statuses = [machine.status(0), machine.status(1)];
     let is_so = machine.events() == ONE_AFTER_THE_OTHER.as_slice();
-    holds(is_so, "the events")?;
-    is_same(&machine.status(0), &Status::Ended)?;
-    is_same(&machine.status(1), &Status::Ended)?;
-    is_same(&machine.word().bits(), &844_424_930_132_224)?;
-    Ok(())
+    is_same(&(is_so, statuses), &(true, [Status::Ended, Status::Ended]))?;
+    is_same(&machine.word().bits(), &844_424_930_132_224)
 }
 
 // What process 0 makes of `GIVES_SEVEN`, and whether others see it.
@@ -136,7 +145,7 @@ static MADE: [Option<Made>; 4] = [
 #[test]
 fn tells_what_it_made(rt: HostRuntime) -> Result<(), Fail> {
     let code = code_of(rt.alloc(), (1, 0, 0, 0), &GIVES_SEVEN)?;
-    assert!(rt; code.sizes().processes() == 1);
+    is_same(&code.sizes().processes(), &1)?;
     let mut machine = machine_of(rt.alloc(), &code)?;
     for made in &MADE {
         is_same(&make_step(&mut machine, 0)?, made)?;
@@ -148,7 +157,7 @@ fn tells_what_it_made(rt: HostRuntime) -> Result<(), Fail> {
 #[test]
 fn tells_the_exchange_that_is_won(rt: HostRuntime) -> Result<(), Fail> {
     let code = code_of(rt.alloc(), (2, 1, 1, 0), &STAMPS_AND_COMPARES)?;
-    assert!(rt; code.sizes().processes() == 2);
+    is_same(&code.sizes().processes(), &2)?;
     let mut machine = machine_of(rt.alloc(), &code)?;
     step_often(&mut machine, 0, 2)?;
     step_often(&mut machine, 1, 2)?;
@@ -168,7 +177,7 @@ fn tells_the_exchange_that_is_won(rt: HostRuntime) -> Result<(), Fail> {
 #[test]
 fn loses_an_exchange(rt: HostRuntime) -> Result<(), Fail> {
     let code = code_of(rt.alloc(), (2, 1, 1, 0), &STAMPS_AND_COMPARES)?;
-    assert!(rt; code.sizes().processes() == 2);
+    is_same(&code.sizes().processes(), &2)?;
     let outcome = outcome_of(rt.alloc(), &code, &[0, 1, 0, 1, 0, 1, 1, 1, 1])?;
     let expected = [event(0, Act::Stamp), event(1, Act::Stamp)];
     let statuses = [Status::Running, Status::Running];
@@ -184,7 +193,7 @@ fn begins_with_a_row(outcome: &Outcome, values: &[u32]) -> bool {
 #[test]
 fn writes_copies_and_traps(rt: HostRuntime) -> Result<(), Fail> {
     let code = code_of(rt.alloc(), (2, 2, 2, 1), &WRITES_AND_TRAPS)?;
-    assert!(rt; code.sizes().processes() == 2);
+    is_same(&code.sizes().processes(), &2)?;
     let outcome = outcome_of(
         rt.alloc(),
         &code,
@@ -278,7 +287,7 @@ static TRAPS: [([Instr; 5], Trap, &str); 6] = [
 fn stops_at_each_trap(rt: HostRuntime) -> Result<(), Fail> {
     for &(instructions, trap, row) in &TRAPS {
         let code = code_of(rt.alloc(), (1, 1, 1, 1), &instructions)?;
-        assert!(rt; code.sizes().processes() == 1);
+        is_same(&code.sizes().processes(), &1)?;
         let outcome = outcome_of(rt.alloc(), &code, &[0, 0, 0])?;
         let events = [event(0, Act::Trap(trap))];
         let is_so = is_outcome(&outcome, &events, &[Status::Trapped(trap)]);

@@ -2,6 +2,7 @@ ghost use Rattle.std.specs.Prelude.{◌<◌, IsTrue, length};
 ghost use Rattle.word_core.specs.Agreement.{Agrees};
 
 use std::test::Fail;
+use testing::holds;
 use ticket_core::Tickets;
 use word_core::LabelWord;
 use word_core::laws::law_agreement;
@@ -18,7 +19,7 @@ fn has_same_rank(scan: &Tickets, word: &LabelWord, i: u8) -> bool
 }
 
 #[test]
-fn ranks_are_the_same(rt: HostRuntime) -> Result<(), Fail> {
-    assert!(rt; has_same_rank(&Tickets::new(3), &LabelWord::start(3), 2));
-    Ok(())
+fn ranks_are_the_same(_rt: HostRuntime) -> Result<(), Fail> {
+    let is_same = has_same_rank(&Tickets::new(3), &LabelWord::start(3), 2);
+    holds(is_same, "the rank of a process without a ticket")
 }

@@ -1,5 +1,4 @@
 use std::alloc::Global;
-use std::process::Abort;
 use std::test::Fail;
 use testing::{holds, repeated};
 use tick_syntax::fault::TextFault;
@@ -7,12 +6,8 @@ use tick_syntax::parse;
 use tick_syntax::span::Span;
 use tick_syntax::tree::{Expr, Named, Op, Stmt, Tree};
 
-fn fault(alloc: Global, text: &str) -> Option<TextFault> {
-    parse(alloc, text).err()
-}
-
-fn refuses<R: AllocGlobal + Abort>(rt: &R, text: &str, expected: TextFault) {
-    assert_eq!(rt; fault(rt.alloc(), text), Some(expected));
+fn refuses(alloc: Global, text: &str, expected: TextFault) -> Result<(), Fail> {
+    holds(parse(alloc, text).err() == Some(expected), (text, expected))
 }
 
 fn unexpected(start: usize, end: usize) -> TextFault {
@@ -217,49 +212,47 @@ static NO_PROGRAMS: [(&str, usize, usize); 25] = [
 fn where_no_program_goes_on(rt: HostRuntime) -> Result<(), Fail> {
     for (text, start, end) in &NO_PROGRAMS {
         let expected = Some(unexpected(*start, *end));
-        holds(fault(rt.alloc(), text) == expected, text)?;
+        holds(parse(rt.alloc(), text).err() == expected, text)?;
     }
     Ok(())
 }
 
 #[test]
 fn faults_of_the_tokens(rt: HostRuntime) -> Result<(), Fail> {
-    refuses(&rt, "end end ?", TextFault::BadCharacter(8));
+    let alloc = rt.alloc();
+    refuses(alloc, "end end ?", TextFault::BadCharacter(8))?;
     let big = Span { start: 10, end: 20 };
-    refuses(&rt, "processes 4294967296", TextFault::NumberTooBig(big));
+    refuses(alloc, "processes 4294967296", TextFault::NumberTooBig(big))?;
     let long = Span { start: 4, end: 69 };
-    let name = repeated(rt.alloc(), "out ", "a", 65, "")?;
-    refuses(&rt, name.as_str(), TextFault::NameTooLong(long));
-    let text = repeated(rt.alloc(), "", ";", 1_000_001, "")?;
-    refuses(&rt, text.as_str(), TextFault::TextTooLong);
-    Ok(())
+    let name = repeated(alloc, "out ", "a", 65, "")?;
+    refuses(alloc, name.as_str(), TextFault::NameTooLong(long))?;
+    let text = repeated(alloc, "", ";", 1_000_001, "")?;
+    refuses(alloc, text.as_str(), TextFault::TextTooLong)
 }
 
 // A front with so many pieces is refused so.
-fn refuses_so_many<R: AllocGlobal + Abort>(
-    rt: &R,
+fn refuses_so_many(
+    alloc: Global,
     piece: &str,
     count: usize,
     expected: TextFault,
 ) -> Result<(), Fail> {
-    let text = repeated(rt.alloc(), "processes 1; begin ", piece, count, "")?;
-    refuses(rt, text.as_str(), expected);
-    Ok(())
+    let text = repeated(alloc, "processes 1; begin ", piece, count, "")?;
+    refuses(alloc, text.as_str(), expected)
 }
 
 #[test]
 fn brackets(rt: HostRuntime) -> Result<(), Fail> {
     let text = repeated(rt.alloc(), "processes 1; begin out ", "(", 64, "")?;
-    refuses(&rt, text.as_str(), unexpected(87, 87));
+    refuses(rt.alloc(), text.as_str(), unexpected(87, 87))?;
     let text = repeated(rt.alloc(), "processes 1; begin out ", "(", 65, "")?;
-    refuses(&rt, text.as_str(), too_deep(87, 88));
-    Ok(())
+    refuses(rt.alloc(), text.as_str(), too_deep(87, 88))
 }
 
 #[test]
 fn braces(rt: HostRuntime) -> Result<(), Fail> {
-    refuses_so_many(&rt, "while 1 { ", 64, unexpected(659, 659))?;
-    refuses_so_many(&rt, "while 1 { ", 65, too_deep(667, 668))?;
+    refuses_so_many(rt.alloc(), "while 1 { ", 64, unexpected(659, 659))?;
+    refuses_so_many(rt.alloc(), "while 1 { ", 65, too_deep(667, 668))?;
     let open = repeated(rt.alloc(), "processes 1; begin ", "while 1 { ", 64, "")?;
     let whole = repeated(rt.alloc(), open.as_str(), "}", 64, " end")?;
     let tree = parse(rt.alloc(), whole.as_str())?;

@@ -1,6 +1,6 @@
 use std::alloc::{AllocError, Global};
-use std::process::Abort;
 use std::test::Fail;
+use testing::is_same;
 use tick_syntax::span::Span;
 use tick_syntax::tree::{Expr, Named, Op, Stmt, Tree};
 use tick_syntax::{parse, print};
@@ -25,10 +25,8 @@ fn tree(alloc: Global, processes: u32, registers: Vec<Named>, body: Vec<Stmt>) -
     }
 }
 
-fn prints<R: AllocGlobal + Abort>(rt: &R, program: Tree, text: &str) -> Result<(), Fail> {
-    let printed = print(rt.alloc(), &program)?;
-    assert_eq!(rt; printed.as_str(), text);
-    Ok(())
+fn prints(alloc: Global, program: Tree, text: &str) -> Result<(), Fail> {
+    is_same(&print(alloc, &program)?.as_str(), &text)
 }
 
 fn older(alloc: Global) -> Result<Stmt, AllocError> {
@@ -61,7 +59,7 @@ fn a_program_on_its_lines(rt: HostRuntime) -> Result<(), Fail> {
     program.variables.push(named(alloc, "x")?)?;
     program.scans.push(named(alloc, "s")?)?;
     prints(
-        &rt,
+        alloc,
         program,
         "processes 2 ;\nvar x ;\nscan s ;\nbegin\nstamp ;\ns = scan ;\nx = older s 0 1 ;\nx = held s me ;\nclear ;\nout x ;\nend\n",
     )
@@ -71,12 +69,12 @@ fn a_program_on_its_lines(rt: HostRuntime) -> Result<(), Fail> {
 fn sections_without_names_are_left_out(rt: HostRuntime) -> Result<(), Fail> {
     let alloc = rt.alloc();
     let program = tree(alloc, 4294967295, Vec::new(alloc), Vec::new(alloc));
-    prints(&rt, program, "processes 4294967295 ;\nbegin\nend\n")?;
+    prints(alloc, program, "processes 4294967295 ;\nbegin\nend\n")?;
     let mut registers = Vec::new(alloc);
     registers.push(named(alloc, "r")?)?;
     registers.push(named(alloc, "_q")?)?;
     prints(
-        &rt,
+        alloc,
         tree(alloc, 4294967295, registers, Vec::new(alloc)),
         "processes 4294967295 ;\nreg r , _q ;\nbegin\nend\n",
     )
@@ -119,15 +117,14 @@ fn blocks_and_brackets(rt: HostRuntime) -> Result<(), Fail> {
     body.push(copy(alloc)?)?;
     body.push(Stmt::Assign(named(alloc, "x")?, Expr::Num(7)))?;
     prints(
-        &rt,
+        alloc,
         tree(alloc, 1, Vec::new(alloc), body),
         "processes 1 ;\nbegin\nif ( me <= ( n - 1 ) ) {\nput r me ;\n}\nelse {\nx = get r 0 ;\nwhile 0 {\n}\n}\nt = copy s ;\nx = 7 ;\nend\n",
     )
 }
 
-fn prints_as<R: AllocGlobal + Abort>(rt: &R, text: &str, printed: &str) -> Result<(), Fail> {
-    let program = parse(rt.alloc(), text)?;
-    prints(rt, program, printed)
+fn prints_as(alloc: Global, text: &str, printed: &str) -> Result<(), Fail> {
+    prints(alloc, parse(alloc, text)?, printed)
 }
 
 #[test]
@@ -135,6 +132,6 @@ fn a_printed_text_stays(rt: HostRuntime) -> Result<(), Fail> {
     let text = "processes 007;var x,y;scan s;begin x=(1+y);clear;#c\nwhile x{x=held s(n-1);}end";
     let printed =
         "processes 7 ;\nvar x , y ;\nscan s ;\nbegin\nx = ( 1 + y ) ;\nclear ;\nwhile x {\nx = held s ( n - 1 ) ;\n}\nend\n";
-    prints_as(&rt, text, printed)?;
-    prints_as(&rt, printed, printed)
+    prints_as(rt.alloc(), text, printed)?;
+    prints_as(rt.alloc(), printed, printed)
 }
