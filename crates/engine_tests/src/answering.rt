@@ -86,3 +86,14 @@ pub fn says<R: AllocGlobal + Threads + Wait>(
     let outcome = answered(rt, words, input)?;
     holds(outcome.is(Ok(0), answer), &words[..words.len().min(2)])
 }
+
+/// A command line, its input and its answer.
+pub type Case<'a> = (&'a [&'a str], &'a [u8], &'a str);
+
+/// That each of these command lines writes its answer.
+pub fn each_says<R: AllocGlobal + Threads + Wait>(rt: &R, cases: &[Case<'_>]) -> Result<(), Fail> {
+    for (words, input, answer) in cases {
+        says(rt, words, input, answer)?;
+    }
+    Ok(())
+}

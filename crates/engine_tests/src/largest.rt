@@ -1,7 +1,7 @@
 //! The largest program that there is, in each count at once: six processes, 64 variables, 16 scans and
 //! eight register rows, all of them used, each operator, 64 brackets, and 64 blocks open of which ten
 //! are loops.
-use crate::answering::says;
+use crate::answering::each_says;
 use crate::texts::{Piece, pieced};
 use std::test::Fail;
 
@@ -162,21 +162,16 @@ fn largest_program_is_written(rt: HostRuntime) -> Result<(), Fail> {
     let printed = pieced(rt.alloc(), &PRINTED)?;
     let code = pieced(rt.alloc(), &CODE)?;
     let program = program.as_bytes();
-    says(&rt, &["ticketc", "check"], program, printed.as_str())?;
-    says(
+    each_says(
         &rt,
-        &["ticketc", "check"],
-        printed.as_bytes(),
-        printed.as_str(),
-    )?;
-    says(&rt, &["ticketc", "emit"], program, code.as_str())?;
-    says(
-        &rt,
-        &["ticketc", "lift", SCHEDULE],
-        program,
-        "0*1083 5*1083\n",
-    )?;
-    says(&rt, &["ticketc", "drop", LIFTED], program, "0*319 5*319\n")
+        &[
+            (&["ticketc", "check"], program, printed.as_str()),
+            (&["ticketc", "check"], printed.as_bytes(), printed.as_str()),
+            (&["ticketc", "emit"], program, code.as_str()),
+            (&["ticketc", "lift", SCHEDULE], program, "0*1083 5*1083\n"),
+            (&["ticketc", "drop", LIFTED], program, "0*319 5*319\n"),
+        ],
+    )
 }
 
 #[test]
@@ -187,9 +182,14 @@ fn largest_program_runs(rt: HostRuntime) -> Result<(), Fail> {
     let outcome = pieced(rt.alloc(), &OUTCOME)?;
     let (report, outcome) = (report.as_str(), outcome.as_str());
     let (program, code) = (program.as_bytes(), code.as_bytes());
-    says(&rt, &["ticketc", "source", SCHEDULE], program, report)?;
-    says(&rt, &["ticketc", "code", LIFTED], program, report)?;
-    says(&rt, &["ticketc", "code", LIFTED], code, report)?;
-    says(&rt, &["ticketc", "run", "10000"], program, outcome)?;
-    says(&rt, &["ticketc", "run", "10000"], code, outcome)
+    each_says(
+        &rt,
+        &[
+            (&["ticketc", "source", SCHEDULE], program, report),
+            (&["ticketc", "code", LIFTED], program, report),
+            (&["ticketc", "code", LIFTED], code, report),
+            (&["ticketc", "run", "10000"], program, outcome),
+            (&["ticketc", "run", "10000"], code, outcome),
+        ],
+    )
 }

@@ -36,6 +36,19 @@ fn merged(alloc: Global, code: &Code, history: &[Shared], played: &Played) -> Re
     Ok(write_schedule(alloc, &schedule)?)
 }
 
+// The machine comes to the outcome along the schedule.
+fn has_outcome(
+    alloc: Global,
+    code: &Code,
+    small: &Small,
+    steps: &[u8],
+    outcome: &RunOutcome,
+) -> Result<(), Fail> {
+    let played = Played::along(alloc, code, small.1, small.2, steps)?;
+    let by_code = outcome_text(alloc, &played.outcome(alloc)?)?;
+    is_same(&outcome_text(alloc, outcome)?, &by_code)
+}
+
 fn is_run_of_all(
     alloc: Global,
     program: &Program,
@@ -45,14 +58,10 @@ fn is_run_of_all(
 ) -> Result<(), Fail> {
     let code = lower(alloc, program)?;
     let steps = read_schedule(alloc, schedule, program.processes())?;
-    let played = Played::along(alloc, &code, small.1, small.2, &steps)?;
-    let by_threads = outcome_text(alloc, outcome)?;
-    let by_code = outcome_text(alloc, &played.outcome(alloc)?)?;
-    is_same(&by_threads, &by_code)?;
+    has_outcome(alloc, &code, small, &steps, outcome)?;
     let kept = project(alloc, program, &code, &steps)?;
     let of_code = play_code(alloc, &code, &steps)?;
-    let of_program = play_source(alloc, program, &kept)?;
-    is_same(&of_code, &of_program)
+    is_same(&of_code, &play_source(alloc, program, &kept)?)
 }
 
 fn is_one_run<R: AllocGlobal + Threads + Wait>(

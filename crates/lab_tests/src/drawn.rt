@@ -106,24 +106,37 @@ fn between<'a>(
     Ok(all)
 }
 
+// That these stand between a front and a back, in their order.
+fn stand(alloc: Global, text: &str, front: &str, back: &str, wanted: &[&str]) -> Result<(), Fail> {
+    is_same(&between(alloc, text, front, back)?.as_slice(), &wanted)
+}
+
+// That so many groups of marks are there.
+fn has_groups(alloc: Global, text: &str, count: usize) -> Result<(), Fail> {
+    let groups = between(alloc, text, "<g id=\"mark-", "</g>\n")?;
+    is_same(&groups.len(), &count)
+}
+
+// That these stand beside the lanes.
+fn end_so(alloc: Global, text: &str, ends: &[&str]) -> Result<(), Fail> {
+    let beside = between(alloc, text, " x=\"903\" y=\"", "</text>\n")?;
+    let mut is_so = beside.len() == ends.len();
+    for (found, end) in beside.iter().zip(ends) {
+        let (_place, words) = found.split_once("\">").unwrap_or(("", ""));
+        is_so = is_so && words == *end;
+    }
+    holds(is_so, ends)
+}
+
 // That a picture is of a file of this name, with this line and these marks and ends.
 fn is_drawn(alloc: Global, text: &str, name: &str, row: &Row) -> Result<(), Fail> {
     let (_program, _schedule, _is_code, line, marks, ends) = *row;
     holds(text.starts_with(HEAD) && text.ends_with(FOOT), line)?;
-    let title = between(alloc, text, "<title id=\"title\">", "</title>\n")?;
-    is_same(&title.as_slice(), &[name].as_slice())?;
-    let about = between(alloc, text, "<desc id=\"about\">", "</desc>\n")?;
-    is_same(&about.as_slice(), &[line].as_slice())?;
-    let groups = between(alloc, text, "<g id=\"mark-", "</g>\n")?;
-    is_same(&groups.len(), &marks.len())?;
-    let told = between(alloc, text, "><title>", "</title>")?;
-    is_same(&told.as_slice(), &marks)?;
-    let beside = between(alloc, text, " x=\"903\" y=\"", "</text>\n")?;
-    is_same(&beside.len(), &ends.len())?;
-    for (found, end) in beside.iter().zip(ends) {
-        is_same(&found.split_once("\">").map(|pair| pair.1), &Some(*end))?;
-    }
-    Ok(())
+    stand(alloc, text, "<title id=\"title\">", "</title>\n", &[name])?;
+    stand(alloc, text, "<desc id=\"about\">", "</desc>\n", &[line])?;
+    has_groups(alloc, text, marks.len())?;
+    stand(alloc, text, "><title>", "</title>", marks)?;
+    end_so(alloc, text, ends)
 }
 
 #[test]
