@@ -1,12 +1,12 @@
--- One more subcommand, and an argument that has a rule on others.
+-- One more subcommand, one more word, and an argument that has a rule on others.
 use Rattle.std.proofs.Common.{◌≡◌, ◌∙◌, ◌∷◌, ◌++◌, ◌&&◌, arith, List, [], Bool, true, false, ap, ap₂, not, refl}
 use Rattle.std.proofs.lemmas.Bool.{ne_eqb}
 use Rattle.std.specs.Prelude.{ℕ}
 use Rattle.std.specs.Borrow.{Bor}
 use Rattle.clap.specs.Adds.{AddsConflicts}
-use Rattle.clap.specs.Walk.{is_empty, rule_of}
-use Rattle.clap.specs.Words.{AddsSubcommand}
-use Rattle.clap.specs.Simple.{App, app_of, with_subcommand}
+use Rattle.clap.specs.Walk.{Rule, is_empty, rule_of}
+use Rattle.clap.specs.Words.{AddsArg, AddsSubcommand}
+use Rattle.clap.specs.Simple.{App, app_of, with_rule, with_subcommand}
 use Rattle.clap.specs.declared.builder.arg.Arg.{Arg}
 use Rattle.clap.specs.declared.builder.command.Command.{Command}
 use Rattle.clap.specs.declared.builder.command.Command.TheViews.{out-Command}
@@ -39,3 +39,11 @@ in_conflict old new id adds =
     go : (e b : Bool) → b ≡ false → record (rule_of old) { is_free = not e && (b && free_aside old) } ≡ record (rule_of old) { is_free = false }
     go true b none = refl
     go false b none = rw none refl
+
+pub one_more_word : (old new : Command) (arg : Arg) (app : App) (rule : Rule)
+    → AddsArg old arg new
+    → arg.global ≡ false
+    → app_of old ≡ app
+    → rule_of arg ≡ rule
+    → app_of new ≡ with_rule app rule
+one_more_word old new arg app rule adds is_local is_app is_rule = adds.shape is_local ∙ ap₂ with_rule is_app is_rule

@@ -78,6 +78,7 @@ pub fn number<'a>(
     value: &'a str,
     default: &'a str,
     parser: ValueParser<'a>,
+    help: &'a str,
 ) -> Arg<'a>
     ensures rule { rule_of result ≡ number_rule name.entry.now default.entry.now parser.entry }
     ensures local { result.global ≡ false }
@@ -87,6 +88,7 @@ pub fn number<'a>(
         .value_name(value)
         .default_value(default)
         .value_parser(parser)
+        .help(help)
 }
 
 /// How many steps a schedule of a hunt may have.

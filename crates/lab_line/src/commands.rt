@@ -61,7 +61,12 @@ fn explore<'a>(alloc: Global) -> Result<Command<'a>, AllocError>
         "Looks under every schedule for one under which a process traps, the shortest first",
     )
     .arg(file(alloc, "The program; - for standard input"))?
-    .arg(number(alloc, "limit", "STATES", "1000000", value_parser!(u32)).help(
+    .arg(number(
+        alloc,
+        "limit",
+        "STATES",
+        "1000000",
+        value_parser!(u32),
         "Gives up where there are more states than this",
     ))?
     .arg(flag(
@@ -96,13 +101,28 @@ fn planned<'a>(alloc: Global, command: Command<'a>) -> Result<Command<'a>, Alloc
     ensures local { (out-Command command.entry).has_globals ≡ false → IfOk result (λ c. (out-Command c).has_globals ≡ false) }
 {
     command
-        .arg(number(alloc, "seed", "N", "0", value_parser!(u64)).help(
+        .arg(number(
+            alloc,
+            "seed",
+            "N",
+            "0",
+            value_parser!(u64),
             "Where the random numbers start: the same seed gives the same answer",
         ))?
-        .arg(number(alloc, "runs", "N", "10000", value_parser!(u32)).help(
+        .arg(number(
+            alloc,
+            "runs",
+            "N",
+            "10000",
+            value_parser!(u32),
             "How many schedules there are at most",
         ))?
-        .arg(number(alloc, "steps", "N", "300", length()).help(
+        .arg(number(
+            alloc,
+            "steps",
+            "N",
+            "300",
+            length(),
             "How many steps a schedule has at most",
         ))
 }
