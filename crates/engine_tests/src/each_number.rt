@@ -1,5 +1,5 @@
 //! Each number of processes through each command.
-use crate::answering::each_says;
+use crate::answering::answers;
 use std::sync::Wait;
 use std::test::Fail;
 use std::thread::Threads;
@@ -97,19 +97,11 @@ fn texts<R: AllocGlobal + Threads + Wait>(rt: &R, row: &Row) -> Result<(), Fail>
     let program = format!(in rt.alloc(); "processes {n}; {BODY}")?;
     let printed = format!(in rt.alloc(); "processes {n} ;\n{PRINTED}")?;
     let code = format!(in rt.alloc(); "tickcode 2 {n} 1 1 1\n{CODE}")?;
+    let order = ["ticketc", "order", number.as_str()];
+    answers(rt, &order, stamps.as_bytes(), 0, words)?;
     let program = program.as_bytes();
-    each_says(
-        rt,
-        &[
-            (
-                &["ticketc", "order", number.as_str()],
-                stamps.as_bytes(),
-                words,
-            ),
-            (&["ticketc", "check"], program, printed.as_str()),
-            (&["ticketc", "emit"], program, code.as_str()),
-        ],
-    )
+    answers(rt, &["ticketc", "check"], program, 0, printed.as_str())?;
+    answers(rt, &["ticketc", "emit"], program, 0, code.as_str())
 }
 
 // The commands that run the program or its code, or carry schedules between them.
@@ -120,22 +112,15 @@ fn plays<R: AllocGlobal + Threads + Wait>(rt: &R, row: &Row) -> Result<(), Fail>
     let lifted_line = format!(in rt.alloc(); "{lifted}\n")?;
     let dropped_line = format!(in rt.alloc(); "{dropped}\n")?;
     let (program, code) = (program.as_bytes(), code.as_bytes());
-    each_says(
-        rt,
-        &[
-            (&["ticketc", "source", schedule], program, report),
-            (&["ticketc", "code", lifted], program, report),
-            (&["ticketc", "code", lifted], code, report),
-            (
-                &["ticketc", "lift", schedule],
-                program,
-                lifted_line.as_str(),
-            ),
-            (&["ticketc", "drop", lifted], program, dropped_line.as_str()),
-            (&["ticketc", "run", "100"], program, outcome),
-            (&["ticketc", "run", "100"], code, outcome),
-        ],
-    )
+    answers(rt, &["ticketc", "source", schedule], program, 0, report)?;
+    answers(rt, &["ticketc", "code", lifted], program, 0, report)?;
+    answers(rt, &["ticketc", "code", lifted], code, 0, report)?;
+    let lift = ["ticketc", "lift", schedule];
+    answers(rt, &lift, program, 0, lifted_line.as_str())?;
+    let back = ["ticketc", "drop", lifted];
+    answers(rt, &back, program, 0, dropped_line.as_str())?;
+    answers(rt, &["ticketc", "run", "100"], program, 0, outcome)?;
+    answers(rt, &["ticketc", "run", "100"], code, 0, outcome)
 }
 
 #[test]
