@@ -3,7 +3,7 @@ use Rattle.std.proofs.Common.{◌≡◌, ℕ, zero, suc, ◌≤◌, ◌⊎◌, i
 use Rattle.std.proofs.lemmas.Bool.{cases_eq}
 use Rattle.std.proofs.lemmas.List.{append-nil}
 use Rattle.code_core.specs.Instructions.{StepCode}
-use Rattle.step_code.specs.Machine.{did}
+use Rattle.code_machine.specs.Machine.{did}
 use Rattle.code_local.specs.Local.{Local, IsLocalRun}
 use Rattle.code_local.specs.Laws.{CameBy, BeginningsLaw}
 use Rattle.code_local.proofs.Deciding.{makes_more}

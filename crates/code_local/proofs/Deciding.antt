@@ -5,11 +5,11 @@ use Rattle.std.proofs.lemmas.List.{append_cancel_left, append-nil}
 use Rattle.word_core.specs.declared.history.Shared.{Shared}
 use Rattle.word_core.specs.declared.history.SharedAct.{SharedAct}
 use Rattle.word_core.proofs.Offered.{distinct_law}
-use Rattle.step_code.specs.declared.ask.Ask.{Ask}
-use Rattle.step_code.specs.declared.ask.Ask.TheVariants as Q
-use Rattle.step_code.specs.declared.ask.Reply.{Reply}
-use Rattle.step_code.specs.declared.ask.Reply.TheVariants as R
-use Rattle.step_code.specs.Machine.{Moved, CodeStep, alone, asks, did}
+use Rattle.code_machine.specs.declared.ask.Ask.{Ask}
+use Rattle.code_machine.specs.declared.ask.Ask.TheVariants as Q
+use Rattle.code_machine.specs.declared.ask.Reply.{Reply}
+use Rattle.code_machine.specs.declared.ask.Reply.TheVariants as R
+use Rattle.code_machine.specs.Machine.{Moved, CodeStep, alone, asks, did}
 use Rattle.code_local.specs.Local.{Local, act_of, TellsLabels, moved_with, GoesOnBy, Makes}
 use Rattle.code_local.specs.Laws.{OncePerAnswersLaw}
 

@@ -9,8 +9,8 @@ use Rattle.word_core.specs.Stamps.{Labels, start_labels, stamped}
 use Rattle.word_core.specs.Packed.{word}
 use Rattle.word_core.specs.declared.history.SharedAct.TheVariants.{Load, Lost}
 use Rattle.word_core.proofs.Offered.{start_are, start_ordered, stamped_are}
-use Rattle.step_code.specs.declared.ask.Reply.TheVariants as R
-use Rattle.step_code.specs.Machine.{CodeStep, alone, asks, did, start_process, loads, stamps, exchanges}
+use Rattle.code_machine.specs.declared.ask.Reply.TheVariants as R
+use Rattle.code_machine.specs.Machine.{CodeStep, alone, asks, did, start_process, loads, stamps, exchanges}
 use Rattle.code_local.specs.Local.{Local, local_start, moved_alone, moved_with, Makes, IsLocalRun, outputs_of}
 
 -- it runs, and makes its next instruction alone

@@ -9,7 +9,7 @@ use Rattle.machine_core.specs.declared.event.Event.{Event}
 use Rattle.machine_core.specs.Observables.{told}
 use Rattle.word_core.specs.declared.history.Shared.{Shared}
 use Rattle.code_core.specs.Instructions.{StepCode}
-use Rattle.step_code.specs.Machine.{CodeStep, alone, asks, did}
+use Rattle.code_machine.specs.Machine.{CodeStep, alone, asks, did}
 use Rattle.code_local.specs.Local.{Local, Makes, LocalStep, IsLocalRun, output_of, outputs_of}
 use Rattle.code_local.specs.Laws.{OncePerAnswersLaw, BeginningsLaw}
 use Rattle.code_local.proofs.Deciding as deciding

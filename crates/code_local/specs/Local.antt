@@ -10,11 +10,11 @@ use Rattle.word_core.specs.declared.history.Shared.{Shared}
 use Rattle.word_core.specs.declared.history.SharedAct.{SharedAct}
 use Rattle.word_core.specs.declared.history.SharedAct.TheVariants.{Load, Won, Lost, Read, Write, Clear}
 use Rattle.code_core.specs.Instructions.{StepCode}
-use Rattle.step_code.specs.declared.ask.Ask.{Ask}
-use Rattle.step_code.specs.declared.ask.Ask.TheVariants as Q
-use Rattle.step_code.specs.declared.ask.Reply.{Reply}
-use Rattle.step_code.specs.declared.ask.Reply.TheVariants as R
-use Rattle.step_code.specs.Machine.{CodeProcess, Moved, CodeStep, alone, asks, did, start_process}
+use Rattle.code_machine.specs.declared.ask.Ask.{Ask}
+use Rattle.code_machine.specs.declared.ask.Ask.TheVariants as Q
+use Rattle.code_machine.specs.declared.ask.Reply.{Reply}
+use Rattle.code_machine.specs.declared.ask.Reply.TheVariants as R
+use Rattle.code_machine.specs.Machine.{CodeProcess, Moved, CodeStep, alone, asks, did, start_process}
 
 -- How far a process is, its events, and the steps that it made on what all processes share.
 pub record Local : Type 0 where

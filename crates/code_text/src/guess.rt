@@ -1,6 +1,6 @@
 ghost use Rattle.std.specs.Prelude.{◌≡◌, IfSome, IsSome, ◌↔◌};
 ghost use Rattle.code_text.specs.CodeText.{InRange, IsVersion};
-ghost use Rattle.code_text.specs.prover.Guess.{guess, guessed_version, guessed_sizes, operator, named};
+ghost use Rattle.code_text.specs.prover.Guess.{guess, guessed_version, guessed_sizes, operator, named, further, last};
 ghost use Rattle.code_core.specs.Instructions.{AreSizes};
 
 use crate::reader::Reader;
@@ -45,7 +45,17 @@ fn named(name: &[u8], first: u32, second: u32) -> Instr
         Instr::Get(slot, other)
     } else if name == b"Put".as_slice() {
         Instr::Put(slot)
-    } else if name == b"LoadWord".as_slice() {
+    } else {
+        further(name, slot, other, place)
+    }
+}
+
+// The same of the names that come further down.
+fn further(name: &[u8], slot: u8, other: u8, place: u16) -> Instr
+    ensures instruction { result ≡ further name.now slot other place }
+    ensures in_range { InRange result }
+{
+    if name == b"LoadWord".as_slice() {
         Instr::LoadWord
     } else if name == b"Next".as_slice() {
         Instr::Next
@@ -55,7 +65,16 @@ fn named(name: &[u8], first: u32, second: u32) -> Instr
         Instr::Scan(slot)
     } else if name == b"Copy".as_slice() {
         Instr::Copy(slot, other)
-    } else if name == b"Older".as_slice() {
+    } else {
+        last(name, slot, other, place)
+    }
+}
+
+fn last(name: &[u8], slot: u8, other: u8, place: u16) -> Instr
+    ensures instruction { result ≡ last name.now slot other place }
+    ensures in_range { InRange result }
+{
+    if name == b"Older".as_slice() {
         Instr::Older(slot, other)
     } else if name == b"Out".as_slice() {
         Instr::Out

@@ -8,26 +8,27 @@ use Rattle.tick_kinds.specs.Refusals.{first_refusal}
 use Rattle.tick_kinds.specs.declared.fault.KindFault.{KindFault}
 use Rattle.tick_kinds.proofs.Offered.{acceptance_law}
 use Rattle.tick_syntax.specs.Decided.{IsWithinLimits}
-use Rattle.tick_syntax.specs.Plain.{Name, WholeProgram}
+use Rattle.tick_tree.specs.Plain.{Name, WholeProgram}
 use Rattle.tick_syntax.specs.Refusal.{IsTextRefused}
 use Rattle.tick_syntax.specs.declared.fault.TextFault.{TextFault}
 use Rattle.tick_syntax.proofs.Offered.{one_program, one_refusal, never_both, never_neither}
 use Rattle.code_core.specs.Instructions.{StepCode}
 use Rattle.code_text.proofs.Offered.{one_reading, some_reading}
-use Rattle.engine.specs.Answer.{Answer, refused, stopped}
+use Rattle.ticketc_lines.specs.Answer.{Answer, refused, stopped}
 use Rattle.engine.specs.Codes.{IsCodeAnswer, code_answer, reading_answer}
-use Rattle.engine.specs.Commands.{CommandAnswers, PlainCommand, TextAnswers, UnlessRefused, is_run, line_answer, runs}
-use Rattle.engine.specs.declared.command.Command.TheVariants.{Order, Check, Emit, Source, Code, Expand, Project, Run}
+use Rattle.ticketc_lines.specs.Command.{PlainCommand}
+use Rattle.engine.specs.Commands.{CommandAnswers, TextAnswers, UnlessRefused, is_run, line_answer, runs}
+use Rattle.ticketc_lines.specs.declared.command.Command.TheVariants.{Order, Check, Emit, Source, Code, Expand, Project, Run}
 use Rattle.engine.specs.Lowered.{IsEitherAnswer, IsRunnableAnswer, begins_as_code, emit_answer, lowered_answer}
 use Rattle.engine.specs.Maps.{carried_answer}
 use Rattle.engine.specs.declared.maps.Way.TheVariants.{Up, Down}
-use Rattle.engine.specs.Order.{order_answer}
+use Rattle.ticketc_lines.specs.Order.{order_answer}
 use Rattle.engine.specs.Programs.{IsProgramText, IsTextAnswer, no_program, not_accepted, accepted, check_answer, source_answer}
-use Rattle.engine.specs.Stop.{kinds_stop, text_stop}
-use Rattle.engine.specs.Text.{text_fault}
-use Rattle.engine.specs.declared.command.LineFault.{LineFault}
-use Rattle.engine.specs.declared.refusal.Refusal.{Refusal}
-use Rattle.engine.specs.declared.refusal.Refusal.TheVariants.{TextTooLong, BadCharacter}
+use Rattle.ticketc_lines.specs.Stop.{kinds_stop, text_stop}
+use Rattle.ticketc_lines.specs.Text.{text_fault}
+use Rattle.ticketc_lines.specs.declared.command.LineFault.{LineFault}
+use Rattle.ticketc_lines.specs.declared.refusal.Refusal.{Refusal}
+use Rattle.ticketc_lines.specs.declared.refusal.Refusal.TheVariants.{TextTooLong, BadCharacter}
 
 same_fault : (a b : KindFault) → Some a ≡ Some b → a ≡ b
 same_fault a b h = cc

@@ -1,6 +1,4 @@
 pub mod ServingLemmas
-pub mod OrderLemmas
-pub mod TextLemmas
 pub mod StopLemmas
 pub mod ScheduleLemmas
 pub mod Weakening
@@ -10,3 +8,4 @@ pub mod RunLemmas
 pub mod Reported
 pub mod RunKinds
 pub mod RunPrograms
+pub mod Unserved

@@ -7,15 +7,15 @@ use Rattle.tick_kinds.specs.Resolution.{resolved}
 use Rattle.tick_lower.specs.Lowered.{lowered_length}
 use Rattle.tick_lower.specs.declared.fault.LowerFault.{LowerFault}
 use Rattle.tick_lower.specs.declared.fault.LowerFault.TheVariants as lowering
-use Rattle.tick_syntax.specs.Plain.{Name, WholeProgram}
+use Rattle.tick_tree.specs.Plain.{Name, WholeProgram}
 use Rattle.tick_syntax.proofs.Offered.{one_program}
 use Rattle.code_text.proofs.Offered.{one_reading}
 use Rattle.code_core.specs.Instructions.{StepCode}
-use Rattle.engine.specs.Answer.{Answer, refused}
+use Rattle.ticketc_lines.specs.Answer.{Answer, refused}
 use Rattle.engine.specs.Lowered.{IsCodeOf, IsEitherAnswer, IsEitherCode, IsLowered, IsRunnableAnswer, answer_unless_long, begins_as_code, code_of, lowered_answer}
 use Rattle.engine.specs.Programs.{IsProgramText, IsTextAnswer, accepted}
-use Rattle.engine.specs.Stop.{lower_stop}
-use Rattle.engine.specs.prover.Responses.{IfRefused}
+use Rattle.ticketc_lines.specs.Stop.{lower_stop}
+use Rattle.ticketc_lines.specs.Stop.{IfRefused}
 
 short_unless : (n : ℕ) → (65535 < n → ⊥) → n ≤ 65535
 short_unless n fits = elim (leb_tells 65536 n) [ inl long ↦ absurd (fits (omega (arith, long.1))) | inr short ↦ omega (arith, short.1) ]

@@ -10,24 +10,24 @@ use Rattle.tick_play.specs.Schedule.{schedule_of}
 use Rattle.tick_play.specs.Written.{schedule_text}
 use Rattle.tick_play.specs.declared.schedule.ScheduleFault.{ScheduleFault}
 use Rattle.tick_sim.proofs.Offered.{down_law, up_law, down_lawful, down_short, up_lawful}
-use Rattle.tick_syntax.specs.Plain.{Name, WholeProgram}
+use Rattle.tick_tree.specs.Plain.{Name, WholeProgram}
 use Rattle.tick_syntax.proofs.Offered.{program_text_begins}
 use Rattle.code_core.specs.Instructions.{StepCode}
-use Rattle.step_code.specs.Machine.{code_start}
-use Rattle.engine.specs.Answer.{Answer, done, scheduled, stopped}
+use Rattle.code_machine.specs.Machine.{code_start}
+use Rattle.ticketc_lines.specs.Answer.{Answer, done, scheduled, stopped}
 use Rattle.engine.specs.Codes.{code_answer}
 use Rattle.engine.specs.Commands.{TextAnswers, UnlessRefused}
-use Rattle.engine.specs.declared.command.Command.TheVariants.{Source, Code, Expand, Project}
+use Rattle.ticketc_lines.specs.declared.command.Command.TheVariants.{Source, Code, Expand, Project}
 use Rattle.engine.specs.Laws.{DropLaw, LiftLaw}
 use Rattle.engine.specs.Lowered.{IsEitherAnswer, answer_unless_long, begins_as_code, code_of, lowered_answer}
 use Rattle.engine.specs.Maps.{carried, carried_answer, schedule_line}
 use Rattle.engine.specs.declared.maps.Way.TheVariants.{Up, Down}
 use Rattle.engine.specs.Programs.{IsProgramText, IsTextAnswer, no_program, not_accepted, accepted, source_answer}
-use Rattle.engine.specs.Stop.{kinds_stop, schedule_stop, text_stop}
-use Rattle.engine.specs.Text.{text_fault}
-use Rattle.engine.specs.declared.refusal.Refusal.{Refusal}
-use Rattle.engine.specs.declared.stop.Stop.{Stop}
-use Rattle.engine.specs.declared.stop.Stop.TheVariants.{Refused, Memory}
+use Rattle.ticketc_lines.specs.Stop.{kinds_stop, schedule_stop, text_stop}
+use Rattle.ticketc_lines.specs.Text.{text_fault}
+use Rattle.ticketc_lines.specs.declared.refusal.Refusal.{Refusal}
+use Rattle.ticketc_lines.specs.declared.stop.Stop.{Stop}
+use Rattle.ticketc_lines.specs.declared.stop.Stop.TheVariants.{Refused, Memory}
 use Rattle.engine.proofs.AnswerLemmas.{one_answer, short_input}
 
 -- Only what is done has status 0.

@@ -1,16 +1,17 @@
 -- An answer to a run is of one kind or the other: a text that has a code isn't refused.
 use Rattle.std.proofs.Common.{◌≡◌, ◌≤◌, ◌∙◌, ◌↔◌, ℕ, List, [], length, Option, Some, None, Result, ap, refl, subst, sym}
 use Rattle.code_core.specs.Instructions.{StepCode}
-use Rattle.engine.specs.Answer.{Answer}
+use Rattle.ticketc_lines.specs.Answer.{Answer}
 use Rattle.engine.specs.Codes.{code_answer}
-use Rattle.engine.specs.Commands.{CommandAnswers, PlainCommand, TextAnswers, UnlessRefused}
+use Rattle.ticketc_lines.specs.Command.{PlainCommand}
+use Rattle.engine.specs.Commands.{CommandAnswers, TextAnswers, UnlessRefused}
 use Rattle.engine.specs.Laws.{RunOutcomeLaw, RunRefusalLaw}
 use Rattle.engine.specs.Lowered.{IsCodeOf, IsRunnableAnswer}
 use Rattle.engine.specs.Runs.{IsOutcomeOf, IsRunAnswer, not_run, ran}
-use Rattle.engine.specs.Text.{text_fault}
-use Rattle.engine.specs.declared.command.Command.TheVariants.{Code, Run}
-use Rattle.engine.specs.declared.command.LineFault.{LineFault}
-use Rattle.engine.specs.declared.refusal.Refusal.{Refusal}
+use Rattle.ticketc_lines.specs.Text.{text_fault}
+use Rattle.ticketc_lines.specs.declared.command.Command.TheVariants.{Code, Run}
+use Rattle.ticketc_lines.specs.declared.command.LineFault.{LineFault}
+use Rattle.ticketc_lines.specs.declared.refusal.Refusal.{Refusal}
 use Rattle.engine.proofs.AnswerLemmas.{runnable_determined, short_input}
 use Rattle.engine.proofs.LoweredLemmas.{one_code, runnable_answered}
 

@@ -1,20 +1,22 @@
 -- From a run, or from what stops one, to what is answered.
 use Rattle.std.proofs.Common.{◌≡◌, ℕ, [], List, Option, Some, None, Result, Ok, Err, IfOk, IfErr, refl, subst, sym}
 use Rattle.code_core.specs.Instructions.{StepCode}
-use Rattle.engine.specs.Answer.{Answer, done, refused}
+use Rattle.ticketc_lines.specs.Answer.{Answer, done, refused}
 use Rattle.engine.specs.Codes.{code_answer}
-use Rattle.engine.specs.Commands.{InputAnswers, PlainCommand, TextAnswers, UnlessRefused, runs}
-use Rattle.engine.specs.declared.command.Command.TheVariants.{Code, Run}
+use Rattle.ticketc_lines.specs.Command.{PlainCommand}
+use Rattle.engine.specs.Commands.{InputAnswers, TextAnswers, UnlessRefused, runs}
+use Rattle.ticketc_lines.specs.declared.command.Command.TheVariants.{Code, Run}
 use Rattle.engine.specs.Lowered.{IsCodeOf, IsRunnableAnswer}
 use Rattle.engine.specs.Runs.{IsOutcomeOf, not_run, ran}
-use Rattle.engine.specs.Text.{text_fault}
+use Rattle.ticketc_lines.specs.Text.{text_fault}
 use Rattle.engine.specs.declared.fault.EngineFault.{EngineFault}
 use Rattle.engine.specs.declared.fault.EngineFault.TheVariants.{Memory as NoMemory}
-use Rattle.engine.specs.declared.refusal.Refusal.{Refusal}
+use Rattle.ticketc_lines.specs.declared.refusal.Refusal.{Refusal}
 use Rattle.engine.specs.declared.response.Response.{Response}
-use Rattle.engine.specs.declared.stop.Stop.{Stop}
-use Rattle.engine.specs.declared.stop.Stop.TheVariants.{Refused, Memory}
-use Rattle.engine.specs.prover.Responses.{IfRefused, IsAnswered, IsResponse, IsUnanswered, SaysStop}
+use Rattle.ticketc_lines.specs.declared.stop.Stop.{Stop}
+use Rattle.ticketc_lines.specs.declared.stop.Stop.TheVariants.{Refused, Memory}
+use Rattle.ticketc_lines.specs.Stop.{IfRefused}
+use Rattle.engine.specs.prover.Responses.{IsAnswered, IsResponse, IsUnanswered, SaysStop}
 
 stop_says : (allowed : Answer → Type 0) (response : Response) (stop : Stop) → SaysStop response stop
     → IfRefused stop (λ refusal. allowed (refused refusal)) → IsResponse allowed response

@@ -3,18 +3,19 @@ use Rattle.std.proofs.Common.{◌≡◌, ◌∙◌, ℕ, List, Option, Some, Non
 use Rattle.code_core.specs.Instructions.{StepCode}
 use Rattle.threaded_source.proofs.Offered.{threaded_source_law}
 use Rattle.tick_kinds.specs.Resolution.{resolved}
-use Rattle.tick_syntax.specs.Plain.{Name, WholeProgram}
+use Rattle.tick_tree.specs.Plain.{Name, WholeProgram}
 use Rattle.tick_syntax.specs.RoundTrip.{IsTextOf}
 use Rattle.tick_syntax.proofs.Offered.{one_program, program_text_begins}
-use Rattle.engine.specs.Answer.{Answer}
-use Rattle.engine.specs.Commands.{CommandAnswers, PlainCommand, TextAnswers, UnlessRefused}
+use Rattle.ticketc_lines.specs.Answer.{Answer}
+use Rattle.ticketc_lines.specs.Command.{PlainCommand}
+use Rattle.engine.specs.Commands.{CommandAnswers, TextAnswers, UnlessRefused}
 use Rattle.engine.specs.Laws.{RunProgramLaw}
 use Rattle.engine.specs.Lowered.{IsEitherCode, IsLowered, code_of}
 use Rattle.engine.specs.Runs.{IsOutcomeOf, IsProgramOutcome, IsRunAnswer, not_run, ran}
-use Rattle.engine.specs.Text.{text_fault}
-use Rattle.engine.specs.declared.command.Command.TheVariants.{Run}
-use Rattle.engine.specs.declared.command.LineFault.{LineFault}
-use Rattle.engine.specs.declared.refusal.Refusal.{Refusal}
+use Rattle.ticketc_lines.specs.Text.{text_fault}
+use Rattle.ticketc_lines.specs.declared.command.Command.TheVariants.{Run}
+use Rattle.ticketc_lines.specs.declared.command.LineFault.{LineFault}
+use Rattle.ticketc_lines.specs.declared.refusal.Refusal.{Refusal}
 
 module _ (turns : ℕ) (input : List ℕ) (p : WholeProgram Name) (is : IsTextOf input p) where
   of_code : (a : Answer) → IsOutcomeOf (code_of p) turns a → IsProgramOutcome p turns a

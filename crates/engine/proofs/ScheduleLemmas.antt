@@ -1,7 +1,7 @@
 -- Answers on a schedule that was read.
 use Rattle.std.proofs.Common.{◌≡◌, ◌∙◌, ℕ, List, Ok, ap, subst, sym}
 use Rattle.tick_play.specs.Schedule.{schedule_of}
-use Rattle.engine.specs.Answer.{done, scheduled}
+use Rattle.ticketc_lines.specs.Answer.{done, scheduled}
 
 -- the text of the steps that were read is the answer
 pub schedule_done : (by : List ℕ → List ℕ) (m n : ℕ) (s steps slice text : List ℕ) → n ≡ m → schedule_of n s ≡ Ok steps

@@ -10,20 +10,22 @@ use Rattle.byte_io.specs.Writing.{CountsWrites, WritesPrefix}
 use Rattle.byte_io.specs.declared.counts.Counts.{Counts}
 use Rattle.byte_io.specs.declared.fault.EndFault.{EndFault}
 use Rattle.byte_io.specs.declared.fault.EndFault.TheVariants as end
-use Rattle.engine.specs.Commands.{CommandAnswers, InputAnswers, PlainCommand, TextAnswers, UnlessRefused, is_run, line_answer, runs, wants_input}
-use Rattle.engine.specs.declared.command.Command.{Command}
-use Rattle.engine.specs.declared.command.Command.TheVariants.{Run}
+use Rattle.ticketc_lines.specs.Command.{PlainCommand}
+use Rattle.engine.specs.Commands.{CommandAnswers, InputAnswers, TextAnswers, UnlessRefused, is_run, line_answer, runs, wants_input}
+use Rattle.ticketc_lines.specs.declared.command.Command.{Command}
+use Rattle.ticketc_lines.specs.declared.command.Command.TheVariants.{Run}
 use Rattle.engine.specs.Faults.{end_fault_in}
 use Rattle.engine.specs.Serving.{Leaves, OnInput, ServesCommand, Writes, WritesSome}
-use Rattle.engine.specs.Text.{text_fault}
-use Rattle.engine.specs.declared.command.LineFault.{LineFault}
+use Rattle.ticketc_lines.specs.Text.{text_fault}
+use Rattle.ticketc_lines.specs.declared.command.LineFault.{LineFault}
 use Rattle.engine.specs.declared.fault.EngineFault.{EngineFault}
 use Rattle.engine.specs.declared.fault.EngineFault.TheVariants.{Read, Write, Memory, Thread}
-use Rattle.engine.specs.declared.refusal.Refusal.{Refusal}
-use Rattle.engine.specs.declared.refusal.Refusal.TheVariants.{TextTooLong}
+use Rattle.ticketc_lines.specs.declared.refusal.Refusal.{Refusal}
+use Rattle.ticketc_lines.specs.declared.refusal.Refusal.TheVariants.{TextTooLong}
 use Rattle.engine.specs.declared.response.Response.{Response}
 use Rattle.engine.specs.prover.Faults.{end_fault}
-use Rattle.engine.specs.prover.Responses.{IsResponse, IsUnanswered, Says, plain_command}
+use Rattle.ticketc_lines.specs.Command.{plain_command}
+use Rattle.engine.specs.prover.Responses.{IsResponse, IsUnanswered, Says}
 
 Consumes-nil : (a : Option (List ℕ)) → Consumes a a []
 Consumes-nil None = tt

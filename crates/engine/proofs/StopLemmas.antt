@@ -6,7 +6,7 @@ use Rattle.tick_kinds.specs.declared.fault.KindFault.TheVariants as kinds
 use Rattle.tick_play.specs.Schedule.{schedule_of}
 use Rattle.tick_play.specs.declared.schedule.ScheduleFault.{ScheduleFault}
 use Rattle.tick_play.specs.declared.schedule.ScheduleFault.TheVariants as schedule
-use Rattle.tick_syntax.specs.Plain.{Name, WholeProgram}
+use Rattle.tick_tree.specs.Plain.{Name, WholeProgram}
 use Rattle.tick_syntax.specs.Refusal.{IsTextRefused}
 use Rattle.tick_syntax.specs.declared.fault.TextFault.{TextFault}
 use Rattle.tick_syntax.specs.declared.fault.TextFault.TheVariants as text
@@ -14,14 +14,14 @@ use Rattle.code_core.specs.Instructions.{StepCode}
 use Rattle.code_core.specs.declared.fault.CodeFault.{CodeFault}
 use Rattle.code_core.specs.declared.fault.CodeFault.TheVariants as codes
 use Rattle.code_text.specs.CodeText.{ReadsAs}
-use Rattle.engine.specs.Answer.{Answer, refused, scheduled, stopped}
+use Rattle.ticketc_lines.specs.Answer.{Answer, refused, scheduled, stopped}
 use Rattle.engine.specs.Codes.{IsCodeAnswer}
 use Rattle.engine.specs.Programs.{IsProgramText, IsTextAnswer, no_program, not_accepted}
-use Rattle.engine.specs.Stop.{code_stop, kinds_stop, schedule_stop, text_stop}
-use Rattle.engine.specs.prover.Responses.{IfRefused}
-use Rattle.engine.specs.declared.refusal.Refusal.{Refusal}
-use Rattle.engine.specs.declared.stop.Stop.{Stop}
-use Rattle.engine.specs.declared.stop.Stop.TheVariants.{Refused, Memory}
+use Rattle.ticketc_lines.specs.Stop.{code_stop, kinds_stop, schedule_stop, text_stop}
+use Rattle.ticketc_lines.specs.Stop.{IfRefused}
+use Rattle.ticketc_lines.specs.declared.refusal.Refusal.{Refusal}
+use Rattle.ticketc_lines.specs.declared.stop.Stop.{Stop}
+use Rattle.ticketc_lines.specs.declared.stop.Stop.TheVariants.{Refused, Memory}
 
 no_memory : (refusal : Refusal) → Refused refusal ≢ Memory
 no_memory refusal same = subst (λ stop. IfRefused stop (λ _. ⊥)) (sym same) tt

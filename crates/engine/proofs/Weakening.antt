@@ -1,10 +1,10 @@
 -- What holds of an outcome, where less is asked.
 use Rattle.std.proofs.Common.{◌≡◌, ◌∙◌, Result, Ok, Err, IfOk, IfErr, IsErrAnd, ap}
 use Rattle.std.proofs.lemmas.Result.{err_from_is_err_and}
-use Rattle.engine.specs.declared.refusal.Refusal.{Refusal}
-use Rattle.engine.specs.declared.stop.Stop.{Stop}
-use Rattle.engine.specs.declared.stop.Stop.TheVariants.{Refused, Memory}
-use Rattle.engine.specs.prover.Responses.{IfRefused}
+use Rattle.ticketc_lines.specs.declared.refusal.Refusal.{Refusal}
+use Rattle.ticketc_lines.specs.declared.stop.Stop.{Stop}
+use Rattle.ticketc_lines.specs.declared.stop.Stop.TheVariants.{Refused, Memory}
+use Rattle.ticketc_lines.specs.Stop.{IfRefused}
 
 pub if_ok : {T E : Type 0} (r : Result T E) (P Q : T → Type 0) → ((t : T) → P t → Q t) → IfOk r P → IfOk r Q
 if_ok (Ok t) P Q more held = more t held

@@ -5,8 +5,8 @@ use Rattle.tick_play.specs.Report.{code_report}
 use Rattle.tick_play.specs.Schedule.{schedule_of}
 use Rattle.code_core.specs.Instructions.{StepCode}
 use Rattle.code_core.specs.declared.fault.CodeFault.{CodeFault}
-use Rattle.engine.specs.Answer.{Answer, scheduled, stopped}
-use Rattle.engine.specs.Stop.{code_stop}
+use Rattle.ticketc_lines.specs.Answer.{Answer, scheduled, stopped}
+use Rattle.ticketc_lines.specs.Stop.{code_stop}
 
 -- `by` answers a code, and a fault is told
 abbrev pub reading_answer : (StepCode → Answer) → Result StepCode CodeFault → Answer

@@ -1,58 +1,21 @@
 -- What the engine answers, by what the words ask for and by the input.
-use Rattle.std.specs.Prelude.{◌≡◌, ℕ, ◌&&◌, nat_le, nat_lt, Bool, true, false, List, Option, Some, None, Result, Ok, Err, if◌then◌else◌}
+use Rattle.std.specs.Prelude.{◌≡◌, ℕ, Bool, true, false, List, Option, Some, None, Result, Ok, Err}
 use Rattle.command_line.specs.declared.request.Request.{Request}
-use Rattle.command_line.specs.declared.request.Request.TheVariants as request
-use Rattle.text_core.specs.Number.{number_of}
-use Rattle.engine.specs.Answer.{Answer, refused, usage}
+use Rattle.ticketc_lines.specs.Answer.{Answer, refused, usage}
 use Rattle.engine.specs.Codes.{code_answer}
 use Rattle.engine.specs.Lowered.{IsRunnableAnswer, emit_answer, lowered_answer}
 use Rattle.engine.specs.Maps.{carried_answer}
-use Rattle.engine.specs.Order.{order_answer}
+use Rattle.ticketc_lines.specs.Order.{order_answer}
 use Rattle.engine.specs.Programs.{IsTextAnswer, check_answer, source_answer}
 use Rattle.engine.specs.Runs.{IsRunAnswer}
-use Rattle.engine.specs.Text.{text_fault}
-use Rattle.engine.specs.declared.command.Command.{Command}
-use Rattle.engine.specs.declared.command.Command.TheVariants.{Order, Check, Emit, Source, Code, Expand, Project, Run}
-use Rattle.engine.specs.declared.command.LineFault.{LineFault}
-use Rattle.engine.specs.declared.command.LineFault.TheVariants.{Usage, Processes}
+use Rattle.ticketc_lines.specs.Text.{text_fault}
+use Rattle.ticketc_lines.specs.Command.{PlainCommand, command_for}
+use Rattle.ticketc_lines.specs.declared.command.Command.TheVariants.{Order, Check, Emit, Source, Code, Expand, Project, Run}
+use Rattle.ticketc_lines.specs.declared.command.LineFault.{LineFault}
+use Rattle.ticketc_lines.specs.declared.command.LineFault.TheVariants.{Usage, Processes}
 use Rattle.engine.specs.declared.maps.Way.TheVariants.{Up, Down}
-use Rattle.engine.specs.declared.refusal.Refusal.{Refusal}
-use Rattle.engine.specs.declared.refusal.Refusal.TheVariants as refusal
-
--- a command, with the schedule that goes with it as a text
-abbrev pub PlainCommand : Type 0
-PlainCommand = Command (List ℕ)
-
--- a number up to the limit
-abbrev pub lawful : ℕ → Option ℕ → Option ℕ
-lawful limit None = None
-lawful limit (Some n) = if nat_le n limit then Some n else None
-
--- 1 to 6 processes
-abbrev pub processes_of : Option ℕ → Result ℕ LineFault
-processes_of None = Err Usage
-processes_of (Some n) = if nat_lt 0 n && nat_le n 6 then Ok n else Err Processes
-
-abbrev pub turns_of : Option ℕ → Result ℕ LineFault
-turns_of None = Err Usage
-turns_of (Some turns) = Ok turns
-
--- the command of a number, where that is lawful
-abbrev pub with_number : (ℕ → PlainCommand) → Result ℕ LineFault → Result PlainCommand LineFault
-with_number by (Ok n) = Ok (by n)
-with_number by (Err fault) = Err fault
-
--- the command that is asked for, or why the words are refused
-abbrev pub command_for : Option (Request (List ℕ)) → Result PlainCommand LineFault
-command_for None = Err Usage
-command_for (Some (request.Order text)) = with_number Order (processes_of (lawful 4294967295 (number_of text)))
-command_for (Some request.Check) = Ok Check
-command_for (Some request.Emit) = Ok Emit
-command_for (Some (request.Source schedule)) = Ok (Source schedule)
-command_for (Some (request.Code schedule)) = Ok (Code schedule)
-command_for (Some (request.Expand schedule)) = Ok (Expand schedule)
-command_for (Some (request.Project schedule)) = Ok (Project schedule)
-command_for (Some (request.Run text)) = with_number Run (turns_of (lawful 1000000000 (number_of text)))
+use Rattle.ticketc_lines.specs.declared.refusal.Refusal.{Refusal}
+use Rattle.ticketc_lines.specs.declared.refusal.Refusal.TheVariants as refusal
 
 -- what a command answers on a text
 abbrev pub TextAnswers : PlainCommand → List ℕ → Answer → Type 0

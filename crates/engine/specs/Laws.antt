@@ -6,16 +6,17 @@ use Rattle.text_core.specs.Lines.{line_end}
 use Rattle.command_line.specs.declared.request.Request.{Request}
 use Rattle.command_line.specs.declared.request.Request.TheVariants.{Source, Code, Expand, Project}
 use Rattle.tick_play.specs.Written.{schedule_text}
-use Rattle.tick_syntax.specs.Plain.{Name, WholeProgram}
+use Rattle.tick_tree.specs.Plain.{Name, WholeProgram}
 use Rattle.tick_syntax.specs.RoundTrip.{IsTextOf}
 use Rattle.code_core.specs.Instructions.{StepCode}
-use Rattle.engine.specs.Answer.{Answer, done}
-use Rattle.engine.specs.Commands.{Answers, command_for, is_run}
+use Rattle.ticketc_lines.specs.Answer.{Answer, done}
+use Rattle.ticketc_lines.specs.Command.{command_for}
+use Rattle.engine.specs.Commands.{Answers, is_run}
 use Rattle.engine.specs.Lowered.{IsCodeOf}
 use Rattle.engine.specs.Maps.{schedule_line}
 use Rattle.engine.specs.Runs.{IsOutcomeOf, IsProgramOutcome}
-use Rattle.engine.specs.Text.{text_fault}
-use Rattle.engine.specs.declared.command.Command.TheVariants.{Run}
+use Rattle.ticketc_lines.specs.Text.{text_fault}
+use Rattle.ticketc_lines.specs.declared.command.Command.TheVariants.{Run}
 
 -- What a run shows may be one of many things, by how its threads go on; all other answers are determined.
 abbrev pub AtMostOneAnswerLaw : Type 0

@@ -1,9 +1,4 @@
 pub mod Faults
-pub mod Refusal
-pub mod Stop
-pub mod Text
-pub mod Order
-pub mod Answer
 pub mod Programs
 pub mod Codes
 pub mod Lowered
@@ -12,4 +7,6 @@ pub mod Runs
 pub mod Commands
 pub mod Serving
 pub mod Laws
+pub mod Exit
+pub mod Ended
 pub mod prover

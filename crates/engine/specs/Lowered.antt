@@ -5,12 +5,12 @@ use Rattle.code_text.specs.CodeText.{ReadsAs, code_text}
 use Rattle.tick_kinds.specs.Accepted.{IsAccepted}
 use Rattle.tick_kinds.specs.Resolution.{resolved}
 use Rattle.tick_lower.specs.Lowered.{lowered, lowered_length, lowered_sizes}
-use Rattle.tick_syntax.specs.Plain.{Name, WholeProgram}
+use Rattle.tick_tree.specs.Plain.{Name, WholeProgram}
 use Rattle.code_core.specs.Instructions.{StepCode}
-use Rattle.engine.specs.Answer.{Answer, done, refused}
+use Rattle.ticketc_lines.specs.Answer.{Answer, done, refused}
 use Rattle.engine.specs.Codes.{IsCodeAnswer}
 use Rattle.engine.specs.Programs.{IsProgramText, IsTextAnswer}
-use Rattle.engine.specs.declared.refusal.Refusal.TheVariants as refusal
+use Rattle.ticketc_lines.specs.declared.refusal.Refusal.TheVariants as refusal
 
 -- the code that a program becomes
 abbrev pub code_of : WholeProgram Name → StepCode

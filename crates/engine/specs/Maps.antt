@@ -5,7 +5,7 @@ use Rattle.tick_play.specs.Schedule.{schedule_of}
 use Rattle.tick_play.specs.Written.{schedule_text}
 use Rattle.tick_sim.specs.Maps.{down, up}
 use Rattle.code_core.specs.Instructions.{StepCode}
-use Rattle.engine.specs.Answer.{Answer, scheduled}
+use Rattle.ticketc_lines.specs.Answer.{Answer, scheduled}
 use Rattle.engine.specs.declared.maps.Way.{Way}
 use Rattle.engine.specs.declared.maps.Way.TheVariants.{Up, Down}
 

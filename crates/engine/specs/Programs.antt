@@ -8,13 +8,13 @@ use Rattle.tick_kinds.specs.declared.fault.KindFault.{KindFault}
 use Rattle.tick_play.specs.Report.{source_report}
 use Rattle.tick_play.specs.Schedule.{schedule_of}
 use Rattle.tick_syntax.specs.Nesting.{nesting}
-use Rattle.tick_syntax.specs.Plain.{Name, WholeProgram}
+use Rattle.tick_tree.specs.Plain.{Name, WholeProgram}
 use Rattle.tick_syntax.specs.Printed.{printed}
 use Rattle.tick_syntax.specs.Refusal.{IsTextRefused}
 use Rattle.tick_syntax.specs.RoundTrip.{IsTextOf}
 use Rattle.tick_syntax.specs.declared.fault.TextFault.{TextFault}
-use Rattle.engine.specs.Answer.{Answer, done, scheduled, stopped}
-use Rattle.engine.specs.Stop.{kinds_stop, text_stop}
+use Rattle.ticketc_lines.specs.Answer.{Answer, done, scheduled, stopped}
+use Rattle.ticketc_lines.specs.Stop.{kinds_stop, text_stop}
 
 -- the text is this program, and within the limits
 pub record IsProgramText (text : List ℕ) (p : WholeProgram Name) : Type 0 where

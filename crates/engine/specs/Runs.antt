@@ -5,9 +5,9 @@ use Rattle.tick_play.specs.Outcome.{outcome_lines}
 use Rattle.tick_run.specs.Runs.{IsWholeRun}
 use Rattle.threaded_source.specs.Shown.{ShowsOutcome}
 use Rattle.tick_kinds.specs.Resolution.{resolved}
-use Rattle.tick_syntax.specs.Plain.{Name, WholeProgram}
+use Rattle.tick_tree.specs.Plain.{Name, WholeProgram}
 use Rattle.code_core.specs.Instructions.{StepCode}
-use Rattle.engine.specs.Answer.{Answer, done}
+use Rattle.ticketc_lines.specs.Answer.{Answer, done}
 use Rattle.engine.specs.Codes.{code_answer}
 use Rattle.engine.specs.Lowered.{IsCodeOf, IsRunnableAnswer, code_of}
 use Rattle.engine.specs.Maps.{carried}

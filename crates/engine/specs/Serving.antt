@@ -5,10 +5,11 @@ use Rattle.command_line.specs.declared.request.Request.{Request}
 use Rattle.byte_io.specs.Reading.{CountsReads, TakesFew}
 use Rattle.byte_io.specs.Writing.{CountsWrites, WritesPrefix}
 use Rattle.byte_io.specs.declared.counts.Counts.{Counts}
-use Rattle.engine.specs.Answer.{Answer}
-use Rattle.engine.specs.Commands.{CommandAnswers, PlainCommand, command_for, is_run, wants_input}
+use Rattle.ticketc_lines.specs.Answer.{Answer}
+use Rattle.ticketc_lines.specs.Command.{PlainCommand, command_for}
+use Rattle.engine.specs.Commands.{CommandAnswers, is_run, wants_input}
 use Rattle.engine.specs.Faults.{end_fault_in}
-use Rattle.engine.specs.declared.command.LineFault.{LineFault}
+use Rattle.ticketc_lines.specs.declared.command.LineFault.{LineFault}
 use Rattle.engine.specs.declared.fault.EngineFault.{EngineFault}
 use Rattle.engine.specs.declared.fault.EngineFault.TheVariants.{Read, Write, Memory, Thread}
 use Rattle.engine.specs.declared.serving.Served.{Served}

@@ -1,19 +1,18 @@
 //! The response to a command on an input, one case for each command that wants no threads.
 ghost use Rattle.std.specs.Prelude.{◌≡◌, false, IfErr, IfOk, string_bytes};
-ghost use Rattle.engine.specs.Answer.{done, refused};
+ghost use Rattle.ticketc_lines.specs.Answer.{done, refused};
 ghost use Rattle.engine.specs.Commands.{InputAnswers, TextAnswers, runs};
-ghost use Rattle.engine.specs.prover.Responses.{Fits, IfRefused, IsAnswered, plain_command};
+ghost use Rattle.ticketc_lines.specs.Command.{Fits, plain_command};
+ghost use Rattle.ticketc_lines.specs.Stop.{IfRefused};
+ghost use Rattle.engine.specs.prover.Responses.{IsAnswered};
 
-use crate::command::Command;
 use crate::fault::EngineFault;
 use crate::lowered::{code_report, emit_text};
 use crate::maps::{Way, carried_text};
-use crate::order::order_text;
 use crate::program::{check_text, source_text};
 use crate::response::{Response, stop_response};
-use crate::stop::Stop;
-use crate::text::text_of;
 use std::alloc::Global;
+use ticketc_lines::{Command, Stop, order_text, text_of};
 
 /// The whole response to a command, by its input.
 pub fn response_to(

@@ -1,20 +1,20 @@
 //! The commands on a code and on the code of a program, each as the text that it answers.
 ghost use Rattle.std.specs.Prelude.{◌≡◌, IfErr, IfOk, string_bytes};
 ghost use Rattle.code_core.specs.Instructions.{StepCode};
-ghost use Rattle.engine.specs.Answer.{Answer, done, refused};
+ghost use Rattle.ticketc_lines.specs.Answer.{Answer, done, refused};
 ghost use Rattle.engine.specs.Codes.{code_answer};
 ghost use Rattle.engine.specs.Lowered.{IsCodeOf, IsLowered, IsRunnableAnswer, begins_as_code, code_of, emit_answer, lowered_answer};
 ghost use Rattle.engine.specs.Programs.{IsTextAnswer};
-ghost use Rattle.engine.specs.prover.Responses.{IfRefused};
+ghost use Rattle.ticketc_lines.specs.Stop.{IfRefused};
 
 use crate::program::program_of;
-use crate::stop::Stop;
 use code_core::Code;
 use code_text::{read_code, write_code};
 use std::alloc::Global;
 use tick_kinds::Program;
 use tick_lower::lower;
 use tick_play::{play_code, read_schedule};
+use ticketc_lines::Stop;
 
 /// The text of the code that an accepted program becomes.
 pub fn emit_text(alloc: Global, text: &str) -> Result<String, Stop>

@@ -1,19 +1,19 @@
 //! Schedules of a program and of its code, each as the line that is answered.
 ghost use Rattle.std.specs.Prelude.{◌≡◌, ◌<◌, All, IfErr, IfOk, string_bytes};
 ghost use Rattle.tick_kinds.specs.Resolution.{resolved};
-ghost use Rattle.engine.specs.Answer.{done, refused};
+ghost use Rattle.ticketc_lines.specs.Answer.{done, refused};
 ghost use Rattle.engine.specs.Lowered.{code_of, lowered_answer};
 ghost use Rattle.engine.specs.Maps.{carried as carried_steps, carried_answer, schedule_line as line_of_schedule};
 ghost use Rattle.engine.specs.Programs.{IsTextAnswer};
-ghost use Rattle.engine.specs.prover.Responses.{IfRefused};
+ghost use Rattle.ticketc_lines.specs.Stop.{IfRefused};
 
 use crate::lowered::lowering_of;
-use crate::stop::Stop;
 use code_core::Code;
 use std::alloc::Global;
 use tick_kinds::Program;
 use tick_play::{NoMemory, read_schedule, write_schedule};
 use tick_sim::{expand, project};
+use ticketc_lines::Stop;
 
 /// Which way a schedule is carried.
 #[derive(Clone, Copy, Debug, PartialEq, Eq)]

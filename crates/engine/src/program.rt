@@ -1,16 +1,16 @@
 //! The commands on a program, each as the text that it answers.
 ghost use Rattle.std.specs.Prelude.{IfErr, IfOk, string_bytes};
 ghost use Rattle.tick_kinds.specs.Accepted.{IsAccepted};
-ghost use Rattle.tick_syntax.specs.Plain.{Name, WholeProgram};
-ghost use Rattle.engine.specs.Answer.{Answer, done, refused};
+ghost use Rattle.tick_tree.specs.Plain.{Name, WholeProgram};
+ghost use Rattle.ticketc_lines.specs.Answer.{Answer, done, refused};
 ghost use Rattle.engine.specs.Programs.{IsProgramText, IsTextAnswer, check_answer, source_answer};
-ghost use Rattle.engine.specs.prover.Responses.{IfRefused};
+ghost use Rattle.ticketc_lines.specs.Stop.{IfRefused};
 
-use crate::stop::Stop;
 use std::alloc::Global;
 use tick_kinds::{Program, check};
 use tick_play::{play_source, read_schedule};
 use tick_syntax::{parse, print};
+use ticketc_lines::Stop;
 
 /// The printed form of an accepted program.
 pub fn check_text(alloc: Global, text: &str) -> Result<String, Stop>

@@ -1,14 +1,12 @@
 //! What is to be written, with the status that goes with it.
 ghost use Rattle.std.specs.Prelude.{◌≡◌, IfErr, IfOk};
-ghost use Rattle.engine.specs.Answer.{refused, usage};
+ghost use Rattle.ticketc_lines.specs.Answer.{refused, usage};
 ghost use Rattle.engine.specs.Commands.{line_answer};
 ghost use Rattle.engine.specs.prover.Responses.{Says, SaysStop};
 
-use crate::command::LineFault;
 use crate::fault::EngineFault;
-use crate::refusal::{Refusal, line_of};
-use crate::stop::Stop;
 use std::alloc::{AllocError, Global};
+use ticketc_lines::{LineFault, Refusal, Stop, line_of};
 
 /// A text and a status, 0 to 2.
 #[derive(Drop)]

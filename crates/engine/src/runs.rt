@@ -1,25 +1,25 @@
 //! A run on threads: from an input to its code, from the code to what it lets others see.
 ghost use Rattle.std.specs.Prelude.{◌≡◌, true, [], None, IfErr, IfOk, string_bytes, vec_len};
-ghost use Rattle.engine.specs.Answer.{done, refused};
+ghost use Rattle.ticketc_lines.specs.Answer.{done, refused};
 ghost use Rattle.engine.specs.Commands.{InputAnswers};
-ghost use Rattle.engine.specs.declared.command.Command.TheVariants.{Code as CodeCommand, Run};
+ghost use Rattle.ticketc_lines.specs.declared.command.Command.TheVariants.{Code as CodeCommand, Run};
 ghost use Rattle.engine.specs.Lowered.{IsCodeOf};
 ghost use Rattle.engine.specs.Runs.{IsOutcomeOf};
-ghost use Rattle.engine.specs.Text.{text_fault};
-ghost use Rattle.engine.specs.prover.Responses.{IfRefused, IsAnswered, IsUnanswered};
+ghost use Rattle.ticketc_lines.specs.Text.{text_fault};
+ghost use Rattle.ticketc_lines.specs.Stop.{IfRefused};
+ghost use Rattle.engine.specs.prover.Responses.{IsAnswered, IsUnanswered};
 
 use crate::fault::EngineFault;
 use crate::lowered::runnable_code;
 use crate::response::{Response, stop_response};
-use crate::stop::Stop;
-use crate::text::text_of;
 use code_core::Code;
+use code_machine::Ask;
 use std::alloc::{AllocError, Global};
 use std::sync::Wait;
 use std::thread::Threads;
-use step_code::Ask;
 use tick_play::outcome_text;
 use tick_run::{Gate, run};
+use ticketc_lines::{Stop, text_of};
 
 /// How many values a process gives out at most.
 const OUTPUTS: u32 = 10_000;

@@ -4,14 +4,14 @@ ghost use Rattle.std.specs.Fn.{FnOnceReturnsAt};
 ghost use Rattle.std.specs.Io.KnownBytes.{Appends};
 ghost use Rattle.command_line.specs.Line.{asked_in};
 ghost use Rattle.byte_io.specs.Writing.{CountsWrites, WritesPrefix};
-ghost use Rattle.engine.specs.Commands.{PlainCommand, command_for, is_run, runs};
-ghost use Rattle.engine.specs.declared.command.Command.TheVariants.{Run};
+ghost use Rattle.ticketc_lines.specs.Command.{Fits, PlainCommand, command_for, plain_command};
+ghost use Rattle.engine.specs.Commands.{is_run, runs};
+ghost use Rattle.ticketc_lines.specs.declared.command.Command.TheVariants.{Run};
 ghost use Rattle.engine.specs.Faults.{end_fault_in};
 ghost use Rattle.engine.specs.Serving.{Serves, ServesCommand, UnlessRun};
-ghost use Rattle.engine.specs.prover.Responses.{Fits, IsAnswered, IsAnsweredBy, plain_command};
+ghost use Rattle.engine.specs.prover.Responses.{IsAnswered, IsAnsweredBy};
 
 use crate::answer::response_to;
-use crate::command::{Command, command_of};
 use crate::fault::EngineFault;
 use crate::response::{Response, line_response};
 use crate::runs::run_response;
@@ -20,6 +20,7 @@ use command_line::asked;
 use std::alloc::Global;
 use std::sync::Wait;
 use std::thread::Threads;
+use ticketc_lines::{Command, command_of};
 
 /// What came of a command line that was served.
 #[derive(Clone, Copy, Debug, PartialEq, Eq)]

@@ -2,7 +2,7 @@
 
 use crate::files::{file, program, tell};
 use anyhow::Error;
-use step_code::write_code;
+use code_text::write_code;
 use tick_lower::lower;
 use tick_play::{play_code, play_source, read_schedule, write_schedule};
 use tick_sim::{expand, project};

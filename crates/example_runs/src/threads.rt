@@ -2,11 +2,11 @@
 
 use crate::allowed::Allowed;
 use anyhow::{Error, anyhow};
+use code_machine::{Ask, Code};
 use std::sync::Wait;
 use std::sync::atomic::AtomicU64;
 use std::sync::atomic::Ordering::SeqCst;
 use std::thread::{Threads, yield_now};
-use step_code::{Ask, Code};
 use testing::Polls;
 use tick_play::outcome_text;
 use tick_run::{Gate, RunOutcome, run};

@@ -4,7 +4,7 @@ use Rattle.std.specs.List.{list_any}
 use Rattle.machine_core.specs.declared.status.Trap.{Trap}
 use Rattle.machine_core.specs.declared.run_outcome.RunEnd.TheVariants.{Trapped}
 use Rattle.machine_core.specs.Observables.{RunObservables}
-use Rattle.tick_syntax.specs.Plain.{WholeProgram}
+use Rattle.tick_tree.specs.Plain.{WholeProgram}
 use Rattle.tick_source.specs.Source.{source}
 use Rattle.tick_lower.specs.Lowered.{lowered, lowered_sizes}
 use Rattle.tick_sim.specs.Maps.{up}

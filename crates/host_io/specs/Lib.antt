@@ -1,3 +1,1 @@
 pub mod Host
-pub mod Exit
-pub mod Ended

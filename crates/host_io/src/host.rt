@@ -3,7 +3,7 @@ ghost use Rattle.std.specs.Prelude.{◌≡◌, None};
 ghost use Rattle.byte_io.specs.Calls.{ReadGives, WriteTakes, after_read, after_write};
 ghost use Rattle.host_io.specs.Host.{IsReadOnce, IsTransferOf, IsWrittenOnce};
 
-use engine::{ByteSink, ByteSource, Counts, Transfer};
+use byte_io::{ByteSink, ByteSource, Counts, Transfer};
 use std::io;
 use std::io::{ErrorKind, Read, Write};
 

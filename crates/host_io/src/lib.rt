@@ -1,13 +1,9 @@
-//! Standard input and output as the ends of the engine, and the status that the host is told.
+//! Standard input and output as ends.
 //!
-//! Start with `ended`, which is all that the program does. `HostReader` and `HostWriter` are the ends
-//! that `main` passes to it, over a reader and a writer of the standard library.
+//! `HostReader` and `HostWriter` are the ends that `main` passes to the engine, over a reader and a
+//! writer of the standard library; start with them.
 #![tactic(auto)]
 
-mod exit;
 mod host;
-mod program;
 
-pub use exit::exit_code;
 pub use host::{HostReader, HostWriter, transfer_of};
-pub use program::ended;

@@ -1,6 +1,6 @@
 -- What an answer says, from what was explored or hunted and what the answer shows of it.
 use Rattle.std.proofs.Common.{ℕ, ◌≤◌, List, subst}
-use Rattle.tick_syntax.specs.Plain.{Name, WholeProgram}
+use Rattle.tick_tree.specs.Plain.{Name, WholeProgram}
 use Rattle.tick_kinds.specs.Resolution.{resolved}
 use Rattle.tick_explore.specs.Searching.{IfLimit, IfSafe, IfTrapped, IsLimit, NeverTraps}
 use Rattle.tick_explore.specs.declared.answer.Explored.{Explored}

@@ -4,7 +4,7 @@ use Rattle.std.specs.Prelude.{string_bytes}
 use Rattle.std.specs.List.{All, sum_by}
 use Rattle.code_core.specs.Instructions.{StepCode}
 use Rattle.tick_tally.specs.Tallies.{AreCommonestFirst, AreDistinct, IsOutcomeText}
-use Rattle.tick_syntax.specs.Plain.{Name, WholeProgram}
+use Rattle.tick_tree.specs.Plain.{Name, WholeProgram}
 use Rattle.tick_tally.specs.declared.counting.Counted.{Counted}
 use Rattle.tick_explain.specs.Refusals.{IsProgram, IsProgramRefused}
 use Rattle.tick_explain.specs.Reports.{Tells}

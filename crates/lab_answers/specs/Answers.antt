@@ -3,7 +3,7 @@ use Rattle.std.specs.Prelude.{◌≤◌, ℕ, List}
 use Rattle.tick_kinds.specs.Resolution.{resolved}
 use Rattle.tick_explain.specs.Refusals.{IsProgram, IsProgramRefused}
 use Rattle.tick_explain.specs.Reports.{Tells}
-use Rattle.tick_syntax.specs.Plain.{WholeProgram}
+use Rattle.tick_tree.specs.Plain.{WholeProgram}
 use Rattle.tick_explore.specs.Searching.{AreAllStates, IsLimit, IsShortestTrap, NeverTraps}
 use Rattle.tick_explore.specs.Trap.{IsTrap}
 use Rattle.tick_hunt.specs.Hunts.{IsFirstTrap, IsMinimalTrap, NoRunTraps}

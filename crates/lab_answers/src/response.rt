@@ -6,7 +6,7 @@ use crate::stop::Stop;
 use std::alloc::Global;
 
 /// The whole answer to a command.
-#[derive(PartialEq, Eq, Debug, Drop)]
+#[derive(Drop)]
 pub struct Response {
     /// The exit status.
     pub status: u8,

@@ -4,7 +4,7 @@ use std::alloc::{AllocError, AllocFailed};
 use tick_run::RunFault;
 
 /// Why a command comes to no answer of its own.
-#[derive(Debug, Drop)]
+#[derive(Drop)]
 pub enum Stop {
     /// An input is refused; the report says why.
     Refused(Vec<u8>),

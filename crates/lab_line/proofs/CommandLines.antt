@@ -26,15 +26,15 @@ abbrev free_aside : Arg → Bool
 free_aside a = is_empty a.needs.items && (is_empty a.r_ifs.items && (is_empty a.r_ifs_all.items
     && (is_empty a.r_unless.items && is_empty a.r_unless_all.items)))
 
-never_empty : {X : Type 0} (xs : List X) (x : X) → is_empty (xs ++ x ∷ []) ≡ false
-never_empty [] x = refl
-never_empty (y ∷ ys) x = ne_eqb _ 0 (λ none. absurd (omega (arith, none)))
+never_empty : {X : Type 0} (xs : List X) (x : X) (more : List X) → is_empty (xs ++ x ∷ more) ≡ false
+never_empty [] x more = ne_eqb _ 0 (λ none. absurd (omega (arith, none)))
+never_empty (y ∷ ys) x more = ne_eqb _ 0 (λ none. absurd (omega (arith, none)))
 
 -- the rule is no longer free of others
-pub in_conflict : (old new : Arg) (id : Bor (List ℕ)) → AddsConflicts old new (id ∷ [])
+pub in_conflict : (old new : Arg) (id : Bor (List ℕ)) (more : List (Bor (List ℕ))) → AddsConflicts old new (id ∷ more)
     → rule_of new ≡ record (rule_of old) { is_free = false }
-in_conflict old new id adds =
-    ap rule_of adds.0 ∙ go old.exclusive _ (ap is_empty adds.1 ∙ never_empty old.conflicts.items id)
+in_conflict old new id more adds =
+    ap rule_of adds.0 ∙ go old.exclusive _ (ap is_empty adds.1 ∙ never_empty old.conflicts.items id more)
   where
     go : (e b : Bool) → b ≡ false → record (rule_of old) { is_free = not e && (b && free_aside old) } ≡ record (rule_of old) { is_free = false }
     go true b none = refl

@@ -115,15 +115,13 @@ pub fn threads<'a>(alloc: Global) -> Result<Arg<'a>, AllocError>
     ensures rule { IfOk result (λ arg. rule_of arg ≡ threads_rule) }
     ensures local { IfOk result (λ arg. arg.global ≡ false) }
 {
+    let plan = ["seed", "runs", "steps", "uniform"];
     two_numbers(alloc, "threads")
         .help(
             "Runs the code on threads instead, so many times, each process for at most so many turns; \
 and prints how often each outcome came",
         )
-        .conflicts_with("seed")?
-        .conflicts_with("runs")?
-        .conflicts_with("steps")?
-        .conflicts_with("uniform")
+        .conflicts_with_all(&plan)
 }
 
 fn two_numbers<'a>(alloc: Global, name: &'a str) -> Arg<'a>

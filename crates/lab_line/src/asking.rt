@@ -11,7 +11,7 @@ use clap::{ArgMatches, Error};
 use std::alloc::{AllocError, Global};
 
 /// What a command line asks for, or what is told in place of an answer.
-#[derive(Debug, Drop)]
+#[derive(Drop)]
 pub enum Line<'a> {
     Request(Request<&'a str>),
     Runs(Runs<&'a str>),
@@ -50,7 +50,15 @@ fn told<'a>(alloc: Global, error: Error) -> Result<Line<'a>, AllocError>
 {
     match error.kind() {
         ErrorKind::OutOfMemory => Err(AllocError),
-        ErrorKind::DisplayHelp => Ok(Line::Help(format!(in alloc; "{error}")?)),
-        _ => Ok(Line::Refused(format!(in alloc; "{error}")?)),
+        kind => Ok(line_told(kind, format!(in alloc; "{error}")?)),
+    }
+}
+
+fn line_told<'a>(kind: ErrorKind, text: String) -> Line<'a>
+    ensures { IsTold result }
+{
+    match kind {
+        ErrorKind::DisplayHelp => Line::Help(text),
+        _ => Line::Refused(text),
     }
 }

@@ -1,8 +1,8 @@
 //! The command line as `clap` is told of it.
 ghost use Rattle.std.specs.Prelude.{◌≡◌, IfOk, false, codes};
-ghost use Rattle.clap.specs.Simple.{app_of, new_app};
+ghost use Rattle.clap.specs.Simple.{App, app_of, new_app};
 ghost use Rattle.clap.specs.declared.builder.command.Command.TheViews.{out-Command};
-ghost use Rattle.lab_line.specs.CommandLine.{command_wanted, explain_app, explore_app, hunt_app, labels_app, run_app, ticklab, with_plan};
+ghost use Rattle.lab_line.specs.CommandLine.{command_wanted, explain_app, explore_app, hunt_app, labels_app, run_app, ticklab, with_app, with_plan};
 
 use crate::arguments::{
     file, flag, further_schedule, length, moves, number, processes, schedule, threads,
@@ -27,13 +27,28 @@ const ABOUT: &str =
 pub fn command_line<'a>(alloc: Global) -> Result<Command<'a>, AllocError>
     ensures { IfOk result (λ line. app_of line ≡ ticklab) }
 {
-    ticklab(alloc)
-        .subcommand(explore(alloc)?)?
-        .subcommand(hunt(alloc)?)?
-        .subcommand(run(alloc, "trace", "Prints a line for each step of a run")?)?
-        .subcommand(run(alloc, "draw", "Draws a run, as SVG on standard output")?)?
-        .subcommand(explain(alloc)?)?
-        .subcommand(labels(alloc)?)
+    let line = with_one(ticklab(alloc), explore(alloc))?;
+    let line = with_one(line, hunt(alloc))?;
+    let line = with_one(
+        line,
+        run(alloc, "trace", "Prints a line for each step of a run"),
+    )?;
+    let line = with_one(
+        line,
+        run(alloc, "draw", "Draws a run, as SVG on standard output"),
+    )?;
+    let line = with_one(line, explain(alloc))?;
+    with_one(line, labels(alloc))
+}
+
+// The command line with one more command.
+fn with_one<'a>(
+    line: Command<'a>,
+    more: Result<Command<'a>, AllocError>,
+) -> Result<Command<'a>, AllocError>
+    ensures { (above app : App) → app_of line.entry ≡ above → IfOk more.entry (λ command. app_of command ≡ app) → IfOk more.entry (λ command. (out-Command command).has_globals ≡ false) → IfOk result (λ longer. app_of longer ≡ with_app above app) }
+{
+    line.subcommand(more?)
 }
 
 fn ticklab<'a>(alloc: Global) -> Command<'a>

@@ -1,6 +1,6 @@
 /// A command with what goes with it, its texts in whatever form they are held. A file is a name, and `-` is
 /// standard input; a schedule is its text, or `@` and the name of the file that has it. Neither is read yet.
-#[derive(Clone, Copy, Debug, PartialEq, Eq)]
+#[derive(Debug, Drop)]
 pub enum Request<T> {
     /// All schedules of a program, as far as it has at most so many states; merged, private steps go with
     /// the shared one before them.
@@ -42,7 +42,7 @@ pub enum Request<T> {
 }
 
 /// Runs on threads of a program's code: how many, and the turns of each process.
-#[derive(Clone, Copy, Debug, PartialEq, Eq)]
+#[derive(Debug, Drop)]
 pub struct Runs<T> {
     pub file: T,
     pub times: u32,

@@ -11,7 +11,7 @@ use ticket_core::Move;
 use word_core::LabelWord;
 
 /// The labels of all processes, and the move that led to them.
-#[derive(Clone, Copy, PartialEq, Eq, Debug)]
+#[derive(Clone, Copy)]
 pub struct Frame {
     /// `None` at the start, before all moves.
     pub made: Option<Move>,

@@ -1,24 +1,13 @@
-// The machine of step code: what a verified code does on bounded labels and registers, step by step
-// under a schedule that is given.
-//
-// Start with `CodeMachine::new`, or with `run` for a whole schedule. A `Proc` is one process by
-// itself: it asks for what it needs of the shared words, and goes on by the answer.
+//! Codes and their machine under one name: a code's text, what a verified code is, and what it does
+//! step by step.
+//!
+//! Start with `read_code` and `run`. Nothing is defined here: the text is `code_text`'s, the code
+//! `code_core`'s, and the machine `code_machine`'s.
 #![tactic(auto)]
 
-mod answering;
-mod ask;
-pub mod laws;
-pub mod machine;
-mod making;
-mod memory;
-mod proc;
-mod ranks;
-mod stack;
-mod telling;
-
-pub use ask::{Advance, Ask, Reply};
 pub use code_core::{Code, CodeFault, Instr, Sizes, verify};
+pub use code_machine::{
+    Act, Advance, Ask, CodeMachine, Event, Made, NoMemory, Op, Outcome, Proc, Reply, Status, Trap,
+    laws, machine, run,
+};
 pub use code_text::{read_code, write_code};
-pub use machine::{CodeMachine, Made, run};
-pub use machine_core::{Act, Event, NoMemory, Op, Outcome, Status, Trap};
-pub use proc::Proc;

@@ -7,11 +7,11 @@ use Rattle.machine_core.specs.declared.status.Status.TheVariants as S
 use Rattle.machine_core.specs.declared.run_outcome.RunEnd.{RunEnd}
 use Rattle.machine_core.specs.declared.run_outcome.RunEnd.TheVariants.{Ended, Trapped, TurnsSpent, OutputsFull}
 use Rattle.machine_core.specs.Observables.{Observables, RunObservables}
-use Rattle.tick_syntax.specs.Plain.{WholeProgram}
+use Rattle.tick_tree.specs.Plain.{WholeProgram}
 use Rattle.code_core.specs.Instructions.{StepCode}
 use Rattle.code_core.specs.declared.instr.Instr.{Instr}
-use Rattle.step_code.specs.Machine.{CodeProcess}
-use Rattle.step_code.specs.Process.{gives_out}
+use Rattle.code_machine.specs.Machine.{CodeProcess}
+use Rattle.code_machine.specs.Process.{gives_out}
 use Rattle.code_local.specs.Local.{outputs_of}
 use Rattle.tick_merge.specs.Ran.{run_under, events_by}
 use Rattle.tick_lower.specs.Lowered.{lowered, lowered_sizes}

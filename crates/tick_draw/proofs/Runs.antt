@@ -7,7 +7,7 @@ use Rattle.ticket_core.specs.Tickets.{greatest_ticket, start_tickets}
 use Rattle.machine_core.specs.declared.event.Event.{Event}
 use Rattle.code_core.specs.declared.instr.Instr.{Instr}
 use Rattle.tick_source.specs.Source.{SourceState, source_step}
-use Rattle.step_code.specs.Machine.{CodeState, code_step, next_instruction}
+use Rattle.code_machine.specs.Machine.{CodeState, code_step, next_instruction}
 use Rattle.tick_draw.specs.declared.mark.Mark.{Mark}
 use Rattle.tick_draw.specs.declared.mark.Holdings.TheVariants as H
 use Rattle.tick_draw.specs.Marks.{marks_on, code_marks_on, with_event, with_made, tickets_held, told_after}

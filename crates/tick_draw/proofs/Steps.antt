@@ -6,7 +6,7 @@ use Rattle.std.proofs.Math.Seq.{drop-cons, drop-length}
 use Rattle.base.specs.Rows.{padded}
 use Rattle.ticket_core.specs.Tickets.{greatest_ticket, stamp_ticket, clear_ticket, older_ticket, holds_ticket}
 use Rattle.ticket_core.proofs.Offered.{greatest-stamp_ticket, greatest-clear_ticket, length-stamp_ticket, length-clear_ticket}
-use Rattle.tick_syntax.specs.Plain.{Statement, assign, get, put, stamp, clear, scan, copy, older, held, out, branch, repeat, Block, nil, cons, onto, Expression}
+use Rattle.tick_tree.specs.Plain.{Statement, assign, get, put, stamp, clear, scan, copy, older, held, out, branch, repeat, Block, nil, cons, onto, Expression}
 use Rattle.machine_core.specs.declared.event.Act.{Act}
 use Rattle.machine_core.specs.declared.event.Act.TheVariants as A
 use Rattle.machine_core.specs.declared.event.Event.{Event}

@@ -5,12 +5,12 @@ use Rattle.word_core.specs.Stamps.{Labels}
 use Rattle.machine_core.specs.declared.event.Act.{Act}
 use Rattle.machine_core.specs.declared.event.Act.TheVariants as A
 use Rattle.machine_core.specs.declared.event.Event.{Event}
-use Rattle.tick_syntax.specs.Plain.{WholeProgram}
+use Rattle.tick_tree.specs.Plain.{WholeProgram}
 use Rattle.tick_source.specs.Source.{SourceState, source_step, source_start}
 use Rattle.code_core.specs.declared.instr.Instr.{Instr}
 use Rattle.code_core.specs.declared.instr.Instr.TheVariants as I
 use Rattle.code_core.specs.Instructions.{CodeSizes, StepCode}
-use Rattle.step_code.specs.Machine.{CodeState, code_step, code_start, next_instruction}
+use Rattle.code_machine.specs.Machine.{CodeState, code_step, code_start, next_instruction}
 use Rattle.tick_draw.specs.declared.mark.Mark.{Mark}
 use Rattle.tick_draw.specs.declared.mark.Sight.{Sight}
 use Rattle.tick_draw.specs.declared.mark.Sight.TheVariants as S

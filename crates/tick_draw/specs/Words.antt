@@ -7,7 +7,7 @@ use Rattle.machine_core.specs.declared.status.Trap.{Trap}
 use Rattle.machine_core.specs.declared.status.Trap.TheVariants as T
 use Rattle.machine_core.specs.declared.event.Act.{Act}
 use Rattle.machine_core.specs.declared.event.Act.TheVariants as A
-use Rattle.tick_syntax.specs.declared.tree.Named.{Named}
+use Rattle.tick_tree.specs.declared.tree.Named.{Named}
 use Rattle.tick_draw.specs.declared.mark.Mark.{Mark}
 use Rattle.tick_draw.specs.declared.mark.Sight.{Sight}
 use Rattle.tick_draw.specs.declared.mark.Sight.TheVariants as S

@@ -5,7 +5,7 @@ ghost use Rattle.tick_draw.specs.Pictures.{colour};
 use crate::layout::{COLUMNS, band_foot, band_top, mark_x, mark_y};
 use crate::mark::{Holdings, Mark, Sight};
 use crate::words::{Cast, trap_name};
-use crate::writing::{push, push_number, push_wide};
+use crate::writing::{push, push_number, push_one, push_two};
 use base::MOST_PROCESSES;
 use machine_core::{Act, NoMemory, Status};
 use std::alloc::{AllocError, Global};
@@ -36,23 +36,27 @@ fn push_band(out: &mut Vec<u8>, n: u8, band: usize) -> Result<(), AllocError> {
 }
 
 fn push_lane(out: &mut Vec<u8>, y: u128, p: u8) -> Result<(), AllocError> {
-    push(out, "<path class=\"lane\" stroke=\"")?;
+    push_stroke(out, "<path class=\"lane\"", p)?;
+    push_one(out, " d=\"M50 ", y, "H896\"/>")?;
+    push_name(out, y.saturating_add(5), p)
+}
+
+// Begins a path in the colour of a process.
+fn push_stroke(out: &mut Vec<u8>, path: &str, p: u8) -> Result<(), AllocError> {
+    push(out, path)?;
+    push(out, " stroke=\"")?;
     push(out, colour(p))?;
-    push(out, "\" d=\"M50 ")?;
-    push_wide(out, y)?;
-    push(out, "H896\"/><text class=\"name\" x=\"16\" y=\"")?;
-    push_wide(out, y.saturating_add(5))?;
-    push(out, "\" color=\"")?;
+    push(out, "\"")
+}
+
+fn push_name(out: &mut Vec<u8>, y: u128, p: u8) -> Result<(), AllocError> {
+    push_one(out, "<text class=\"name\" x=\"16\" y=\"", y, "\" color=\"")?;
     push(out, colour(p))?;
-    push(out, "\">P")?;
-    push_number(out, u64::from(p))?;
-    push(out, "</text>\n")
+    push_one(out, "\">P", u128::from(p), "</text>\n")
 }
 
 fn push_caption(out: &mut Vec<u8>, y: u128, caption: &str) -> Result<(), AllocError> {
-    push(out, "<text class=\"left\" x=\"16\" y=\"")?;
-    push_wide(out, y)?;
-    push(out, "\">")?;
+    push_one(out, "<text class=\"left\" x=\"16\" y=\"", y, "\">")?;
     push(out, caption)?;
     push(out, "</text>\n")
 }
@@ -82,38 +86,35 @@ fn ended(so_far: Status, sight: Sight) -> Status {
 }
 
 fn push_end(out: &mut Vec<u8>, y: u128, end: Status) -> Result<(), AllocError> {
-    push(out, "<text class=\"left")?;
-    push(
-        out,
-        match end {
-            Status::Trapped(_) => " trap",
-            _ => "",
-        },
-    )?;
-    push(out, "\" x=\"903\" y=\"")?;
-    push_wide(out, y)?;
-    push(out, "\">")?;
-    match end {
-        Status::Running => push(out, "running")?,
-        Status::Ended => push(out, "ended")?,
-        Status::Trapped(trap) => {
-            push(out, "trap ")?;
-            push(out, trap_name(trap))?;
-        }
-    }
+    let (style, before, after) = end_told(end);
+    push(out, style)?;
+    push_one(out, " x=\"903\" y=\"", y, "\">")?;
+    push(out, before)?;
+    push(out, after)?;
     push(out, "</text>\n")
+}
+
+// How an end begins, and its words in two parts.
+fn end_told(end: Status) -> (&'static str, &'static str, &'static str) {
+    match end {
+        Status::Running => ("<text class=\"left\"", "running", ""),
+        Status::Ended => ("<text class=\"left\"", "ended", ""),
+        Status::Trapped(trap) => ("<text class=\"left trap\"", "trap ", trap_name(trap)),
+    }
 }
 
 // The step's number at the foot of the band, and over it the order of tickets where it changed.
 fn push_foot(out: &mut Vec<u8>, n: u8, at: usize, mark: &Mark) -> Result<(), AllocError> {
-    let foot = band_foot(n, at / COLUMNS);
-    push(out, "<text class=\"step\" x=\"")?;
-    push_number(out, mark_x(at))?;
-    push(out, "\" y=\"")?;
-    push_wide(out, foot + 40)?;
-    push(out, "\">")?;
-    push_number(out, mark.step as u64)?;
-    push(out, "</text>\n")?;
+    let y = band_foot(n, at / COLUMNS) + 40;
+    push_two(
+        out,
+        "<text class=\"step\" x=\"",
+        mark_x(at),
+        "\" y=\"",
+        y,
+        "\">",
+    )?;
+    push_one(out, "", mark.step as u128, "</text>\n")?;
     match mark.sight {
         Sight::Stamp(held) | Sight::Clear(held) => push_order(out, n, at, mark.process, held),
         _ => Ok(()),
@@ -127,24 +128,28 @@ fn push_order(
     process: u8,
     held: Holdings,
 ) -> Result<(), AllocError> {
-    let foot = band_foot(n, at / COLUMNS);
-    push(out, "<path class=\"when\" stroke=\"")?;
-    push(out, colour(process))?;
-    push(out, "\" d=\"M")?;
-    push_number(out, mark_x(at))?;
-    push(out, " ")?;
-    push_wide(out, band_top(n, at / COLUMNS))?;
-    push(out, "V")?;
-    push_wide(out, foot)?;
-    push(out, "\"/><text class=\"order\" x=\"")?;
-    push_number(out, mark_x(at))?;
-    push(out, "\" y=\"")?;
-    push_wide(out, foot + if at % 2 == 1 { 23 } else { 10 })?;
-    push(out, "\" color=\"")?;
+    push_when(out, n, at, process)?;
+    let y = band_foot(n, at / COLUMNS) + if at % 2 == 1 { 23 } else { 10 };
+    push_two(
+        out,
+        "<text class=\"order\" x=\"",
+        mark_x(at),
+        "\" y=\"",
+        y,
+        "\" color=\"",
+    )?;
     push(out, colour(process))?;
     push(out, "\">")?;
     push_holders(out, held)?;
     push(out, "</text>\n")
+}
+
+// The line through all lanes where an order changed.
+fn push_when(out: &mut Vec<u8>, n: u8, at: usize, process: u8) -> Result<(), AllocError> {
+    let band = at / COLUMNS;
+    push_stroke(out, "<path class=\"when\"", process)?;
+    push_two(out, " d=\"M", mark_x(at), " ", band_top(n, band), "V")?;
+    push_one(out, "", band_foot(n, band), "\"/>")
 }
 
 // Who holds a ticket, from the smallest ticket to the greatest.
@@ -216,24 +221,23 @@ fn push_line(
     get: (usize, u8),
 ) -> Result<(), AllocError> {
     let (start, end) = (mark_y(n, put.0, put.1), mark_y(n, get.0, get.1));
-    let down = start <= end;
-    push(out, "<path class=\"arrow\" d=\"M")?;
-    push_number(out, mark_x(put.0))?;
-    push(out, " ")?;
-    push_wide(out, if down { start + 9 } else { start - 9 })?;
+    let below = if start <= end { start + 9 } else { start - 9 };
+    push_two(
+        out,
+        "<path class=\"arrow\" d=\"M",
+        mark_x(put.0),
+        " ",
+        below,
+        "",
+    )?;
     if start == end {
-        push(out, "Q")?;
-        push_number(out, (mark_x(put.0) + mark_x(get.0)) / 2)?;
-        push(out, " ")?;
-        push_wide(out, start + 36)?;
-        push(out, " ")?;
+        let middle = (mark_x(put.0) + mark_x(get.0)) / 2;
+        push_two(out, "Q", middle, " ", start + 36, " ")?;
     } else {
         push(out, "L")?;
     }
-    push_number(out, mark_x(get.0))?;
-    push(out, " ")?;
-    push_wide(out, if start < end { end - 9 } else { end + 9 })?;
-    push(out, "\"/>\n")
+    let above = if start < end { end - 9 } else { end + 9 };
+    push_two(out, "", mark_x(get.0), " ", above, "\"/>\n")
 }
 
 // An arrow to a get whose put stands in an earlier band.
@@ -246,19 +250,24 @@ fn push_stub(
 ) -> Result<(), AllocError> {
     let y = mark_y(n, at, process);
     let above = if at % 2 == 1 { 29 } else { 20 };
-    push(out, "<path class=\"arrow\" d=\"M")?;
-    push_number(out, mark_x(at))?;
-    push(out, " ")?;
-    push_wide(out, y - above + 2)?;
-    push(out, "V")?;
-    push_wide(out, y - 8)?;
-    push(out, "\"/><text class=\"step\" x=\"")?;
-    push_number(out, mark_x(at))?;
-    push(out, "\" y=\"")?;
-    push_wide(out, y - above)?;
-    push(out, "\">from step ")?;
-    push_number(out, step as u64)?;
-    push(out, "</text>\n")
+    push_two(
+        out,
+        "<path class=\"arrow\" d=\"M",
+        mark_x(at),
+        " ",
+        y - above + 2,
+        "V",
+    )?;
+    push_one(out, "", y - 8, "\"/>")?;
+    push_two(
+        out,
+        "<text class=\"step\" x=\"",
+        mark_x(at),
+        "\" y=\"",
+        y - above,
+        "\">from step ",
+    )?;
+    push_one(out, "", step as u128, "</text>\n")
 }
 
 /// The colour of a lane: from dark to light in the order of the processes.

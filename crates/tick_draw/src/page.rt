@@ -11,7 +11,7 @@ use crate::words::{Cast, push_sentence};
 use crate::writing::{push, push_escaped, push_number, push_wide};
 use machine_core::NoMemory;
 use std::alloc::{AllocError, Global};
-use tick_syntax::tree::Named;
+use tick_tree::tree::Named;
 
 // How all is drawn, and the title once more, which is seen.
 const STYLE: &str = "<style>

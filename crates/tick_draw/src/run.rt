@@ -7,9 +7,9 @@ use crate::holding::follow;
 use crate::mark::{Holdings, Mark};
 use crate::marking::Marking;
 use base::{MOST_PROCESSES, NoMemory};
+use code_machine::{Code, CodeMachine, Instr, Made};
 use machine_core::Event;
 use std::alloc::Global;
-use step_code::{Code, CodeMachine, Instr, Made};
 use tick_kinds::Program;
 use tick_source::SourceMachine;
 

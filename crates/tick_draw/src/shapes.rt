@@ -1,9 +1,9 @@
 // The shapes of marks. Each is drawn about the point where its mark stands.
 use crate::mark::{Holdings, Mark, Sight};
 use crate::words::{Cast, push_answer, push_label, push_ranks, push_read, push_row, trap_name};
-use crate::writing::{push, push_number};
+use crate::writing::{push, push_number, push_one, push_two};
 use itoa::Buffer;
-use machine_core::{Act, NoMemory};
+use machine_core::{Act, NoMemory, Trap};
 use std::alloc::{AllocError, Global};
 
 /// What is drawn of the mark of this place. The words beside neighbours stand at different heights.
@@ -36,17 +36,19 @@ fn push_act(out: &mut Vec<u8>, cast: Cast<'_>, act: Act, far: bool) -> Result<()
         Act::Older(i, j, answer) => push_older(out, far, i, j, answer),
         Act::Held(index, answer) => push_asked(out, far, index, answer),
         Act::Out(value) => push_flag(out, value),
-        Act::Trap(trap) => {
-            push(out, "<path class=\"x\" d=\"M-8 -8L8 8M8 -8L-8 8\"/>")?;
-            push_above(out, far, " class=\"trap\"")?;
-            push(out, trap_name(trap))?;
-            push(out, "</text>")
-        }
+        Act::Trap(trap) => push_trap(out, far, trap),
         Act::End => push(
             out,
             "<rect class=\"f\" x=\"-2\" y=\"-11\" width=\"5\" height=\"22\"/>",
         ),
     }
+}
+
+fn push_trap(out: &mut Vec<u8>, far: bool, trap: Trap) -> Result<(), AllocError> {
+    push(out, "<path class=\"x\" d=\"M-8 -8L8 8M8 -8L-8 8\"/>")?;
+    push_above(out, far, " class=\"trap\"")?;
+    push(out, trap_name(trap))?;
+    push(out, "</text>")
 }
 
 fn push_put(
@@ -62,9 +64,7 @@ fn push_put(
     )?;
     push_above(out, far, "")?;
     push_row(out, cast.registers, row)?;
-    push(out, " := ")?;
-    push_number(out, u64::from(value))?;
-    push(out, "</text>")
+    push_one(out, " := ", u128::from(value), "</text>")
 }
 
 fn push_get(
@@ -94,10 +94,7 @@ fn push_scan(out: &mut Vec<u8>, cast: Cast<'_>, far: bool, ranks: &[u8]) -> Resu
 fn push_older(out: &mut Vec<u8>, far: bool, i: u8, j: u8, answer: u8) -> Result<(), AllocError> {
     push_diamond(out, answer)?;
     push_below(out, far, "")?;
-    push_number(out, u64::from(i))?;
-    push(out, " &lt; ")?;
-    push_number(out, u64::from(j))?;
-    push(out, "? ")?;
+    push_two(out, "", u64::from(i), " &lt; ", u128::from(j), "? ")?;
     push_answer(out, answer)?;
     push(out, "</text>")
 }
@@ -105,8 +102,7 @@ fn push_older(out: &mut Vec<u8>, far: bool, i: u8, j: u8, answer: u8) -> Result<
 fn push_asked(out: &mut Vec<u8>, far: bool, index: u8, answer: u8) -> Result<(), AllocError> {
     push_diamond(out, answer)?;
     push_below(out, far, "")?;
-    push_number(out, u64::from(index))?;
-    push(out, " held? ")?;
+    push_one(out, "", u128::from(index), " held? ")?;
     push_answer(out, answer)?;
     push(out, "</text>")
 }
@@ -136,30 +132,36 @@ fn push_stamp(
             }
         }
     }
-    let half = 5 + 4 * (text.len().min(40) as u64).max(2);
-    push(out, "<rect class=\"f\" x=\"-")?;
-    push_number(out, half)?;
-    push(out, "\" y=\"-12\" width=\"")?;
-    push_number(out, 2 * half)?;
-    push(
-        out,
-        "\" height=\"24\" rx=\"12\"/><text class=\"in\" y=\"4\">",
-    )?;
+    let half = 5 + 4 * (text.len().min(40) as u128).max(2);
+    push_field(out, half)?;
     out.extend_from_slice(&text)?;
     push(out, "</text>")?;
     Ok(())
 }
 
+// A field so wide on each side, and the head of its text.
+fn push_field(out: &mut Vec<u8>, half: u128) -> Result<(), AllocError> {
+    push_one(out, "<rect class=\"f\" x=\"-", half, "\" y=\"-12\"")?;
+    push_one(out, " width=\"", half.saturating_mul(2), "\"")?;
+    push(out, " height=\"24\" rx=\"12\"/><text class=\"in\" y=\"4\">")
+}
+
 // A flag as wide as its value.
 fn push_flag(out: &mut Vec<u8>, value: u32) -> Result<(), AllocError> {
-    let digits = Buffer::new().format(value).len().min(40) as u64;
-    push(out, "<path class=\"flag\" d=\"M0 0V-28H")?;
-    push_number(out, 14 + 7 * digits)?;
-    push(out, "l-5 8l5 8H0\"/><text class=\"on\" x=\"")?;
-    push_number(out, 5 + 7 * digits / 2)?;
-    push(out, "\" y=\"-16\">")?;
-    push_number(out, u64::from(value))?;
-    push(out, "</text>")
+    let digits = Buffer::new().format(value).len().min(40) as u128;
+    push_one(
+        out,
+        "<path class=\"flag\" d=\"M0 0V-28H",
+        14 + 7 * digits,
+        "l-5 8l5 8H0\"/>",
+    )?;
+    push_one(
+        out,
+        "<text class=\"on\" x=\"",
+        5 + 7 * digits / 2,
+        "\" y=\"-16\">",
+    )?;
+    push_one(out, "", u128::from(value), "</text>")
 }
 
 fn push_above(out: &mut Vec<u8>, far: bool, style: &str) -> Result<(), AllocError> {

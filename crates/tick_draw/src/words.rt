@@ -11,7 +11,7 @@ use crate::writing::{push, push_escaped, push_number, push_wide};
 use label_core::Label;
 use machine_core::{Act, Trap};
 use std::alloc::AllocError;
-use tick_syntax::tree::Named;
+use tick_tree::tree::Named;
 use word_core::LabelWord;
 
 /// What is known besides the marks: how many processes there are, and the names of the rows.
@@ -71,31 +71,53 @@ fn push_act(out: &mut Vec<u8>, cast: Cast<'_>, act: Act) -> Result<(), AllocErro
     ensures { OnOk result (out.new.items ≡ out.old.items ++ act_text cast.entry.processes (names cast.entry.registers.now) act) }
 {
     match act {
-        Act::Put(row, value) => {
-            push(out, "puts ")?;
-            push_row(out, cast.registers, row)?;
-            push(out, " := ")?;
-            push_number(out, u64::from(value))
-        }
-        Act::Get(row, index, value) => {
-            push(out, "gets ")?;
-            push_read(out, cast.registers, row, index, value)
-        }
+        Act::Put(row, value) => push_put(out, cast.registers, row, value),
+        Act::Get(row, index, value) => push_gets(out, cast.registers, row, index, value),
         Act::Stamp => push(out, "stamps"),
         Act::Clear => push(out, "clears"),
         Act::Scan(ranks) => push_scanned(out, cast.processes, &ranks),
         Act::Older(i, j, answer) => push_asked(out, i, j, answer),
         Act::Held(index, answer) => push_asked_held(out, index, answer),
-        Act::Out(value) => {
-            push(out, "gives out ")?;
-            push_number(out, u64::from(value))
-        }
-        Act::Trap(trap) => {
-            push(out, "traps: ")?;
-            push(out, trap_name(trap))
-        }
+        Act::Out(value) => push_given(out, value),
+        Act::Trap(trap) => push_trap(out, trap),
         Act::End => push(out, "ends"),
     }
+}
+
+fn push_put(out: &mut Vec<u8>, registers: &[Named], row: u8, value: u32) -> Result<(), AllocError>
+    ensures { OnOk result (out.new.items ≡ out.old.items ++ codes "puts " ++ row_text (names registers.now) row ++ codes " := " ++ decimal value) }
+{
+    push(out, "puts ")?;
+    push_row(out, registers, row)?;
+    push(out, " := ")?;
+    push_number(out, u64::from(value))
+}
+
+fn push_gets(
+    out: &mut Vec<u8>,
+    registers: &[Named],
+    row: u8,
+    index: u8,
+    value: u32,
+) -> Result<(), AllocError>
+    ensures { OnOk result (out.new.items ≡ out.old.items ++ codes "gets " ++ row_text (names registers.now) row ++ codes "[" ++ decimal index ++ codes "] = " ++ decimal value) }
+{
+    push(out, "gets ")?;
+    push_read(out, registers, row, index, value)
+}
+
+fn push_given(out: &mut Vec<u8>, value: u32) -> Result<(), AllocError>
+    ensures { OnOk result (out.new.items ≡ out.old.items ++ codes "gives out " ++ decimal value) }
+{
+    push(out, "gives out ")?;
+    push_number(out, u64::from(value))
+}
+
+fn push_trap(out: &mut Vec<u8>, trap: Trap) -> Result<(), AllocError>
+    ensures { OnOk result (out.new.items ≡ out.old.items ++ codes "traps: " ++ trap_text trap) }
+{
+    push(out, "traps: ")?;
+    push(out, trap_name(trap))
 }
 
 fn push_asked(out: &mut Vec<u8>, i: u8, j: u8, answer: u8) -> Result<(), AllocError>

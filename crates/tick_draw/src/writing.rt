@@ -28,6 +28,36 @@ pub fn push_wide(out: &mut Vec<u8>, number: u128) -> Result<(), AllocError>
     push(out, Buffer::new().format(number))
 }
 
+/// Adds a number with markup before and after it.
+pub fn push_one(
+    out: &mut Vec<u8>,
+    before: &str,
+    number: u128,
+    after: &str,
+) -> Result<(), AllocError>
+    ensures { OnOk result (out.new.items ≡ out.old.items ++ (before.now ++ decimal number ++ after.now)) }
+{
+    push(out, before)?;
+    push_wide(out, number)?;
+    push(out, after)
+}
+
+/// Adds two numbers with markup before, between and after them.
+pub fn push_two(
+    out: &mut Vec<u8>,
+    before: &str,
+    first: u64,
+    between: &str,
+    second: u128,
+    after: &str,
+) -> Result<(), AllocError>
+    ensures { OnOk result (out.new.items ≡ out.old.items ++ (before.now ++ decimal first ++ between.now ++ decimal second ++ after.now)) }
+{
+    push(out, before)?;
+    push_number(out, first)?;
+    push_one(out, between, second, after)
+}
+
 /// Adds a text that is no markup.
 pub fn push_escaped(out: &mut Vec<u8>, text: &str) -> Result<(), AllocError>
     ensures { OnOk result (out.new.items ≡ out.old.items ++ escaped text.now) }

@@ -2,11 +2,11 @@
 use Rattle.std.specs.Prelude.{◌≡◌, ◌≤◌, ◌⊎◌, ℕ, ◌+◌, ◌==◌, Bool, true, false, List, [], ◌∷◌, ◌++◌, codes, length, min, take, if◌then◌else◌}
 use Rattle.std.specs.List.{All}
 use Rattle.tick_syntax.specs.Nesting.{nesting}
-use Rattle.tick_syntax.specs.Plain.{Name, WholeProgram}
+use Rattle.tick_tree.specs.Plain.{Name, WholeProgram}
 use Rattle.tick_syntax.specs.Refusal.{IsTextRefused}
 use Rattle.tick_syntax.specs.RoundTrip.{IsTextOf}
 use Rattle.tick_syntax.specs.declared.fault.TextFault.TheVariants.{Unexpected}
-use Rattle.tick_syntax.specs.declared.span.Span.{Span}
+use Rattle.tick_tree.specs.declared.span.Span.{Span}
 use Rattle.tick_syntax.specs.Terminals.{spelling}
 use Rattle.tick_explain.specs.declared.wanted.Wanted.{Wanted}
 use Rattle.tick_explain.specs.declared.wanted.Wanted.TheVariants.{Statement, Value, Expression, Operator, Name as AName, Number, Word}

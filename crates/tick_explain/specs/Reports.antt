@@ -2,7 +2,7 @@
 use Rattle.std.specs.Prelude.{◌≡◌, ℕ, List, ◌++◌, codes, length, min, Some, None}
 use Rattle.std.specs.Fmt.{decimal}
 use Rattle.text_core.specs.Lines.{line_end}
-use Rattle.tick_syntax.specs.declared.span.Span.{Span}
+use Rattle.tick_tree.specs.declared.span.Span.{Span}
 use Rattle.tick_syntax.specs.declared.fault.TextFault.{TextFault}
 use Rattle.tick_syntax.specs.declared.fault.TextFault.TheVariants.{Unexpected}
 use Rattle.tick_explain.specs.Following.{IsExpecting}

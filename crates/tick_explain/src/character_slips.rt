@@ -5,72 +5,99 @@ use crate::scene::text_at;
 use machine_core::NoMemory;
 use std::alloc::Global;
 use std::str;
-use tick_syntax::span::Span;
+use tick_tree::span::Span;
 
 /// What may help at a character that begins no token.
 pub fn character_slip(alloc: Global, text: &[u8], span: Span) -> Result<Option<Hint>, NoMemory> {
     match text_at(text, span) {
         ">" | "≥" | "&" | "|" => compared_slip(alloc, text, span),
-        "!" => {
-            let after = word_after(text, span.end);
-            written(format!(in alloc; "there is no `!`: write `({} == 0)`", or(after, "x")))
-        }
-        "[" => {
-            let register = word_before(text, span.start);
-            let process = word_after(text, span.end);
-            written(format!(in alloc;
-                "a register is read by a statement of its own: `x = get {} {};`",
-                or(register, "r"),
-                or(process, "me")
-            ))
-        }
+        "!" => not_slip(alloc, word_after(text, span.end)),
+        "[" => register_slip(
+            alloc,
+            word_before(text, span.start),
+            word_after(text, span.end),
+        ),
         found => plain_slip(alloc, text, found),
     }
 }
 
+fn not_slip(alloc: Global, operand: &str) -> Result<Option<Hint>, NoMemory> {
+    let operand = or(operand, "x");
+    written(format!(in alloc; "there is no `!`: write `({operand} == 0)`"))
+}
+
+fn register_slip(alloc: Global, register: &str, process: &str) -> Result<Option<Hint>, NoMemory> {
+    let (register, process) = (or(register, "r"), or(process, "me"));
+    written(format!(in alloc;
+        "a register is read by a statement of its own: `x = get {register} {process};`"
+    ))
+}
+
 fn plain_slip(alloc: Global, text: &[u8], found: &str) -> Result<Option<Hint>, NoMemory> {
-    match found {
-        "\"" | "'" => plain(alloc, "there are no strings: `out` gives a number out"),
-        "≤" => plain(alloc, "write `<=`"),
-        "≠" => plain(alloc, "write `!=`"),
-        "×" | "·" => plain(alloc, "write `*`"),
-        "÷" => plain(alloc, "write `/`"),
-        "−" | "–" => plain(alloc, "write `-`"),
-        ":" => plain(alloc, "`=` assigns"),
-        "\u{feff}" => plain(
-            alloc,
-            "this is a byte-order mark: save the text as UTF-8 without one",
-        ),
-        _ if text.starts_with(&[0xff, 0xfe]) || text.starts_with(&[0xfe, 0xff]) => {
-            plain(alloc, "the text is UTF-16: save it as UTF-8")
-        }
-        _ => Ok(None),
+    match advice(found) {
+        Some(advice) => plain(alloc, advice),
+        None if is_utf_16(text) => plain(alloc, "the text is UTF-16: save it as UTF-8"),
+        None => Ok(None),
     }
+}
+
+fn advice(found: &str) -> Option<&'static str> {
+    match found {
+        "\"" | "'" => Some("there are no strings: `out` gives a number out"),
+        "≤" => Some("write `<=`"),
+        "≠" => Some("write `!=`"),
+        "×" | "·" => Some("write `*`"),
+        "÷" => Some("write `/`"),
+        "−" | "–" => Some("write `-`"),
+        ":" => Some("`=` assigns"),
+        "\u{feff}" => Some("this is a byte-order mark: save the text as UTF-8 without one"),
+        _ => None,
+    }
+}
+
+fn is_utf_16(text: &[u8]) -> bool {
+    text.starts_with(&[0xff, 0xfe]) || text.starts_with(&[0xfe, 0xff])
 }
 
 // `>`, `>=`, `&&` and `||` between two operands.
 fn compared_slip(alloc: Global, text: &[u8], span: Span) -> Result<Option<Hint>, NoMemory> {
     let first = or(word_before(text, span.start), "x");
-    let twice = text.get(span.end);
-    let operand = if twice == Some(&b'=') || twice == Some(&b'&') || twice == Some(&b'|') {
-        span.end.saturating_add(1)
-    } else {
-        span.end
+    let second = or(word_after(text, past_twice(text, span.end)), "y");
+    let is_or_equal = text.get(span.end) == Some(&b'=');
+    let sign = text_at(text, span);
+    let (before, between, after) = otherwise(sign, is_or_equal);
+    let (left, right) = match sign {
+        ">" | "≥" => (second, first),
+        _ => (first, second),
     };
-    let second = or(word_after(text, operand), "y");
-    written(match text_at(text, span) {
-        ">" if twice == Some(&b'=') => format!(in alloc;
-            "there is no `>=`: write `({second} <= {first})`"
+    written(format!(in alloc; "{before}{left}{between}{right}{after}"))
+}
+
+// What is said before two operands, between them and after, of a sign that is written otherwise.
+fn otherwise(sign: &str, is_or_equal: bool) -> (&'static str, &'static str, &'static str) {
+    match sign {
+        ">" if is_or_equal => ("there is no `>=`: write `(", " <= ", ")`"),
+        ">" => ("there is no `>`: write `(", " < ", ")`"),
+        "≥" => ("there is no `≥`: write `(", " <= ", ")`"),
+        "&" => (
+            "there is no `&&`: of values that are 0 or 1 write `(",
+            " * ",
+            ")`",
         ),
-        ">" => format!(in alloc; "there is no `>`: write `({second} < {first})`"),
-        "≥" => format!(in alloc; "there is no `≥`: write `({second} <= {first})`"),
-        "&" => format!(in alloc;
-            "there is no `&&`: of values that are 0 or 1 write `({first} * {second})`"
+        _ => (
+            "there is no `||`: of values that are 0 or 1 write `((",
+            " + ",
+            ") != 0)`",
         ),
-        _ => format!(in alloc;
-            "there is no `||`: of values that are 0 or 1 write `(({first} + {second}) != 0)`"
-        ),
-    })
+    }
+}
+
+// What follows a sign of which two may stand together.
+fn past_twice(text: &[u8], end: usize) -> usize {
+    match text.get(end) {
+        Some(b'=' | b'&' | b'|') => end.saturating_add(1),
+        _ => end,
+    }
 }
 
 fn or<'a>(word: &'a str, other: &'a str) -> &'a str {

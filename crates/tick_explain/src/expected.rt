@@ -3,7 +3,7 @@ ghost use Rattle.std.specs.Prelude.{◌≡◌, IfOk, true};
 ghost use Rattle.std.specs.List.{All};
 ghost use Rattle.tick_explain.specs.Following.{BeginsProgram, IsWhole, MayFollow, sample};
 ghost use Rattle.tick_syntax.specs.declared.fault.TextFault.TheVariants.{Unexpected};
-ghost use Rattle.tick_syntax.specs.declared.span.Span.{Span};
+ghost use Rattle.tick_tree.specs.declared.span.Span.{Span};
 
 use crate::wanted::{Choice, Wanted};
 use machine_core::NoMemory;

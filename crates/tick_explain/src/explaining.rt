@@ -56,8 +56,7 @@ pub fn explain_code(alloc: Global, name: &str, input: &[u8]) -> Result<Option<Ve
 {
     match code_refusal(alloc, input)? {
         Some(refusal) => {
-            let told = told(alloc, input, refusal)?;
-            let text = report(alloc, name, input, refusal, &told)?;
+            let text = explain_refusal(alloc, name, input, refusal)?;
             Ok(Some(text))
         }
         None => Ok(None),

@@ -6,8 +6,8 @@ use crate::sign_slips::sign_slip;
 use crate::wanted::Wanted;
 use machine_core::NoMemory;
 use std::alloc::Global;
-use tick_syntax::span::Span;
 use tick_syntax::token::Sort;
+use tick_tree::span::Span;
 
 /// Whether a token is wanted that is told by this sample.
 pub fn wants(wanted: &[Wanted], sample: &str) -> bool {
@@ -111,24 +111,26 @@ fn foreign_slip(alloc: Global, scene: &Scene) -> Result<Option<Hint>, NoMemory> 
 
 // Keywords at places of names and values.
 fn keyword_slip(alloc: Global, scene: &Scene, wanted: &[Wanted]) -> Result<Option<Hint>, NoMemory> {
-    let here = scene.here();
-    if wants(wanted, "x") {
-        if let Some(Sort::Keyword) = scene.sort() {
-            return written(format!(in alloc;
-                "`{here}` is a keyword{}: choose another name",
-                meaning(here)
-            ));
-        }
+    match scene.sort() {
+        Some(Sort::Keyword) if wants(wanted, "x") => named_slip(alloc, scene.here()),
+        _ => value_slip(alloc, scene.here(), wanted),
     }
-    match here {
-        "stamp" | "clear" if wants(wanted, "get") || wants(wanted, "me") => {
+}
+
+fn named_slip(alloc: Global, here: &str) -> Result<Option<Hint>, NoMemory> {
+    let meaning = meaning(here);
+    written(format!(in alloc; "`{here}` is a keyword{meaning}: choose another name"))
+}
+
+fn value_slip(alloc: Global, here: &str, wanted: &[Wanted]) -> Result<Option<Hint>, NoMemory> {
+    let is_operand = wants(wanted, "me");
+    let is_value = is_operand || wants(wanted, "get");
+    match statement_of(here) {
+        None if is_value && (here == "stamp" || here == "clear") => {
             written(format!(in alloc; "`{here}` gives no value: write `{here};`"))
         }
-        "older" | "held" | "get" | "scan" | "copy" if wants(wanted, "me") => {
-            written(format!(in alloc;
-                "`{here}` is a statement of its own: `{}`",
-                statement_of(here)
-            ))
+        Some(statement) if is_operand => {
+            written(format!(in alloc; "`{here}` is a statement of its own: `{statement}`"))
         }
         _ => Ok(None),
     }
@@ -142,13 +144,15 @@ fn meaning(keyword: &str) -> &'static str {
     }
 }
 
-fn statement_of(keyword: &str) -> &'static str {
+// A statement of a keyword that gives a value.
+fn statement_of(keyword: &str) -> Option<&'static str> {
     match keyword {
-        "older" => "x = older s 0 1;",
-        "held" => "x = held s 0;",
-        "get" => "x = get r me;",
-        "scan" => "s = scan;",
-        _ => "t = copy s;",
+        "older" => Some("x = older s 0 1;"),
+        "held" => Some("x = held s 0;"),
+        "get" => Some("x = get r me;"),
+        "scan" => Some("s = scan;"),
+        "copy" => Some("t = copy s;"),
+        _ => None,
     }
 }
 

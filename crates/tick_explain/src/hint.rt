@@ -2,7 +2,7 @@
 
 use machine_core::NoMemory;
 use std::alloc::{AllocError, Global};
-use tick_syntax::span::Span;
+use tick_tree::span::Span;
 
 /// What may help, and what it speaks of.
 #[derive(Drop)]

@@ -2,23 +2,22 @@
 
 use crate::character_slips::character_slip;
 use crate::hint::plain;
-use crate::report::Told;
+use crate::report::{Told, told_of};
 use crate::scene::text_at;
 use machine_core::NoMemory;
 use std::alloc::Global;
 use std::str;
-use tick_syntax::span::Span;
+use tick_tree::span::Span;
 
 /// The words for a character that begins no token.
 pub fn bad_character(alloc: Global, text: &[u8], span: Span) -> Result<Told, NoMemory> {
     let message = if str::from_utf8(text).is_err() {
-        String::from_str(alloc, "these bytes are no UTF-8")?
+        String::from_str(alloc, "these bytes are no UTF-8")
     } else {
         let found = text_at(text, span);
-        format!(in alloc; "no token begins with `{found}`")?
+        format!(in alloc; "no token begins with `{found}`")
     };
-    let hint = character_slip(alloc, text, span)?;
-    Ok(Told { message, hint })
+    told_of(message, character_slip(alloc, text, span))
 }
 
 /// The words for a text that is too long.
@@ -42,9 +41,10 @@ pub fn too_big(alloc: Global) -> Result<Told, NoMemory> {
 /// The words for a name that is too long.
 pub fn too_long_name(alloc: Global, span: Span) -> Result<Told, NoMemory> {
     let length = span.end.saturating_sub(span.start);
-    let message = format!(in alloc; "this name has {length} bytes")?;
-    let hint = plain(alloc, "a name has at most 64 bytes")?;
-    Ok(Told { message, hint })
+    told_of(
+        format!(in alloc; "this name has {length} bytes"),
+        plain(alloc, "a name has at most 64 bytes"),
+    )
 }
 
 /// The words for a bracket too many.
@@ -58,7 +58,5 @@ pub fn too_deep(alloc: Global) -> Result<Told, NoMemory> {
 
 /// A message with a hint.
 pub fn helped(alloc: Global, message: &str, help: &str) -> Result<Told, NoMemory> {
-    let message = String::from_str(alloc, message)?;
-    let hint = plain(alloc, help)?;
-    Ok(Told { message, hint })
+    told_of(String::from_str(alloc, message), plain(alloc, help))
 }

@@ -2,13 +2,13 @@
 
 use crate::hint::{Hint, plain, seen, written};
 use crate::lexical::helped;
-use crate::report::Told;
+use crate::report::{Told, told_of};
 use crate::scene::{Scene, text_at};
 use machine_core::NoMemory;
 use std::alloc::{AllocError, Global};
 use tick_kinds::{Kind, KindFault};
-use tick_syntax::span::Span;
 use tick_syntax::token::Sort;
+use tick_tree::span::Span;
 
 /// What is wrong with a name, or with the number of processes.
 pub fn misnamed(alloc: Global, scene: &Scene, fault: KindFault) -> Result<Told, NoMemory> {
@@ -21,18 +21,18 @@ pub fn misnamed(alloc: Global, scene: &Scene, fault: KindFault) -> Result<Told, 
                 "a program has 1 to 6 processes",
             )
         }
-        KindFault::Twice(_) => Ok(Told {
-            message: format!(in alloc; "`{here}` is declared twice")?,
-            hint: first_declaration(alloc, scene)?,
-        }),
-        KindFault::Unknown(_) => Ok(Told {
-            message: format!(in alloc; "`{here}` is not declared")?,
-            hint: unknown_slip(alloc, scene)?,
-        }),
-        KindFault::WrongKind { wanted, found, .. } => Ok(Told {
-            message: format!(in alloc; "`{here}` is a {found}, and a {wanted} is wanted here")?,
-            hint: kind_slip(alloc, scene, wanted, found)?,
-        }),
+        KindFault::Twice(_) => told_of(
+            format!(in alloc; "`{here}` is declared twice"),
+            first_declaration(alloc, scene),
+        ),
+        KindFault::Unknown(_) => told_of(
+            format!(in alloc; "`{here}` is not declared"),
+            unknown_slip(alloc, scene),
+        ),
+        KindFault::WrongKind { wanted, found, .. } => told_of(
+            format!(in alloc; "`{here}` is a {found}, and a {wanted} is wanted here"),
+            kind_slip(alloc, scene, wanted, found),
+        ),
         KindFault::TooMany(_) => {
             helped(
                 alloc,
@@ -69,6 +69,11 @@ fn unknown_slip(alloc: Global, scene: &Scene) -> Result<Option<Hint>, NoMemory> 
 // The names that are declared, by sections.
 fn declared(alloc: Global, scene: &Scene) -> Result<String, AllocError> {
     let mut text = String::from_str(alloc, "declared are")?;
+    push_declared(&mut text, scene)?;
+    Ok(text)
+}
+
+fn push_declared(text: &mut String, scene: &Scene) -> Result<(), AllocError> {
     let mut separator = " ";
     let mut none = true;
     for token in scene.tokens {
@@ -76,14 +81,12 @@ fn declared(alloc: Global, scene: &Scene) -> Result<String, AllocError> {
         match word {
             "begin" => break,
             "var" | "scan" | "reg" => {
-                text.push_str(if none { " " } else { "; " })?;
-                text.push_str(section_name(word))?;
+                push_section(text, none, word)?;
                 separator = " ";
                 none = false;
             }
             _ if token.sort == Sort::Name => {
-                text.push_str(separator)?;
-                text.push_str(word)?;
+                push_name(text, separator, word)?;
                 separator = ", ";
             }
             _ => {}
@@ -92,7 +95,17 @@ fn declared(alloc: Global, scene: &Scene) -> Result<String, AllocError> {
     if none {
         text.push_str(" no names: `var x;` after the number of processes declares one")?;
     }
-    Ok(text)
+    Ok(())
+}
+
+fn push_section(text: &mut String, is_first: bool, keyword: &str) -> Result<(), AllocError> {
+    text.push_str(if is_first { " " } else { "; " })?;
+    text.push_str(section_name(keyword))
+}
+
+fn push_name(text: &mut String, separator: &str, name: &str) -> Result<(), AllocError> {
+    text.push_str(separator)?;
+    text.push_str(name)
 }
 
 fn section_name(keyword: &str) -> &'static str {

@@ -8,7 +8,7 @@ use crate::place::{characters, line_end, line_start};
 use crate::writing::{push, push_decimal, push_often};
 use itoa::Buffer;
 use std::alloc::{AllocError, Global};
-use tick_syntax::span::Span;
+use tick_tree::span::Span;
 
 const BEFORE_LIMIT: usize = 120;
 

@@ -3,7 +3,7 @@ ghost use Rattle.std.specs.List.{count_by};
 ghost use Rattle.tick_explain.specs.Places.{IsLineEnd, IsLineStart, IsPlace, begins_character, is_line_feed};
 
 /// Where a byte of a text stands, as a person counts.
-#[derive(Clone, Copy, Debug, PartialEq, Eq)]
+#[derive(Clone, Copy)]
 pub struct Place {
     /// The line, from 1.
     pub line: usize,

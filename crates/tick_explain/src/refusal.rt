@@ -5,7 +5,7 @@ use tick_syntax::fault::TextFault;
 
 /// Why an input is refused: as a text, by its kinds, as a code, or as a schedule. Bytes that are no
 /// UTF-8 are a `BadCharacter`.
-#[derive(Clone, Copy, Debug, PartialEq, Eq)]
+#[derive(Clone, Copy)]
 pub enum Refusal {
     Text(TextFault),
     Kinds(KindFault),

@@ -10,7 +10,7 @@ use std::alloc::AllocError;
 use tick_kinds::{Kind, KindFault};
 use tick_play::ScheduleFault;
 use tick_syntax::TextFault;
-use tick_syntax::span::Span;
+use tick_tree::span::Span;
 
 /// Adds the line.
 pub fn push_refusal_line(out: &mut Vec<u8>, refusal: Refusal) -> Result<(), AllocError>

@@ -14,13 +14,24 @@ use crate::spot::{span_at, spot_of};
 use crate::writing::{push, push_decimal};
 use machine_core::NoMemory;
 use std::alloc::{AllocError, Global};
-use tick_syntax::span::Span;
+use tick_tree::span::Span;
 
 /// What is wrong, and what may help.
 #[derive(Drop)]
 pub struct Told {
     pub message: String,
     pub hint: Option<Hint>,
+}
+
+/// A message that was written, with what may help.
+pub fn told_of(
+    message: Result<String, AllocError>,
+    hint: Result<Option<Hint>, NoMemory>,
+) -> Result<Told, NoMemory> {
+    Ok(Told {
+        message: message?,
+        hint: hint?,
+    })
 }
 
 /// The report of a refusal: its place, what is wrong, the line with a caret, what may help, and the

@@ -1,8 +1,8 @@
 // A place among the tokens of a text, and what stands about it.
 
 use std::str;
-use tick_syntax::span::Span;
 use tick_syntax::token::{Sort, Token};
+use tick_tree::span::Span;
 
 /// A token of a text, or its end, with the tokens before and after.
 #[derive(Clone, Copy)]

@@ -2,12 +2,12 @@
 
 use crate::hint::{Hint, plain, written};
 use crate::lexical::helped;
-use crate::report::Told;
+use crate::report::{Told, told_of};
 use crate::scene::{shortened, text_at};
 use machine_core::NoMemory;
 use std::alloc::Global;
 use tick_play::ScheduleFault;
-use tick_syntax::span::Span;
+use tick_tree::span::Span;
 
 /// What is wrong with a schedule of so many processes; `span` is the faulty item.
 pub fn misscheduled(
@@ -22,14 +22,14 @@ pub fn misscheduled(
         None => "",
     };
     match fault {
-        ScheduleFault::BadItem(_) => Ok(Told {
-            message: format!(in alloc; "expected `P` or `P*K`, found `{item}`")?,
-            hint: item_slip(alloc, item)?,
-        }),
-        ScheduleFault::NoSuchProcess(_) => Ok(Told {
-            message: format!(in alloc; "there is no such process as in `{item}`")?,
-            hint: written(format!(in alloc; "processes are counted from 0, and there are {n}"))?,
-        }),
+        ScheduleFault::BadItem(_) => told_of(
+            format!(in alloc; "expected `P` or `P*K`, found `{item}`"),
+            item_slip(alloc, item),
+        ),
+        ScheduleFault::NoSuchProcess(_) => told_of(
+            format!(in alloc; "there is no such process as in `{item}`"),
+            written(format!(in alloc; "processes are counted from 0, and there are {n}")),
+        ),
         ScheduleFault::TooLong => helped(
             alloc,
             "the schedule is too long",

@@ -3,9 +3,13 @@
 use crate::grammar_slips::wants;
 use crate::hint::{Hint, plain, written};
 use crate::scene::Scene;
-use crate::wanted::Wanted;
+use crate::wanted::{Wanted, is_one_of};
 use machine_core::NoMemory;
 use std::alloc::Global;
+
+static ARITHMETIC: [&str; 5] = ["+", "-", "*", "/", "%"];
+
+static OPERATORS: [&str; 9] = ["+", "-", "*", "/", "%", "<", "<=", "==", "!="];
 
 /// What may help where a sign stands that no program has there.
 pub fn sign_slip(
@@ -19,10 +23,11 @@ pub fn sign_slip(
     if let Some(hint) = equals_slip(alloc, scene, wanted)? {
         return Ok(Some(hint));
     }
-    match scene.here() {
-        "+" | "-" | "*" | "/" | "%" | "<" | "<=" | "==" | "!=" => operator_slip(
-            alloc, scene, wanted,
-        ),
+    let here = scene.here();
+    if is_one_of(here, &OPERATORS) {
+        return operator_slip(alloc, scene, wanted);
+    }
+    match here {
         ";" if wants(wanted, "stamp") && scene.before(1) == "}" => {
             plain(alloc, "no `;` stands after `}`")
         }
@@ -48,16 +53,25 @@ fn begins_comment(scene: &Scene) -> bool {
 
 // `=` in place of `==`, the other way round, and `+=`.
 fn equals_slip(alloc: Global, scene: &Scene, wanted: &[Wanted]) -> Result<Option<Hint>, NoMemory> {
-    let here = scene.here();
-    match here {
+    match scene.here() {
         "==" if wants(wanted, "=") => plain(alloc, "one `=` assigns; `==` compares"),
         "=" if wants(wanted, "+") => plain(alloc, "`==` compares; one `=` assigns"),
-        "+" | "-" | "*" | "/" | "%" if wants(wanted, "=") && scene.after(1) == "=" => {
-            let (name, value) = (scene.before(1), scene.after(2));
-            written(format!(in alloc; "write `{name} = ({name} {here} {value});`"))
-        }
+        here if is_one_of(here, &ARITHMETIC) => assigned_slip(alloc, scene, wanted),
         _ => Ok(None),
     }
+}
+
+// `+=` and the like.
+fn assigned_slip(
+    alloc: Global,
+    scene: &Scene,
+    wanted: &[Wanted],
+) -> Result<Option<Hint>, NoMemory> {
+    if !wants(wanted, "=") || scene.after(1) != "=" {
+        return Ok(None);
+    }
+    let (name, here, value) = (scene.before(1), scene.here(), scene.after(2));
+    written(format!(in alloc; "write `{name} = ({name} {here} {value});`"))
 }
 
 fn operator_slip(

@@ -9,7 +9,7 @@ use text_core::is_blank;
 use tick_kinds::KindFault;
 use tick_play::ScheduleFault;
 use tick_syntax::TextFault;
-use tick_syntax::span::Span;
+use tick_tree::span::Span;
 
 /// Where a refusal is.
 #[derive(Clone, Copy)]

@@ -7,7 +7,7 @@ use std::alloc::AllocError;
 use tick_syntax::terminals::Terminal;
 
 /// What may be expected: all tokens of a kind, or one word or sign.
-#[derive(Clone, Copy, PartialEq, Eq, Debug)]
+#[derive(Clone, Copy)]
 pub enum Wanted {
     Statement,
     /// What stands after `=`.
@@ -110,6 +110,17 @@ static AFTER_OPERAND: [Wanted; 4] = [
 
 static NOTHING: [Wanted; 0] = [];
 
+static BEFORE_NAME: [&str; 8] = ["var", "reg", ",", "get", "put", "copy", "older", "held"];
+
+static BEFORE_EXPRESSION: [&str; 13] = [
+    "out", "if", "while", "(", "+", "-", "*", "/", "%", "<", "<=", "==", "!=",
+];
+
+/// Whether a word is one of these.
+pub fn is_one_of(word: &str, words: &[&str]) -> bool {
+    words.iter().any(|one| *one == word)
+}
+
 fn all(among: &'static [Wanted]) -> Choice {
     Choice { among, one: false }
 }
@@ -120,19 +131,22 @@ fn one(among: &'static [Wanted]) -> Choice {
 
 /// What may be wanted at the place of a scene.
 pub fn choice_at(scene: &Scene) -> Choice {
-    match scene.before(1) {
+    let before = scene.before(1);
+    if is_one_of(before, &BEFORE_NAME) {
+        return all(&NAME);
+    }
+    if is_one_of(before, &BEFORE_EXPRESSION) {
+        return all(&EXPRESSION);
+    }
+    match before {
         "" => all(&PROCESSES),
         "processes" => all(&NUMBER),
-        "var" | "reg" | "," | "get" | "put" | "copy" | "older" | "held" => all(&NAME),
         "=" => all(&VALUE),
         "stamp" | "clear" => all(&SEMICOLON),
         "else" => all(&OPEN_BRACE),
-        "out" | "if" | "while" | "(" | "+" | "-" | "*" | "/" | "%" | "<" | "<=" | "==" | "!=" => {
-            all(&EXPRESSION)
-        }
         "end" => all(&NOTHING),
-        before if scene.has_begun() => body_choice(scene, before),
-        before => head_choice(before),
+        _ if scene.has_begun() => body_choice(scene, before),
+        _ => head_choice(before),
     }
 }
 

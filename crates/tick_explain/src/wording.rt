@@ -14,9 +14,9 @@ use crate::spot::{span_at, spot_of};
 use machine_core::NoMemory;
 use std::alloc::Global;
 use std::str;
-use tick_syntax::span::Span;
 use tick_syntax::token::Token;
 use tick_syntax::{TextFault, tokens};
+use tick_tree::span::Span;
 
 /// What is wrong with an input, and what may help.
 pub fn told(alloc: Global, input: &[u8], refusal: Refusal) -> Result<Told, NoMemory>

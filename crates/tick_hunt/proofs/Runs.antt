@@ -10,7 +10,7 @@ use Rattle.std.proofs.lemmas.Option.{same_Some, none-some, slice_get-map, slice_
 use Rattle.std.proofs.Math.Seq.{drop-cons, drop-length}
 use Rattle.machine_core.specs.declared.status.Status.{Status}
 use Rattle.machine_core.specs.declared.status.Status.TheVariants.{Running, Ended, Trapped}
-use Rattle.tick_syntax.specs.Plain.{WholeProgram}
+use Rattle.tick_tree.specs.Plain.{WholeProgram}
 use Rattle.tick_source.specs.Source.{SourceProcess, SourceState, start_process, source_start, did, step_as, step_of, source_step, source_run, statuses_of}
 use Rattle.tick_explore.specs.Explored.{is_trap, has_trapped}
 

@@ -11,12 +11,12 @@ use Rattle.machine_core.proofs.Offered.{fails_on}
 use Rattle.tick_kinds.specs.Declarations.{Slot}
 use Rattle.tick_kinds.specs.Resolved.{resolved_expression, resolved_statement, resolved_block}
 use Rattle.tick_kinds.proofs.Offered.{resolved_branch, resolved_repeat}
-use Rattle.tick_syntax.proofs.Offered.{statement_of_branch, statement_of_repeat}
-use Rattle.tick_syntax.specs.declared.tree.Expr.{Expr}
-use Rattle.tick_syntax.specs.declared.tree.Stmt.{Stmt}
-use Rattle.tick_syntax.specs.declared.tree.Stmt.TheVariants as S
-use Rattle.tick_syntax.specs.Plain.{Name, Expression, Statement, Block, branch, repeat, nil, cons, onto}
-use Rattle.tick_syntax.specs.View.{expression_of, statement_of, block_of}
+use Rattle.tick_tree.proofs.Offered.{statement_of_branch, statement_of_repeat}
+use Rattle.tick_tree.specs.declared.tree.Expr.{Expr}
+use Rattle.tick_tree.specs.declared.tree.Stmt.{Stmt}
+use Rattle.tick_tree.specs.declared.tree.Stmt.TheVariants as S
+use Rattle.tick_tree.specs.Plain.{Name, Expression, Statement, Block, branch, repeat, nil, cons, onto}
+use Rattle.tick_tree.specs.View.{expression_of, statement_of, block_of}
 
 -- the two statements that hold statements
 abbrev branching : Checked (Expression ℕ) → Checked (Block ℕ) → Checked (Block ℕ) → Checked (Statement ℕ)

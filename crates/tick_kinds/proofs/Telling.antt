@@ -17,7 +17,7 @@ use Rattle.tick_kinds.specs.Declarations.{Slot, Declaration, declarations, slot_
 use Rattle.tick_kinds.specs.Refusals.{is_kind, use_refusals, use_refusals_by, declaration_refusals, declarations_refusals, refusals}
 use Rattle.tick_kinds.specs.Resolution.{number_by, slot_number, resolved}
 use Rattle.tick_kinds.specs.Uses.{Use, expression_uses, statement_uses, block_uses}
-use Rattle.tick_syntax.specs.Plain.{Name, Expression, number, named, me, count, binary, Statement, assign, get, put, stamp, clear, scan, copy, older, held, out, branch, repeat, Block, nil, cons, map_expression, map_statement, map_block, WholeProgram}
+use Rattle.tick_tree.specs.Plain.{Name, Expression, number, named, me, count, binary, Statement, assign, get, put, stamp, clear, scan, copy, older, held, out, branch, repeat, Block, nil, cons, map_expression, map_statement, map_block, WholeProgram}
 
 -- the first of the faults, else the value
 abbrev pub told : {A : Type 0} → List KindFault → A → Checked A

@@ -1,7 +1,7 @@
 use crate::kind::Kind;
 use std::alloc::{AllocError, AllocFailed};
 use thiserror::Error;
-use tick_syntax::span::Span;
+use tick_tree::span::Span;
 
 /// Why a program is refused. Spans are in bytes of the text that it was read from.
 #[derive(Clone, Copy, PartialEq, Eq, Debug, Error)]

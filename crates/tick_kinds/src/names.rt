@@ -1,4 +1,4 @@
-ghost use Rattle.tick_syntax.specs.View.{tree_of, name_of, expression_of, statement_of, block_of};
+ghost use Rattle.tick_tree.specs.View.{tree_of, name_of, expression_of, statement_of, block_of};
 ghost use Rattle.tick_kinds.specs.Resolved.{resolved_expression, resolved_statement, resolved_block};
 ghost use Rattle.tick_kinds.specs.prover.Table.{slot_at};
 ghost use Rattle.tick_kinds.specs.prover.Checked.{Gives, checked_name, checked_expression, checked_assign, checked_get, checked_put, checked_copy, checked_older, checked_held, checked_statement, checked_block, checked_declaration, checked_declarations};
@@ -10,7 +10,7 @@ use crate::kind::Kind;
 use crate::resolved::{Expression, Statement};
 use indexmap::IndexMap;
 use std::alloc::Global;
-use tick_syntax::tree::{Expr, Named, Stmt, Tree};
+use tick_tree::tree::{Expr, Named, Stmt, Tree};
 
 // How many names of a kind there may be.
 fn limit_of(kind: Kind) -> usize

@@ -1,4 +1,4 @@
-use tick_syntax::tree::Op;
+use tick_tree::tree::Op;
 
 /// An expression with its variables by number.
 #[derive(Debug, Drop)]

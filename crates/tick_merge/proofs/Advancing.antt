@@ -9,11 +9,11 @@ use Rattle.word_core.specs.History.{Memory}
 use Rattle.word_core.specs.Stamps.{Labels}
 use Rattle.word_core.specs.declared.history.SharedAct.{SharedAct}
 use Rattle.code_core.specs.declared.instr.Instr.{Instr}
-use Rattle.step_code.specs.declared.ask.Ask.{Ask}
-use Rattle.step_code.specs.declared.ask.Advance.{Advance}
-use Rattle.step_code.specs.declared.ask.Advance.TheVariants as V
-use Rattle.step_code.specs.Machine.{CodeProcess, Moved, CodeStep, alone, asks, did, labels_by, labels_left, rows_by, rows_left}
-use Rattle.step_code.specs.Process.{event_of, shown, advance_as, after_advance_as}
+use Rattle.code_machine.specs.declared.ask.Ask.{Ask}
+use Rattle.code_machine.specs.declared.ask.Advance.{Advance}
+use Rattle.code_machine.specs.declared.ask.Advance.TheVariants as V
+use Rattle.code_machine.specs.Machine.{CodeProcess, Moved, CodeStep, alone, asks, did, labels_by, labels_left, rows_by, rows_left}
+use Rattle.code_machine.specs.Process.{event_of, shown, advance_as, after_advance_as}
 use Rattle.tick_merge.specs.Ran.{act_by}
 use Rattle.tick_merge.specs.Merged.{one_further, alone_for}
 use Rattle.tick_merge.specs.prover.Held.{further, after_alone, act_next, GoesAlone}

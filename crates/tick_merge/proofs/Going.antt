@@ -8,10 +8,10 @@ use Rattle.word_core.specs.History.{Memory, memory_of, Answers, MayFollow}
 use Rattle.word_core.specs.declared.history.Shared.{Shared}
 use Rattle.code_core.specs.Instructions.{StepCode}
 use Rattle.code_core.specs.Verified.{IsVerified}
-use Rattle.step_code.specs.declared.ask.Ask.{Ask}
-use Rattle.step_code.specs.declared.ask.Reply.{Reply}
-use Rattle.step_code.specs.Machine.{CodeProcess, CodeState, Moved, CodeStep, alone, asks, did, state_after}
-use Rattle.step_code.proofs.Offered.{never_stuck_law}
+use Rattle.code_machine.specs.declared.ask.Ask.{Ask}
+use Rattle.code_machine.specs.declared.ask.Reply.{Reply}
+use Rattle.code_machine.specs.Machine.{CodeProcess, CodeState, Moved, CodeStep, alone, asks, did, state_after}
+use Rattle.code_machine.proofs.Offered.{never_stuck_law}
 use Rattle.stamp_table.specs.Passes.{by, mine}
 use Rattle.code_local.specs.Local.{Local, GoesOnBy, Makes, IsLocalRun}
 use Rattle.code_local.proofs.Offered.{once_per_answers, came_by, makes_more}

@@ -7,7 +7,7 @@ use Rattle.machine_core.specs.declared.status.Status.TheVariants.{Running, Ended
 use Rattle.word_core.specs.declared.history.Shared.{Shared}
 use Rattle.code_core.specs.Instructions.{StepCode}
 use Rattle.code_core.specs.Verified.{IsVerified}
-use Rattle.step_code.specs.Machine.{CodeProcess, CodeState, Moved, CodeStep, alone, asks, did, made}
+use Rattle.code_machine.specs.Machine.{CodeProcess, CodeState, Moved, CodeStep, alone, asks, did, made}
 use Rattle.tick_merge.specs.Ran.{run_under}
 use Rattle.tick_merge.specs.Merged.{one_further, alone_for}
 use Rattle.tick_merge.specs.prover.Standing.{Stands}

@@ -7,7 +7,7 @@ use Rattle.word_core.specs.History.{IsLegal}
 use Rattle.word_core.specs.declared.history.Shared.{Shared}
 use Rattle.word_core.proofs.OfferedHistory.{beginning, next_step}
 use Rattle.code_core.specs.Instructions.{StepCode}
-use Rattle.step_code.specs.Machine.{CodeStep, alone, asks, did}
+use Rattle.code_machine.specs.Machine.{CodeStep, alone, asks, did}
 use Rattle.stamp_table.specs.Passes.{by, mine}
 use Rattle.stamp_table.proofs.Offered.{mine-append}
 use Rattle.code_local.specs.Local.{Local, local_start, Makes, IsLocalRun}

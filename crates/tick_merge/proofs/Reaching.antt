@@ -7,8 +7,8 @@ use Rattle.std.proofs.lemmas.Option.{same_Some}
 use Rattle.word_core.specs.History.{memory_of, IsLegal}
 use Rattle.word_core.specs.declared.history.Shared.{Shared}
 use Rattle.code_core.specs.Instructions.{StepCode}
-use Rattle.step_code.specs.Process.{OneProcess, IsOf}
-use Rattle.step_code.proofs.Offered.{get-set}
+use Rattle.code_machine.specs.Process.{OneProcess, IsOf}
+use Rattle.code_machine.proofs.Offered.{get-set}
 use Rattle.tick_merge.specs.Ran.{occurs}
 use Rattle.tick_merge.specs.Merged.{alone_for, alone_of, turns_left}
 use Rattle.tick_merge.specs.declared.merging.Merging.{Merging}

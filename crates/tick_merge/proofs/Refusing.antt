@@ -9,7 +9,7 @@ use Rattle.word_core.specs.History.{Memory, memory_of, MayFollow}
 use Rattle.word_core.specs.declared.history.Shared.{Shared}
 use Rattle.code_core.specs.Instructions.{StepCode}
 use Rattle.code_core.specs.Verified.{IsVerified}
-use Rattle.step_code.specs.Machine.{CodeProcess, CodeStep, alone, asks, did}
+use Rattle.code_machine.specs.Machine.{CodeProcess, CodeStep, alone, asks, did}
 use Rattle.stamp_table.specs.Passes.{by, mine}
 use Rattle.stamp_table.proofs.Offered.{mine-snoc_own}
 use Rattle.code_local.specs.Local.{Local, Makes}

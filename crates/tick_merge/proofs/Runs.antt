@@ -6,7 +6,7 @@ use Rattle.machine_core.specs.declared.status.Status.TheVariants.{Running}
 use Rattle.word_core.specs.declared.history.Shared.{Shared}
 use Rattle.code_core.specs.declared.instr.Instr.{Instr}
 use Rattle.code_core.specs.Instructions.{StepCode}
-use Rattle.step_code.specs.Machine.{CodeProcess, CodeState, did, state_after, step_as, step_of, code_step, code_run, code_start}
+use Rattle.code_machine.specs.Machine.{CodeProcess, CodeState, did, state_after, step_as, step_of, code_step, code_run, code_start}
 use Rattle.tick_merge.specs.Ran.{run_under, memory_in, shared_step, shared_as, shared_by, shared_from, shared_of, Runs, AllRunFrom, AllRun}
 
 module _ (n : ℕ) (code : List Instr) where

@@ -13,14 +13,14 @@ use Rattle.word_core.proofs.Offered.{distinct_law}
 use Rattle.code_core.specs.declared.instr.Instr.{Instr}
 use Rattle.code_core.specs.declared.instr.Instr.TheVariants as I
 use Rattle.code_core.specs.Instructions.{CodeSizes}
-use Rattle.step_code.specs.declared.ask.Ask.{Ask}
-use Rattle.step_code.specs.declared.ask.Ask.TheVariants as Q
-use Rattle.step_code.specs.declared.ask.Reply.{Reply}
-use Rattle.step_code.specs.declared.ask.Reply.TheVariants as R
-use Rattle.step_code.specs.Machine as M
-use Rattle.step_code.specs.Machine.{CodeProcess, Moved, CodeStep, alone, asks, did, same_labels, reply_in, labels_by, rows_by}
-use Rattle.step_code.specs.Safety.{IsSafe}
-use Rattle.step_code.proofs.Offered.{equal_from_same, same_self}
+use Rattle.code_machine.specs.declared.ask.Ask.{Ask}
+use Rattle.code_machine.specs.declared.ask.Ask.TheVariants as Q
+use Rattle.code_machine.specs.declared.ask.Reply.{Reply}
+use Rattle.code_machine.specs.declared.ask.Reply.TheVariants as R
+use Rattle.code_machine.specs.Machine as M
+use Rattle.code_machine.specs.Machine.{CodeProcess, Moved, CodeStep, alone, asks, did, same_labels, reply_in, labels_by, rows_by}
+use Rattle.code_machine.specs.Safety.{IsSafe}
+use Rattle.code_machine.proofs.Offered.{equal_from_same, same_self}
 use Rattle.code_local.specs.Local.{act_of, TellsLabels}
 use Rattle.tick_merge.specs.Ran.{act_by}
 

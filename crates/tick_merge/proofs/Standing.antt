@@ -12,10 +12,10 @@ use Rattle.word_core.specs.declared.history.SharedAct.{SharedAct}
 use Rattle.word_core.proofs.OfferedHistory.{one_step}
 use Rattle.code_core.specs.Instructions.{StepCode}
 use Rattle.code_core.specs.Verified.{IsVerified}
-use Rattle.step_code.specs.declared.ask.Ask.{Ask}
-use Rattle.step_code.specs.declared.ask.Reply.{Reply}
-use Rattle.step_code.specs.Machine.{CodeProcess, CodeState, Moved, CodeStep, alone, asks, did, made, reply_in, state_after}
-use Rattle.step_code.proofs.Offered.{never_stuck_law, get-set, get-replicate}
+use Rattle.code_machine.specs.declared.ask.Ask.{Ask}
+use Rattle.code_machine.specs.declared.ask.Reply.{Reply}
+use Rattle.code_machine.specs.Machine.{CodeProcess, CodeState, Moved, CodeStep, alone, asks, did, made, reply_in, state_after}
+use Rattle.code_machine.proofs.Offered.{never_stuck_law, get-set, get-replicate}
 use Rattle.stamp_table.specs.Passes.{by, mine}
 use Rattle.stamp_table.proofs.Offered.{mine-snoc_own, mine-snoc_other}
 use Rattle.code_local.specs.Local.{Local, local_start, moved_alone, moved_with, Makes, IsLocalRun}

@@ -7,9 +7,9 @@ use Rattle.machine_core.specs.Rows.{start_rows}
 use Rattle.word_core.specs.Stamps.{start_labels}
 use Rattle.code_core.specs.Instructions.{StepCode}
 use Rattle.code_core.specs.Verified.{IsVerified}
-use Rattle.step_code.specs.Machine.{start_process}
-use Rattle.step_code.specs.Process.{OneProcess, IsOf}
-use Rattle.step_code.proofs.Offered.{get-snoc}
+use Rattle.code_machine.specs.Machine.{start_process}
+use Rattle.code_machine.specs.Process.{OneProcess, IsOf}
+use Rattle.code_machine.proofs.Offered.{get-snoc}
 use Rattle.tick_merge.specs.Ran.{run_under, occurs}
 use Rattle.tick_merge.specs.declared.merging.Merging.{Merging}
 use Rattle.tick_merge.specs.prover.Reached.{Reached, AreNew}

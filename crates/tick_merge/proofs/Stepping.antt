@@ -10,10 +10,10 @@ use Rattle.word_core.specs.declared.history.Shared.{Shared}
 use Rattle.word_core.specs.declared.history.SharedAct.{SharedAct}
 use Rattle.word_core.proofs.OfferedHistory.{next_step}
 use Rattle.code_core.specs.Instructions.{StepCode}
-use Rattle.step_code.specs.declared.ask.Ask.{Ask}
-use Rattle.step_code.specs.declared.ask.Reply.{Reply}
-use Rattle.step_code.specs.Machine.{CodeProcess, CodeState, Moved, CodeStep, alone, asks, did, made, labels_left, rows_left, state_after}
-use Rattle.step_code.specs.Process.{OneProcess, IsOf, next_of}
+use Rattle.code_machine.specs.declared.ask.Ask.{Ask}
+use Rattle.code_machine.specs.declared.ask.Reply.{Reply}
+use Rattle.code_machine.specs.Machine.{CodeProcess, CodeState, Moved, CodeStep, alone, asks, did, made, labels_left, rows_left, state_after}
+use Rattle.code_machine.specs.Process.{OneProcess, IsOf, next_of}
 use Rattle.stamp_table.specs.Passes.{by}
 use Rattle.tick_merge.specs.Ran.{run_under, memory_in, act_by, occurs}
 use Rattle.tick_merge.specs.Merged.{led}

@@ -9,8 +9,8 @@ use Rattle.word_core.specs.declared.history.Shared.{Shared}
 use Rattle.word_core.proofs.OfferedHistory.{beginning, next_step}
 use Rattle.code_core.specs.Instructions.{StepCode}
 use Rattle.code_core.specs.Verified.{IsVerified}
-use Rattle.step_code.specs.Machine.{CodeProcess, start_process}
-use Rattle.step_code.proofs.Offered.{never_stuck_law}
+use Rattle.code_machine.specs.Machine.{CodeProcess, start_process}
+use Rattle.code_machine.proofs.Offered.{never_stuck_law}
 use Rattle.stamp_table.specs.Passes.{mine}
 use Rattle.stamp_table.proofs.Offered.{mine-append, mine-snoc_own}
 use Rattle.code_local.specs.Local.{Local, IsLocalRun}

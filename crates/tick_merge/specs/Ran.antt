@@ -12,9 +12,9 @@ use Rattle.word_core.specs.declared.history.SharedAct.{SharedAct}
 use Rattle.word_core.specs.declared.history.SharedAct.TheVariants.{Load, Won, Lost, Read, Write, Clear}
 use Rattle.code_core.specs.declared.instr.Instr.{Instr}
 use Rattle.code_core.specs.Instructions.{StepCode}
-use Rattle.step_code.specs.declared.ask.Ask.{Ask}
-use Rattle.step_code.specs.declared.ask.Ask.TheVariants as Q
-use Rattle.step_code.specs.Machine.{CodeProcess, CodeState, CodeStep, alone, asks, did, same_labels, code_step, code_start, run_of}
+use Rattle.code_machine.specs.declared.ask.Ask.{Ask}
+use Rattle.code_machine.specs.declared.ask.Ask.TheVariants as Q
+use Rattle.code_machine.specs.Machine.{CodeProcess, CodeState, CodeStep, alone, asks, did, same_labels, code_step, code_start, run_of}
 use Rattle.stamp_table.specs.Passes.{by}
 
 -- the code under a schedule

@@ -14,8 +14,8 @@ use crate::fault::MergeFault;
 use crate::process::{go_alone, makes_act};
 use crate::words::Words;
 use code_core::Code;
+use code_machine::Proc;
 use std::alloc::Global;
-use step_code::Proc;
 use word_core::Shared;
 
 // How far a history was gone through: what is shared, each process, how many instructions are left to

@@ -2,16 +2,16 @@
 
 ghost use Rattle.std.specs.Prelude.{◌≡◌, ◌≤◌, ◌++◌, ◌↔◌, OnOk, IfOk, IsTrue, Some, replicate};
 ghost use Rattle.std.specs.Bool.{OnTrue};
-ghost use Rattle.step_code.specs.Machine.{made, labels_left, rows_left};
-ghost use Rattle.step_code.specs.Process.{IsOf, next_of};
-ghost use Rattle.step_code.specs.Safety.{AreOrdered};
+ghost use Rattle.code_machine.specs.Machine.{made, labels_left, rows_left};
+ghost use Rattle.code_machine.specs.Process.{IsOf, next_of};
+ghost use Rattle.code_machine.specs.Safety.{AreOrdered};
 ghost use Rattle.tick_merge.specs.Merged.{alone_for};
 ghost use Rattle.tick_merge.specs.prover.Held.{memory_held, after_alone, act_next};
 
 use crate::words::Words;
 use code_core::Code;
+use code_machine::{Advance, Proc};
 use std::alloc::AllocFailed;
-use step_code::{Advance, Proc};
 use word_core::SharedAct;
 
 /// Makes what process `p` makes alone, at most `most` instructions, and schedules each. Tells how many.

@@ -5,15 +5,15 @@ ghost use Rattle.machine_core.specs.Rows.{start_rows};
 ghost use Rattle.word_core.specs.Stamps.{start_labels};
 ghost use Rattle.word_core.specs.History.{MayFollow, Answers};
 ghost use Rattle.word_core.specs.Packed.{AreLabels};
-ghost use Rattle.step_code.specs.Machine.{same_labels, reply_in, labels_by, rows_by};
-ghost use Rattle.step_code.specs.Safety.{AreOrdered, IsLawful};
+ghost use Rattle.code_machine.specs.Machine.{same_labels, reply_in, labels_by, rows_by};
+ghost use Rattle.code_machine.specs.Safety.{AreOrdered, IsLawful};
 ghost use Rattle.tick_merge.specs.Ran.{act_by};
 ghost use Rattle.tick_merge.specs.prover.Held.{memory_held};
 
 use code_core::Sizes;
+use code_machine::{Ask, Reply};
 use machine_core::{NoMemory, Registers};
 use std::alloc::Global;
-use step_code::{Ask, Reply};
 use word_core::{LabelWord, Shared, SharedAct};
 
 #[derive(Drop)]

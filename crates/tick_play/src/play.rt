@@ -3,9 +3,9 @@ ghost use Rattle.tick_kinds.specs.Resolution.{resolved};
 ghost use Rattle.tick_play.specs.Report.{code_report, source_report};
 
 use crate::report::report_of;
+use code_machine::Code;
 use machine_core::NoMemory;
 use std::alloc::Global;
-use step_code::Code;
 use tick_kinds::Program;
 
 /// The report of the program's run under a schedule, each number of which is below the number of
@@ -24,6 +24,6 @@ pub fn play_code(alloc: Global, code: &Code, schedule: &[u8]) -> Result<String, 
     requires { All (λ p. p < code.now.sizes.processes) schedule.now }
     ensures { IfOk result (λ text. string_bytes text ≡ code_report code.now schedule.now) }
 {
-    let outcome = step_code::run(alloc, code, schedule)?;
+    let outcome = code_machine::run(alloc, code, schedule)?;
     report_of(alloc, &outcome)
 }

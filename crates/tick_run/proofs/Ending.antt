@@ -6,8 +6,8 @@ use Rattle.machine_core.specs.declared.status.Status.TheVariants.{Running, Ended
 use Rattle.machine_core.specs.declared.run_outcome.RunEnd.TheVariants as E
 use Rattle.word_core.specs.declared.history.Shared.{Shared}
 use Rattle.code_core.specs.Instructions.{StepCode}
-use Rattle.step_code.specs.Machine.{CodeProcess, start_process}
-use Rattle.step_code.specs.Process.{gives_out}
+use Rattle.code_machine.specs.Machine.{CodeProcess, start_process}
+use Rattle.code_machine.specs.Process.{gives_out}
 use Rattle.code_local.specs.Local.{local_start}
 use Rattle.tick_run.specs.Runs.{EndsAs}
 use Rattle.tick_run.specs.prover.Alone.{RanSo}

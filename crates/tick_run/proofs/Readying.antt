@@ -4,9 +4,9 @@ use Rattle.std.specs.Prelude.{min, Some, slice_get, slice_set, vec_items, vec_ca
 use Rattle.std.proofs.lemmas.Bool.{lt-ltb}
 use Rattle.std.proofs.lemmas.List.{length-append, get_or-set_same, get_or-set_other}
 use Rattle.code_core.specs.Instructions.{StepCode}
-use Rattle.step_code.specs.Machine.{start_process}
-use Rattle.step_code.specs.Process.{OneProcess, IsOf}
-use Rattle.step_code.proofs.Offered.{get-snoc}
+use Rattle.code_machine.specs.Machine.{start_process}
+use Rattle.code_machine.specs.Process.{OneProcess, IsOf}
+use Rattle.code_machine.proofs.Offered.{get-snoc}
 use Rattle.stamp_table.specs.Passes.{TableView, PassView, Holds, none_held, first_held, whole, part}
 use Rattle.tick_run.specs.declared.jobs.Job.{Job}
 use Rattle.tick_run.specs.prover.Work.{CanWork, AreSplit}

@@ -7,10 +7,10 @@ use Rattle.word_core.specs.declared.history.SharedAct.{SharedAct}
 use Rattle.word_core.specs.declared.history.SharedAct.TheVariants.{Load, Won, Lost, Read, Write, Clear}
 use Rattle.word_core.proofs.OfferedHistory.{history_labels}
 use Rattle.code_core.specs.Instructions.{StepCode}
-use Rattle.step_code.specs.declared.ask.Ask.{Ask}
-use Rattle.step_code.specs.declared.ask.Ask.TheVariants as Q
-use Rattle.step_code.specs.declared.ask.Reply.{Reply}
-use Rattle.step_code.specs.declared.ask.Reply.TheVariants as R
+use Rattle.code_machine.specs.declared.ask.Ask.{Ask}
+use Rattle.code_machine.specs.declared.ask.Ask.TheVariants as Q
+use Rattle.code_machine.specs.declared.ask.Reply.{Reply}
+use Rattle.code_machine.specs.declared.ask.Reply.TheVariants as R
 use Rattle.stamp_table.specs.Passes.{TableView, PassView, Holds, by, Appends, memory_seen}
 use Rattle.stamp_table.proofs.Offered.{extends_own}
 use Rattle.code_local.specs.Local.{act_of, TellsLabels}

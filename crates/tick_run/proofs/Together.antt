@@ -12,7 +12,7 @@ use Rattle.stamp_table.proofs.Offered.{held_by_all}
 use Rattle.tick_run.specs.prover.Alone.{RanSo}
 use Rattle.tick_run.specs.declared.jobs.Job.{Job}
 use Rattle.tick_run.specs.prover.Work.{CanWork, IsWork, AreReady, Gathers}
-use Rattle.step_code.proofs.Offered.{get-snoc}
+use Rattle.code_machine.proofs.Offered.{get-snoc}
 use Rattle.tick_run.proofs.Readying.{get_left, get_last}
 
 pub ready_rest : {G : Type 0} (t : TableView) (c : StepCode) (turns outs : ℕ) (jobs rest : List (Job G)) (job : Job G)

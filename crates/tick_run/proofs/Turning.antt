@@ -13,14 +13,14 @@ use Rattle.word_core.specs.declared.history.SharedAct.{SharedAct}
 use Rattle.code_core.specs.declared.instr.Instr.{Instr}
 use Rattle.code_core.specs.declared.instr.Instr.TheVariants as I
 use Rattle.code_core.specs.Instructions.{StepCode}
-use Rattle.step_code.specs.declared.ask.Ask.{Ask}
-use Rattle.step_code.specs.declared.ask.Reply.{Reply}
-use Rattle.step_code.specs.declared.ask.Reply.TheVariants as R
-use Rattle.step_code.specs.declared.ask.Advance.{Advance}
-use Rattle.step_code.specs.declared.ask.Advance.TheVariants as V
-use Rattle.step_code.specs.Machine as M
-use Rattle.step_code.specs.Machine.{CodeProcess, Moved, CodeStep, alone, asks, did}
-use Rattle.step_code.specs.Process.{event_of, shown, advance_of, after_advance, answered_by, is_out, gives_out}
+use Rattle.code_machine.specs.declared.ask.Ask.{Ask}
+use Rattle.code_machine.specs.declared.ask.Reply.{Reply}
+use Rattle.code_machine.specs.declared.ask.Reply.TheVariants as R
+use Rattle.code_machine.specs.declared.ask.Advance.{Advance}
+use Rattle.code_machine.specs.declared.ask.Advance.TheVariants as V
+use Rattle.code_machine.specs.Machine as M
+use Rattle.code_machine.specs.Machine.{CodeProcess, Moved, CodeStep, alone, asks, did}
+use Rattle.code_machine.specs.Process.{event_of, shown, advance_of, after_advance, answered_by, is_out, gives_out}
 use Rattle.stamp_table.specs.Passes.{by}
 use Rattle.code_local.specs.Local.{Local, act_of, TellsLabels, moved_alone, moved_with, Makes, LocalStep, output_of, outputs_of}
 use Rattle.code_local.proofs.Offered.{local_run_next, outputs_of-told}

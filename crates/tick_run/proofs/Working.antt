@@ -7,7 +7,7 @@ use Rattle.machine_core.specs.declared.status.Status.{Status}
 use Rattle.machine_core.specs.declared.status.Status.TheVariants.{Running}
 use Rattle.code_core.specs.declared.instr.Instr.{Instr}
 use Rattle.code_core.specs.Instructions.{StepCode}
-use Rattle.step_code.specs.Process.{OneProcess, IsOf, is_out, gives_out}
+use Rattle.code_machine.specs.Process.{OneProcess, IsOf, is_out, gives_out}
 use Rattle.stamp_table.specs.Passes.{TableView, PassView, Holds, mine}
 use Rattle.tick_run.specs.declared.worker.Turn.TheVariants as T
 use Rattle.machine_core.specs.declared.run_outcome.RunEnd.{RunEnd}

@@ -5,8 +5,8 @@ use Rattle.machine_core.specs.declared.run_outcome.RunEnd.{RunEnd}
 use Rattle.machine_core.specs.declared.run_outcome.RunEnd.TheVariants.{Ended, Trapped, TurnsSpent, OutputsFull}
 use Rattle.machine_core.specs.Observables.{RunObservables}
 use Rattle.code_core.specs.Instructions.{StepCode}
-use Rattle.step_code.specs.Machine.{CodeProcess}
-use Rattle.step_code.specs.Process.{gives_out}
+use Rattle.code_machine.specs.Machine.{CodeProcess}
+use Rattle.code_machine.specs.Process.{gives_out}
 use Rattle.code_local.specs.Local.{outputs_of}
 use Rattle.tick_merge.specs.Ran.{run_under, AllRun, occurs, events_by}
 

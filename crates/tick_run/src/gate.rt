@@ -1,4 +1,4 @@
-use step_code::Ask;
+use code_machine::Ask;
 
 /// What a worker calls on its own thread, once before each instruction that touches what all
 /// processes share.

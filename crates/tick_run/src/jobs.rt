@@ -8,9 +8,9 @@ ghost use Rattle.tick_run.specs.prover.Work.{AreReady};
 use crate::fault::RunFault;
 use crate::gate::Gate;
 use code_core::Code;
+use code_machine::Proc;
 use stamp_table::{Pass, StampTable};
 use std::alloc::Global;
-use step_code::Proc;
 
 /// How many instructions a process may make, and how many values it may give out.
 #[derive(Clone, Copy)]

@@ -1,8 +1,8 @@
 // One process on its thread.
 
 ghost use Rattle.std.specs.Prelude.{◌≡◌, ◌≢◌, ◌↔◌, ◌&&◌, nat_le, IsTrue, Some, slice_get, vec_items, vec_capacity};
-ghost use Rattle.step_code.specs.Process.{IsOf, is_out};
-ghost use Rattle.step_code.specs.Safety.{HasWord, IsLawful};
+ghost use Rattle.code_machine.specs.Process.{IsOf, is_out};
+ghost use Rattle.code_machine.specs.Safety.{HasWord, IsLawful};
 ghost use Rattle.stamp_table.specs.Passes.{Holds, mine};
 ghost use Rattle.tick_run.specs.prover.Turns.{IsFor, IsTurn, IsServed, turn_by, end_by};
 ghost use Rattle.tick_run.specs.prover.Work.{CanWork, IsWork};
@@ -10,9 +10,9 @@ ghost use Rattle.tick_run.specs.prover.Work.{CanWork, IsWork};
 use crate::gate::Gate;
 use crate::jobs::{Job, Limits};
 use code_core::{Code, Instr};
+use code_machine::{Advance, Ask, Proc, Reply};
 use machine_core::{Act, Event, RunEnd, Status};
 use stamp_table::{Pass, StampTable, Swap};
-use step_code::{Advance, Ask, Proc, Reply};
 
 /// What a worker comes back with.
 #[derive(Drop)]

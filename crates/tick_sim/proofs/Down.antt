@@ -9,8 +9,8 @@ use Rattle.code_core.specs.declared.instr.Instr.{Instr}
 use Rattle.word_core.specs.Stamps.{Labels}
 use Rattle.tick_source.specs.Source as S
 use Rattle.tick_source.specs.Source.{SourceProcess, SourceState}
-use Rattle.step_code.specs.Machine as C
-use Rattle.step_code.specs.Machine.{CodeProcess, CodeState}
+use Rattle.code_machine.specs.Machine as C
+use Rattle.code_machine.specs.Machine.{CodeProcess, CodeState}
 use Rattle.tick_lower.specs.Lowered.{lowered, lowered_sizes}
 use Rattle.tick_sim.specs.Maps.{commit_of, is_commit, down_from, down}
 use Rattle.tick_sim.specs.Laws.{DownLaw}

@@ -8,8 +8,8 @@ use Rattle.machine_core.specs.declared.event.Act.TheVariants as A
 use Rattle.machine_core.specs.declared.event.Event.{Event}
 use Rattle.machine_core.specs.Observables.{Observables}
 use Rattle.word_core.specs.Packed.{word}
-use Rattle.tick_syntax.specs.Plain.{number, named, me, binary, assign, stamp, clear, scan, older, held, out, branch, repeat, Block, nil, cons, WholeProgram}
-use Rattle.step_code.specs.Machine.{run_of}
+use Rattle.tick_tree.specs.Plain.{number, named, me, binary, assign, stamp, clear, scan, older, held, out, branch, repeat, Block, nil, cons, WholeProgram}
+use Rattle.code_machine.specs.Machine.{run_of}
 use Rattle.tick_lower.specs.Lowered.{lowered, lowered_sizes}
 use Rattle.tick_sim.specs.Maps.{down, up}
 use Rattle.tick_sim.specs.Laws.{seen, seen_of_code, running}

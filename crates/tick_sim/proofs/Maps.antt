@@ -9,8 +9,8 @@ use Rattle.machine_core.specs.declared.status.Status.{Status}
 use Rattle.machine_core.specs.declared.status.Status.TheVariants.{Running}
 use Rattle.code_core.specs.declared.instr.Instr.{Instr}
 use Rattle.tick_source.specs.Source.{SourceState, source_step}
-use Rattle.step_code.specs.Machine as C
-use Rattle.step_code.specs.Machine.{CodeState}
+use Rattle.code_machine.specs.Machine as C
+use Rattle.code_machine.specs.Machine.{CodeState}
 use Rattle.tick_sim.specs.Maps.{is_commit, one_more, steps_to_commit, repeated, steps_of, down_from, up_from}
 use Rattle.tick_sim.proofs.Pairs.{first_at}
 use Rattle.tick_sim.proofs.States.{AllBetween}

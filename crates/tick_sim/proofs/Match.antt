@@ -20,11 +20,11 @@ use Rattle.code_core.specs.declared.instr.Instr.{Instr}
 use Rattle.code_core.specs.declared.instr.Instr.TheVariants as I
 use Rattle.word_core.specs.Stamps.{Labels, stamped}
 use Rattle.word_core.specs.Agreement.{Agrees}
-use Rattle.tick_syntax.specs.Plain.{stamp, Block, cons}
+use Rattle.tick_tree.specs.Plain.{stamp, Block, cons}
 use Rattle.tick_source.specs.Source as S
 use Rattle.tick_source.specs.Source.{SourceProcess, SourceState}
-use Rattle.step_code.specs.Machine as C
-use Rattle.step_code.specs.Machine.{CodeProcess, CodeState, CodeStep, alone, made, labels_left, rows_left}
+use Rattle.code_machine.specs.Machine as C
+use Rattle.code_machine.specs.Machine.{CodeProcess, CodeState, CodeStep, alone, made, labels_left, rows_left}
 use Rattle.tick_lower.proofs.Offered.{HasAt}
 use Rattle.tick_sim.specs.Maps.{ended, ended_at}
 use Rattle.tick_sim.proofs.Scans.{ScansAgree}

@@ -11,11 +11,11 @@ use Rattle.code_core.specs.declared.instr.Instr.{Instr}
 use Rattle.code_core.specs.declared.instr.Instr.TheVariants as I
 use Rattle.word_core.specs.Stamps.{Labels}
 use Rattle.word_core.specs.Agreement.{Agrees}
-use Rattle.tick_syntax.specs.Plain.{Expression, number, named, me, count, binary, Block}
+use Rattle.tick_tree.specs.Plain.{Expression, number, named, me, count, binary, Block}
 use Rattle.tick_source.specs.Values.{operated, value}
 use Rattle.tick_source.specs.Source as S
-use Rattle.step_code.specs.Machine as C
-use Rattle.step_code.specs.Machine.{CodeProcess, CodeStep, alone}
+use Rattle.code_machine.specs.Machine as C
+use Rattle.code_machine.specs.Machine.{CodeProcess, CodeStep, alone}
 use Rattle.tick_lower.specs.Lowered.{expression_length, expression_code}
 use Rattle.tick_lower.proofs.Offered.{expression_long, HasAt, has_front, has_back}
 use Rattle.tick_sim.specs.Maps.{ended}

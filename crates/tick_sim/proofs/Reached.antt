@@ -7,9 +7,9 @@ use Rattle.machine_core.specs.declared.status.Status.TheVariants.{Running}
 use Rattle.code_core.specs.declared.instr.Instr.{Instr}
 use Rattle.code_core.specs.Instructions.{StepCode}
 use Rattle.code_core.specs.Verified.{IsVerified}
-use Rattle.step_code.specs.Machine as C
-use Rattle.step_code.specs.Machine.{CodeState, CodeRun}
-use Rattle.step_code.proofs.Offered.{never_stuck_law}
+use Rattle.code_machine.specs.Machine as C
+use Rattle.code_machine.specs.Machine.{CodeState, CodeRun}
+use Rattle.code_machine.proofs.Offered.{never_stuck_law}
 use Rattle.tick_sim.specs.Maps.{commit_as, commit_of, is_commit}
 use Rattle.tick_sim.specs.prover.Stepping.{IsReached}
 use Rattle.tick_sim.proofs.Match.{HasStopped}

@@ -6,8 +6,8 @@ use Rattle.std.proofs.lemmas.Option.{same_Some, none-some}
 use Rattle.code_core.specs.declared.instr.Instr.{Instr}
 use Rattle.tick_source.specs.Source as S
 use Rattle.tick_source.specs.Source.{SourceState}
-use Rattle.step_code.specs.Machine as C
-use Rattle.step_code.specs.Machine.{CodeState}
+use Rattle.code_machine.specs.Machine as C
+use Rattle.code_machine.specs.Machine.{CodeState}
 use Rattle.tick_lower.specs.Lowered.{lowered, lowered_sizes}
 use Rattle.tick_sim.specs.Maps.{is_commit, one_more, steps_to_commit, repeated, steps_of, down_from, up_from}
 use Rattle.tick_sim.specs.Laws.{running_from, RoundLaw}

@@ -3,10 +3,10 @@ use Rattle.std.proofs.Common.{◌≡◌, ℕ, List, length, refl, ap, sym, ◌�
 use Rattle.std.proofs.lemmas.List.{length-replicate}
 use Rattle.code_core.specs.declared.instr.Instr.{Instr}
 use Rattle.word_core.proofs.Offered.{agreement_law}
-use Rattle.tick_syntax.specs.Plain.{Block, nil, cons, onto, WholeProgram}
+use Rattle.tick_tree.specs.Plain.{Block, nil, cons, onto, WholeProgram}
 use Rattle.tick_source.specs.Source as S
-use Rattle.step_code.specs.Machine as C
-use Rattle.step_code.proofs.Offered.{get-replicate}
+use Rattle.code_machine.specs.Machine as C
+use Rattle.code_machine.proofs.Offered.{get-replicate}
 use Rattle.tick_lower.specs.Lowered.{block_length, lowered, lowered_sizes}
 use Rattle.tick_lower.proofs.Offered.{lowered_long, lowered_body, lowered_halt}
 use Rattle.tick_sim.proofs.Scans.{scans_start}

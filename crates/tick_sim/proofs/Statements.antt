@@ -44,11 +44,11 @@ use Rattle.word_core.specs.Stamps.{Labels, label_at, is_present}
 use Rattle.word_core.specs.Order.{older_label, label_ranks}
 use Rattle.word_core.specs.Agreement.{Agrees}
 use Rattle.word_core.proofs.Offered.{agreement_law}
-use Rattle.tick_syntax.specs.Plain.{Expression, Statement, assign, get, put, stamp, clear, scan, copy, older, held, out, branch, repeat, Block, nil, cons, onto}
+use Rattle.tick_tree.specs.Plain.{Expression, Statement, assign, get, put, stamp, clear, scan, copy, older, held, out, branch, repeat, Block, nil, cons, onto}
 use Rattle.tick_source.specs.Source as S
-use Rattle.step_code.specs.Machine as C
-use Rattle.step_code.specs.Machine.{CodeProcess, CodeStep, alone, asks}
-use Rattle.step_code.specs.declared.ask.Ask.TheVariants as Q
+use Rattle.code_machine.specs.Machine as C
+use Rattle.code_machine.specs.Machine.{CodeProcess, CodeStep, alone, asks}
+use Rattle.code_machine.specs.declared.ask.Ask.TheVariants as Q
 use Rattle.tick_lower.specs.Lowered.{expression_length, statement_length, block_length, expression_code, statement_code, block_code}
 use Rattle.tick_lower.proofs.Offered.{expression_long, block_long, HasAt, has_front, has_back}
 use Rattle.tick_sim.proofs.Scans.{ScansAgree, scan_taken}

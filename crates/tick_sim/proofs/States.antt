@@ -11,8 +11,8 @@ use Rattle.code_core.specs.declared.instr.Instr.{Instr}
 use Rattle.word_core.specs.Agreement.{Agrees}
 use Rattle.tick_source.specs.Source as S
 use Rattle.tick_source.specs.Source.{SourceProcess, SourceState}
-use Rattle.step_code.specs.Machine as C
-use Rattle.step_code.specs.Machine.{CodeProcess, CodeState, CodeStep, made, labels_left, rows_left}
+use Rattle.code_machine.specs.Machine as C
+use Rattle.code_machine.specs.Machine.{CodeProcess, CodeState, CodeStep, made, labels_left, rows_left}
 use Rattle.tick_sim.specs.Maps.{ended_at, commit_as, commit_of, is_commit}
 use Rattle.tick_sim.proofs.Match.{HasStopped, Between, SameStep}
 use Rattle.tick_sim.proofs.Pairs.{Pairs, both_written, second_written, map_same}

@@ -12,14 +12,14 @@ use Rattle.ticket_core.specs.Tickets.{stamp_ticket}
 use Rattle.word_core.specs.Stamps.{Labels, stamped}
 use Rattle.word_core.specs.Agreement.{Agrees}
 use Rattle.word_core.proofs.Offered.{agreement_law}
-use Rattle.tick_syntax.specs.Plain.{stamp, cons}
+use Rattle.tick_tree.specs.Plain.{stamp, cons}
 use Rattle.tick_source.specs.Source as S
 use Rattle.tick_source.specs.Source.{SourceProcess, SourceState}
-use Rattle.step_code.specs.Machine as C
-use Rattle.step_code.specs.Machine.{CodeProcess, CodeState, CodeStep, asks, made, labels_left}
-use Rattle.step_code.specs.declared.ask.Ask.TheVariants as Q
-use Rattle.step_code.specs.declared.ask.Reply.TheVariants as R
-use Rattle.step_code.proofs.Offered.{equal_from_same}
+use Rattle.code_machine.specs.Machine as C
+use Rattle.code_machine.specs.Machine.{CodeProcess, CodeState, CodeStep, asks, made, labels_left}
+use Rattle.code_machine.specs.declared.ask.Ask.TheVariants as Q
+use Rattle.code_machine.specs.declared.ask.Reply.TheVariants as R
+use Rattle.code_machine.proofs.Offered.{equal_from_same}
 use Rattle.tick_sim.specs.Maps.{ended}
 use Rattle.tick_sim.proofs.Stands.{StandsAt, stands_few}
 use Rattle.tick_sim.proofs.Match as M

@@ -29,9 +29,9 @@ use Rattle.code_core.specs.declared.instr.Instr.{Instr}
 use Rattle.word_core.specs.Stamps.{Labels}
 use Rattle.tick_source.specs.Source as S
 use Rattle.tick_source.specs.Source.{SourceProcess, SourceState}
-use Rattle.step_code.specs.Machine as C
-use Rattle.step_code.specs.Machine.{CodeProcess, CodeState, made}
-use Rattle.step_code.proofs.Offered.{same_self}
+use Rattle.code_machine.specs.Machine as C
+use Rattle.code_machine.specs.Machine.{CodeProcess, CodeState, made}
+use Rattle.code_machine.proofs.Offered.{same_self}
 use Rattle.tick_lower.specs.Lowered.{lowered, lowered_sizes}
 use Rattle.tick_sim.specs.Maps.{commit_of, is_commit, one_more, steps_to_commit, repeated, steps_of, up_from, up}
 use Rattle.tick_sim.specs.Laws.{UpLaw, kept_as, kept_of}

@@ -3,10 +3,10 @@ use Rattle.std.specs.Prelude.{◌≡◌, ℕ, ◌*◌, ◌≤◌, List, [], ◌�
 use Rattle.machine_core.specs.declared.status.Status.{Status}
 use Rattle.machine_core.specs.declared.status.Status.TheVariants.{Running}
 use Rattle.machine_core.specs.Observables.{Observables}
-use Rattle.tick_syntax.specs.Plain.{WholeProgram}
+use Rattle.tick_tree.specs.Plain.{WholeProgram}
 use Rattle.tick_source.specs.Source as S
 use Rattle.tick_source.specs.Source.{SourceProcess, SourceState}
-use Rattle.step_code.specs.Machine as C
+use Rattle.code_machine.specs.Machine as C
 use Rattle.tick_lower.specs.Lowered.{lowered, lowered_sizes}
 use Rattle.tick_sim.specs.Maps.{down, up}
 

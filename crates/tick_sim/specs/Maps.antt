@@ -8,7 +8,7 @@ use Rattle.machine_core.specs.declared.event.Act.TheVariants as A
 use Rattle.code_core.specs.declared.instr.Instr.{Instr}
 use Rattle.code_core.specs.declared.instr.Instr.TheVariants as I
 use Rattle.code_core.specs.Instructions.{CodeSizes}
-use Rattle.step_code.specs.Machine.{CodeProcess, CodeState, made, did, code_step, code_run, code_start}
+use Rattle.code_machine.specs.Machine.{CodeProcess, CodeState, made, did, code_step, code_run, code_start}
 use Rattle.tick_lower.specs.Commits.{ends_step}
 
 abbrev pub is_stamp : Option Act → Bool

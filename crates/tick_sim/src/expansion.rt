@@ -1,5 +1,5 @@
 ghost use Rattle.std.specs.Prelude.{◌≡◌, ℕ, ◌<◌, ◌++◌, All, length, slice_get, Some, IfOk, OnOk};
-ghost use Rattle.step_code.specs.Machine.{code_run, statuses_of};
+ghost use Rattle.code_machine.specs.Machine.{code_run, statuses_of};
 ghost use Rattle.tick_kinds.specs.Resolution.{resolved};
 ghost use Rattle.tick_lower.specs.Lowered.{lowered, lowered_sizes};
 ghost use Rattle.tick_sim.specs.Maps.{steps_to_commit, steps_of, up};
@@ -8,9 +8,9 @@ ghost use Rattle.tick_sim.specs.prover.Stepping.{IsReached};
 
 use crate::stepping::step_ends;
 use code_core::Code;
+use code_machine::CodeMachine;
 use machine_core::{NoMemory, Status};
 use std::alloc::Global;
-use step_code::CodeMachine;
 use tick_kinds::Program;
 
 /// The schedule of the code of a program that leads through the steps of a schedule of the program:

@@ -6,9 +6,9 @@ ghost use Rattle.tick_sim.specs.Laws.{seen, seen_of_code};
 
 use crate::stepping::step_ends;
 use code_core::Code;
+use code_machine::CodeMachine;
 use machine_core::NoMemory;
 use std::alloc::Global;
-use step_code::CodeMachine;
 use tick_kinds::Program;
 
 /// The schedule of the program that a schedule of its code stands for: the same processes, without

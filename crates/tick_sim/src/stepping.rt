@@ -1,11 +1,11 @@
 ghost use Rattle.std.specs.Prelude.{◌≡◌, ◌<◌, IfOk, OnOk};
-ghost use Rattle.step_code.specs.Machine.{code_step};
+ghost use Rattle.code_machine.specs.Machine.{code_step};
 ghost use Rattle.tick_sim.specs.Maps.{is_commit};
 ghost use Rattle.tick_sim.specs.prover.Stepping.{IsReached, ends_told};
 
 use code_core::Instr;
+use code_machine::{CodeMachine, Made};
 use machine_core::NoMemory;
-use step_code::{CodeMachine, Made};
 use tick_lower::ends_step;
 
 /// Makes the next step of process `p` of the code, and tells whether it ended a step of the program.

@@ -1,7 +1,7 @@
 -- Small programs, and what the definitions make of them.
 use Rattle.std.proofs.Common.{◌≡◌, ℕ, List, [], ◌∷◌, ◌++◌, Err, refl, replicate}
 use Rattle.machine_core.specs.declared.operator.Op.TheVariants as O
-use Rattle.tick_syntax.specs.Plain.{Expression, number, named, me, binary, assign, get, put, stamp, clear, scan, older, held, out, branch, repeat, Block, nil, cons, WholeProgram}
+use Rattle.tick_tree.specs.Plain.{Expression, number, named, me, binary, assign, get, put, stamp, clear, scan, older, held, out, branch, repeat, Block, nil, cons, WholeProgram}
 use Rattle.machine_core.specs.declared.status.Trap.TheVariants as T
 use Rattle.machine_core.specs.declared.status.Status.TheVariants.{Running, Ended, Trapped}
 use Rattle.machine_core.specs.declared.event.Act.{Act}

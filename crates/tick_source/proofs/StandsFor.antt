@@ -10,7 +10,7 @@ use Rattle.std.proofs.lemmas.Option.{slice_get-map, slice_get_read}
 use Rattle.std.proofs.Math.Seq.{map-set_same}
 use Rattle.std.proofs.Math.ListN.{get_or-map}
 use Rattle.ticket_core.specs.Tickets.{start_tickets}
-use Rattle.tick_syntax.specs.Plain.{WholeProgram}
+use Rattle.tick_tree.specs.Plain.{WholeProgram}
 use Rattle.machine_core.specs.Rows.{start_rows}
 use Rattle.machine_core.specs.declared.status.Status.TheVariants.{Running}
 use Rattle.base.specs.declared.no_memory.NoMemory.{NoMemory}

@@ -1,7 +1,7 @@
 -- A ticket program as it runs on whole-number tickets: the state, what one step does, and the run.
 use Rattle.std.specs.Prelude.{◌≡◌, ℕ, ◌==◌, nat_lt, if◌then◌else◌, List, [], ◌∷◌, length, map, replicate, slice_get, slice_set, slice_index_or, Option, Some, None, Result, Ok, Err, IsOk}
 use Rattle.ticket_core.specs.Tickets.{start_tickets, stamp_ticket, clear_ticket, ticket_ranks, older_ticket, holds_ticket}
-use Rattle.tick_syntax.specs.Plain.{Statement, assign, get, put, stamp, clear, scan, copy, older, held, out, branch, repeat, Block, nil, cons, onto, WholeProgram}
+use Rattle.tick_tree.specs.Plain.{Statement, assign, get, put, stamp, clear, scan, copy, older, held, out, branch, repeat, Block, nil, cons, onto, WholeProgram}
 use Rattle.machine_core.specs.declared.status.Trap.{Trap}
 use Rattle.machine_core.specs.declared.status.Trap.TheVariants as T
 use Rattle.machine_core.specs.declared.status.Status.{Status}

@@ -2,7 +2,7 @@
 use Rattle.std.specs.Prelude.{ℕ, List, slice_index, Result, Ok, Err}
 use Rattle.machine_core.specs.declared.operator.Op.{Op}
 use Rattle.machine_core.specs.Operators.{operation}
-use Rattle.tick_syntax.specs.Plain.{Expression, number, named, me, count, binary}
+use Rattle.tick_tree.specs.Plain.{Expression, number, named, me, count, binary}
 use Rattle.machine_core.specs.declared.status.Trap.{Trap}
 
 -- of two operands the left one counts first

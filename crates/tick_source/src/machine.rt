@@ -24,7 +24,7 @@ pub struct SourceMachine<'a> {
 impl<'a> Model for SourceMachine<'a> {
     ghost use Rattle.std.specs.Coded.{codes};
     ghost use Rattle.tick_source.specs.Source.{SourceState};
-    ghost use Rattle.tick_syntax.specs.prover.Coding.{resolved_blocks};
+    ghost use Rattle.tick_tree.specs.prover.Coding.{resolved_blocks};
 
     ghost Value = { SourceState };
 

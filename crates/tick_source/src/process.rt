@@ -1,7 +1,7 @@
 ghost use Rattle.std.specs.Prelude.{◌≡◌, ◌<◌, length, OnOk, OnErr, IfOk, IsOk};
 ghost use Rattle.std.specs.List.{All};
 ghost use Rattle.tick_kinds.specs.Resolved.{resolved_expression, resolved_statement, resolved_block};
-ghost use Rattle.tick_syntax.specs.Plain.{assign, get, put, stamp, clear, scan, copy, older, held, out, branch, repeat, number, cons};
+ghost use Rattle.tick_tree.specs.Plain.{assign, get, put, stamp, clear, scan, copy, older, held, out, branch, repeat, number, cons};
 ghost use Rattle.tick_source.specs.prover.Remaining.{after_first};
 ghost use Rattle.tick_source.specs.Source.{scan_at, start_process, IsQuiet, HasQuietFirst};
 ghost use Rattle.tick_source.specs.prover.Machine.{process_of};

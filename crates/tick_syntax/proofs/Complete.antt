@@ -25,7 +25,7 @@
 -- It goes through because the first token of what is left decides which rule it is: `statement_terminal` and
 -- `right_terminal` say so, and hold by computation.
 use Rattle.std.proofs.Common.{append_assoc, map, ◌≡◌, ℕ, zero, suc, ◌<◌, ◌≤◌, false, List, [], ◌∷◌, ◌++◌, length, Ok, Bor, refl, sym, ◌∙◌, ap, subst, arith}
-use Rattle.tick_syntax.specs.declared.span.Span.{Span}
+use Rattle.tick_tree.specs.declared.span.Span.{Span}
 use Rattle.tick_syntax.specs.declared.valued_token.ValuedToken.{ValuedToken}
 use Rattle.tick_syntax.specs.declared.valued_token.Ending.{Ending}
 use Rattle.tick_syntax.specs.declared.valued_token.Ending.TheVariants as N
@@ -37,7 +37,7 @@ use Rattle.machine_core.specs.declared.operator.Op.{Op}
 use Rattle.tick_syntax.specs.declared.terminals.Terminal.{Terminal}
 use Rattle.tick_syntax.specs.declared.terminals.Terminal.TheVariants as T
 use Rattle.tick_syntax.specs.Lexeme.{Lexeme, a_name, a_number, a_terminal}
-use Rattle.tick_syntax.specs.Plain.{Name, Expression, number, named, me, count, binary, Statement, assign, get, put, stamp, clear, scan, copy, older, held, out, branch, repeat, Block, nil, cons, WholeProgram}
+use Rattle.tick_tree.specs.Plain.{Name, Expression, number, named, me, count, binary, Statement, assign, get, put, stamp, clear, scan, copy, older, held, out, branch, repeat, Block, nil, cons, WholeProgram}
 use Rattle.tick_syntax.specs.Grammar.{expression_tokens, in_braces, statement_tokens, block_tokens, names_tokens, section_tokens, program_tokens, second_span}
 use Rattle.tick_syntax.specs.Nesting.{expression_nesting, statement_nesting, block_nesting, nesting}
 use Rattle.machine_core.specs.Refusing.{◌>>=◌}

@@ -9,7 +9,6 @@ pub mod TokensSoFar
 pub mod WordsAreAscii
 pub mod TokensTold
 mod GrammarExamples
-pub mod Rows
 pub mod Symbols
 pub mod Sound
 pub mod SoundStatements

@@ -2,5 +2,4 @@
 -- statements with blocks.
 pub use Rattle.tick_syntax.proofs.Beginnings.{program_text_begins}
 pub use Rattle.tick_syntax.proofs.Decided.{one_program, one_refusal, never_both, never_neither}
-pub use Rattle.tick_syntax.proofs.Rows.{statement_of_branch, statement_of_repeat}
 pub use Rattle.tick_syntax.proofs.Beginnings.{program_text_begins}

@@ -16,7 +16,7 @@
 -- all such tokens. A right-hand side that begins with no keyword of its own is an expression and a `;`: the symbol
 -- `s_right` then takes what these two take (`stand_in`).
 use Rattle.std.proofs.Common.{append_assoc, ◌≡◌, ℕ, zero, suc, ◌<◌, ◌≤◌, List, [], ◌∷◌, ◌++◌, length, Ok, refl, sym, ◌∙◌, ap, subst, arith}
-use Rattle.tick_syntax.specs.declared.span.Span.{Span}
+use Rattle.tick_tree.specs.declared.span.Span.{Span}
 use Rattle.tick_syntax.specs.declared.valued_token.ValuedToken.{ValuedToken}
 use Rattle.tick_syntax.specs.declared.valued_token.Ending.{Ending}
 use Rattle.tick_syntax.specs.declared.valued_token.Ending.TheVariants as N
@@ -25,7 +25,7 @@ use Rattle.tick_syntax.specs.declared.valued_token.Meaning.TheVariants as M
 use Rattle.tick_syntax.specs.declared.terminals.Terminal.{Terminal}
 use Rattle.tick_syntax.specs.declared.terminals.Terminal.TheVariants as T
 use Rattle.tick_syntax.specs.Lexeme.{Lexeme, a_name, a_terminal}
-use Rattle.tick_syntax.specs.Plain.{Name, Expression, Statement, get, put, stamp, clear, scan, held, Block, nil}
+use Rattle.tick_tree.specs.Plain.{Name, Expression, Statement, get, put, stamp, clear, scan, held, Block, nil}
 use Rattle.tick_syntax.specs.Grammar.{expression_tokens, in_braces, statement_tokens, block_tokens}
 use Rattle.tick_syntax.specs.Nesting.{expression_nesting, statement_nesting, block_nesting}
 use Rattle.machine_core.specs.Refusing.{◌>>=◌}

@@ -1,8 +1,6 @@
 pub mod Characters
 pub mod Spelling
 pub mod Terminals
-pub mod Plain
-pub mod View
 pub mod Lexeme
 pub mod Grammar
 pub mod Nesting

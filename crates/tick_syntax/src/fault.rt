@@ -1,6 +1,6 @@
-use crate::span::Span;
 use std::alloc::{AllocError, AllocFailed};
 use thiserror::Error;
+use tick_tree::span::Span;
 
 /// Why a text is refused. Places and spans are in bytes of the text, from 0.
 #[derive(Clone, Copy, PartialEq, Eq, Debug, Error)]

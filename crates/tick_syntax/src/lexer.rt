@@ -12,11 +12,11 @@ ghost use Rattle.tick_syntax.specs.declared.token.Token.{Token};
 use crate::characters::is_letter;
 use crate::extents::{gap_end, number_end, number_value, sign_end, word_end};
 use crate::fault::TextFault;
-use crate::span::Span;
 use crate::terminals::{keyword_of, sign_of};
 use crate::token::Token;
 use crate::valued_token::{Meaning, ValuedToken};
 use std::alloc::Global;
+use tick_tree::span::Span;
 
 const TEXT_LIMIT: usize = 1_000_000;
 

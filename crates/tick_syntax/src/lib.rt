@@ -10,13 +10,12 @@ pub mod laws;
 mod lexer;
 mod parser;
 mod printer;
-pub mod span;
 pub mod terminals;
 pub mod token;
-pub mod tree;
 mod valued_token;
 
 pub use fault::TextFault;
 pub use lexer::tokens;
 pub use parser::parse;
 pub use printer::print;
+pub use tick_tree::{span, tree};

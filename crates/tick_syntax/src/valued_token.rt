@@ -3,9 +3,9 @@ ghost use Rattle.std.specs.Prelude.{◌≡◌};
 ghost use Rattle.tick_syntax.specs.prover.Reading.{ends, begins};
 ghost use Rattle.tick_syntax.specs.prover.ValuedTokens.{is_sign_terminal, plain};
 
-use crate::span::Span;
 use crate::terminals::Terminal;
 use crate::token::{Sort, Token};
+use tick_tree::span::Span;
 
 /// What a token says.
 #[derive(Clone, Copy)]

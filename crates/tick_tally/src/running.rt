@@ -4,11 +4,11 @@ ghost use Rattle.tick_tally.specs.Tallies.{IsOutcomeText, AreDistinct, AreCommon
 
 use crate::counting::{Counted, count_texts};
 use code_core::Code;
+use code_machine::Ask;
 use machine_core::NoMemory;
 use std::alloc::{AllocError, Global};
 use std::sync::Wait;
 use std::thread::Threads;
-use step_code::Ask;
 use tick_play::outcome_text;
 use tick_run::{Gate, RunFault, run};
 

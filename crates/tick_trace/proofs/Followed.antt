@@ -12,12 +12,12 @@ use Rattle.machine_core.specs.declared.event.Event.{Event}
 use Rattle.machine_core.specs.declared.status.Status.{Status}
 use Rattle.machine_core.specs.declared.status.Status.TheVariants.{Running, Ended, Trapped}
 use Rattle.machine_core.specs.Observables.{told}
-use Rattle.tick_syntax.specs.Plain.{Statement, assign, get, put, stamp, clear, scan, copy, older, held, out, branch, repeat, Block, nil, cons, onto}
+use Rattle.tick_tree.specs.Plain.{Statement, assign, get, put, stamp, clear, scan, copy, older, held, out, branch, repeat, Block, nil, cons, onto}
 use Rattle.tick_kinds.specs.Resolved.{resolved_statement}
 use Rattle.tick_source.specs.Values.{value}
 use Rattle.tick_source.specs.Source.{SourceProcess, SourceState, SourceStep, with_value, does, did, source_step, step_of, step_as, statuses_of}
 use Rattle.code_core.specs.declared.instr.Instr.{Instr}
-use Rattle.step_code.specs.Machine as C
+use Rattle.code_machine.specs.Machine as C
 use Rattle.tick_trace.specs.declared.links.Link.{Link}
 use Rattle.tick_trace.specs.Numbers.{remains, IsNumber}
 use Rattle.tick_trace.specs.StatementSteps.{running_as, running_at, remaining, first_target, target, wrote, IsStatementStep}

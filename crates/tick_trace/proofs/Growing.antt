@@ -6,11 +6,11 @@ use Rattle.std.proofs.lemmas.List.{length-append, take_more}
 use Rattle.std.proofs.lemmas.Option.{same_Some, none-some, slice_get_within}
 use Rattle.machine_core.specs.declared.event.Event.{Event}
 use Rattle.machine_core.specs.Observables.{told}
-use Rattle.tick_syntax.specs.Plain.{WholeProgram}
+use Rattle.tick_tree.specs.Plain.{WholeProgram}
 use Rattle.tick_source.specs.Source.{SourceState, source, source_start, source_step, source_run}
 use Rattle.code_core.specs.declared.instr.Instr.{Instr}
 use Rattle.code_core.specs.Instructions.{StepCode}
-use Rattle.step_code.specs.Machine.{CodeState, code_start, code_step, code_run, run_of}
+use Rattle.code_machine.specs.Machine.{CodeState, code_start, code_step, code_run, run_of}
 use Rattle.tick_trace.specs.declared.steps.StatementStep.{StatementStep}
 use Rattle.tick_trace.specs.declared.steps.InstructionStep.{InstructionStep}
 use Rattle.tick_trace.specs.StatementSteps as S

@@ -6,7 +6,7 @@ use Rattle.machine_core.specs.Observables.{told}
 use Rattle.code_core.specs.declared.instr.Instr.{Instr}
 use Rattle.code_core.specs.declared.instr.Instr.TheVariants as I
 use Rattle.code_core.specs.Instructions.{StepCode}
-use Rattle.step_code.specs.Machine.{CodeState, places_of, next_instruction, code_step, run_of}
+use Rattle.code_machine.specs.Machine.{CodeState, places_of, next_instruction, code_step, run_of}
 use Rattle.tick_trace.specs.declared.steps.InstructionStep.{InstructionStep}
 use Rattle.tick_trace.specs.Shown.{shown}
 

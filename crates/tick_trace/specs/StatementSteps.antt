@@ -4,7 +4,7 @@ use Rattle.machine_core.specs.declared.event.Event.{Event}
 use Rattle.machine_core.specs.declared.status.Status.{Status}
 use Rattle.machine_core.specs.declared.status.Status.TheVariants.{Running}
 use Rattle.machine_core.specs.Observables.{told}
-use Rattle.tick_syntax.specs.Plain.{Statement, assign, get, older, held, Block, nil, cons, WholeProgram}
+use Rattle.tick_tree.specs.Plain.{Statement, assign, get, older, held, Block, nil, cons, WholeProgram}
 use Rattle.tick_source.specs.Source.{SourceProcess, SourceState, source, source_step}
 use Rattle.tick_trace.specs.declared.steps.StatementStep.{StatementStep}
 use Rattle.tick_trace.specs.declared.steps.Written.{Written}

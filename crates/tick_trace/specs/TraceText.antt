@@ -11,7 +11,7 @@ use Rattle.word_core.specs.Stamps.{Labels, label_at, is_present}
 use Rattle.word_core.specs.Order.{label_ranks}
 use Rattle.code_core.specs.declared.instr.Instr.{Instr}
 use Rattle.code_text.specs.CodeText.{instr_text}
-use Rattle.tick_syntax.specs.Plain.{Name, WholeProgram}
+use Rattle.tick_tree.specs.Plain.{Name, WholeProgram}
 use Rattle.tick_trace.specs.Places.{Standing}
 use Rattle.tick_trace.specs.declared.steps.Written.{Written}
 use Rattle.tick_trace.specs.declared.steps.StatementStep.{StatementStep}

@@ -1,14 +1,14 @@
 ghost use Rattle.std.specs.Prelude.{◌≡◌, ◌<◌, [], ◌∷◌, ◌++◌, IfOk, OnOk, All, length, map, option_map};
-ghost use Rattle.step_code.specs.Machine.{code_step, run_of};
+ghost use Rattle.code_machine.specs.Machine.{code_step, run_of};
 ghost use Rattle.tick_trace.specs.declared.steps.InstructionStep.{InstructionStep};
 ghost use Rattle.tick_trace.specs.InstructionSteps.{AreInstructionSteps, IsInstructionStep, events_after, is_lost};
 
 use crate::shown::{act_after, shown};
 use crate::steps::InstructionStep;
 use code_core::{Code, Instr};
+use code_machine::{CodeMachine, Made};
 use machine_core::{Act, NoMemory};
 use std::alloc::Global;
-use step_code::{CodeMachine, Made};
 
 /// Each step of the code under the schedule. Each number in the schedule is below the number of
 /// processes.

@@ -10,8 +10,8 @@ ghost use Rattle.tick_trace.specs.prover.Heads.{HasPassed, IsCut};
 use crate::heads::heads;
 use std::alloc::Global;
 use tick_kinds::Program;
-use tick_syntax::span::Span;
 use tick_syntax::{TextFault, tokens};
+use tick_tree::span::Span;
 
 /// A statement as it stands in a text.
 #[derive(Clone, Copy, PartialEq, Eq, Debug)]

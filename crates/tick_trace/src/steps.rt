@@ -4,7 +4,7 @@ use ticket_core::Tickets;
 use word_core::LabelWord;
 
 /// A variable that a step wrote.
-#[derive(Clone, Copy, PartialEq, Eq, Debug)]
+#[derive(Clone, Copy)]
 pub struct Written {
     /// Its number, in the order in which variables are declared.
     pub variable: u8,
@@ -14,7 +14,7 @@ pub struct Written {
 
 /// A step of a program on whole-number tickets. A step of a process that had stopped has neither a
 /// number nor an act.
-#[derive(Clone, Copy, PartialEq, Eq, Debug)]
+#[derive(Clone, Copy)]
 pub struct StatementStep {
     pub process: u8,
     /// Of the statement that it did, from 0 on in the order of the text; `None` where the process had
@@ -29,7 +29,7 @@ pub struct StatementStep {
 }
 
 /// A step of a code on bounded labels.
-#[derive(Clone, Copy, PartialEq, Eq, Debug)]
+#[derive(Clone, Copy)]
 pub struct InstructionStep {
     pub process: u8,
     /// Where its instruction stands; of a process that had stopped, where its last stands.

@@ -1,7 +1,7 @@
 //! What a step showed, in words.
 
 ghost use Rattle.std.specs.Prelude.{◌≡◌, ◌++◌, OnOk, Some, map, string_bytes, take};
-ghost use Rattle.tick_syntax.specs.View.{name_of};
+ghost use Rattle.tick_tree.specs.View.{name_of};
 ghost use Rattle.tick_trace.specs.TraceText.{act_text, name_at, rank_text, ranks_text, register_text, trap_text, variable_text};
 
 use machine_core::{Act, Trap};
@@ -9,7 +9,7 @@ use std::alloc::AllocError;
 use std::fmt::Write;
 use text_core::push_number;
 use tick_kinds::Program;
-use tick_syntax::tree::Named;
+use tick_tree::tree::Named;
 
 /// What others see of a step of process `p`.
 pub fn push_act(text: &mut String, program: &Program, p: u8, act: Act) -> Result<(), AllocError>

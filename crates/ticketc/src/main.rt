@@ -1,10 +1,11 @@
 //! `ticketc` answers one command line from standard input to standard output, and ends with the
 //! status of its answer.
 //!
-//! There is `main` alone; start with `ended` of `host_io`, which does it all.
+//! There is `main` alone; start with `ended` of `engine`, which does it all.
 #![tactic(auto)]
 
-use host_io::{HostReader, HostWriter, ended};
+use engine::ended;
+use host_io::{HostReader, HostWriter};
 use std::env::args;
 use std::process::ExitCode;
 

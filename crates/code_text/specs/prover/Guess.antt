@@ -37,6 +37,25 @@ operator text =
     else if bytes_eq text (codes "==") then O.Equal
     else O.Differs
 
+abbrev pub last : List ℕ → ℕ → ℕ → ℕ → Instr
+last name slot other place =
+    if bytes_eq name (codes "Older") then I.Older slot other
+    else if bytes_eq name (codes "Out") then I.Out
+    else if bytes_eq name (codes "JumpZero") then I.JumpZero place
+    else if bytes_eq name (codes "Jump") then I.Jump place
+    else if bytes_eq name (codes "Clear") then I.Clear
+    else if bytes_eq name (codes "Held") then I.Held slot other
+    else I.Halt
+
+abbrev pub further : List ℕ → ℕ → ℕ → ℕ → Instr
+further name slot other place =
+    if bytes_eq name (codes "LoadWord") then I.LoadWord
+    else if bytes_eq name (codes "Next") then I.Next
+    else if bytes_eq name (codes "Exchange") then I.Exchange place
+    else if bytes_eq name (codes "Scan") then I.Scan slot
+    else if bytes_eq name (codes "Copy") then I.Copy slot other
+    else last name slot other place
+
 abbrev pub named : List ℕ → ℕ → ℕ → Instr
 named name a b =
     if bytes_eq name (codes "Push") then I.Push a
@@ -46,18 +65,7 @@ named name a b =
     else if bytes_eq name (codes "Store") then I.Store (a % 256)
     else if bytes_eq name (codes "Get") then I.Get (a % 256) (b % 256)
     else if bytes_eq name (codes "Put") then I.Put (a % 256)
-    else if bytes_eq name (codes "LoadWord") then I.LoadWord
-    else if bytes_eq name (codes "Next") then I.Next
-    else if bytes_eq name (codes "Exchange") then I.Exchange (a % 65536)
-    else if bytes_eq name (codes "Scan") then I.Scan (a % 256)
-    else if bytes_eq name (codes "Copy") then I.Copy (a % 256) (b % 256)
-    else if bytes_eq name (codes "Older") then I.Older (a % 256) (b % 256)
-    else if bytes_eq name (codes "Out") then I.Out
-    else if bytes_eq name (codes "JumpZero") then I.JumpZero (a % 65536)
-    else if bytes_eq name (codes "Jump") then I.Jump (a % 65536)
-    else if bytes_eq name (codes "Clear") then I.Clear
-    else if bytes_eq name (codes "Held") then I.Held (a % 256) (b % 256)
-    else I.Halt
+    else further name (a % 256) (b % 256) (a % 65536)
 
 abbrev pub second : List ℕ → ℕ × List ℕ
 second text = leading 0 (drop 1 (leading 0 text).1)

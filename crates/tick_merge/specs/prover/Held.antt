@@ -5,7 +5,7 @@ use Rattle.machine_core.specs.declared.status.Status.TheVariants.{Running}
 use Rattle.word_core.specs.History.{Memory}
 use Rattle.word_core.specs.declared.history.SharedAct.{SharedAct}
 use Rattle.code_core.specs.declared.instr.Instr.{Instr}
-use Rattle.step_code.specs.Machine.{CodeProcess, CodeStep, alone, asks, did}
+use Rattle.code_machine.specs.Machine.{CodeProcess, CodeStep, alone, asks, did}
 use Rattle.tick_merge.specs.Ran.{act_by}
 use Rattle.tick_merge.specs.Merged.{alone_for}
 use Rattle.tick_merge.specs.declared.words.Words.{Words}

@@ -5,8 +5,8 @@ use Rattle.word_core.specs.declared.history.Shared.{Shared}
 use Rattle.code_core.specs.Instructions.{StepCode}
 use Rattle.code_core.specs.Verified.{IsVerified}
 use Rattle.machine_core.specs.declared.status.Status.TheVariants.{Running}
-use Rattle.step_code.specs.Machine.{CodeProcess, Moved, alone, did, start_process}
-use Rattle.step_code.specs.Process.{OneProcess, IsOf}
+use Rattle.code_machine.specs.Machine.{CodeProcess, Moved, alone, did, start_process}
+use Rattle.code_machine.specs.Process.{OneProcess, IsOf}
 use Rattle.tick_merge.specs.Ran.{run_under, occurs}
 use Rattle.tick_merge.specs.Merged.{alone_of, turns_left, led, through, merged, IsMerged}
 use Rattle.tick_merge.specs.Laws.{MakesIts, AllMake}

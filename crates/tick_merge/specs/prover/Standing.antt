@@ -4,7 +4,7 @@ use Rattle.machine_core.specs.declared.event.Event.{Event}
 use Rattle.word_core.specs.History.{memory_of}
 use Rattle.word_core.specs.declared.history.Shared.{Shared}
 use Rattle.code_core.specs.Instructions.{StepCode}
-use Rattle.step_code.specs.Machine.{CodeProcess}
+use Rattle.code_machine.specs.Machine.{CodeProcess}
 use Rattle.stamp_table.specs.Passes.{mine}
 use Rattle.code_local.specs.Local.{Local, IsLocalRun}
 use Rattle.tick_merge.specs.Ran.{run_under, memory_in, shared_of, AllRun, occurs, events_by}

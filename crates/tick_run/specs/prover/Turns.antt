@@ -9,10 +9,10 @@ use Rattle.machine_core.specs.declared.run_outcome.RunEnd.TheVariants as E
 use Rattle.word_core.specs.declared.history.Shared.{Shared}
 use Rattle.word_core.specs.declared.history.SharedAct.{SharedAct}
 use Rattle.code_core.specs.Instructions.{StepCode}
-use Rattle.step_code.specs.declared.ask.Ask.{Ask}
-use Rattle.step_code.specs.declared.ask.Reply.{Reply}
-use Rattle.step_code.specs.Machine.{CodeProcess}
-use Rattle.step_code.specs.Process.{gives_out}
+use Rattle.code_machine.specs.declared.ask.Ask.{Ask}
+use Rattle.code_machine.specs.declared.ask.Reply.{Reply}
+use Rattle.code_machine.specs.Machine.{CodeProcess}
+use Rattle.code_machine.specs.Process.{gives_out}
 use Rattle.stamp_table.specs.Passes.{TableView, mine, by}
 use Rattle.code_local.specs.Local.{Local, IsLocalRun, outputs_of, act_of, TellsLabels}
 use Rattle.tick_run.specs.declared.worker.Turn.{Turn}

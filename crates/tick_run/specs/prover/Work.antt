@@ -2,8 +2,8 @@
 use Rattle.std.specs.Prelude.{◌≡◌, ◌<◌, ◌≤◌, ℕ, min, List, [], length, slice_get, Some, vec_items, vec_capacity}
 use Rattle.machine_core.specs.declared.run_outcome.RunEnd.{RunEnd}
 use Rattle.code_core.specs.Instructions.{StepCode}
-use Rattle.step_code.specs.Machine.{start_process}
-use Rattle.step_code.specs.Process.{OneProcess, IsOf}
+use Rattle.code_machine.specs.Machine.{start_process}
+use Rattle.code_machine.specs.Process.{OneProcess, IsOf}
 use Rattle.stamp_table.specs.Passes.{TableView, PassView, Holds, mine}
 use Rattle.tick_run.specs.prover.Alone.{RanSo}
 use Rattle.tick_run.specs.prover.Turns.{IsAt}

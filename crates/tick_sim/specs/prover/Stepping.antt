@@ -3,7 +3,7 @@ use Rattle.std.specs.Prelude.{◌≡◌, ℕ, Bool, ◌||◌, List}
 use Rattle.code_core.specs.declared.instr.Instr.{Instr}
 use Rattle.code_core.specs.declared.instr.Instr.TheVariants as I
 use Rattle.code_core.specs.Verified.{IsVerified}
-use Rattle.step_code.specs.Machine.{CodeRun, run_of}
+use Rattle.code_machine.specs.Machine.{CodeRun, run_of}
 use Rattle.tick_lower.specs.Commits.{ends_step}
 
 -- a state of a run of its code, which is verified

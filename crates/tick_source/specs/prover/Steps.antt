@@ -1,6 +1,6 @@
 -- What a step of one process does to what the machine holds.
 use Rattle.std.specs.Prelude.{◌≡◌, ℕ, length}
-use Rattle.tick_syntax.specs.Plain.{Statement}
+use Rattle.tick_tree.specs.Plain.{Statement}
 use Rattle.machine_core.specs.declared.status.Trap.{Trap}
 use Rattle.tick_source.specs.declared.process.Process.{Process}
 use Rattle.tick_source.specs.declared.memory.SourceMemory.{SourceMemory}

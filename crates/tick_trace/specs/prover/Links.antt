@@ -3,7 +3,7 @@ use Rattle.std.specs.Prelude.{◌≡◌, ℕ, suc, ◌+◌, ◌==◌, Bool, fals
 use Rattle.machine_core.specs.declared.status.Trap.{Trap}
 use Rattle.machine_core.specs.declared.status.Status.{Status}
 use Rattle.machine_core.specs.declared.status.Status.TheVariants.{Running}
-use Rattle.tick_syntax.specs.Plain.{Statement, branch, repeat, Block, nil, cons, onto}
+use Rattle.tick_tree.specs.Plain.{Statement, branch, repeat, Block, nil, cons, onto}
 use Rattle.tick_kinds.specs.Resolved.{resolved_statement}
 use Rattle.tick_source.specs.Values.{value}
 use Rattle.tick_source.specs.Source.{SourceProcess}

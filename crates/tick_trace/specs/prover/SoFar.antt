@@ -1,9 +1,9 @@
 -- The steps of the first items of a schedule.
 use Rattle.std.specs.Prelude.{◌≡◌, ℕ, List, [], length, map, take, slice_get, slice_index, Some}
-use Rattle.tick_syntax.specs.Plain.{WholeProgram}
+use Rattle.tick_tree.specs.Plain.{WholeProgram}
 use Rattle.tick_source.specs.Source.{source, source_step}
 use Rattle.code_core.specs.Instructions.{StepCode}
-use Rattle.step_code.specs.Machine.{code_step, run_of}
+use Rattle.code_machine.specs.Machine.{code_step, run_of}
 use Rattle.tick_trace.specs.declared.steps.StatementStep.{StatementStep}
 use Rattle.tick_trace.specs.declared.steps.InstructionStep.{InstructionStep}
 use Rattle.tick_trace.specs.StatementSteps as S

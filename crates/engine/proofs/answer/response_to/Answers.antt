@@ -1,4 +1,4 @@
-use Rattle.engine.specs.prover.Responses.{plain_command}
+use Rattle.ticketc_lines.specs.Command.{plain_command}
 use Rattle.engine.proofs.RunLemmas.{stop_answered}
 use Rattle.engine.proofs.answer.response_to.Goals as goal
 

@@ -1,4 +1,4 @@
-use Rattle.engine.specs.Commands.{command_for}
+use Rattle.ticketc_lines.specs.Command.{command_for}
 use Rattle.engine.proofs.AnswerLemmas.{answers_determined}
 use Rattle.engine.proofs.laws.law_answers.Goals as goal
 

@@ -1,5 +1,5 @@
 use Rattle.std.proofs.Common.{ap, subst, sym}
-use Rattle.engine.specs.Answer.{done}
+use Rattle.ticketc_lines.specs.Answer.{done}
 use Rattle.engine.specs.Lowered.{emit_answer, lowered_answer}
 use Rattle.engine.specs.Programs.{IsTextAnswer}
 use Rattle.engine.proofs.LoweredLemmas.{lowered_answered}

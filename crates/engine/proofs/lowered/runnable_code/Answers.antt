@@ -1,5 +1,5 @@
 use Rattle.std.proofs.Common.{◌≡◌, ◌∙◌, false, subst, sym}
-use Rattle.engine.specs.Answer.{refused}
+use Rattle.ticketc_lines.specs.Answer.{refused}
 use Rattle.engine.specs.Lowered.{IsEitherAnswer, IsEitherCode, begins_as_code}
 use Rattle.engine.proofs.Weakening.{if_ok, if_err, if_refused}
 use Rattle.engine.proofs.lowered.runnable_code.Goals as goal

@@ -1,6 +1,6 @@
 use Rattle.std.proofs.Common.{◌∙◌, ap}
 use Rattle.tick_syntax.specs.Printed.{printed}
-use Rattle.engine.specs.Answer.{done}
+use Rattle.ticketc_lines.specs.Answer.{done}
 use Rattle.engine.specs.Programs.{accepted, check_answer}
 use Rattle.engine.proofs.Weakening.{err_is}
 use Rattle.engine.proofs.program.check_text.Goals as goal

@@ -1,6 +1,6 @@
 use Rattle.std.proofs.Common.{refl, string_bytes}
-use Rattle.engine.specs.Answer.{done}
-use Rattle.engine.specs.declared.command.Command.TheVariants.{Run}
+use Rattle.ticketc_lines.specs.Answer.{done}
+use Rattle.ticketc_lines.specs.declared.command.Command.TheVariants.{Run}
 use Rattle.engine.proofs.RunLemmas.{run_done, run_refused, stop_answered}
 use Rattle.engine.proofs.Weakening.{err_is, if_refused}
 use Rattle.engine.proofs.runs.run_response.Goals as goal

@@ -1,6 +1,6 @@
 use Rattle.std.proofs.Common.{ℕ, List, Ok, ap, subst}
 use Rattle.engine.specs.Commands.{is_run}
-use Rattle.engine.specs.declared.command.Command.TheVariants.{Run}
+use Rattle.ticketc_lines.specs.declared.command.Command.TheVariants.{Run}
 use Rattle.engine.specs.prover.Responses.{IsAnswered}
 use Rattle.engine.proofs.ServingLemmas.{served_from}
 use Rattle.engine.proofs.serving.engine.Goals as goal

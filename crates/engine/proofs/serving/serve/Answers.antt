@@ -1,8 +1,10 @@
 use Rattle.std.proofs.Common.{◌≡◌, ◌∙◌, true, false, true≢false, Err, Ok, Option, List, ℕ, ap, arith, refl, subst, sym}
 use Rattle.command_line.specs.declared.request.Request.{Request}
-use Rattle.engine.specs.Commands.{command_for, is_run, runs}
+use Rattle.ticketc_lines.specs.Command.{command_for}
+use Rattle.engine.specs.Commands.{is_run, runs}
 use Rattle.engine.specs.declared.fault.EngineFault.TheVariants.{Memory}
-use Rattle.engine.specs.prover.Responses.{IsAnswered, plain_command}
+use Rattle.ticketc_lines.specs.Command.{plain_command}
+use Rattle.engine.specs.prover.Responses.{IsAnswered}
 use Rattle.engine.proofs.ServingLemmas.{gave_response, no_run, answered_on_any, served_from, takes_none, unanswered}
 use Rattle.engine.proofs.Weakening.{err_is}
 use Rattle.engine.proofs.serving.serve.Goals as goal

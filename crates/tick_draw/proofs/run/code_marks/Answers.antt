@@ -1,6 +1,6 @@
 use Rattle.std.proofs.Common.{◌≡◌, ◌∙◌, ◌+◌, ap, sym, arith, length, get_or}
 use Rattle.std.proofs.lemmas.List.{length-replicate}
-use Rattle.step_code.specs.Machine.{code_start, code_step, start_process, next_instruction}
+use Rattle.code_machine.specs.Machine.{code_start, code_step, start_process, next_instruction}
 use Rattle.tick_draw.specs.declared.mark.Holdings.TheVariants as H
 use Rattle.tick_draw.specs.Marks.{code_marks_on, marks_of_code, with_made, told_after}
 use Rattle.tick_draw.proofs.Runs.{code_marks_more, code_marks_done}

@@ -1,5 +1,5 @@
 use Rattle.std.proofs.Common.{inl}
-use Rattle.tick_syntax.specs.View.{tree_of}
+use Rattle.tick_tree.specs.View.{tree_of}
 use Rattle.tick_explain.proofs.expected.begins_program.Goals as goal
 
 pub returns-in-Ok : goal.returns-in-Ok

@@ -1,7 +1,7 @@
 use Rattle.std.proofs.Common.{◌≡◌, ⊎_elim, true, false, ap, sym, ◌∙◌, vec_items}
 use Rattle.std.proofs.lemmas.List.{append-nil}
-use Rattle.step_code.specs.Machine.{did}
-use Rattle.step_code.specs.Process.{advance_as, after_advance_as}
+use Rattle.code_machine.specs.Machine.{did}
+use Rattle.code_machine.specs.Process.{advance_as, after_advance_as}
 use Rattle.tick_merge.proofs.Lists.{pushed_more}
 use Rattle.tick_merge.proofs.Advancing.{went, goes_start, goes_more, goes_stop}
 use Rattle.tick_merge.proofs.process.go_alone.Goals as goal

@@ -1,5 +1,5 @@
 use Rattle.std.proofs.Common.{◌≡◌, ◌++◌, replicate, vec_items}
-use Rattle.step_code.specs.Process.{IsOf}
+use Rattle.code_machine.specs.Process.{IsOf}
 use Rattle.tick_merge.specs.prover.Held.{GoesAlone}
 use Rattle.tick_merge.proofs.process.go_alone.Given as goal
 

@@ -1,5 +1,5 @@
 use Rattle.std.proofs.Common.{ap, sym, ◌∙◌, rules, Some}
-use Rattle.step_code.specs.Process.{next_of}
+use Rattle.code_machine.specs.Process.{next_of}
 use Rattle.tick_merge.specs.prover.Held.{memory_held}
 use Rattle.tick_merge.proofs.Advancing.{ask_next, ask_leaves}
 use Rattle.tick_merge.proofs.process.makes_act.Goals as goal

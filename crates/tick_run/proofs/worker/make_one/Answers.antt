@@ -1,6 +1,6 @@
 use Rattle.std.proofs.Common.{⊎_elim, refl, ap, sym, subst, ◌∙◌}
-use Rattle.step_code.specs.Machine.{did}
-use Rattle.step_code.specs.Process.{advance_of, after_advance, answered_by}
+use Rattle.code_machine.specs.Machine.{did}
+use Rattle.code_machine.specs.Process.{advance_of, after_advance, answered_by}
 use Rattle.stamp_table.specs.Passes.{mine}
 use Rattle.tick_run.specs.prover.Turns.{IsTurn}
 use Rattle.tick_run.specs.declared.worker.Turn.TheVariants as T

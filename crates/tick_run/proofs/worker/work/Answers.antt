@@ -1,7 +1,7 @@
 use Rattle.std.proofs.Common.{◌≡◌, ◌<◌, ◌≤◌, ◌+◌, rules, true, vec_items, vec_capacity, length, arith, sym}
 use Rattle.std.proofs.lemmas.Grind.{common_steps}
 use Rattle.std.specs.Prelude.{slice_get}
-use Rattle.step_code.specs.Process.{gives_out}
+use Rattle.code_machine.specs.Process.{gives_out}
 use Rattle.tick_run.proofs.Working.{after_went, after_gave, room_for_one, worked}
 use Rattle.tick_run.proofs.worker.work.Goals.{in-Went+else-has_stopped, in-Gave, else-loop-test, then-loop-test+in_default, then-loop-test+in-Some+else-is_past+in-Went+then-has_stopped}
 use Rattle.tick_run.proofs.worker.work.Goals as goal

@@ -1,7 +1,7 @@
 use Rattle.std.proofs.Common.{ℕ, ◌<◌, ◌++◌, ◌∙◌, ap, sym, refl, subst, get_or, All}
 use Rattle.tick_kinds.specs.Resolution.{resolved}
 use Rattle.tick_source.specs.Source.{SourceState, source_start}
-use Rattle.step_code.specs.Machine.{code_start}
+use Rattle.code_machine.specs.Machine.{code_start}
 use Rattle.tick_sim.specs.Maps.{up, up_from}
 use Rattle.tick_sim.specs.Laws.{seen_of_code}
 use Rattle.tick_sim.proofs.Maps.{all_done, up_more, up_lawful, running_commits, item_rests}

@@ -1,6 +1,6 @@
 use Rattle.std.proofs.Common.{◌∙◌, ◌++◌, ◌<◌, refl, ap, sym, subst, length, arith}
 use Rattle.std.proofs.lemmas.List.{append-nil}
-use Rattle.step_code.specs.Machine.{code_run}
+use Rattle.code_machine.specs.Machine.{code_run}
 use Rattle.tick_sim.proofs.Maps.{stopped_makes_none, lead_more, lead_end}
 use Rattle.tick_sim.proofs.Reached.{in_range, step_is, commit_is}
 use Rattle.tick_sim.proofs.expansion.lead_through.Goals as goal

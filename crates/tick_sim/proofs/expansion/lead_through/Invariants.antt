@@ -1,6 +1,6 @@
 -- The steps that are left until the process commits lead from here to where all of them lead.
 use Rattle.std.proofs.Common.{◌≡◌, ℕ, ◌-◌, ◌++◌, length, replicate, Some}
-use Rattle.step_code.specs.Machine.{code_run}
+use Rattle.code_machine.specs.Machine.{code_run}
 use Rattle.tick_sim.specs.Maps.{steps_to_commit, steps_of}
 use Rattle.tick_sim.specs.prover.Stepping.{IsReached}
 use Rattle.tick_sim.proofs.expansion.lead_through.Given as goal

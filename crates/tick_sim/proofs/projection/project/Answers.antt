@@ -1,6 +1,6 @@
 use Rattle.std.proofs.Common.{ℕ, ◌<◌, ◌∙◌, ap, sym, refl, subst, All}
 use Rattle.tick_kinds.specs.Resolution.{resolved}
-use Rattle.step_code.specs.Machine.{code_start}
+use Rattle.code_machine.specs.Machine.{code_start}
 use Rattle.tick_sim.specs.Maps.{down_from, down}
 use Rattle.tick_sim.specs.Laws.{seen}
 use Rattle.tick_sim.proofs.Maps.{all_done, down_lawful}

@@ -1,5 +1,5 @@
 use Rattle.std.proofs.Common.{◌≡◌, ◌∙◌, ap, sym, subst, get_or, take}
-use Rattle.step_code.specs.Machine.{code_step, run_of}
+use Rattle.code_machine.specs.Machine.{code_step, run_of}
 use Rattle.tick_trace.specs.InstructionSteps.{IsInstructionStep}
 use Rattle.tick_trace.proofs.Growing.{instructions_more, code_on}
 use Rattle.tick_trace.proofs.instructions.code_steps.Goals as goal

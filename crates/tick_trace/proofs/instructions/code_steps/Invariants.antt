@@ -1,5 +1,5 @@
 use Rattle.std.proofs.Common.{◌≡◌, length, take}
-use Rattle.step_code.specs.Machine.{run_of}
+use Rattle.code_machine.specs.Machine.{run_of}
 use Rattle.tick_trace.specs.prover.SoFar.{Instructions}
 use Rattle.tick_trace.proofs.instructions.code_steps.Given as goal
 

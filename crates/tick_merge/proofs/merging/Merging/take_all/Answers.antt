@@ -5,7 +5,7 @@ use Rattle.word_core.specs.declared.history.Shared.{Shared}
 use Rattle.word_core.specs.declared.history.SharedAct.TheVariants.{Load}
 use Rattle.word_core.specs.History.{Memory, MayFollow}
 use Rattle.word_core.proofs.OfferedHistory.{history_labels, history_ordered}
-use Rattle.step_code.specs.Safety.{AreOrdered}
+use Rattle.code_machine.specs.Safety.{AreOrdered}
 use Rattle.tick_merge.specs.prover.Held.{memory_held}
 use Rattle.tick_merge.specs.prover.Reached.{StepTaken, AllTaken}
 use Rattle.tick_merge.proofs.Ending.{take_one, taken_more, not_legal, not_this_code}

@@ -2,7 +2,7 @@ use Rattle.std.proofs.Common.{sym, subst, refl, arith, vec_items}
 use Rattle.std.proofs.lemmas.Option.{slice_get_read}
 use Rattle.word_core.specs.History.{Memory}
 use Rattle.word_core.proofs.OfferedHistory.{history_labels, history_ordered}
-use Rattle.step_code.specs.Safety.{AreOrdered}
+use Rattle.code_machine.specs.Safety.{AreOrdered}
 use Rattle.tick_merge.specs.prover.Reached.{IsHeld}
 use Rattle.tick_merge.proofs.Stepping.{no_turns, not_made, taken}
 use Rattle.tick_merge.proofs.merging.Merging.take_step.Goals as goal

@@ -1,0 +1,57 @@
+//! The whole program: the words that the host gave and two ends in, the status that it is told out.
+ghost use Rattle.std.specs.Prelude.{◌≡◌, IfErr, IfOk};
+ghost use Rattle.std.specs.Process.{exit_status};
+ghost use Rattle.std.specs.Vec.Iter.{into_iter_items};
+ghost use Rattle.engine.specs.Ended.{Ends, ServesWords};
+
+use crate::exit::exit_code;
+use crate::fault::EngineFault;
+use crate::serving::engine;
+use byte_io::{ByteSink, ByteSource};
+use std::alloc::Global;
+use std::env::Args;
+use std::io;
+use std::process::ExitCode;
+use std::sync::Wait;
+use std::thread::Threads;
+
+/// The status of words that the host couldn't give, as where one is no UTF-8.
+const NO_WORDS: u8 = 4;
+
+/// Serves the words of the command line, as `std::env::args` gave them.
+pub fn ended<A: AllocGlobal + Threads + Wait, R: ByteSource, W: ByteSink>(
+    rt: &A,
+    given: io::Result<Args>,
+    reader: &mut R,
+    writer: &mut W,
+) -> ExitCode
+    ensures { Ends given R.remaining R.counts W.written W.counts reader.old reader.new writer.old writer.new (exit_status result) }
+{
+    match given {
+        Ok(words) => exit_code(served(rt, words, reader, writer)),
+        Err(_) => ExitCode::from(NO_WORDS),
+    }
+}
+
+fn served<A: AllocGlobal + Threads + Wait, R: ByteSource, W: ByteSink>(
+    rt: &A,
+    given: Args,
+    reader: &mut R,
+    writer: &mut W,
+) -> Result<u8, EngineFault>
+    ensures { ServesWords given R.remaining R.counts W.written W.counts reader.old reader.new writer.old writer.new result }
+{
+    let words = words_of(rt.alloc(), given)?;
+    engine(rt, words.as_slice(), reader, writer)
+}
+
+fn words_of(alloc: Global, given: Args) -> Result<Vec<String>, EngineFault>
+    ensures ok { IfOk result (λ words. words.items ≡ into_iter_items given) }
+    ensures err { IfErr result (λ fault. fault ≡ EngineFault.Memory) }
+{
+    let mut words = Vec::new(alloc);
+    for word in given {
+        words.push(word)?;
+    }
+    Ok(words)
+}

@@ -1,0 +1,98 @@
+//! Programs on threads that go as they like, with random delays: each outcome is one of those that the
+//! machine has.
+
+use crate::every::{every_outcome, is_among};
+use crate::programs::{PROGRAMS, Small, code_of};
+use crate::random::Random;
+use code_machine::{Ask, Code};
+use std::hint::spin_loop;
+use std::sync::Wait;
+use std::sync::atomic::AtomicU64;
+use std::sync::atomic::Ordering::SeqCst;
+use std::test::Fail;
+use std::thread::{Threads, yield_now};
+use testing::{Polls, holds, is_same};
+use tick_run::{Gate, RunOutcome, run};
+
+const SEED: u64 = 20_260_731;
+
+const RUNS: u64 = 50;
+
+// Waits at its first call until all gates were called, so that no process is done before another starts.
+// From then on it waits a random while before each step.
+#[derive(Drop)]
+struct Delayed<'a> {
+    random: Random,
+    arrived: &'a AtomicU64,
+    polls: &'a Polls,
+    all: u64,
+    has_arrived: bool,
+}
+
+impl Gate for Delayed<'_> {
+    fn before(&mut self, _p: u8, _ask: Ask) {
+        if !self.has_arrived {
+            self.has_arrived = true;
+            self.arrived.fetch_add(1, SeqCst);
+            self.polls.wait(self.arrived, self.all);
+        }
+        // Mostly short, and now and then long.
+        let most = 1u64 << self.random.below(12);
+        for _ in 0..self.random.below(most) {
+            spin_loop();
+        }
+        if self.random.below(4) == 0 {
+            yield_now();
+        }
+    }
+}
+
+fn run_delayed<R: AllocGlobal + Threads + Wait>(
+    rt: &R,
+    code: &Code,
+    small: &Small,
+    seed: u64,
+) -> Result<RunOutcome, Fail> {
+    let arrived = AtomicU64::new(0);
+    let polls = Polls::new();
+    let n = code.sizes().processes();
+    let mut gates = Vec::new(rt.alloc());
+    for p in 0..n {
+        gates.push(Delayed {
+            random: Random::new(seed.wrapping_mul(8).wrapping_add(u64::from(p))),
+            arrived: &arrived,
+            polls: &polls,
+            all: u64::from(n),
+            has_arrived: false,
+        })?;
+    }
+    if gates.len() != n as usize {
+        return Err(Fail::from("a gate for each process"));
+    }
+    Ok(run(rt, rt.alloc(), code, gates, small.1, small.2)?)
+}
+
+fn comes_to_one_of_all<R: AllocGlobal + Threads + Wait>(
+    rt: &R,
+    small: &Small,
+    seed: u64,
+) -> Result<(), Fail> {
+    let code = code_of(rt.alloc(), small)?;
+    let all = every_outcome(rt.alloc(), &code, small.1, small.2)?;
+    is_same(&all.len(), &small.3)?;
+    for number in 0..RUNS {
+        let outcome = run_delayed(rt, &code, small, seed.wrapping_add(number))?;
+        holds(is_among(&outcome, &all), small.0)?;
+    }
+    Ok(())
+}
+
+#[test]
+fn each_outcome_is_one_of_all(rt: HostRuntime) -> Result<(), Fail> {
+    let mut seed = SEED;
+    for small in &PROGRAMS {
+        comes_to_one_of_all(&rt, small, seed)?;
+        seed = seed.wrapping_add(RUNS);
+    }
+    Ok(())
+}

@@ -1,0 +1,39 @@
+//! Programs on threads that keep an order of their steps on what is shared: they come to just what the
+//! machine comes to in that order.
+
+use crate::in_order::run_in_order;
+use crate::orders::any_order;
+use crate::programs::{PROGRAMS, Small, code_of};
+use code_machine::Code;
+use std::sync::Wait;
+use std::test::Fail;
+use std::thread::Threads;
+use testing::is_same;
+
+const SEED: u64 = 20_260_801;
+
+const ORDERS: u64 = 100;
+
+fn keeps_order<R: AllocGlobal + Threads + Wait>(
+    rt: &R,
+    code: &Code,
+    small: &Small,
+    seed: u64,
+) -> Result<(), Fail> {
+    let (order, played) = any_order(rt.alloc(), code, small, seed)?;
+    let (found, _notes) = run_in_order(rt, code, small, &order)?;
+    is_same(&found, &played.outcome(rt.alloc())?)
+}
+
+#[test]
+fn each_order_has_its_outcome(rt: HostRuntime) -> Result<(), Fail> {
+    let mut seed = SEED;
+    for small in &PROGRAMS {
+        let code = code_of(rt.alloc(), small)?;
+        for _ in 0..ORDERS {
+            keeps_order(&rt, &code, small, seed)?;
+            seed = seed.wrapping_add(1);
+        }
+    }
+    Ok(())
+}

@@ -1,0 +1,18 @@
+//! A client of `stamp_calls`, which stands on its contracts alone: a queue, a lock that lets in whoever
+//! came first, and threads that stamp and try to stamp. The tests of `stamp_calls` stand here.
+
+mod lock;
+#[cfg(test)]
+mod locking;
+mod queue;
+#[cfg(test)]
+mod tests;
+mod threads;
+#[cfg(test)]
+mod together;
+mod working;
+
+pub use lock::{counts, enters, four_count};
+pub use queue::first_come;
+pub use threads::{Work, all_work, holds_all, meet_in_pairs};
+pub use working::{Worked, rounds, stamps, tries};

@@ -1,0 +1,83 @@
+//! Threads that work on one table, one for each process.
+ghost use Rattle.std.specs.Prelude.{◌≡◌, ◌≤◌, ◌<◌, IfOk, length};
+
+use crate::calls::threads::{Work, all_work, holds_all, meet_in_pairs};
+use crate::calls::working::Worked;
+use stamp_calls::{Caller, scan};
+use stamp_table::{Final, Pass, StampTable};
+use std::sync::Wait;
+use std::test::Fail;
+use std::thread::Threads;
+use testing::{holds, is_same};
+
+// How often each process won. After each stamp nobody else held a newer ticket.
+fn wins(done: &[Worked], n: u8, count: u32) -> Result<[u32; 6], Fail> {
+    holds(done.len() == n as usize, "a count for each process")?;
+    let mut wins = [0; 6];
+    for (won, worked) in wins.iter_mut().zip(done) {
+        holds(worked.newest == worked.won, "the newest after a stamp")?;
+        holds(worked.won <= count, "no more stamps than tries")?;
+        *won = worked.won;
+    }
+    Ok(wins)
+}
+
+// What stands at the end is what the last scan told.
+fn ends(table: StampTable, pass: Pass, n: u8) -> Result<Final, Fail>
+    requires here { pass.table ≡ table }
+    requires processes { table.n ≡ n }
+    requires at_least_one { 1 ≤ n }
+    ensures processes { IfOk result (λ end. length end.labels ≡ n) }
+    ensures rows { IfOk result (λ end. length end.rows ≡ table.rows) }
+{
+    if !holds_all(&pass, n) {
+        return Err(Fail::from("a process is missing"));
+    }
+    let mut caller = Caller::new(pass, 0);
+    let order = scan(&table, &mut caller);
+    let end = table.close(caller.into_pass());
+    is_same(&end.word(), &order.word())?;
+    Ok(end)
+}
+
+// Each try that is lost is lost to another process, so none has lost more than the others won.
+fn are_worked<R: AllocGlobal + Threads + Wait + Sync>(
+    rt: &R,
+    n: u8,
+    work: Work,
+    count: u32,
+) -> Result<(), Fail>
+    requires at_least_one { 1 ≤ n }
+    requires at_most_six { n ≤ 6 }
+{
+    let (table, done) = all_work(rt, rt.alloc(), n, work, count)?;
+    let wins = wins(&done, n, count)?;
+    let mut all = 0u32;
+    for won in wins {
+        all = all.wrapping_add(won);
+    }
+    holds(all >= count, "as many stamps as one process has tries")?;
+    let Some(pass) = meet_in_pairs(rt.alloc(), &table, done)? else {
+        return Err(Fail::from("no passes"));
+    };
+    let end = ends(table, pass, n)?;
+    for p in 0..n {
+        is_same(&end.register(0, p), &wins[p as usize])?;
+    }
+    Ok(())
+}
+
+#[test]
+fn six_callers(rt: HostRuntime) -> Result<(), Fail> {
+    are_worked(&rt, 6, Work::Rounds, 100)
+}
+
+#[test]
+fn each_number_of_callers(rt: HostRuntime) -> Result<(), Fail> {
+    for n in 1..7u8 {
+        are_worked(&rt, n, Work::Tries, 1_000)?;
+        are_worked(&rt, n, Work::Stamps, 100)?;
+        are_worked(&rt, n, Work::Rounds, 100)?;
+    }
+    Ok(())
+}

@@ -1,0 +1,76 @@
+//! Faults that are found, each by a schedule that needs all its steps, and programs that have none.
+
+use crate::hunting::programs::{ALONE, SERVICE_WITH_FAULT, SIX};
+use crate::hunting::replay::needs_all;
+use algorithms::{examples, traps};
+use std::alloc::Global;
+use std::test::Fail;
+use testing::{accepted, holds, is_same};
+use tick_hunt::{Hunted, Mode, Plan, hunt};
+
+fn plan(mode: Mode, runs: u32) -> Plan {
+    Plan {
+        seed: 1,
+        runs,
+        steps: 300,
+        mode,
+    }
+}
+
+// The fault of a program is found, by a schedule that is minimal.
+fn is_found(alloc: Global, text: &str, mode: Mode) -> Result<(), Fail> {
+    let program = accepted(alloc, text)?;
+    let Hunted::Found { run, schedule } = hunt(alloc, &program, plan(mode, 2_000))? else {
+        return Err("no trap was found")?;
+    };
+    holds(run < 2_000, run)?;
+    holds(traps(alloc, &program, &schedule)?, run)?;
+    needs_all(alloc, &program, &schedule)
+}
+
+fn each_fault(alloc: Global, mode: Mode) -> Result<(), Fail> {
+    for text in [
+        examples::QUEUE_WITH_FAULT,
+        examples::BAKERY_WITH_FAULT,
+        examples::DECISION_WITH_FAULT,
+        SERVICE_WITH_FAULT,
+        ALONE,
+        SIX,
+    ] {
+        is_found(alloc, text, mode)?;
+    }
+    Ok(())
+}
+
+#[test]
+fn faults_by_bursts(rt: HostRuntime) -> Result<(), Fail> {
+    each_fault(rt.alloc(), Mode::Bursts)?;
+    is_found(
+        rt.alloc(),
+        examples::MULTI_WRITER_REGISTER_WITH_FAULT,
+        Mode::Bursts,
+    )
+}
+
+#[test]
+fn faults_step_by_step(rt: HostRuntime) -> Result<(), Fail> {
+    each_fault(rt.alloc(), Mode::Uniform)
+}
+
+#[test]
+fn right_programs(rt: HostRuntime) -> Result<(), Fail> {
+    for text in [
+        examples::QUEUE_REPAIRED,
+        examples::BAKERY,
+        examples::DECISION_REPAIRED,
+    ] {
+        let program = accepted(rt.alloc(), text)?;
+        for mode in [Mode::Bursts, Mode::Uniform] {
+            is_same(
+                &hunt(rt.alloc(), &program, plan(mode, 200))?,
+                &Hunted::Nothing,
+            )?;
+        }
+    }
+    Ok(())
+}

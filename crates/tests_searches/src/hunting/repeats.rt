@@ -1,0 +1,59 @@
+//! The same plan has the same answer, and another seed or another mode goes other ways.
+
+use crate::hunting::programs::SERVICE_WITH_FAULT;
+use algorithms::examples::QUEUE_WITH_FAULT;
+use std::test::Fail;
+use testing::{accepted, holds, is_same};
+use tick_hunt::{Hunted, Mode, Plan, hunt};
+
+fn plan(seed: u64, mode: Mode) -> Plan {
+    Plan {
+        seed,
+        runs: 2_000,
+        steps: 300,
+        mode,
+    }
+}
+
+#[test]
+fn same_seed(rt: HostRuntime) -> Result<(), Fail> {
+    let program = accepted(rt.alloc(), SERVICE_WITH_FAULT)?;
+    for seed in [0, 1, 7, u64::MAX] {
+        for mode in [Mode::Bursts, Mode::Uniform] {
+            let first = hunt(rt.alloc(), &program, plan(seed, mode))?;
+            is_same(&hunt(rt.alloc(), &program, plan(seed, mode))?, &first)?;
+        }
+    }
+    Ok(())
+}
+
+// A run that is tried alone traps as it does among others.
+#[test]
+fn fewer_runs(rt: HostRuntime) -> Result<(), Fail> {
+    let program = accepted(rt.alloc(), QUEUE_WITH_FAULT)?;
+    let all = plan(3, Mode::Uniform);
+    let found = hunt(rt.alloc(), &program, all)?;
+    let Hunted::Found { run, .. } = &found else {
+        return Err("no trap was found")?;
+    };
+    let runs = *run;
+    is_same(
+        &hunt(rt.alloc(), &program, Plan { runs, ..all })?,
+        &Hunted::Nothing,
+    )?;
+    let runs = runs.saturating_add(1);
+    is_same(&hunt(rt.alloc(), &program, Plan { runs, ..all })?, &found)
+}
+
+#[test]
+fn seeds_differ(rt: HostRuntime) -> Result<(), Fail> {
+    let program = accepted(rt.alloc(), SERVICE_WITH_FAULT)?;
+    let first = hunt(rt.alloc(), &program, plan(1, Mode::Bursts))?;
+    let mut others = 0u32;
+    for seed in 2..10 {
+        if hunt(rt.alloc(), &program, plan(seed, Mode::Bursts))? != first {
+            others = others.saturating_add(1);
+        }
+    }
+    holds(others > 0, others)
+}

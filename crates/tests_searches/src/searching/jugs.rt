@@ -1,0 +1,92 @@
+//! Two jugs, of three and of five: four is measured by six steps and no fewer, and five can't be had of two
+//! even ones.
+ghost use Rattle.std.specs.Prelude.{◌≡◌, ◌<◌, ◌≤◌, ◌==◌, ◌&&◌, ◌||◌, ℕ, Bool, nat_lt, if◌then◌else◌};
+ghost use Rattle.tests_searches.specs.Machines.{poured, nobody_else, same_jugs};
+
+use state_search::{Machine, NoMemory, Searched, search};
+use std::alloc::Global;
+use std::test::Fail;
+use testing::{holds, is_same};
+
+#[derive(Clone, Copy, Debug)]
+struct Jugs {
+    left: u8,
+    right: u8,
+    measured: u8,
+}
+
+impl Machine for Jugs {
+    type State = (u8, u8);
+
+    ghost Value = { ℕ × ℕ };
+
+    ghost view = { λ machine jugs. jugs };
+
+    ghost fits = { λ machine jugs. (jugs.0 ≤ machine.left) × (jugs.1 ≤ machine.right) };
+
+    ghost processes = { λ machine. 6 };
+
+    ghost next = { λ machine p jugs. if nat_lt p 6 then poured machine.left machine.right p jugs else jugs };
+
+    ghost bad = { λ machine jugs. (jugs.0 == machine.measured) || (jugs.1 == machine.measured) };
+
+    ghost same = { λ machine x y e. same_jugs x y e };
+
+    ghost others_idle = { λ machine p jugs idle. nobody_else 6 p (poured machine.left machine.right p jugs) jugs idle };
+
+    fn processes(&self) -> u8 {
+        6
+    }
+
+    fn step(&self, _alloc: Global, jugs: &(u8, u8), process: u8) -> Result<(u8, u8), NoMemory> {
+        let (left, right) = *jugs;
+        let to_right = left.min(self.right - right);
+        let to_left = right.min(self.left - left);
+        Ok(match process {
+            0 => (self.left, right),
+            1 => (left, self.right),
+            2 => (0, right),
+            3 => (left, 0),
+            4 => (left - to_right, right + to_right),
+            _ => (left + to_left, right - to_left),
+        })
+    }
+
+    fn is_bad(&self, jugs: &(u8, u8)) -> bool {
+        jugs.0 == self.measured || jugs.1 == self.measured
+    }
+}
+
+// Where a growth was refused, it is asked once more.
+fn searched(alloc: Global, jugs: &Jugs, limit: u32) -> Result<Searched, NoMemory> {
+    match search(alloc, jugs, (0, 0), limit) {
+        Err(NoMemory) => search(alloc, jugs, (0, 0), limit),
+        found => found,
+    }
+}
+
+#[test]
+fn four_of_three_and_five(rt: HostRuntime) -> Result<(), Fail> {
+    let jugs = Jugs {
+        left: 3,
+        right: 5,
+        measured: 4,
+    };
+    match searched(rt.alloc(), &jugs, 100)? {
+        Searched::Found(schedule) => holds(schedule.as_slice() == [1, 5, 2, 5, 1, 5].as_slice(), 4),
+        _ => holds(false, 0),
+    }
+}
+
+#[test]
+fn five_of_four_and_six(rt: HostRuntime) -> Result<(), Fail> {
+    let jugs = Jugs {
+        left: 4,
+        right: 6,
+        measured: 5,
+    };
+    let found = searched(rt.alloc(), &jugs, 100)?;
+    is_same(&found, &Searched::Nowhere { states: 10 })?;
+    let found = searched(rt.alloc(), &jugs, 9)?;
+    is_same(&found, &Searched::Limit { states: 9 })
+}

@@ -1,0 +1,9 @@
+//! What `ticklab` tells of a text and of a schedule: explained refusals, and traces of both machines.
+//!
+//! Start with `explaining` for refusals, and with `tracing` for steps.
+#![tactic(auto)]
+
+#[cfg(test)]
+mod explaining;
+#[cfg(test)]
+mod tracing;

@@ -1,0 +1,71 @@
+//! What a history is merged to.
+
+ghost use Rattle.std.specs.Prelude.{◌≡◌, length};
+
+use code_machine::Code;
+use code_text::read_code;
+use std::alloc::Global;
+use std::test::Fail;
+use testing::holds;
+use tick_merge::{MergeFault, Shared, merge};
+
+/// The word of two processes of which process 0 has stamped.
+pub const STAMPED: u64 = 281_474_976_710_656;
+
+/// The same once process 1 has stamped after it.
+pub const BOTH_STAMPED: u64 = 844_424_930_132_224;
+
+/// Two processes that stamp, scan, and tell who is older.
+pub const STAMPS: &str =
+    "tickcode 1 2 1 1 0\nLoadWord\nNext\nExchange 0\nScan 0\nPush 0\nPush 1\nOlder 0 0\nLoad 0\nOut\nHalt\n";
+
+/// A history, how many instructions each process makes, and what they are merged to.
+pub type Row = (
+    &'static [Shared],
+    &'static [u64],
+    Result<&'static [u8], MergeFault>,
+);
+
+// What the call answers; where memory is refused it is asked once more.
+fn answer(
+    alloc: Global,
+    code: &Code,
+    history: &[Shared],
+    turns: &[u64],
+) -> Result<Vec<u8>, MergeFault>
+    requires { length turns.now ≡ code.now.sizes.processes }
+{
+    match merge(alloc, code, history, turns) {
+        Err(MergeFault::NoMemory) => merge(alloc, code, history, turns),
+        answer => answer,
+    }
+}
+
+/// Whether the history of the code that the text is comes to this.
+pub fn comes_to(
+    alloc: Global,
+    text: &str,
+    history: &[Shared],
+    turns: &[u64],
+    wanted: Result<&[u8], MergeFault>,
+) -> Result<bool, Fail> {
+    let code = read_code(alloc, text)?;
+    if turns.len() != usize::from(code.sizes().processes()) {
+        return Err(Fail::new("a number of instructions for each process is wanted"));
+    }
+    let is_so = match (answer(alloc, &code, history, turns), wanted) {
+        (Ok(schedule), Ok(wanted)) => schedule.as_slice() == wanted,
+        (Err(fault), Err(wanted)) => fault == wanted,
+        _ => false,
+    };
+    Ok(is_so)
+}
+
+/// That the code that the text is has these rows.
+pub fn are_merged(alloc: Global, text: &str, rows: &[Row]) -> Result<(), Fail> {
+    for row in rows {
+        let (history, turns, wanted) = *row;
+        holds(comes_to(alloc, text, history, turns, wanted)?, turns)?;
+    }
+    Ok(())
+}

@@ -1,0 +1,96 @@
+//! A word that comes back on threads: an exchange finds its old word again, and wins.
+
+use crate::runs::running::{is_outcome, run_of};
+use code_machine::Ask;
+use std::sync::atomic::AtomicU64;
+use std::sync::atomic::Ordering::SeqCst;
+use std::test::Fail;
+use testing::{Polls, holds, is_same};
+use tick_run::{Gate, RunEnd};
+
+// if (me == 0) { stamp; stamp; s = scan; x = older s 1 0; out x; s = scan; }
+// else { stamp; stamp; stamp; stamp; stamp; stamp; }
+const COMES_BACK: &str =
+    "tickcode 1 3 1 1 0\nMe\nPush 0\nBin ==\nJumpZero 18\nLoadWord\nNext\nExchange 4\nLoadWord\nNext\nExchange 7\nScan 0\nPush 1\nPush 0\nOlder 0 0\nLoad 0\nOut\nScan 0\nJump 36\nLoadWord\nNext\nExchange 18\nLoadWord\nNext\nExchange 21\nLoadWord\nNext\nExchange 24\nLoadWord\nNext\nExchange 27\nLoadWord\nNext\nExchange 30\nLoadWord\nNext\nExchange 33\nHalt\n";
+
+// Which process makes its steps on what is shared next, and up to which of them. After the last each goes
+// on as it likes.
+static ORDER: [(u8, u64); 13] = [
+    (0, 2),
+    (1, 2),
+    (2, 2),
+    (1, 4),
+    (0, 3),
+    (2, 4),
+    (1, 6),
+    (2, 6),
+    (1, 8),
+    (2, 8),
+    (1, 10),
+    (0, 4),
+    (0, 5),
+];
+
+// At its j-th call its process has made j - 1 steps, which it tells, and waits until those that come
+// before its next were made.
+#[derive(Drop)]
+struct InOrder<'a> {
+    called: &'a [AtomicU64],
+    comes_back: &'a AtomicU64,
+    polls: &'a Polls,
+    calls: u64,
+}
+
+impl Gate for InOrder<'_> {
+    fn before(&mut self, p: u8, ask: Ask) {
+        self.calls = self.calls.wrapping_add(1);
+        if let Some(called) = self.called.get(p as usize) {
+            called.store(self.calls, SeqCst);
+        }
+        if p == 0 && self.calls == 4 && is_from_the_old_word(ask) {
+            self.comes_back.store(1, SeqCst);
+        }
+        for (process, step) in &ORDER {
+            if *process == p && *step >= self.calls {
+                return;
+            }
+            if let Some(called) = self.called.get(*process as usize) {
+                self.polls.wait(called, step.wrapping_add(1));
+            }
+        }
+    }
+}
+
+fn is_from_the_old_word(ask: Ask) -> bool {
+    match ask {
+        Ask::Exchange(old, new) => old.bits() == 1_970_324_837_172_224
+            && new.bits() == 1_970_324_837_172_230,
+        _ => false,
+    }
+}
+
+#[test]
+fn an_exchange_finds_its_word_again(rt: HostRuntime) -> Result<(), Fail> {
+    let called = [AtomicU64::new(0), AtomicU64::new(0), AtomicU64::new(0)];
+    let comes_back = AtomicU64::new(0);
+    let polls = Polls::new();
+    let mut gates = Vec::new(rt.alloc());
+    for _ in 0..3u8 {
+        gates.push(InOrder {
+            called: &called,
+            comes_back: &comes_back,
+            polls: &polls,
+            calls: 0,
+        })?;
+    }
+    let outcome = run_of(&rt, COMES_BACK, gates, 1_000, 4)?;
+    holds(polls.all_came(), "the order")?;
+    is_same(&comes_back.load(SeqCst), &1)?;
+    is_same(&called[0].load(SeqCst), &6)?;
+    let ends = [RunEnd::Ended; 3];
+    holds(
+        is_outcome(&outcome, &[&[1], &[], &[]], &ends),
+        "the outcome",
+    )?;
+    holds(outcome.registers.len() == 0, "no registers")
+}

@@ -1,0 +1,81 @@
+//! What the gates are told: one call before each step on what is shared, and none besides.
+
+use crate::runs::running::{is_outcome, run_of};
+use code_machine::Ask;
+use std::sync::atomic::AtomicU64;
+use std::sync::atomic::Ordering::SeqCst;
+use std::test::Fail;
+use testing::{holds, is_same};
+use tick_run::{Gate, RunEnd, RunOutcome};
+
+// Process 0: put r 9; stamp; s = scan; x = get r me; clear; out x; and process 1 ends.
+const EACH_STEP: &str =
+    "tickcode 2 2 1 1 1\nMe\nJumpZero 3\nHalt\nPush 9\nPut 0\nLoadWord\nNext\nExchange 5\nScan 0\nMe\nGet 0 0\nClear\nLoad 0\nOut\nHalt\n";
+
+// The asks so far as a number, with a digit for each.
+struct Recorded<'a> {
+    asks: &'a AtomicU64,
+    dropped: &'a AtomicU64,
+}
+
+impl Gate for Recorded<'_> {
+    fn before(&mut self, p: u8, ask: Ask) {
+        let digit = if p == 0 { digit_of(ask) } else { 9 };
+        let before = self.asks.load(SeqCst);
+        self.asks
+            .store(before.wrapping_mul(10).wrapping_add(digit), SeqCst);
+    }
+}
+
+fn digit_of(ask: Ask) -> u64 {
+    match ask {
+        Ask::LoadWord => 1,
+        Ask::Exchange(old, new) => exchange_digit(old.bits(), new.bits()),
+        Ask::Scan => 3,
+        Ask::Get(row, index) => if row == 0 && index == 0 { 4 } else { 8 },
+        Ask::Put(row, value) => if row == 0 && value == 9 { 5 } else { 8 },
+        Ask::Clear => 6,
+    }
+}
+
+// The first stamp of process 0 makes it present, with a label of zeros.
+fn exchange_digit(old: u64, new: u64) -> u64 {
+    if old == 0 && new == 281_474_976_710_656 {
+        2
+    } else {
+        8
+    }
+}
+
+impl Drop for Recorded<'_> {
+    fn drop(self) {
+        self.dropped.fetch_add(1, SeqCst);
+        let Self {
+            asks: _,
+            dropped: _,
+        } = self;
+    }
+}
+
+fn is_as_asked(outcome: &RunOutcome) -> bool {
+    is_outcome(outcome, &[&[9], &[]], &[RunEnd::Ended, RunEnd::Ended])
+        && outcome.registers.len() == 1
+        && matches!(outcome.registers.first(), Some(row) if row.as_slice() == [9, 0].as_slice())
+}
+
+#[test]
+fn each_shared_step_is_told_once(rt: HostRuntime) -> Result<(), Fail> {
+    let asks = AtomicU64::new(0);
+    let dropped = AtomicU64::new(0);
+    let mut gates = Vec::new(rt.alloc());
+    for _ in 0..2u8 {
+        gates.push(Recorded {
+            asks: &asks,
+            dropped: &dropped,
+        })?;
+    }
+    let outcome = run_of(&rt, EACH_STEP, gates, 1_000, 4)?;
+    is_same(&asks.load(SeqCst), &512_346)?;
+    is_same(&dropped.load(SeqCst), &2)?;
+    holds(is_as_asked(&outcome), "the outcome")
+}

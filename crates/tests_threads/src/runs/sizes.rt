@@ -1,0 +1,73 @@
+//! Runs of each number of processes and of register rows, and of more than 1,000,000,000 turns.
+
+use crate::runs::running::{gave, open_gates, run_of};
+use std::alloc::{AllocError, Global};
+use std::fmt::Write;
+use std::sync::Wait;
+use std::test::Fail;
+use std::thread::Threads;
+use testing::holds;
+use tick_run::{RunEnd, RunOutcome};
+
+// put each row's number and the own number in it; out me;
+fn writing(alloc: Global, n: u8, rows: u8) -> Result<String, AllocError> {
+    let mut text = String::new(alloc);
+    writeln!(text, "tickcode 1 {n} 0 0 {rows}")?;
+    for row in 0..rows {
+        write!(text, "Me\nPush 1{row}\nBin +\nPut {row}\n")?;
+    }
+    text.push_str("Me\nOut\nHalt\n")?;
+    Ok(text)
+}
+
+fn is_row(row: &[u32], n: u8, number: u32) -> bool {
+    for (p, value) in row.iter().enumerate() {
+        if *value as usize != p.wrapping_add(number as usize).wrapping_add(10) {
+            return false;
+        }
+    }
+    row.len() == n as usize
+}
+
+fn are_rows(outcome: &RunOutcome, n: u8, rows: u8) -> bool {
+    let mut number = 0u32;
+    for row in &outcome.registers {
+        if !is_row(row, n, number) {
+            return false;
+        }
+        number = number.wrapping_add(1);
+    }
+    number == u32::from(rows)
+}
+
+fn are_ends(outcome: &RunOutcome, n: u8) -> bool {
+    for p in 0..n {
+        if !gave(outcome, p as usize, &[u32::from(p)]) {
+            return false;
+        }
+    }
+    let ends = [RunEnd::Ended; 6];
+    outcome.outputs.len() == n as usize && outcome.ends.as_slice() == &ends[..(n as usize).min(6)]
+}
+
+fn runs<R: AllocGlobal + Threads + Wait>(rt: &R, n: u8, rows: u8, turns: u64) -> Result<(), Fail> {
+    let text = writing(rt.alloc(), n, rows)?;
+    let gates = open_gates(rt.alloc(), n)?;
+    let outcome = run_of(rt, text.as_str(), gates, turns, 4)?;
+    let is_so = are_rows(&outcome, n, rows) && are_ends(&outcome, n);
+    holds(is_so, text.as_str())
+}
+
+static TURNS: [u64; 3] = [100, 1_000_000_001, u64::MAX];
+
+#[test]
+fn each_number_of_processes_and_rows(rt: HostRuntime) -> Result<(), Fail> {
+    for turns in &TURNS {
+        for n in 1..7u8 {
+            for rows in 0..9u8 {
+                runs(&rt, n, rows, *turns)?;
+            }
+        }
+    }
+    Ok(())
+}

@@ -1,0 +1,64 @@
+//! Two processes that race: what comes of it differs from run to run, and each outcome is one that may be.
+
+use crate::tallying::tallies::tallied;
+use std::cmp::Ordering;
+use std::test::Fail;
+use testing::{holds, is_same};
+use tick_tally::Counted;
+
+const RUNS: u32 = 400;
+
+// Each takes a ticket, looks at both, and tells whether process 0 came first. Who looks before the other has a
+// ticket has itself the only one, and that of none is below it.
+const RACE: &str = "processes 2; var x; scan s; begin stamp; s = scan; x = older s 0 1; out x; end";
+
+// Process 0 came second and process 1 looked after that; one of them looked too early to see the other come
+// second; process 0 came first and looked after process 1 came.
+static ALLOWED: [&str; 3] = [
+    "outputs 0 0\noutputs 1 0\nstatus 0 ended\nstatus 1 ended\n",
+    "outputs 0 0\noutputs 1 1\nstatus 0 ended\nstatus 1 ended\n",
+    "outputs 0 1\noutputs 1 1\nstatus 0 ended\nstatus 1 ended\n",
+];
+
+fn is_allowed(outcome: &str) -> bool {
+    for text in ALLOWED {
+        if text == outcome {
+            return true;
+        }
+    }
+    false
+}
+
+// How many runs there were.
+fn runs(all: &[Counted]) -> u64 {
+    let mut sum = 0u64;
+    for counted in all {
+        sum = sum.saturating_add(u64::from(counted.times));
+    }
+    sum
+}
+
+// Whether the first stands before the other: it came more often, or as often and its text is below.
+fn comes_before(first: &Counted, second: &Counted) -> bool {
+    match first.times.cmp(&second.times) {
+        Ordering::Greater => true,
+        Ordering::Equal => first.outcome < second.outcome,
+        Ordering::Less => false,
+    }
+}
+
+fn is_tally(all: &[Counted]) -> Result<(), Fail> {
+    for (place, counted) in all.iter().enumerate() {
+        holds(counted.times > 0, place)?;
+        holds(is_allowed(counted.outcome.as_str()), place)?;
+        if let Some(next) = all.get(place.saturating_add(1)) {
+            holds(comes_before(counted, next), place)?;
+        }
+    }
+    is_same(&runs(all), &u64::from(RUNS))
+}
+
+#[test]
+fn each_may_be(rt: HostRuntime) -> Result<(), Fail> {
+    is_tally(&tallied(&rt, RACE, RUNS, 1_000_000)?)
+}

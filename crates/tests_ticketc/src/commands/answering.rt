@@ -1,0 +1,99 @@
+//! A command line, answered over ends in memory.
+use crate::commands::in_memory::{Disturbance, Input, Output};
+use engine::{EngineFault, engine};
+use std::alloc::{AllocError, Global};
+use std::sync::Wait;
+use std::test::Fail;
+use std::thread::Threads;
+use testing::holds;
+
+pub const USAGE: &str =
+    "usage: ticketc order N | check | emit | source S | code S | lift S | drop S | run TURNS\n";
+
+/// What came of a command line, how many calls its ends had, and what was written.
+#[derive(Drop)]
+pub struct Outcome {
+    pub status: Result<u8, EngineFault>,
+    pub reads: u64,
+    pub writes: u64,
+    pub written: Vec<u8>,
+}
+
+impl Outcome {
+    /// Whether it is this status, with this written.
+    pub fn is(&self, status: Result<u8, EngineFault>, written: &str) -> bool {
+        self.status == status && self.written.as_slice() == written.as_bytes()
+    }
+}
+
+/// The words as a command line.
+pub fn line(alloc: Global, words: &[&str]) -> Result<Vec<String>, AllocError> {
+    let mut line = Vec::new(alloc);
+    for word in words {
+        line.push(String::from_str(alloc, word)?)?;
+    }
+    Ok(line)
+}
+
+/// Serves the words over these ends.
+pub fn served<R: AllocGlobal + Threads + Wait>(
+    rt: &R,
+    words: &[&str],
+    mut reader: Input<'_>,
+    mut writer: Output,
+) -> Result<Outcome, Fail> {
+    let line = line(rt.alloc(), words)?;
+    let status = engine(rt, line.as_slice(), &mut reader, &mut writer);
+    Ok(Outcome {
+        status,
+        reads: reader.counts.calls,
+        writes: writer.counts.calls,
+        written: writer.bytes,
+    })
+}
+
+/// What the words come to on an input.
+pub fn answered<R: AllocGlobal + Threads + Wait>(
+    rt: &R,
+    words: &[&str],
+    input: &[u8],
+) -> Result<Outcome, Fail> {
+    let reader = Input::new(input, 1000, Disturbance::Never);
+    let writer = Output::new(rt.alloc(), 100, Disturbance::Never);
+    served(rt, words, reader, writer)
+}
+
+/// That the words come to this status on an input, and write this answer.
+pub fn answers<R: AllocGlobal + Threads + Wait>(
+    rt: &R,
+    words: &[&str],
+    input: &[u8],
+    status: u8,
+    answer: &str,
+) -> Result<(), Fail> {
+    let outcome = answered(rt, words, input)?;
+    holds(outcome.is(Ok(status), answer), (words, answer))
+}
+
+/// That the words write this answer on an input. Names the command alone, since the other
+/// texts may be long.
+pub fn says<R: AllocGlobal + Threads + Wait>(
+    rt: &R,
+    words: &[&str],
+    input: &[u8],
+    answer: &str,
+) -> Result<(), Fail> {
+    let outcome = answered(rt, words, input)?;
+    holds(outcome.is(Ok(0), answer), &words[..words.len().min(2)])
+}
+
+/// A command line, its input and its answer.
+pub type Case<'a> = (&'a [&'a str], &'a [u8], &'a str);
+
+/// That each of these command lines writes its answer.
+pub fn each_says<R: AllocGlobal + Threads + Wait>(rt: &R, cases: &[Case<'_>]) -> Result<(), Fail> {
+    for (words, input, answer) in cases {
+        says(rt, words, input, answer)?;
+    }
+    Ok(())
+}

@@ -1,0 +1,11 @@
+//! `ticketc`: what each command answers, what its ends over the host do, and the texts of all faults.
+//!
+//! Start with `commands`; `host` has standard input and output as ends, and `faults` the texts.
+#![tactic(auto)]
+
+#[cfg(test)]
+mod commands;
+#[cfg(test)]
+mod faults;
+#[cfg(test)]
+mod host;

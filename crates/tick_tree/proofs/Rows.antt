@@ -1,0 +1,23 @@
+-- The lists of statements in a declared statement are plain blocks.
+use Rattle.std.proofs.Common.{◌≡◌, Vec, Global, refl, ◌∙◌, ap}
+use Rattle.tick_tree.specs.declared.tree.Expr.{Expr}
+use Rattle.tick_tree.specs.declared.tree.Stmt.{Stmt, Row_of-Stmt, end_of-Stmt, more_of-Stmt}
+use Rattle.tick_tree.specs.declared.tree.Stmt.TheVariants as S
+use Rattle.tick_tree.specs.declared.tree.Stmt.TheBlock.{items-the_row-Stmt, hidden-the_row-Stmt-0, items_hidden-the_row-Stmt-0}
+use Rattle.tick_tree.specs.Plain.{branch, repeat, cons}
+use Rattle.tick_tree.specs.View.{expression_of, statement_of, row_of, block_of}
+
+row_block : {n : _} → (k : Row_of-Stmt n) → row_of k ≡ block_of (items-the_row-Stmt n k)
+row_block end_of-Stmt = refl
+row_block (more_of-Stmt s r) = ap (cons (statement_of s)) (row_block r)
+
+pub held : (a : Vec Stmt Global) → row_of (hidden-the_row-Stmt-0 a) ≡ block_of a.items
+held a = row_block (hidden-the_row-Stmt-0 a) ∙ ap block_of (items_hidden-the_row-Stmt-0 a)
+
+pub statement_of_branch : (e : Expr) (a b : Vec Stmt Global)
+    → statement_of (S.If e a b) ≡ branch (expression_of e) (block_of a.items) (block_of b.items)
+statement_of_branch e a b = ap (λ z. branch (expression_of e) z (row_of (hidden-the_row-Stmt-0 b))) (held a)
+    ∙ ap (λ z. branch (expression_of e) (block_of a.items) z) (held b)
+
+pub statement_of_repeat : (e : Expr) (a : Vec Stmt Global) → statement_of (S.While e a) ≡ repeat (expression_of e) (block_of a.items)
+statement_of_repeat e a = ap (repeat (expression_of e)) (held a)

@@ -1,0 +1,57 @@
+# Starts a program of this repository. `top` is the folder of the repository.
+#
+# It is the program that was built here, else the one that lies ready in dist/, where that was made of the sources
+# that stand here and starts on this machine; else it is proved and built first.
+
+ready=$top/dist/x86_64-linux
+
+start() {
+    name=$1
+    shift
+    program=$top/crates/$name/out/$name
+    if [ ! -x "$program" ]; then
+        if is_ready "$name"; then
+            program=$ready/$name
+        else
+            "$top/tools/build" "$name" </dev/null
+        fi
+    fi
+    exec "$program" "$@"
+}
+
+# Whether the program in dist/ can stand for the one that would be built here. What was found is noted in a file, and
+# holds until a source is newer.
+is_ready() {
+    [ -x "$ready/$1" ] || return 1
+    noted=$top/dist/.checked
+    if [ -f "$noted" ] && [ -z "$(newer_than "$noted")" ]; then
+        return 0
+    fi
+    : 2>/dev/null >"$noted.new" || true
+    is_of_these_sources || return 1
+    starts_here "$1" || return 1
+    mv -f "$noted.new" "$noted" 2>/dev/null || true
+}
+
+newer_than() {
+    find "$top/crates" "$top/crates.txt" "$top/HANDLES" "$top/dist/SOURCES" "$ready" \
+        -name out -prune -o -newer "$1" -print -quit
+}
+
+is_of_these_sources() {
+    of_dist=$(sed '/^toolchain /d' "$top/dist/SOURCES" | sha256sum)
+    [ "$("$top/tools/sources" "$top" | sha256sum)" = "$of_dist" ]
+}
+
+starts_here() {
+    case $1 in
+    ticketc) words='order 1' ;;
+    *) words='labels 1 0' ;;
+    esac
+    if [ "$(uname -sm)" = 'Linux x86_64' ] && "$ready/$1" $words </dev/null >/dev/null 2>&1; then
+        return 0
+    fi
+    echo "$1: the program in dist/ does not start here: it needs Linux on x86_64, with glibc 2.34 or later. \
+\`tools/build $1\` proves and builds one with the Rattle toolchain." >&2
+    return 1
+}
