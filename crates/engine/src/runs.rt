@@ -1,5 +1,6 @@
-//! A run on threads: from an input to its code, from the code to what it lets others see.
-ghost use Rattle.std.specs.Prelude.{◌≡◌, true, [], None, IfErr, IfOk, string_bytes, vec_len};
+//! A run on threads: from an input to its code, from the code to what it lets others see. It is made once,
+//! since it uses up what makes it.
+ghost use Rattle.std.specs.Prelude.{◌≡◌, true, [], None, IfErr, IfOk, string_bytes};
 ghost use Rattle.ticketc_lines.specs.Answer.{done, refused};
 ghost use Rattle.engine.specs.Commands.{InputAnswers};
 ghost use Rattle.ticketc_lines.specs.declared.command.Command.TheVariants.{Code as CodeCommand, Run};
@@ -13,39 +14,29 @@ use crate::fault::EngineFault;
 use crate::lowered::runnable_code;
 use crate::response::{Response, stop_response};
 use code_core::Code;
-use code_machine::Ask;
-use std::alloc::{AllocError, Global};
-use std::sync::Wait;
-use std::thread::Threads;
+use std::alloc::Global;
 use tick_play::outcome_text;
-use tick_run::{Gate, run};
+use tick_run::OneRun;
 use ticketc_lines::{Stop, text_of};
 
 /// How many values a process gives out at most.
 const OUTPUTS: u32 = 10_000;
 
-// Nobody waits at it.
-#[derive(Drop)]
-struct OpenGate;
-
-impl Gate for OpenGate {
-    fn before(&mut self, _p: u8, _ask: Ask) {}
-}
-
 /// The whole response to a run, by its input.
-pub fn run_response<E: AllocGlobal + Threads + Wait>(
-    rt: &E,
+pub fn run_response<O: OneRun>(
+    alloc: Global,
+    one: O,
     turns: u64,
     input: &[u8],
 ) -> Result<Response, EngineFault>
     ensures { IsAnswered (Run turns) input.now result }
 {
-    match input_code(rt.alloc(), input) {
+    match input_code(alloc, input) {
         Ok(code) => {
-            let text = run_text(rt, &code, turns)?;
+            let text = run_text(alloc, one, &code, turns)?;
             Ok(Response { status: 0, text })
         }
-        Err(stop) => stop_response(rt.alloc(), stop),
+        Err(stop) => stop_response(alloc, stop),
     }
 }
 
@@ -59,26 +50,16 @@ fn input_code(alloc: Global, input: &[u8]) -> Result<Code, Stop>
 }
 
 // What a run of the code lets others see.
-fn run_text<E: AllocGlobal + Threads + Wait>(
-    rt: &E,
+fn run_text<O: OneRun>(
+    alloc: Global,
+    one: O,
     code: &Code,
     turns: u64,
 ) -> Result<String, EngineFault>
     ensures ok { IfOk result (λ text. IsOutcomeOf code.now turns (done (string_bytes text))) }
     ensures err { IfErr result (λ fault. IsUnanswered true fault) }
 {
-    let gates = open_gates(rt.alloc(), code.sizes().processes())?;
-    let outcome = run(rt, rt.alloc(), code, gates, turns, OUTPUTS)?;
-    let text = outcome_text(rt.alloc(), &outcome)?;
+    let outcome = one.run_once(code, turns, OUTPUTS)?;
+    let text = outcome_text(alloc, &outcome)?;
     Ok(text)
-}
-
-fn open_gates(alloc: Global, count: u8) -> Result<Vec<OpenGate>, AllocError>
-    ensures { IfOk result (λ gates. vec_len gates ≡ count) }
-{
-    let mut gates = Vec::new(alloc);
-    for _ in 0..count {
-        gates.push(OpenGate)?;
-    }
-    Ok(gates)
 }

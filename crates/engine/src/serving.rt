@@ -18,8 +18,7 @@ use crate::runs::run_response;
 use byte_io::{ByteSink, ByteSource, read_input, write_text};
 use command_line::asked;
 use std::alloc::Global;
-use std::sync::Wait;
-use std::thread::Threads;
+use tick_run::OneRun;
 use ticketc_lines::{Command, command_of};
 
 /// What came of a command line that was served.
@@ -33,22 +32,24 @@ pub enum Served {
     Run(u64),
 }
 
-/// Serves a command line, and answers its status. The first word is the program's name.
-pub fn engine<A: AllocGlobal + Threads + Wait, R: ByteSource, W: ByteSink>(
-    rt: &A,
+/// Serves a command line, and answers its status. The first word is the program's name. A run is made by
+/// `one`, and so at most once.
+pub fn engine<O: OneRun, R: ByteSource, W: ByteSink>(
+    alloc: Global,
+    one: O,
     words: &[String],
     reader: &mut R,
     writer: &mut W,
 ) -> Result<u8, EngineFault>
     ensures { Serves (asked_in (map string_bytes words.now)) R.remaining R.counts W.written W.counts reader.old reader.new writer.old writer.new result }
 {
-    match serve(rt.alloc(), words, reader, writer)? {
+    match serve(alloc, words, reader, writer)? {
         Served::Status(status) => Ok(status),
         Served::Run(turns) => {
             let respond = |input: &[u8]|
                 ensures { IsAnswered (Run turns) input.now result }
-            { run_response(rt, turns, input) };
-            answered(rt.alloc(), reader, writer, respond)
+            { run_response(alloc, one, turns, input) };
+            answered(alloc, reader, writer, respond)
         }
     }
 }

@@ -12,15 +12,15 @@ use std::alloc::Global;
 use std::env::Args;
 use std::io;
 use std::process::ExitCode;
-use std::sync::Wait;
-use std::thread::Threads;
+use tick_run::OneRun;
 
 /// The status of words that the host couldn't give, as where one is no UTF-8.
 const NO_WORDS: u8 = 4;
 
-/// Serves the words of the command line, as `std::env::args` gave them.
-pub fn ended<A: AllocGlobal + Threads + Wait, R: ByteSource, W: ByteSink>(
-    rt: &A,
+/// Serves the words of the command line, as `std::env::args` gave them. A run is made by `one`.
+pub fn ended<O: OneRun, R: ByteSource, W: ByteSink>(
+    alloc: Global,
+    one: O,
     given: io::Result<Args>,
     reader: &mut R,
     writer: &mut W,
@@ -28,21 +28,22 @@ pub fn ended<A: AllocGlobal + Threads + Wait, R: ByteSource, W: ByteSink>(
     ensures { Ends given R.remaining R.counts W.written W.counts reader.old reader.new writer.old writer.new (exit_status result) }
 {
     match given {
-        Ok(words) => exit_code(served(rt, words, reader, writer)),
+        Ok(words) => exit_code(served(alloc, one, words, reader, writer)),
         Err(_) => ExitCode::from(NO_WORDS),
     }
 }
 
-fn served<A: AllocGlobal + Threads + Wait, R: ByteSource, W: ByteSink>(
-    rt: &A,
+fn served<O: OneRun, R: ByteSource, W: ByteSink>(
+    alloc: Global,
+    one: O,
     given: Args,
     reader: &mut R,
     writer: &mut W,
 ) -> Result<u8, EngineFault>
     ensures { ServesWords given R.remaining R.counts W.written W.counts reader.old reader.new writer.old writer.new result }
 {
-    let words = words_of(rt.alloc(), given)?;
-    engine(rt, words.as_slice(), reader, writer)
+    let words = words_of(alloc, given)?;
+    engine(alloc, one, words.as_slice(), reader, writer)
 }
 
 fn words_of(alloc: Global, given: Args) -> Result<Vec<String>, EngineFault>

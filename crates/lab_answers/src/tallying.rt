@@ -1,5 +1,5 @@
 //! `ticklab hunt --threads`.
-ghost use Rattle.std.specs.Prelude.{◌≡◌, ◌++◌, IfErr, IfOk, OnOk, string_bytes};
+ghost use Rattle.std.specs.Prelude.{◌≡◌, ◌×◌, ◌++◌, IfErr, IfOk, OnOk, string_bytes};
 ghost use Rattle.lab_answers.specs.Lines.{count_text, count_texts};
 ghost use Rattle.lab_answers.specs.Responses.{Gives};
 ghost use Rattle.lab_answers.specs.Stops.{IfRefused};
@@ -13,39 +13,40 @@ use crate::stop::Stop;
 use base::NoMemory;
 use std::alloc::{AllocError, Global};
 use std::fmt::Write;
-use std::sync::Wait;
-use std::thread::Threads;
+use tick_run::Runner;
 use tick_tally::{Counted, tally};
 
-/// How often each outcome came of so many runs of the program's code on threads, each process for at most
-/// `turns` instructions.
-pub fn tallied<R: AllocGlobal + Threads + Wait>(
-    rt: &R,
+/// How often each outcome came of so many runs of the program's code, each process for at most `turns`
+/// instructions. The runner makes just these.
+pub fn tallied<M: Runner>(
+    alloc: Global,
+    runner: &mut M,
     name: &str,
     input: &[u8],
     times: u32,
     turns: u64,
 ) -> Result<Response, AnswerFault>
-    ensures { IfOk result (Tallies name.now input.now times turns) }
+    ensures { IfOk result (Tallies M.Ran runner.old runner.new name.now input.now times turns) }
 {
-    settled(rt.alloc(), runs_counted(rt, name, input, times, turns))
+    settled(alloc, runs_counted(alloc, runner, name, input, times, turns))
 }
 
-fn runs_counted<R: AllocGlobal + Threads + Wait>(
-    rt: &R,
+fn runs_counted<M: Runner>(
+    alloc: Global,
+    runner: &mut M,
     name: &str,
     input: &[u8],
     times: u32,
     turns: u64,
 ) -> Result<Response, Stop>
-    ensures ok { IfOk result (Gives 0 (IsTally times turns input.now)) }
-    ensures refused { IfErr result (λ stop. IfRefused stop (IsUncoded name.now input.now)) }
+    ensures ok { IfOk result (Gives 0 (IsTally M.Ran runner.old runner.new times turns input.now)) }
+    ensures refused { IfErr result (λ stop. IfRefused stop (λ report. IsUncoded name.now input.now report × (runner.new ≡ runner.old))) }
 {
-    let program = program_of(rt.alloc(), name, input)?;
-    let code = code_of(rt.alloc(), name, &program)?;
-    let counts = tally(rt, &code, times, turns)?;
-    let text = counts_text(rt.alloc(), times, counts.as_slice())?;
-    Ok(answer(rt.alloc(), DONE, text))
+    let program = program_of(alloc, name, input)?;
+    let code = code_of(alloc, name, &program)?;
+    let counts = tally(alloc, runner, &code, times, turns)?;
+    let text = counts_text(alloc, times, counts.as_slice())?;
+    Ok(answer(alloc, DONE, text))
 }
 
 fn counts_text(alloc: Global, times: u32, counts: &[Counted]) -> Result<String, AllocError>

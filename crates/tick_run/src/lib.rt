@@ -1,7 +1,8 @@
 //! Runs a code with each of its processes on a thread of its own, over one table that they share.
 //!
 //! Start with `run`. What each process did stands in one history of all; a `Gate` is told before
-//! each instruction that touches what is shared.
+//! each instruction that touches what is shared. `OnThreads` runs a code with nobody waiting, for
+//! callers that have no threads of their own: once as a `OneRun`, or once for each call as a `Runner`.
 #![tactic(auto)]
 
 mod fault;
@@ -10,9 +11,11 @@ mod gathering;
 mod jobs;
 mod registers;
 mod runner;
+mod runs;
 mod worker;
 
 pub use fault::RunFault;
 pub use gate::Gate;
 pub use machine_core::{RunEnd, RunOutcome};
 pub use runner::run;
+pub use runs::{OnThreads, OneRun, Runner};

@@ -6,7 +6,8 @@ use Rattle.std.specs.Global.{Global}
 use Rattle.std.specs.List.{dedup, dedup_from}
 use Rattle.std.specs.String.{string_eq_equiv}
 use Rattle.tick_tally.specs.declared.counting.Counted.{Counted}
-use Rattle.tick_tally.specs.prover.Counting.{times_of, with_text}
+use Rattle.tick_tally.specs.prover.Counting.{with_text}
+use Rattle.tick_tally.specs.Times.{times_of}
 
 module _ {X : Type 0} (same : X → X → Bool) where
   -- one more element, where the last isn't the same

@@ -2,7 +2,8 @@ ghost use Rattle.std.specs.Prelude.{◌≡◌, ◌<◌, ◌≤◌, ◌+◌, ◌+
 ghost use Rattle.std.specs.Global.{Global};
 ghost use Rattle.std.specs.List.{All, Contains, count_by, dedup, sum_by};
 ghost use Rattle.tick_tally.specs.Tallies.{AreDistinct, AreCommonestFirst, AreTiesInOrder};
-ghost use Rattle.tick_tally.specs.prover.Counting.{times_of, with_text};
+ghost use Rattle.tick_tally.specs.prover.Counting.{with_text};
+ghost use Rattle.tick_tally.specs.Times.{times_of};
 
 use std::alloc::{AllocError, Global};
 

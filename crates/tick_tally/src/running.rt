@@ -1,88 +1,70 @@
-ghost use Rattle.std.specs.Prelude.{◌≡◌, ◌≤◌, length, IfOk, string_bytes, vec_len};
-ghost use Rattle.std.specs.List.{All, sum_by};
-ghost use Rattle.tick_tally.specs.Tallies.{IsOutcomeText, AreDistinct, AreCommonestFirst, AreTiesInOrder};
+ghost use Rattle.std.specs.Prelude.{◌≡◌, ◌×◌, ℕ, List, String, length, map, IfOk, string_bytes};
+ghost use Rattle.std.specs.Global.{Global};
+ghost use Rattle.std.specs.List.{sum_by};
+ghost use Rattle.machine_core.specs.Observables.{RunObservables};
+ghost use Rattle.tick_play.specs.Outcome.{outcome_lines};
+ghost use Rattle.tick_tally.specs.Tallies.{AreCounted, AreRuns};
 
 use crate::counting::{Counted, count_texts};
 use code_core::Code;
-use code_machine::Ask;
 use machine_core::NoMemory;
-use std::alloc::{AllocError, Global};
-use std::sync::Wait;
-use std::thread::Threads;
+use std::alloc::Global;
 use tick_play::outcome_text;
-use tick_run::{Gate, RunFault, run};
+use tick_run::{RunFault, Runner};
 
 /// How many values a process gives out at most.
 const OUTPUTS: u32 = 10_000;
 
-// Nobody waits at it.
-#[derive(Drop)]
-struct OpenGate;
-
-impl Gate for OpenGate {
-    fn before(&mut self, _p: u8, _ask: Ask) {}
-}
-
-fn open_gates(alloc: Global, count: u8) -> Result<Vec<OpenGate>, AllocError>
-    ensures { IfOk result (λ gates. vec_len gates ≡ count) }
-{
-    let mut gates = Vec::new(alloc);
-    for _ in 0..count {
-        gates.push(OpenGate)?;
-    }
-    Ok(gates)
-}
-
-// What one run lets others see, as a text.
-fn outcome_of_run<R: AllocGlobal + Threads + Wait>(
-    rt: &R,
+// What the next run lets others see, as a text.
+fn next_outcome<M: Runner>(
+    alloc: Global,
+    runner: &mut M,
     code: &Code,
     turns: u64,
 ) -> Result<String, RunFault>
-    ensures { IfOk result (λ text. IsOutcomeText code.now turns (string_bytes text)) }
+    ensures { IfOk result (λ text. (outcome : RunObservables) × M.Ran runner.old code.now turns 10000 outcome runner.new × (string_bytes text ≡ outcome_lines outcome)) }
 {
-    let gates = open_gates(rt.alloc(), code.sizes().processes())?;
-    let outcome = run(rt, rt.alloc(), code, gates, turns, OUTPUTS)?;
-    match outcome_text(rt.alloc(), &outcome) {
+    let outcome = runner.run_next(code, turns, OUTPUTS)?;
+    match outcome_text(alloc, &outcome) {
         Ok(text) => Ok(text),
         Err(NoMemory) => Err(RunFault::NoMemory),
     }
 }
 
 // The outcomes of so many runs, one after the other.
-fn outcomes<R: AllocGlobal + Threads + Wait>(
-    rt: &R,
+fn outcomes<M: Runner>(
+    alloc: Global,
+    runner: &mut M,
     code: &Code,
     times: u32,
     turns: u64,
 ) -> Result<Vec<String>, RunFault>
-    ensures times { IfOk result (λ texts. length texts.items ≡ times) }
-    ensures each { IfOk result (λ texts. All (λ text. IsOutcomeText code.now turns (string_bytes text)) texts.items) }
+    ensures { IfOk result (λ texts. (seen : List RunObservables) × (length seen ≡ times)
+        × AreRuns (λ old. M.Ran old code.now turns 10000) runner.old seen runner.new × (map string_bytes texts.items ≡ map outcome_lines seen)) }
 {
-    let mut texts = Vec::new(rt.alloc());
+    let mut texts = Vec::new(alloc);
     for _ in 0..times {
-        let text = outcome_of_run(rt, code, turns)?;
+        let text = next_outcome(alloc, runner, code, turns)?;
         texts.reserve(1)?;
         texts.push_reserved(text);
     }
     Ok(texts)
 }
 
-/// Runs a code on threads so many times, each process for at most `turns` instructions, and counts equal
-/// outcomes: the commonest first, and those that came equally often in order of their texts.
-pub fn tally<R: AllocGlobal + Threads + Wait>(
-    rt: &R,
+/// Has a code run so many times, each process for at most `turns` instructions, and counts equal
+/// outcomes: the commonest first, and those that came equally often in order of their texts. Each call of
+/// the runner counts once, and there are just so many.
+pub fn tally<M: Runner>(
+    alloc: Global,
+    runner: &mut M,
     code: &Code,
     times: u32,
     turns: u64,
 ) -> Result<Vec<Counted>, RunFault>
     ensures times { IfOk result (λ all. sum_by (λ c. c.times) all.items ≡ times) }
-    ensures each { IfOk result (λ all. All (λ c. IsOutcomeText code.now turns (string_bytes c.outcome)) all.items) }
-    ensures positive { IfOk result (λ all. All (λ c. 1 ≤ c.times) all.items) }
-    ensures distinct { IfOk result (λ all. AreDistinct all.items) }
-    ensures commonest_first { IfOk result (λ all. AreCommonestFirst all.items) }
-    ensures ties { IfOk result (λ all. AreTiesInOrder all.items) }
+    ensures counted { IfOk result (λ all. (seen : List RunObservables) × (length seen ≡ times)
+        × AreRuns (λ old. M.Ran old code.now turns 10000) runner.old seen runner.new × AreCounted seen all.items) }
 {
-    let texts = outcomes(rt, code, times, turns)?;
-    Ok(count_texts(rt.alloc(), texts)?)
+    let texts = outcomes(alloc, runner, code, times, turns)?;
+    Ok(count_texts(alloc, texts)?)
 }

@@ -8,10 +8,12 @@ use engine::ended;
 use host_io::{HostReader, HostWriter};
 use std::env::args;
 use std::process::ExitCode;
+use tick_run::OnThreads;
 
 fn main(rt: HostRuntime) -> ExitCode {
     ended(
-        &rt,
+        rt.alloc(),
+        OnThreads::new(&rt),
         args(&rt),
         &mut HostReader::new(rt.stdin()),
         &mut HostWriter::new(rt.stdout()),

@@ -1,8 +1,6 @@
--- Texts of which equal neighbours are told once, and how often each stands there.
+-- Texts of which equal neighbours are told once.
 use Rattle.std.specs.Global.{Global}
-use Rattle.std.specs.Prelude.{◌-◌, ◌++◌, ◌∷◌, ◌&&◌, [], ℕ, Bool, List, String, cond, length, nat_lt, slice_index_or, string_eq}
-use Rattle.std.specs.List.{sum_by}
-use Rattle.tick_tally.specs.declared.counting.Counted.{Counted}
+use Rattle.std.specs.Prelude.{◌-◌, ◌++◌, ◌∷◌, ◌&&◌, [], Bool, List, String, cond, length, nat_lt, slice_index_or, string_eq}
 
 -- the last of the texts is the same as this one
 abbrev pub ends_with : List (String Global) → String Global → Bool
@@ -11,7 +9,3 @@ ends_with texts text = nat_lt 0 (length texts) && string_eq text (slice_index_or
 -- one more text, where the last isn't the same
 abbrev pub with_text : List (String Global) → String Global → List (String Global)
 with_text texts text = cond (ends_with texts text) texts (texts ++ text ∷ [])
-
--- how often this text was counted
-abbrev pub times_of : String Global → List Counted → ℕ
-times_of text = sum_by (λ c. cond (string_eq text c.outcome) c.times 0)

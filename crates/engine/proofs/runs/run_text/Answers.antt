@@ -10,9 +10,6 @@ unanswered : (fault : RunFault) → IsUnanswered true (run_fault fault)
 unanswered NoMemory = tt
 unanswered NoThread = refl
 
-pub returns-in_err-gates-clause-err : goal.returns-in_err-gates-clause-err
-returns-in_err-gates-clause-err g c = rw (err_is c.from_residual.result c.from_residual.ensures.1) tt
-
 pub returns-in_err-outcome-clause-err : goal.returns-in_err-outcome-clause-err
 returns-in_err-outcome-clause-err g c =
     rw (err_is c.from_residual-in_err-outcome.result c.from_residual-in_err-outcome.ensures.1) (unanswered c.in_err-outcome.field-0.0)

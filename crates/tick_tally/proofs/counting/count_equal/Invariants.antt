@@ -1,7 +1,7 @@
 use Rattle.std.proofs.Common.{◌≡◌, ◌≤◌, length, map, String, string_eq}
 use Rattle.std.specs.Global.{Global}
 use Rattle.std.specs.List.{All, count_by, dedup, sum_by}
-use Rattle.tick_tally.specs.prover.Counting.{times_of}
+use Rattle.tick_tally.specs.Times.{times_of}
 use Rattle.tick_tally.proofs.counting.count_equal.Given as goal
 
 -- the texts so far are counted
