@@ -16,6 +16,7 @@ use std::env::Args;
 use std::io;
 use std::sync::Wait;
 use std::thread::Threads;
+use tick_run::OnThreads;
 
 /// The exit status of the words' answer, once all of it is written.
 pub fn outcome<A: AllocGlobal + Threads + Wait>(
@@ -64,7 +65,15 @@ fn runs_counted<A: AllocGlobal + Threads + Wait>(
     ensures { IfOk result (RespondsRuns (plain_runs runs.entry)) }
 {
     let input = bytes_of(rt, runs.file)?;
-    Ok(tallied(threads, runs.file, input.as_slice(), runs.times, runs.turns)?)
+    let mut runner = OnThreads::new(threads);
+    Ok(tallied(
+        rt.alloc(),
+        &mut runner,
+        runs.file,
+        input.as_slice(),
+        runs.times,
+        runs.turns,
+    )?)
 }
 
 fn words_of(alloc: Global, given: io::Result<Args>) -> Result<Vec<String>, LabFault>
