@@ -4,11 +4,11 @@ use Rattle.text_core.specs.Lines.{line_end}
 use Rattle.tick_kinds.specs.Accepted.{IsAccepted}
 use Rattle.tick_kinds.specs.Resolution.{resolved}
 use Rattle.tick_lower.specs.Lowered.{lowered, lowered_length, lowered_sizes}
-use Rattle.tick_play.proofs.Offered.{schedule_of-below, schedule_of-short, written_reads_back}
+use Rattle.schedule_text.proofs.Offered.{schedule_of-below, schedule_of-short, written_reads_back}
 use Rattle.tick_play.specs.Report.{code_report, report, source_report}
-use Rattle.tick_play.specs.Schedule.{schedule_of}
-use Rattle.tick_play.specs.Written.{schedule_text}
-use Rattle.tick_play.specs.declared.schedule.ScheduleFault.{ScheduleFault}
+use Rattle.schedule_text.specs.Schedule.{schedule_of}
+use Rattle.schedule_text.specs.Written.{schedule_text}
+use Rattle.schedule_text.specs.declared.schedule.ScheduleFault.{ScheduleFault}
 use Rattle.tick_sim.proofs.Offered.{down_law, up_law, down_lawful, down_short, up_lawful}
 use Rattle.tick_tree.specs.Plain.{Name, WholeProgram}
 use Rattle.tick_syntax.proofs.Offered.{program_text_begins}

@@ -1,6 +1,6 @@
 -- Answers on a schedule that was read.
 use Rattle.std.proofs.Common.{◌≡◌, ◌∙◌, ℕ, List, Ok, ap, subst, sym}
-use Rattle.tick_play.specs.Schedule.{schedule_of}
+use Rattle.schedule_text.specs.Schedule.{schedule_of}
 use Rattle.ticketc_lines.specs.Answer.{done, scheduled}
 
 -- the text of the steps that were read is the answer

@@ -2,7 +2,7 @@
 use Rattle.std.specs.Prelude.{◌≡◌, ℕ, List, Result, Ok, Err}
 use Rattle.code_text.specs.CodeText.{ReadsAs}
 use Rattle.tick_play.specs.Report.{code_report}
-use Rattle.tick_play.specs.Schedule.{schedule_of}
+use Rattle.schedule_text.specs.Schedule.{schedule_of}
 use Rattle.code_core.specs.Instructions.{StepCode}
 use Rattle.code_core.specs.declared.fault.CodeFault.{CodeFault}
 use Rattle.ticketc_lines.specs.Answer.{Answer, scheduled, stopped}

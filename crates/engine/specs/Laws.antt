@@ -5,7 +5,7 @@ use Rattle.std.specs.Prelude.{◌≡◌, ◌↔◌, ℕ, ◌≤◌, ◌++◌, fa
 use Rattle.text_core.specs.Lines.{line_end}
 use Rattle.command_line.specs.declared.request.Request.{Request}
 use Rattle.command_line.specs.declared.request.Request.TheVariants.{Source, Code, Expand, Project}
-use Rattle.tick_play.specs.Written.{schedule_text}
+use Rattle.schedule_text.specs.Written.{schedule_text}
 use Rattle.tick_tree.specs.Plain.{Name, WholeProgram}
 use Rattle.tick_syntax.specs.RoundTrip.{IsTextOf}
 use Rattle.code_core.specs.Instructions.{StepCode}

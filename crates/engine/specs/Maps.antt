@@ -1,8 +1,8 @@
 -- What `drop` and `lift` answer on the code of a program: a schedule in one line.
 use Rattle.std.specs.Prelude.{ℕ, List, ◌++◌}
 use Rattle.text_core.specs.Lines.{line_end}
-use Rattle.tick_play.specs.Schedule.{schedule_of}
-use Rattle.tick_play.specs.Written.{schedule_text}
+use Rattle.schedule_text.specs.Schedule.{schedule_of}
+use Rattle.schedule_text.specs.Written.{schedule_text}
 use Rattle.tick_sim.specs.Maps.{down, up}
 use Rattle.code_core.specs.Instructions.{StepCode}
 use Rattle.ticketc_lines.specs.Answer.{Answer, scheduled}

@@ -6,7 +6,7 @@ use Rattle.tick_kinds.specs.Refusals.{first_refusal}
 use Rattle.tick_kinds.specs.Resolution.{resolved}
 use Rattle.tick_kinds.specs.declared.fault.KindFault.{KindFault}
 use Rattle.tick_play.specs.Report.{source_report}
-use Rattle.tick_play.specs.Schedule.{schedule_of}
+use Rattle.schedule_text.specs.Schedule.{schedule_of}
 use Rattle.tick_syntax.specs.Nesting.{nesting}
 use Rattle.tick_tree.specs.Plain.{Name, WholeProgram}
 use Rattle.tick_syntax.specs.Printed.{printed}

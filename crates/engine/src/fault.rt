@@ -3,9 +3,9 @@ ghost use Rattle.engine.specs.declared.fault.EngineFault.TheVariants.{Memory};
 ghost use Rattle.engine.specs.prover.Faults.{end_fault, run_fault};
 
 use byte_io::EndFault;
+use schedule_text::NoMemory;
 use std::alloc::{AllocError, AllocFailed};
 use thiserror::Error;
-use tick_play::NoMemory;
 use tick_run::RunFault;
 
 /// Why the engine has no status to give.

@@ -10,10 +10,11 @@ ghost use Rattle.ticketc_lines.specs.Stop.{IfRefused};
 use crate::program::program_of;
 use code_core::Code;
 use code_text::{read_code, write_code};
+use schedule_text::read_schedule;
 use std::alloc::Global;
 use tick_kinds::Program;
 use tick_lower::lower;
-use tick_play::{play_code, read_schedule};
+use tick_play::play_code;
 use ticketc_lines::Stop;
 
 /// The text of the code that an accepted program becomes.

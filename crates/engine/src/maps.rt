@@ -9,9 +9,9 @@ ghost use Rattle.ticketc_lines.specs.Stop.{IfRefused};
 
 use crate::lowered::lowering_of;
 use code_core::Code;
+use schedule_text::{NoMemory, read_schedule, write_schedule};
 use std::alloc::Global;
 use tick_kinds::Program;
-use tick_play::{NoMemory, read_schedule, write_schedule};
 use tick_sim::{expand, project};
 use ticketc_lines::Stop;
 

@@ -6,9 +6,10 @@ ghost use Rattle.ticketc_lines.specs.Answer.{Answer, done, refused};
 ghost use Rattle.engine.specs.Programs.{IsProgramText, IsTextAnswer, check_answer, source_answer};
 ghost use Rattle.ticketc_lines.specs.Stop.{IfRefused};
 
+use schedule_text::read_schedule;
 use std::alloc::Global;
 use tick_kinds::{Program, check};
-use tick_play::{play_source, read_schedule};
+use tick_play::play_source;
 use tick_syntax::{parse, print};
 use ticketc_lines::Stop;
 

@@ -1,6 +1,6 @@
 -- What is wrong with an input, and with a schedule of it: the report goes out.
 use Rattle.std.specs.Prelude.{◌≡◌, ℕ, List, Ok}
-use Rattle.tick_play.specs.Schedule.{schedule_of}
+use Rattle.schedule_text.specs.Schedule.{schedule_of}
 use Rattle.tick_explain.specs.Refusals.{BeginsCode, IsCode, IsInputRefused, IsProgram, IsScheduleRefused, IsTakenInput}
 use Rattle.tick_explain.specs.Reports.{Tells}
 use Rattle.lab_answers.specs.Lines.{both_taken_line, taken_line}

@@ -1,8 +1,8 @@
 -- The labels under the stamps and clears that a text spells, as a picture.
 use Rattle.std.specs.Prelude.{◌≡◌, ◌≤◌, ◌<◌, ℕ, List, length, Ok, Err}
 use Rattle.ticket_core.specs.declared.moves.Move.{Move}
-use Rattle.tick_play.specs.Moves.{moves_of}
-use Rattle.tick_play.specs.declared.schedule.ScheduleFault.{ScheduleFault}
+use Rattle.schedule_text.specs.Moves.{moves_of}
+use Rattle.schedule_text.specs.declared.schedule.ScheduleFault.{ScheduleFault}
 use Rattle.label_draw.specs.Frames.{frames_of}
 use Rattle.label_draw.specs.Pictures.{picture}
 use Rattle.lab_answers.specs.Lines.{many_line, number_line, spelling_line}

@@ -2,9 +2,9 @@
 use Rattle.std.specs.Prelude.{◌++◌, ◌==◌, if◌then◌else◌, ℕ, List, [], ◌∷◌, codes, string_bytes}
 use Rattle.std.specs.Fmt.{decimal}
 use Rattle.text_core.specs.Lines.{line_end}
-use Rattle.tick_play.specs.Written.{schedule_text}
-use Rattle.tick_play.specs.declared.schedule.ScheduleFault.{ScheduleFault}
-use Rattle.tick_play.specs.declared.schedule.ScheduleFault.TheVariants.{BadItem, NoSuchProcess, TooLong, NoMemory}
+use Rattle.schedule_text.specs.Written.{schedule_text}
+use Rattle.schedule_text.specs.declared.schedule.ScheduleFault.{ScheduleFault}
+use Rattle.schedule_text.specs.declared.schedule.ScheduleFault.TheVariants.{BadItem, NoSuchProcess, TooLong, NoMemory}
 use Rattle.tick_hunt.specs.declared.plan.Plan.{Plan}
 use Rattle.tick_tally.specs.declared.counting.Counted.{Counted}
 

@@ -4,7 +4,7 @@ use Rattle.tick_tree.specs.Plain.{Name, WholeProgram}
 use Rattle.tick_syntax.specs.Spelling.{Spells}
 use Rattle.tick_syntax.specs.declared.token.Token.{Token}
 use Rattle.tick_kinds.specs.Resolution.{resolved}
-use Rattle.tick_play.specs.Schedule.{schedule_of}
+use Rattle.schedule_text.specs.Schedule.{schedule_of}
 use Rattle.tick_explain.specs.Refusals.{IsProgram, IsProgramRefused, IsScheduleRefused}
 use Rattle.tick_explain.specs.Reports.{Tells}
 use Rattle.tick_trace.specs.declared.steps.InstructionStep.{InstructionStep}

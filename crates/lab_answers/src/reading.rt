@@ -1,7 +1,7 @@
 //! What was read, as what it has to be.
 ghost use Rattle.std.specs.Prelude.{◌≡◌, ◌<◌, All, Err, IfErr, IfOk, Ok, string_bytes};
-ghost use Rattle.tick_play.specs.Moves.{moves_of as moves_spelled, mover};
-ghost use Rattle.tick_play.specs.Schedule.{schedule_of as schedule_spelled};
+ghost use Rattle.schedule_text.specs.Moves.{moves_of as moves_spelled, mover};
+ghost use Rattle.schedule_text.specs.Schedule.{schedule_of as schedule_spelled};
 ghost use Rattle.tick_explain.specs.Refusals.{IsProgram, IsProgramRefused, IsScheduleRefused};
 ghost use Rattle.tick_explain.specs.Reports.{Tells};
 ghost use Rattle.lab_answers.specs.Codes.{HasCode, HasNoCode, program_code};
@@ -11,11 +11,11 @@ ghost use Rattle.lab_answers.specs.Stops.{IfRefused};
 use crate::fault::AnswerFault;
 use crate::stop::Stop;
 use code_core::Code;
+use schedule_text::{Move, ScheduleFault, read_moves, read_schedule};
 use std::alloc::{AllocError, Global};
 use tick_explain::{explain_refusal, explain_schedule, program_in};
 use tick_kinds::Program;
 use tick_lower::{LowerFault, lower};
-use tick_play::{Move, ScheduleFault, read_moves, read_schedule};
 
 /// The accepted program that an input is; `name` is that of its file.
 pub fn program_of(alloc: Global, name: &str, input: &[u8]) -> Result<Program, Stop>

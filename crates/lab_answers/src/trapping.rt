@@ -6,9 +6,9 @@ ghost use Rattle.lab_answers.specs.Shown.{IsTrapText};
 
 use crate::tracing::source_text;
 use base::NoMemory;
+use schedule_text::write_schedule;
 use std::alloc::Global;
 use tick_kinds::Program;
-use tick_play::write_schedule;
 
 /// How it was found, the schedule, and what each of its steps does in the program that this input is.
 pub fn trap_text(

@@ -2,7 +2,7 @@
 use Rattle.std.specs.Prelude.{ℕ, ◌+◌, ◌==◌, Bool, false, Option, None, Some, List, [], ◌∷◌, ◌++◌, codes, if◌then◌else◌}
 use Rattle.ticket_core.specs.declared.moves.Move.{Move}
 use Rattle.word_core.specs.Stamps.{Labels}
-use Rattle.tick_play.specs.Moves.{mover}
+use Rattle.schedule_text.specs.Moves.{mover}
 use Rattle.label_draw.specs.Layout.{is_nested, left_most, top_most, right, below, seat, row_top, cell_left}
 use Rattle.label_draw.specs.Writing.{one_number, two_numbers}
 

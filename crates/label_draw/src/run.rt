@@ -1,6 +1,6 @@
 // The frames of a list of moves.
 ghost use Rattle.std.specs.Prelude.{◌≡◌, ◌+◌, ◌<◌, ◌≤◌, All, IfOk, length};
-ghost use Rattle.tick_play.specs.Moves.{mover};
+ghost use Rattle.schedule_text.specs.Moves.{mover};
 ghost use Rattle.word_core.specs.Order.{IsOrdered};
 ghost use Rattle.word_core.specs.Stamps.{moved};
 ghost use Rattle.label_draw.specs.Frames.{frames_of};

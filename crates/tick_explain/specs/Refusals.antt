@@ -8,8 +8,8 @@ use Rattle.code_text.specs.CodeText.{ReadsAs}
 use Rattle.tick_kinds.specs.Accepted.{IsAccepted}
 use Rattle.tick_kinds.specs.Refusals.{first_refusal}
 use Rattle.tick_kinds.specs.declared.fault.KindFault.{KindFault}
-use Rattle.tick_play.specs.Schedule.{schedule_of}
-use Rattle.tick_play.specs.declared.schedule.ScheduleFault.{ScheduleFault}
+use Rattle.schedule_text.specs.Schedule.{schedule_of}
+use Rattle.schedule_text.specs.declared.schedule.ScheduleFault.{ScheduleFault}
 use Rattle.tick_syntax.specs.Nesting.{nesting}
 use Rattle.tick_tree.specs.Plain.{Name, WholeProgram}
 use Rattle.tick_syntax.specs.Refusal.{IsTextRefused}

@@ -1,6 +1,6 @@
 // The public calls.
 ghost use Rattle.std.specs.Prelude.{◌≡◌, ◌<◌, ℕ, List, IfOk, MatchOption};
-ghost use Rattle.tick_play.specs.Schedule.{schedule_of};
+ghost use Rattle.schedule_text.specs.Schedule.{schedule_of};
 ghost use Rattle.tick_explain.specs.Refusals.{IsCode, IsCodeRefused, IsInputRefused, IsProgram, IsProgramRefused, IsScheduleRefused, IsTakenInput};
 ghost use Rattle.tick_explain.specs.Reports.{Tells};
 

@@ -1,16 +1,16 @@
 // Which refusal an input has, as the crates say that read it.
 ghost use Rattle.std.specs.Prelude.{◌≡◌, ◌≢◌, ◌++◌, ℕ, List, IfOk, MatchOption, MatchResult, codes, true, false};
-ghost use Rattle.tick_play.specs.Schedule.{schedule_of};
+ghost use Rattle.schedule_text.specs.Schedule.{schedule_of};
 ghost use Rattle.tick_explain.specs.Refusals.{BeginsCode, IsCode, IsCodeRefused, IsInputRefused, IsNoText, IsProgram, IsProgramRefused, IsScheduleRefused, IsTakenInput, IsText};
 
 use crate::refusal::Refusal;
 use code_core::{Code, CodeFault};
 use code_text::read_code;
 use machine_core::NoMemory;
+use schedule_text::{ScheduleFault, read_schedule};
 use std::alloc::Global;
 use std::str;
 use tick_kinds::{KindFault, Program, check};
-use tick_play::{ScheduleFault, read_schedule};
 use tick_syntax::{TextFault, parse};
 
 const INPUT_LIMIT: usize = 1_000_000;

@@ -1,6 +1,6 @@
 use code_core::CodeFault;
+use schedule_text::ScheduleFault;
 use tick_kinds::KindFault;
-use tick_play::ScheduleFault;
 use tick_syntax::fault::TextFault;
 
 /// Why an input is refused: as a text, by its kinds, as a code, or as a schedule. Bytes that are no

@@ -6,9 +6,9 @@ ghost use Rattle.tick_explain.specs.RefusalLine.{code_line, kind_name, kinds_lin
 use crate::refusal::Refusal;
 use crate::writing::{push, push_decimal};
 use code_core::CodeFault;
+use schedule_text::ScheduleFault;
 use std::alloc::AllocError;
 use tick_kinds::{Kind, KindFault};
-use tick_play::ScheduleFault;
 use tick_syntax::TextFault;
 use tick_tree::span::Span;
 

@@ -5,8 +5,8 @@ use crate::lexical::helped;
 use crate::report::{Told, told_of};
 use crate::scene::{shortened, text_at};
 use machine_core::NoMemory;
+use schedule_text::ScheduleFault;
 use std::alloc::Global;
-use tick_play::ScheduleFault;
 use tick_tree::span::Span;
 
 /// What is wrong with a schedule of so many processes; `span` is the faulty item.

@@ -1,5 +1,5 @@
--- Small schedules and runs, and their texts.
-use Rattle.std.proofs.Common.{◌≡◌, ℕ, List, [], ◌∷◌, ◌++◌, Ok, Err, codes, refl, replicate}
+-- Small runs, and their texts.
+use Rattle.std.proofs.Common.{◌≡◌, ℕ, List, [], ◌∷◌, ◌++◌, codes, refl, replicate}
 use Rattle.std.specs.Fmt.{digits}
 use Rattle.text_core.specs.Lines.{line_end}
 use Rattle.machine_core.specs.declared.operator.Op.TheVariants as O
@@ -7,69 +7,11 @@ use Rattle.tick_tree.specs.Plain.{number, named, me, binary, get, put, stamp, sc
 use Rattle.machine_core.specs.declared.status.Trap.TheVariants as T
 use Rattle.machine_core.specs.declared.status.Status.TheVariants as S
 use Rattle.machine_core.specs.declared.event.Act.TheVariants as A
-use Rattle.tick_play.specs.declared.schedule.ScheduleFault.TheVariants.{BadItem, NoSuchProcess, TooLong}
-use Rattle.ticket_core.specs.declared.moves.Move.TheVariants.{Stamp, Clear}
-use Rattle.tick_play.specs.Moves.{moves_of}
-use Rattle.tick_play.specs.Schedule.{schedule_of}
-use Rattle.tick_play.specs.Written.{schedule_text}
 use Rattle.code_core.specs.declared.instr.Instr.TheVariants as I
 use Rattle.code_core.specs.Instructions.{StepCode, sizes}
 use Rattle.machine_core.specs.declared.run_outcome.RunEnd.TheVariants as E
 use Rattle.tick_play.specs.Outcome.{outcome_lines}
 use Rattle.tick_play.specs.Report.{code_report, report, source_report}
-
-no_steps : schedule_text [] ≡ []
-unfolding digits
-no_steps = refl
-
-one_step : schedule_text (3 ∷ []) ≡ codes "3"
-unfolding digits
-one_step = refl
-
-longest_runs : schedule_text (1 ∷ 1 ∷ 0 ∷ 1 ∷ 1 ∷ 1 ∷ []) ≡ codes "1*2 0 1*3"
-unfolding digits
-longest_runs = refl
-
-blanks_around : schedule_of 2 (codes " 1*2  0 ") ≡ Ok (1 ∷ 1 ∷ 0 ∷ [])
-blanks_around = refl
-
-leading_zeros : schedule_of 2 (codes "01*02") ≡ Ok (1 ∷ 1 ∷ [])
-leading_zeros = refl
-
-no_such_process : schedule_of 2 (codes "0 2") ≡ Err (NoSuchProcess 2)
-no_such_process = refl
-
-no_turns : schedule_of 2 (codes "0*0") ≡ Err (BadItem 0)
-no_turns = refl
-
-too_long : schedule_of 2 (codes "0*10000001") ≡ Err TooLong
-too_long = refl
-
--- a `c` begins no item of a schedule
-no_clears : schedule_of 2 (codes "0 c0") ≡ Err (BadItem 2)
-no_clears = refl
-
-stamps_and_clears : moves_of 2 (codes "0 c0*2 01 c1") ≡ Ok (Stamp 0 ∷ Clear 0 ∷ Clear 0 ∷ Stamp 1 ∷ Clear 1 ∷ [])
-stamps_and_clears = refl
-
--- after the `c` stands an item of a schedule
-clear_alone : moves_of 2 (codes "0 c") ≡ Err (BadItem 2)
-clear_alone = refl
-
-clear_apart : moves_of 2 (codes "c 0") ≡ Err (BadItem 0)
-clear_apart = refl
-
-clear_twice : moves_of 2 (codes "cc0") ≡ Err (BadItem 0)
-clear_twice = refl
-
-clear_nobody : moves_of 2 (codes "c*2") ≡ Err (BadItem 0)
-clear_nobody = refl
-
-clear_stranger : moves_of 2 (codes "0 c2") ≡ Err (NoSuchProcess 2)
-clear_stranger = refl
-
-clears_too_long : moves_of 2 (codes "0 c0*10000000") ≡ Err TooLong
-clears_too_long = refl
 
 abbrev lines : List (List ℕ) → List ℕ
 lines [] = []

@@ -1,5 +1,1 @@
 mod Examples
-pub mod ScheduleLemmas
-pub mod WritingLemmas
-pub mod ReadingBack
-pub mod Offered

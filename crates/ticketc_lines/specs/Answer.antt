@@ -1,7 +1,7 @@
 -- An answer is a status and a text.
 use Rattle.std.specs.Prelude.{ℕ, List, [], ◌++◌, codes, Result, Ok, Err}
 use Rattle.text_core.specs.Lines.{line_end}
-use Rattle.tick_play.specs.declared.schedule.ScheduleFault.{ScheduleFault}
+use Rattle.schedule_text.specs.declared.schedule.ScheduleFault.{ScheduleFault}
 use Rattle.ticketc_lines.specs.Refusal.{refusal_line}
 use Rattle.ticketc_lines.specs.Stop.{schedule_stop}
 use Rattle.ticketc_lines.specs.declared.refusal.Refusal.{Refusal}

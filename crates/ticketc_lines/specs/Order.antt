@@ -9,7 +9,7 @@ use Rattle.ticket_core.specs.declared.moves.Move.{Move}
 use Rattle.ticket_core.specs.declared.moves.Move.TheVariants.{Stamp, Clear}
 use Rattle.word_core.specs.Stamps.{Labels, labels_moved, moved, start_labels}
 use Rattle.word_core.specs.Packed.{word}
-use Rattle.tick_play.specs.Moves.{moves_of}
+use Rattle.schedule_text.specs.Moves.{moves_of}
 use Rattle.ticketc_lines.specs.Answer.{Answer, scheduled}
 
 abbrev pub move_text : Move → List ℕ

@@ -3,8 +3,8 @@ use Rattle.tick_kinds.specs.declared.fault.KindFault.{KindFault}
 use Rattle.tick_kinds.specs.declared.fault.KindFault.TheVariants as kinds
 use Rattle.tick_lower.specs.declared.fault.LowerFault.{LowerFault}
 use Rattle.tick_lower.specs.declared.fault.LowerFault.TheVariants as lowering
-use Rattle.tick_play.specs.declared.schedule.ScheduleFault.{ScheduleFault}
-use Rattle.tick_play.specs.declared.schedule.ScheduleFault.TheVariants as schedule
+use Rattle.schedule_text.specs.declared.schedule.ScheduleFault.{ScheduleFault}
+use Rattle.schedule_text.specs.declared.schedule.ScheduleFault.TheVariants as schedule
 use Rattle.tick_syntax.specs.declared.fault.TextFault.{TextFault}
 use Rattle.tick_syntax.specs.declared.fault.TextFault.TheVariants as text
 use Rattle.code_core.specs.declared.fault.CodeFault.{CodeFault}

@@ -5,17 +5,17 @@ ghost use Rattle.text_core.specs.Lines.{line_end, spaced};
 ghost use Rattle.word_core.specs.Order.{IsOrdered, label_ranks};
 ghost use Rattle.word_core.specs.Packed.{word};
 ghost use Rattle.word_core.specs.Stamps.{label_at, labels_moved, moved, start_labels};
-ghost use Rattle.tick_play.specs.Moves.{mover};
+ghost use Rattle.schedule_text.specs.Moves.{mover};
 ghost use Rattle.ticketc_lines.specs.Answer.{done, refused};
 ghost use Rattle.ticketc_lines.specs.Order.{label_text, order_answer, move_line, move_lines, moves_text as moves_written, state_lines};
 ghost use Rattle.ticketc_lines.specs.Stop.{IfRefused};
 
 use crate::stop::Stop;
 use label_core::Label;
+use schedule_text::{Move, read_moves};
 use std::alloc::{AllocError, Global};
 use std::fmt::Write;
 use text_core::push_number;
-use tick_play::{Move, read_moves};
 use word_core::{ABSENT_LABEL, EMPTY_LABEL, LAYOUT, LabelWord};
 
 /// The labels that `n` processes have after the stamps and clears that a text spells, and the way there.

@@ -6,10 +6,10 @@ ghost use Rattle.ticketc_lines.specs.declared.stop.Stop.TheVariants.{Memory, Ref
 use crate::refusal::Refusal;
 use code_core::CodeFault;
 use machine_core::NoMemory;
+use schedule_text::ScheduleFault;
 use std::alloc::AllocError;
 use tick_kinds::KindFault;
 use tick_lower::LowerFault;
-use tick_play::ScheduleFault;
 use tick_syntax::fault::TextFault;
 
 /// What stops a command: the input is refused, or memory is.

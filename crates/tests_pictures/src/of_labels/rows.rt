@@ -3,10 +3,10 @@
 use crate::of_labels::asking::{drawn, picture_of, told};
 use crate::of_labels::pictures::PICTURES;
 use label_draw::Frame;
+use schedule_text::Move;
 use std::alloc::Global;
 use std::test::Fail;
 use testing::{holds, is_same};
-use tick_play::Move;
 use word_core::LabelWord;
 
 #[test]

@@ -3,10 +3,10 @@ ghost use Rattle.std.specs.Prelude.{◌<◌, ◌≤◌};
 
 use crate::of_labels::asking::{drawn, told};
 use crate::of_labels::markup::{count_of, is_well_formed};
+use schedule_text::Move;
 use std::alloc::Global;
 use std::test::Fail;
 use testing::{holds, is_same, repeated};
-use tick_play::Move;
 use word_core::LabelWord;
 
 static WALKS: [(u8, &str); 6] = [

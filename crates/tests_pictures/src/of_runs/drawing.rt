@@ -1,6 +1,7 @@
 //! The calls, made once more where memory was refused.
 
 use code_machine::Code;
+use schedule_text::read_schedule;
 use std::alloc::Global;
 use std::str;
 use std::test::Fail;
@@ -8,7 +9,6 @@ use testing::accepted;
 use tick_draw::{Mark, NoMemory, code_marks, marks, picture};
 use tick_kinds::Program;
 use tick_lower::lower;
-use tick_play::read_schedule;
 
 /// The marks of a program's run.
 pub fn marked(alloc: Global, program: &Program, schedule: &str) -> Result<Vec<Mark>, Fail> {

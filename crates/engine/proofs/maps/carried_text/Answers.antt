@@ -1,6 +1,6 @@
 use Rattle.std.proofs.Common.{◌≡◌, ◌≢◌, ◌∙◌, Err, ap, subst, sym}
-use Rattle.tick_play.specs.Schedule.{schedule_of}
-use Rattle.tick_play.specs.declared.schedule.ScheduleFault.TheVariants.{NoMemory}
+use Rattle.schedule_text.specs.Schedule.{schedule_of}
+use Rattle.schedule_text.specs.declared.schedule.ScheduleFault.TheVariants.{NoMemory}
 use Rattle.code_core.specs.Instructions.{StepCode}
 use Rattle.engine.specs.Lowered.{lowered_answer}
 use Rattle.engine.specs.Maps.{carried_answer, carried_line, schedule_line}

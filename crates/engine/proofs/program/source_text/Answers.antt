@@ -1,8 +1,8 @@
 use Rattle.std.proofs.Common.{◌≡◌, ◌≢◌, Err, refl, subst}
 use Rattle.tick_kinds.specs.Resolution.{resolved}
 use Rattle.tick_play.specs.Report.{source_report}
-use Rattle.tick_play.specs.Schedule.{schedule_of}
-use Rattle.tick_play.specs.declared.schedule.ScheduleFault.TheVariants.{NoMemory}
+use Rattle.schedule_text.specs.Schedule.{schedule_of}
+use Rattle.schedule_text.specs.declared.schedule.ScheduleFault.TheVariants.{NoMemory}
 use Rattle.engine.specs.Programs.{IsTextAnswer, accepted, source_answer}
 use Rattle.engine.proofs.ScheduleLemmas.{schedule_done}
 use Rattle.engine.proofs.StopLemmas.{schedule_stops}
