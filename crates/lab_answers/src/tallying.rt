@@ -1,5 +1,5 @@
 //! `ticklab hunt --threads`.
-ghost use Rattle.std.specs.Prelude.{◌≡◌, ◌×◌, ◌++◌, IfErr, IfOk, OnOk, string_bytes};
+ghost use Rattle.std.specs.Prelude.{◌≡◌, ◌++◌, IfErr, IfOk, OnOk, string_bytes};
 ghost use Rattle.lab_answers.specs.Lines.{count_text, count_texts};
 ghost use Rattle.lab_answers.specs.Responses.{Gives};
 ghost use Rattle.lab_answers.specs.Stops.{IfRefused};
@@ -28,7 +28,10 @@ pub fn tallied<M: Runner>(
 ) -> Result<Response, AnswerFault>
     ensures { IfOk result (Tallies M.Ran runner.old runner.new name.now input.now times turns) }
 {
-    settled(alloc, runs_counted(alloc, runner, name, input, times, turns))
+    settled(
+        alloc,
+        runs_counted(alloc, runner, name, input, times, turns),
+    )
 }
 
 fn runs_counted<M: Runner>(

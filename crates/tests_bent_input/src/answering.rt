@@ -5,6 +5,7 @@ use std::str;
 use std::sync::Wait;
 use std::test::Fail;
 use std::thread::Threads;
+use tick_run::OnThreads;
 
 #[derive(Drop)]
 struct Input<'a> {
@@ -102,7 +103,13 @@ pub fn answered<R: AllocGlobal + Threads + Wait>(
         bytes: Vec::new(rt.alloc()),
         counts: Counts::new(),
     };
-    let status = engine(rt, words.as_slice(), &mut reader, &mut writer);
+    let status = engine(
+        rt.alloc(),
+        OnThreads::new(rt),
+        words.as_slice(),
+        &mut reader,
+        &mut writer,
+    );
     Ok(Answer {
         status,
         written: writer.bytes,

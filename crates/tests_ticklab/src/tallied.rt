@@ -7,6 +7,7 @@ use std::sync::Wait;
 use std::test::Fail;
 use std::thread::Threads;
 use testing::repeated;
+use tick_run::OnThreads;
 
 fn tallied_of<R: AllocGlobal + Threads + Wait>(
     rt: &R,
@@ -14,8 +15,9 @@ fn tallied_of<R: AllocGlobal + Threads + Wait>(
     times: u32,
     turns: u64,
 ) -> Answered {
-    match tallied(rt, NAME, input, times, turns) {
-        Err(NoMemory) => tallied(rt, NAME, input, times, turns),
+    let mut runner = OnThreads::new(rt);
+    match tallied(rt.alloc(), &mut runner, NAME, input, times, turns) {
+        Err(NoMemory) => tallied(rt.alloc(), &mut runner, NAME, input, times, turns),
         answered => answered,
     }
 }

@@ -4,6 +4,7 @@ use std::test::Fail;
 use std::thread::Threads;
 use testing::{accepted, is_same};
 use tick_lower::lower;
+use tick_run::OnThreads;
 use tick_tally::{Counted, RunFault, tally};
 
 /// So many runs of the program. Where memory or a thread was refused it is asked once more, so that these
@@ -15,8 +16,11 @@ pub fn tallied<R: AllocGlobal + Threads + Wait>(
     turns: u64,
 ) -> Result<Vec<Counted>, Fail> {
     let code = lower(rt.alloc(), &accepted(rt.alloc(), text)?)?;
-    match tally(rt, &code, times, turns) {
-        Err(RunFault::NoMemory | RunFault::NoThread) => Ok(tally(rt, &code, times, turns)?),
+    let mut runner = OnThreads::new(rt);
+    match tally(rt.alloc(), &mut runner, &code, times, turns) {
+        Err(RunFault::NoMemory | RunFault::NoThread) => {
+            Ok(tally(rt.alloc(), &mut runner, &code, times, turns)?)
+        }
         answer => Ok(answer?),
     }
 }

@@ -6,6 +6,7 @@ use std::sync::Wait;
 use std::test::Fail;
 use std::thread::Threads;
 use testing::holds;
+use tick_run::OnThreads;
 
 pub const USAGE: &str =
     "usage: ticketc order N | check | emit | source S | code S | lift S | drop S | run TURNS\n";
@@ -43,7 +44,13 @@ pub fn served<R: AllocGlobal + Threads + Wait>(
     mut writer: Output,
 ) -> Result<Outcome, Fail> {
     let line = line(rt.alloc(), words)?;
-    let status = engine(rt, line.as_slice(), &mut reader, &mut writer);
+    let status = engine(
+        rt.alloc(),
+        OnThreads::new(rt),
+        line.as_slice(),
+        &mut reader,
+        &mut writer,
+    );
     Ok(Outcome {
         status,
         reads: reader.counts.calls,

@@ -8,6 +8,7 @@ use std::process::ExitCode;
 use std::sync::Wait;
 use std::test::Fail;
 use std::thread::Threads;
+use tick_run::OnThreads;
 
 /// One call that fails, the first being 1.
 #[derive(Clone, Copy)]
@@ -133,7 +134,13 @@ pub fn ending_of<A: AllocGlobal + Threads + Wait>(
 ) -> Ending {
     let mut reader = HostReader::new(&mut input);
     let mut writer = HostWriter::new(&mut output);
-    let status = ended(rt, words, &mut reader, &mut writer);
+    let status = ended(
+        rt.alloc(),
+        OnThreads::new(rt),
+        words,
+        &mut reader,
+        &mut writer,
+    );
     Ending {
         status,
         reads: input.calls,

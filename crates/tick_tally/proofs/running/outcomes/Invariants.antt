@@ -1,9 +1,12 @@
-use Rattle.std.proofs.Common.{◌≡◌, length}
+use Rattle.std.proofs.Common.{◌≡◌, List, length, map}
 use Rattle.std.specs.Prelude.{string_bytes}
-use Rattle.std.specs.List.{All}
-use Rattle.tick_tally.specs.Tallies.{IsOutcomeText}
+use Rattle.machine_core.specs.Observables.{RunObservables}
+use Rattle.tick_play.specs.Outcome.{outcome_lines}
+use Rattle.tick_tally.specs.Tallies.{AreRuns}
 use Rattle.tick_tally.proofs.running.outcomes.Given as goal
 
+-- the texts so far are those of the runs so far
 abbrev pub invariant-loop : goal.invariant-loop
 invariant-loop g l =
-    (length l.texts.items ≡ l.counter) × All (λ text. IsOutcomeText l.code l.turns (string_bytes text)) l.texts.items
+    (seen : List RunObservables) × (length seen ≡ l.counter)
+    × AreRuns (λ old. g.M.Runner.Ran old l.code l.turns 10000) l.fn.runner seen l.runner × (map string_bytes l.texts.items ≡ map outcome_lines seen)

@@ -1,0 +1,92 @@
+//! A runner by script, of which every so many runs one traps: each call counts once.
+
+use code_core::Code;
+use machine_core::{RunEnd, RunOutcome, Trap};
+use std::alloc::{AllocError, Global};
+use std::test::Fail;
+use testing::{accepted, is_same};
+use tick_lower::lower;
+use tick_run::{RunFault, Runner};
+use tick_tally::{Counted, tally};
+
+/// Each run whose number can be divided by `every` traps.
+struct Script {
+    alloc: Global,
+    calls: u64,
+    every: u64,
+}
+
+impl Runner for Script {
+    ghost use Rattle.std.specs.Prelude.{⊤};
+
+    ghost Ran = { λ _ _ _ _ _ _. ⊤ };
+
+    fn run_next(&mut self, _code: &Code, _turns: u64, _outs: u32) -> Result<RunOutcome, RunFault> {
+        self.calls = self.calls.saturating_add(1);
+        let end = match self.calls.checked_rem(self.every) {
+            Some(0) => RunEnd::Trapped(Trap::Zero),
+            _ => RunEnd::Ended,
+        };
+        Ok(alone(self.alloc, end)?)
+    }
+}
+
+// The outcome of one process that gives nothing out.
+fn alone(alloc: Global, end: RunEnd) -> Result<RunOutcome, AllocError> {
+    let mut outputs = Vec::new(alloc);
+    outputs.push(Vec::new(alloc))?;
+    let mut ends = Vec::new(alloc);
+    ends.push(end)?;
+    Ok(RunOutcome {
+        outputs,
+        ends,
+        registers: Vec::new(alloc),
+    })
+}
+
+fn counted(alloc: Global, times: u32, outcome: &str) -> Result<Counted, AllocError> {
+    Ok(Counted {
+        times,
+        outcome: String::from_str(alloc, outcome)?,
+    })
+}
+
+const ENDED: &str = "outputs 0\nstatus 0 ended\n";
+
+const TRAPPED: &str = "outputs 0\nstatus 0 trapped Zero\n";
+
+// Of so many runs so many trap, and the runner is called once for each.
+fn traps_so_often(
+    alloc: Global,
+    every: u64,
+    times: u32,
+    wanted: &[(u32, &str)],
+) -> Result<(), Fail> {
+    let code = lower(alloc, &accepted(alloc, "processes 1; begin end")?)?;
+    let mut script = Script {
+        alloc,
+        calls: 0,
+        every,
+    };
+    let all = tally(alloc, &mut script, &code, times, 1)?;
+    let mut counts = Vec::new(alloc);
+    for (often, outcome) in wanted {
+        counts.push(counted(alloc, *often, outcome)?)?;
+    }
+    is_same(&(all, script.calls), &(counts, u64::from(times)))
+}
+
+#[test]
+fn half_of_them(rt: HostRuntime) -> Result<(), Fail> {
+    traps_so_often(rt.alloc(), 2, 300, &[(150, ENDED), (150, TRAPPED)])
+}
+
+#[test]
+fn one_alone(rt: HostRuntime) -> Result<(), Fail> {
+    traps_so_often(rt.alloc(), 300, 300, &[(299, ENDED), (1, TRAPPED)])
+}
+
+#[test]
+fn all_of_them(rt: HostRuntime) -> Result<(), Fail> {
+    traps_so_often(rt.alloc(), 1, 7, &[(7, TRAPPED)])
+}
