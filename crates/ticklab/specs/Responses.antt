@@ -4,7 +4,7 @@ use Rattle.lab_answers.specs.Answers.{Explores, Hunts, Merges}
 use Rattle.lab_answers.specs.Explanations.{Explains, ExplainsBoth}
 use Rattle.lab_answers.specs.Labels.{DrawsLabels}
 use Rattle.lab_answers.specs.Runs.{Draws, Traces}
-use Rattle.lab_answers.specs.Tallies.{Tallies}
+use Rattle.lab_answers.specs.Tallies.{RunsOf, Tallies}
 use Rattle.lab_answers.specs.declared.response.Response.{Response}
 use Rattle.lab_line.specs.declared.request.Request.{Request}
 use Rattle.lab_line.specs.declared.request.Request.TheVariants.{Explore, Hunt, Trace, Draw, Explain, Labels}
@@ -51,5 +51,7 @@ Responds (Draw file schedule is_code) = RespondsAfterReading Draws file schedule
 Responds (Explain file schedule) = RespondsExplaining file schedule
 Responds (Labels processes moves) = DrawsLabels processes moves
 
-abbrev pub RespondsRuns : Runs Text → Response → Type 0
-RespondsRuns runs response = (input : Text) × Tallies runs.file input runs.times runs.turns response
+-- the runs are those of the runner, which is `before` them and `after` them
+abbrev pub RespondsRuns : {M : Type 0} → RunsOf M → M → M → Runs Text → Response → Type 0
+RespondsRuns Ran before after runs response =
+    (input : Text) × Tallies Ran before after runs.file input runs.times runs.turns response

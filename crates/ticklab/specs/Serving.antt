@@ -4,6 +4,7 @@ use Rattle.std.specs.Global.{Global}
 use Rattle.std.specs.Vec.Iter.{into_iter_items}
 use Rattle.std.specs.declared.io.Error.{Error}
 use Rattle.std.specs.declared.vec.IntoIter.{IntoIter}
+use Rattle.lab_answers.specs.Tallies.{RunsOf}
 use Rattle.lab_answers.specs.declared.response.Response.{Response}
 use Rattle.lab_line.specs.Found.{plain_request, plain_runs}
 use Rattle.lab_line.specs.Lines.{Answers}
@@ -25,24 +26,28 @@ GivesWords (Err error) words = ⊥
 abbrev pub HasStatus : (Response → Type 0) → ℕ → Type 0
 HasStatus P status = (response : Response) × P response × (status ≡ response.status)
 
-abbrev pub EndsLine : Line → ℕ → Type 0
-EndsLine (line.Request request) = HasStatus (Responds (plain_request request))
-EndsLine (line.Runs runs) = HasStatus (RespondsRuns (plain_runs runs))
-EndsLine (line.Help text) = λ status. status ≡ 0
-EndsLine (line.Refused text) = λ status. status ≡ 2
+-- What the words come to. `Ran` are the runs of a runner, which is `before` and `after`: it makes those of
+-- `hunt --threads`, and no other.
+module _ {M : Type 0} (Ran : RunsOf M) (before after : M) where
+  abbrev pub EndsLine : Line → ℕ → Type 0
+  EndsLine (line.Request request) status = (after ≡ before) × HasStatus (Responds (plain_request request)) status
+  EndsLine (line.Runs runs) status = HasStatus (RespondsRuns Ran before after (plain_runs runs)) status
+  EndsLine (line.Help text) status = (after ≡ before) × (status ≡ 0)
+  EndsLine (line.Refused text) status = (after ≡ before) × (status ≡ 2)
 
--- the words ask for something, and the status is that of its answer
-abbrev pub EndsWords : List (String Global) → ℕ → Type 0
-EndsWords words status = (l : Line) × Answers (map string_bytes words) l × EndsLine l status
+  -- the words ask for something, and the status is that of its answer
+  abbrev pub EndsWords : List (String Global) → ℕ → Type 0
+  EndsWords words status = (l : Line) × Answers (map string_bytes words) l × EndsLine l status
 
-abbrev pub Ends : Result GivenWords Error → ℕ → Type 0
-Ends (Ok given) = EndsWords (into_iter_items given)
-Ends (Err error) = λ status. ⊥
+  abbrev pub Ends : Result GivenWords Error → ℕ → Type 0
+  Ends (Ok given) = EndsWords (into_iter_items given)
+  Ends (Err error) = λ status. ⊥
 
 abbrev pub exit_of : Result ℕ LabFault → ℕ
 exit_of (Ok status) = status
 exit_of (Err fault) = status_of fault
 
 -- the status is that of what came of it
-abbrev pub Exits : Result GivenWords Error → ℕ → Type 0
-Exits given status = (outcome : Result ℕ LabFault) × IfOk outcome (Ends given) × (status ≡ exit_of outcome)
+abbrev pub Exits : {M : Type 0} → RunsOf M → M → M → Result GivenWords Error → ℕ → Type 0
+Exits Ran before after given status =
+    (outcome : Result ℕ LabFault) × IfOk outcome (Ends Ran before after given) × (status ≡ exit_of outcome)

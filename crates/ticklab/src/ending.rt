@@ -6,19 +6,14 @@ use crate::serving::outcome;
 use std::env::Args;
 use std::io;
 use std::process::ExitCode;
-use std::sync::Wait;
-use std::thread::Threads;
+use tick_run::Runner;
 
 /// Serves the words of the command line, as `std::env::args` gave them. Why there is no answer is told on
-/// standard error. Both handles are of the host: with the second, threads may be started.
-pub fn ended<A: AllocGlobal + Threads + Wait>(
-    rt: &HostRuntime,
-    threads: &A,
-    given: io::Result<Args>,
-) -> ExitCode
-    ensures { Exits given (exit_status result) }
+/// standard error. Runs of a code are made by the runner alone.
+pub fn ended<M: Runner>(rt: &HostRuntime, runner: &mut M, given: io::Result<Args>) -> ExitCode
+    ensures { Exits M.Ran runner.old runner.new given (exit_status result) }
 {
-    match outcome(rt, threads, given) {
+    match outcome(rt, runner, given) {
         Ok(status) => ExitCode::from(status),
         Err(fault) => {
             // Where standard error can't be written the status tells it.

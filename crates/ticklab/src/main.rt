@@ -15,7 +15,8 @@ mod writing;
 use crate::ending::ended;
 use std::env::args;
 use std::process::ExitCode;
+use tick_run::OnThreads;
 
 fn main(rt: HostRuntime) -> ExitCode {
-    ended(&rt, &rt, args(&rt))
+    ended(&rt, &mut OnThreads::new(&rt), args(&rt))
 }

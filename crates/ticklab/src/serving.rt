@@ -14,22 +14,20 @@ use lab_line::{Line, Request, Runs, asked};
 use std::alloc::Global;
 use std::env::Args;
 use std::io;
-use std::sync::Wait;
-use std::thread::Threads;
-use tick_run::OnThreads;
+use tick_run::Runner;
 
 /// The exit status of the words' answer, once all of it is written.
-pub fn outcome<A: AllocGlobal + Threads + Wait>(
+pub fn outcome<M: Runner>(
     rt: &HostRuntime,
-    threads: &A,
+    runner: &mut M,
     given: io::Result<Args>,
 ) -> Result<u8, LabFault>
-    ensures { IfOk result (Ends given) }
+    ensures { IfOk result (Ends M.Ran runner.old runner.new given) }
 {
     let words = words_of(rt.alloc(), given)?;
     match asked(rt.alloc(), words.as_slice())? {
         Line::Request(request) => served(rt, request),
-        Line::Runs(runs) => counted(rt, threads, runs),
+        Line::Runs(runs) => counted(rt, runner, runs),
         Line::Help(text) => {
             write_all(&mut rt.stdout(), text.as_bytes())?;
             Ok(0)
@@ -54,21 +52,20 @@ fn counted<A: AllocGlobal + Threads + Wait>(
 ) -> Result<u8, LabFault>
     ensures { IfOk result (HasStatus (RespondsRuns (plain_runs runs.entry))) }
 {
-    told(rt, &runs_counted(rt, threads, runs)?)
+    told(rt, &runs_counted(rt, runner, runs)?)
 }
 
-fn runs_counted<A: AllocGlobal + Threads + Wait>(
+fn runs_counted<M: Runner>(
     rt: &HostRuntime,
-    threads: &A,
+    runner: &mut M,
     runs: Runs<&str>,
 ) -> Result<Response, LabFault>
-    ensures { IfOk result (RespondsRuns (plain_runs runs.entry)) }
+    ensures { IfOk result (RespondsRuns M.Ran runner.old runner.new (plain_runs runs.entry)) }
 {
     let input = bytes_of(rt, runs.file)?;
-    let mut runner = OnThreads::new(threads);
     Ok(tallied(
         rt.alloc(),
-        &mut runner,
+        runner,
         runs.file,
         input.as_slice(),
         runs.times,

@@ -12,7 +12,7 @@ unanswered NoThread = refl
 
 pub returns-in_err-outcome-clause-err : goal.returns-in_err-outcome-clause-err
 returns-in_err-outcome-clause-err g c =
-    rw (err_is c.from_residual-in_err-outcome.result c.from_residual-in_err-outcome.ensures.1) (unanswered c.in_err-outcome.field-0.0)
+    rw (err_is c.from_residual.result c.from_residual.ensures.1) (unanswered c.in_err-outcome.field-0.0)
 
 pub returns-in_err-text-clause-err : goal.returns-in_err-text-clause-err
 returns-in_err-text-clause-err g c = rw (err_is c.from_residual-in_err-text.result c.from_residual-in_err-text.ensures.1) tt
