@@ -102,13 +102,16 @@ fn hostile_title(rt: HostRuntime) -> Result<(), Fail> {
 #[test]
 fn many_marks(rt: HostRuntime) -> Result<(), Fail> {
     let bytes = drawn_run(rt.alloc(), "Many", COUNTED, "0*3000 1*3000 5*1000")?;
-    let count = times(text_of(&bytes)?, "<g id=");
-    holds(count > 2_000, count)?;
     holds(bytes.len() < 1_000_000, bytes.len())?;
     shows(
         rt.alloc(),
         &bytes,
-        count,
-        &["<title>step 2: P0 puts r := 0</title>"],
+        2_333,
+        &[
+            ">2333 marks of a run; processes: 6<",
+            "<g id=\"mark-1\" ",
+            "<title>step 2: P0 puts r := 0</title>",
+            "<g id=\"mark-2333\" ",
+        ],
     )
 }
