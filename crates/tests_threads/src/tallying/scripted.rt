@@ -10,6 +10,7 @@ use tick_run::{RunFault, Runner};
 use tick_tally::{Counted, tally};
 
 /// Each run whose number can be divided by `every` traps.
+#[derive(Drop)]
 struct Script {
     alloc: Global,
     calls: u64,
