@@ -4,14 +4,21 @@
 //! `picture`, which draws a list of marks.
 #![tactic(auto)]
 
+mod arrows;
+mod beside;
+mod colours;
+mod feet;
 mod holding;
 mod lanes;
 mod layout;
+mod legend;
 pub mod mark;
 mod marking;
+mod orders;
 mod page;
 mod run;
 mod shapes;
+mod style;
 mod words;
 mod writing;
 
