@@ -1,3 +1,4 @@
 pub mod Steps
 pub mod Tabled
 pub mod Runs
+pub mod Markup

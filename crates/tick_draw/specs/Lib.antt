@@ -13,4 +13,5 @@ pub mod Feet
 pub mod Legend
 pub mod Style
 pub mod Pictures
+pub mod Laws
 pub mod prover

@@ -10,6 +10,7 @@ mod colours;
 mod feet;
 mod holding;
 mod lanes;
+pub mod laws;
 mod layout;
 mod legend;
 pub mod mark;
