@@ -1,11 +1,11 @@
 -- The picture of a run, of whose program the names and the number of processes were read.
-use Rattle.std.proofs.Common.{◌≡◌, ℕ, Bool, true, false, List, [], ◌∷◌, ap, if◌then◌else◌, map, refl, string_bytes, subst}
+use Rattle.std.proofs.Common.{◌≡◌, ◌∙◌, ℕ, Bool, true, false, List, [], ◌∷◌, ap, if◌then◌else◌, map, refl, string_bytes}
 use Rattle.tick_tree.specs.Plain.{Name, WholeProgram}
 use Rattle.tick_tree.specs.View.{name_of}
 use Rattle.tick_tree.specs.declared.tree.Named.{Named}
 use Rattle.tick_kinds.specs.Resolution.{resolved}
 use Rattle.tick_draw.specs.Marks.{marks_of_code, program_marks}
-use Rattle.tick_draw.specs.Pictures.{IsPicture}
+use Rattle.tick_draw.specs.Pictures.{picture}
 use Rattle.tick_draw.specs.Words.{names}
 use Rattle.tick_draw.specs.declared.mark.Mark.{Mark}
 use Rattle.lab_answers.specs.Codes.{HasCode, program_code}
@@ -17,16 +17,18 @@ named [] = refl
 named (row ∷ rows) = ap (λ (more : List (List ℕ)). string_bytes row.name ∷ more) (named rows)
 
 same_picture : (name : List ℕ) (n m : ℕ) (rows row_names : List (List ℕ)) (marks others : List Mark) (out : List ℕ) → n ≡ m → rows ≡ row_names → marks ≡ others
-    → IsPicture name n rows marks out → IsPicture name m row_names others out
-same_picture name n m rows row_names marks others out count named same picture =
-    subst (λ o. IsPicture name m row_names o out) same
-    (subst (λ r. IsPicture name m r marks out) named (subst (λ k. IsPicture name k rows marks out) count picture))
+    → out ≡ picture name n rows marks → out ≡ picture name m row_names others
+same_picture name n m rows row_names marks others out count named same drawn =
+    drawn
+    ∙ ap (λ (k : ℕ). picture name k rows marks) count
+    ∙ ap (λ (r : List (List ℕ)). picture name m r marks) named
+    ∙ ap (picture name m row_names) same
 
 pub picture_by : (is_code : Bool) (name : List ℕ) (a : WholeProgram Name) (schedule out : List ℕ) (n : ℕ) (rows : List (List ℕ)) (marks : List Mark)
     → n ≡ a.processes → rows ≡ row_names a
     → marks ≡ (if is_code then marks_of_code (program_code a) schedule else program_marks (resolved a) schedule)
-    → (is_code ≡ true → HasCode a) → IsPicture name n rows marks out → IsRunPicture is_code name a schedule out
-picture_by true name a schedule out n rows marks count named same has picture =
-    (has refl, same_picture name n a.processes rows (row_names a) marks (marks_of_code (program_code a) schedule) out count named same picture)
-picture_by false name a schedule out n rows marks count named same has picture =
-    same_picture name n a.processes rows (row_names a) marks (program_marks (resolved a) schedule) out count named same picture
+    → (is_code ≡ true → HasCode a) → out ≡ picture name n rows marks → IsRunPicture is_code name a schedule out
+picture_by true name a schedule out n rows marks count named same has drawn =
+    (has refl, same_picture name n a.processes rows (row_names a) marks (marks_of_code (program_code a) schedule) out count named same drawn)
+picture_by false name a schedule out n rows marks count named same has drawn =
+    same_picture name n a.processes rows (row_names a) marks (program_marks (resolved a) schedule) out count named same drawn

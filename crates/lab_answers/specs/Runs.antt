@@ -14,7 +14,7 @@ use Rattle.tick_trace.specs.StatementSteps.{AreStatementSteps}
 use Rattle.tick_trace.specs.Places.{standings}
 use Rattle.tick_trace.specs.TraceText.{instruction_lines, statement_lines}
 use Rattle.tick_draw.specs.Marks.{marks_of_code, program_marks}
-use Rattle.tick_draw.specs.Pictures.{IsPicture}
+use Rattle.tick_draw.specs.Pictures.{picture}
 use Rattle.lab_answers.specs.Codes.{HasCode, IsCodeless, program_code}
 use Rattle.lab_answers.specs.Responses.{Gives, Refuses}
 use Rattle.lab_answers.specs.declared.response.Response.{Response}
@@ -70,8 +70,8 @@ row_names a = map (λ row. row.letters) a.registers
 -- the picture of the program's run, or of its code's
 abbrev pub IsRunPicture : Bool → List ℕ → WholeProgram Name → List ℕ → List ℕ → Type 0
 IsRunPicture true name a schedule out =
-    HasCode a × IsPicture name a.processes (row_names a) (marks_of_code (program_code a) schedule) out
-IsRunPicture false name a schedule out = IsPicture name a.processes (row_names a) (program_marks (resolved a) schedule) out
+    HasCode a × (out ≡ picture name a.processes (row_names a) (marks_of_code (program_code a) schedule))
+IsRunPicture false name a schedule out = out ≡ picture name a.processes (row_names a) (program_marks (resolved a) schedule)
 
 abbrev pub Draws : List ℕ → List ℕ → List ℕ → List ℕ → Bool → Response → Type 0
 Draws name input from text is_code = AnswersRun (IsRunPicture is_code name) name input from text is_code

@@ -1,4 +1,4 @@
 pub mod Steps
 pub mod Tabled
 pub mod Runs
-pub mod Written
+pub mod Markup

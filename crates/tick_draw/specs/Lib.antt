@@ -1,6 +1,17 @@
 pub mod Marks
 pub mod Words
 pub mod Escapes
+pub mod Writing
 pub mod Layout
+pub mod Colours
+pub mod Shapes
+pub mod Lanes
+pub mod Orders
+pub mod Steps
+pub mod Arrows
+pub mod Feet
+pub mod Legend
+pub mod Style
 pub mod Pictures
+pub mod Laws
 pub mod prover

@@ -1,64 +1,72 @@
--- A run as SVG: the page with its title, what stands under the marks, a group for each mark in order,
--- and the legend. Each group has its mark's place in the lane of its process, and tells it in words;
--- which shapes are drawn there isn't said.
-use Rattle.std.specs.Prelude.{◌≡◌, ℕ, ◌+◌, ◌-◌, ◌/◌, ◌%◌, ◌==◌, if◌then◌else◌, List, [], ◌∷◌, ◌++◌, codes, length}
-use Rattle.std.specs.Fmt.{decimal}
-use Rattle.text_core.specs.Lines.{line_end}
+-- A run as SVG, to the byte: a page with its title, its style, lanes with what stands below them, a group for each
+-- mark in order, and the legend. Title and names of rows stand there as `Escapes` has them.
+use Rattle.std.specs.Prelude.{ℕ, ◌+◌, List, [], ◌∷◌, ◌++◌, codes, length}
 use Rattle.tick_draw.specs.declared.mark.Mark.{Mark}
+use Rattle.tick_draw.specs.Colours.{colour}
 use Rattle.tick_draw.specs.Escapes.{escaped}
-use Rattle.tick_draw.specs.Layout.{band_top, mark_x, mark_y}
+use Rattle.tick_draw.specs.Feet.{feet_text}
+use Rattle.tick_draw.specs.Lanes.{bands_text, ends_text}
+use Rattle.tick_draw.specs.Layout.{last_band, mark_x, mark_y, page_height}
+use Rattle.tick_draw.specs.Legend.{legend_text}
+use Rattle.tick_draw.specs.Shapes.{drawn}
+use Rattle.tick_draw.specs.Style.{backdrop, sheet}
 use Rattle.tick_draw.specs.Words.{sentence}
+use Rattle.tick_draw.specs.Writing.{one_number, two_numbers}
 
--- the colour of a lane, from dark to light
-abbrev pub colour : ℕ → List ℕ
-colour p =
-    if p % 6 == 0 then codes "#0b2a4a"
-    else if p % 6 == 1 then codes "#7a3a0c"
-    else if p % 6 == 2 then codes "#0f6351"
-    else if p % 6 == 3 then codes "#7d4cae"
-    else if p % 6 == 4 then codes "#a8700a"
-    else codes "#3f93c7"
+unfoldable pub group_name : ℕ → List ℕ
+group_name at = one_number (codes "<g id=\"mark-") (at + 1) (codes "\" color=\"")
 
--- where the mark of this place stands, which is of process `p` of `n`
-abbrev pub group_head : ℕ → ℕ → ℕ → List ℕ
-group_head n at p =
-    codes "<g id=\"mark-" ++ decimal (at + 1) ++ codes "\" color=\"" ++ colour p
-    ++ codes "\" transform=\"translate(" ++ decimal (mark_x at) ++ codes " " ++ decimal (mark_y n at p) ++ codes ")\"><title>"
+unfoldable pub group_place : ℕ → ℕ → List ℕ
+group_place x y = two_numbers (codes "\" transform=\"translate(") x (codes " ") y (codes ")\"><title>")
 
--- a mark, with this shape
-abbrev pub group : ℕ → List (List ℕ) → ℕ → Mark → List ℕ → List ℕ
-group n rows at m shape = group_head n at m.process ++ sentence n rows m ++ codes "</title>" ++ shape ++ codes "</g>" ++ line_end
+-- the head of the group of the mark of this place, which is of process `p` of `n`: its name, its colour, and where it stands
+unfoldable pub group_head : ℕ → ℕ → ℕ → List ℕ
+group_head n at p = group_name at ++ colour p ++ group_place (mark_x at) (mark_y n at p)
+
+-- a mark: its place, what it shows in words, and what is drawn of it
+unfoldable pub group_text : ℕ → List (List ℕ) → ℕ → Mark → List ℕ
+group_text n rows at m = group_head n at m.process ++ sentence n rows m ++ codes "</title>" ++ drawn n rows at m ++ codes "</g>\n"
 
 -- a group for each of these marks, in order, the first of which has this place
-abbrev pub AreGroups : ℕ → List (List ℕ) → ℕ → List Mark → List ℕ → Type 0
-AreGroups n rows at [] text = text ≡ []
-AreGroups n rows at (m ∷ marks) text =
-    (shape : List ℕ) × (others : List ℕ) × AreGroups n rows (at + 1) marks others × (text ≡ group n rows at m shape ++ others)
+abbrev pub groups_text : ℕ → List (List ℕ) → ℕ → List Mark → List ℕ
+groups_text n rows at [] = []
+groups_text n rows at (m ∷ marks) = group_text n rows at m ++ groups_text n rows (at + 1) marks
 
--- as high as all bands, and the legend below them
-abbrev pub page_height : ℕ → ℕ → ℕ
-page_height n count = band_top n ((count - 1) / 14 + 1) + 60
+-- an element so high, and as much of what is drawn in it
+unfoldable pub page_element : ℕ → List ℕ
+page_element height =
+    one_number (codes "<svg xmlns=\"http://www.w3.org/2000/svg\" role=\"img\" aria-labelledby=\"title about\" width=\"1000\" height=\"") height (codes "\"")
 
-abbrev pub page_size : ℕ → List ℕ
-page_size height =
-    codes "<svg xmlns=\"http://www.w3.org/2000/svg\" role=\"img\" aria-labelledby=\"title about\" width=\"1000\" height=\""
-    ++ decimal height ++ codes "\" viewBox=\"0 0 1000 " ++ decimal height ++ codes "\">" ++ line_end
+unfoldable pub page_view : ℕ → List ℕ
+page_view height = one_number (codes " viewBox=\"0 0 1000 ") height (codes "\">\n")
 
-abbrev pub about : ℕ → ℕ → List ℕ
-about n count =
-    codes "<desc id=\"about\">" ++ decimal count ++ codes " marks of a run; processes: " ++ decimal n ++ codes "</desc>" ++ line_end
+unfoldable pub page_size : ℕ → List ℕ
+page_size height = page_element height ++ page_view height
 
-abbrev pub title_element : List ℕ → List ℕ
-title_element title = codes "<title id=\"title\">" ++ escaped title ++ codes "</title>" ++ line_end
+-- the title between these pieces of markup
+unfoldable pub titled : List ℕ → List ℕ → List ℕ → List ℕ
+titled before title after = before ++ escaped title ++ after
+
+unfoldable pub title_element : List ℕ → List ℕ
+title_element title = titled (codes "<title id=\"title\">") title (codes "</title>\n")
+
+unfoldable pub about : ℕ → ℕ → List ℕ
+about n count = two_numbers (codes "<desc id=\"about\">") count (codes " marks of a run; processes: ") n (codes "</desc>\n")
 
 -- the page, its title and what it is of
-abbrev pub page_head : List ℕ → ℕ → ℕ → List ℕ
+unfoldable pub page_head : List ℕ → ℕ → ℕ → List ℕ
 page_head title n count = page_size (page_height n count) ++ title_element title ++ about n count
 
+-- the style, and the title once more, which is seen
+unfoldable pub heading : List ℕ → List ℕ
+heading title = sheet ++ backdrop ++ titled (codes "<text class=\"title\" x=\"16\" y=\"26\">") title (codes "</text>\n")
+
+-- what stands under the marks: lanes, how each process ended, and steps, orders and arrows
+unfoldable pub under_text : ℕ → List Mark → List ℕ
+under_text n marks =
+    bands_text n (last_band (length marks) + 1) ++ ends_text n (last_band (length marks)) marks n ++ feet_text n marks 0 marks
+
 -- the picture of these marks of a run of `n` processes, whose rows have these names
-pub record IsPicture (title : List ℕ) (n : ℕ) (rows : List (List ℕ)) (marks : List Mark) (text : List ℕ) : Type 0 where
-  pub lanes : List ℕ
-  pub groups : List ℕ
-  pub are_groups : AreGroups n rows 0 marks groups
-  pub legend : List ℕ
-  pub whole : text ≡ page_head title n (length marks) ++ lanes ++ groups ++ legend
+unfoldable pub picture : List ℕ → ℕ → List (List ℕ) → List Mark → List ℕ
+picture title n rows marks =
+    page_head title n (length marks) ++ heading title ++ under_text n marks ++ groups_text n rows 0 marks ++ legend_text n (length marks)

@@ -71,5 +71,5 @@ sight_text n rows (S.Stamp held) = codes "stamps: " ++ held_text n held
 sight_text n rows (S.Clear held) = codes "clears: " ++ held_text n held
 sight_text n rows (S.Lost held) = codes "loses an exchange: " ++ held_text n held
 
-abbrev pub sentence : ℕ → List (List ℕ) → Mark → List ℕ
+unfoldable pub sentence : ℕ → List (List ℕ) → Mark → List ℕ
 sentence n rows m = codes "step " ++ decimal m.step ++ codes ": P" ++ decimal m.process ++ codes " " ++ sight_text n rows m.sight

@@ -4,14 +4,22 @@
 //! `picture`, which draws a list of marks.
 #![tactic(auto)]
 
+mod arrows;
+mod beside;
+mod colours;
+mod feet;
 mod holding;
 mod lanes;
+pub mod laws;
 mod layout;
+mod legend;
 pub mod mark;
 mod marking;
+mod orders;
 mod page;
 mod run;
 mod shapes;
+mod style;
 mod words;
 mod writing;
 

@@ -1,41 +1,25 @@
 // Marks drawn.
-ghost use Rattle.std.specs.Prelude.{◌≡◌, ◌++◌, ◌+◌, ◌/◌, ◌-◌, ℕ, List, IfOk, OnOk, length};
+ghost use Rattle.std.specs.Prelude.{◌≡◌, ◌++◌, IfOk, OnOk};
 ghost use Rattle.tick_draw.specs.Words.{names};
-ghost use Rattle.tick_draw.specs.Pictures.{AreGroups, IsPicture, about, group, group_head, page_head, page_height, page_size, title_element};
+ghost use Rattle.tick_draw.specs.Pictures.{about, group_head, group_name, group_place, group_text, groups_text, heading, page_element, page_head, page_size, page_view, picture, title_element, titled, under_text};
 
-use crate::lanes::{colour, lanes};
-use crate::layout::{COLUMNS, band_top, mark_x, mark_y};
+use crate::colours::push_colour;
+use crate::feet::push_feet;
+use crate::lanes::{push_bands, push_ends};
+use crate::layout::{last_band, mark_x, mark_y, page_height};
+use crate::legend::push_legend;
 use crate::mark::Mark;
-use crate::shapes::shape;
+use crate::shapes::push_drawn;
+use crate::style::{backdrop, sheet};
 use crate::words::{Cast, push_sentence};
-use crate::writing::{push, push_escaped, push_number, push_wide};
+use crate::writing::{push, push_escaped, push_one, push_two};
 use machine_core::NoMemory;
 use std::alloc::{AllocError, Global};
 use tick_tree::tree::Named;
 
-// How all is drawn, and the title once more, which is seen.
-const STYLE: &str = "<style>
-text{font:11px 'DejaVu Sans',Verdana,sans-serif;text-anchor:middle;fill:#111;paint-order:stroke;stroke:#fff;stroke-width:3px;stroke-linejoin:round}
-.title{font-size:15px;font-weight:bold;text-anchor:start}.left{text-anchor:start;fill:#444}.step{fill:#666}
-.name{font-size:15px;font-weight:bold;text-anchor:start;fill:currentColor}.strong{font-weight:bold}.order{font-weight:bold;fill:currentColor}
-.in{fill:#fff;stroke:none;font-weight:bold}.on{stroke:none}.trap{fill:#c4001a;font-weight:bold}
-.f{fill:currentColor;stroke:currentColor;stroke-width:2}.o{fill:#fff;stroke:currentColor;stroke-width:2}
-.l{stroke:currentColor;stroke-width:2}.x{stroke:#c4001a;stroke-width:5;fill:none}
-.flag{fill:#ffe27a;stroke:#7a5c00;stroke-width:1.2}.lane{fill:none;stroke-width:2}.when{fill:none;stroke-width:1;opacity:.4}
-.arrow{fill:none;stroke:#777;stroke-width:1.2;marker-end:url(#tip)}
-</style>
-<defs><marker id=\"tip\" viewBox=\"0 0 8 8\" refX=\"7\" refY=\"4\" markerWidth=\"7\" markerHeight=\"7\" orient=\"auto\"><path d=\"M0 0L8 4L0 8Z\" fill=\"#777\"/></marker></defs>
-<rect width=\"100%\" height=\"100%\" fill=\"#fff\"/>
-<text class=\"title\" x=\"16\" y=\"26\">";
-
-const FIRST_LEGEND: &str =
-    "■ put · □ get, and an arrow from the put that it reads · ● stamp, with its ticket · ⊖ clear · order: who holds a ticket, smallest first";
-
-const SECOND_LEGEND: &str =
-    "○ scan, with ranks · ◆ yes, ◇ no to a question · flag: a value given out · ✕ trap · ▌ end · dashed: a lost exchange · step: its number in the schedule";
-
 /// The marks of a run of `processes` processes as SVG. Rows of registers have these names, and `r` with
 /// its number where there is none. The title is read out, and stands above the picture.
+#[tactic(auto, unfolding(crate::specs::Pictures::picture))]
 pub fn picture(
     alloc: Global,
     title: &str,
@@ -43,79 +27,109 @@ pub fn picture(
     registers: &[Named],
     marks: &[Mark],
 ) -> Result<Vec<u8>, NoMemory>
-    ensures { IfOk result (λ text. IsPicture title.now processes (names registers.now) marks.now text.items) }
+    ensures { IfOk result (λ text. text.items ≡ picture title.now processes (names registers.now) marks.now) }
 {
     let cast = Cast {
         processes,
         registers,
     };
-    let under = lanes(alloc, cast, marks)?;
     let mut out = Vec::new(alloc);
     push_page(&mut out, title, processes, marks.len())?;
-    push_style(&mut out, title)?;
-    out.extend_from_slice(&under)?;
+    push_heading(&mut out, title)?;
+    push_under(alloc, &mut out, processes, marks)?;
     push_groups(alloc, &mut out, cast, marks)?;
     push_legend(&mut out, processes, marks.len())?;
     Ok(out)
 }
 
 // The page, its title and what it is of, for who sees it and for who has it read out.
-fn push_page(out: &mut Vec<u8>, title: &str, processes: u8, count: usize) -> Result<(), AllocError>
-    ensures { OnOk result (out.new.items ≡ out.old.items ++ page_head title.now processes count) }
+#[tactic(auto, unfolding(crate::specs::Pictures::page_head))]
+fn push_page(out: &mut Vec<u8>, title: &str, n: u8, count: usize) -> Result<(), AllocError>
+    ensures { OnOk result (out.new.items ≡ out.old.items ++ page_head title.now n count) }
 {
-    let height = page_height(processes, count);
-    push_size(out, height)?;
+    push_size(out, page_height(n, count))?;
     push_title(out, title)?;
-    push_about(out, processes, count)
+    push_about(out, n, count)
 }
 
-fn push_title(out: &mut Vec<u8>, title: &str) -> Result<(), AllocError>
-    ensures { OnOk result (out.new.items ≡ out.old.items ++ title_element title.now) }
-{
-    push(out, "<title id=\"title\">")?;
-    push_escaped(out, title)?;
-    push(out, "</title>")?;
-    push(out, "\n")
-}
-
+#[tactic(auto, unfolding(crate::specs::Pictures::page_size))]
 fn push_size(out: &mut Vec<u8>, height: u128) -> Result<(), AllocError>
     ensures { OnOk result (out.new.items ≡ out.old.items ++ page_size height) }
 {
-    push(
+    push_page_element(out, height)?;
+    push_page_view(out, height)
+}
+
+#[tactic(auto, unfolding(crate::specs::Pictures::page_element))]
+fn push_page_element(out: &mut Vec<u8>, height: u128) -> Result<(), AllocError>
+    ensures { OnOk result (out.new.items ≡ out.old.items ++ page_element height) }
+{
+    push_one(
         out,
         "<svg xmlns=\"http://www.w3.org/2000/svg\" role=\"img\" aria-labelledby=\"title about\" width=\"1000\" height=\"",
-    )?;
-    push_wide(out, height)?;
-    push(out, "\" viewBox=\"0 0 1000 ")?;
-    push_wide(out, height)?;
-    push(out, "\">")?;
-    push(out, "\n")
+        height,
+        "\"",
+    )
 }
 
-fn push_about(out: &mut Vec<u8>, processes: u8, count: usize) -> Result<(), AllocError>
-    ensures { OnOk result (out.new.items ≡ out.old.items ++ about processes count) }
+#[tactic(auto, unfolding(crate::specs::Pictures::page_view))]
+fn push_page_view(out: &mut Vec<u8>, height: u128) -> Result<(), AllocError>
+    ensures { OnOk result (out.new.items ≡ out.old.items ++ page_view height) }
 {
-    push(out, "<desc id=\"about\">")?;
-    push_number(out, count as u64)?;
-    push(out, " marks of a run; processes: ")?;
-    push_number(out, u64::from(processes))?;
-    push(out, "</desc>")?;
-    push(out, "\n")
+    push_one(out, " viewBox=\"0 0 1000 ", height, "\">\n")
 }
 
-// As high as all bands, and the legend below them.
-fn page_height(processes: u8, count: usize) -> u128
-    ensures { result ≡ page_height processes count }
+#[tactic(auto, unfolding(crate::specs::Pictures::title_element))]
+fn push_title(out: &mut Vec<u8>, title: &str) -> Result<(), AllocError>
+    ensures { OnOk result (out.new.items ≡ out.old.items ++ title_element title.now) }
 {
-    band_top(processes, count.saturating_sub(1) / COLUMNS + 1) + 60
+    push_titled(out, "<title id=\"title\">", title, "</title>\n")
 }
 
-fn push_style(out: &mut Vec<u8>, title: &str) -> Result<(), AllocError>
-    ensures { OnOk result ((style : List ℕ) × (out.new.items ≡ out.old.items ++ style)) }
+// The title between pieces of markup.
+#[tactic(auto, unfolding(crate::specs::Pictures::titled))]
+fn push_titled(out: &mut Vec<u8>, before: &str, title: &str, after: &str) -> Result<(), AllocError>
+    ensures { OnOk result (out.new.items ≡ out.old.items ++ titled before.now title.now after.now) }
 {
-    push(out, STYLE)?;
+    push(out, before)?;
     push_escaped(out, title)?;
-    push(out, "</text>\n")
+    push(out, after)
+}
+
+#[tactic(auto, unfolding(crate::specs::Pictures::about))]
+fn push_about(out: &mut Vec<u8>, n: u8, count: usize) -> Result<(), AllocError>
+    ensures { OnOk result (out.new.items ≡ out.old.items ++ about n count) }
+{
+    push_two(
+        out,
+        "<desc id=\"about\">",
+        count as u64,
+        " marks of a run; processes: ",
+        u128::from(n),
+        "</desc>\n",
+    )
+}
+
+// The style, and the title once more, which is seen.
+#[tactic(auto, unfolding(crate::specs::Pictures::heading))]
+fn push_heading(out: &mut Vec<u8>, title: &str) -> Result<(), AllocError>
+    ensures { OnOk result (out.new.items ≡ out.old.items ++ heading title.now) }
+{
+    push(out, sheet())?;
+    push(out, backdrop())?;
+    let before = "<text class=\"title\" x=\"16\" y=\"26\">";
+    push_titled(out, before, title, "</text>\n")
+}
+
+// What stands under the marks: lanes, how each process ended, and steps, orders and arrows.
+#[tactic(auto, unfolding(crate::specs::Pictures::under_text))]
+fn push_under(alloc: Global, out: &mut Vec<u8>, n: u8, marks: &[Mark]) -> Result<(), AllocError>
+    ensures { OnOk result (out.new.items ≡ out.old.items ++ under_text n marks.now) }
+{
+    let last = last_band(marks.len());
+    push_bands(out, n, last + 1)?;
+    push_ends(out, n, last, marks)?;
+    push_feet(alloc, out, n, marks)
 }
 
 // A group for each mark, in order.
@@ -124,8 +138,8 @@ fn push_groups(
     out: &mut Vec<u8>,
     cast: Cast<'_>,
     marks: &[Mark],
-) -> Result<(), NoMemory>
-    ensures { OnOk result ((groups : List ℕ) × AreGroups cast.entry.processes (names cast.entry.registers.now) 0 marks.now groups × (out.new.items ≡ out.old.items ++ groups)) }
+) -> Result<(), AllocError>
+    ensures { OnOk result (out.new.items ≡ out.old.items ++ groups_text cast.entry.processes (names cast.entry.registers.now) 0 marks.now) }
 {
     for (at, mark) in marks.iter().enumerate() {
         push_group(alloc, out, cast, at, mark)?;
@@ -133,55 +147,44 @@ fn push_groups(
     Ok(())
 }
 
-// A mark: where it stands, what it shows in words, and its shape.
+// A mark: where it stands, what it shows in words, and what is drawn of it.
+#[tactic(auto, unfolding(crate::specs::Pictures::group_text))]
 fn push_group(
     alloc: Global,
     out: &mut Vec<u8>,
     cast: Cast<'_>,
     at: usize,
     mark: &Mark,
-) -> Result<(), NoMemory>
-    ensures { OnOk result ((shape : List ℕ) × (out.new.items ≡ out.old.items ++ group cast.entry.processes (names cast.entry.registers.now) at mark.now shape)) }
+) -> Result<(), AllocError>
+    ensures { OnOk result (out.new.items ≡ out.old.items ++ group_text cast.entry.processes (names cast.entry.registers.now) at mark.now) }
 {
     push_group_head(out, cast.processes, at, mark.process)?;
     push_sentence(out, cast, mark)?;
     push(out, "</title>")?;
-    let drawn = shape(alloc, cast, at, mark)?;
-    out.extend_from_slice(&drawn)?;
-    push(out, "</g>")?;
-    push(out, "\n")?;
-    Ok(())
+    push_drawn(alloc, out, cast, at, mark)?;
+    push(out, "</g>\n")
 }
 
-fn push_group_head(out: &mut Vec<u8>, n: u8, at: usize, process: u8) -> Result<(), AllocError>
-    ensures { OnOk result (out.new.items ≡ out.old.items ++ group_head n at process) }
+#[tactic(auto, unfolding(crate::specs::Pictures::group_head))]
+fn push_group_head(out: &mut Vec<u8>, n: u8, at: usize, p: u8) -> Result<(), AllocError>
+    ensures { OnOk result (out.new.items ≡ out.old.items ++ group_head n at p) }
 {
-    push(out, "<g id=\"mark-")?;
-    push_wide(out, at as u128 + 1)?;
-    push(out, "\" color=\"")?;
-    push(out, colour(process))?;
-    push(out, "\" transform=\"translate(")?;
-    push_number(out, mark_x(at))?;
-    push(out, " ")?;
-    push_wide(out, mark_y(n, at, process))?;
-    push(out, ")\"><title>")
+    push_group_name(out, at)?;
+    push_colour(out, p)?;
+    push_group_place(out, mark_x(at), mark_y(n, at, p))
 }
 
-fn push_legend(out: &mut Vec<u8>, processes: u8, count: usize) -> Result<(), AllocError>
-    ensures { OnOk result ((legend : List ℕ) × (out.new.items ≡ out.old.items ++ legend)) }
+#[tactic(auto, unfolding(crate::specs::Pictures::group_name))]
+fn push_group_name(out: &mut Vec<u8>, at: usize) -> Result<(), AllocError>
+    ensures { OnOk result (out.new.items ≡ out.old.items ++ group_name at) }
 {
-    let y = page_height(processes, count);
-    push_legend_line(out, y.saturating_sub(42), FIRST_LEGEND)?;
-    push_legend_line(out, y.saturating_sub(22), SECOND_LEGEND)?;
-    push(out, "</svg>\n")
+    push_one(out, "<g id=\"mark-", at as u128 + 1, "\" color=\"")
 }
 
-fn push_legend_line(out: &mut Vec<u8>, y: u128, line: &str) -> Result<(), AllocError>
-    ensures { OnOk result ((drawn : List ℕ) × (out.new.items ≡ out.old.items ++ drawn)) }
+#[tactic(auto, unfolding(crate::specs::Pictures::group_place))]
+fn push_group_place(out: &mut Vec<u8>, x: u64, y: u128) -> Result<(), AllocError>
+    ensures { OnOk result (out.new.items ≡ out.old.items ++ group_place x y) }
 {
-    push(out, "<text class=\"left\" x=\"16\" y=\"")?;
-    push_wide(out, y)?;
-    push(out, "\">")?;
-    push(out, line)?;
-    push(out, "</text>\n")
+    let place = "\" transform=\"translate(";
+    push_two(out, place, x, " ", y, ")\"><title>")
 }

@@ -1,191 +1,199 @@
-// The shapes of marks. Each is drawn about the point where its mark stands.
-use crate::mark::{Holdings, Mark, Sight};
-use crate::words::{Cast, push_answer, push_label, push_ranks, push_read, push_row, trap_name};
-use crate::writing::{push, push_number, push_one, push_two};
-use itoa::Buffer;
-use machine_core::{Act, NoMemory, Trap};
+// The shapes of marks, with the words beside them. Each is drawn about the point where its mark stands.
+ghost use Rattle.std.specs.Prelude.{◌≡◌, ◌++◌, ◌<◌, ◌^◌, OnOk, codes};
+ghost use Rattle.tick_draw.specs.Words.{names};
+ghost use Rattle.tick_draw.specs.Shapes.{above, act_shape, answer_shape, below, drawn, field, flag, flag_label, label, outline, shape_of, words_text};
+
+use crate::beside::beside;
+use crate::layout::{field_half, flag_middle, flag_width, is_far};
+use crate::mark::{Mark, Sight};
+use crate::words::Cast;
+use crate::writing::{push, push_one};
+use machine_core::Act;
 use std::alloc::{AllocError, Global};
 
-/// What is drawn of the mark of this place. The words beside neighbours stand at different heights.
-pub fn shape(alloc: Global, cast: Cast<'_>, at: usize, mark: &Mark) -> Result<Vec<u8>, NoMemory> {
-    let mut out = Vec::new(alloc);
-    let far = at % 2 == 1;
-    match mark.sight {
-        Sight::Act(act) => push_act(&mut out, cast, act, far)?,
-        Sight::Get(row, index, value, _) => push_get(&mut out, cast, far, row, index, value)?,
-        Sight::Stamp(held) => push_stamp(alloc, &mut out, mark.process, held)?,
-        Sight::Clear(_) => push(
-            &mut out,
-            "<circle class=\"o\" r=\"8\"/><path class=\"l\" d=\"M-8 0H8\"/>",
-        )?,
-        Sight::Lost(_) => push(
-            &mut out,
-            "<circle class=\"o\" r=\"7\" stroke-dasharray=\"3 2.5\"/>",
-        )?,
-    }
-    Ok(out)
+/// What stands in a lane for a mark, as the legend has it.
+#[derive(Clone, Copy)]
+pub enum Shape {
+    Put,
+    Get,
+    Stamp,
+    Clear,
+    Scan,
+    Yes,
+    No,
+    Out,
+    Trap,
+    End,
+    Lost,
 }
 
-fn push_act(out: &mut Vec<u8>, cast: Cast<'_>, act: Act, far: bool) -> Result<(), AllocError> {
+/// Adds what is drawn of the mark of this place.
+#[tactic(auto, unfolding(crate::specs::Shapes::drawn))]
+pub fn push_drawn(
+    alloc: Global,
+    out: &mut Vec<u8>,
+    cast: Cast<'_>,
+    at: usize,
+    mark: &Mark,
+) -> Result<(), AllocError>
+    ensures { OnOk result (out.new.items ≡ out.old.items ++ drawn cast.entry.processes (names cast.entry.registers.now) at mark.now) }
+{
+    let words = beside(alloc, cast, mark)?;
+    let shape = shape_of(mark.sight);
+    push_outline(out, shape, words.len())?;
+    push_words(out, shape, is_far(at), &words)
+}
+
+fn shape_of(sight: Sight) -> Shape
+    ensures { result ≡ shape_of sight }
+{
+    match sight {
+        Sight::Act(act) => act_shape(act),
+        Sight::Get(..) => Shape::Get,
+        Sight::Stamp(_) => Shape::Stamp,
+        Sight::Clear(_) => Shape::Clear,
+        Sight::Lost(_) => Shape::Lost,
+    }
+}
+
+fn act_shape(act: Act) -> Shape
+    ensures { result ≡ act_shape act }
+{
     match act {
-        Act::Put(row, value) => push_put(out, cast, far, row, value),
-        Act::Get(row, index, value) => push_get(out, cast, far, row, index, value),
-        Act::Stamp => push(out, "<circle class=\"f\" r=\"11\"/>"),
-        Act::Clear => push(out, "<circle class=\"o\" r=\"8\"/>"),
-        Act::Scan(ranks) => push_scan(out, cast, far, &ranks),
-        Act::Older(i, j, answer) => push_older(out, far, i, j, answer),
-        Act::Held(index, answer) => push_asked(out, far, index, answer),
-        Act::Out(value) => push_flag(out, value),
-        Act::Trap(trap) => push_trap(out, far, trap),
-        Act::End => push(
+        Act::Put(..) => Shape::Put,
+        Act::Get(..) => Shape::Get,
+        Act::Stamp => Shape::Stamp,
+        Act::Clear => Shape::Clear,
+        Act::Scan(_) => Shape::Scan,
+        Act::Older(_, _, answer) => answer_shape(answer),
+        Act::Held(_, answer) => answer_shape(answer),
+        Act::Out(_) => Shape::Out,
+        Act::Trap(_) => Shape::Trap,
+        Act::End => Shape::End,
+    }
+}
+
+fn answer_shape(answer: u8) -> Shape
+    ensures { result ≡ answer_shape answer }
+{
+    if answer == 0 { Shape::No } else { Shape::Yes }
+}
+
+#[tactic(auto, unfolding(crate::specs::Shapes::outline))]
+fn push_outline(out: &mut Vec<u8>, shape: Shape, letters: usize) -> Result<(), AllocError>
+    ensures { OnOk result (out.new.items ≡ out.old.items ++ outline shape letters) }
+{
+    match shape {
+        Shape::Put => push(
+            out,
+            "<rect class=\"f\" x=\"-7\" y=\"-7\" width=\"14\" height=\"14\"/>",
+        ),
+        Shape::Get => push(
+            out,
+            "<rect class=\"o\" x=\"-6\" y=\"-6\" width=\"12\" height=\"12\"/>",
+        ),
+        Shape::Stamp => push_field(out, field_half(letters)),
+        Shape::Clear => push(
+            out,
+            "<circle class=\"o\" r=\"8\"/><path class=\"l\" d=\"M-8 0H8\"/>",
+        ),
+        Shape::Scan => push(out, "<circle class=\"o\" r=\"8\"/>"),
+        Shape::Yes => push(out, "<path class=\"f\" d=\"M-8 0L0 -8L8 0L0 8Z\"/>"),
+        Shape::No => push(out, "<path class=\"o\" d=\"M-8 0L0 -8L8 0L0 8Z\"/>"),
+        Shape::Out => push_flag(out, flag_width(letters)),
+        Shape::Trap => push(out, "<path class=\"x\" d=\"M-8 -8L8 8M8 -8L-8 8\"/>"),
+        Shape::End => push(
             out,
             "<rect class=\"f\" x=\"-2\" y=\"-11\" width=\"5\" height=\"22\"/>",
+        ),
+        Shape::Lost => push(
+            out,
+            "<circle class=\"o\" r=\"7\" stroke-dasharray=\"3 2.5\"/>",
         ),
     }
 }
 
-fn push_trap(out: &mut Vec<u8>, far: bool, trap: Trap) -> Result<(), AllocError> {
-    push(out, "<path class=\"x\" d=\"M-8 -8L8 8M8 -8L-8 8\"/>")?;
-    push_above(out, far, " class=\"trap\"")?;
-    push(out, trap_name(trap))?;
-    push(out, "</text>")
-}
-
-fn push_put(
-    out: &mut Vec<u8>,
-    cast: Cast<'_>,
-    far: bool,
-    row: u8,
-    value: u32,
-) -> Result<(), AllocError> {
-    push(
-        out,
-        "<rect class=\"f\" x=\"-7\" y=\"-7\" width=\"14\" height=\"14\"/>",
-    )?;
-    push_above(out, far, "")?;
-    push_row(out, cast.registers, row)?;
-    push_one(out, " := ", u128::from(value), "</text>")
-}
-
-fn push_get(
-    out: &mut Vec<u8>,
-    cast: Cast<'_>,
-    far: bool,
-    row: u8,
-    index: u8,
-    value: u32,
-) -> Result<(), AllocError> {
-    push(
-        out,
-        "<rect class=\"o\" x=\"-6\" y=\"-6\" width=\"12\" height=\"12\"/>",
-    )?;
-    push_below(out, far, "")?;
-    push_read(out, cast.registers, row, index, value)?;
-    push(out, "</text>")
-}
-
-fn push_scan(out: &mut Vec<u8>, cast: Cast<'_>, far: bool, ranks: &[u8]) -> Result<(), AllocError> {
-    push(out, "<circle class=\"o\" r=\"8\"/>")?;
-    push_below(out, far, " class=\"strong\"")?;
-    push_ranks(out, cast.processes, ranks)?;
-    push(out, "</text>")
-}
-
-fn push_older(out: &mut Vec<u8>, far: bool, i: u8, j: u8, answer: u8) -> Result<(), AllocError> {
-    push_diamond(out, answer)?;
-    push_below(out, far, "")?;
-    push_two(out, "", u64::from(i), " &lt; ", u128::from(j), "? ")?;
-    push_answer(out, answer)?;
-    push(out, "</text>")
-}
-
-fn push_asked(out: &mut Vec<u8>, far: bool, index: u8, answer: u8) -> Result<(), AllocError> {
-    push_diamond(out, answer)?;
-    push_below(out, far, "")?;
-    push_one(out, "", u128::from(index), " held? ")?;
-    push_answer(out, answer)?;
-    push(out, "</text>")
-}
-
-fn push_diamond(out: &mut Vec<u8>, answer: u8) -> Result<(), AllocError> {
-    push(out, "<path class=\"")?;
-    push(out, if answer == 0 { "o" } else { "f" })?;
-    push(out, "\" d=\"M-8 0L0 -8L8 0L0 8Z\"/>")
-}
-
-// A ticket or a label, in a field as wide as it needs.
-fn push_stamp(
-    alloc: Global,
-    out: &mut Vec<u8>,
-    process: u8,
-    held: Holdings,
-) -> Result<(), NoMemory> {
-    let mut text = Vec::new(alloc);
-    match held {
-        Holdings::Tickets(tickets) => {
-            let ticket = tickets.get(process as usize).copied().unwrap_or(0);
-            push_number(&mut text, ticket)?;
-        }
-        Holdings::Labels(word) => {
-            if process < word.n() {
-                push_label(&mut text, &word, process)?;
-            }
-        }
-    }
-    let half = 5 + 4 * (text.len().min(40) as u128).max(2);
-    push_field(out, half)?;
-    out.extend_from_slice(&text)?;
-    push(out, "</text>")?;
-    Ok(())
-}
-
-// A field so wide on each side, and the head of its text.
-fn push_field(out: &mut Vec<u8>, half: u128) -> Result<(), AllocError> {
+// A field so wide on each side.
+#[tactic(auto, unfolding(crate::specs::Shapes::field))]
+fn push_field(out: &mut Vec<u8>, half: u128) -> Result<(), AllocError>
+    requires { half < 2 ^ 90 }
+    ensures { OnOk result (out.new.items ≡ out.old.items ++ field half) }
+{
     push_one(out, "<rect class=\"f\" x=\"-", half, "\" y=\"-12\"")?;
-    push_one(out, " width=\"", half.saturating_mul(2), "\"")?;
-    push(out, " height=\"24\" rx=\"12\"/><text class=\"in\" y=\"4\">")
+    push_one(out, " width=\"", half * 2, "\"")?;
+    push(out, " height=\"24\" rx=\"12\"/>")
 }
 
-// A flag as wide as its value.
-fn push_flag(out: &mut Vec<u8>, value: u32) -> Result<(), AllocError> {
-    let digits = Buffer::new().format(value).len().min(40) as u128;
-    push_one(
-        out,
-        "<path class=\"flag\" d=\"M0 0V-28H",
-        14 + 7 * digits,
-        "l-5 8l5 8H0\"/>",
-    )?;
-    push_one(
-        out,
-        "<text class=\"on\" x=\"",
-        5 + 7 * digits / 2,
-        "\" y=\"-16\">",
-    )?;
-    push_one(out, "", u128::from(value), "</text>")
+#[tactic(auto, unfolding(crate::specs::Shapes::flag))]
+fn push_flag(out: &mut Vec<u8>, width: u128) -> Result<(), AllocError>
+    ensures { OnOk result (out.new.items ≡ out.old.items ++ flag width) }
+{
+    let begin = "<path class=\"flag\" d=\"M0 0V-28H";
+    push_one(out, begin, width, "l-5 8l5 8H0\"/>")
 }
 
-fn push_above(out: &mut Vec<u8>, far: bool, style: &str) -> Result<(), AllocError> {
-    push(
-        out,
-        if far {
-            "<text y=\"-27\""
-        } else {
-            "<text y=\"-14\""
-        },
-    )?;
+#[tactic(auto, unfolding(crate::specs::Shapes::words_text))]
+fn push_words(out: &mut Vec<u8>, shape: Shape, far: bool, words: &[u8]) -> Result<(), AllocError>
+    ensures { OnOk result (out.new.items ≡ out.old.items ++ words_text shape far words.now) }
+{
+    match shape {
+        Shape::Put => push_label(out, above(far), "", words),
+        Shape::Get => push_label(out, below(far), "", words),
+        Shape::Stamp => push_label(out, "<text class=\"in\" y=\"4\"", "", words),
+        Shape::Clear => Ok(()),
+        Shape::Scan => push_label(out, below(far), " class=\"strong\"", words),
+        Shape::Yes => push_label(out, below(far), "", words),
+        Shape::No => push_label(out, below(far), "", words),
+        Shape::Out => push_flag_label(out, words),
+        Shape::Trap => push_label(out, above(far), " class=\"trap\"", words),
+        Shape::End => Ok(()),
+        Shape::Lost => Ok(()),
+    }
+}
+
+fn above(far: bool) -> &'static str
+    ensures { result.now ≡ above far }
+{
+    if far {
+        "<text y=\"-27\""
+    } else {
+        "<text y=\"-14\""
+    }
+}
+
+fn below(far: bool) -> &'static str
+    ensures { result.now ≡ below far }
+{
+    if far {
+        "<text y=\"36\""
+    } else {
+        "<text y=\"23\""
+    }
+}
+
+#[tactic(auto, unfolding(crate::specs::Shapes::label))]
+fn push_label(out: &mut Vec<u8>, head: &str, style: &str, words: &[u8]) -> Result<(), AllocError>
+    ensures { OnOk result (out.new.items ≡ out.old.items ++ label head.now style.now words.now) }
+{
+    push(out, head)?;
     push(out, style)?;
-    push(out, ">")
+    push(out, ">")?;
+    push_rest(out, words)
 }
 
-fn push_below(out: &mut Vec<u8>, far: bool, style: &str) -> Result<(), AllocError> {
-    push(
-        out,
-        if far {
-            "<text y=\"36\""
-        } else {
-            "<text y=\"23\""
-        },
-    )?;
-    push(out, style)?;
-    push(out, ">")
+#[tactic(auto, unfolding(crate::specs::Shapes::flag_label))]
+fn push_flag_label(out: &mut Vec<u8>, words: &[u8]) -> Result<(), AllocError>
+    ensures { OnOk result (out.new.items ≡ out.old.items ++ flag_label words.now) }
+{
+    let middle = flag_middle(words.len());
+    push_one(out, "<text class=\"on\" x=\"", middle, "\" y=\"-16\">")?;
+    push_rest(out, words)
+}
+
+// Words, and the end of their element.
+fn push_rest(out: &mut Vec<u8>, words: &[u8]) -> Result<(), AllocError>
+    ensures { OnOk result (out.new.items ≡ out.old.items ++ (words.now ++ codes "</text>")) }
+{
+    out.extend_from_slice(words)?;
+    push(out, "</text>")
 }

@@ -22,6 +22,7 @@ pub struct Cast<'a> {
 }
 
 /// The step, the process and what it did.
+#[tactic(auto, unfolding(crate::specs::Words::sentence))]
 pub fn push_sentence(out: &mut Vec<u8>, cast: Cast<'_>, mark: &Mark) -> Result<(), AllocError>
     ensures { OnOk result (out.new.items ≡ out.old.items ++ sentence cast.entry.processes (names cast.entry.registers.now) mark.now) }
 {
@@ -88,6 +89,18 @@ fn push_put(out: &mut Vec<u8>, registers: &[Named], row: u8, value: u32) -> Resu
     ensures { OnOk result (out.new.items ≡ out.old.items ++ codes "puts " ++ row_text (names registers.now) row ++ codes " := " ++ decimal value) }
 {
     push(out, "puts ")?;
+    push_written(out, registers, row, value)
+}
+
+/// A row, and the value that is put into its register.
+pub fn push_written(
+    out: &mut Vec<u8>,
+    registers: &[Named],
+    row: u8,
+    value: u32,
+) -> Result<(), AllocError>
+    ensures { OnOk result (out.new.items ≡ out.old.items ++ (row_text (names registers.now) row ++ codes " := " ++ decimal value)) }
+{
     push_row(out, registers, row)?;
     push(out, " := ")?;
     push_number(out, u64::from(value))

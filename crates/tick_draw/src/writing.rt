@@ -3,6 +3,7 @@ ghost use Rattle.std.specs.Prelude.{◌≡◌, ◌++◌, OnOk};
 ghost use Rattle.std.specs.Fmt.{decimal};
 ghost use Rattle.std.specs.List.{flat_map};
 ghost use Rattle.tick_draw.specs.Escapes.{escaped, escaped_byte};
+ghost use Rattle.tick_draw.specs.Writing.{one_number, two_numbers};
 
 use itoa::Buffer;
 use std::alloc::AllocError;
@@ -29,13 +30,14 @@ pub fn push_wide(out: &mut Vec<u8>, number: u128) -> Result<(), AllocError>
 }
 
 /// Adds a number with markup before and after it.
+#[tactic(auto, unfolding(crate::specs::Writing::one_number))]
 pub fn push_one(
     out: &mut Vec<u8>,
     before: &str,
     number: u128,
     after: &str,
 ) -> Result<(), AllocError>
-    ensures { OnOk result (out.new.items ≡ out.old.items ++ (before.now ++ decimal number ++ after.now)) }
+    ensures { OnOk result (out.new.items ≡ out.old.items ++ one_number before.now number after.now) }
 {
     push(out, before)?;
     push_wide(out, number)?;
@@ -43,6 +45,7 @@ pub fn push_one(
 }
 
 /// Adds two numbers with markup before, between and after them.
+#[tactic(auto, unfolding(crate::specs::Writing::two_numbers))]
 pub fn push_two(
     out: &mut Vec<u8>,
     before: &str,
@@ -51,11 +54,13 @@ pub fn push_two(
     second: u128,
     after: &str,
 ) -> Result<(), AllocError>
-    ensures { OnOk result (out.new.items ≡ out.old.items ++ (before.now ++ decimal first ++ between.now ++ decimal second ++ after.now)) }
+    ensures { OnOk result (out.new.items ≡ out.old.items ++ two_numbers before.now first between.now second after.now) }
 {
     push(out, before)?;
     push_number(out, first)?;
-    push_one(out, between, second, after)
+    push(out, between)?;
+    push_wide(out, second)?;
+    push(out, after)
 }
 
 /// Adds a text that is no markup.
