@@ -3,7 +3,7 @@ use Rattle.std.proofs.Common.{◌≡◌, ℕ, Bool, List, Ok, subst, sym}
 use Rattle.tick_tree.specs.Plain.{Name, WholeProgram}
 use Rattle.schedule_text.specs.Schedule.{schedule_of}
 use Rattle.tick_explain.specs.Refusals.{IsProgram, IsScheduleRefused}
-use Rattle.tick_explain.specs.Reports.{Tells}
+use Rattle.tick_explain.specs.Reports.{TellsFor}
 use Rattle.lab_answers.specs.Codes.{IsCodeless}
 use Rattle.lab_answers.specs.Runs.{IsRun, IsUnrun, code_refused, schedule_refused}
 use Rattle.lab_answers.specs.Stops.{IfRefused}
@@ -28,11 +28,11 @@ run_by P input text a is n count schedule given spelled same out told told_is he
 
 -- Each is a reason why it isn't made.
 module _ (name input from text : List ℕ) (is_code : Bool) (a : WholeProgram Name) (is : (is : IsProgram input) × (a ≡ is.program)) (n : ℕ) (count : n ≡ a.processes) where
-  pub schedule_unrun : (stop : Stop) → IfRefused stop (Tells (IsScheduleRefused n text) from text)
+  pub schedule_unrun : (stop : Stop) → IfRefused stop (TellsFor n (IsScheduleRefused n text) from text)
       → IfRefused stop (IsUnrun name input from text is_code)
   schedule_unrun stop =
-      refused_as stop (λ report told. schedule_refused is.0 (subst (λ b. Tells (IsScheduleRefused b.processes text) from text report) is.1
-      (subst (λ m. Tells (IsScheduleRefused m text) from text report) count told)))
+      refused_as stop (λ report told. schedule_refused is.0 (subst (λ b. TellsFor b.processes (IsScheduleRefused b.processes text) from text report) is.1
+      (subst (λ m. TellsFor m (IsScheduleRefused m text) from text report) count told)))
 
   pub code_unrun : (schedule : List ℕ) → schedule_of n text ≡ Ok schedule → (stop : Stop) → IfRefused stop (IsCodeless is_code name a)
       → IfRefused stop (IsUnrun name input from text is_code)

@@ -6,4 +6,4 @@ use Rattle.tick_explain.specs.declared.refusal.Refusal.{Refusal}
 pub tells_had : (P : Refusal → Type 0) (name text report : List ℕ) (refusal : Refusal) → P refusal
     → Tells (λ told. told ≡ refusal) name text report → Tells P name text report
 tells_had P name text report refusal had t =
-    record { refusal = t.refusal; had = subst P (sym t.had) had; message = t.message; worded = t.worded; told = t.told }
+    record { refusal = t.refusal; had = subst P (sym t.had) had; told = t.told }

@@ -2,7 +2,7 @@
 use Rattle.std.specs.Prelude.{◌≡◌, ℕ, List, Ok}
 use Rattle.schedule_text.specs.Schedule.{schedule_of}
 use Rattle.tick_explain.specs.Refusals.{BeginsCode, IsCode, IsInputRefused, IsProgram, IsScheduleRefused, IsTakenInput}
-use Rattle.tick_explain.specs.Reports.{Tells}
+use Rattle.tick_explain.specs.Reports.{Tells, TellsFor}
 use Rattle.lab_answers.specs.Lines.{both_taken_line, taken_line}
 use Rattle.lab_answers.specs.Responses.{Gives}
 use Rattle.lab_answers.specs.declared.response.Response.{Response}
@@ -20,7 +20,7 @@ pub data HasProcesses (input : List ℕ) (n : ℕ) : Type 0 where
 pub data ExplainsSchedule (n : ℕ) (name from text : List ℕ) (response : Response) : Type 0 where
   schedule_taken : (steps : List ℕ) → schedule_of n text ≡ Ok steps → Gives 0 (λ out. out ≡ both_taken_line name) response
       → ExplainsSchedule n name from text response
-  schedule_explained : Gives 1 (Tells (IsScheduleRefused n text) from text) response → ExplainsSchedule n name from text response
+  schedule_explained : Gives 1 (TellsFor n (IsScheduleRefused n text) from text) response → ExplainsSchedule n name from text response
 
 -- the input comes first
 pub data ExplainsBoth (name input from text : List ℕ) (response : Response) : Type 0 where

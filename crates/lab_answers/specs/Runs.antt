@@ -6,7 +6,7 @@ use Rattle.tick_syntax.specs.declared.token.Token.{Token}
 use Rattle.tick_kinds.specs.Resolution.{resolved}
 use Rattle.schedule_text.specs.Schedule.{schedule_of}
 use Rattle.tick_explain.specs.Refusals.{IsProgram, IsProgramRefused, IsScheduleRefused}
-use Rattle.tick_explain.specs.Reports.{Tells}
+use Rattle.tick_explain.specs.Reports.{Tells, TellsFor}
 use Rattle.tick_trace.specs.declared.steps.InstructionStep.{InstructionStep}
 use Rattle.tick_trace.specs.declared.steps.StatementStep.{StatementStep}
 use Rattle.tick_trace.specs.InstructionSteps.{AreInstructionSteps}
@@ -26,7 +26,7 @@ IsOf input a = (is : IsProgram input) × (a ≡ is.program)
 -- The report of a run that isn't made: the program, the schedule or the code, in this order.
 pub data IsUnrun (name input from text : List ℕ) (is_code : Bool) (report : List ℕ) : Type 0 where
   program_refused : Tells (IsProgramRefused input) name input report → IsUnrun name input from text is_code report
-  schedule_refused : (is : IsProgram input) → Tells (IsScheduleRefused is.program.processes text) from text report
+  schedule_refused : (is : IsProgram input) → TellsFor is.program.processes (IsScheduleRefused is.program.processes text) from text report
       → IsUnrun name input from text is_code report
   code_refused : (is : IsProgram input) (schedule : List ℕ) → schedule_of is.program.processes text ≡ Ok schedule
       → IsCodeless is_code name is.program report → IsUnrun name input from text is_code report

@@ -3,7 +3,7 @@ ghost use Rattle.std.specs.Prelude.{◌≡◌, ◌<◌, All, Err, IfErr, IfOk, O
 ghost use Rattle.schedule_text.specs.Moves.{moves_of as moves_spelled, mover};
 ghost use Rattle.schedule_text.specs.Schedule.{schedule_of as schedule_spelled};
 ghost use Rattle.tick_explain.specs.Refusals.{IsProgram, IsProgramRefused, IsScheduleRefused};
-ghost use Rattle.tick_explain.specs.Reports.{Tells};
+ghost use Rattle.tick_explain.specs.Reports.{Tells, TellsFor};
 ghost use Rattle.lab_answers.specs.Codes.{HasCode, HasNoCode, program_code};
 ghost use Rattle.lab_answers.specs.Lines.{spelling_line};
 ghost use Rattle.lab_answers.specs.Stops.{IfRefused};
@@ -35,7 +35,7 @@ pub fn program_of(alloc: Global, name: &str, input: &[u8]) -> Result<Program, St
 pub fn schedule_of(alloc: Global, name: &str, text: &str, n: u8) -> Result<Vec<u8>, Stop>
     ensures ok { IfOk result (λ steps. schedule_spelled n text.now ≡ Ok steps.items) }
     ensures in_range { IfOk result (λ steps. All (λ p. p < n) steps.items) }
-    ensures refused { IfErr result (λ stop. IfRefused stop (Tells (IsScheduleRefused n text.now) name.now text.now)) }
+    ensures refused { IfErr result (λ stop. IfRefused stop (TellsFor n (IsScheduleRefused n text.now) name.now text.now)) }
 {
     match read_schedule(alloc, text, n) {
         Ok(steps) => Ok(steps),

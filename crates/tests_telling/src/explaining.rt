@@ -10,3 +10,4 @@ mod large;
 mod others;
 mod programs;
 mod rows;
+mod slips;

@@ -1,1 +1,5 @@
 pub mod Weakening
+pub mod Begun
+pub mod Fitting
+pub mod Utf8
+pub mod Backwards

@@ -3,5 +3,10 @@ pub mod Refusals
 pub mod RefusalLine
 pub mod Spots
 pub mod Pictures
-pub mod Reports
+pub mod Pieces
+pub mod Settings
 pub mod Following
+pub mod Hints
+pub mod Choosing
+pub mod Messages
+pub mod Reports

@@ -1,34 +1,54 @@
 // What a program can go on with, by the judgement of the parser itself.
-ghost use Rattle.std.specs.Prelude.{◌≡◌, IfOk, true};
-ghost use Rattle.std.specs.List.{All};
-ghost use Rattle.tick_explain.specs.Following.{BeginsProgram, IsWhole, MayFollow, sample};
-ghost use Rattle.tick_syntax.specs.declared.fault.TextFault.TheVariants.{Unexpected};
-ghost use Rattle.tick_tree.specs.declared.span.Span.{Span};
+ghost use Rattle.std.specs.Prelude.{◌≡◌, ◌≢◌, ◌≤◌, ◌<◌, IfOk, length, min, take};
+ghost use Rattle.tick_explain.specs.Following.{AreFitting, BeginsProgram, Fits, IsWhole, MayFollow, Tests, is_at_end, sample};
 
-use crate::wanted::{Choice, Wanted};
+use crate::wanted::Wanted;
 use machine_core::NoMemory;
 use std::alloc::Global;
+use std::str;
 use tick_syntax::{TextFault, parse};
 
-/// What of a choice may stand after a text.
-pub fn expected(alloc: Global, front: &str, choice: Choice) -> Result<Vec<Wanted>, NoMemory>
-    ensures { IfOk result (λ wanted. All (λ one. MayFollow front.now (sample one)) wanted.items) }
+/// Which of these may stand at a place of a text.
+pub fn fitting_at(
+    alloc: Global,
+    text: &[u8],
+    place: usize,
+    among: &[Wanted],
+) -> Result<Vec<Wanted>, NoMemory>
+    ensures { IfOk result (λ wanted. AreFitting (take (min place (length text.now)) text.now) among.now wanted.items) }
+{
+    let place = place.min(text.len());
+    match str::from_utf8(&text[..place]) {
+        Ok(front) => fitting(alloc, front, among),
+        Err(_) => Ok(Vec::new(alloc)),
+    }
+}
+
+// Which of these may stand after a text.
+fn fitting(alloc: Global, front: &str, among: &[Wanted]) -> Result<Vec<Wanted>, NoMemory>
+    ensures { IfOk result (λ wanted. AreFitting front.now among.now wanted.items) }
 {
     let mut wanted = Vec::new(alloc);
-    for one in choice.among {
-        if may_follow(alloc, front, *one)? {
+    for one in among {
+        if fits(alloc, front, *one)? {
             wanted.push(*one)?;
-            if choice.one {
-                return Ok(wanted);
-            }
         }
     }
     Ok(wanted)
 }
 
+fn fits(alloc: Global, front: &str, one: Wanted) -> Result<bool, NoMemory>
+    ensures { IfOk result (Tests (Fits front.now one)) }
+{
+    match one {
+        Wanted::TextEnd => is_whole(alloc, front),
+        _ => may_follow(alloc, front, one),
+    }
+}
+
 // Whether what is wanted may stand after the text, on a new line.
 fn may_follow(alloc: Global, front: &str, one: Wanted) -> Result<bool, NoMemory>
-    ensures { IfOk result (λ may. may ≡ true → MayFollow front.now (sample one)) }
+    ensures { IfOk result (Tests (MayFollow front.now one)) }
 {
     let mut text = String::from_str(alloc, front)?;
     text.push_str("\n")?;
@@ -38,28 +58,32 @@ fn may_follow(alloc: Global, front: &str, one: Wanted) -> Result<bool, NoMemory>
 
 // Whether the text is a program, or one goes on from its end.
 fn begins_program(alloc: Global, text: &str) -> Result<bool, NoMemory>
-    ensures { IfOk result (λ begins. begins ≡ true → BeginsProgram text.now) }
+    ensures { IfOk result (Tests (BeginsProgram text.now)) }
 {
     match parse(alloc, text) {
         Ok(_tree) => Ok(true),
-        Err(fault) => ends_unexpectedly(fault, text.len()),
+        Err(fault) => is_at_end(fault, text.len()),
     }
 }
 
 // Whether the fault is that nothing goes on from the end of a text of this length.
-fn ends_unexpectedly(fault: TextFault, length: usize) -> Result<bool, NoMemory>
-    ensures { IfOk result (λ ends. ends ≡ true → (span : Span) × (fault ≡ Unexpected span) × (span.start ≡ length)) }
+fn is_at_end(fault: TextFault, length: usize) -> Result<bool, NoMemory>
+    ensures { IfOk result (λ ends. (fault ≢ TextFault.NoMemory) × (ends ≡ is_at_end fault length)) }
 {
     match fault {
         TextFault::Unexpected(span) => Ok(span.start == length),
         TextFault::NoMemory => Err(NoMemory),
-        _ => Ok(false),
+        TextFault::TextTooLong
+        | TextFault::BadCharacter(_)
+        | TextFault::NumberTooBig(_)
+        | TextFault::NameTooLong(_)
+        | TextFault::TooDeep(_) => Ok(false),
     }
 }
 
-/// Whether a text is a whole program.
-pub fn is_whole(alloc: Global, text: &str) -> Result<bool, NoMemory>
-    ensures { IfOk result (λ whole. whole ≡ true → IsWhole text.now) }
+// Whether a text is a whole program.
+fn is_whole(alloc: Global, text: &str) -> Result<bool, NoMemory>
+    ensures { IfOk result (Tests (IsWhole text.now)) }
 {
     match parse(alloc, text) {
         Ok(_tree) => Ok(true),

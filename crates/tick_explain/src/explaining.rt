@@ -2,12 +2,11 @@
 ghost use Rattle.std.specs.Prelude.{◌≡◌, ◌<◌, ℕ, List, IfOk, MatchOption};
 ghost use Rattle.schedule_text.specs.Schedule.{schedule_of};
 ghost use Rattle.tick_explain.specs.Refusals.{IsCode, IsCodeRefused, IsInputRefused, IsProgram, IsProgramRefused, IsScheduleRefused, IsTakenInput};
-ghost use Rattle.tick_explain.specs.Reports.{Tells};
+ghost use Rattle.tick_explain.specs.Reports.{Tells, TellsFor};
 
 use crate::judgement::{begins_code, code_refusal, program_refusal, schedule_refusal};
 use crate::refusal::Refusal;
 use crate::report::report;
-use crate::wording::{told, told_schedule};
 use machine_core::NoMemory;
 use std::alloc::Global;
 
@@ -46,8 +45,7 @@ pub fn explain_refusal(
 ) -> Result<Vec<u8>, NoMemory>
     ensures { IfOk result (λ text. Tells (λ told. told ≡ refusal) name.now input.now text.items) }
 {
-    let told = told(alloc, input, refusal)?;
-    report(alloc, name, input, refusal, &told)
+    report(alloc, 0, name, input, refusal)
 }
 
 /// The same of an input that has to be a code.
@@ -70,12 +68,11 @@ pub fn explain_schedule(
     text: &str,
     n: u8,
 ) -> Result<Option<Vec<u8>>, NoMemory>
-    ensures { IfOk result (λ told. MatchOption told ((steps : List ℕ) × (schedule_of n text.now ≡ Ok steps)) (λ report. Tells (IsScheduleRefused n text.now) name.now text.now report.items)) }
+    ensures { IfOk result (λ told. MatchOption told ((steps : List ℕ) × (schedule_of n text.now ≡ Ok steps)) (λ report. TellsFor n (IsScheduleRefused n text.now) name.now text.now report.items)) }
 {
     match schedule_refusal(alloc, text, n)? {
         Some(refusal) => {
-            let told = told_schedule(alloc, text.as_bytes(), n, refusal)?;
-            let report = report(alloc, name, text.as_bytes(), refusal, &told)?;
+            let report = report(alloc, n, name, text.as_bytes(), refusal)?;
             Ok(Some(report))
         }
         None => Ok(None),

@@ -3,30 +3,36 @@
 //! line that `ticketc` tells.
 //!
 //! Start with `explain`, which takes a program or a code, and `explain_schedule`. `judgement` has which
-//! refusal an input has, `spot` where that is, `report` what is told of it, and `wording` the words.
+//! refusal an input has, `spot` where that is, and `report` what is told of it: `messages` has the words,
+//! `expected` what may stand there, and `choosing` which hint is told.
 #![tactic(auto)]
 
+mod advice;
 mod character_slips;
-mod coded;
+mod choosing;
+mod declared;
+mod expectation;
 mod expected;
 mod explaining;
-mod grammar;
+mod finding;
 mod grammar_slips;
 mod hint;
 mod judgement;
-mod lexical;
-mod naming;
+mod messages;
+mod name_hint;
 mod picture;
 pub mod place;
+mod pointer;
 pub mod refusal;
 mod refusal_line;
 mod report;
 mod scene;
-mod scheduled;
+mod setting;
+mod sign_hint;
 mod sign_slips;
 mod spot;
 mod wanted;
-mod wording;
+mod word_hint;
 mod writing;
 
 pub use explaining::{explain, explain_code, explain_program, explain_refusal, explain_schedule};

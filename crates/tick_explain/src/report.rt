@@ -1,55 +1,77 @@
 // The report of a refusal.
-ghost use Rattle.std.specs.Prelude.{◌≡◌, ◌++◌, ◌≤◌, ℕ, List, IfOk, OnOk, length, min, string_bytes};
+ghost use Rattle.std.specs.Prelude.{◌≡◌, ◌++◌, ℕ, List, IfOk, OnOk, codes, length, min, string_bytes};
+ghost use Rattle.text_core.specs.Lines.{line_end};
+ghost use Rattle.tick_explain.specs.Hints.{hint_text};
+ghost use Rattle.tick_explain.specs.Messages.{message_of};
 ghost use Rattle.tick_explain.specs.Pictures.{IsPicture};
 ghost use Rattle.tick_explain.specs.Places.{IsPlace};
-ghost use Rattle.tick_explain.specs.Reports.{IsHead, IsReport, error_text, last_line, place_text};
+ghost use Rattle.tick_explain.specs.Reports.{AreHintLines, IsHead, IsReport, IsSeen, IsWritten, error_text, last_line, place_text};
+ghost use Rattle.tick_explain.specs.Settings.{setting};
 ghost use Rattle.tick_explain.specs.declared.place.Place.{Place};
 
+use crate::choosing::hint_of;
+use crate::finding::{tokens_of, wanted_at};
 use crate::hint::Hint;
+use crate::messages::push_message;
 use crate::picture::push_picture;
 use crate::place::{Place, place_of};
 use crate::refusal::Refusal;
 use crate::refusal_line::push_refusal_line;
+use crate::scene::Scene;
+use crate::setting::scene_of;
 use crate::spot::{span_at, spot_of};
+use crate::wanted::Wanted;
 use crate::writing::{push, push_decimal};
 use machine_core::NoMemory;
 use std::alloc::{AllocError, Global};
 use tick_tree::span::Span;
 
-/// What is wrong, and what may help.
-#[derive(Drop)]
-pub struct Told {
-    pub message: String,
-    pub hint: Option<Hint>,
-}
-
-/// A message that was written, with what may help.
-pub fn told_of(
-    message: Result<String, AllocError>,
-    hint: Result<Option<Hint>, NoMemory>,
-) -> Result<Told, NoMemory> {
-    Ok(Told {
-        message: message?,
-        hint: hint?,
-    })
-}
-
-/// The report of a refusal: its place, what is wrong, the line with a caret, what may help, and the
-/// line that `ticketc` tells.
+/// The report of a refusal, of a schedule of so many processes: its place, what is wrong, the line with
+/// a caret, what may help, and the line that `ticketc` tells.
 pub fn report(
     alloc: Global,
+    processes: u8,
     name: &str,
     text: &[u8],
     refusal: Refusal,
-    told: &Told,
 ) -> Result<Vec<u8>, NoMemory>
-    ensures { IfOk result (λ report. IsReport name.now text.now refusal (string_bytes told.now.message) report.items) }
+    ensures { IfOk result (λ report. IsReport processes name.now text.now refusal report.items) }
 {
+    let tokens = tokens_of(alloc, text)?;
+    let scene = scene_of(processes, text, &tokens, refusal);
+    let wanted = wanted_at(alloc, &scene, refusal)?;
+    told(alloc, name, &scene, &wanted, refusal)
+}
+
+fn told(
+    alloc: Global,
+    name: &str,
+    scene: &Scene,
+    wanted: &[Wanted],
+    refusal: Refusal,
+) -> Result<Vec<u8>, NoMemory>
+    ensures { IfOk result (λ report. IsWritten name.now (setting scene.now) wanted.now refusal report.items) }
+{
+    let message = message(alloc, scene, wanted, refusal)?;
+    let hint = hint_of(scene, wanted, refusal);
     let mut out = Vec::new(alloc);
-    push_head(alloc, &mut out, name, text, refusal, &told.message)?;
-    push_hints(alloc, &mut out, name, text, &told.hint)?;
+    push_head(alloc, &mut out, name, scene.text, refusal, &message)?;
+    push_hint(alloc, &mut out, name, scene, hint)?;
     push_last(&mut out, refusal)?;
     Ok(out)
+}
+
+fn message(
+    alloc: Global,
+    scene: &Scene,
+    wanted: &[Wanted],
+    refusal: Refusal,
+) -> Result<String, AllocError>
+    ensures { IfOk result (λ message. string_bytes message ≡ message_of (setting scene.now) wanted.now refusal) }
+{
+    let mut text = String::new(alloc);
+    push_message(&mut text, scene, wanted, refusal)?;
+    Ok(text)
 }
 
 fn push_head(
@@ -67,21 +89,6 @@ fn push_head(
         None => push_unplaced(out, name, message)?,
     }
     Ok(())
-}
-
-fn push_hints(
-    alloc: Global,
-    out: &mut Vec<u8>,
-    name: &str,
-    text: &[u8],
-    hint: &Option<Hint>,
-) -> Result<(), AllocError>
-    ensures { OnOk result ((hints : List ℕ) × (out.new.items ≡ out.old.items ++ hints)) }
-{
-    match hint {
-        Some(hint) => push_hint(alloc, out, name, text, hint),
-        None => Ok(()),
-    }
 }
 
 fn push_placed(
@@ -125,23 +132,34 @@ fn push_error(out: &mut Vec<u8>, message: &str) -> Result<(), AllocError>
     push(out, "\n")
 }
 
-// A hint, and the place that it speaks of.
+// What may help, and the place that it speaks of.
 fn push_hint(
     alloc: Global,
     out: &mut Vec<u8>,
     name: &str,
-    text: &[u8],
-    hint: &Hint,
+    scene: &Scene,
+    hint: Option<Hint>,
 ) -> Result<(), AllocError>
-    ensures { OnOk result ((hints : List ℕ) × (out.new.items ≡ out.old.items ++ hints)) }
+    ensures { OnOk result ((lines : List ℕ) × AreHintLines name.now scene.now.text.now (setting scene.now) hint lines × (out.new.items ≡ out.old.items ++ lines)) }
 {
-    push(out, "hint: ")?;
-    push(out, &hint.text)?;
-    push(out, "\n")?;
-    match hint.span {
-        Some(span) => push_seen(alloc, out, name, text, span),
-        None => Ok(()),
+    match hint {
+        Some(hint) => {
+            push_words(alloc, out, scene, hint)?;
+            push_seen(alloc, out, name, scene.text, hint.span(scene))?;
+        }
+        None => {}
     }
+    Ok(())
+}
+
+fn push_words(alloc: Global, out: &mut Vec<u8>, scene: &Scene, hint: Hint) -> Result<(), AllocError>
+    ensures { OnOk result (out.new.items ≡ out.old.items ++ (codes "hint: " ++ hint_text (setting scene.now) hint ++ line_end)) }
+{
+    let mut words = String::new(alloc);
+    hint.push(&mut words, scene)?;
+    push(out, "hint: ")?;
+    push(out, &words)?;
+    push(out, "\n")
 }
 
 fn push_seen(
@@ -149,9 +167,25 @@ fn push_seen(
     out: &mut Vec<u8>,
     name: &str,
     text: &[u8],
+    span: Option<Span>,
+) -> Result<(), AllocError>
+    ensures { OnOk result ((seen : List ℕ) × IsSeen name.now text.now span seen × (out.new.items ≡ out.old.items ++ seen)) }
+{
+    match span {
+        Some(span) => push_other(alloc, out, name, text, span)?,
+        None => {}
+    }
+    Ok(())
+}
+
+fn push_other(
+    alloc: Global,
+    out: &mut Vec<u8>,
+    name: &str,
+    text: &[u8],
     span: Span,
 ) -> Result<(), AllocError>
-    ensures { OnOk result ((drawn : List ℕ) × (out.new.items ≡ out.old.items ++ drawn)) }
+    ensures { OnOk result ((place : Place) × (drawn : List ℕ) × IsPlace text.now (min span.start (length text.now)) place × IsPicture text.now span place.line drawn × (out.new.items ≡ out.old.items ++ (codes " --> " ++ place_text name.now place ++ line_end ++ drawn))) }
 {
     let place = place_of(text, span.start.min(text.len()));
     push(out, " --> ")?;

@@ -1,12 +1,12 @@
 // What a place may want, told by what stands before it. Whether it does, the parser says.
 ghost use Rattle.std.specs.Prelude.{◌≡◌, ◌++◌, OnOk, string_bytes};
-ghost use Rattle.tick_explain.specs.Following.{sample, told};
+ghost use Rattle.tick_explain.specs.Following.{before_expression, before_name, choices, is_one_of, is_one_of_now, other_choices, repeated_choices, sample, told};
 
-use crate::scene::Scene;
+use crate::writing::push_all;
 use std::alloc::AllocError;
 use tick_syntax::terminals::Terminal;
 
-/// What may be expected: all tokens of a kind, or one word or sign.
+/// What may be expected: all tokens of a kind, one word or sign, or the end of the text.
 #[derive(Clone, Copy)]
 pub enum Wanted {
     Statement,
@@ -16,11 +16,12 @@ pub enum Wanted {
     Operator,
     Name,
     Number,
+    TextEnd,
     Word(Terminal),
 }
 
 impl Wanted {
-    /// A token of the kind. Where it may stand, so may the others.
+    /// A token of the kind. Where it may stand, so may the others. The end of the text has none.
     pub fn sample(self) -> &'static str
         ensures { result.now ≡ sample self }
     {
@@ -31,6 +32,7 @@ impl Wanted {
             Wanted::Operator => "+",
             Wanted::Name => "x",
             Wanted::Number => "0",
+            Wanted::TextEnd => "",
             Wanted::Word(terminal) => terminal.text(),
         }
     }
@@ -46,20 +48,10 @@ impl Wanted {
             Wanted::Operator => text.push_str("an operator"),
             Wanted::Name => text.push_str("a name"),
             Wanted::Number => text.push_str("a number"),
-            Wanted::Word(terminal) => {
-                text.push_str("`")?;
-                text.push_str(terminal.text())?;
-                text.push_str("`")
-            }
+            Wanted::TextEnd => text.push_str("the end of the text"),
+            Wanted::Word(terminal) => push_all(text, &["`", terminal.text(), "`"]),
         }
     }
-}
-
-/// What a place may want, and whether it wants no more than one of these.
-#[derive(Clone, Copy)]
-pub struct Choice {
-    pub among: &'static [Wanted],
-    pub one: bool,
 }
 
 static PROCESSES: [Wanted; 1] = [Wanted::Word(Terminal::Processes)];
@@ -76,97 +68,96 @@ static SEMICOLON: [Wanted; 1] = [Wanted::Word(Terminal::Semicolon)];
 
 static OPEN_BRACE: [Wanted; 1] = [Wanted::Word(Terminal::OpenBrace)];
 
-static AFTER_NAME: [Wanted; 2] = [
-    Wanted::Word(Terminal::Comma),
-    Wanted::Word(Terminal::Semicolon),
-];
+static TEXT_END: [Wanted; 1] = [Wanted::TextEnd];
 
-static SECTIONS: [Wanted; 4] = [
+static AFTER_SCAN: [Wanted; 2] = [Wanted::Name, Wanted::Word(Terminal::Semicolon)];
+
+static SECTIONS_AND_STATEMENTS: [Wanted; 8] = [
     Wanted::Word(Terminal::Var),
     Wanted::Word(Terminal::Scan),
     Wanted::Word(Terminal::Reg),
     Wanted::Word(Terminal::Begin),
-];
-
-static IN_BODY: [Wanted; 2] = [Wanted::Statement, Wanted::Word(Terminal::End)];
-
-static IN_BLOCK: [Wanted; 2] = [Wanted::Statement, Wanted::Word(Terminal::CloseBrace)];
-
-static AFTER_BLOCK: [Wanted; 4] = [
     Wanted::Word(Terminal::Else),
     Wanted::Statement,
     Wanted::Word(Terminal::CloseBrace),
     Wanted::Word(Terminal::End),
 ];
 
-static IN_BRACKET: [Wanted; 2] = [Wanted::Operator, Wanted::Word(Terminal::Close)];
-
-static AFTER_OPERAND: [Wanted; 4] = [
+static AFTER_OPERAND: [Wanted; 7] = [
+    Wanted::Word(Terminal::Comma),
+    Wanted::Operator,
+    Wanted::Word(Terminal::Close),
     Wanted::Word(Terminal::Semicolon),
     Wanted::Word(Terminal::OpenBrace),
     Wanted::Word(Terminal::Becomes),
     Wanted::Expression,
 ];
 
-static NOTHING: [Wanted; 0] = [];
-
-static BEFORE_NAME: [&str; 8] = ["var", "reg", ",", "get", "put", "copy", "older", "held"];
-
-static BEFORE_EXPRESSION: [&str; 13] = [
-    "out", "if", "while", "(", "+", "-", "*", "/", "%", "<", "<=", "==", "!=",
-];
-
 /// Whether a word is one of these.
-pub fn is_one_of(word: &str, words: &[&str]) -> bool {
+pub fn is_one_of(word: &str, words: &[&str]) -> bool
+    ensures { result ≡ is_one_of_now word.now words.now }
+{
     words.iter().any(|one| *one == word)
 }
 
-fn all(among: &'static [Wanted]) -> Choice {
-    Choice { among, one: false }
+fn stands_before_name(word: &str) -> bool
+    ensures { result ≡ is_one_of word.now before_name }
+{
+    is_one_of(
+        word,
+        &["var", "reg", ",", "get", "put", "copy", "older", "held"],
+    )
 }
 
-fn one(among: &'static [Wanted]) -> Choice {
-    Choice { among, one: true }
+fn stands_before_expression(word: &str) -> bool
+    ensures { result ≡ is_one_of word.now before_expression }
+{
+    is_one_of(
+        word,
+        &[
+            "out", "if", "while", "(", "+", "-", "*", "/", "%", "<", "<=", "==", "!=",
+        ],
+    )
 }
 
-/// What may be wanted at the place of a scene.
-pub fn choice_at(scene: &Scene) -> Choice {
-    let before = scene.before(1);
-    if is_one_of(before, &BEFORE_NAME) {
-        return all(&NAME);
+/// What may be wanted after a word. Whether it is, the parser says.
+#[tactic(auto, unfolding(crate::specs::Following::choices))]
+pub fn choices(word: &str) -> &'static [Wanted]
+    ensures { result.now ≡ choices word.now }
+{
+    if stands_before_name(word) {
+        return &NAME;
     }
-    if is_one_of(before, &BEFORE_EXPRESSION) {
-        return all(&EXPRESSION);
+    if stands_before_expression(word) {
+        return &EXPRESSION;
     }
-    match before {
-        "" => all(&PROCESSES),
-        "processes" => all(&NUMBER),
-        "=" => all(&VALUE),
-        "stamp" | "clear" => all(&SEMICOLON),
-        "else" => all(&OPEN_BRACE),
-        "end" => all(&NOTHING),
-        _ if scene.has_begun() => body_choice(scene, before),
-        _ => head_choice(before),
+    other_choices(word)
+}
+
+#[tactic(auto, unfolding(crate::specs::Following::other_choices))]
+fn other_choices(word: &str) -> &'static [Wanted]
+    ensures { result.now ≡ other_choices word.now }
+{
+    match word {
+        "" => &PROCESSES,
+        "processes" => &NUMBER,
+        "=" => &VALUE,
+        "stamp" => &SEMICOLON,
+        "clear" => &SEMICOLON,
+        "else" => &OPEN_BRACE,
+        "end" => &TEXT_END,
+        "scan" => &AFTER_SCAN,
+        _ => repeated_choices(word),
     }
 }
 
-// Before `begin`.
-fn head_choice(before: &str) -> Choice {
-    match before {
-        ";" => all(&SECTIONS),
-        "scan" => all(&NAME),
-        _ => all(&AFTER_NAME),
-    }
-}
-
-// After `begin`.
-fn body_choice(scene: &Scene, before: &str) -> Choice {
-    match before {
-        "}" => all(&AFTER_BLOCK),
-        ";" | "begin" | "{" if scene.open_brace().is_some() => all(&IN_BLOCK),
-        ";" | "begin" | "{" => all(&IN_BODY),
-        "scan" => all(&SEMICOLON),
-        _ if scene.in_bracket() => one(&IN_BRACKET),
-        _ => one(&AFTER_OPERAND),
+#[tactic(auto, unfolding(crate::specs::Following::repeated_choices))]
+fn repeated_choices(word: &str) -> &'static [Wanted]
+    ensures { result.now ≡ repeated_choices word.now }
+{
+    if is_one_of(word, &[";", "begin", "{", "}"]) {
+        &SECTIONS_AND_STATEMENTS
+    } else {
+        &AFTER_OPERAND
     }
 }

@@ -1,6 +1,7 @@
 // What all that is written is made of.
-ghost use Rattle.std.specs.Prelude.{◌≡◌, ◌++◌, OnOk, replicate};
+ghost use Rattle.std.specs.Prelude.{◌≡◌, ◌∷◌, ◌++◌, List, [], OnOk, replicate, string_bytes};
 ghost use Rattle.std.specs.Fmt.{decimal};
+ghost use Rattle.tick_explain.specs.Pieces.{joined, joined_now};
 
 use itoa::Buffer;
 use std::alloc::AllocError;
@@ -27,4 +28,26 @@ pub fn push_often(out: &mut Vec<u8>, byte: u8, count: usize) -> Result<(), Alloc
         out.push(byte)?;
     }
     Ok(())
+}
+
+/// Adds pieces one after another.
+pub fn push_all(text: &mut String, pieces: &[&str]) -> Result<(), AllocError>
+    ensures { OnOk result (string_bytes text.new ≡ string_bytes text.old ++ joined_now pieces.now) }
+{
+    for piece in pieces {
+        text.push_str(piece)?;
+    }
+    Ok(())
+}
+
+/// Adds a number between two pieces.
+pub fn push_number(
+    text: &mut String,
+    before: &str,
+    number: usize,
+    after: &str,
+) -> Result<(), AllocError>
+    ensures { OnOk result (string_bytes text.new ≡ string_bytes text.old ++ joined (before.now ∷ decimal number ∷ after.now ∷ [])) }
+{
+    push_all(text, &[before, Buffer::new().format(number), after])
 }

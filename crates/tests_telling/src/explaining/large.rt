@@ -64,6 +64,17 @@ ticketc: refused 1 TextTooLong
 }
 
 #[test]
+fn too_long_code(rt: HostRuntime) -> Result<(), Fail> {
+    let text = repeated(rt.alloc(), "tickcode 2 2 0 0 0\n", "Halt\n", 65_536, "")?;
+    is_told(
+        of_input(rt.alloc(), "q", text.as_bytes()),
+        "q: error: the code is too long
+ticketc: refused 27 TooLong
+",
+    )
+}
+
+#[test]
 fn long_and_accepted(rt: HostRuntime) -> Result<(), Fail> {
     let text = repeated(rt.alloc(), "processes 2; begin ", "stamp; ", 100_000, "end")?;
     is_taken(of_input(rt.alloc(), "q", text.as_bytes()))?;

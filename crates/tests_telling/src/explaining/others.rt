@@ -1,7 +1,7 @@
 //! Codes and schedules with a slip each, and what is told of them.
 
 /// A code, and its report as that of `q.code`.
-pub static CODES: [(&str, &str); 4] = [
+pub static CODES: [(&str, &str); 9] = [
     (
         "tickcode 2 2 0 0 0\n",
         "q.code:1:1: error: the code is empty
@@ -40,10 +40,55 @@ ticketc: refused 29 BadLine 3
 ticketc: refused 23 StackShort 2
 ",
     ),
+    (
+        "tickcode 2 1 0 0 0\nJump 5\nHalt\n",
+        "q.code:2:1: error: instruction 0 jumps past the end
+  |
+2 | Jump 5
+  | ^^^^^^
+ticketc: refused 22 BadJump 0
+",
+    ),
+    (
+        "tickcode 2 1 0 0 0\nPush 1\nJumpZero 1\nHalt\n",
+        "q.code:3:1: error: instruction 1 is reached, or jumps, with another height of the stack
+  |
+3 | JumpZero 1
+  | ^^^^^^^^^^
+ticketc: refused 24 HeightsDiffer 1
+",
+    ),
+    (
+        "tickcode 2 1 0 0 0\nLoad 0\nOut\nHalt\n",
+        "q.code:2:1: error: instruction 0 names a slot that there is not
+  |
+2 | Load 0
+  | ^^^^^^
+ticketc: refused 25 BadSlot 0
+",
+    ),
+    (
+        "tickcode 2 1 0 0 0\nPush 1\nOut\n",
+        "q.code:3:1: error: the code goes on past instruction 1, its last
+  |
+3 | Out
+  | ^^^
+ticketc: refused 26 FallsOff 1
+",
+    ),
+    (
+        "tickcode 2 2 0 0 0\nNext\nHalt\n",
+        "q.code:2:1: error: instruction 0 breaks a stamp
+  |
+2 | Next
+  | ^^^^
+ticketc: refused 30 BadStamp 0
+",
+    ),
 ];
 
 /// A schedule of two processes, and its report as that of `schedule`.
-pub static SCHEDULES: [(&str, &str); 12] = [
+pub static SCHEDULES: [(&str, &str); 14] = [
     (
         "0,1",
         "schedule:1:1: error: expected `P` or `P*K`, found `0,1`
@@ -159,6 +204,26 @@ ticketc: refused 52 NoSuchProcess 4
   | ^
 hint: P and K are written in digits `0` to `9`
 ticketc: refused 51 BadItem 0
+",
+    ),
+    (
+        "0 # c",
+        "schedule:1:3: error: expected `P` or `P*K`, found `#`
+  |
+1 | 0 # c
+  |   ^
+hint: a schedule has no comments
+ticketc: refused 51 BadItem 2
+",
+    ),
+    (
+        "0 c1",
+        "schedule:1:3: error: expected `P` or `P*K`, found `c1`
+  |
+1 | 0 c1
+  |   ^^
+hint: items `cP`, which clear, are of `ticketc order` alone
+ticketc: refused 51 BadItem 2
 ",
     ),
 ];

@@ -1,11 +1,20 @@
 use crate::explaining::asking::{is_taken, is_told, of_input, of_program, of_schedule};
 use crate::explaining::others::{CODE_AS_PROGRAM, CODES, SCHEDULES};
 use crate::explaining::programs::PROGRAMS;
+use crate::explaining::slips::SLIPS;
 use std::test::Fail;
 
 #[test]
 fn programs(rt: HostRuntime) -> Result<(), Fail> {
     for (text, report) in &PROGRAMS {
+        is_told(of_input(rt.alloc(), "q.tick", text.as_bytes()), report)?;
+    }
+    Ok(())
+}
+
+#[test]
+fn slips(rt: HostRuntime) -> Result<(), Fail> {
+    for (text, report) in &SLIPS {
         is_told(of_input(rt.alloc(), "q.tick", text.as_bytes()), report)?;
     }
     Ok(())
