@@ -1,37 +1,54 @@
 -- What an answer says, from what was explored or hunted and what the answer shows of it.
-use Rattle.std.proofs.Common.{ℕ, ◌≤◌, List, subst}
+use Rattle.std.proofs.Common.{◌≡◌, ℕ, List, [], refl, sym, ◌∙◌, subst, arith}
 use Rattle.tick_tree.specs.Plain.{Name, WholeProgram}
 use Rattle.tick_kinds.specs.Resolution.{resolved}
-use Rattle.tick_explore.specs.Searching.{IfLimit, IfSafe, IfTrapped, IsLimit, NeverTraps}
+use Rattle.state_search.specs.Watching.{Told, AreTold, IsWatched}
+use Rattle.tick_explore.specs.Searching.{AreToldFor, IfLimit, IfSafe, IfTrapped}
 use Rattle.tick_explore.specs.declared.answer.Explored.{Explored}
 use Rattle.tick_explore.specs.declared.answer.Explored.TheVariants.{Trapped, Safe, Limit}
 use Rattle.tick_hunt.specs.Hunts.{IfFound, IfNothing, IsFirstTrap, IsMinimalTrap, NoRunTraps}
 use Rattle.tick_hunt.specs.declared.answer.Hunted.{Hunted}
 use Rattle.tick_hunt.specs.declared.answer.Hunted.TheVariants.{Found, Nothing}
 use Rattle.tick_hunt.specs.declared.plan.Plan.{Plan}
-use Rattle.lab_answers.specs.Answers.{IsHunted, IsSearched, safe, trapped, unknown, none_traps, one_traps}
+use Rattle.lab_answers.specs.Answers.{AreToldAnswering, of_all, of_none, of_some, IsHunted, IsSearched, safe, trapped, unknown, none_traps, one_traps}
 use Rattle.lab_answers.specs.Lines.{minimal_line}
+use Rattle.lab_answers.specs.Responses.{Refuses}
 use Rattle.lab_answers.specs.Runs.{IsOf}
 use Rattle.lab_answers.specs.Shown.{Shows, ShowsHunt, ShowsTrap}
 use Rattle.lab_answers.specs.declared.response.Response.{Response}
 
-pub searched : (P : WholeProgram ℕ → List ℕ → Type 0) (S : WholeProgram ℕ → ℕ → Type 0) (found : List ℕ) (limit : ℕ) (input : List ℕ)
+pub searched : (P : WholeProgram ℕ → List ℕ → Type 0) (S L : WholeProgram ℕ → ℕ → ℕ → Type 0) (found : List ℕ) (limit : ℕ) (input : List ℕ)
     (p : WholeProgram Name) → IsOf input p → (e : Explored) (x : Response)
-    → IfTrapped e (P (resolved p)) → IfSafe e (λ states. NeverTraps (resolved p)) → IfSafe e (S (resolved p))
-    → IfSafe e (λ states. states ≤ limit) → IfLimit e (IsLimit (resolved p) limit) → Shows found input p e x
-    → IsSearched P S found limit input x
-searched P S found limit input p is (Trapped s) x traps never states within full shows =
+    → IfTrapped e (P (resolved p)) → IfSafe e (S (resolved p) limit) → IfLimit e (L (resolved p) limit) → Shows found input p e x
+    → IsSearched P S L found limit input x
+searched P S L found limit input p is (Trapped s) x traps never full shows =
     trapped is.0 s.items (subst (λ q. P (resolved q) s.items) is.1 traps) (subst (λ q. ShowsTrap found input q s.items x) is.1 shows)
-searched P S found limit input p is (Safe count) x traps never states within full shows =
-    safe is.0 count (subst (λ q. NeverTraps (resolved q)) is.1 never) (subst (λ q. S (resolved q) count) is.1 states) within shows
-searched P S found limit input p is (Limit count) x traps never states within full shows =
-    unknown is.0 count (subst (λ q. IsLimit (resolved q) limit count) is.1 full) shows
+searched P S L found limit input p is (Safe count) x traps never full shows =
+    safe is.0 count (subst (λ q. S (resolved q) limit count) is.1 never) shows
+searched P S L found limit input p is (Limit count) x traps never full shows =
+    unknown is.0 count (subst (λ q. L (resolved q) limit count) is.1 full) shows
 
--- of the states nothing is said
-pub any_states : (e : Explored) → IfSafe e (λ states. Unit {0})
-any_states (Trapped s) = tt
-any_states (Safe count) = tt
-any_states (Limit count) = tt
+-- what the watch was told
+module _ (P : WholeProgram ℕ → ℕ → ℕ → Type 0) (found : List ℕ) (input : List ℕ) (p : WholeProgram Name) (is : IsOf input p) where
+  told_answering : (e : Explored) (x : Response) → Shows found input p e x → (told : List Told) → AreToldFor (P (resolved p)) e told → AreToldAnswering P input x told
+  told_answering (Safe count) x shows told all = of_all is.0 count shows (subst (λ q. AreTold (P (resolved q)) count told) is.1 all)
+  told_answering (Trapped s) x shows told some =
+      of_some is.0 some.0 (λ done. let other : 5 ≡ 0 = sym shows.status ∙ done in omega (arith, other)) (subst (λ q. AreTold (P (resolved q)) some.0 told) is.1 some.1)
+  told_answering (Limit count) x shows told some =
+      of_some is.0 some.0 (λ done. let other : 6 ≡ 0 = sym shows.status ∙ done in omega (arith, other)) (subst (λ q. AreTold (P (resolved q)) some.0 told) is.1 some.1)
+
+  pub watched_answering : {W : Type 0} (hears : W → ℕ → ℕ → W → Type 0) (before after : W) (e : Explored) (x : Response) → Shows found input p e x
+      → IsWatched hears before after (AreToldFor (P (resolved p)) e) → IsWatched hears before after (AreToldAnswering P input x)
+  watched_answering hears before after e x shows watched = record {
+    told = watched.told;
+    heard = watched.heard;
+    lawful = told_answering e x shows watched.told watched.lawful;
+  }
+
+-- and that it was told nothing of an input that is refused
+pub unwatched_answering : {W : Type 0} (hears : W → ℕ → ℕ → W → Type 0) (before after : W) (P : WholeProgram ℕ → ℕ → ℕ → Type 0) (input : List ℕ) (x : Response)
+    → Refuses (λ report. before ≡ after) x → IsWatched hears before after (AreToldAnswering P input x)
+unwatched_answering hears before after P input x refused = record { told = []; heard = refused.told; lawful = of_none refused.status refl }
 
 pub hunted_by : (plan : Plan) (input : List ℕ) (p : WholeProgram Name)
     → IsOf input p → (h : Hunted) (x : Response)

@@ -1,10 +1,12 @@
 -- What the answers of `explore` and `hunt` say.
-use Rattle.std.specs.Prelude.{◌≤◌, ℕ, List}
+use Rattle.std.specs.Prelude.{◌≡◌, ℕ, List, []}
 use Rattle.tick_kinds.specs.Resolution.{resolved}
 use Rattle.tick_explain.specs.Refusals.{IsProgram, IsProgramRefused}
 use Rattle.tick_explain.specs.Reports.{Tells}
 use Rattle.tick_tree.specs.Plain.{WholeProgram}
-use Rattle.tick_explore.specs.Searching.{AreAllStates, IsLimit, IsShortestTrap, NeverTraps}
+use Rattle.state_search.specs.Watching.{Told, AreTold}
+use Rattle.tick_explore.specs.Searching.{IsLimit, IsSafe, IsShortestTrap}
+use Rattle.tick_explore.specs.Merging.{IsMergedLimit, IsMergedSafe}
 use Rattle.tick_explore.specs.Trap.{IsTrap}
 use Rattle.tick_hunt.specs.Hunts.{IsFirstTrap, IsMinimalTrap, NoRunTraps}
 use Rattle.tick_hunt.specs.declared.plan.Plan.{Plan}
@@ -18,21 +20,22 @@ abbrev pub IsRefused : List ℕ → List ℕ → Response → Type 0
 IsRefused name input = Refuses (Tells (IsProgramRefused input) name input)
 
 -- All schedules of an accepted program, as far as it has at most `limit` states: where a process traps under one,
--- this has P; where none does, so many states have S.
-pub data IsSearched (P : WholeProgram ℕ → List ℕ → Type 0) (S : WholeProgram ℕ → ℕ → Type 0) (found : List ℕ) (limit : ℕ) (input : List ℕ) (response : Response) : Type 0 where
-  safe : (is : IsProgram input) (states : ℕ) → NeverTraps (resolved is.program) → S (resolved is.program) states → states ≤ limit
-      → ShowsSafe states response → IsSearched P S found limit input response
+-- this has P; where none does, the limit and how many states there are have S; where there are more, the limit and
+-- the number that is told have L.
+pub data IsSearched (P : WholeProgram ℕ → List ℕ → Type 0) (S L : WholeProgram ℕ → ℕ → ℕ → Type 0) (found : List ℕ) (limit : ℕ) (input : List ℕ) (response : Response) : Type 0 where
+  safe : (is : IsProgram input) (states : ℕ) → S (resolved is.program) limit states
+      → ShowsSafe states response → IsSearched P S L found limit input response
   trapped : (is : IsProgram input) (schedule : List ℕ) → P (resolved is.program) schedule
-      → ShowsTrap found input is.program schedule response → IsSearched P S found limit input response
-  unknown : (is : IsProgram input) (states : ℕ) → IsLimit (resolved is.program) limit states
-      → ShowsLimit states response → IsSearched P S found limit input response
+      → ShowsTrap found input is.program schedule response → IsSearched P S L found limit input response
+  unknown : (is : IsProgram input) (states : ℕ) → L (resolved is.program) limit states
+      → ShowsLimit states response → IsSearched P S L found limit input response
 
 abbrev pub IsExplored : ℕ → List ℕ → Response → Type 0
-IsExplored = IsSearched IsShortestTrap AreAllStates shortest_line
+IsExplored = IsSearched IsShortestTrap IsSafe IsLimit shortest_line
 
--- how many states merged steps lead to is a figure alone
+-- the same of the states between merged steps
 abbrev pub IsMerged : ℕ → List ℕ → Response → Type 0
-IsMerged = IsSearched IsTrap (λ a states. Unit {0}) some_line
+IsMerged = IsSearched IsTrap IsMergedSafe IsMergedLimit some_line
 
 pub data Explores (name : List ℕ) (limit : ℕ) (input : List ℕ) (response : Response) : Type 0 where
   explored : IsExplored limit input response → Explores name limit input response
@@ -41,6 +44,13 @@ pub data Explores (name : List ℕ) (limit : ℕ) (input : List ℕ) (response :
 pub data Merges (name : List ℕ) (limit : ℕ) (input : List ℕ) (response : Response) : Type 0 where
   merged : IsMerged limit input response → Merges name limit input response
   unmerged : IsRefused name input response → Merges name limit input response
+
+-- What a watch is told on the way to this response, where P says of a program how many states were seen when so many
+-- of them were gone. Of a program that is told safe all its states are gone; of an input that is refused nothing is told.
+pub data AreToldAnswering (P : WholeProgram ℕ → ℕ → ℕ → Type 0) (input : List ℕ) (response : Response) (told : List Told) : Type 0 where
+  of_all : (is : IsProgram input) (states : ℕ) → ShowsSafe states response → AreTold (P (resolved is.program)) states told → AreToldAnswering P input response told
+  of_some : (is : IsProgram input) (gone : ℕ) → (response.status ≡ 0 → ⊥) → AreTold (P (resolved is.program)) gone told → AreToldAnswering P input response told
+  of_none : response.status ≡ 1 → told ≡ [] → AreToldAnswering P input response told
 
 -- the random schedules of a plan
 pub data IsHunted (plan : Plan) (input : List ℕ) (response : Response) : Type 0 where

@@ -1,10 +1,12 @@
 //! `ticklab explore`.
 ghost use Rattle.std.specs.Prelude.{◌≡◌, ◌<◌, All, IfErr, IfOk, string_bytes};
 ghost use Rattle.tick_kinds.specs.Resolution.{resolved};
-ghost use Rattle.tick_explore.specs.Searching.{IfTrapped};
+ghost use Rattle.state_search.specs.Watching.{IsWatched};
+ghost use Rattle.tick_explore.specs.Searching.{IfTrapped, Sees};
+ghost use Rattle.tick_explore.specs.Merging.{SeesMerged};
 ghost use Rattle.tick_explain.specs.Refusals.{IsProgramRefused};
 ghost use Rattle.tick_explain.specs.Reports.{Tells};
-ghost use Rattle.lab_answers.specs.Answers.{Explores, IsExplored, IsMerged, Merges};
+ghost use Rattle.lab_answers.specs.Answers.{AreToldAnswering, Explores, IsExplored, IsMerged, Merges};
 ghost use Rattle.lab_answers.specs.Lines.{limit_line, safe_line};
 ghost use Rattle.lab_answers.specs.Runs.{IsOf};
 ghost use Rattle.lab_answers.specs.Shown.{Shows};
@@ -34,7 +36,8 @@ pub fn explored<W: Watch>(
     limit: u32,
     watch: &mut W,
 ) -> Result<Response, AnswerFault>
-    ensures { IfOk result (Explores name.now limit input.now) }
+    ensures answer { IfOk result (Explores name.now limit input.now) }
+    ensures watched { IfOk result (λ response. IsWatched W.hears watch.old watch.new (AreToldAnswering Sees input.now response)) }
 {
     settled(alloc, all_schedules(alloc, name, input, limit, watch))
 }
@@ -48,7 +51,8 @@ pub fn explored_merged<W: Watch>(
     limit: u32,
     watch: &mut W,
 ) -> Result<Response, AnswerFault>
-    ensures { IfOk result (Merges name.now limit input.now) }
+    ensures answer { IfOk result (Merges name.now limit input.now) }
+    ensures watched { IfOk result (λ response. IsWatched W.hears watch.old watch.new (AreToldAnswering SeesMerged input.now response)) }
 {
     settled(alloc, merged_schedules(alloc, name, input, limit, watch))
 }
@@ -62,6 +66,8 @@ fn all_schedules<W: Watch>(
 ) -> Result<Response, Stop>
     ensures ok { IfOk result (IsExplored limit input.now) }
     ensures refused { IfErr result (λ stop. IfRefused stop (Tells (IsProgramRefused input.now) name.now input.now)) }
+    ensures watched { IfOk result (λ response. IsWatched W.hears watch.old watch.new (AreToldAnswering Sees input.now response)) }
+    ensures unwatched { IfErr result (λ stop. IfRefused stop (λ report. watch.old ≡ watch.new)) }
 {
     let program = program_of(alloc, name, input)?;
     let explored = explore_watched(alloc, &program, limit, watch)?;
@@ -77,6 +83,8 @@ fn merged_schedules<W: Watch>(
 ) -> Result<Response, Stop>
     ensures ok { IfOk result (IsMerged limit input.now) }
     ensures refused { IfErr result (λ stop. IfRefused stop (Tells (IsProgramRefused input.now) name.now input.now)) }
+    ensures watched { IfOk result (λ response. IsWatched W.hears watch.old watch.new (AreToldAnswering SeesMerged input.now response)) }
+    ensures unwatched { IfErr result (λ stop. IfRefused stop (λ report. watch.old ≡ watch.new)) }
 {
     let program = program_of(alloc, name, input)?;
     let explored = explore_merged_watched(alloc, &program, limit, watch)?;

@@ -8,8 +8,8 @@ use Rattle.tick_kinds.specs.declared.fault.KindFault.{KindFault}
 use Rattle.tick_kinds.specs.declared.fault.KindFault.TheVariants as N
 use Rattle.tick_kinds.specs.declared.kind.Kind.{Kind}
 use Rattle.tick_kinds.specs.declared.kind.Kind.TheVariants as K
-use Rattle.tick_play.specs.declared.schedule.ScheduleFault.{ScheduleFault}
-use Rattle.tick_play.specs.declared.schedule.ScheduleFault.TheVariants as S
+use Rattle.schedule_text.specs.declared.schedule.ScheduleFault.{ScheduleFault}
+use Rattle.schedule_text.specs.declared.schedule.ScheduleFault.TheVariants as S
 use Rattle.tick_syntax.specs.declared.fault.TextFault.{TextFault}
 use Rattle.tick_syntax.specs.declared.fault.TextFault.TheVariants as T
 use Rattle.tick_explain.specs.Following.{expectation}

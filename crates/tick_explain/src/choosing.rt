@@ -13,8 +13,8 @@ use crate::refusal::Refusal;
 use crate::scene::{Scene, shortened};
 use crate::wanted::Wanted;
 use code_core::CodeFault;
+use schedule_text::ScheduleFault;
 use tick_kinds::{Kind, KindFault};
-use tick_play::ScheduleFault;
 use tick_syntax::TextFault;
 
 /// What may help.

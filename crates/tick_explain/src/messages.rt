@@ -9,9 +9,9 @@ use crate::scene::{Scene, is_text, shortened};
 use crate::wanted::Wanted;
 use crate::writing::{push_all, push_number};
 use code_core::CodeFault;
+use schedule_text::ScheduleFault;
 use std::alloc::AllocError;
 use tick_kinds::{Kind, KindFault};
-use tick_play::ScheduleFault;
 use tick_syntax::TextFault;
 
 /// Adds what is wrong.
