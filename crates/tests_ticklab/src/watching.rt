@@ -10,6 +10,8 @@ use tick_explore::Watch;
 pub struct Nobody;
 
 impl Watch for Nobody {
+    ghost hears = { λ before states gone after. Unit {0} };
+
     fn seen(&mut self, _states: u32, _gone: u32) {}
 }
 
@@ -39,6 +41,8 @@ impl Notes {
 }
 
 impl Watch for Notes {
+    ghost hears = { λ before states gone after. Unit {0} };
+
     fn seen(&mut self, states: u32, gone: u32) {
         self.times = self.times.saturating_add(1);
         self.is_more = self.is_more && states > self.states && gone > self.gone && states >= gone;

@@ -28,6 +28,8 @@ impl<'a> Progress<'a> {
 }
 
 impl<'a> Watch for Progress<'a> {
+    ghost hears = { λ before states gone after. Unit {0} };
+
     fn seen(&mut self, states: u32, gone: u32) {
         if self.rt.stderr().is_terminal() {
             self.is_told = true;

@@ -13,9 +13,10 @@ fn agrees(alloc: Global, text: &str) -> Result<(), Fail> {
         Explored::Trapped(schedule) => Found::Trap {
             steps: schedule.len(),
         },
-        Explored::Safe { states } | Explored::Limit { states } => Found::Nothing {
+        Explored::Safe { states } => Found::Nothing {
             states: states as usize,
         },
+        Explored::Limit { .. } => return Err("the limit was told")?,
     };
     is_same(&found, &second_search(alloc, &program)?)
 }

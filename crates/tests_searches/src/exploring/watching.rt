@@ -16,6 +16,8 @@ struct Told {
 }
 
 impl Watch for Told {
+    ghost hears = { λ before states gone after. Unit {0} };
+
     fn seen(&mut self, states: u32, gone: u32) {
         self.times = self.times.saturating_add(1);
         self.is_more = self.is_more && states > self.states && states > gone && gone > self.gone;
@@ -31,6 +33,8 @@ struct Lines<'r, E: Eprint> {
 }
 
 impl<'r, E: Eprint> Watch for Lines<'r, E> {
+    ghost hears = { λ before states gone after. Unit {0} };
+
     fn seen(&mut self, states: u32, gone: u32) {
         let _written = eprintln!(self.rt; "{states} states, {gone} gone");
     }
