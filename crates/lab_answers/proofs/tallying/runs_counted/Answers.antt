@@ -20,7 +20,7 @@ returns-clause-ok g c =
     let made = c.in_ok-counts.ensures.counted in record {
       status = c.answer.ensures.status;
       quiet = c.answer.ensures.told;
-      out = tally_by g.M.Ran _ _ c.args.times c.args.turns c.args.input.now c.in_ok-program.program c.in_ok-program.ensures.ok c.in_ok-code.ensures.has_code
+      out = tally_by g.M.Runner.Ran _ _ c.args.times c.args.turns c.args.input.now c.in_ok-program.program c.in_ok-program.ensures.ok c.in_ok-code.ensures.has_code
           c.in_ok-code.code c.in_ok-code.ensures.code made.0 made.1 made.2 c.in_ok-counts.counts.items made.3 _
           (c.answer.ensures.out ∙ c.in_ok-text.ensures ∙ ap (count_texts c.args.times) c.as_slice.ensures.value);
     }
