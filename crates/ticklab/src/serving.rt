@@ -45,12 +45,8 @@ fn served(rt: &HostRuntime, request: Request<&str>) -> Result<u8, LabFault>
     told(rt, &response_to(rt, request)?)
 }
 
-fn counted<A: AllocGlobal + Threads + Wait>(
-    rt: &HostRuntime,
-    threads: &A,
-    runs: Runs<&str>,
-) -> Result<u8, LabFault>
-    ensures { IfOk result (HasStatus (RespondsRuns (plain_runs runs.entry))) }
+fn counted<M: Runner>(rt: &HostRuntime, runner: &mut M, runs: Runs<&str>) -> Result<u8, LabFault>
+    ensures { IfOk result (HasStatus (RespondsRuns M.Ran runner.old runner.new (plain_runs runs.entry))) }
 {
     told(rt, &runs_counted(rt, runner, runs)?)
 }
