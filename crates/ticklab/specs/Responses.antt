@@ -1,9 +1,6 @@
 -- What is answered to a request: what `lab_answers` promises, of some bytes that were read for its file.
 use Rattle.std.specs.Prelude.{ℕ, Bool, true, false, List, Option, Some, None}
-use Rattle.state_search.specs.Watching.{Told}
-use Rattle.tick_explore.specs.Merging.{SeesMerged}
-use Rattle.tick_explore.specs.Searching.{Sees}
-use Rattle.lab_answers.specs.Answers.{AreToldAnswering, Explores, Hunts, Merges}
+use Rattle.lab_answers.specs.Answers.{Explores, Hunts, Merges}
 use Rattle.lab_answers.specs.Explanations.{Explains, ExplainsBoth}
 use Rattle.lab_answers.specs.Labels.{DrawsLabels}
 use Rattle.lab_answers.specs.Runs.{Draws, Traces}
@@ -23,11 +20,6 @@ Text = List ℕ
 abbrev pub SearchesBy : Bool → Text → ℕ → Text → Response → Type 0
 SearchesBy false = Explores
 SearchesBy true = Merges
-
--- what a watch is told of such a search
-abbrev pub AreToldBy : Bool → Text → Response → List Told → Type 0
-AreToldBy false = AreToldAnswering Sees
-AreToldBy true = AreToldAnswering SeesMerged
 
 abbrev pub RespondsExploring : Text → ℕ → Bool → Response → Type 0
 RespondsExploring file limit is_merged response = (input : Text) × SearchesBy is_merged file limit input response

@@ -2,9 +2,8 @@
 ghost use Rattle.std.specs.Prelude.{◌≡◌, IfOk, option_map};
 ghost use Rattle.lab_answers.specs.Labels.{DrawsLabels};
 ghost use Rattle.lab_answers.specs.Runs.{Draws, Traces};
-ghost use Rattle.state_search.specs.Watching.{IsWatched};
 ghost use Rattle.lab_line.specs.Found.{plain_request};
-ghost use Rattle.ticklab.specs.Responses.{AreToldBy, Responds, RespondsAfterReading, RespondsExplaining, RespondsExploring, RespondsHunting, SearchesBy, mode_of};
+ghost use Rattle.ticklab.specs.Responses.{Responds, RespondsAfterReading, RespondsExplaining, RespondsExploring, RespondsHunting, SearchesBy, mode_of};
 
 use crate::fault::LabFault;
 use crate::files::{bytes_of, text_of};
@@ -82,8 +81,7 @@ fn searched<W: Watch>(
     is_merged: bool,
     watch: &mut W,
 ) -> Result<Response, AnswerFault>
-    ensures answer { IfOk result (SearchesBy is_merged file.now limit input.now) }
-    ensures watched { IfOk result (λ response. IsWatched W.hears watch.old watch.new (AreToldBy is_merged input.now response)) }
+    ensures { IfOk result (SearchesBy is_merged file.now limit input.now) }
 {
     if is_merged {
         return explored_merged(alloc, file, input, limit, watch);
