@@ -1,8 +1,10 @@
--- The lemmas on padded rows that other crates may cite.
+-- The lemmas that other crates may cite: digits spell the number that their value is, and the digits of
+-- a number spell it; and what rows of a fixed length hold.
 use Rattle.std.proofs.Common.{◌≡◌, ℕ, suc, ◌+◌, ◌-◌, ◌<◌, ◌≤◌, List, [], ◌∷◌, ◌++◌, length, get_or, ap, ◌∙◌, sym, arith, take, drop, set, replicate, append_assoc, take-append-drop, length-take-le}
 use Rattle.std.proofs.lemmas.List.{set-append_right, take-replicate, drop-replicate, take_more, take_all}
 use Rattle.std.proofs.Math.Seq.{take-append-add, drop-append-add}
 use Rattle.base.specs.Rows.{padded}
+pub use Rattle.base.proofs.DigitValues.{number_of-digits, Spells, decimal_spells}
 
 -- the row is what counts of it, padded again
 pub padded_back : {X : Type 0} (m c : ℕ) (z : X) (row : List X) → length row ≡ m → c ≤ m → drop c row ≡ replicate (m - c) z

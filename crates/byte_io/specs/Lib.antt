@@ -1,3 +1,4 @@
 pub mod Calls
+pub mod Host
 pub mod Reading
 pub mod Writing

@@ -4,7 +4,7 @@ use Rattle.std.specs.Prelude.{◌==◌, slice_get}
 use Rattle.std.specs.Borrow.{Bor}
 use Rattle.std.proofs.lemmas.List.{append-nil, take_more}
 use Rattle.std.proofs.lemmas.Option.{slice_get_within, get_or_from_slice_get}
-use Rattle.text_core.specs.Lines.{line_end}
+use Rattle.base.specs.Lines.{line_end}
 use Rattle.code_core.specs.declared.instr.Instr.{Instr}
 use Rattle.code_text.specs.CodeText.{instr_text, instr_line, code_lines, IsIn, MayStand, AllMayStand, HasBadLine}
 use Rattle.code_text.specs.prover.Guess.{guess, Follows}

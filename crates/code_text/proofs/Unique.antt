@@ -2,7 +2,7 @@
 use Rattle.std.proofs.Common.{◌≡◌, ⊎_elim, inr, ℕ, suc, ◌+◌, ◌<◌, List, [], ◌∷◌, ◌++◌, length, refl, ap, ◌∙◌, sym, subst, arith, append_assoc, length-append, Ok, Err}
 use Rattle.std.proofs.lemmas.List.{append_cancel_left}
 use Rattle.std.proofs.lemmas.Option.{same_Some, none-some}
-use Rattle.text_core.specs.Lines.{line_end}
+use Rattle.base.specs.Lines.{line_end}
 use Rattle.code_core.specs.declared.instr.Instr.{Instr}
 use Rattle.code_core.specs.declared.fault.CodeFault.{CodeFault}
 use Rattle.code_core.specs.declared.fault.CodeFault.TheVariants as F

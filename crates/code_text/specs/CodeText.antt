@@ -1,7 +1,7 @@
 -- Codes as texts: how they are written, and what a text is read as.
 use Rattle.std.specs.Prelude.{◌≡◌, ◌⊎◌, ℕ, ◌+◌, ◌<◌, ◌^◌, List, [], ◌∷◌, ◌++◌, codes, length, Some, Result, Ok, Err}
 use Rattle.std.specs.Fmt.{decimal}
-use Rattle.text_core.specs.Lines.{line_end}
+use Rattle.base.specs.Lines.{line_end}
 use Rattle.machine_core.specs.Operators.{sign}
 use Rattle.code_core.specs.declared.instr.Instr.{Instr}
 use Rattle.code_core.specs.declared.instr.Instr.TheVariants as I

@@ -1,6 +1,6 @@
 -- A report of a program and one of its code, under schedules that stand for each other.
 use Rattle.std.proofs.Common.{◌≡◌, ◌<◌, ◌≤◌, ◌^◌, ◌++◌, ◌∙◌, ℕ, List, Bool, true, false, nat_lt, length, ap, refl, subst, sym, Option, Some, None, Result, Ok, Err, arith}
-use Rattle.text_core.specs.Lines.{line_end}
+use Rattle.base.specs.Lines.{line_end}
 use Rattle.tick_kinds.specs.Accepted.{IsAccepted}
 use Rattle.tick_kinds.specs.Resolution.{resolved}
 use Rattle.tick_lower.specs.Lowered.{lowered, lowered_length, lowered_sizes}

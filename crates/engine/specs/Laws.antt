@@ -2,7 +2,7 @@
 -- those on a program are outcomes of the program; and what a program reports and what its code reports are the same,
 -- under schedules that the commands print.
 use Rattle.std.specs.Prelude.{◌≡◌, ◌↔◌, ℕ, ◌≤◌, ◌++◌, false, List, [], length, Option, Some, None, Ok}
-use Rattle.text_core.specs.Lines.{line_end}
+use Rattle.base.specs.Lines.{line_end}
 use Rattle.command_line.specs.declared.request.Request.{Request}
 use Rattle.command_line.specs.declared.request.Request.TheVariants.{Source, Code, Expand, Project}
 use Rattle.schedule_text.specs.Written.{schedule_text}

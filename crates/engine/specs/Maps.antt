@@ -1,6 +1,6 @@
 -- What `drop` and `lift` answer on the code of a program: a schedule in one line.
 use Rattle.std.specs.Prelude.{ℕ, List, ◌++◌}
-use Rattle.text_core.specs.Lines.{line_end}
+use Rattle.base.specs.Lines.{line_end}
 use Rattle.schedule_text.specs.Schedule.{schedule_of}
 use Rattle.schedule_text.specs.Written.{schedule_text}
 use Rattle.tick_sim.specs.Maps.{down, up}

@@ -2,7 +2,7 @@
 use Rattle.std.specs.Prelude.{◌≡◌, ℕ, List, []}
 use Rattle.machine_core.specs.Observables.{RunObservables}
 use Rattle.tick_play.specs.Outcome.{outcome_lines}
-use Rattle.tick_run.specs.Runs.{IsWholeRun}
+use Rattle.tick_merge.specs.Runs.{IsWholeRun}
 use Rattle.threaded_source.specs.Shown.{ShowsOutcome}
 use Rattle.tick_kinds.specs.Resolution.{resolved}
 use Rattle.tick_tree.specs.Plain.{Name, WholeProgram}

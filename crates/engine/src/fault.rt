@@ -6,7 +6,7 @@ use byte_io::EndFault;
 use schedule_text::NoMemory;
 use std::alloc::{AllocError, AllocFailed};
 use thiserror::Error;
-use tick_run::RunFault;
+use tick_merge::RunFault;
 
 /// Why the engine has no status to give.
 #[derive(Clone, Copy, Debug, PartialEq, Eq, Error)]

@@ -15,8 +15,8 @@ use crate::lowered::runnable_code;
 use crate::response::{Response, stop_response};
 use code_core::Code;
 use std::alloc::Global;
+use tick_merge::OneRun;
 use tick_play::outcome_text;
-use tick_run::OneRun;
 use ticketc_lines::{Stop, text_of};
 
 /// How many values a process gives out at most.

@@ -18,7 +18,7 @@ use crate::runs::run_response;
 use byte_io::{ByteSink, ByteSource, read_input, write_text};
 use command_line::asked;
 use std::alloc::Global;
-use tick_run::OneRun;
+use tick_merge::OneRun;
 use ticketc_lines::{Command, command_of};
 
 /// What came of a command line that was served.

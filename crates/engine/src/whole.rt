@@ -12,7 +12,7 @@ use std::alloc::Global;
 use std::env::Args;
 use std::io;
 use std::process::ExitCode;
-use tick_run::OneRun;
+use tick_merge::OneRun;
 
 /// The status of words that the host couldn't give, as where one is no UTF-8.
 const NO_WORDS: u8 = 4;

@@ -9,7 +9,7 @@ use Rattle.tick_source.specs.Source.{source}
 use Rattle.tick_lower.specs.Lowered.{lowered, lowered_sizes}
 use Rattle.tick_sim.specs.Maps.{up}
 use Rattle.tick_sim.specs.Laws.{seen_of_code}
-use Rattle.tick_run.specs.Runs.{IsWholeRun}
+use Rattle.tick_merge.specs.Runs.{IsWholeRun}
 use Rattle.threaded_source.specs.Laws.{code_of}
 use Rattle.tick_explore.specs.Explored.{is_trap, has_trapped}
 use Rattle.tick_explore.specs.Searching.{NeverTraps}

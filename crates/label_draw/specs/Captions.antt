@@ -2,7 +2,7 @@
 use Rattle.std.specs.Prelude.{ℕ, zero, suc, ◌+◌, ◌-◌, ◌==◌, Bool, true, false, Option, None, Some, List, [], ◌∷◌, ◌++◌, codes, length, map, if◌then◌else◌}
 use Rattle.std.specs.Fmt.{decimal}
 use Rattle.std.specs.List.{flat_map}
-use Rattle.text_core.specs.Lines.{spaced}
+use Rattle.base.specs.Lines.{spaced}
 use Rattle.ticket_core.specs.declared.moves.Move.{Move}
 use Rattle.ticket_core.specs.declared.moves.Move.TheVariants.{Stamp, Clear}
 use Rattle.word_core.specs.Order.{label_ranks}

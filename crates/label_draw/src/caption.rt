@@ -1,13 +1,13 @@
 // What stands under a frame: the labels, and the processes from the oldest on.
 ghost use Rattle.std.specs.Prelude.{◌≡◌, ◌++◌, ◌≤◌, OnOk, length, map, string_bytes, true};
-ghost use Rattle.text_core.specs.Lines.{spaced};
+ghost use Rattle.base.specs.Lines.{spaced};
 ghost use Rattle.label_draw.specs.Captions.{label_text, labels_line, labels_told, mark_before, order_line, order_of, order_text, ranked_text};
 
 use crate::layout::{frame_height, is_nested};
 use crate::writing::push_one;
+use base::push_number;
 use label_core::Label;
 use std::alloc::AllocError;
-use text_core::push_number;
 use word_core::{ABSENT_LABEL, EMPTY_LABEL, LabelWord};
 
 /// Adds the labels, as `ticketc order` writes them. A table has them above.

@@ -2,8 +2,8 @@
 ghost use Rattle.std.specs.Prelude.{◌≡◌, ◌++◌, OnOk, string_bytes};
 ghost use Rattle.label_draw.specs.Writing.{one_number, two_numbers};
 
+use base::push_number;
 use std::alloc::AllocError;
-use text_core::push_number;
 
 /// Adds a number with a text before and one after it.
 #[tactic(auto, unfolding(crate::specs::Writing::one_number))]

@@ -4,7 +4,7 @@
 -- Reading splits the text at blanks, reads each piece as an item, and puts its steps behind those so far
 -- (`schedule_of`). The page undoes one layer after the other, from the inside:
 --
---   - The digits of a number spell it (`decimal_spells` of text_core), and none of them is a blank or a star.
+--   - The digits of a number spell it (`decimal_spells` of base), and none of them is a blank or a star.
 --   - So the text of a run is read as that run (`item_of-text`): as it stands where the run has one step, and else
 --     cut at the first star, which is the one that was written, since the digits before it have none.
 --   - So the joined texts split into the texts again (`split_texts`), since no text has a blank in it.
@@ -31,10 +31,10 @@ use Rattle.std.proofs.lemmas.Bool.Decides.{nat_tests}
 use Rattle.std.proofs.lemmas.List.{append-nil, length-append, length-replicate, replicate-append-replicate}
 use Rattle.std.proofs.lemmas.List.Elements.{All-append, All-head, All-push, All-tail, All-weaker}
 use Rattle.std.proofs.lemmas.List.Splits.{slice_split_at, slice_split_none}
-use Rattle.text_core.specs.Lines.{spaced}
-use Rattle.text_core.specs.Number.{number_of}
-use Rattle.text_core.proofs.Offered.{Spells, decimal_spells}
-use Rattle.text_core.specs.Blanks.{is_blank}
+use Rattle.base.specs.Lines.{spaced}
+use Rattle.base.specs.Number.{number_of}
+use Rattle.base.proofs.Offered.{Spells, decimal_spells}
+use Rattle.base.specs.Blanks.{is_blank}
 use Rattle.schedule_text.specs.Schedule.{is_star, item_cut, item_of, item_of_numbers, schedule_of, with_item, with_piece, with_pieces}
 use Rattle.schedule_text.specs.Written.{item_text, joined, run_onto, runs_of, schedule_text}
 use Rattle.schedule_text.specs.declared.schedule.Item.{Item}

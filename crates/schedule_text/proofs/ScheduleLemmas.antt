@@ -6,7 +6,7 @@ use Rattle.std.proofs.lemmas.Bool.{le-leb, le-ltb, lt-leb, lt-ltb, ltb-false}
 use Rattle.std.proofs.lemmas.List.{drop-drop, drop_more, get_or-drop, get_or-replicate, length-append, length-replicate, take-append-drop, take_rest}
 use Rattle.std.proofs.lemmas.List.Elements.{All-append, All-more, All-nil, All-replicate}
 use Rattle.std.proofs.lemmas.List.Splits.{slice_split_at, slice_split_none}
-use Rattle.text_core.specs.Blanks.{is_blank}
+use Rattle.base.specs.Blanks.{is_blank}
 use Rattle.schedule_text.specs.Schedule.{item_of, schedule_of, with_item, with_piece, with_pieces}
 use Rattle.ticket_core.specs.declared.moves.Move.{Move}
 use Rattle.ticket_core.specs.declared.moves.Move.TheVariants.{Stamp, Clear}

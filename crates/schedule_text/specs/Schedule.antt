@@ -2,8 +2,8 @@
 -- of them.
 use Rattle.std.specs.Prelude.{ℕ, ◌+◌, nat_le, nat_lt, ◌==◌, Bool, List, [], ◌∷◌, ◌++◌, drop, length, replicate, take, Option, Some, None, Result, Ok, Err, if◌then◌else◌}
 use Rattle.std.specs.List.{position, slice_split}
-use Rattle.text_core.specs.Blanks.{is_blank}
-use Rattle.text_core.specs.Number.{capped, number_of}
+use Rattle.base.specs.Blanks.{is_blank}
+use Rattle.base.specs.Number.{capped, number_of}
 use Rattle.schedule_text.specs.declared.schedule.Item.{Item}
 use Rattle.schedule_text.specs.declared.schedule.ScheduleFault.{ScheduleFault}
 use Rattle.schedule_text.specs.declared.schedule.ScheduleFault.TheVariants.{BadItem, NoSuchProcess, TooLong}

@@ -1,7 +1,7 @@
 -- Schedules as they are written.
 use Rattle.std.specs.Prelude.{ℕ, ◌+◌, ◌==◌, List, [], ◌∷◌, ◌++◌, codes, map, if◌then◌else◌}
 use Rattle.std.specs.Fmt.{decimal}
-use Rattle.text_core.specs.Lines.{spaced}
+use Rattle.base.specs.Lines.{spaced}
 use Rattle.schedule_text.specs.declared.schedule.Item.{Item}
 
 -- a run before others; with the first of them it is one run where both are of one process

@@ -5,8 +5,8 @@ ghost use Rattle.schedule_text.specs.Schedule.{with_item};
 ghost use Rattle.schedule_text.specs.declared.schedule.ScheduleFault.TheVariants.{NoMemory};
 
 use crate::schedule::{Item, ScheduleFault, process_of, read_item};
+use base::is_blank;
 use std::alloc::Global;
-use text_core::is_blank;
 use ticket_core::Move;
 
 // What an item of clears begins with.

@@ -4,8 +4,8 @@ ghost use Rattle.schedule_text.specs.Schedule.{capped_item, is_star, item_of as 
 ghost use Rattle.schedule_text.specs.prover.Misfits.{IsMisfit};
 ghost use Rattle.schedule_text.specs.declared.schedule.ScheduleFault.TheVariants.{NoMemory};
 
+use base::{is_blank, number};
 use std::alloc::{AllocFailed, Global};
-use text_core::{is_blank, number};
 use thiserror::Error;
 
 /// The most steps of a schedule.

@@ -2,9 +2,8 @@ ghost use Rattle.std.specs.Prelude.{◌≡◌, ◌∷◌, ◌++◌, IfOk, OnOk, 
 ghost use Rattle.schedule_text.specs.Written.{item_text, schedule_text};
 
 use crate::schedule::Item;
-use base::NoMemory;
+use base::{NoMemory, push_number};
 use std::alloc::{AllocError, Global};
-use text_core::push_number;
 
 /// The shortest text of a schedule: an item for each longest run of steps of one process, and one
 /// space between each two.

@@ -12,13 +12,13 @@ use Rattle.code_core.specs.Instructions.{StepCode}
 use Rattle.code_core.specs.declared.instr.Instr.{Instr}
 use Rattle.code_machine.specs.Machine.{CodeProcess}
 use Rattle.code_machine.specs.Process.{gives_out}
-use Rattle.code_local.specs.Local.{outputs_of}
+use Rattle.tick_merge.specs.Local.{outputs_of}
 use Rattle.tick_merge.specs.Ran.{run_under, events_by}
 use Rattle.tick_lower.specs.Lowered.{lowered, lowered_sizes}
 use Rattle.tick_sim.specs.Laws.{seen, seen_of_code}
 use Rattle.tick_sim.specs.Maps.{down}
 use Rattle.tick_sim.proofs.Offered.{down_law}
-use Rattle.tick_run.specs.Runs.{EndsAs, IsWholeRun}
+use Rattle.tick_merge.specs.Runs.{EndsAs, IsWholeRun}
 use Rattle.threaded_source.specs.Shown.{status_of, ShowsOutcome}
 use Rattle.threaded_source.specs.Laws.{code_of, ThreadedSourceLaw}
 

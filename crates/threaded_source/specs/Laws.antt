@@ -5,7 +5,7 @@ use Rattle.tick_tree.specs.Plain.{WholeProgram}
 use Rattle.code_core.specs.Instructions.{StepCode}
 use Rattle.tick_lower.specs.Lowered.{lowered, lowered_sizes}
 use Rattle.tick_sim.specs.Maps.{down}
-use Rattle.tick_run.specs.Runs.{IsWholeRun}
+use Rattle.tick_merge.specs.Runs.{IsWholeRun}
 use Rattle.threaded_source.specs.Shown.{ShowsOutcome}
 
 abbrev pub code_of : WholeProgram ℕ → StepCode

@@ -6,7 +6,7 @@ use Rattle.machine_core.specs.declared.run_outcome.RunEnd.{RunEnd}
 use Rattle.machine_core.specs.declared.run_outcome.RunEnd.TheVariants.{Ended, Trapped, TurnsSpent, OutputsFull}
 use Rattle.machine_core.specs.Observables.{RunObservables}
 use Rattle.tick_tree.specs.Plain.{WholeProgram}
-use Rattle.code_local.specs.Local.{outputs_of}
+use Rattle.tick_merge.specs.Local.{outputs_of}
 use Rattle.tick_merge.specs.Ran.{events_by}
 use Rattle.tick_sim.specs.Laws.{seen}
 

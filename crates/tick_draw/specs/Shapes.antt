@@ -1,7 +1,7 @@
 -- What is drawn where a mark stands: its shape, which its act decides, and the words beside it.
 use Rattle.std.specs.Prelude.{ℕ, ◌==◌, ◌*◌, nat_lt, Bool, if◌then◌else◌, List, [], ◌++◌, codes, length, map, take, slice_index}
 use Rattle.std.specs.Fmt.{decimal}
-use Rattle.text_core.specs.Lines.{spaced}
+use Rattle.base.specs.Lines.{spaced}
 use Rattle.word_core.specs.Stamps.{Labels, label_at}
 use Rattle.machine_core.specs.declared.event.Act.{Act}
 use Rattle.machine_core.specs.declared.event.Act.TheVariants as A

@@ -2,7 +2,7 @@
 ghost use Rattle.std.specs.Prelude.{◌≡◌, ◌++◌, ◌+◌, ◌<◌, OnOk, codes, length, map, take, Some};
 ghost use Rattle.std.specs.Fmt.{decimal};
 ghost use Rattle.std.specs.List.{flat_map};
-ghost use Rattle.text_core.specs.Lines.{spaced};
+ghost use Rattle.base.specs.Lines.{spaced};
 ghost use Rattle.word_core.specs.Stamps.{label_at};
 ghost use Rattle.tick_draw.specs.Words.{act_text, answer_text, held_text, label_text, origin_text, row_text, sentence, sight_text, trap_text, names};
 

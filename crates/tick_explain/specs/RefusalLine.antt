@@ -1,7 +1,7 @@
 -- The line that `ticketc` tells a refusal in: its number, its name and its fields.
 use Rattle.std.specs.Prelude.{ℕ, List, [], ◌++◌, codes}
 use Rattle.std.specs.Fmt.{decimal}
-use Rattle.text_core.specs.Lines.{line_end}
+use Rattle.base.specs.Lines.{line_end}
 use Rattle.code_core.specs.declared.fault.CodeFault.{CodeFault}
 use Rattle.code_core.specs.declared.fault.CodeFault.TheVariants as C
 use Rattle.tick_kinds.specs.declared.fault.KindFault.{KindFault}

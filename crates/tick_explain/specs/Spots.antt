@@ -1,7 +1,7 @@
 -- Where a refusal is: at a stretch, at a character, in a line, at an item of a schedule, or nowhere.
 use Rattle.std.specs.Prelude.{◌≡◌, ◌⊎◌, ◌<◌, ◌≤◌, ◌+◌, ℕ, List, length, take, slice_index, min, Option, Some, None, true, false}
 use Rattle.std.specs.List.{count_by}
-use Rattle.text_core.specs.Blanks.{is_blank}
+use Rattle.base.specs.Blanks.{is_blank}
 use Rattle.code_core.specs.declared.fault.CodeFault.{CodeFault}
 use Rattle.code_core.specs.declared.fault.CodeFault.TheVariants as C
 use Rattle.tick_kinds.specs.declared.fault.KindFault.{KindFault}

@@ -1,6 +1,6 @@
 // The report of a refusal.
 ghost use Rattle.std.specs.Prelude.{◌≡◌, ◌++◌, ℕ, List, IfOk, OnOk, codes, length, min, string_bytes};
-ghost use Rattle.text_core.specs.Lines.{line_end};
+ghost use Rattle.base.specs.Lines.{line_end};
 ghost use Rattle.tick_explain.specs.Hints.{hint_text};
 ghost use Rattle.tick_explain.specs.Messages.{message_of};
 ghost use Rattle.tick_explain.specs.Pictures.{IsPicture};

@@ -4,9 +4,9 @@ ghost use Rattle.tick_explain.specs.Spots.{IsCharacterEnd, IsItemEnd, IsNumbered
 
 use crate::place::line_end;
 use crate::refusal::Refusal;
+use base::is_blank;
 use code_core::CodeFault;
 use schedule_text::ScheduleFault;
-use text_core::is_blank;
 use tick_kinds::KindFault;
 use tick_syntax::TextFault;
 use tick_tree::span::Span;

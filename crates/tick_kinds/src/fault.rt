@@ -1,33 +1,40 @@
 use crate::kind::Kind;
 use std::alloc::{AllocError, AllocFailed};
+use std::fmt;
 use thiserror::Error;
 use tick_tree::span::Span;
 
 /// Why a program is refused. Spans are in bytes of the text that it was read from.
-#[derive(Clone, Copy, PartialEq, Eq, Debug, Error)]
+#[derive(Clone, Copy, PartialEq, Eq, Error)]
 pub enum KindFault {
     /// The number of processes is not 1 to 6.
-    #[error("the number of processes at bytes {}..{} is not 1 to 6", .0.start, .0.end)]
+    #[error("the number of processes at bytes {0} is not 1 to 6")]
     Processes(Span),
     /// The name was declared before, in whichever section.
-    #[error("the name at bytes {}..{} was declared before", .0.start, .0.end)]
+    #[error("the name at bytes {0} was declared before")]
     Twice(Span),
     /// A name that is not declared.
-    #[error("the name at bytes {}..{} is not declared", .0.start, .0.end)]
+    #[error("the name at bytes {0} is not declared")]
     Unknown(Span),
     /// A name of another kind than its place wants.
-    #[error("the name at bytes {}..{} is declared as {found}, and a {wanted} stands here", .span.start, .span.end)]
+    #[error("the name at bytes {span} is declared as {found}, and a {wanted} stands here")]
     WrongKind {
         span: Span,
         wanted: Kind,
         found: Kind,
     },
     /// The 65th variable, the 17th scan or the 9th register row.
-    #[error("the name at bytes {}..{} is one too many of its kind", .0.start, .0.end)]
+    #[error("the name at bytes {0} is one too many of its kind")]
     TooMany(Span),
     /// Memory was refused.
     #[error("out of memory")]
     NoMemory,
+}
+
+impl fmt::Debug for KindFault {
+    fn fmt<W: fmt::Write>(&self, f: &mut fmt::Formatter<W>) -> fmt::Result {
+        fmt::Display::fmt(self, f)
+    }
 }
 
 impl From<AllocError> for KindFault {

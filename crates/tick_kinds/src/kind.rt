@@ -10,10 +10,10 @@ pub enum Kind {
 
 impl fmt::Display for Kind {
     fn fmt<W: fmt::Write>(&self, f: &mut fmt::Formatter<W>) -> fmt::Result {
-        match self {
-            Kind::Variable => write!(f, "variable"),
-            Kind::Scan => write!(f, "scan"),
-            Kind::Register => write!(f, "register"),
-        }
+        f.write_str(match self {
+            Kind::Variable => "variable",
+            Kind::Scan => "scan",
+            Kind::Register => "register",
+        })
     }
 }

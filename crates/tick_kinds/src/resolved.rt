@@ -1,7 +1,7 @@
 use tick_tree::tree::Op;
 
 /// An expression with its variables by number.
-#[derive(Debug, Drop)]
+#[derive(Drop)]
 pub enum Expression {
     Number(u32),
     Variable(u8),
@@ -14,7 +14,7 @@ pub enum Expression {
 
 /// A statement with its names by number: variables, scans and register rows each count from 0 in the
 /// order in which they are declared.
-#[derive(Debug, Drop)]
+#[derive(Drop)]
 pub enum Statement {
     /// A variable and its new value.
     Assign(u8, Expression),

@@ -13,8 +13,8 @@ use Rattle.code_machine.specs.declared.ask.Reply.{Reply}
 use Rattle.code_machine.specs.Machine.{CodeProcess, CodeState, Moved, CodeStep, alone, asks, did, state_after}
 use Rattle.code_machine.proofs.Offered.{never_stuck_law}
 use Rattle.stamp_table.specs.Passes.{by, mine}
-use Rattle.code_local.specs.Local.{Local, GoesOnBy, Makes, IsLocalRun}
-use Rattle.code_local.proofs.Offered.{once_per_answers, came_by, makes_more}
+use Rattle.tick_merge.specs.Local.{Local, GoesOnBy, Makes, IsLocalRun}
+use Rattle.tick_merge.proofs.OneProcess.{once_per_answers, came_by, makes_more}
 use Rattle.tick_merge.specs.Ran.{run_under, memory_in, act_by, occurs, events_by}
 use Rattle.tick_merge.specs.Merged.{one_further, alone_for}
 use Rattle.tick_merge.specs.prover.Standing.{StandsAt, Stands}

@@ -1,3 +1,7 @@
+mod Deciding
+mod Beginnings
+mod OneProcess
+mod LocalExamples
 mod Lists
 mod Runs
 mod Served

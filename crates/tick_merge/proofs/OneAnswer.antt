@@ -10,7 +10,7 @@ use Rattle.code_core.specs.Instructions.{StepCode}
 use Rattle.code_machine.specs.Machine.{CodeStep, alone, asks, did}
 use Rattle.stamp_table.specs.Passes.{by, mine}
 use Rattle.stamp_table.proofs.Offered.{mine-append}
-use Rattle.code_local.specs.Local.{Local, local_start, Makes, IsLocalRun}
+use Rattle.tick_merge.specs.Local.{Local, local_start, Makes, IsLocalRun}
 use Rattle.tick_merge.specs.Laws.{AllMake}
 use Rattle.tick_merge.specs.Refusals.{MakesWithin, CanBegin, IsRefusedAt, IsRefusedWithin, IsRefusedLast, IsRefusedAtEnd, IsRefused, OneAnswerLaw}
 use Rattle.tick_merge.specs.declared.fault.MergeFault.{MergeFault}

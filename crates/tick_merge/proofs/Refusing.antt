@@ -12,8 +12,8 @@ use Rattle.code_core.specs.Verified.{IsVerified}
 use Rattle.code_machine.specs.Machine.{CodeProcess, CodeStep, alone, asks, did}
 use Rattle.stamp_table.specs.Passes.{by, mine}
 use Rattle.stamp_table.proofs.Offered.{mine-snoc_own}
-use Rattle.code_local.specs.Local.{Local, Makes}
-use Rattle.code_local.proofs.Offered.{once_per_answers, came_by}
+use Rattle.tick_merge.specs.Local.{Local, Makes}
+use Rattle.tick_merge.proofs.OneProcess.{once_per_answers, came_by}
 use Rattle.tick_merge.specs.Ran.{run_under, act_by, occurs, events_by}
 use Rattle.tick_merge.specs.Laws.{MakesIts}
 use Rattle.tick_merge.specs.Refusals.{MakesWithin}

@@ -21,7 +21,7 @@ use Rattle.code_machine.specs.Machine as M
 use Rattle.code_machine.specs.Machine.{CodeProcess, Moved, CodeStep, alone, asks, did, same_labels, reply_in, labels_by, rows_by}
 use Rattle.code_machine.specs.Safety.{IsSafe}
 use Rattle.code_machine.proofs.Offered.{equal_from_same, same_self}
-use Rattle.code_local.specs.Local.{act_of, TellsLabels}
+use Rattle.tick_merge.specs.Local.{act_of, TellsLabels}
 use Rattle.tick_merge.specs.Ran.{act_by}
 
 -- an exchange is of labels for what a stamp of the process makes of them

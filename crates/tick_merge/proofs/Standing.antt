@@ -18,7 +18,7 @@ use Rattle.code_machine.specs.Machine.{CodeProcess, CodeState, Moved, CodeStep, 
 use Rattle.code_machine.proofs.Offered.{never_stuck_law, get-set, get-replicate}
 use Rattle.stamp_table.specs.Passes.{by, mine}
 use Rattle.stamp_table.proofs.Offered.{mine-snoc_own, mine-snoc_other}
-use Rattle.code_local.specs.Local.{Local, local_start, moved_alone, moved_with, Makes, IsLocalRun}
+use Rattle.tick_merge.specs.Local.{Local, local_start, moved_alone, moved_with, Makes, IsLocalRun}
 use Rattle.tick_merge.specs.Ran.{run_under, memory_in, act_by, shared_step, occurs, events_by}
 use Rattle.tick_merge.specs.prover.Standing.{StandsAt, Stands}
 use Rattle.tick_merge.proofs.Lists.{occurs-own, occurs-other, events-own, events-other}

@@ -13,8 +13,8 @@ use Rattle.code_machine.specs.Machine.{CodeProcess, start_process}
 use Rattle.code_machine.proofs.Offered.{never_stuck_law}
 use Rattle.stamp_table.specs.Passes.{mine}
 use Rattle.stamp_table.proofs.Offered.{mine-append, mine-snoc_own}
-use Rattle.code_local.specs.Local.{Local, IsLocalRun}
-use Rattle.code_local.proofs.Offered.{once_per_answers}
+use Rattle.tick_merge.specs.Local.{Local, IsLocalRun}
+use Rattle.tick_merge.proofs.OneProcess.{once_per_answers}
 use Rattle.tick_merge.specs.Ran.{run_under, occurs}
 use Rattle.tick_merge.specs.Merged.{alone_of, turns_left, led, through, spent, merged, IsMerged}
 use Rattle.tick_merge.specs.Laws.{MakesIts, AllMake, MergeLaw}

@@ -5,7 +5,7 @@ use Rattle.word_core.specs.declared.history.Shared.{Shared}
 use Rattle.code_core.specs.Instructions.{StepCode}
 use Rattle.code_core.specs.Verified.{IsVerified}
 use Rattle.stamp_table.specs.Passes.{mine}
-use Rattle.code_local.specs.Local.{Local, IsLocalRun}
+use Rattle.tick_merge.specs.Local.{Local, IsLocalRun}
 use Rattle.tick_merge.specs.Merged.{merged, IsMerged}
 
 -- in so many instructions process `p` makes by itself just its own steps of the history

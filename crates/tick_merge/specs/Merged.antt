@@ -9,7 +9,7 @@ use Rattle.code_core.specs.declared.instr.Instr.{Instr}
 use Rattle.code_core.specs.Instructions.{StepCode}
 use Rattle.code_machine.specs.Machine.{CodeProcess, CodeStep, alone, did}
 use Rattle.stamp_table.specs.Passes.{mine}
-use Rattle.code_local.specs.Local.{Local, IsLocalRun}
+use Rattle.tick_merge.specs.Local.{Local, IsLocalRun}
 use Rattle.tick_merge.specs.Ran.{run_under, memory_in, shared_of, AllRun, occurs, events_by}
 
 abbrev pub one_further : Status → CodeStep → (CodeProcess → ℕ) → ℕ

@@ -1,7 +1,7 @@
 -- Small runs, and their texts.
 use Rattle.std.proofs.Common.{◌≡◌, ℕ, List, [], ◌∷◌, ◌++◌, codes, refl, replicate}
 use Rattle.std.specs.Fmt.{digits}
-use Rattle.text_core.specs.Lines.{line_end}
+use Rattle.base.specs.Lines.{line_end}
 use Rattle.machine_core.specs.declared.operator.Op.TheVariants as O
 use Rattle.tick_tree.specs.Plain.{number, named, me, binary, get, put, stamp, scan, older, out, Block, nil, cons, WholeProgram}
 use Rattle.machine_core.specs.declared.status.Trap.TheVariants as T

@@ -1,7 +1,7 @@
 -- What a run let others see, as a text: a line for each event, register row and process.
 use Rattle.std.specs.Prelude.{ℕ, List, [], ◌∷◌, ◌++◌, codes, length, map, take}
 use Rattle.std.specs.Fmt.{decimal}
-use Rattle.text_core.specs.Lines.{line_end, spaced}
+use Rattle.base.specs.Lines.{line_end, spaced}
 use Rattle.tick_tree.specs.Plain.{WholeProgram}
 use Rattle.code_core.specs.Instructions.{StepCode}
 use Rattle.machine_core.specs.declared.event.Act.{Act}

@@ -1,11 +1,11 @@
 //! The lines that the texts of every kind of run have.
 ghost use Rattle.std.specs.Prelude.{◌≡◌, ◌++◌, OnOk, codes, decimal, map, string_bytes};
-ghost use Rattle.text_core.specs.Lines.{spaced};
+ghost use Rattle.base.specs.Lines.{spaced};
 ghost use Rattle.tick_play.specs.Lines.{row_line, row_lines, status_line, status_text, trap_text};
 
+use base::push_number;
 use machine_core::{Status, Trap};
 use std::alloc::AllocError;
-use text_core::push_number;
 
 /// A line for each row: its name, its number from 0 on, and its values.
 pub fn push_rows(text: &mut String, name: &str, rows: &[Vec<u32>]) -> Result<(), AllocError>

@@ -8,8 +8,8 @@ use Rattle.word_core.specs.declared.history.Shared.{Shared}
 use Rattle.code_core.specs.Instructions.{StepCode}
 use Rattle.code_machine.specs.Machine.{CodeProcess, start_process}
 use Rattle.code_machine.specs.Process.{gives_out}
-use Rattle.code_local.specs.Local.{local_start}
-use Rattle.tick_run.specs.Runs.{EndsAs}
+use Rattle.tick_merge.specs.Local.{local_start}
+use Rattle.tick_merge.specs.Runs.{EndsAs}
 use Rattle.tick_run.specs.prover.Alone.{RanSo}
 use Rattle.tick_run.specs.prover.Turns.{IsAt, end_by}
 

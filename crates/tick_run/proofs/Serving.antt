@@ -13,7 +13,7 @@ use Rattle.code_machine.specs.declared.ask.Reply.{Reply}
 use Rattle.code_machine.specs.declared.ask.Reply.TheVariants as R
 use Rattle.stamp_table.specs.Passes.{TableView, PassView, Holds, by, Appends, memory_seen}
 use Rattle.stamp_table.proofs.Offered.{extends_own}
-use Rattle.code_local.specs.Local.{act_of, TellsLabels}
+use Rattle.tick_merge.specs.Local.{act_of, TellsLabels}
 use Rattle.tick_run.specs.prover.Turns.{IsFor, IsServed}
 
 module _ (t : TableView) (c : StepCode) (p : ℕ) (ask : Ask) (old new : PassView) (fits_code : IsFor t c) (here : old.table ≡ t) (held : Holds old.held p) where

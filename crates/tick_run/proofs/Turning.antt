@@ -22,8 +22,8 @@ use Rattle.code_machine.specs.Machine as M
 use Rattle.code_machine.specs.Machine.{CodeProcess, Moved, CodeStep, alone, asks, did}
 use Rattle.code_machine.specs.Process.{event_of, shown, advance_of, after_advance, answered_by, is_out, gives_out}
 use Rattle.stamp_table.specs.Passes.{by}
-use Rattle.code_local.specs.Local.{Local, act_of, TellsLabels, moved_alone, moved_with, Makes, LocalStep, output_of, outputs_of}
-use Rattle.code_local.proofs.Offered.{local_run_next, outputs_of-told}
+use Rattle.tick_merge.specs.Local.{Local, act_of, TellsLabels, moved_alone, moved_with, Makes, LocalStep, output_of, outputs_of}
+use Rattle.tick_merge.proofs.Offered.{local_run_next, outputs_of-told}
 use Rattle.tick_run.specs.declared.worker.Turn.TheVariants as T
 use Rattle.tick_run.specs.prover.Turns.{IsAt, IsTurn, turn_by}
 

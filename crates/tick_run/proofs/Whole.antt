@@ -9,12 +9,12 @@ use Rattle.word_core.specs.History.{Memory}
 use Rattle.code_core.specs.Instructions.{StepCode}
 use Rattle.code_core.specs.Verified.{IsVerified}
 use Rattle.stamp_table.specs.Passes.{mine}
-use Rattle.code_local.specs.Local.{IsLocalRun, outputs_of}
+use Rattle.tick_merge.specs.Local.{IsLocalRun, outputs_of}
 use Rattle.tick_merge.specs.Ran.{occurs}
 use Rattle.tick_merge.specs.Merged.{merged, IsMerged}
 use Rattle.tick_merge.specs.Laws.{MakesIts}
 use Rattle.tick_merge.proofs.Offered.{merge_law}
-use Rattle.tick_run.specs.Runs.{EndsAs, EndedSo, IsWholeRun}
+use Rattle.tick_merge.specs.Runs.{EndsAs, EndedSo, IsWholeRun}
 use Rattle.tick_run.specs.prover.Alone.{RanSo, IsThreadedRun}
 
 -- a number for each of the first `n`, in a list

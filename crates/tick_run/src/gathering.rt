@@ -1,17 +1,18 @@
 // Workers are started, one for each process, and what they come back with is gathered.
 
-ghost use Rattle.std.specs.Prelude.{◌≡◌, ◌≤◌, ◌<◌, ◌+◌, ◌++◌, ◌∷◌, [], IfOk, map, vec_len, vec_items, vec_capacity};
+ghost use Rattle.std.specs.Prelude.{◌≡◌, ◌≤◌, ◌<◌, ◌+◌, ◌++◌, ◌∷◌, [], IfOk, length, map, vec_len, vec_items, vec_capacity};
 ghost use Rattle.tick_run.specs.prover.Turns.{IsFor};
 ghost use Rattle.tick_run.specs.prover.Work.{AreReady, Gathers, IsWork};
 
-use crate::fault::RunFault;
 use crate::gate::Gate;
 use crate::jobs::{Job, Limits};
 use crate::worker::{Worked, work};
 use code_core::Code;
 use machine_core::RunEnd;
 use stamp_table::{Pass, StampTable};
+use std::alloc::{AllocError, Global};
 use std::thread::{Promise, Scope, Threads};
+use tick_merge::RunFault;
 
 /// What the workers of the first processes came back with.
 #[derive(Drop)]
@@ -19,6 +20,18 @@ pub struct Gathered {
     pub passes: Vec<Pass>,
     pub outputs: Vec<Vec<u32>>,
     pub ends: Vec<RunEnd>,
+}
+
+/// Room for what the workers behind these gates come back with.
+pub fn room_for<G>(alloc: Global, gates: &[G]) -> Result<Gathered, AllocError>
+    ensures empty { IfOk result (λ none. (none.passes.items ≡ []) × (none.outputs.items ≡ []) × (none.ends.items ≡ [])) }
+    ensures room { IfOk result (λ none. (length gates.now ≤ vec_capacity none.passes) × (length gates.now ≤ vec_capacity none.outputs) × (length gates.now ≤ vec_capacity none.ends)) }
+{
+    Ok(Gathered {
+        passes: Vec::with_capacity(alloc, gates.len())?,
+        outputs: Vec::with_capacity(alloc, gates.len())?,
+        ends: Vec::with_capacity(alloc, gates.len())?,
+    })
 }
 
 // What a worker of this process keeps.

@@ -5,12 +5,12 @@ ghost use Rattle.stamp_table.specs.Passes.{whole};
 ghost use Rattle.tick_run.specs.prover.Turns.{IsFor};
 ghost use Rattle.tick_run.specs.prover.Work.{AreReady};
 
-use crate::fault::RunFault;
 use crate::gate::Gate;
 use code_core::Code;
 use code_machine::Proc;
 use stamp_table::{Pass, StampTable};
 use std::alloc::Global;
+use tick_merge::RunFault;
 
 /// How many instructions a process may make, and how many values it may give out.
 #[derive(Clone, Copy)]

@@ -5,17 +5,16 @@
 //! callers that have no threads of their own: once as a `OneRun`, or once for each call as a `Runner`.
 #![tactic(auto)]
 
-mod fault;
 mod gate;
 mod gathering;
 mod jobs;
+mod on_threads;
 mod registers;
 mod runner;
-mod runs;
 mod worker;
 
-pub use fault::RunFault;
 pub use gate::Gate;
 pub use machine_core::{RunEnd, RunOutcome};
+pub use on_threads::OnThreads;
 pub use runner::run;
-pub use runs::{OnThreads, OneRun, Runner};
+pub use tick_merge::{OneRun, RunFault, Runner};

@@ -1,12 +1,11 @@
 ghost use Rattle.std.specs.Prelude.{◌≡◌, ◌≤◌, IfOk, map, vec_len, vec_items, vec_capacity};
 ghost use Rattle.machine_core.specs.Observables.{run_observed};
-ghost use Rattle.tick_run.specs.Runs.{IsWholeRun};
+ghost use Rattle.tick_merge.specs.Runs.{IsWholeRun};
 ghost use Rattle.tick_run.specs.prover.Turns.{IsFor};
 ghost use Rattle.tick_run.specs.prover.Work.{AreReady, Gathers};
 
-use crate::fault::RunFault;
 use crate::gate::Gate;
-use crate::gathering::{Gathered, run_jobs};
+use crate::gathering::{Gathered, room_for, run_jobs};
 use crate::jobs::{Limits, jobs_for};
 use crate::registers::{blank_rows, filled_rows};
 use code_core::Code;
@@ -15,6 +14,7 @@ use stamp_table::open;
 use std::alloc::Global;
 use std::sync::Wait;
 use std::thread::{self, Threads};
+use tick_merge::RunFault;
 
 /// Runs each process of the code on a thread of its own, all on one table, until it stops, or has made
 /// `turns` instructions, or would give out one value more than `outs`. A lost exchange counts as an
@@ -35,17 +35,10 @@ pub fn run<G: Gate + Send, R: Threads + Wait>(
 {
     let sizes = code.sizes();
     let limits = Limits { turns, outs };
-    let (table, whole) = open(alloc, sizes.processes(), sizes.registers())?;
-    let passes = Vec::with_capacity(alloc, gates.len())?;
-    let outputs = Vec::with_capacity(alloc, gates.len())?;
-    let ends = Vec::with_capacity(alloc, gates.len())?;
+    let none = room_for(alloc, gates.as_slice())?;
     let blank = blank_rows(alloc, sizes.registers(), sizes.processes())?;
+    let (table, whole) = open(alloc, sizes.processes(), sizes.registers())?;
     let jobs = jobs_for(alloc, &table, code, limits, whole, gates)?;
-    let none = Gathered {
-        passes,
-        outputs,
-        ends,
-    };
     let shared = &table;
     let all = thread::scope(
         thread::scope_env(),

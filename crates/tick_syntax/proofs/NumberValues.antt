@@ -2,8 +2,8 @@
 use Rattle.std.proofs.Common.{◌≡◌, List, ℕ, true, Some, option_map, ap}
 use Rattle.std.specs.Str.Parse.{digits_value}
 use Rattle.std.proofs.lemmas.Bool.{and_parts}
-use Rattle.text_core.specs.Number.{capped, number_of}
-use Rattle.text_core.proofs.Offered.{number_of-digits}
+use Rattle.base.specs.Number.{capped, number_of}
+use Rattle.base.proofs.Offered.{number_of-digits}
 use Rattle.tick_syntax.specs.Spelling.{is_number}
 use Rattle.tick_syntax.specs.Characters.{is_digit}
 use Rattle.tick_syntax.proofs.SpelledInOrder.{starts_some}

@@ -7,7 +7,7 @@ use Rattle.std.proofs.lemmas.Bool.{and_parts, and_from, and_right, or_cases, or_
 use Rattle.std.proofs.lemmas.Fmt.{decimal_is_IsNumeral, decimal_nonempty}
 use Rattle.std.proofs.lemmas.List.{take_at, drop_at}
 use Rattle.std.proofs.lemmas.Str.Parse.{digit_from_value}
-use Rattle.text_core.specs.Blanks.{is_blank}
+use Rattle.base.specs.Blanks.{is_blank}
 use Rattle.tick_syntax.specs.Characters.{hash, is_letter, is_digit, is_name_part, is_sign, is_keyword}
 use Rattle.tick_syntax.specs.Spelling.{gap_length, comment_length, after_gap, starts, is_word, is_number, span_of, IsWord, IsNumber, IsSign, IsToken, TokenAt, SpellsFrom}
 use Rattle.tick_syntax.specs.Terminals.{spelling, keywords}

@@ -13,7 +13,7 @@ use Rattle.tick_syntax.specs.declared.token.Token.{Token}
 use Rattle.machine_core.specs.declared.operator.Op.TheVariants as O
 use Rattle.tick_syntax.specs.declared.terminals.Terminal.{Terminal}
 use Rattle.tick_syntax.specs.declared.terminals.Terminal.TheVariants as T
-use Rattle.text_core.specs.Blanks.{is_blank}
+use Rattle.base.specs.Blanks.{is_blank}
 use Rattle.tick_syntax.specs.Characters.{is_keyword, lone_signs, before_equals, is_sign}
 use Rattle.tick_syntax.specs.Lexeme.{Lexeme, a_name, a_number, a_terminal, nothing, of_terminal, lexeme_at, lexemes}
 use Rattle.tick_syntax.specs.Printed.{after_terminal, printed_token}

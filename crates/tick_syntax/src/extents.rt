@@ -5,7 +5,7 @@ ghost use Rattle.tick_syntax.specs.prover.Extents.{word_length, number_length, s
 ghost use Rattle.tick_syntax.specs.Spelling.{gap_length, is_number};
 
 use crate::characters::{is_lone_sign, is_name_part, may_precede_equals};
-use text_core::{is_blank, number};
+use base::{is_blank, number};
 
 const NUMBER_LIMIT: u64 = 4_294_967_295;
 

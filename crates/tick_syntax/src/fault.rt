@@ -1,9 +1,10 @@
 use std::alloc::{AllocError, AllocFailed};
+use std::fmt;
 use thiserror::Error;
 use tick_tree::span::Span;
 
 /// Why a text is refused. Places and spans are in bytes of the text, from 0.
-#[derive(Clone, Copy, PartialEq, Eq, Debug, Error)]
+#[derive(Clone, Copy, PartialEq, Eq, Error)]
 pub enum TextFault {
     /// The text has more than 1,000,000 bytes.
     #[error("the text has more than 1000000 bytes")]
@@ -12,21 +13,27 @@ pub enum TextFault {
     #[error("no token begins at byte {0}")]
     BadCharacter(usize),
     /// A number above 4294967295.
-    #[error("the number at bytes {}..{} is above 4294967295", .0.start, .0.end)]
+    #[error("the number at bytes {0} is above 4294967295")]
     NumberTooBig(Span),
     /// A name of more than 64 bytes.
-    #[error("the name at bytes {}..{} has more than 64 bytes", .0.start, .0.end)]
+    #[error("the name at bytes {0} has more than 64 bytes")]
     NameTooLong(Span),
     /// The first token at which no program goes on, or the empty span at the
     /// text's end where the text ends too early.
-    #[error("no program goes on with bytes {}..{}", .0.start, .0.end)]
+    #[error("no program goes on with bytes {0}")]
     Unexpected(Span),
     /// The first opening `(` or `{` that would be the 65th open at once.
-    #[error("the bracket at bytes {}..{} is the 65th open at once", .0.start, .0.end)]
+    #[error("the bracket at bytes {0} is the 65th open at once")]
     TooDeep(Span),
     /// Memory was refused.
     #[error("out of memory")]
     NoMemory,
+}
+
+impl fmt::Debug for TextFault {
+    fn fmt<W: fmt::Write>(&self, f: &mut fmt::Formatter<W>) -> fmt::Result {
+        fmt::Display::fmt(self, f)
+    }
 }
 
 impl From<AllocError> for TextFault {

@@ -4,7 +4,7 @@ ghost use Rattle.tick_syntax.specs.Terminals.{spelling, signs, keywords, spelled
 use tick_tree::tree::Op;
 
 /// A keyword or a sign.
-#[derive(Clone, Copy, PartialEq, Eq, Debug)]
+#[derive(Clone, Copy, PartialEq, Eq)]
 pub enum Terminal {
     Processes,
     Var,

@@ -8,4 +8,4 @@ mod running;
 
 pub use counting::Counted;
 pub use running::tally;
-pub use tick_run::RunFault;
+pub use tick_merge::RunFault;

@@ -9,8 +9,8 @@ use crate::counting::{Counted, count_texts};
 use code_core::Code;
 use machine_core::NoMemory;
 use std::alloc::Global;
+use tick_merge::{RunFault, Runner};
 use tick_play::outcome_text;
-use tick_run::{RunFault, Runner};
 
 /// How many values a process gives out at most.
 const OUTPUTS: u32 = 10_000;

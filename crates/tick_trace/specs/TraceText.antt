@@ -1,7 +1,7 @@
 -- What a trace says: a line a step.
 use Rattle.std.specs.Prelude.{ℕ, zero, suc, ◌+◌, ◌-◌, List, [], ◌∷◌, ◌++◌, codes, length, map, replicate, slice_get, slice_index, take, Option, Some, None, if◌then◌else◌, Bool, true, false}
 use Rattle.std.specs.Fmt.{decimal}
-use Rattle.text_core.specs.Lines.{line_end}
+use Rattle.base.specs.Lines.{line_end}
 use Rattle.ticket_core.specs.Tickets.{ticket_ranks, holds_ticket}
 use Rattle.machine_core.specs.declared.status.Trap.{Trap}
 use Rattle.machine_core.specs.declared.status.Trap.TheVariants as T

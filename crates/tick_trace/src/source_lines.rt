@@ -8,9 +8,9 @@ use crate::columns::{push_head, push_nowhere, push_where, push_words};
 use crate::spots::Spot;
 use crate::steps::StatementStep;
 use crate::wording::{push_act, push_rank, push_variable};
+use base::push_number;
 use machine_core::{Act, NoMemory};
 use std::alloc::{AllocError, Global};
-use text_core::push_number;
 use tick_kinds::Program;
 use ticket_core::Tickets;
 

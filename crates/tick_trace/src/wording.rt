@@ -4,10 +4,10 @@ ghost use Rattle.std.specs.Prelude.{◌≡◌, ◌++◌, OnOk, Some, map, string
 ghost use Rattle.tick_tree.specs.View.{name_of};
 ghost use Rattle.tick_trace.specs.TraceText.{act_text, name_at, rank_text, ranks_text, register_text, trap_text, variable_text};
 
+use base::push_number;
 use machine_core::{Act, Trap};
 use std::alloc::AllocError;
 use std::fmt::Write;
-use text_core::push_number;
 use tick_kinds::Program;
 use tick_tree::tree::Named;
 

@@ -9,7 +9,7 @@ pub struct Named {
 }
 
 /// An expression.
-#[derive(Debug, Drop)]
+#[derive(Drop)]
 pub enum Expr {
     Num(u32),
     Name(Named),
@@ -21,7 +21,7 @@ pub enum Expr {
 }
 
 /// A statement.
-#[derive(Debug, Drop)]
+#[derive(Drop)]
 pub enum Stmt {
     /// `target = expression;`
     Assign(Named, Expr),
@@ -51,7 +51,7 @@ pub enum Stmt {
 
 /// A program as it was written. Whether its names are declared, and fit where
 /// they stand, it does not say.
-#[derive(Debug, Drop)]
+#[derive(Drop)]
 pub struct Tree {
     /// The number after `processes`, of any size.
     pub processes: u32,

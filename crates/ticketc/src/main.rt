@@ -4,8 +4,8 @@
 //! There is `main` alone; start with `ended` of `engine`, which does it all.
 #![tactic(auto)]
 
+use byte_io::{HostReader, HostWriter};
 use engine::ended;
-use host_io::{HostReader, HostWriter};
 use std::env::args;
 use std::process::ExitCode;
 use tick_run::OnThreads;

@@ -1,6 +1,6 @@
 -- An answer is a status and a text.
 use Rattle.std.specs.Prelude.{ℕ, List, [], ◌++◌, codes, Result, Ok, Err}
-use Rattle.text_core.specs.Lines.{line_end}
+use Rattle.base.specs.Lines.{line_end}
 use Rattle.schedule_text.specs.declared.schedule.ScheduleFault.{ScheduleFault}
 use Rattle.ticketc_lines.specs.Refusal.{refusal_line}
 use Rattle.ticketc_lines.specs.Stop.{schedule_stop}

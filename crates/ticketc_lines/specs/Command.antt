@@ -3,7 +3,7 @@ use Rattle.std.specs.Prelude.{ℕ, ◌≤◌, ◌&&◌, nat_le, nat_lt, List, Op
 use Rattle.std.specs.Borrow.{Bor}
 use Rattle.command_line.specs.declared.request.Request.{Request}
 use Rattle.command_line.specs.declared.request.Request.TheVariants as request
-use Rattle.text_core.specs.Number.{number_of}
+use Rattle.base.specs.Number.{number_of}
 use Rattle.ticketc_lines.specs.declared.command.Command.{Command}
 use Rattle.ticketc_lines.specs.declared.command.Command.TheVariants.{Order, Check, Emit, Source, Code, Expand, Project, Run}
 use Rattle.ticketc_lines.specs.declared.command.LineFault.{LineFault}

@@ -3,7 +3,7 @@
 use Rattle.std.specs.Prelude.{ℕ, ◌==◌, Option, None, Some, List, [], ◌∷◌, ◌++◌, codes, length, map, if◌then◌else◌}
 use Rattle.std.specs.Fmt.{decimal}
 use Rattle.std.specs.List.{flat_map}
-use Rattle.text_core.specs.Lines.{line_end, spaced}
+use Rattle.base.specs.Lines.{line_end, spaced}
 use Rattle.ticket_core.specs.Tickets.{start_tickets, ticket_ranks, tickets_moved}
 use Rattle.ticket_core.specs.declared.moves.Move.{Move}
 use Rattle.ticket_core.specs.declared.moves.Move.TheVariants.{Stamp, Clear}

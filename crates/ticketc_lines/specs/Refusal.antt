@@ -1,7 +1,7 @@
 -- The line that tells why an input is refused.
 use Rattle.std.specs.Prelude.{ℕ, List, ◌++◌, codes}
 use Rattle.std.specs.Fmt.{decimal}
-use Rattle.text_core.specs.Lines.{line_end}
+use Rattle.base.specs.Lines.{line_end}
 use Rattle.tick_kinds.specs.declared.kind.Kind.{Kind}
 use Rattle.tick_kinds.specs.declared.kind.Kind.TheVariants.{Variable, Scan, Register}
 use Rattle.tick_tree.specs.declared.span.Span.{Span}

@@ -1,11 +1,11 @@
 //! Commands, once the numbers in their words are read: the one list of them in the program.
 ghost use Rattle.std.specs.Prelude.{◌≡◌, ◌<◌, ◌^◌, IfOk, MatchResult, option_map};
 ghost use Rattle.command_line.specs.Line.{plain_request};
-ghost use Rattle.text_core.specs.Number.{number_of};
+ghost use Rattle.base.specs.Number.{number_of};
 ghost use Rattle.ticketc_lines.specs.Command.{Fits, command_for, lawful as lawful_number, plain_command, processes_of, turns_of};
 
+use base::number;
 use command_line::Request;
-use text_core::number;
 
 /// The greatest N that a command line may have.
 const NUMBER_LIMIT: u64 = 4_294_967_295;
@@ -14,7 +14,7 @@ const NUMBER_LIMIT: u64 = 4_294_967_295;
 const TURNS_LIMIT: u64 = 1_000_000_000;
 
 /// What a command line asks for, with a schedule as its text.
-#[derive(Clone, Copy, Debug, PartialEq, Eq)]
+#[derive(Clone, Copy)]
 pub enum Command<T> {
     /// For so many processes, 1 to 6.
     Order(u8),

@@ -1,7 +1,7 @@
 //! The text that `order` answers.
 ghost use Rattle.std.specs.Prelude.{◌≡◌, ◌<◌, ◌≤◌, ◌++◌, All, IfErr, IfOk, OnOk, codes, length, map, string_bytes, Some};
 ghost use Rattle.std.specs.Fmt.{decimal};
-ghost use Rattle.text_core.specs.Lines.{line_end, spaced};
+ghost use Rattle.base.specs.Lines.{line_end, spaced};
 ghost use Rattle.word_core.specs.Order.{IsOrdered, label_ranks};
 ghost use Rattle.word_core.specs.Packed.{word};
 ghost use Rattle.word_core.specs.Stamps.{label_at, labels_moved, moved, start_labels};
@@ -11,11 +11,11 @@ ghost use Rattle.ticketc_lines.specs.Order.{label_text, order_answer, move_line,
 ghost use Rattle.ticketc_lines.specs.Stop.{IfRefused};
 
 use crate::stop::Stop;
+use base::push_number;
 use label_core::Label;
 use schedule_text::{Move, read_moves};
 use std::alloc::{AllocError, Global};
 use std::fmt::Write;
-use text_core::push_number;
 use word_core::{ABSENT_LABEL, EMPTY_LABEL, LAYOUT, LabelWord};
 
 /// The labels that `n` processes have after the stamps and clears that a text spells, and the way there.

@@ -1,6 +1,6 @@
 ghost use Rattle.std.specs.Prelude.{◌≡◌, ◌++◌, IfOk, string_bytes};
 ghost use Rattle.std.specs.Fmt.{decimal};
-ghost use Rattle.text_core.specs.Lines.{line_end};
+ghost use Rattle.base.specs.Lines.{line_end};
 ghost use Rattle.ticketc_lines.specs.Refusal.{kind_name, refusal_line, span_line};
 
 use std::alloc::{AllocError, Global};

@@ -3,8 +3,8 @@ use Rattle.byte_io.specs.declared.fault.EndFault.{EndFault}
 use Rattle.byte_io.specs.declared.fault.EndFault.TheVariants as end
 use Rattle.engine.specs.declared.fault.EngineFault.{EngineFault}
 use Rattle.engine.specs.declared.fault.EngineFault.TheVariants.{Read, Write, Memory, Thread}
-use Rattle.tick_run.specs.declared.fault.RunFault.{RunFault}
-use Rattle.tick_run.specs.declared.fault.RunFault.TheVariants as run
+use Rattle.tick_merge.specs.declared.run_fault.RunFault.{RunFault}
+use Rattle.tick_merge.specs.declared.run_fault.RunFault.TheVariants as run
 
 abbrev pub end_fault : EndFault → EngineFault
 end_fault end.Read = Read

@@ -6,7 +6,7 @@ use Rattle.word_core.specs.declared.history.Shared.{Shared}
 use Rattle.code_core.specs.Instructions.{StepCode}
 use Rattle.code_machine.specs.Machine.{CodeProcess}
 use Rattle.stamp_table.specs.Passes.{mine}
-use Rattle.code_local.specs.Local.{Local, IsLocalRun}
+use Rattle.tick_merge.specs.Local.{Local, IsLocalRun}
 use Rattle.tick_merge.specs.Ran.{run_under, memory_in, shared_of, AllRun, occurs, events_by}
 
 -- after `count` instructions by itself process `p` stands so, with these steps and these events

@@ -6,8 +6,8 @@ use Rattle.word_core.specs.History.{IsLegal, memory_of}
 use Rattle.word_core.specs.declared.history.Shared.{Shared}
 use Rattle.code_core.specs.Instructions.{StepCode}
 use Rattle.stamp_table.specs.Passes.{mine}
-use Rattle.code_local.specs.Local.{Local, IsLocalRun, outputs_of}
-use Rattle.tick_run.specs.Runs.{EndsAs}
+use Rattle.tick_merge.specs.Local.{Local, IsLocalRun, outputs_of}
+use Rattle.tick_merge.specs.Runs.{EndsAs}
 
 -- Process `p` went by itself as far as it was allowed. On what is shared it made just these steps, it
 -- gave out just these values, and it ended so.

@@ -14,7 +14,7 @@ use Rattle.code_machine.specs.declared.ask.Reply.{Reply}
 use Rattle.code_machine.specs.Machine.{CodeProcess}
 use Rattle.code_machine.specs.Process.{gives_out}
 use Rattle.stamp_table.specs.Passes.{TableView, mine, by}
-use Rattle.code_local.specs.Local.{Local, IsLocalRun, outputs_of, act_of, TellsLabels}
+use Rattle.tick_merge.specs.Local.{Local, IsLocalRun, outputs_of, act_of, TellsLabels}
 use Rattle.tick_run.specs.declared.worker.Turn.{Turn}
 use Rattle.tick_run.specs.declared.worker.Turn.TheVariants as T
 

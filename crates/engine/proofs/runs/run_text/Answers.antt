@@ -1,5 +1,5 @@
-use Rattle.tick_run.specs.declared.fault.RunFault.{RunFault}
-use Rattle.tick_run.specs.declared.fault.RunFault.TheVariants.{NoMemory, NoThread}
+use Rattle.tick_merge.specs.declared.run_fault.RunFault.{RunFault}
+use Rattle.tick_merge.specs.declared.run_fault.RunFault.TheVariants.{NoMemory, NoThread}
 use Rattle.std.proofs.Common.{true, refl}
 use Rattle.engine.specs.prover.Faults.{run_fault}
 use Rattle.engine.specs.prover.Responses.{IsUnanswered}

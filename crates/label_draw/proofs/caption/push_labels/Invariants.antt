@@ -1,5 +1,5 @@
 use Rattle.std.proofs.Common.{◌≡◌, ◌++◌, drop, map, string_bytes}
-use Rattle.text_core.specs.Lines.{spaced}
+use Rattle.base.specs.Lines.{spaced}
 use Rattle.label_draw.specs.Captions.{label_text}
 use Rattle.label_draw.proofs.caption.push_labels.Given as goal
 

@@ -1,5 +1,5 @@
 use Rattle.std.proofs.Common.{◌≡◌, ◌++◌, drop, map}
-use Rattle.text_core.specs.Lines.{spaced}
+use Rattle.base.specs.Lines.{spaced}
 use Rattle.tick_draw.specs.Words.{label_text}
 use Rattle.tick_draw.proofs.words.push_labels.Given as goal
 

@@ -1,6 +1,6 @@
 use Rattle.std.proofs.Common.{◌≡◌, ◌++◌, drop, map}
 use Rattle.std.specs.Fmt.{decimal}
-use Rattle.text_core.specs.Lines.{spaced}
+use Rattle.base.specs.Lines.{spaced}
 use Rattle.tick_draw.proofs.words.push_tickets.Given as goal
 
 abbrev pub invariant-loop-ticket : goal.invariant-loop-ticket

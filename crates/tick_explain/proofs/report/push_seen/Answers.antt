@@ -1,5 +1,5 @@
 use Rattle.std.proofs.Common.{◌++◌, codes, refl}
-use Rattle.text_core.specs.Lines.{line_end}
+use Rattle.base.specs.Lines.{line_end}
 use Rattle.tick_explain.specs.Reports.{place_text, shown}
 use Rattle.tick_explain.proofs.report.push_seen.Goals as goal
 

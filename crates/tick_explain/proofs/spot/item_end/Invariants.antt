@@ -1,5 +1,5 @@
 use Rattle.std.proofs.Common.{◌≡◌, ℕ, ◌<◌, ◌≤◌, ◌-◌, length, get_or, false}
-use Rattle.text_core.specs.Blanks.{is_blank}
+use Rattle.base.specs.Blanks.{is_blank}
 use Rattle.tick_explain.proofs.spot.item_end.Given as goal
 
 abbrev pub invariant-loop-end : goal.invariant-loop-end

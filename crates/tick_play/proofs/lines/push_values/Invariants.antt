@@ -1,6 +1,6 @@
 use Rattle.std.proofs.Common.{◌≡◌, ◌++◌, drop, map, string_bytes}
 use Rattle.std.specs.Fmt.{decimal}
-use Rattle.text_core.specs.Lines.{spaced}
+use Rattle.base.specs.Lines.{spaced}
 use Rattle.tick_play.proofs.lines.push_values.Given as goal
 
 abbrev pub invariant-loop-value : goal.invariant-loop-value

@@ -1,6 +1,6 @@
 use Rattle.std.proofs.Common.{◌≡◌, ◌∙◌, arith, Some, None}
 use Rattle.std.specs.Str.Parse.{digits_value}
-use Rattle.text_core.specs.Number.{capped}
+use Rattle.base.specs.Number.{capped}
 use Rattle.tick_syntax.proofs.NumberValues.{capped_value}
 use Rattle.tick_syntax.proofs.extents.number_value.Goals as goal
 

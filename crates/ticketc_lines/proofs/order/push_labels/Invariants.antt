@@ -1,5 +1,5 @@
 use Rattle.std.proofs.Common.{◌≡◌, ◌++◌, drop, map, string_bytes}
-use Rattle.text_core.specs.Lines.{spaced}
+use Rattle.base.specs.Lines.{spaced}
 use Rattle.ticketc_lines.specs.Order.{label_text}
 use Rattle.ticketc_lines.proofs.order.push_labels.Given as goal
 

@@ -1,6 +1,6 @@
 use Rattle.std.proofs.Common.{◌≡◌, ◌++◌, drop, map, string_bytes}
 use Rattle.std.specs.Fmt.{decimal}
-use Rattle.text_core.specs.Lines.{spaced}
+use Rattle.base.specs.Lines.{spaced}
 use Rattle.word_core.specs.Order.{label_ranks}
 use Rattle.ticketc_lines.proofs.order.push_ranks.Given as goal
 

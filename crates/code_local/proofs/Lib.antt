@@ -1,4 +1,0 @@
-mod Deciding
-mod Beginnings
-mod Examples
-pub mod Offered

@@ -1,3 +1,0 @@
-pub mod NumberLemmas
-pub mod DigitValues
-pub mod Offered
