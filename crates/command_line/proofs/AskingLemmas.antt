@@ -1,9 +1,12 @@
 -- From what `clap` says of a command and its matches to the command line that is described.
-use Rattle.std.proofs.Common.{◌≡◌, ◌∙◌, ◌&&◌, Bool, ◌∷◌, List, [], Option, Some, None, true, false, ap, ap₂, codes, option_map, Box, refl, subst, inl, inr}
+use Rattle.std.proofs.Common.{◌≡◌, ◌∙◌, ◌&&◌, ◌<◌, ◌+◌, ℕ, Bool, ◌∷◌, List, get_or, length, map, sym, take, [], Option, Some, None, true, false, ap, ap₂, codes, option_map, Box, refl, subst, inl, inr}
+use Rattle.std.proofs.lemmas.List.{map_more}
+use Rattle.std.proofs.lemmas.List.Sums.{fold-append}
+use Rattle.std.specs.Borrow.{Bor}
 use Rattle.std.specs.Box.{box_value}
 use Rattle.clap.specs.Walk.{Row, Text, first_of, rows_of}
 use Rattle.clap.specs.Words.{AddsSubcommand}
-use Rattle.clap.specs.Simple.{App, HasMatchesOf, Shape, app_of, app_of_fields, is_simple, on_top, shape_of}
+use Rattle.clap.specs.Simple.{App, HasMatchesOf, Shape, app_of, is_simple, shape_of}
 use Rattle.clap.specs.Simple.{subcommand_of, subcommand_rows, subcommand_rows_of, with_subcommand}
 use Rattle.clap.specs.Faults.{fault_of, is_simple_and_free}
 use Rattle.clap.specs.Kinds.{HasKind, Kinds}
@@ -17,23 +20,23 @@ use Rattle.clap.specs.declared.builder.command.Command.{Command}
 use Rattle.clap.specs.declared.builder.command.Command.TheViews.{out-Command}
 use Rattle.clap.specs.declared.parser.matches.SubCommand.{SubCommand}
 use Rattle.clap.specs.declared.parser.matches.ArgMatches.TheViews.{out-SubCommand}
-use Rattle.command_line.specs.Line.{command_in, is_faultless, is_taken, asked_in, asked_in_rows, named, ticketc}
-
-pub with_required : (old new : Command) (app : App)
-    → out-Command new ≡ record (out-Command old) { subcommand_required = true }
-    → app_of old ≡ app
-    → app_of new ≡ on_top (λ s. record s { subcommand_required = true }) app
-with_required old new app required is_app =
-    ap app_of_fields required ∙ ap (on_top (λ s. record s { subcommand_required = true })) is_app
+use Rattle.command_line.specs.Line.{command_in, command_shape, plain_command, with_commands, is_faultless, is_taken, asked_in, asked_in_rows, named, ticketc}
 
 pub with_one_more : (old sub new : Command) (app : App) (shape : Shape)
     → AddsSubcommand old sub new
-    → (out-Command sub).has_globals ≡ false
+    → (shape_of sub ≡ shape) × ((out-Command sub).has_globals ≡ false)
     → app_of old ≡ app
-    → shape_of sub ≡ shape
     → app_of new ≡ with_subcommand app shape
-with_one_more old sub new app shape adds is_local is_app is_shape =
-    adds.shape is_local ∙ ap₂ with_subcommand is_app is_shape
+with_one_more old sub new app shape adds is_part is_line = adds.shape is_part.1 ∙ ap₂ with_subcommand is_line is_part.0
+
+-- the line with the commands before one, and then that one
+pub one_more_of : (app : App) (items : List (Bor Text × Bool)) (i : ℕ) (d : Bor Text × Bool)
+    → i < length items
+    → with_subcommand (with_commands app (map plain_command (take i items))) (command_shape (plain_command (get_or items i d)))
+    ≡ with_commands app (map plain_command (take (i + 1) items))
+one_more_of app items i d within =
+    sym (ap (with_commands app) (map_more plain_command items i d within)
+    ∙ fold-append (λ (a : App) (command : Text × Bool). with_subcommand a (command_shape command)) app (map plain_command (take i items)) (plain_command (get_or items i d) ∷ []))
 
 pub named-rows : {Z : Type 0} (o : Option (Box SubCommand Z)) (name : Text) (rows : List Row)
     → Some name ≡ option_map (λ b. (out-SubCommand (box_value b)).name.now) o

@@ -1,6 +1,6 @@
 /// A command, with the text that goes with it as it was written, in whatever form the text is held: no
 /// number in it is read yet.
-#[derive(Clone, Copy, Debug, PartialEq, Eq)]
+#[derive(Drop)]
 pub enum Request<T> {
     Order(T),
     Check,

@@ -1,64 +1,67 @@
 -- From what `clap` found, or told, to what the words ask for.
-use Rattle.std.proofs.Common.{◌≡◌, ◌∙◌, List, Bool, true, false, Option, Some, None, ap, sym, refl, subst, inl}
+use Rattle.std.proofs.Common.{◌≡◌, ◌&&◌, List, [], ◌∷◌, Bool, true, false, Option, refl, subst, sym, inl, inr}
 use Rattle.std.specs.Prelude.{◌≢◌}
 use Rattle.clap.specs.Walk.{Row, Text}
-use Rattle.clap.specs.Simple.{App, HasMatchesOf, is_simple, subcommand_rows_of}
-use Rattle.clap.specs.Takes.{takes}
+use Rattle.clap.specs.Simple.{App, HasMatchesOf, is_simple, subcommand_of, subcommand_rows_of}
+use Rattle.clap.specs.Faults.{fault_of, is_simple_and_free}
+use Rattle.clap.specs.Kinds.{HasKind, IsAmong, Kinds}
 use Rattle.clap.specs.Values.{kind_of}
 use Rattle.clap.specs.declared.error.Error.{Error}
+use Rattle.clap.specs.declared.error.kind.ErrorKind.{ErrorKind}
 use Rattle.clap.specs.declared.error.kind.ErrorKind.TheVariants as kind
 use Rattle.clap.specs.declared.parser.matches.ArgMatches.{ArgMatches}
 use Rattle.clap.proofs.OnLiterals.{clap_on_literals}
 use Rattle.lab_line.specs.CommandLine.{ticklab}
-use Rattle.lab_line.specs.Found.{request_in, runs_in}
-use Rattle.lab_line.specs.Lines.{Answers, IsAsked, IsFound, IsTold, command_in, is_taken}
-use Rattle.lab_line.specs.declared.request.Request.{Request}
-use Rattle.lab_line.specs.declared.request.Runs.{Runs}
+use Rattle.lab_line.specs.Lines.{Answers, AnswersBy, IsFound, IsToldBy, command_in, faults}
 use Rattle.lab_line.specs.declared.asking.Line.{Line}
 use Rattle.lab_line.specs.declared.asking.Line.TheVariants as line
 
 -- `clap`'s promises hold of the command line
-ticklab_is_simple : is_simple ticklab ≡ true
+ticklab_is_free : is_simple_and_free ticklab ≡ true
 unfolding clap_on_literals
-ticklab_is_simple = refl
+ticklab_is_free = refl
 
-pub rows_found : (app : App) (words : List Text) (matches : ArgMatches)
+first_of_both : (a b : Bool) → (a && b) ≡ true → a ≡ true
+first_of_both true b both = refl
+first_of_both false b both = both
+
+ticklab_is_simple : is_simple ticklab ≡ true
+ticklab_is_simple = first_of_both _ _ ticklab_is_free
+
+pub found_answers : (app : App) (words : List Text) (matches : ArgMatches) (l : Line)
     → app ≡ ticklab
+    → (is_simple_and_free app ≡ true → fault_of app words ≡ [])
     → HasMatchesOf app words matches
-    → subcommand_rows_of matches ≡ command_in words
-unfolding command_in
-rows_found app words matches is_line has_matches =
-    (subst (λ (a : App). HasMatchesOf a words matches) is_line has_matches ticklab_is_simple).1
+    → IsFound (subcommand_rows_of matches) l
+    → Answers words l
+unfolding faults command_in
+found_answers app words matches l is_line faultless has_matches found =
+    let P : App → Type 0 = λ a. is_simple_and_free a ≡ true → fault_of a words ≡ [] in
+    let Q : App → Type 0 = λ a. HasMatchesOf a words matches in
+    let none : fault_of ticklab words ≡ [] = subst P is_line faultless ticklab_is_free in
+    let rows : subcommand_rows_of matches ≡ subcommand_of ticklab words = (subst Q is_line has_matches ticklab_is_simple).1 in
+    subst (λ (kinds : Kinds). AnswersBy kinds (subcommand_of ticklab words) l) (sym none)
+    (subst (λ (rows : Option (Text × List Row)). IsFound rows l) rows found)
 
-pub not_taken : (app : App) (words : List Text) (error : Error)
+one_told : (kinds : Kinds) (k : ErrorKind) (found : Option (Text × List Row)) (l : Line)
+    → IsAmong k kinds → IsToldBy k l → AnswersBy kinds found l
+one_told [] k found l among told = absurd among
+one_told (first ∷ kinds) k found (line.Help text) among told =
+    subst (λ (a : ErrorKind). IsAmong a (first ∷ kinds)) told among
+one_told (first ∷ kinds) k found (line.Refused text) among told = (k, told, among)
+one_told (first ∷ kinds) k found (line.Request request) among told = absurd told
+one_told (first ∷ kinds) k found (line.Runs runs) among told = absurd told
+
+pub told_answers : (app : App) (words : List Text) (error : Error) (l : Line)
     → app ≡ ticklab
-    → (takes app words ≡ true → kind_of error ≡ kind.OutOfMemory)
+    → (is_simple_and_free app ≡ true → HasKind (fault_of app words) error)
     → kind_of error ≢ kind.OutOfMemory
-    → is_taken words ≡ false
-unfolding is_taken
-not_taken app words error is_line fails has_memory = go (takes ticklab words) refl
-  where
-    go : (b : Bool) → takes ticklab words ≡ b → takes ticklab words ≡ false
-    go false e = e
-    go true e = absurd (has_memory (fails (ap (λ (a : App). takes a words) is_line ∙ e)))
-
-asked_in : (found other : Option (Text × List Row)) (request : Option (Request Text)) (runs : Option (Runs Text))
-    → found ≡ other → IsAsked found request runs → IsAsked other request runs
-asked_in found other request runs is h = (ap request_in (sym is) ∙ h.0, ap runs_in (sym is) ∙ h.1)
-
-pub line_answers : (words : List Text) (found : Option (Text × List Row)) (l : Line)
-    → found ≡ command_in words → IsFound found (Some l) → Answers words l
-line_answers words found (line.Request request) is h = asked_in found _ _ _ is h
-line_answers words found (line.Runs runs) is h = ap runs_in (sym is) ∙ h
-line_answers words found (line.Help text) is h = absurd h
-line_answers words found (line.Refused text) is h = absurd h
-
-pub none_asked : (words : List Text) (found : Option (Text × List Row))
-    → found ≡ command_in words → IsFound found None → IsAsked (command_in words) None None
-none_asked words found is h = asked_in found _ _ _ is h
-
-pub told_answers : (words : List Text) (l : Line) → IsTold l → is_taken words ≡ false → Answers words l
-told_answers words (line.Request request) told refused = absurd told
-told_answers words (line.Runs runs) told refused = absurd told
-told_answers words (line.Help text) told refused = refused
-told_answers words (line.Refused text) told refused = inl refused
+    → IsToldBy (kind_of error) l
+    → Answers words l
+unfolding faults
+told_answers app words error l is_line fails has_memory told =
+    let P : App → Type 0 = λ a. is_simple_and_free a ≡ true → HasKind (fault_of a words) error in
+    elim (subst P is_line fails ticklab_is_free) [
+      | inl memory ↦ absurd (has_memory memory)
+      | inr among ↦ one_told (fault_of ticklab words) (kind_of error) (command_in words) l among told
+    ]

@@ -1,7 +1,7 @@
 -- What `parse` and `clap` read as a number, as `number_of` has it.
-use Rattle.std.proofs.Common.{◌≡◌, ◌∙◌, ◌&&◌, ◌∷◌, [], ℕ, Bool, Option, Some, None, Result, Ok, Err, length, true, false, ap, sym, refl}
+use Rattle.std.proofs.Common.{◌≡◌, ◌∙◌, ◌&&◌, ◌∷◌, [], List, ℕ, Bool, Option, Some, None, Result, Ok, Err, length, true, false, ap, sym, refl}
 use Rattle.std.proofs.lemmas.Bool.{lt-ltb, ltb-true}
-use Rattle.std.specs.Prelude.{◌^◌, if◌then◌else◌, nat_lt, option_and_then}
+use Rattle.std.specs.Prelude.{◌^◌, if◌then◌else◌, is_some, nat_lt, option_and_then}
 use Rattle.std.specs.Result.{result_ok}
 use Rattle.std.specs.List.{list_all}
 use Rattle.std.specs.Char.{digit_value}
@@ -9,10 +9,10 @@ use Rattle.std.specs.Str.Parse.{AllDigits, ExplainsUnsignedError, HasUnsignedDig
 use Rattle.std.specs.declared.num.ParseIntError.{ParseIntError}
 use Rattle.clap.proofs.WalkLemmas.{both, one_text-rows}
 use Rattle.clap.specs.Matches.{ReadsOne, one_text}
-use Rattle.clap.specs.Walk.{Text, rows_of}
+use Rattle.clap.specs.Walk.{Row, Text, first_of, rows_of}
 use Rattle.clap.specs.ValueTests.{is_numeral}
 use Rattle.clap.specs.declared.parser.matches.Found.{Found}
-use Rattle.lab_line.specs.Found.{number_in, number_of}
+use Rattle.lab_line.specs.Found.{number_in, number_of, number_or}
 
 digits_pass : (ds : Text) → AllDigits 10 ds → list_all (λ d. nat_lt (digit_value d) 10) ds ≡ true
 digits_pass [] h = refl
@@ -59,3 +59,11 @@ number_found bits found id r none some =
     go : (o : Option Text) → one_text found id ≡ o → r ≡ option_and_then (number_of bits) o
     go None e = none e
     go (Some text) e = read bits text r (some text e)
+
+-- the same of an option that was given
+pub number_given : (bits other : ℕ) (id : Text) (rows : List Row) (text : Text) (r : Option ℕ)
+    → Some text ≡ first_of id rows
+    → r ≡ number_in bits id rows
+    → r ≡ number_or bits id other rows
+number_given bits other id rows text r given is =
+    is ∙ ap (λ (o : Option Text). if is_some o then number_in bits id rows else Some other) given

@@ -1,8 +1,11 @@
 -- The command line of `ticklab`, as `clap` is told of it.
-use Rattle.std.specs.Prelude.{ℕ, [], ◌∷◌, Some, true, false, codes, pos}
-use Rattle.clap.specs.Walk.{Rule, Text}
-use Rattle.clap.specs.Simple.{App, new_app, new_rule, on_top, with_rule, with_subcommand}
+use Rattle.std.specs.Prelude.{◌≡◌, ℕ, IfOk, Result, Some, true, false, codes, pos}
+use Rattle.clap.specs.Walk.{Rule, Text, rule_of}
+use Rattle.clap.specs.Simple.{App, app_of, new_app, new_rule, on_top, with_rule, with_subcommand}
 use Rattle.clap.specs.declared.builder.action.ArgAction.TheVariants.{SetTrue}
+use Rattle.clap.specs.declared.builder.arg.Arg.{Arg}
+use Rattle.clap.specs.declared.builder.command.Command.{Command}
+use Rattle.clap.specs.declared.builder.command.Command.TheViews.{out-Command}
 use Rattle.clap.specs.declared.builder.value_parser.ValueParser.{ValueParser}
 use Rattle.clap.specs.declared.builder.value_parser.ValueParser.TheVariants.{Signed, Unsigned}
 
@@ -18,14 +21,9 @@ further_rule name = record (new_rule name) { value_names = 1 }
 abbrev pub flag_rule : Text → Rule
 flag_rule name = record (new_rule name) { long = Some name; action = Some SetTrue }
 
--- `--name NUMBER`, and the number where it is not given
-abbrev pub number_rule : Text → Text → ValueParser → Rule
-number_rule name default parser = record (new_rule name) {
-  long = Some name;
-  value_names = 1;
-  defaults = default ∷ [];
-  parser = Some parser;
-}
+-- `--name NUMBER`
+abbrev pub number_rule : Text → ValueParser → Rule
+number_rule name parser = record (new_rule name) { long = Some name; value_names = 1; parser = Some parser }
 
 abbrev pub up_to : ℕ → ValueParser
 up_to most = Signed (pos 0) (pos most)
@@ -33,36 +31,30 @@ up_to most = Signed (pos 0) (pos most)
 abbrev pub processes_rule : Rule
 processes_rule = record (word_rule (codes "processes")) { parser = Some (Signed (pos 1) (pos 6)) }
 
--- `--name NUMBER NUMBER`
-abbrev pub two_numbers_rule : Text → Rule
-two_numbers_rule name = record (new_rule name) {
-  long = Some name;
+-- `--threads TIMES TURNS`
+abbrev pub threads_rule : Rule
+threads_rule = record (new_rule (codes "threads")) {
+  long = Some (codes "threads");
   range = Some (record { start_inclusive = 2; end_inclusive = 2 });
   value_names = 2;
   parser = Some (Unsigned 0 1000000000);
 }
-
--- it goes with none of the plan's words
-abbrev pub threads_rule : Rule
-threads_rule = record (two_numbers_rule (codes "threads")) { is_free = false }
 
 abbrev pub with_file : Text → App
 with_file name = with_rule (new_app name) (word_rule (codes "file"))
 
 abbrev pub explore_app : App
 explore_app = with_rule (with_rule (with_file (codes "explore"))
-    (number_rule (codes "limit") (codes "1000000") (up_to 4294967295)))
+    (number_rule (codes "limit") (up_to 4294967295)))
     (flag_rule (codes "merged"))
 
--- the numbers of a plan
-abbrev pub with_plan : App → App
-with_plan app = with_rule (with_rule (with_rule app
-    (number_rule (codes "seed") (codes "0") (Unsigned 0 18446744073709551615)))
-    (number_rule (codes "runs") (codes "10000") (up_to 4294967295)))
-    (number_rule (codes "steps") (codes "300") (up_to 10000000))
-
 abbrev pub hunt_app : App
-hunt_app = with_rule (with_rule (with_plan (with_file (codes "hunt"))) (flag_rule (codes "uniform"))) threads_rule
+hunt_app = with_rule (with_rule (with_rule (with_rule (with_rule (with_file (codes "hunt"))
+    (number_rule (codes "seed") (Unsigned 0 18446744073709551615)))
+    (number_rule (codes "runs") (up_to 4294967295)))
+    (number_rule (codes "steps") (up_to 10000000)))
+    (flag_rule (codes "uniform")))
+    threads_rule
 
 -- `trace` and `draw`
 abbrev pub run_app : Text → App
@@ -85,3 +77,13 @@ command_wanted =
 abbrev pub ticklab : App
 ticklab = with_app (with_app (with_app (with_app (with_app (with_app command_wanted
     explore_app) hunt_app) (run_app (codes "trace"))) (run_app (codes "draw"))) explain_app) labels_app
+
+-- memory aside, what is told to `clap` is this command line, this command of it, and this word of a command
+abbrev pub IsLine : {E : Type 0} → App → Result Command E → Type 0
+IsLine app line = IfOk line (λ command. app_of command ≡ app)
+
+abbrev pub IsCommand : {E : Type 0} → App → Result Command E → Type 0
+IsCommand app part = IfOk part (λ command. (app_of command ≡ app) × ((out-Command command).has_globals ≡ false))
+
+abbrev pub IsWord : Rule → Arg → Type 0
+IsWord rule arg = (rule_of arg ≡ rule) × (arg.global ≡ false)

@@ -1,6 +1,6 @@
 -- What the words found for a command ask for.
 use Rattle.std.specs.Prelude.{ℕ, Bool, false, List, [], ◌∷◌, Option, Some, None, codes, bytes_eq, ◌^◌, ◌&&◌, nat_lt}
-use Rattle.std.specs.Prelude.{if◌then◌else◌, option_and_then, option_map}
+use Rattle.std.specs.Prelude.{if◌then◌else◌, is_some, option_and_then, option_map}
 use Rattle.std.specs.Borrow.{Bor}
 use Rattle.std.specs.Option.{option_map_or}
 use Rattle.std.specs.Str.Parse.{digits_value, without_leading_plus}
@@ -28,13 +28,24 @@ for_file rows asked = option_and_then asked (first_of (codes "file") rows)
 abbrev pub for_number : {X : Type 0} → ℕ → Text → List Row → (ℕ → Option X) → Option X
 for_number bits id rows asked = option_and_then asked (number_in bits id rows)
 
+-- an argument without a default has a text only where it was given
+abbrev pub is_given : Text → List Row → Bool
+is_given id rows = is_some (first_of id rows)
+
+-- the number of an option, and this one where the option is not given
+abbrev pub number_or : ℕ → Text → ℕ → List Row → Option ℕ
+number_or bits id default rows = if is_given id rows then number_in bits id rows else Some default
+
+abbrev pub for_number_or : {X : Type 0} → ℕ → Text → ℕ → List Row → (ℕ → Option X) → Option X
+for_number_or bits id default rows asked = option_and_then asked (number_or bits id default rows)
+
 abbrev pub explore_in : List Row → Option (Request Text)
-explore_in rows = for_file rows (λ file. for_number 32 (codes "limit") rows (λ limit.
+explore_in rows = for_file rows (λ file. for_number_or 32 (codes "limit") 1000000 rows (λ limit.
     Some (Explore file limit (is_set (codes "merged") rows))))
 
 abbrev pub hunt_in : List Row → Option (Request Text)
-hunt_in rows = for_file rows (λ file. for_number 64 (codes "seed") rows (λ seed.
-    for_number 32 (codes "runs") rows (λ runs. for_number 32 (codes "steps") rows (λ steps.
+hunt_in rows = for_file rows (λ file. for_number_or 64 (codes "seed") 0 rows (λ seed.
+    for_number_or 32 (codes "runs") 10000 rows (λ runs. for_number_or 32 (codes "steps") 300 rows (λ steps.
     Some (Hunt file seed runs steps (is_set (codes "uniform") rows))))))
 
 abbrev pub run_in : (Text → Text → Bool → Request Text) → List Row → Option (Request Text)

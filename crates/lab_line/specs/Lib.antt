@@ -1,4 +1,5 @@
 pub mod CommandLine
 pub mod Found
+pub mod Conflicts
 pub mod Lines
 pub mod Laws

@@ -1,9 +1,10 @@
-ghost use Rattle.std.specs.Prelude.{◌≢◌, IfOk, map, string_bytes};
+ghost use Rattle.std.specs.Prelude.{◌≡◌, ◌≢◌, IfOk, map, string_bytes};
 ghost use Rattle.clap.specs.Simple.{subcommand_rows_of};
 ghost use Rattle.clap.specs.Values.{kind_of};
-ghost use Rattle.lab_line.specs.Lines.{Answers, IsFound, IsTold};
+ghost use Rattle.lab_line.specs.Lines.{Answers, IsFound, IsMeant, IsToldBy, number_text};
 
 use crate::commands::command_line;
+use crate::conflicts::{conflict_in, conflict_text};
 use crate::reading::{request_in, runs_in};
 use crate::request::{Request, Runs};
 use clap::error::ErrorKind;
@@ -27,26 +28,41 @@ pub fn asked<'a>(alloc: Global, words: &'a [String]) -> Result<Line<'a>, AllocEr
     ensures { IfOk result (Answers (map string_bytes words.entry.now)) }
 {
     match command_line(alloc)?.try_get_matches_from(words) {
-        Ok(matches) => match line_in(&matches) {
-            Some(line) => Ok(line),
-            None => Ok(Line::Refused(format!(in alloc; "error: a number is out of its range\n")?)),
-        },
+        Ok(matches) => found(alloc, &matches),
         Err(error) => told(alloc, error),
     }
 }
 
-// Nothing where `clap` took a number that is out of its range.
-fn line_in<'a>(matches: &ArgMatches<'a>) -> Option<Line<'a>>
-    ensures { IsFound (subcommand_rows_of matches.now) result }
+fn found<'a>(alloc: Global, matches: &ArgMatches<'a>) -> Result<Line<'a>, AllocError>
+    ensures { IfOk result (IsFound (subcommand_rows_of matches.now)) }
 {
-    match runs_in(matches) {
-        Some(runs) => Some(Line::Runs(runs)),
-        None => Some(Line::Request(request_in(matches)?)),
+    match conflict_in(matches) {
+        Some(options) => Ok(Line::Refused(conflict_text(alloc, options)?)),
+        None => meant(alloc, matches),
     }
 }
 
+fn meant<'a>(alloc: Global, matches: &ArgMatches<'a>) -> Result<Line<'a>, AllocError>
+    ensures { IfOk result (IsMeant (subcommand_rows_of matches.now)) }
+{
+    if let Some(runs) = runs_in(matches) {
+        return Ok(Line::Runs(runs));
+    }
+    match request_in(matches) {
+        Some(request) => Ok(Line::Request(request)),
+        None => Ok(Line::Refused(number_refused(alloc)?)),
+    }
+}
+
+// Where `clap` took a number that is out of its range.
+fn number_refused(alloc: Global) -> Result<String, AllocError>
+    ensures { IfOk result (λ text. string_bytes text ≡ number_text) }
+{
+    String::from_str(alloc, "error: a number is out of its range\n")
+}
+
 fn told<'a>(alloc: Global, error: Error) -> Result<Line<'a>, AllocError>
-    ensures { IfOk result (λ line. IsTold line × (kind_of error ≢ ErrorKind.OutOfMemory)) }
+    ensures { IfOk result (λ line. IsToldBy (kind_of error) line × (kind_of error ≢ ErrorKind.OutOfMemory)) }
 {
     match error.kind() {
         ErrorKind::OutOfMemory => Err(AllocError),
@@ -55,7 +71,7 @@ fn told<'a>(alloc: Global, error: Error) -> Result<Line<'a>, AllocError>
 }
 
 fn line_told<'a>(kind: ErrorKind, text: String) -> Line<'a>
-    ensures { IsTold result }
+    ensures { IsToldBy kind result }
 {
     match kind {
         ErrorKind::DisplayHelp => Line::Help(text),

@@ -8,6 +8,7 @@
 mod arguments;
 mod asking;
 mod commands;
+mod conflicts;
 mod laws;
 mod reading;
 mod request;

@@ -9,7 +9,7 @@ ghost use Rattle.lab_line.specs.declared.request.Request.TheVariants.{Trace, Dra
 
 use crate::request::{Request, Runs};
 use crate::values::{
-    byte_in, is_set, large_number, large_number_in, number, number_in, text_in, texts_in,
+    byte_in, is_set, large_number, large_number_or, number, number_or, text_in, texts_in,
 };
 use clap::ArgMatches;
 
@@ -67,7 +67,7 @@ fn explore_in<'a>(given: &ArgMatches<'a>) -> Option<Request<&'a str>>
 {
     Some(Request::Explore {
         file: text_in(given, "file")?,
-        limit: number_in(given, "limit")?,
+        limit: number_or(given, "limit", 1_000_000)?,
         is_merged: is_set(given, "merged"),
     })
 }
@@ -77,9 +77,9 @@ fn hunt_in<'a>(given: &ArgMatches<'a>) -> Option<Request<&'a str>>
 {
     Some(Request::Hunt {
         file: text_in(given, "file")?,
-        seed: large_number_in(given, "seed")?,
-        runs: number_in(given, "runs")?,
-        steps: number_in(given, "steps")?,
+        seed: large_number_or(given, "seed", 0)?,
+        runs: number_or(given, "runs", 10_000)?,
+        steps: number_or(given, "steps", 300)?,
         is_uniform: is_set(given, "uniform"),
     })
 }

@@ -2,7 +2,7 @@
 ghost use Rattle.std.specs.Prelude.{◌≡◌, map, option_map};
 ghost use Rattle.clap.specs.Matches.{found_of};
 ghost use Rattle.clap.specs.Walk.{all_of, first_of, rows_of};
-ghost use Rattle.lab_line.specs.Found.{is_set, number_in, number_of};
+ghost use Rattle.lab_line.specs.Found.{is_set, number_in, number_of, number_or};
 
 use clap::ArgMatches;
 
@@ -37,16 +37,23 @@ pub fn byte_in(given: &ArgMatches<'_>, id: &str) -> Option<u8>
     given.get_one::<u8>(id)
 }
 
-pub fn number_in(given: &ArgMatches<'_>, id: &str) -> Option<u32>
-    ensures { result ≡ number_in 32 id.now (rows_of (found_of given.now)) }
+/// The number of an option, and the other one where the option is not given.
+pub fn number_or(given: &ArgMatches<'_>, id: &str, other: u32) -> Option<u32>
+    ensures { result ≡ number_or 32 id.now other (rows_of (found_of given.now)) }
 {
-    given.get_one::<u32>(id)
+    match text_in(given, id) {
+        Some(_text) => given.get_one::<u32>(id),
+        None => Some(other),
+    }
 }
 
-pub fn large_number_in(given: &ArgMatches<'_>, id: &str) -> Option<u64>
-    ensures { result ≡ number_in 64 id.now (rows_of (found_of given.now)) }
+pub fn large_number_or(given: &ArgMatches<'_>, id: &str, other: u64) -> Option<u64>
+    ensures { result ≡ number_or 64 id.now other (rows_of (found_of given.now)) }
 {
-    given.get_one::<u64>(id)
+    match text_in(given, id) {
+        Some(_text) => given.get_one::<u64>(id),
+        None => Some(other),
+    }
 }
 
 pub fn number(text: &str) -> Option<u32>

@@ -1,19 +1,19 @@
 use Rattle.std.proofs.Common.{refl}
 use Rattle.clap.proofs.OnLiterals.{clap_on_literals}
-use Rattle.lab_line.specs.Lines.{command_in, is_taken}
+use Rattle.lab_line.specs.Lines.{command_in, faults}
 use Rattle.lab_line.proofs.laws.law_commands.Goals as goal
 
 pub returns : goal.returns
-unfolding clap_on_literals is_taken command_in
+unfolding clap_on_literals faults command_in
 returns c = record {
-  explore = λ rest. (refl, (refl, refl));
-  explore_limit = (refl, (refl, refl));
-  explore_merged = (refl, (refl, refl));
-  trace = (refl, (refl, refl));
-  trace_code = (refl, (refl, refl));
-  draw = (refl, (refl, refl));
-  draw_code = (refl, (refl, refl));
-  explain = (refl, (refl, refl));
-  explain_schedule = (refl, (refl, refl));
-  labels = (refl, (refl, refl));
+  explore = λ rest. ((refl, refl), (refl, refl));
+  explore_limit = ((refl, refl), (refl, refl));
+  explore_merged = ((refl, refl), (refl, refl));
+  trace = ((refl, refl), (refl, refl));
+  trace_code = ((refl, refl), (refl, refl));
+  draw = ((refl, refl), (refl, refl));
+  draw_code = ((refl, refl), (refl, refl));
+  explain = ((refl, refl), (refl, refl));
+  explain_schedule = ((refl, refl), (refl, refl));
+  labels = ((refl, refl), (refl, refl));
 }
