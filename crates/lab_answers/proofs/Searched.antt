@@ -1,12 +1,13 @@
 -- What an answer says, from what was explored or hunted and what the answer shows of it.
-use Rattle.std.proofs.Common.{◌≡◌, ℕ, List, [], refl, sym, ◌∙◌, subst, arith}
+use Rattle.std.proofs.Common.{◌≡◌, ◌≤◌, ℕ, List, [], length, refl, sym, ◌∙◌, subst, arith}
 use Rattle.tick_tree.specs.Plain.{Name, WholeProgram}
 use Rattle.tick_kinds.specs.Resolution.{resolved}
 use Rattle.state_search.specs.Watching.{Told, AreTold, IsWatched}
 use Rattle.tick_explore.specs.Searching.{AreToldFor, IfLimit, IfSafe, IfTrapped}
 use Rattle.tick_explore.specs.declared.answer.Explored.{Explored}
 use Rattle.tick_explore.specs.declared.answer.Explored.TheVariants.{Trapped, Safe, Limit}
-use Rattle.tick_hunt.specs.Hunts.{IfFound, IfNothing, IsFirstTrap, IsMinimalTrap, NoRunTraps}
+use Rattle.tick_hunt.specs.Draws.{random_schedule}
+use Rattle.tick_hunt.specs.Hunts.{IfFound, IfNothing, IsFirstTrap, IsMinimalTrap, IsPartOf, NoRunTraps}
 use Rattle.tick_hunt.specs.declared.answer.Hunted.{Hunted}
 use Rattle.tick_hunt.specs.declared.answer.Hunted.TheVariants.{Found, Nothing}
 use Rattle.tick_hunt.specs.declared.plan.Plan.{Plan}
@@ -53,10 +54,13 @@ unwatched_answering hears before after P input x refused = record { told = []; h
 pub hunted_by : (plan : Plan) (input : List ℕ) (p : WholeProgram Name)
     → IsOf input p → (h : Hunted) (x : Response)
     → IfFound h (λ run schedule. IsFirstTrap (resolved p) plan run)
+    → IfFound h (λ run schedule. IsPartOf schedule (random_schedule plan (resolved p).processes run))
+    → IfFound h (λ run schedule. length schedule ≤ plan.steps)
     → IfFound h (λ run schedule. IsMinimalTrap (resolved p) schedule)
     → IfNothing h (NoRunTraps (resolved p) plan) → ShowsHunt input p plan h x → IsHunted plan input x
-hunted_by plan input p is (Found run s) x first minimal none shows =
+hunted_by plan input p is (Found run s) x first part short minimal none shows =
     one_traps is.0 run s.items (subst (λ q. IsFirstTrap (resolved q) plan run) is.1 first)
+    (subst (λ q. IsPartOf s.items (random_schedule plan (resolved q).processes run)) is.1 part) short
     (subst (λ q. IsMinimalTrap (resolved q) s.items) is.1 minimal) (subst (λ q. ShowsTrap minimal_line input q s.items x) is.1 shows)
-hunted_by plan input p is Nothing x first minimal none shows =
+hunted_by plan input p is Nothing x first part short minimal none shows =
     none_traps is.0 (subst (λ q. NoRunTraps (resolved q) plan) is.1 none) shows

@@ -1,5 +1,5 @@
 -- What the answers of `explore` and `hunt` say.
-use Rattle.std.specs.Prelude.{◌≡◌, ℕ, List, []}
+use Rattle.std.specs.Prelude.{◌≡◌, ◌≤◌, ℕ, List, [], length}
 use Rattle.tick_kinds.specs.Resolution.{resolved}
 use Rattle.tick_explain.specs.Refusals.{IsProgram, IsProgramRefused}
 use Rattle.tick_explain.specs.Reports.{Tells}
@@ -8,7 +8,8 @@ use Rattle.state_search.specs.Watching.{Told, AreTold}
 use Rattle.tick_explore.specs.Searching.{IsLimit, IsSafe, IsShortestTrap}
 use Rattle.tick_explore.specs.Merging.{IsMergedLimit, IsMergedSafe}
 use Rattle.tick_explore.specs.Trap.{IsTrap}
-use Rattle.tick_hunt.specs.Hunts.{IsFirstTrap, IsMinimalTrap, NoRunTraps}
+use Rattle.tick_hunt.specs.Draws.{random_schedule}
+use Rattle.tick_hunt.specs.Hunts.{IsFirstTrap, IsMinimalTrap, IsPartOf, NoRunTraps}
 use Rattle.tick_hunt.specs.declared.plan.Plan.{Plan}
 use Rattle.lab_answers.specs.Lines.{minimal_line, shortest_line, some_line}
 use Rattle.lab_answers.specs.Responses.{Refuses}
@@ -52,10 +53,11 @@ pub data AreToldAnswering (P : WholeProgram ℕ → ℕ → ℕ → Type 0) (inp
   of_some : (is : IsProgram input) (gone : ℕ) → (response.status ≡ 0 → ⊥) → AreTold (P (resolved is.program)) gone told → AreToldAnswering P input response told
   of_none : response.status ≡ 1 → told ≡ [] → AreToldAnswering P input response told
 
--- the random schedules of a plan
+-- The random schedules of a plan. The schedule that is shown is a part of the first one under which a process traps.
 pub data IsHunted (plan : Plan) (input : List ℕ) (response : Response) : Type 0 where
   none_traps : (is : IsProgram input) → NoRunTraps (resolved is.program) plan → ShowsNothing plan response → IsHunted plan input response
   one_traps : (is : IsProgram input) (run : ℕ) (schedule : List ℕ) → IsFirstTrap (resolved is.program) plan run
+      → IsPartOf schedule (random_schedule plan (resolved is.program).processes run) → length schedule ≤ plan.steps
       → IsMinimalTrap (resolved is.program) schedule → ShowsTrap minimal_line input is.program schedule response → IsHunted plan input response
 
 pub data Hunts (name : List ℕ) (plan : Plan) (input : List ℕ) (response : Response) : Type 0 where

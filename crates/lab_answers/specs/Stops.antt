@@ -1,5 +1,9 @@
 -- What holds of the report of a refusal, where that is what stops a command, and the answer to it.
 use Rattle.std.specs.Prelude.{◌≡◌, ℕ, List, []}
+use Rattle.tick_merge.specs.declared.run_fault.RunFault.{RunFault}
+use Rattle.tick_merge.specs.declared.run_fault.RunFault.TheVariants as run
+use Rattle.lab_answers.specs.declared.fault.AnswerFault.{AnswerFault}
+use Rattle.lab_answers.specs.declared.fault.AnswerFault.TheVariants as answer
 use Rattle.lab_answers.specs.declared.response.Response.{Response}
 use Rattle.lab_answers.specs.declared.stop.Stop.{Stop}
 use Rattle.lab_answers.specs.declared.stop.Stop.TheVariants.{Refused, Fault}
@@ -8,9 +12,10 @@ abbrev pub IfRefused : Stop → (List ℕ → Type 0) → Type 0
 IfRefused (Refused report) P = P report.items
 IfRefused (Fault fault) P = Unit {0}
 
-abbrev pub IsFault : Stop → Type 0
-IsFault (Refused report) = ⊥
-IsFault (Fault fault) = Unit {0}
+-- what a run that was not made comes to: want of memory stays one, and so does want of a thread
+abbrev pub fault_of : RunFault → AnswerFault
+fault_of run.NoMemory = answer.NoMemory
+fault_of run.NoThread = answer.NoThread
 
 -- nothing goes out, and the report is told
 pub record TellsReport (response : Response) (report : List ℕ) : Type 0 where

@@ -2,8 +2,8 @@
 ghost use Rattle.std.specs.Prelude.{◌≡◌, ◌++◌, OnOk, string_bytes};
 ghost use Rattle.lab_answers.specs.Lines.{many};
 
+use base::push_number;
 use std::alloc::AllocError;
-use text_core::push_number;
 
 /// Adds how many there are, and the word for one or for more: `1 run`, `2 runs`.
 #[tactic(auto, unfolding(crate::specs::Lines::many))]

@@ -1,7 +1,12 @@
+ghost use Rattle.std.specs.Prelude.{◌≡◌};
+ghost use Rattle.lab_answers.specs.declared.fault.AnswerFault.TheVariants as answer;
+ghost use Rattle.lab_answers.specs.declared.stop.Stop.TheVariants.{Fault};
+ghost use Rattle.lab_answers.specs.Stops.{fault_of};
+
 use crate::fault::AnswerFault;
 use base::NoMemory;
 use std::alloc::{AllocError, AllocFailed};
-use tick_run::RunFault;
+use tick_merge::RunFault;
 
 /// Why a command comes to no answer of its own.
 #[derive(Drop)]
@@ -12,9 +17,7 @@ pub enum Stop {
 }
 
 impl From<NoMemory> for Stop {
-    ghost use Rattle.lab_answers.specs.Stops.{IsFault};
-
-    ghost from_gives = { λ _ stop. IsFault stop };
+    ghost from_gives = { λ _ stop. stop ≡ Fault answer.NoMemory };
 
     fn from(fault: NoMemory) -> Stop {
         Stop::Fault(AnswerFault::from(fault))
@@ -22,9 +25,7 @@ impl From<NoMemory> for Stop {
 }
 
 impl From<AllocError> for Stop {
-    ghost use Rattle.lab_answers.specs.Stops.{IsFault};
-
-    ghost from_gives = { λ _ stop. IsFault stop };
+    ghost from_gives = { λ _ stop. stop ≡ Fault answer.NoMemory };
 
     fn from(error: AllocError) -> Stop {
         Stop::Fault(AnswerFault::from(error))
@@ -32,9 +33,7 @@ impl From<AllocError> for Stop {
 }
 
 impl<T: Drop> From<AllocFailed<T>> for Stop {
-    ghost use Rattle.lab_answers.specs.Stops.{IsFault};
-
-    ghost from_gives = { λ _ stop. IsFault stop };
+    ghost from_gives = { λ _ stop. stop ≡ Fault answer.NoMemory };
 
     fn from(error: AllocFailed<T>) -> Stop {
         Stop::Fault(AnswerFault::from(error))
@@ -42,9 +41,7 @@ impl<T: Drop> From<AllocFailed<T>> for Stop {
 }
 
 impl From<RunFault> for Stop {
-    ghost use Rattle.lab_answers.specs.Stops.{IsFault};
-
-    ghost from_gives = { λ _ stop. IsFault stop };
+    ghost from_gives = { λ run stop. stop ≡ Fault (fault_of run) };
 
     fn from(fault: RunFault) -> Stop {
         Stop::Fault(AnswerFault::from(fault))

@@ -13,7 +13,7 @@ use crate::stop::Stop;
 use base::NoMemory;
 use std::alloc::{AllocError, Global};
 use std::fmt::Write;
-use tick_run::Runner;
+use tick_merge::Runner;
 use tick_tally::{Counted, tally};
 
 /// How often each outcome came of so many runs of the program's code, each process for at most `turns`
