@@ -1,22 +1,29 @@
 //! `ticklab` shows what a ticket program does: under every schedule, under random ones, and step by step.
 //!
-//! Start with `outcome` in `serving.rt`, and with `specs/Serving.antt` for what it ends with; `lab_line` has
-//! the command line and its help, `lab_answers` what is answered. Here files are read and answers written.
+//! There is `main` alone, and what it has of the host; start with `ended` of `lab_serving`, which does it
+//! all.
 #![tactic(auto)]
 
-mod answering;
-mod ending;
-mod fault;
 mod files;
 mod progress;
-mod serving;
-mod writing;
 
-use crate::ending::ended;
+use crate::files::HostFiles;
+use crate::progress::HostProgress;
+use lab_serving::{Host, ended};
 use std::env::args;
 use std::process::ExitCode;
 use tick_run::OnThreads;
 
 fn main(rt: HostRuntime) -> ExitCode {
-    ended(&rt, &mut OnThreads::new(&rt), args(&rt))
+    ended(
+        rt.alloc(),
+        &mut Host {
+            files: HostFiles::new(&rt),
+            out: rt.stdout(),
+            err: rt.stderr(),
+        },
+        &mut OnThreads::new(&rt),
+        &mut HostProgress::new(&rt),
+        args(&rt),
+    )
 }

@@ -1,0 +1,4 @@
+pub mod Reading
+pub mod Responses
+pub mod Faults
+pub mod Serving

@@ -1,0 +1,30 @@
+ghost use Rattle.std.specs.Prelude.{ℕ, List, IfOk};
+
+use std::alloc::Global;
+use std::io;
+
+/// Where the program reads its files.
+pub trait Files {
+    // What they are before a file of this name is read, how many of its bytes are read at most, those that
+    // are read, and what they are after it.
+    ghost Reads: { Self → List ℕ → ℕ → List ℕ → Self → Type 0 };
+
+    // The same of standard input.
+    ghost ReadsInput: { Self → ℕ → List ℕ → Self → Type 0 };
+
+    /// The bytes of the file of this name, at most the first `most`.
+    fn file(&mut self, alloc: Global, name: &str, most: u64) -> io::Result<Vec<u8>>
+        ensures { IfOk result (λ bytes. Self.Reads self.old name.now most bytes.items self.new) };
+
+    /// The bytes of standard input, at most the first `most`.
+    fn input(&mut self, alloc: Global, most: u64) -> io::Result<Vec<u8>>
+        ensures { IfOk result (λ bytes. Self.ReadsInput self.old most bytes.items self.new) };
+}
+
+/// What the program has of its host: its files, standard output and standard error.
+#[derive(Drop)]
+pub struct Host<F, O, T> {
+    pub files: F,
+    pub out: O,
+    pub err: T,
+}

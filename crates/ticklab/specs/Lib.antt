@@ -1,4 +1,0 @@
-pub mod Schedules
-pub mod Responses
-pub mod Faults
-pub mod Serving
