@@ -30,28 +30,34 @@ def laid(top, names, crates, room):
 
 
 @contextlib.contextmanager
-def proved(top, names, crates, tell=None):
-    """A room with these crates and those below them proved and built; `tell` is told of each that is done."""
+def proved(top, names, crates, tell=None, first=()):
+    """A room with these crates and those below them proved and built; `tell` is told of each that is done.
+
+    Of those that are proved `first` each has one processor, which takes less of their time; then idle ones go to a
+    proof that starts.
+    """
     # (`rt` sweeps away folders of this name that a killed run left)
     with tempfile.TemporaryDirectory(prefix=f"rt-copy-{os.getpid()}-") as room:
         laid(top, names, crates, room)
-        prove(room, tell or (lambda name: None))
+        if first:
+            prove(room, tell, ["rt", "ci", *first], {**os.environ, "RT_JOBS": str(os.cpu_count())})
+        prove(room, tell or (lambda name: None), ["rt", "ci"], os.environ)
         yield room
 
 
-def prove(room, tell):
+def prove(room, tell, words, environment):
     """Runs `rt ci` in a room."""
     command = subprocess.Popen(
-        ["rt", "ci"], cwd=room, stdin=subprocess.DEVNULL, stdout=subprocess.PIPE, stderr=subprocess.STDOUT,
+        words, cwd=room, env=environment, stdin=subprocess.DEVNULL, stdout=subprocess.PIPE, stderr=subprocess.STDOUT,
         text=True, errors="replace",
     )
     said = []
     try:
         for line in command.stdout:
             said.append(line)
-            words = line.split()
-            if words[:1] == ["rt:"] and (words[2:] == ["proved"] or words[2:4] == ["is", "kept:"]):
-                tell(words[1])
+            told = line.split()
+            if told[:1] == ["rt:"] and (told[2:] == ["proved"] or told[2:4] == ["is", "kept:"]):
+                tell(told[1])
     except BaseException:
         command.terminate()
         raise

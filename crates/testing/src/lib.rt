@@ -11,7 +11,7 @@ mod texts;
 mod threads;
 
 pub use polls::Polls;
-pub use programs::{accepted, refusal};
+pub use programs::accepted;
 pub use rows::{holds, is_same};
 pub use texts::repeated;
 pub use threads::on_threads;

@@ -1,6 +1,6 @@
 use std::alloc::Global;
 use std::test::Fail;
-use tick_kinds::{KindFault, Program, check};
+use tick_kinds::{Program, check};
 use tick_syntax::parse;
 
 /// The program that a text is.
@@ -8,13 +8,5 @@ pub fn accepted(alloc: Global, text: &str) -> Result<Program, Fail> {
     match check(alloc, parse(alloc, text)?) {
         Ok(program) => Ok(program),
         Err((_tree, fault)) => Err(fault)?,
-    }
-}
-
-/// Why the program that a text is isn't accepted.
-pub fn refusal(alloc: Global, text: &str) -> Result<KindFault, Fail> {
-    match check(alloc, parse(alloc, text)?) {
-        Ok(_program) => Err("accepted")?,
-        Err((_tree, fault)) => Ok(fault),
     }
 }

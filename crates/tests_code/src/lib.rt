@@ -1,11 +1,11 @@
-//! Codes: their texts, the machine that runs them, the compiler, and the maps of schedules both ways.
+//! What no command shows of codes: codes as values, and the machine that runs them, one instruction after
+//! the other.
 //!
-//! Start with `lowering`, which has programs beside their codes; `text` reads and writes codes,
-//! `stepping` runs them, and `both_ways` takes a schedule from a program to its code and back.
+//! Start with `text`, which reads, writes and verifies codes; `stepping` runs them, and `lowering` has
+//! what the compiler says of one. What commands answer on codes, and on the codes and schedules of
+//! programs, stands in `answers/`.
 #![tactic(auto)]
 
-#[cfg(test)]
-mod both_ways;
 #[cfg(test)]
 mod lowering;
 #[cfg(test)]

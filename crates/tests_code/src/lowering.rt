@@ -1,8 +1,13 @@
-//! Tests of the compiler on programs as they are written.
-//!
-//! Start with `emitted`, which has programs beside their codes.
+//! The height of a code that the compiler makes, which no command shows.
 
-mod commits;
-mod emitted;
-mod limits;
-mod programs;
+use std::test::Fail;
+use testing::{accepted, is_same, repeated};
+use tick_lower::lower;
+
+#[test]
+fn tells_the_height_of_the_longest_code(rt: HostRuntime) -> Result<(), Fail> {
+    let text = repeated(rt.alloc(), "processes 1; begin ", "out 1; ", 32767, "end")?;
+    let program = accepted(rt.alloc(), text.as_str())?;
+    let code = lower(rt.alloc(), &program)?;
+    is_same(&(code.len(), code.height()), &(65535, 1))
+}

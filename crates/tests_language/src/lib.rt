@@ -1,7 +1,7 @@
-//! Programs as texts and trees, which of them are accepted, and the machine that runs them on tickets.
+//! What no command shows of programs: tokens and names as values, and the machine on tickets, step by step.
 //!
-//! Start with `syntax` for tokens, trees and printing, and with `machine` for kinds, schedules, reports
-//! and steps.
+//! Start with `syntax` for tokens and printing, and with `machine` for kinds, registers and steps. What
+//! commands answer on programs stands in `answers/`.
 #![tactic(auto)]
 
 #[cfg(test)]

@@ -1,12 +1,9 @@
-//! Tests of what stands on programs and schedules: acceptance, the machine on tickets, schedules
-//! and reports.
+//! Tests of what stands on programs and schedules: acceptance, registers, and the machine on tickets,
+//! step by step.
 //!
-//! Start with the file that is named by what you look for; `answers` and `programs` have what they
-//! share.
+//! Start with the file that is named by what you look for; `answers` has what they share.
 
 mod answers;
 mod kinds;
 mod observables;
-mod programs;
-mod schedules;
 mod source;

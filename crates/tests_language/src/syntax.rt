@@ -1,7 +1,6 @@
-//! Tests of `tick_syntax`, apart from it: each call with ample memory, on each kind of input.
+//! Tests of `tick_syntax`, apart from it: what no command shows.
 //!
-//! Start with `parse`.
+//! Start with `tokens`.
 
-mod parse;
 mod print;
 mod tokens;

@@ -1,13 +1,4 @@
-//! Tests of what is explored: how many states programs have, which schedules trap, where a search is cut
-//! off, that a second, slow search finds the same, and that merged steps say what single ones say.
-//!
-//! Start with `sizes`; the texts stand in the crate `algorithms`.
+//! Tests of what a watch is told of an exploring. How many states programs have, and which schedules trap,
+//! stands in `answers/states.txt`.
 
-mod agreeing;
-mod limits;
-mod merged;
-mod schedules;
-mod second;
-mod sizes;
 mod watching;
-mod ways;

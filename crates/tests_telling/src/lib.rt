@@ -1,4 +1,4 @@
-//! What `ticklab` tells of a text and of a schedule: explained refusals, and traces of both machines.
+//! What `ticklab` tells of a text and of a schedule: what may come after a token, and each step of both machines.
 //!
 //! Start with `explaining` for refusals, and with `tracing` for steps.
 #![tactic(auto)]

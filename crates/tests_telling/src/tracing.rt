@@ -1,9 +1,8 @@
-//! Tests of `tick_trace`: whole texts of traces, where statements stand, and each step against the
-//! machines.
+//! Tests of `tick_trace`: where statements stand, and each step against the machines. Whole traces are rows of
+//! `answers/`.
 //!
-//! Start with `rows`.
+//! Start with `events`.
 
-mod asking;
 mod events;
-mod rows;
+mod programs;
 mod spots;

@@ -7,4 +7,4 @@
 mod ends;
 mod failing;
 mod large;
-mod lines;
+mod no_words;

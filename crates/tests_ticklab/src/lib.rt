@@ -1,7 +1,7 @@
-//! `ticklab`: what its command lines ask for, and what it answers.
+//! `ticklab`: what its command lines ask for, and what no command line shows of its answers.
 //!
-//! Start with `lines` for the command lines, and for the answers with `explored`; each command has a file
-//! of its own. `programs` has the inputs. Where a growth is refused, a call is made once more.
+//! Start with `lines`, and with `ending` for how the program ends. The answers themselves are rows of
+//! `answers/`. Where a growth is refused, a call is made once more.
 #![tactic(auto)]
 
 #[cfg(test)]
@@ -11,20 +11,10 @@ mod asking;
 #[cfg(test)]
 mod drawn;
 #[cfg(test)]
-mod explained;
-#[cfg(test)]
-mod explored;
-#[cfg(test)]
-mod hunted;
+mod ending;
 #[cfg(test)]
 mod labelled;
 #[cfg(test)]
 mod lines;
-#[cfg(test)]
-mod programs;
-#[cfg(test)]
-mod tallied;
-#[cfg(test)]
-mod traced;
 #[cfg(test)]
 mod watching;

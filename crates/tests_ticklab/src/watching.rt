@@ -5,16 +5,6 @@ use std::test::Fail;
 use testing::is_same;
 use tick_explore::Watch;
 
-/// It doesn't look.
-#[derive(Drop)]
-pub struct Nobody;
-
-impl Watch for Nobody {
-    ghost hears = { λ before states gone after. Unit {0} };
-
-    fn seen(&mut self, _states: u32, _gone: u32) {}
-}
-
 /// What was told last, how often, and whether more each time.
 #[derive(Drop)]
 struct Notes {

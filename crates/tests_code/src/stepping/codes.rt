@@ -1,4 +1,4 @@
-use code_machine::{Code, Instr, Op, Sizes, verify};
+use code_machine::{Code, Instr, Sizes, verify};
 use std::alloc::Global;
 use std::test::Fail;
 
@@ -28,28 +28,6 @@ pub const STAMPS_AND_COMPARES: [Instr; 10] = [
     Instr::Push(1),
     Instr::Older(0, 0),
     Instr::Load(0),
-    Instr::Out,
-    Instr::Halt,
-];
-
-pub const WRITES_AND_TRAPS: [Instr; 19] = [
-    Instr::Me,
-    Instr::Count,
-    Instr::Bin(Op::Add),
-    Instr::Put(0),
-    Instr::Scan(0),
-    Instr::Copy(0, 1),
-    Instr::Push(1),
-    Instr::Get(0, 0),
-    Instr::Push(1),
-    Instr::Store(1),
-    Instr::Push(0),
-    Instr::JumpZero(13),
-    Instr::Jump(14),
-    Instr::Jump(14),
-    Instr::Push(0),
-    Instr::Push(1),
-    Instr::Bin(Op::Sub),
     Instr::Out,
     Instr::Halt,
 ];

@@ -1,11 +1,9 @@
 //! The longest code, whose stack is as high as half of it.
-ghost use Rattle.std.specs.Prelude.{◌<◌};
 ghost use Rattle.code_machine.specs.Process.{IsOf};
 
-use crate::stepping::answers::{machine_of, outcome_of, process_of, step_often};
+use crate::stepping::answers::{machine_of, process_of, step_often};
 use crate::stepping::codes::code_of;
-use crate::stepping::outcomes::is_outcome;
-use code_machine::{Act, Advance, Code, Event, Instr, Op, Outcome, Proc, Status};
+use code_machine::{Act, Advance, Code, Event, Instr, Op, Proc, Status};
 use std::alloc::{AllocError, Global};
 use std::test::Fail;
 use testing::{holds, is_same};
@@ -47,23 +45,6 @@ fn steps(rt: HostRuntime) -> Result<(), Fail> {
         &(machine.place(0), machine.status(0)),
         &(65534, Status::Ended),
     )
-}
-
-// Runs process 0 alone.
-fn run_often(alloc: Global, code: &Code, count: usize) -> Result<Outcome, Fail>
-    requires { 0 < code.now.sizes.processes }
-{
-    let schedule = vec![in alloc; 0; count]?;
-    Ok(outcome_of(alloc, code, &schedule)?)
-}
-
-#[test]
-fn runs(rt: HostRuntime) -> Result<(), Fail> {
-    let code = code_of(rt.alloc(), (1, 0, 0, 0), &adding(rt.alloc())?)?;
-    is_same(&code.sizes().processes(), &1)?;
-    let outcome = run_often(rt.alloc(), &code, 65535)?;
-    holds(is_outcome(&outcome, &DID, &[Status::Ended]), "the outcome")?;
-    Ok(())
 }
 
 // How many of so many steps are silent.

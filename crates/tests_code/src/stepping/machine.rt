@@ -1,9 +1,9 @@
 ghost use Rattle.std.specs.Prelude.{◌≡◌, ◌<◌, length};
 
 use crate::stepping::answers::{machine_of, make_step, outcome_of, step, step_often};
-use crate::stepping::codes::{GIVES_SEVEN, STAMPS_AND_COMPARES, WRITES_AND_TRAPS, code_of};
+use crate::stepping::codes::{GIVES_SEVEN, STAMPS_AND_COMPARES, code_of};
 use crate::stepping::outcomes::is_outcome;
-use code_machine::{Act, CodeMachine, Event, Instr, Made, NoMemory, Op, Outcome, Status, Trap};
+use code_machine::{Act, CodeMachine, Event, Instr, Made, NoMemory, Status};
 use std::test::Fail;
 use testing::{holds, is_same};
 
@@ -39,17 +39,6 @@ fn steps_one_by_one(rt: HostRuntime) -> Result<(), Fail> {
     }
     let is_so = machine.events() == [event(0, Act::Out(7)), event(0, Act::End)].as_slice();
     is_same(&(is_so, machine.word().bits()), &(true, 0))
-}
-
-#[test]
-fn gives_seven(rt: HostRuntime) -> Result<(), Fail> {
-    let code = code_of(rt.alloc(), (1, 0, 0, 0), &GIVES_SEVEN)?;
-    is_same(&code.sizes().processes(), &1)?;
-    let outcome = outcome_of(rt.alloc(), &code, &[0, 0])?;
-    let events = [event(0, Act::Out(7))];
-    let is_so = is_outcome(&outcome, &events, &[Status::Running]);
-    holds(is_so, "the outcome")?;
-    Ok(())
 }
 
 const ONE_AFTER_THE_OTHER: [Event; 10] = [
@@ -95,6 +84,7 @@ const ONE_AFTER_THE_OTHER: [Event; 10] = [
     },
 ];
 
+// A run that was refused is asked once more, and is the same.
 #[test]
 fn runs_one_after_the_other(rt: HostRuntime) -> Result<(), Fail> {
     let code = code_of(rt.alloc(), (2, 1, 1, 0), &STAMPS_AND_COMPARES)?;
@@ -171,127 +161,5 @@ fn tells_the_exchange_that_is_won(rt: HostRuntime) -> Result<(), Fail> {
     };
     is_same(&make_step(&mut machine, 1)?, &Some(won))?;
     is_same(&make_step(&mut machine, 0)?, &Some(lost))?;
-    Ok(())
-}
-
-#[test]
-fn loses_an_exchange(rt: HostRuntime) -> Result<(), Fail> {
-    let code = code_of(rt.alloc(), (2, 1, 1, 0), &STAMPS_AND_COMPARES)?;
-    is_same(&code.sizes().processes(), &2)?;
-    let outcome = outcome_of(rt.alloc(), &code, &[0, 1, 0, 1, 0, 1, 1, 1, 1])?;
-    let expected = [event(0, Act::Stamp), event(1, Act::Stamp)];
-    let statuses = [Status::Running, Status::Running];
-    let is_so = is_outcome(&outcome, &expected, &statuses);
-    holds(is_so, "the outcome")?;
-    Ok(())
-}
-
-fn begins_with_a_row(outcome: &Outcome, values: &[u32]) -> bool {
-    matches!(outcome.registers.first(), Some(row) if row.as_slice() == values)
-}
-
-#[test]
-fn writes_copies_and_traps(rt: HostRuntime) -> Result<(), Fail> {
-    let code = code_of(rt.alloc(), (2, 2, 2, 1), &WRITES_AND_TRAPS)?;
-    is_same(&code.sizes().processes(), &2)?;
-    let outcome = outcome_of(
-        rt.alloc(),
-        &code,
-        &[1, 1, 1, 1, 1, 1, 1, 1, 1, 1, 1, 1, 1, 1, 1, 1, 1, 1],
-    )?;
-    let expected = [
-        event(1, Act::Put(0, 3)),
-        event(1, Act::Scan([0, 0, 0, 0, 0, 0])),
-        event(1, Act::Get(0, 1, 3)),
-        event(1, Act::Trap(Trap::Below)),
-    ];
-    let statuses = [Status::Running, Status::Trapped(Trap::Below)];
-    let is_so = is_outcome(&outcome, &expected, &statuses);
-    holds(is_so, "the outcome")?;
-    is_same(&outcome.registers.len(), &1)?;
-    holds(begins_with_a_row(&outcome, &[0, 3]), "the row")?;
-    Ok(())
-}
-
-// What traps within three steps, where there is one process, and its trap.
-static TRAPS: [([Instr; 5], Trap, &str); 6] = [
-    (
-        [
-            Instr::Push(4294967295),
-            Instr::Push(1),
-            Instr::Bin(Op::Add),
-            Instr::Out,
-            Instr::Halt,
-        ],
-        Trap::Overflow,
-        "overflow",
-    ),
-    (
-        [
-            Instr::Push(1),
-            Instr::Push(0),
-            Instr::Bin(Op::Div),
-            Instr::Out,
-            Instr::Halt,
-        ],
-        Trap::Zero,
-        "zero",
-    ),
-    (
-        [
-            Instr::Push(0),
-            Instr::Push(1),
-            Instr::Bin(Op::Sub),
-            Instr::Out,
-            Instr::Halt,
-        ],
-        Trap::Below,
-        "below",
-    ),
-    (
-        [
-            Instr::Push(0),
-            Instr::Push(1),
-            Instr::Older(0, 0),
-            Instr::Scan(0),
-            Instr::Halt,
-        ],
-        Trap::Index,
-        "older of 1",
-    ),
-    (
-        [
-            Instr::Push(1),
-            Instr::Push(0),
-            Instr::Older(0, 0),
-            Instr::Scan(0),
-            Instr::Halt,
-        ],
-        Trap::Index,
-        "older for 1",
-    ),
-    (
-        [
-            Instr::Push(1),
-            Instr::Get(0, 0),
-            Instr::Scan(0),
-            Instr::Scan(0),
-            Instr::Halt,
-        ],
-        Trap::Index,
-        "get of 1",
-    ),
-];
-
-#[test]
-fn stops_at_each_trap(rt: HostRuntime) -> Result<(), Fail> {
-    for &(instructions, trap, row) in &TRAPS {
-        let code = code_of(rt.alloc(), (1, 1, 1, 1), &instructions)?;
-        is_same(&code.sizes().processes(), &1)?;
-        let outcome = outcome_of(rt.alloc(), &code, &[0, 0, 0])?;
-        let events = [event(0, Act::Trap(trap))];
-        let is_so = is_outcome(&outcome, &events, &[Status::Trapped(trap)]);
-        holds(is_so, row)?;
-    }
     Ok(())
 }

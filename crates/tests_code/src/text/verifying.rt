@@ -167,26 +167,6 @@ fn refuses(rt: HostRuntime) -> Result<(), Fail> {
     Ok(())
 }
 
-// Without variables, scans and rows there is not even the first.
-#[test]
-fn refuses_all_slots(rt: HostRuntime) -> Result<(), Fail> {
-    let sizes = sizes_of((1, 0, 0, 0))?;
-    for first in [
-        Load(0),
-        Store(0),
-        Get(0, 0),
-        Put(0),
-        Scan(0),
-        Copy(0, 0),
-        Older(0, 0),
-    ] {
-        let given = vec![in rt.alloc(); first, Halt]?;
-        let fault = verified(rt.alloc(), given, sizes).err();
-        holds(matches!(fault, Some((_, BadSlot(0)))), first)?;
-    }
-    Ok(())
-}
-
 #[test]
 fn accepts(rt: HostRuntime) -> Result<(), Fail> {
     let sizes = sizes_of((6, 64, 16, 8))?;

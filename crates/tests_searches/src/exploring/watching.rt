@@ -1,6 +1,6 @@
 //! How far a search is, as a watch is told it.
 
-use algorithms::examples::{TICKET_COUNT, TWO_TICKETS};
+use crate::examples::{TICKET_COUNT, TWO_TICKETS};
 use std::alloc::Global;
 use std::test::Fail;
 use testing::{accepted, is_same};

@@ -1,11 +1,11 @@
-//! Faults that are found, each by a schedule that needs all its steps, and programs that have none.
+//! Faults that are found, each by a schedule that needs all its steps.
 
+use crate::examples;
 use crate::hunting::programs::{ALONE, SERVICE_WITH_FAULT, SIX};
-use crate::hunting::replay::needs_all;
-use algorithms::{examples, traps};
+use crate::hunting::replay::{needs_all, traps};
 use std::alloc::Global;
 use std::test::Fail;
-use testing::{accepted, holds, is_same};
+use testing::{accepted, holds};
 use tick_hunt::{Hunted, Mode, Plan, hunt};
 
 fn plan(mode: Mode, runs: u32) -> Plan {
@@ -55,22 +55,4 @@ fn faults_by_bursts(rt: HostRuntime) -> Result<(), Fail> {
 #[test]
 fn faults_step_by_step(rt: HostRuntime) -> Result<(), Fail> {
     each_fault(rt.alloc(), Mode::Uniform)
-}
-
-#[test]
-fn right_programs(rt: HostRuntime) -> Result<(), Fail> {
-    for text in [
-        examples::QUEUE_REPAIRED,
-        examples::BAKERY,
-        examples::DECISION_REPAIRED,
-    ] {
-        let program = accepted(rt.alloc(), text)?;
-        for mode in [Mode::Bursts, Mode::Uniform] {
-            is_same(
-                &hunt(rt.alloc(), &program, plan(mode, 200))?,
-                &Hunted::Nothing,
-            )?;
-        }
-    }
-    Ok(())
 }

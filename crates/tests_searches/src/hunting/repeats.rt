@@ -1,7 +1,7 @@
 //! The same plan has the same answer, and another seed or another mode goes other ways.
 
+use crate::examples::QUEUE_WITH_FAULT;
 use crate::hunting::programs::SERVICE_WITH_FAULT;
-use algorithms::examples::QUEUE_WITH_FAULT;
 use std::test::Fail;
 use testing::{accepted, holds, is_same};
 use tick_hunt::{Hunted, Mode, Plan, hunt};

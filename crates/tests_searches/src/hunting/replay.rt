@@ -1,10 +1,30 @@
-//! A schedule without one of its steps.
+//! What a schedule comes to, by the run of the whole program, and a schedule without one of its steps.
+ghost use Rattle.std.specs.Prelude.{◌<◌, length};
+ghost use Rattle.std.specs.List.{All};
+ghost use Rattle.tick_kinds.specs.Resolution.{resolved};
 
-use algorithms::traps;
 use std::alloc::Global;
 use std::test::Fail;
 use testing::holds;
 use tick_kinds::Program;
+use tick_source::{Status, run};
+
+/// Whether a process traps under this schedule. Numbers that no process has are left out.
+pub fn traps(alloc: Global, program: &Program, schedule: &[u8]) -> Result<bool, Fail> {
+    let mut lawful = Vec::new(alloc);
+    for &p in schedule {
+        if p < program.processes() {
+            lawful.push(p)?;
+        }
+    }
+    let outcome = run(alloc, program, &lawful)?;
+    Ok(
+        outcome.statuses.iter().any(|status| match status {
+            Status::Trapped(_) => true,
+            _ => false,
+        }),
+    )
+}
 
 /// Where any one step is left out no process traps.
 pub fn needs_all(alloc: Global, program: &Program, schedule: &[u8]) -> Result<(), Fail> {

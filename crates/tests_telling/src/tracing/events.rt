@@ -1,15 +1,27 @@
 //! The steps against the machines: the same events, for the same processes, in the same order.
 
-use crate::tracing::asking::program_for;
-use crate::tracing::rows::{
+use crate::tracing::programs::{
     ALIKE, CLEARS, CLEARS_SCHEDULE, QUEUE, QUEUE_SCHEDULE, STAMPS, STAMPS_SCHEDULE, TRAPS,
     TRAPS_SCHEDULE,
 };
 use std::alloc::Global;
 use std::test::Fail;
-use testing::is_same;
+use testing::{accepted, is_same};
+use tick_kinds::Program;
 use tick_lower::lower;
 use tick_trace::{code_steps, source_steps};
+
+// The program that a text is, for a schedule that it can have.
+fn program_for(alloc: Global, text: &str, schedule: &[u8]) -> Result<Program, Fail> {
+    let program = accepted(alloc, text)?;
+    let n = program.processes();
+    for p in schedule {
+        if *p >= n {
+            return Err("no such process")?;
+        }
+    }
+    Ok(program)
+}
 
 fn agree(alloc: Global, text: &str, schedule: &[u8]) -> Result<(), Fail> {
     let program = program_for(alloc, text, schedule)?;

@@ -59,48 +59,16 @@ pub fn served<R: AllocGlobal + Threads + Wait>(
     })
 }
 
-/// What the words come to on an input.
-pub fn answered<R: AllocGlobal + Threads + Wait>(
-    rt: &R,
-    words: &[&str],
-    input: &[u8],
-) -> Result<Outcome, Fail> {
-    let reader = Input::new(input, 1000, Disturbance::Never);
-    let writer = Output::new(rt.alloc(), 100, Disturbance::Never);
-    served(rt, words, reader, writer)
-}
-
-/// That the words come to this status on an input, and write this answer.
-pub fn answers<R: AllocGlobal + Threads + Wait>(
-    rt: &R,
-    words: &[&str],
-    input: &[u8],
-    status: u8,
-    answer: &str,
-) -> Result<(), Fail> {
-    let outcome = answered(rt, words, input)?;
-    holds(outcome.is(Ok(status), answer), (words, answer))
-}
-
 /// That the words write this answer on an input. Names the command alone, since the other
-/// texts may be long.
+/// texts are long.
 pub fn says<R: AllocGlobal + Threads + Wait>(
     rt: &R,
     words: &[&str],
     input: &[u8],
     answer: &str,
 ) -> Result<(), Fail> {
-    let outcome = answered(rt, words, input)?;
+    let reader = Input::new(input, 1000, Disturbance::Never);
+    let writer = Output::new(rt.alloc(), 100, Disturbance::Never);
+    let outcome = served(rt, words, reader, writer)?;
     holds(outcome.is(Ok(0), answer), &words[..words.len().min(2)])
-}
-
-/// A command line, its input and its answer.
-pub type Case<'a> = (&'a [&'a str], &'a [u8], &'a str);
-
-/// That each of these command lines writes its answer.
-pub fn each_says<R: AllocGlobal + Threads + Wait>(rt: &R, cases: &[Case<'_>]) -> Result<(), Fail> {
-    for (words, input, answer) in cases {
-        says(rt, words, input, answer)?;
-    }
-    Ok(())
 }

@@ -1,5 +1,5 @@
 //! A writer that takes several bytes at a call or none, and words that are refused before anything is read.
-use crate::commands::answering::served;
+use crate::commands::answering::{USAGE, served};
 use crate::commands::in_memory::{Disturbance, Input, Output};
 use engine::EngineFault;
 use std::test::Fail;
@@ -48,25 +48,28 @@ fn writes(rt: HostRuntime) -> Result<(), Fail> {
 const QUEUE: &[u8] =
     b"processes 2; var x; scan s; begin stamp; s = scan; x = older s 0 1; out x; end";
 
-static REFUSED: [(&[&str], u8); 8] = [
-    (&["ticketc"], 2),
-    (&["ticketc", "order", "7"], 1),
-    (&["ticketc", "order", "+3"], 2),
-    (&["ticketc", "run"], 2),
-    (&["ticketc", "run", "+3"], 2),
-    (&["ticketc", "run", "1000000001"], 2),
-    (&["ticketc", "run", "99999999999999999999"], 2),
-    (&["ticketc", "run", "1", "2"], 2),
+// A command line, the status and what is written. No host gives a line without a word.
+static REFUSED: [(&[&str], u8, &str); 9] = [
+    (&[], 2, USAGE),
+    (&["ticketc"], 2, USAGE),
+    (&["ticketc", "order", "7"], 1, "refused 11 Processes\n"),
+    (&["ticketc", "order", "+3"], 2, USAGE),
+    (&["ticketc", "run"], 2, USAGE),
+    (&["ticketc", "run", "+3"], 2, USAGE),
+    (&["ticketc", "run", "1000000001"], 2, USAGE),
+    (&["ticketc", "run", "99999999999999999999"], 2, USAGE),
+    (&["ticketc", "run", "1", "2"], 2, USAGE),
 ];
 
 // Where the words are refused, no byte is asked for.
 #[test]
 fn refused_words_read_nothing(rt: HostRuntime) -> Result<(), Fail> {
-    for (words, status) in &REFUSED {
+    for (words, status, written) in &REFUSED {
         let reader = Input::new(QUEUE, 1000, Disturbance::Failed(1));
         let writer = Output::new(rt.alloc(), 1000, Disturbance::Never);
         let outcome = served(&rt, words, reader, writer)?;
-        holds(outcome.status == Ok(*status) && outcome.reads == 0, *words)?;
+        let is_so = outcome.is(Ok(*status), written) && outcome.reads == 0;
+        holds(is_so, *words)?;
     }
     Ok(())
 }

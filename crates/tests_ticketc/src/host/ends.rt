@@ -1,5 +1,5 @@
+use byte_io::{HostReader, HostWriter};
 use engine::ended;
-use host_io::{HostReader, HostWriter};
 use std::alloc::{AllocError, Global};
 use std::env::Args;
 use std::io;

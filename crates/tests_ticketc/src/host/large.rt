@@ -1,27 +1,55 @@
-use crate::host::ends::{Given, NEVER, Taken, served};
+use crate::host::ends::{Failing, Given, NEVER, Taken, served};
+use std::alloc::{AllocError, Global};
+use std::io::ErrorKind;
 use std::test::Fail;
 use testing::{holds, repeated};
 
-static STEPS: [usize; 3] = [1_000_000, 16_384, 1000];
+// How many bytes a call moves at most, and how many calls read the input and write the answer so. Room for
+// 16,384 bytes is read into.
+static STEPS: [(usize, usize, usize); 3] = [(1_000_000, 3, 1), (16_384, 3, 18), (1000, 21, 291)];
+
+const ORDER: [&str; 3] = ["ticketc", "order", "1"];
 
 const LAST: &str = "word 281474976710656\nlabels -\nranks 0\n";
 
-// More bytes than are read at a time, and more than are written, whole and in parts.
+// 20,000 bytes: more than are read at a time.
+fn input(alloc: Global) -> Result<String, AllocError> {
+    repeated(alloc, "", "0 ", 10_000, "")
+}
+
+// 290,047 bytes.
+fn answer(alloc: Global) -> Result<String, AllocError> {
+    let stamp = "stamp 0 word 281474976710656\n";
+    repeated(alloc, "layout 3\n", stamp, 10_000, LAST)
+}
+
 #[test]
 fn large(rt: HostRuntime) -> Result<(), Fail> {
-    let input = repeated(rt.alloc(), "", "0 ", 10_000, "")?;
-    let answer = repeated(
-        rt.alloc(),
-        "layout 3\n",
-        "stamp 0 word 281474976710656\n",
-        10_000,
-        LAST,
-    )?;
-    for step in &STEPS {
+    let (input, answer) = (input(rt.alloc())?, answer(rt.alloc())?);
+    for (step, reads, writes) in &STEPS {
         let output = Taken::new(rt.alloc(), *step, NEVER);
         let given = Given::new(input.as_bytes(), *step, NEVER);
-        let ending = served(&rt, &["ticketc", "order", "1"], given, output)?;
-        holds(ending.is(0, answer.as_str()), *step)?;
+        let ending = served(&rt, &ORDER, given, output)?;
+        let is_so = ending.is(0, answer.as_str()) && ending.has_calls(*reads, *writes);
+        holds(is_so, *step)?;
+    }
+    Ok(())
+}
+
+// An interrupted call is made again, once.
+#[test]
+fn each_call_interrupted(rt: HostRuntime) -> Result<(), Fail> {
+    let (input, answer) = (input(rt.alloc())?, answer(rt.alloc())?);
+    for call in 1..19 {
+        let kind = ErrorKind::Interrupted;
+        let output = Taken::new(rt.alloc(), 16_384, Failing { call, kind });
+        let given = Given::new(input.as_bytes(), 16_384, Failing { call, kind });
+        let ending = served(&rt, &ORDER, given, output)?;
+        let reads = if call <= 3 { 4 } else { 3 };
+        holds(
+            ending.is(0, answer.as_str()) && ending.has_calls(reads, 19),
+            call,
+        )?;
     }
     Ok(())
 }

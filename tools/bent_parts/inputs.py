@@ -1,0 +1,67 @@
+"""The inputs that are bent, with the commands that read them."""
+
+# What a command answers to an input that is taken: its plain form, what its plain form is answered with, or that under
+# the plain form of the schedule that its last word is.
+FORM, SAME, PLAYED = "form", "same", "played"
+
+# How an input is read: as a program, as a code or a program, or as stamps and clears of three processes.
+PROGRAM, RUNNABLE, MOVES = "program", "runnable", "moves"
+PROCESSES = 3
+
+# Under one turn each process ends in one way.
+OF_PROGRAMS = (
+    (("check",), FORM),
+    (("emit",), SAME),
+    (("source", b"0*9 1*9"), PLAYED),
+    (("code", b"0*9 1*9"), PLAYED),
+    (("lift", b"0*9 1*9"), PLAYED),
+    (("drop", b"0*9 1*9"), PLAYED),
+    (("run", b"1"), SAME),
+)
+OF_CODES = ((("code", b"0*20 1*20"), PLAYED), (("run", b"1"), SAME))
+CHECK = ((("check",), FORM),)
+ORDER = ((("order", b"%d" % PROCESSES), SAME),)
+
+INPUTS = (
+    (PROGRAM, OF_PROGRAMS, b"processes 2; var x; scan s; begin stamp; s = scan; x = older s 0 1; out x; end"),
+    (PROGRAM, OF_PROGRAMS, b"processes 1; var x; begin while (x < 2) { x = (x + 1); } out x; end"),
+    (
+        PROGRAM,
+        OF_PROGRAMS,
+        b"processes 3; scan s; begin if (me == 0) { stamp; stamp; s = scan; } "
+        b"else { stamp; stamp; stamp; stamp; stamp; } end",
+    ),
+    # each statement, each kind of name in each place, and lines of their own
+    (
+        PROGRAM,
+        OF_PROGRAMS,
+        b"processes 2;\nvar x, nx; # names\nscan s, t;\nreg r;\nbegin\nx = get r me;\nput r (x != 10);\nt = copy s;\n"
+        b"nx = older t x 1;\nclear;\nx = held t 0;\nif (x <= n) { out nx; } else { }\nend\n",
+    ),
+    # the greatest number, the longest name, eight rows of registers, and 64 brackets open
+    (PROGRAM, CHECK, b"processes 6; begin out 4294967295; out 0429496729; end"),
+    (PROGRAM, CHECK, b"processes 1; var " + b"x" * 64 + b"; begin end"),
+    (PROGRAM, CHECK, b"processes 1; reg ab, bc, cd, de, ef, fg, gh, hi; begin end"),
+    (PROGRAM, CHECK, b"processes 1; begin out " + b"(" * 64),
+    (
+        RUNNABLE,
+        OF_CODES,
+        b"tickcode 1 2 1 1 0\nLoadWord\nNext\nExchange 0\nScan 0\nPush 0\nPush 1\nOlder 0 0\nLoad 0\nOut\nHalt\n",
+    ),
+    # each kind of instruction, jumps on and back over values on the stack, and a stamp that is jumped to
+    (
+        RUNNABLE,
+        OF_CODES,
+        b"tickcode 2 1 2 2 2\nMe\nCount\nBin <=\nJumpZero 6\nPush 10\nPut 1\nLoadWord\nNext\nExchange 6\nScan 1\n"
+        b"Copy 1 0\nClear\nMe\nHeld 1 1\nMe\nMe\nOlder 1 1\nLoad 1\nStore 0\nMe\nGet 1 0\nPush 0\nPush 0\nJumpZero 27\n"
+        b"Out\nPush 1\nJump 22\nOut\nHalt\n",
+    ),
+    # a code is no program
+    (PROGRAM, CHECK, b"tickcode 2 1 0 0 0\nHalt\n"),
+    (MOVES, ORDER, b" 0 1*2\r\nc1 02\t0*012 c02*3 "),
+)
+
+# What a schedule is a word for, and schedules of two processes. The longest has ten million steps.
+TWO = b"processes 2; begin out 7; end"
+PLAYERS = ("source", "code", "lift", "drop")
+SCHEDULES = (b" 0 1*3\r\n00*02\t1 ", b"1*999999 0*9 1")

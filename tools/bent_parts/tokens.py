@@ -1,0 +1,54 @@
+"""The tokens of a program, each the longest that begins where it does (docs/LANGUAGE.md)."""
+import re
+
+from .refusal import Refusal
+
+KEYWORDS = set("processes var scan reg begin end get put stamp clear copy older held out if else while me n".split())
+# No two kinds of words begin with the same character, so the longest of one kind is the longest of all.
+WORDS = r"(?P<gap>[ \t\r\n]+|#[^\n]*)|(?P<NUMBER>[0-9]+)|(?P<NAME>[A-Za-z_][A-Za-z_0-9]*)|<=|==|!=|[;,(){}=+*/%<-]"
+WORD = re.compile(WORDS)
+GREATEST, LONGEST_NAME, LONGEST_TEXT = 4294967295, 64, 1000000
+
+
+class Token:
+    """A word of a text, the bytes where that starts and ends, and what the grammar has it stand for."""
+
+    def __init__(self, found):
+        self.word, self.start, self.end = found[0], found.start(), found.end()
+        self.symbol = self.word if self.word in KEYWORDS else found.lastgroup or self.word
+
+    def refused(self, name, *fields):
+        return Refusal(name, self.start, self.end, *fields)
+
+
+def text_of(given):
+    """The characters of an input, one for each byte: whatever isn't plain may stand in comments alone."""
+    if len(given) > LONGEST_TEXT:
+        raise Refusal("1 TextTooLong")
+    try:
+        given.decode()
+    except UnicodeDecodeError as bad:
+        raise Refusal("2 BadCharacter", bad.start) from None
+    return given.decode("latin-1")
+
+
+def tokens_of(text):
+    """The tokens of a text, in order."""
+    tokens, place = [], 0
+    while place < len(text):
+        found = WORD.match(text, place)
+        if not found:
+            raise Refusal("2 BadCharacter", place)
+        if found.lastgroup != "gap":
+            tokens.append(within(Token(found)))
+        place = found.end()
+    return tokens
+
+
+def within(token):
+    """A token, where it is within the limits."""
+    if token.symbol == "NUMBER" and int(token.word) > GREATEST:
+        raise token.refused("3 NumberTooBig")
+    if token.symbol == "NAME" and len(token.word) > LONGEST_NAME:
+        raise token.refused("4 NameTooLong")
+    return token

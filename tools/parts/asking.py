@@ -1,0 +1,53 @@
+"""Runs the programs, one after the other, over files in memory; many at once by several of these."""
+import os
+import signal
+
+TOP = os.path.dirname(os.path.dirname(os.path.dirname(os.path.abspath(__file__))))
+NAMES = ("ticketc", "ticklab")
+
+
+def program(name):
+    """The program that was built here, else the one that lies ready in dist/."""
+    built = f"{TOP}/crates/{name}/out/{name}"
+    return built if os.access(built, os.X_OK) else f"{TOP}/dist/x86_64-linux/{name}"
+
+
+class TookTooLong(Exception):
+    """The program did not end in its time."""
+
+
+class Asker:
+    """Asks a program; its input and both outputs are files in memory, which serve one call after the other."""
+
+    def __init__(self, patience=60):
+        self.patience = patience
+        self.files = [os.memfd_create(name) for name in ("input", "output", "told")]
+        self.actions = [(os.POSIX_SPAWN_DUP2, file, number) for number, file in enumerate(self.files)]
+        signal.signal(signal.SIGALRM, self.stop)
+
+    @staticmethod
+    def stop(_number, _frame):
+        raise TookTooLong
+
+    def answer(self, path, words, given):
+        """The status, the output, and what is told on standard error."""
+        for file in self.files:
+            os.ftruncate(file, 0)
+            os.lseek(file, 0, os.SEEK_SET)
+        # (a write to a file in memory takes all)
+        os.pwrite(self.files[0], given, 0)
+        running = os.posix_spawn(path, words, {}, file_actions=self.actions)
+        signal.setitimer(signal.ITIMER_REAL, self.patience)
+        try:
+            status = os.waitpid(running, 0)[1]
+        except TookTooLong:
+            os.kill(running, signal.SIGKILL)
+            os.waitpid(running, 0)
+            raise
+        finally:
+            signal.setitimer(signal.ITIMER_REAL, 0)
+        return os.waitstatus_to_exitcode(status), *(self.read(file) for file in self.files[1:])
+
+    @staticmethod
+    def read(file):
+        return os.pread(file, os.fstat(file).st_size, 0)
