@@ -5,6 +5,7 @@ A record that is not whole, that is another user's, or that names another sum co
 import hashlib
 import json
 import os
+import re
 import stat
 import tempfile
 
@@ -18,6 +19,21 @@ def sum_of(*parts):
 def sum_of_file(path):
     with open(path, "rb") as file:
         return hashlib.sha256(file.read()).hexdigest()
+
+
+IMPORTED = re.compile(r"^from parts(?: import ([\w, ]+)|\.(\w+) import)", re.MULTILINE)
+
+
+def files_of_tool(path):
+    """The file of a tool, with the parts that it imports and those that these import."""
+    parts, found, left = os.path.dirname(os.path.abspath(__file__)), [], [path]
+    while left:
+        found.append(left.pop())
+        with open(found[-1], encoding="utf-8") as text:
+            named = IMPORTED.findall(text.read())
+        files = {f"{parts}/{name}.py" for one, other in named for name in re.split(r", *", one or other)}
+        left += sorted(files.difference(found, left))
+    return sorted(found)
 
 
 class Sums:
