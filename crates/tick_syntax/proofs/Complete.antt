@@ -42,7 +42,7 @@ use Rattle.tick_syntax.specs.Grammar.{expression_tokens, in_braces, statement_to
 use Rattle.tick_syntax.specs.Nesting.{expression_nesting, statement_nesting, block_nesting, nesting}
 use Rattle.machine_core.specs.Refusing.{◌>>=◌}
 use Rattle.tick_syntax.specs.prover.ValuedTokens.{plain}
-use Rattle.tick_syntax.specs.prover.Reading.{Reading, next_at, terminal_by, terminal_at, number_at, brace_at, operator_at, name_at, pair_at, brackets_at, expression_at, last_at, ended_at, named_last_at, copy_at, older_at, plain_at, right_at, assignment_at, out_at, branch_at, repeat_at, statement_with, statement_at, block_by, ends, statements_with, block_at, statements_at, names_at, begins, section_by, section_at, body_at, whole_at, program_at}
+use Rattle.tick_syntax.specs.prover.Reading.{Reading, next_at, terminal_by, terminal_at, number_at, brace_at, operator_at, name_at, pair_at, brackets_at, expression_at, last_at, ended_at, named_last_at, copy_at, older_at, plain_at, right_at, assignment_at, out_at, branch_at, repeat_at, statement_with, statement_at, block_by, ends, statements_with, block_at, statements_at, names_at, begins, section_by, section_at, body_at, sections_at, headed_at, whole_at, program_at}
 use Rattle.tick_syntax.proofs.Symbols.{said_by, said, says}
 use Rattle.tick_syntax.proofs.Loops.{statement_shorter, branch_gives, repeat_gives}
 use Rattle.tick_syntax.proofs.Sound.{pair_regroups}
@@ -534,7 +534,7 @@ module _ (end : ℕ) where
       → section_at end C.Variables i3 ≡ Ok (p.variables, i4) → section_at end C.Scans i4 ≡ Ok (p.scans, i5)
       → section_at end C.Registers i5 ≡ Ok (p.registers, i6) → body_at end room i6 ≡ Ok (p.body, i7)
       → whole_at end room is ≡ Ok (p, i7)
-  unfolding whole_at
+  unfolding whole_at headed_at sections_at
   whole_gives room is i1 i2 i3 i4 i5 i6 i7 p a b c d e f g = rw (a, b, c, d, e, f, g) refl
 
   finishes : (room : ℕ) (is r : List ValuedToken) (p : WholeProgram Name) → whole_at end room is ≡ Ok (p, r)

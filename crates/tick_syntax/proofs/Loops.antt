@@ -12,7 +12,7 @@ use Rattle.tick_syntax.specs.declared.terminals.Terminal.TheVariants as T
 use Rattle.tick_tree.specs.declared.tree.Stmt.{Stmt}
 use Rattle.tick_tree.specs.Plain.{Name, Expression, Statement, branch, repeat, Block, nil, cons, onto}
 use Rattle.tick_tree.specs.View.{statement_of, block_of}
-use Rattle.tick_syntax.specs.prover.Reading.{Reading, Fails, is_memory, next_at, name_at, name_by, names_at, names_by, block_by, ends, statements_with, statements_at, statement_at, expression_at, terminal_at, branch_at, repeat_at}
+use Rattle.tick_syntax.specs.prover.Reading.{Reading, Fails, is_memory, next_at, name_at, name_by, names_at, names_by, block_by, ends, statements_with, statements_at, statement_by, statement_with, statement_at, block_at, expression_at, terminal_at, branch_at, repeat_at}
 use Rattle.machine_core.specs.Refusing.{◌>>=◌}
 use Rattle.machine_core.proofs.Offered.{fails_on, fails_with}
 use Rattle.tick_syntax.proofs.Sound.{name_reads}
@@ -30,6 +30,14 @@ module _ (end : ℕ) where
   unfolding terminal_at next_at
   terminal_none terminal [] h = refl
   terminal_none terminal (i ∷ is) h = absurd (cc)
+
+  -- a statement goes on as its first token says
+  pub statement_by_first :
+      (room : ℕ) (is rest : List ValuedToken) (token : ValuedToken) (m : Meaning)
+      → next_at end is ≡ Ok (token, rest) → token.meaning ≡ m
+      → statement_at end room is ≡ statement_by end m token.span (block_at end room) room rest
+  unfolding statement_at statement_with
+  statement_by_first room is rest token m h k = rw (h, k) refl
 
   names_front : (m : Meaning) (span : Span) (rest : List ValuedToken)
       → names_at end (record { meaning = m; span = span } ∷ rest)

@@ -16,7 +16,7 @@ use Rattle.tick_tree.specs.Plain.{Name, Block, WholeProgram}
 use Rattle.tick_syntax.specs.Grammar.{block_tokens, names_tokens, section_tokens, program_tokens, second_span}
 use Rattle.tick_syntax.specs.Nesting.{block_nesting, nesting}
 use Rattle.machine_core.specs.Refusing.{◌>>=◌}
-use Rattle.tick_syntax.specs.prover.Reading.{Reading, next_at, terminal_at, terminal_by, number_at, number_by, name_by, names_by, names_at, begins, section_by, section_at, statements_at, body_at, whole_at, program_at, nothing_after}
+use Rattle.tick_syntax.specs.prover.Reading.{Reading, next_at, terminal_at, terminal_by, number_at, number_by, name_by, names_by, names_at, begins, section_by, section_at, statements_at, body_at, sections_at, headed_at, whole_at, program_at, nothing_after}
 use Rattle.std.proofs.lemmas.List.{append-nil}
 use Rattle.tick_syntax.specs.prover.ValuedTokens.{plain}
 use Rattle.tick_syntax.proofs.Symbols.{said_by, said, says, Symbol, s_program, s_number, s_semicolon, s_variables, s_scans, s_registers, s_begin, s_names, s_more, s_until, fault}
@@ -183,7 +183,7 @@ module _ (end limit : ℕ) where
   processes_front room m span rest = refuse end limit _ _ room m span rest refl
 
   pub whole_reads : (room : ℕ) (is : List ValuedToken) → Reads end limit (s_program ∷ []) (IsProgram room is) room is (whole_at end room is)
-  unfolding whole_at terminal_at
+  unfolding whole_at headed_at sections_at terminal_at
   whole_reads room is = by_next_then end limit s_program (IsProgram room) room (terminal_by T.Processes) (after_processes room) (processes_front room) is
 
 -- what the reader answers, for whatever limit on the brackets

@@ -1,8 +1,8 @@
 // From the tokens of a text to its tree: a descent by the grammar, one method for each of its rules.
 ghost use Rattle.std.specs.Prelude.{◌≡◌, ◌≢◌, ◌<◌, ◌≤◌, ◌⊎◌, ℕ, List, [], length, drop, map, IfOk, IfErr, IsOkUnless, MatchResult};
-ghost use Rattle.tick_syntax.specs.prover.Reading.{Gives, GivesAlways, GivesWhole, IsOkUnlessMemory, next_at, terminal_at, brace_at, operator_at, name_at, number_at, pair_at, brackets_at, expression_at, last_at, ended_at, named_last_at, copy_at, older_at, plain_at, right_at, assignment_at, out_at, branch_at, repeat_at, block_at, statement_at, statements_at, names_at, section_at, body_at, whole_at, program_at};
+ghost use Rattle.tick_syntax.specs.prover.Reading.{Gives, GivesAlways, GivesWhole, IsOkUnlessMemory, next_at, terminal_at, brace_at, operator_at, name_at, number_at, pair_at, brackets_at, expression_at, last_at, ended_at, named_last_at, copy_at, older_at, plain_at, right_at, assignment_at, out_at, branch_at, repeat_at, block_at, statement_at, statements_at, names_at, section_at, body_at, sections_at, headed_at, whole_at, program_at};
 ghost use Rattle.tick_syntax.specs.Nesting.{nesting};
-ghost use Rattle.tick_tree.specs.Plain.{Name, WholeProgram, get, put, held};
+ghost use Rattle.tick_tree.specs.Plain.{Name, WholeProgram, get, put, stamp, clear, scan, held};
 ghost use Rattle.tick_syntax.specs.declared.fault.TextFault.TheVariants.{NoMemory, TextTooLong, Unexpected, TooDeep};
 ghost use Rattle.tick_syntax.specs.Refusal.{IsTextRefused};
 ghost use Rattle.tick_syntax.specs.declared.fault.TextFault.{TextFault};
@@ -141,18 +141,25 @@ impl Parser<'_> {
         }
     }
 
+    // An expression as a part of another one.
+    #[cycle(expression)]
+    fn boxed(&self, room: usize, at: usize) -> Read<Box<Expr>>
+        ensures { Gives (λ b. expression_of b.value) self.now.tokens.now result (expression_at self.now.end room (drop at self.now.tokens.now)) }
+    {
+        let (value, at) = self.expression(room, at)?;
+        Ok((Box::new(self.alloc, value)?, at))
+    }
+
     // Two expressions about an operator, and the bracket that closes them.
     #[cycle(expression)]
     #[tactic(auto, unfolding(crate::specs::prover::Reading::pair_at))]
     fn pair(&self, room: usize, at: usize) -> Read<Expr>
         ensures { Gives expression_of self.now.tokens.now result (pair_at self.now.end (expression_at self.now.end room) (drop at self.now.tokens.now)) }
     {
-        let (left, at) = self.expression(room, at)?;
+        let (left, at) = self.boxed(room, at)?;
         let (op, at) = self.operator(at)?;
-        let (right, at) = self.expression(room, at)?;
+        let (right, at) = self.boxed(room, at)?;
         let (_, at) = self.terminal(Terminal::Close, at)?;
-        let left = Box::new(self.alloc, left)?;
-        let right = Box::new(self.alloc, right)?;
         Ok((Expr::Bin(left, op, right), at))
     }
 
@@ -194,13 +201,29 @@ impl Parser<'_> {
         Ok((value, at))
     }
 
-    // The `;` after a statement of which all else was read.
+    // The `;` after a statement of which all else was read, here and in the next two.
     #[tactic(auto, unfolding(crate::specs::prover::Reading::ended_at))]
-    fn ended(&self, statement: Stmt, at: usize) -> Read<Stmt>
-        ensures { Gives statement_of self.now.tokens.now result (ended_at self.now.end (statement_of statement) (drop at self.now.tokens.now)) }
+    fn stamp(&self, at: usize) -> Read<Stmt>
+        ensures { Gives statement_of self.now.tokens.now result (ended_at self.now.end stamp (drop at self.now.tokens.now)) }
     {
         let (_, at) = self.terminal(Terminal::Semicolon, at)?;
-        Ok((statement, at))
+        Ok((Stmt::Stamp, at))
+    }
+
+    #[tactic(auto, unfolding(crate::specs::prover::Reading::ended_at))]
+    fn clear(&self, at: usize) -> Read<Stmt>
+        ensures { Gives statement_of self.now.tokens.now result (ended_at self.now.end clear (drop at self.now.tokens.now)) }
+    {
+        let (_, at) = self.terminal(Terminal::Semicolon, at)?;
+        Ok((Stmt::Clear, at))
+    }
+
+    #[tactic(auto, unfolding(crate::specs::prover::Reading::ended_at))]
+    fn scan(&self, target: Named, at: usize) -> Read<Stmt>
+        ensures { Gives statement_of self.now.tokens.now result (ended_at self.now.end (scan (name_of target)) (drop at self.now.tokens.now)) }
+    {
+        let (_, at) = self.terminal(Terminal::Semicolon, at)?;
+        Ok((Stmt::Scan(target), at))
     }
 
     #[tactic(auto, unfolding(crate::specs::prover::Reading::named_last_at))]
@@ -257,7 +280,7 @@ impl Parser<'_> {
         match token.meaning {
             Meaning::Terminal(Terminal::Get) => self.get(room, target, after),
             Meaning::Terminal(Terminal::Held) => self.held(room, target, after),
-            Meaning::Terminal(Terminal::Scan) => self.ended(Stmt::Scan(target), after),
+            Meaning::Terminal(Terminal::Scan) => self.scan(target, after),
             Meaning::Terminal(Terminal::Copy) => self.copy(target, after),
             Meaning::Terminal(Terminal::Older) => self.older(room, target, after),
             _ => self.plain(room, target, at),
@@ -323,8 +346,8 @@ impl Parser<'_> {
         match token.meaning {
             Meaning::Name(letters) => self.assignment(room, self.named(letters, token.span)?, at),
             Meaning::Terminal(Terminal::Put) => self.put(room, at),
-            Meaning::Terminal(Terminal::Stamp) => self.ended(Stmt::Stamp, at),
-            Meaning::Terminal(Terminal::Clear) => self.ended(Stmt::Clear, at),
+            Meaning::Terminal(Terminal::Stamp) => self.stamp(at),
+            Meaning::Terminal(Terminal::Clear) => self.clear(at),
             Meaning::Terminal(Terminal::Out) => self.out(room, at),
             Meaning::Terminal(Terminal::If) => self.branch(room, at),
             Meaning::Terminal(Terminal::While) => self.repeat(room, at),
@@ -402,27 +425,43 @@ impl Parser<'_> {
         self.statements(room, Ending::Program, at)
     }
 
-    #[tactic(auto, using(crate::proofs::Loops::terminal_none), unfolding(crate::specs::prover::Reading::whole_at))]
-    fn whole(&self, room: usize, at: usize) -> Read<Tree>
-        ensures read { Gives tree_of self.now.tokens.now result (whole_at self.now.end room (drop at self.now.tokens.now)) }
-        ensures none { drop at self.now.tokens.now ≡ [] → result ≡ Err (Unexpected (record { start = self.now.end; end = self.now.end })) }
+    // The sections and the body.
+    #[tactic(auto, unfolding(crate::specs::prover::Reading::sections_at))]
+    fn sections(&self, room: usize, processes: (u32, Span), at: usize) -> Read<Tree>
+        ensures { Gives tree_of self.now.tokens.now result (sections_at self.now.end room (processes.0, processes.1) (drop at self.now.tokens.now)) }
     {
-        let (_, at) = self.terminal(Terminal::Processes, at)?;
-        let ((processes, processes_span), at) = self.number(at)?;
-        let (_, at) = self.terminal(Terminal::Semicolon, at)?;
         let (variables, at) = self.section(Section::Variables, at)?;
         let (scans, at) = self.section(Section::Scans, at)?;
         let (registers, at) = self.section(Section::Registers, at)?;
         let (body, at) = self.body(room, at)?;
         let tree = Tree {
-            processes,
-            processes_span,
+            processes: processes.0,
+            processes_span: processes.1,
             variables,
             scans,
             registers,
             body,
         };
         Ok((tree, at))
+    }
+
+    // What stands after `processes`.
+    #[tactic(auto, unfolding(crate::specs::prover::Reading::headed_at))]
+    fn headed(&self, room: usize, at: usize) -> Read<Tree>
+        ensures { Gives tree_of self.now.tokens.now result (headed_at self.now.end room (drop at self.now.tokens.now)) }
+    {
+        let (processes, at) = self.number(at)?;
+        let (_, at) = self.terminal(Terminal::Semicolon, at)?;
+        self.sections(room, processes, at)
+    }
+
+    #[tactic(auto, using(crate::proofs::Loops::terminal_none), unfolding(crate::specs::prover::Reading::whole_at))]
+    fn whole(&self, room: usize, at: usize) -> Read<Tree>
+        ensures read { Gives tree_of self.now.tokens.now result (whole_at self.now.end room (drop at self.now.tokens.now)) }
+        ensures none { drop at self.now.tokens.now ≡ [] → result ≡ Err (Unexpected (record { start = self.now.end; end = self.now.end })) }
+    {
+        let (_, at) = self.terminal(Terminal::Processes, at)?;
+        self.headed(room, at)
     }
 
     /// Reads a program of all the tokens.

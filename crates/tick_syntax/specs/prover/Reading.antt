@@ -277,20 +277,17 @@ module _ (end : ℕ) where
   unfoldable pub body_at : ℕ → List ValuedToken → Reading (Block Name)
   body_at room is = terminal_at T.Begin is >>= λ b. statements_at room N.Program b.1
 
-  -- a program, where so many brackets may be open at once
-  unfoldable pub whole_at : ℕ → List ValuedToken → Reading (WholeProgram Name)
-  whole_at room is = do
-    p ← terminal_at T.Processes is
-    n ← number_at p.1
-    s ← terminal_at T.Semicolon n.1
-    variables ← section_at C.Variables s.1
+  -- the sections and the body of a program, whose number of processes stands at a place
+  unfoldable pub sections_at : ℕ → ℕ × Span → List ValuedToken → Reading (WholeProgram Name)
+  sections_at room processes is = do
+    variables ← section_at C.Variables is
     scans ← section_at C.Scans variables.1
     registers ← section_at C.Registers scans.1
     body ← body_at room registers.1
     Ok (
       record {
-        processes = n.0.0;
-        span = n.0.1;
+        processes = processes.0;
+        span = processes.1;
         variables = variables.0;
         scans = scans.0;
         registers = registers.0;
@@ -298,6 +295,17 @@ module _ (end : ℕ) where
       },
       body.1,
     )
+
+  -- a program after its first word
+  unfoldable pub headed_at : ℕ → List ValuedToken → Reading (WholeProgram Name)
+  headed_at room is = do
+    n ← number_at is
+    s ← terminal_at T.Semicolon n.1
+    sections_at room n.0 s.1
+
+  -- a program, where so many brackets may be open at once
+  unfoldable pub whole_at : ℕ → List ValuedToken → Reading (WholeProgram Name)
+  whole_at room is = terminal_at T.Processes is >>= λ p. headed_at room p.1
 
   -- a program and nothing after it
   unfoldable pub program_at : ℕ → List ValuedToken → Result (WholeProgram Name) TextFault

@@ -1,11 +1,51 @@
-use Rattle.std.proofs.Common.{◌≡◌, ◌∙◌, ◌+◌, Ok, ap, sym, drop, subst}
+use Rattle.std.proofs.Common.{◌≡◌, ◌∙◌, ◌+◌, Ok, ap, sym, drop, subst, refl}
 use Rattle.std.proofs.lemmas.Result.{err_from_is_err_and}
 use Rattle.tick_kinds.proofs.Steps.{first_fails, second_fails, body_fails, branch_checked, repeat_checked, goes_on, ends, next_item, no_item, checked_after}
-use Rattle.tick_kinds.specs.prover.Checked.{Fails, checked_block}
+use Rattle.tick_kinds.specs.prover.Checked.{Fails, checked_block, checked_statement}
 use Rattle.tick_kinds.specs.Resolved.{resolved_block}
 use Rattle.tick_kinds.specs.prover.Table.{slot_at}
 use Rattle.tick_tree.specs.View.{block_of}
 use Rattle.tick_kinds.proofs.names.Names.+statement.Goals as goal
+
+pub statement-returns-in-Assign : goal.statement-returns-in-Assign
+unfolding checked_statement
+statement-returns-in-Assign t c = rw c.in-Assign.is c.assign.ensures
+
+pub statement-returns-in-Get : goal.statement-returns-in-Get
+unfolding checked_statement
+statement-returns-in-Get t c = rw c.in-Get.is c.get.ensures
+
+pub statement-returns-in-Put : goal.statement-returns-in-Put
+unfolding checked_statement
+statement-returns-in-Put t c = rw c.in-Put.is c.put.ensures
+
+pub statement-returns-in-Stamp : goal.statement-returns-in-Stamp
+unfolding checked_statement
+statement-returns-in-Stamp t c = rw c.in-Stamp.is refl
+
+pub statement-returns-in-Clear : goal.statement-returns-in-Clear
+unfolding checked_statement
+statement-returns-in-Clear t c = rw c.in-Clear.is refl
+
+pub statement-returns-in_ok-number-in-Scan : goal.statement-returns-in_ok-number-in-Scan
+unfolding checked_statement
+statement-returns-in_ok-number-in-Scan t c = rw (c.in-Scan.is, c.in_ok-number-in-Scan.ensures) refl
+
+pub statement-returns-in-Copy : goal.statement-returns-in-Copy
+unfolding checked_statement
+statement-returns-in-Copy t c = rw c.in-Copy.is c.copy.ensures
+
+pub statement-returns-in-Older : goal.statement-returns-in-Older
+unfolding checked_statement
+statement-returns-in-Older t c = rw c.in-Older.is c.older.ensures
+
+pub statement-returns-in-Held : goal.statement-returns-in-Held
+unfolding checked_statement
+statement-returns-in-Held t c = rw c.in-Held.is c.held.ensures
+
+pub statement-returns-in_ok-expression-in-Out : goal.statement-returns-in_ok-expression-in-Out
+unfolding checked_statement
+statement-returns-in_ok-expression-in-Out t c = rw (c.in-Out.is, c.in_ok-expression-in-Out.ensures) refl
 
 pub statement-returns-in_err-first-in-If : goal.statement-returns-in_err-first-in-If
 statement-returns-in_err-first-in-If t c =
