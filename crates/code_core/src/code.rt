@@ -1,6 +1,6 @@
-ghost use Rattle.std.specs.Prelude.{◌≡◌, ◌≢◌, ◌≤◌, ◌<◌, length, slice_get, IfOk, OnOk, IfErr};
-ghost use Rattle.code_core.specs.Heights.{greatest_height};
-ghost use Rattle.code_core.specs.Verified.{code_fault, IsVerified};
+ghost use Rattle.std.specs.Prelude.{◌≡◌, ◌≢◌, ◌≤◌, ◌<◌, [], length, slice_get, IfOk, OnOk, IfErr};
+ghost use Rattle.code_core.specs.Heights.{greatest_height, placed};
+ghost use Rattle.code_core.specs.Verified.{code_fault, first_fault, IsVerified};
 ghost use Rattle.code_core.specs.Words.{words_of, constants_of, decoded_all};
 
 use crate::fault::CodeFault;
@@ -87,6 +87,16 @@ fn verified_height(alloc: Global, sizes: Sizes, code: &[Instr]) -> Result<u16, C
     if code.len() > 65535 {
         return Err(CodeFault::TooLong);
     }
+    passed_height(alloc, sizes, code)
+}
+
+// The same of a code that is neither empty nor too long.
+fn passed_height(alloc: Global, sizes: Sizes, code: &[Instr]) -> Result<u16, CodeFault>
+    requires few { length code.now ≤ 65535 }
+    ensures verified { OnOk result (first_fault sizes code.now [] (placed code.now) ≡ None) }
+    ensures height { IfOk result (λ height. height ≡ greatest_height code.now) }
+    ensures refused { IfErr result (λ fault. fault ≢ CodeFault.NoMemory → first_fault sizes code.now [] (placed code.now) ≡ Some fault) }
+{
     let mut pass = Verifier::new(alloc, sizes, code)?;
     for place in 0..code.len() as u16 {
         pass.step(sizes, code, place)?;

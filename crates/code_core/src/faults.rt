@@ -6,23 +6,57 @@ use crate::heights::{fits, goes_on, left, pops, target};
 use crate::instr::Instr;
 use crate::sizes::Sizes;
 
+fn is_load(instruction: Instr) -> bool
+    ensures { result ≡ is_load (Some instruction) }
+{
+    matches!(instruction, Instr::LoadWord)
+}
+
+fn is_next(instruction: Instr) -> bool
+    ensures { result ≡ is_next (Some instruction) }
+{
+    matches!(instruction, Instr::Next)
+}
+
+fn is_exchange(instruction: Instr) -> bool
+    ensures { result ≡ is_exchange (Some instruction) }
+{
+    matches!(instruction, Instr::Exchange(_))
+}
+
 fn is_next_at(code: &[Instr], place: usize) -> bool
     ensures { result ≡ is_next (slice_get code.now place) }
 {
-    matches!(code.get(place), Some(Instr::Next))
+    match code.get(place) {
+        Some(instruction) => is_next(*instruction),
+        None => false,
+    }
 }
 
 fn is_exchange_at(code: &[Instr], place: usize) -> bool
     ensures { result ≡ is_exchange (slice_get code.now place) }
 {
-    matches!(code.get(place), Some(Instr::Exchange(_)))
+    match code.get(place) {
+        Some(instruction) => is_exchange(*instruction),
+        None => false,
+    }
+}
+
+// The instruction before a place of the code.
+fn before(code: &[Instr], place: usize) -> Option<Instr>
+    ensures { result ≡ before code.now place }
+{
+    match place.checked_sub(1) {
+        Some(at) => code.get(at).copied(),
+        None => None,
+    }
 }
 
 fn is_load_before(code: &[Instr], place: usize) -> bool
     ensures { result ≡ is_load (before code.now place) }
 {
-    match place.checked_sub(1) {
-        Some(at) => matches!(code.get(at), Some(Instr::LoadWord)),
+    match before(code, place) {
+        Some(instruction) => is_load(instruction),
         None => false,
     }
 }
@@ -30,8 +64,8 @@ fn is_load_before(code: &[Instr], place: usize) -> bool
 fn is_next_before(code: &[Instr], place: usize) -> bool
     ensures { result ≡ is_next (before code.now place) }
 {
-    match place.checked_sub(1) {
-        Some(at) => is_next_at(code, at),
+    match before(code, place) {
+        Some(instruction) => is_next(instruction),
         None => false,
     }
 }

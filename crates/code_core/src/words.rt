@@ -13,8 +13,8 @@ pub struct Words {
     pub constants: Vec<u32>,
 }
 
-// The place of the instruction's name in the list of all.
-fn kind(instruction: Instr) -> u32
+/// The place of the instruction's name in the list of all.
+pub fn kind(instruction: Instr) -> u32
     ensures exact { result ≡ kind instruction }
     ensures known { result ≤ 19 }
 {

@@ -6,4 +6,5 @@ mod Safe
 mod Runs
 mod Found
 mod Kept
+mod Served
 mod Steps

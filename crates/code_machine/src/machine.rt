@@ -1,10 +1,10 @@
-ghost use Rattle.std.specs.Prelude.{◌≡◌, false, ℕ, ◌<◌, List, length, slice_get, OnOk, OnErr, IfOk, IfSome, IsOk, IsTrue, Some, is_some, option_map, option_and_then, All};
+ghost use Rattle.std.specs.Prelude.{◌≡◌, false, ℕ, ◌<◌, ◌≤◌, List, length, map, slice_get, OnOk, OnErr, IfOk, IfSome, IsOk, IsTrue, Some, is_some, option_map, option_and_then, All};
 ghost use Rattle.machine_core.specs.Rows.{register_at};
 ghost use Rattle.machine_core.specs.Observables.{observed};
 ghost use Rattle.code_machine.specs.Machine.{code_start, code_step, running_as, next_instruction, next_act, run_of, statuses_of, places_of, observables, made, labels_left, rows_left};
 ghost use Rattle.code_machine.specs.Safety.{AreOrdered};
 ghost use Rattle.code_machine.specs.Process.{IsOf, event_of, next_of};
-ghost use Rattle.code_machine.specs.prover.Parts.{moved_as, Makes, Keeps};
+ghost use Rattle.code_machine.specs.prover.Parts.{moved_as, Makes, Keeps, AreNew};
 
 use crate::ask::Advance;
 use crate::memory::CodeMemory;
@@ -53,12 +53,7 @@ impl<'a> CodeMachine<'a> {
     {
         let sizes = code.sizes();
         let shared = CodeMemory::new(alloc, sizes)?;
-        let n = sizes.processes();
-        let mut processes = Vec::with_capacity(alloc, usize::from(n))?;
-        for p in 0..n {
-            let process = Proc::at_start(alloc, code, p)?;
-            processes.push(process)?;
-        }
+        let processes = processes_of(alloc, code, sizes.processes())?;
         let events = Vec::with_capacity(alloc, 1)?;
         Ok(CodeMachine {
             code,
@@ -148,16 +143,37 @@ impl<'a> CodeMachine<'a> {
     fn into_outcome(self, alloc: Global) -> Result<Outcome, NoMemory>
         ensures { IfOk result (λ outcome. observed outcome ≡ observables self.entry.state) }
     {
-        let mut statuses = Vec::with_capacity(alloc, self.processes.len())?;
-        for process in &self.processes {
-            statuses.push(process.status())?;
-        }
+        let statuses = statuses_in(alloc, &self.processes)?;
         Ok(Outcome {
             events: self.events,
             registers: self.shared.registers.into_rows(),
             statuses,
         })
     }
+}
+
+// The first `n` processes of the code before their first step.
+fn processes_of(alloc: Global, code: &Code, n: u8) -> Result<Vec<Proc>, NoMemory>
+    requires { n ≤ code.now.sizes.processes }
+    ensures { IfOk result (λ processes. AreNew code.now n processes.items) }
+{
+    let mut processes = Vec::with_capacity(alloc, usize::from(n))?;
+    for p in 0..n {
+        let process = Proc::at_start(alloc, code, p)?;
+        processes.push(process)?;
+    }
+    Ok(processes)
+}
+
+// Whether each of the processes goes on.
+fn statuses_in(alloc: Global, processes: &[Proc]) -> Result<Vec<Status>, NoMemory>
+    ensures { IfOk result (λ statuses. statuses.items ≡ map (λ one. one.process.status) processes.now) }
+{
+    let mut statuses = Vec::with_capacity(alloc, processes.len())?;
+    for process in processes {
+        statuses.push(process.status())?;
+    }
+    Ok(statuses)
 }
 
 /// Runs the code: the processes step in the order of the schedule. Each number in the schedule is

@@ -1,13 +1,15 @@
 -- One line more.
-use Rattle.std.proofs.Common.{◌≡◌, ℕ, zero, suc, false, ◌+◌, ◌<◌, List, [], ◌∷◌, ◌++◌, length, take, refl, ap, ◌∙◌, sym, arith, append_assoc, length-append, subst, Option, Some, None}
+use Rattle.std.proofs.Common.{codes, Result, Ok, Err, MatchOption, OnOk, is_ok, if◌then◌else◌, ◌≡◌, ℕ, zero, suc, false, ◌+◌, ◌<◌, List, [], ◌∷◌, ◌++◌, length, take, refl, ap, ◌∙◌, sym, arith, append_assoc, length-append, subst, Option, Some, None}
 use Rattle.std.specs.Prelude.{◌==◌, slice_get}
 use Rattle.std.specs.Borrow.{Bor}
 use Rattle.std.proofs.lemmas.List.{append-nil, take_more}
 use Rattle.std.proofs.lemmas.Option.{slice_get_within, get_or_from_slice_get}
 use Rattle.base.specs.Lines.{line_end}
 use Rattle.code_core.specs.declared.instr.Instr.{Instr}
-use Rattle.code_text.specs.CodeText.{instr_text, instr_line, code_lines, IsIn, MayStand, AllMayStand, HasBadLine}
-use Rattle.code_text.specs.prover.Guess.{guess, Follows}
+use Rattle.std.specs.Fmt.{decimal}
+use Rattle.code_core.specs.Instructions.{CodeSizes, AreSizes}
+use Rattle.code_text.specs.CodeText.{header_line, instr_text, instr_line, code_lines, IsIn, MayStand, AllMayStand, IsVersion, IsTextOf, HasBadLine}
+use Rattle.code_text.specs.prover.Guess.{guess, Follows, FollowsHeader}
 use Rattle.code_text.proofs.Guessing.{no_line}
 
 pub lines_more : (is : List Instr) (i : Instr) → code_lines (is ++ i ∷ []) ≡ code_lines is ++ instr_line i
@@ -59,3 +61,49 @@ pub none_follows : (version : ℕ) (i j : Instr) (text : List ℕ) (found : Opti
     → i ≡ j → Follows version i text found → IsIn version j → (more : List ℕ) → instr_line j ++ more ≡ text → ⊥
 none_follows version i j text None not same follows = subst (λ k. Follows version k text None) same follows
 none_follows version i j text (Some rest) not same follows = absurd (not rest refl)
+
+regrouped : (o w p v s r b e : List ℕ) → ((((o ++ w) ++ (p ++ b ++ v)) ++ b) ++ (s ++ b ++ r)) ++ e ≡ o ++ (w ++ (p ++ b ++ v ++ b ++ s ++ b ++ r ++ e))
+regrouped o w p v s r b e = simp append_assoc
+
+-- the header was added, in two pairs of sizes
+pub header_added : {E : Type 0} (result : Result (Unit {0}) E) (old front pair space other new : List ℕ) (version : ℕ) (z : CodeSizes)
+    → front ≡ old ++ (codes "tickcode " ++ decimal version ++ codes " ")
+    → pair ≡ front ++ (decimal z.processes ++ codes " " ++ decimal z.variables)
+    → space ≡ pair ++ codes " "
+    → other ≡ space ++ (decimal z.scans ++ codes " " ++ decimal z.rows)
+    → new ≡ (if is_ok result then other ++ line_end else other)
+    → OnOk result (new ≡ old ++ header_line version z)
+header_added (Err e) old front pair space other new version z a b c d last = tt
+header_added (Ok u) old front pair space other new version z a b c d last =
+    last
+    ∙ ap (λ x. x ++ line_end) d
+    ∙ ap (λ x. (x ++ (decimal z.scans ++ codes " " ++ decimal z.rows)) ++ line_end) c
+    ∙ ap (λ x. ((x ++ codes " ") ++ (decimal z.scans ++ codes " " ++ decimal z.rows)) ++ line_end) b
+    ∙ ap (λ x. (((x ++ (decimal z.processes ++ codes " " ++ decimal z.variables)) ++ codes " ") ++ (decimal z.scans ++ codes " " ++ decimal z.rows)) ++ line_end) a
+    ∙ regrouped old (codes "tickcode " ++ decimal version ++ codes " ") (decimal z.processes) (decimal z.variables) (decimal z.scans) (decimal z.rows) (codes " ") line_end
+
+module _ (version : ℕ) (z : CodeSizes) (text : List ℕ) where
+  pub follows_header : (front : List ℕ) (found : Option (Bor (List ℕ))) → front ≡ header_line version z
+      → MatchOption found ((more : List ℕ) → front ++ more ≡ text → ⊥) (λ rest. front ++ rest.now ≡ text) → FollowsHeader version z text found
+  follows_header front None same follows = λ more is. follows more (ap (λ x. x ++ more) same ∙ is)
+  follows_header front (Some rest) same follows = ap (λ x. x ++ rest.now) (sym same) ∙ follows
+
+  pub no_header_follows : (found : Option (Bor (List ℕ))) → ((rest : Bor (List ℕ)) → found ≡ Some rest → ⊥)
+      → FollowsHeader version z text found → (more : List ℕ) → header_line version z ++ more ≡ text → ⊥
+  no_header_follows None not follows = follows
+  no_header_follows (Some rest) not follows = absurd (not rest refl)
+
+  pub header_follows : (found : Option (Bor (List ℕ))) (rest : Bor (List ℕ)) → found ≡ Some rest → FollowsHeader version z text found
+      → header_line version z ++ rest.now ≡ text
+  header_follows found rest is follows = subst (FollowsHeader version z text) is follows
+
+-- a text of a header and of lines of instructions
+pub text_read : (version : ℕ) (z : CodeSizes) (is : List Instr) (rest text : List ℕ) → IsVersion version → AreSizes z → AllMayStand version is
+    → code_lines is ≡ rest → header_line version z ++ rest ≡ text → IsTextOf (record { sizes = z; instructions = is }) text
+text_read version z is rest text known sizes lines all whole = record {
+  version = version;
+  known = known;
+  sizes = sizes;
+  lines = lines;
+  spelled = ap (λ x. header_line version z ++ x) all ∙ whole;
+}

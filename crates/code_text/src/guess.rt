@@ -1,6 +1,6 @@
-ghost use Rattle.std.specs.Prelude.{◌≡◌, IfSome, IsSome, ◌↔◌};
+ghost use Rattle.std.specs.Prelude.{◌≡◌, ◌-◌, length, slice_index, IfSome, IsSome, ◌↔◌};
 ghost use Rattle.code_text.specs.CodeText.{InRange, IsVersion};
-ghost use Rattle.code_text.specs.prover.Guess.{guess, guessed_version, guessed_sizes, operator, named, further, last};
+ghost use Rattle.code_text.specs.prover.Guess.{guess, guessed_version, guessed_sizes, operator, named};
 ghost use Rattle.code_core.specs.Instructions.{AreSizes};
 
 use crate::reader::Reader;
@@ -15,7 +15,7 @@ pub fn guess(text: &[u8]) -> Instr
     let mut reader = Reader { rest: text };
     let name = reader.word();
     reader.skip(1);
-    if name == b"Bin".as_slice() {
+    if first_letter(name) == b'B' {
         return Instr::Bin(operator(reader.word()));
     }
     let first = reader.number();
@@ -23,7 +23,26 @@ pub fn guess(text: &[u8]) -> Instr
     named(name, first, reader.number())
 }
 
-// The instruction of this name with these operands, as far as it has some.
+fn first_letter(name: &[u8]) -> u8
+    ensures { result ≡ slice_index name.now 0 }
+{
+    match name {
+        [first, ..] => *first,
+        [] => 0,
+    }
+}
+
+fn last_letter(name: &[u8]) -> u8
+    ensures { result ≡ slice_index name.now (length name.now - 1) }
+{
+    match name {
+        [.., last] => *last,
+        [] => 0,
+    }
+}
+
+// The instruction of this name with these operands, as far as it has some. The first and the last
+// letter tell, or how many there are.
 fn named(name: &[u8], first: u32, second: u32) -> Instr
     ensures instruction { result ≡ named name.now first second }
     ensures in_range { InRange result }
@@ -31,87 +50,43 @@ fn named(name: &[u8], first: u32, second: u32) -> Instr
     let slot = (first % 256) as u8;
     let other = (second % 256) as u8;
     let place = (first % 65536) as u16;
-    if name == b"Push".as_slice() {
-        Instr::Push(first)
-    } else if name == b"Load".as_slice() {
-        Instr::Load(slot)
-    } else if name == b"Me".as_slice() {
-        Instr::Me
-    } else if name == b"Count".as_slice() {
-        Instr::Count
-    } else if name == b"Store".as_slice() {
-        Instr::Store(slot)
-    } else if name == b"Get".as_slice() {
-        Instr::Get(slot, other)
-    } else if name == b"Put".as_slice() {
-        Instr::Put(slot)
-    } else {
-        further(name, slot, other, place)
-    }
-}
-
-// The same of the names that come further down.
-fn further(name: &[u8], slot: u8, other: u8, place: u16) -> Instr
-    ensures instruction { result ≡ further name.now slot other place }
-    ensures in_range { InRange result }
-{
-    if name == b"LoadWord".as_slice() {
-        Instr::LoadWord
-    } else if name == b"Next".as_slice() {
-        Instr::Next
-    } else if name == b"Exchange".as_slice() {
-        Instr::Exchange(place)
-    } else if name == b"Scan".as_slice() {
-        Instr::Scan(slot)
-    } else if name == b"Copy".as_slice() {
-        Instr::Copy(slot, other)
-    } else {
-        last(name, slot, other, place)
-    }
-}
-
-fn last(name: &[u8], slot: u8, other: u8, place: u16) -> Instr
-    ensures instruction { result ≡ last name.now slot other place }
-    ensures in_range { InRange result }
-{
-    if name == b"Older".as_slice() {
-        Instr::Older(slot, other)
-    } else if name == b"Out".as_slice() {
-        Instr::Out
-    } else if name == b"JumpZero".as_slice() {
-        Instr::JumpZero(place)
-    } else if name == b"Jump".as_slice() {
-        Instr::Jump(place)
-    } else if name == b"Clear".as_slice() {
-        Instr::Clear
-    } else if name == b"Held".as_slice() {
-        Instr::Held(slot, other)
-    } else {
-        Instr::Halt
+    let last = last_letter(name);
+    match first_letter(name) {
+        b'P' if last == b'h' => Instr::Push(first),
+        b'P' => Instr::Put(slot),
+        b'L' if name.len() == 4 => Instr::Load(slot),
+        b'L' => Instr::LoadWord,
+        b'M' => Instr::Me,
+        b'S' if last == b'e' => Instr::Store(slot),
+        b'S' => Instr::Scan(slot),
+        b'G' => Instr::Get(slot, other),
+        b'N' => Instr::Next,
+        b'E' => Instr::Exchange(place),
+        b'C' if last == b't' => Instr::Count,
+        b'C' if last == b'y' => Instr::Copy(slot, other),
+        b'C' => Instr::Clear,
+        b'O' if last == b'r' => Instr::Older(slot, other),
+        b'O' => Instr::Out,
+        b'J' if last == b'p' => Instr::Jump(place),
+        b'J' => Instr::JumpZero(place),
+        b'H' if last == b'd' => Instr::Held(slot, other),
+        _ => Instr::Halt,
     }
 }
 
 fn operator(sign: &[u8]) -> Op
     ensures { result ≡ operator sign.now }
 {
-    if sign == b"+".as_slice() {
-        Op::Add
-    } else if sign == b"-".as_slice() {
-        Op::Sub
-    } else if sign == b"*".as_slice() {
-        Op::Mul
-    } else if sign == b"/".as_slice() {
-        Op::Div
-    } else if sign == b"%".as_slice() {
-        Op::Rem
-    } else if sign == b"<".as_slice() {
-        Op::Less
-    } else if sign == b"<=".as_slice() {
-        Op::AtMost
-    } else if sign == b"==".as_slice() {
-        Op::Equal
-    } else {
-        Op::Differs
+    match first_letter(sign) {
+        b'+' => Op::Add,
+        b'-' => Op::Sub,
+        b'*' => Op::Mul,
+        b'/' => Op::Div,
+        b'%' => Op::Rem,
+        b'<' if sign.len() == 1 => Op::Less,
+        b'<' => Op::AtMost,
+        b'=' => Op::Equal,
+        _ => Op::Differs,
     }
 }
 

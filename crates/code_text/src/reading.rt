@@ -1,11 +1,11 @@
 ghost use Rattle.std.specs.Prelude.{◌≡◌, ◌≢◌, ◌↔◌, ◌++◌, ◌+◌, ℕ, List, Ok, Err, IfOk, IfErr, IsTrue, MatchOption};
 ghost use Rattle.code_text.specs.CodeText.{code_lines, IsIn, AllMayStand, HasBadLine, ReadsAs};
-ghost use Rattle.code_text.specs.prover.Guess.{Follows};
+ghost use Rattle.code_text.specs.prover.Guess.{Follows, FollowsHeader};
 ghost use Rattle.code_core.specs.declared.fault.CodeFault.TheVariants.{NoMemory, BadLine};
 
 use crate::guess::{guess, guess_sizes, guess_version};
 use crate::writing::{push_header, push_line};
-use code_core::{Code, CodeFault, Instr, verify};
+use code_core::{Code, CodeFault, Instr, Sizes, verify};
 use std::alloc::{AllocError, Global};
 
 /// The code that a text spells. The first line that is not of the form is told, the header being
@@ -19,9 +19,7 @@ pub fn read_code(alloc: Global, text: &str) -> Result<Code, CodeFault>
     let Some(sizes) = guess_sizes(bytes) else {
         return Err(CodeFault::BadLine(1));
     };
-    let mut header = String::new(alloc);
-    push_header(&mut header, version, sizes)?;
-    let Some(rest) = after(bytes, header.as_bytes()) else {
+    let Some(rest) = after_header(alloc, version, sizes, bytes)? else {
         return Err(CodeFault::BadLine(1));
     };
     let instructions = read_lines(alloc, version, rest)?;
@@ -40,6 +38,21 @@ fn after<'a>(text: &'a [u8], front: &[u8]) -> Option<&'a [u8]>
     } else {
         None
     }
+}
+
+// What follows the header of this version and these sizes, where the text begins with it. The header
+// is written to compare.
+fn after_header<'a>(
+    alloc: Global,
+    version: u8,
+    sizes: Sizes,
+    text: &'a [u8],
+) -> Result<Option<&'a [u8]>, AllocError>
+    ensures { IfOk result (FollowsHeader version sizes text.now) }
+{
+    let mut header = String::new(alloc);
+    push_header(&mut header, version, sizes)?;
+    Ok(after(text, header.as_bytes()))
 }
 
 // Whether texts of this version have lines of the instruction.

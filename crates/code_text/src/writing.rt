@@ -1,8 +1,11 @@
-ghost use Rattle.std.specs.Prelude.{◌≡◌, ◌++◌, IfOk, IfErr, OnOk, string_bytes};
+ghost use Rattle.std.specs.Prelude.{◌≡◌, ◌++◌, codes, IfOk, IfErr, OnOk, string_bytes};
+ghost use Rattle.std.specs.Fmt.{decimal};
 ghost use Rattle.code_text.specs.CodeText.{instr_text, instr_line, code_lines, header_line, code_text};
+ghost use Rattle.code_text.specs.prover.Writing.{operands_text};
 ghost use Rattle.code_core.specs.declared.fault.CodeFault.TheVariants.{NoMemory};
 
 use code_core::{Code, CodeFault, Instr, Sizes};
+use machine_core::Op;
 use std::alloc::{AllocError, Global};
 use std::fmt::Write;
 
@@ -23,12 +26,18 @@ pub fn write_code(alloc: Global, code: &Code) -> Result<String, CodeFault>
 pub fn push_header(text: &mut String, version: u8, sizes: Sizes) -> Result<(), AllocError>
     ensures { OnOk result (string_bytes text.new ≡ string_bytes text.old ++ header_line version sizes) }
 {
-    let processes = sizes.processes();
-    let variables = sizes.variables();
-    let scans = sizes.scans();
-    let registers = sizes.registers();
     write!(text, "tickcode {version} ")?;
-    writeln!(text, "{processes} {variables} {scans} {registers}")
+    push_pair(text, sizes.processes(), sizes.variables())?;
+    text.push_str(" ")?;
+    push_pair(text, sizes.scans(), sizes.registers())?;
+    text.push_str("\n")
+}
+
+// Adds two numbers with a space between them.
+fn push_pair(text: &mut String, first: u8, second: u8) -> Result<(), AllocError>
+    ensures { OnOk result (string_bytes text.new ≡ string_bytes text.old ++ (decimal first ++ codes " " ++ decimal second)) }
+{
+    write!(text, "{first} {second}")
 }
 
 /// Adds the line of an instruction.
@@ -43,26 +52,55 @@ pub fn push_line(text: &mut String, instruction: Instr) -> Result<(), AllocError
 pub fn push_instruction(text: &mut String, instruction: Instr) -> Result<(), AllocError>
     ensures { OnOk result (string_bytes text.new ≡ string_bytes text.old ++ instr_text instruction) }
 {
+    let (name, operands) = parts(instruction);
+    text.push_str(name)?;
+    push_operands(text, operands)
+}
+
+// The operands of an instruction, as its line has them.
+#[derive(Drop)]
+enum Operands {
+    Nothing,
+    Sign(Op),
+    One(u32),
+    Two(u8, u8),
+}
+
+// The name, with the space after it where operands follow.
+fn parts(instruction: Instr) -> (&'static str, Operands)
+    ensures { result.0.now ++ operands_text result.1 ≡ instr_text instruction }
+{
     match instruction {
-        Instr::Push(value) => write!(text, "Push {value}"),
-        Instr::Load(x) => write!(text, "Load {x}"),
-        Instr::Me => text.push_str("Me"),
-        Instr::Count => text.push_str("Count"),
-        Instr::Bin(op) => write!(text, "Bin {}", op.text()),
-        Instr::Store(x) => write!(text, "Store {x}"),
-        Instr::Get(r, x) => write!(text, "Get {r} {x}"),
-        Instr::Put(r) => write!(text, "Put {r}"),
-        Instr::LoadWord => text.push_str("LoadWord"),
-        Instr::Next => text.push_str("Next"),
-        Instr::Exchange(place) => write!(text, "Exchange {place}"),
-        Instr::Scan(s) => write!(text, "Scan {s}"),
-        Instr::Copy(s, t) => write!(text, "Copy {s} {t}"),
-        Instr::Older(s, x) => write!(text, "Older {s} {x}"),
-        Instr::Out => text.push_str("Out"),
-        Instr::JumpZero(place) => write!(text, "JumpZero {place}"),
-        Instr::Jump(place) => write!(text, "Jump {place}"),
-        Instr::Halt => text.push_str("Halt"),
-        Instr::Clear => text.push_str("Clear"),
-        Instr::Held(s, x) => write!(text, "Held {s} {x}"),
+        Instr::Push(value) => ("Push ", Operands::One(value)),
+        Instr::Load(x) => ("Load ", Operands::One(u32::from(x))),
+        Instr::Me => ("Me", Operands::Nothing),
+        Instr::Count => ("Count", Operands::Nothing),
+        Instr::Bin(op) => ("Bin ", Operands::Sign(op)),
+        Instr::Store(x) => ("Store ", Operands::One(u32::from(x))),
+        Instr::Get(r, x) => ("Get ", Operands::Two(r, x)),
+        Instr::Put(r) => ("Put ", Operands::One(u32::from(r))),
+        Instr::LoadWord => ("LoadWord", Operands::Nothing),
+        Instr::Next => ("Next", Operands::Nothing),
+        Instr::Exchange(place) => ("Exchange ", Operands::One(u32::from(place))),
+        Instr::Scan(s) => ("Scan ", Operands::One(u32::from(s))),
+        Instr::Copy(s, t) => ("Copy ", Operands::Two(s, t)),
+        Instr::Older(s, x) => ("Older ", Operands::Two(s, x)),
+        Instr::Out => ("Out", Operands::Nothing),
+        Instr::JumpZero(place) => ("JumpZero ", Operands::One(u32::from(place))),
+        Instr::Jump(place) => ("Jump ", Operands::One(u32::from(place))),
+        Instr::Halt => ("Halt", Operands::Nothing),
+        Instr::Clear => ("Clear", Operands::Nothing),
+        Instr::Held(s, x) => ("Held ", Operands::Two(s, x)),
+    }
+}
+
+fn push_operands(text: &mut String, operands: Operands) -> Result<(), AllocError>
+    ensures { OnOk result (string_bytes text.new ≡ string_bytes text.old ++ operands_text operands) }
+{
+    match operands {
+        Operands::Nothing => Ok(()),
+        Operands::Sign(op) => text.push_str(op.text()),
+        Operands::One(number) => write!(text, "{number}"),
+        Operands::Two(first, second) => push_pair(text, first, second),
     }
 }

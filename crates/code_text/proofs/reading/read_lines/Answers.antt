@@ -1,4 +1,4 @@
-use Rattle.std.proofs.Common.{◌≡◌, ◌+◌, ◌++◌, ap, ◌∙◌, sym, subst, length}
+use Rattle.std.proofs.Common.{◌+◌, ◌++◌, ap, ◌∙◌, sym, subst, length}
 use Rattle.code_core.specs.declared.fault.CodeFault.TheVariants.{BadLine}
 use Rattle.code_text.specs.CodeText.{code_lines, AllMayStand}
 use Rattle.code_text.specs.prover.Guess.{guess}

@@ -1,4 +1,4 @@
-use Rattle.std.proofs.Common.{◌≡◌, ap, ◌∙◌, sym, ◌∷◌, [], drop, reverse}
+use Rattle.std.proofs.Common.{ap, ◌∙◌, sym, ◌∷◌, [], drop, reverse}
 use Rattle.std.proofs.lemmas.List.{drop-drop, reverse-append}
 use Rattle.code_machine.specs.prover.Held.{on_stack}
 use Rattle.code_machine.proofs.stack.Stack.pop.Goals as goal
