@@ -1,5 +1,5 @@
 -- What an advance tells of the instruction that was made.
-use Rattle.std.proofs.Common.{◌≡◌, ℕ, zero, suc, ◌+◌, ◌<◌, Bool, true, false, List, refl, ap, sym, subst, ◌∙◌, arith}
+use Rattle.std.proofs.Common.{◌≡◌, ℕ, zero, suc, ◌+◌, ◌<◌, Bool, true, false, cond, List, refl, ap, sym, subst, ◌∙◌, arith}
 use Rattle.std.specs.Prelude.{Option, Some, None}
 use Rattle.std.proofs.lemmas.Option.{none-some}
 use Rattle.machine_core.specs.declared.status.Status.{Status}
@@ -12,8 +12,11 @@ use Rattle.code_core.specs.declared.instr.Instr.{Instr}
 use Rattle.code_machine.specs.declared.ask.Ask.{Ask}
 use Rattle.code_machine.specs.declared.ask.Advance.{Advance}
 use Rattle.code_machine.specs.declared.ask.Advance.TheVariants as V
-use Rattle.code_machine.specs.Machine.{CodeProcess, Moved, CodeStep, alone, asks, did, labels_by, labels_left, rows_by, rows_left}
-use Rattle.code_machine.specs.Process.{event_of, shown, advance_as, after_advance_as}
+use Rattle.code_machine.specs.declared.ask.Ask.TheVariants as Q
+use Rattle.code_machine.specs.declared.ask.Reply.TheVariants as R
+use Rattle.code_machine.specs.Machine.{CodeProcess, Moved, CodeStep, alone, asks, did, labels_by, labels_left, made, reply_in, rows_by, rows_left, same_labels}
+use Rattle.code_machine.specs.Process.{event_of, shown, advance_as, after_advance_as, answered_as}
+use Rattle.code_machine.specs.Safety.{AreOrdered, HasWord}
 use Rattle.tick_merge.specs.Ran.{act_by}
 use Rattle.tick_merge.specs.Merged.{one_further, alone_for}
 use Rattle.tick_merge.specs.prover.Held.{further, after_alone, act_next, GoesAlone}
@@ -134,3 +137,24 @@ no_ask_next Running p m (alone moved) act told is other next = none-some act nex
 no_ask_next Running p m (asks ask answered) act told is other next = other ask is
 no_ask_next Ended p m d act told is other next = none-some act next
 no_ask_next (Trapped t) p m d act told is other next = none-some act next
+
+-- the labels in a reply are those that are shared
+pub reply_ordered : (n : ℕ) (labels : Labels) (rows : List (List ℕ)) (ask : Ask) → AreOrdered n labels → HasWord n (reply_in labels rows ask)
+reply_ordered n labels rows Q.LoadWord ordered = ordered
+reply_ordered n labels rows Q.Scan ordered = ordered
+reply_ordered n labels rows (Q.Exchange old new) ordered =
+    elim (same_labels labels old) as (λ b. HasWord n (cond b R.Won (R.Lost labels))) [
+      | true ↦ tt
+      | false ↦ tt
+    ]
+reply_ordered n labels rows (Q.Get r i) ordered = tt
+reply_ordered n labels rows (Q.Put r v) ordered = tt
+reply_ordered n labels rows Q.Clear ordered = tt
+
+-- and the process goes on by its reply
+pub answered_made : (s : Status) (p : ℕ) (q : CodeProcess) (d : CodeStep) (ask : Ask) (labels : Labels) (rows : List (List ℕ)) → V.Ask ask ≡ advance_as s p d
+    → (answered_as s q d (reply_in labels rows ask)).process ≡ (made labels rows d).process
+answered_made Running p q (alone moved) ask labels rows is = let told = went_shown p moved.act in absurd (cc)
+answered_made Running p q (asks wanted answered) ask labels rows is = ap (λ a. (answered (reply_in labels rows a)).process) (same_ask ask wanted is)
+answered_made Ended p q d ask labels rows is = absurd (cc)
+answered_made (Trapped t) p q d ask labels rows is = absurd (cc)

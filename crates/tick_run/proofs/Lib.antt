@@ -5,4 +5,5 @@ mod Working
 mod Readying
 mod Together
 mod Final
+mod Filling
 mod Whole

@@ -32,14 +32,14 @@ first_holds n (suc (suc (suc (suc (suc zero))))) few below = lt-ltb 5 n below
 first_holds n (suc (suc (suc (suc (suc (suc p)))))) few below = absurd (omega (arith, few, below))
 
 -- before the first job
-pub none_split : {G : Type 0} (t : TableView) (c : StepCode) (turns outs : ℕ) (left : PassView) → t.n ≤ 6 → left ≡ whole t
-    → AreSplit {G = G} t c turns outs 0 left []
-none_split t c turns outs left few all = record {
+pub none_split : {G : Type 0} (t : TableView) (c : StepCode) (turns outs : ℕ) (left : PassView) (jobs : List (Job G)) → t.n ≤ 6 → left ≡ whole t → jobs ≡ []
+    → AreSplit t c turns outs 0 left jobs
+none_split t c turns outs left jobs few all none = record {
   here = ap (λ (x : PassView). x.table) all;
   held = λ p least below. subst (λ (x : PassView). Holds x.held p) (sym all) (first_holds t.n p few below);
   unseen = ap (λ (x : PassView). x.seen) all;
-  count = refl;
-  ready = λ p job at. absurd (cc);
+  count = ap length none;
+  ready = λ p job at. (let nothing : slice_get [] p ≡ Some job = ap (λ js. slice_get js p) (sym none) ∙ at in absurd (cc));
 }
 
 -- a process alone

@@ -2,7 +2,7 @@
 
 ghost use Rattle.std.specs.Prelude.{◌≡◌, ◌≤◌, ◌<◌, ◌+◌, ◌++◌, ◌∷◌, [], IfOk, length, map, vec_len, vec_items, vec_capacity};
 ghost use Rattle.tick_run.specs.prover.Turns.{IsFor};
-ghost use Rattle.tick_run.specs.prover.Work.{AreReady, Gathers, IsWork};
+ghost use Rattle.tick_run.specs.prover.Work.{AreReady, CanWork, Gathers, IsWork};
 
 use crate::gate::Gate;
 use crate::jobs::{Job, Limits};
@@ -11,7 +11,8 @@ use code_core::Code;
 use machine_core::RunEnd;
 use stamp_table::{Pass, StampTable};
 use std::alloc::{AllocError, Global};
-use std::thread::{Promise, Scope, Threads};
+use std::sync::Wait;
+use std::thread::{self, Promise, PromisedHandle, Scope, Threads};
 use tick_merge::RunFault;
 
 /// What the workers of the first processes came back with.
@@ -49,9 +50,37 @@ impl<'a> Promise<Worked> for WorkOf<'a> {
     ghost kept_by = { λ w r. IsWork w.table.now w.code.now w.process w.limits.turns w.limits.outs r.pass r.outputs.items r.end };
 }
 
-/// Starts a worker for the last job and, while it is under way, for each of the others, and then joins
-/// it.
-pub fn run_jobs<'s, 'e, G: Gate + Send + 's, R: Threads>(
+/// Runs a worker for each job; all have ended then.
+pub fn run_all<G: Gate + Send, R: Threads + Wait>(
+    rt: &R,
+    table: &StampTable,
+    code: &Code,
+    limits: Limits,
+    jobs: Vec<Job<G>>,
+    none: Gathered,
+) -> Result<Gathered, RunFault>
+    requires fits { IsFor table.now code.now }
+    requires ready { AreReady table.now code.now limits.turns limits.outs jobs.items }
+    requires none { Gathers table.now code.now limits.turns limits.outs 0 none.passes.items (map (λ values. values.items) none.outputs.items) none.ends.items }
+    requires room { (vec_len jobs ≤ vec_capacity none.passes) × (vec_len jobs ≤ vec_capacity none.outputs) × (vec_len jobs ≤ vec_capacity none.ends) }
+    ensures { IfOk result (λ all. Gathers table.now code.now limits.turns limits.outs (vec_len jobs) all.passes.items (map (λ values. values.items) all.outputs.items) all.ends.items) }
+{
+    thread::scope(
+        thread::scope_env(),
+        rt,
+        |scope| -> Result<Gathered, RunFault>
+            requires fits { IsFor table.now code.now }
+            requires ready { AreReady table.now code.now limits.turns limits.outs jobs.items }
+            requires none { Gathers table.now code.now limits.turns limits.outs 0 none.passes.items (map (λ values. values.items) none.outputs.items) none.ends.items }
+            requires room { (vec_len jobs ≤ vec_capacity none.passes) × (vec_len jobs ≤ vec_capacity none.outputs) × (vec_len jobs ≤ vec_capacity none.ends) }
+            ensures { IfOk result (λ all. Gathers table.entry.now code.entry.now limits.turns limits.outs (vec_len jobs) all.passes.items (map (λ values. values.items) all.outputs.items) all.ends.items) }
+        { run_jobs(rt, scope, table, code, limits, jobs, none) },
+    )
+}
+
+// Starts a worker for the last job and, while it is under way, for each of the others, and then joins
+// it.
+fn run_jobs<'s, 'e, G: Gate + Send + 's, R: Threads>(
     rt: &R,
     scope: &'s Scope<'s, &'e ()>,
     table: &'s StampTable,
@@ -70,6 +99,24 @@ pub fn run_jobs<'s, 'e, G: Gate + Send + 's, R: Threads>(
     let Some(job) = jobs.pop() else {
         return Ok(none);
     };
+    let worker = started(scope, table, code, limits, job)?;
+    let others = run_jobs(rt, scope, table, code, limits, jobs, none);
+    let worked = worker.join(rt);
+    Ok(with_worked(others?, worked))
+}
+
+// Starts a worker for this job.
+fn started<'s, 'e, G: Gate + Send + 's>(
+    scope: &'s Scope<'s, &'e ()>,
+    table: &'s StampTable,
+    code: &'s Code,
+    limits: Limits,
+    job: Job<G>,
+) -> Result<PromisedHandle<Worked, WorkOf<'s>>, RunFault>
+    requires fits { IsFor table.now code.now }
+    requires can { CanWork table.now code.now job.process limits.turns limits.outs job.proc job.pass job.outputs.items (vec_capacity job.outputs) }
+    ensures { IfOk result (λ worker. (worker.promise.table.now ≡ table.now) × (worker.promise.code.now ≡ code.now) × (worker.promise.limits ≡ limits) × (worker.promise.process ≡ job.process)) }
+{
     let process = job.process;
     let promise = WorkOf {
         table,
@@ -77,10 +124,7 @@ pub fn run_jobs<'s, 'e, G: Gate + Send + 's, R: Threads>(
         limits,
         process,
     };
-    let worker = scope.spawn_with(promise, move || work(table, code, limits, job))?;
-    let others = run_jobs(rt, scope, table, code, limits, jobs, none);
-    let worked = worker.join(rt);
-    Ok(with_worked(others?, worked))
+    Ok(scope.spawn_with(promise, move || work(table, code, limits, job))?)
 }
 
 // What one more worker came back with is added.

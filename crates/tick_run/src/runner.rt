@@ -1,19 +1,20 @@
-ghost use Rattle.std.specs.Prelude.{◌≡◌, ◌≤◌, IfOk, map, vec_len, vec_items, vec_capacity};
+ghost use Rattle.std.specs.Prelude.{◌≡◌, IfOk, map, vec_len, vec_items, vec_capacity};
 ghost use Rattle.machine_core.specs.Observables.{run_observed};
 ghost use Rattle.tick_merge.specs.Runs.{IsWholeRun};
 ghost use Rattle.tick_run.specs.prover.Turns.{IsFor};
-ghost use Rattle.tick_run.specs.prover.Work.{AreReady, Gathers};
+ghost use Rattle.tick_run.specs.prover.Rows.{HasRoom};
+ghost use Rattle.tick_run.specs.prover.Work.{Gathers};
 
 use crate::gate::Gate;
-use crate::gathering::{Gathered, room_for, run_jobs};
+use crate::gathering::{Gathered, room_for, run_all};
 use crate::jobs::{Limits, jobs_for};
-use crate::registers::{blank_rows, filled_rows};
+use crate::registers::{Blank, blank_rows, filled_rows};
 use code_core::Code;
 use machine_core::RunOutcome;
-use stamp_table::open;
+use stamp_table::{StampTable, open};
 use std::alloc::Global;
 use std::sync::Wait;
-use std::thread::{self, Threads};
+use std::thread::Threads;
 use tick_merge::RunFault;
 
 /// Runs each process of the code on a thread of its own, all on one table, until it stops, or has made
@@ -39,25 +40,31 @@ pub fn run<G: Gate + Send, R: Threads + Wait>(
     let blank = blank_rows(alloc, sizes.registers(), sizes.processes())?;
     let (table, whole) = open(alloc, sizes.processes(), sizes.registers())?;
     let jobs = jobs_for(alloc, &table, code, limits, whole, gates)?;
-    let shared = &table;
-    let all = thread::scope(
-        thread::scope_env(),
-        rt,
-        |scope| -> Result<Gathered, RunFault>
-            requires fits { IsFor shared.now code.now }
-            requires ready { AreReady shared.now code.now limits.turns limits.outs jobs.items }
-            requires none { Gathers shared.now code.now limits.turns limits.outs 0 none.passes.items (map (λ values. values.items) none.outputs.items) none.ends.items }
-            requires room { (vec_len jobs ≤ vec_capacity none.passes) × (vec_len jobs ≤ vec_capacity none.outputs) × (vec_len jobs ≤ vec_capacity none.ends) }
-            ensures { IfOk result (λ all. Gathers shared.entry.now code.entry.now limits.turns limits.outs (vec_len jobs) all.passes.items (map (λ values. values.items) all.outputs.items) all.ends.items) }
-        { run_jobs(rt, scope, shared, code, limits, jobs, none) },
-    )?;
+    let all = run_all(rt, &table, code, limits, jobs, none)?;
+    Ok(outcome_of(code, table, all, blank, limits))
+}
+
+// The outcome of a run whose workers have all ended.
+fn outcome_of(
+    code: &Code,
+    table: StampTable,
+    all: Gathered,
+    blank: Blank,
+    limits: Limits,
+) -> RunOutcome
+    requires fits { IsFor table code.now }
+    requires all { Gathers table code.now limits.turns limits.outs code.now.sizes.processes all.passes.items (map (λ values. values.items) all.outputs.items) all.ends.items }
+    requires room { HasRoom code.now.sizes.rows code.now.sizes.processes blank.rows.items blank.filled.items (vec_capacity blank.filled) }
+    ensures { IsWholeRun code.now limits.turns limits.outs (run_observed result) }
+{
+    let sizes = code.sizes();
     let Some(met) = table.meet_all(all.passes) else {
         unreachable!()
     };
     let end = table.close(met);
-    Ok(RunOutcome {
+    RunOutcome {
         outputs: all.outputs,
         ends: all.ends,
         registers: filled_rows(&end, blank, sizes.registers(), sizes.processes()),
-    })
+    }
 }

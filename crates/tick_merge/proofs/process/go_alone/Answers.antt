@@ -1,9 +1,9 @@
-use Rattle.std.proofs.Common.{◌≡◌, ⊎_elim, true, false, ap, sym, ◌∙◌, vec_items}
+use Rattle.std.proofs.Common.{◌≡◌, ⊎_elim, true, false, ap, sym, ◌∙◌, ◌++◌, replicate, arith, vec_items}
 use Rattle.std.proofs.lemmas.List.{append-nil}
 use Rattle.code_machine.specs.Machine.{did}
 use Rattle.code_machine.specs.Process.{advance_as, after_advance_as}
 use Rattle.tick_merge.proofs.Lists.{pushed_more}
-use Rattle.tick_merge.proofs.Advancing.{went, goes_start, goes_more, goes_stop}
+use Rattle.tick_merge.proofs.Advancing.{went, goes_start, goes_more, goes_stop, goes_end}
 use Rattle.tick_merge.proofs.process.go_alone.Goals as goal
 
 pub loop-count-init : goal.loop-count-init
@@ -39,3 +39,40 @@ loop-count-preserved c =
           (ap went (ap (λ k. advance_as q.status k (did n k code.instructions q)) (sym me) ∙ sym c.advance.ensures.answer) ∙ told)
           (c.advance.ensures.process ∙ ap (λ k. after_advance_as q.status q (did n k code.instructions q)) me),
     )
+
+pub returns-in-Ask-clause-few : goal.returns-in-Ask-clause-few
+returns-in-Ask-clause-few c = omega (arith, c.loop-count-test.true)
+
+pub returns-in-Ask-clause-schedule : goal.returns-in-Ask-clause-schedule
+returns-in-Ask-clause-schedule c = c.loop-count.invariant.2
+
+pub returns-in-Ask-clause-of : goal.returns-in-Ask-clause-of
+returns-in-Ask-clause-of c = c.advance.ensures.of
+
+pub returns-in-Ask-clause-me : goal.returns-in-Ask-clause-me
+returns-in-Ask-clause-me c = c.advance.ensures.me ∙ c.loop-count.invariant.1
+
+pub returns-clause-count : goal.returns-clause-count
+returns-clause-count c =
+    let code = c.args.code.now in
+    (goes_end code.sizes.processes code.instructions c.args.p c.args.most c.args.proc.now.process c.loop-count.count c.loop-count.proc.process
+    c.loop-count.invariant.3 (omega (arith, c.loop-count-test.false, c.loop-count.auto.count-end))).0
+
+pub returns-clause-few : goal.returns-clause-few
+returns-clause-few c = omega arith
+
+pub returns-clause-process : goal.returns-clause-process
+returns-clause-process c =
+    let code = c.args.code.now in
+    (goes_end code.sizes.processes code.instructions c.args.p c.args.most c.args.proc.now.process c.loop-count.count c.loop-count.proc.process
+    c.loop-count.invariant.3 (omega (arith, c.loop-count-test.false, c.loop-count.auto.count-end))).1
+
+pub returns-clause-schedule : goal.returns-clause-schedule
+returns-clause-schedule c =
+    c.loop-count.invariant.2 ∙ ap (λ k. vec_items c.args.schedule.now ++ replicate k c.args.p) (sym (omega (arith, c.loop-count-test.false, c.loop-count.auto.count-end)))
+
+pub returns-clause-of : goal.returns-clause-of
+returns-clause-of c = c.loop-count.invariant.0
+
+pub returns-clause-me : goal.returns-clause-me
+returns-clause-me c = c.loop-count.invariant.1

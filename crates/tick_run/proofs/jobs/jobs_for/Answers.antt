@@ -1,6 +1,6 @@
-use Rattle.std.proofs.Common.{rules, ◌<◌, ◌≤◌, refl, min, vec_items, vec_capacity}
+use Rattle.std.proofs.Common.{rules, arith, ◌<◌, ◌≤◌, ◌∙◌, refl, min, vec_items, vec_capacity}
 use Rattle.tick_run.specs.prover.Work.{CanWork}
-use Rattle.tick_run.proofs.Readying.{one_split, can_work}
+use Rattle.tick_run.proofs.Readying.{none_split, one_split, can_work}
 use Rattle.tick_run.proofs.jobs.jobs_for.Goals as goal
 
 pub loop-gate-preserved : goal.loop-gate-preserved
@@ -17,3 +17,21 @@ loop-gate-preserved g c =
       search rules,
       search rules,
     )
+
+pub split-rest-requires-clause-here : goal.split-rest-requires-clause-here
+split-rest-requires-clause-here g c = c.loop-gate.invariant.0.here
+
+pub returns-clause-ready : goal.returns-clause-ready
+returns-clause-ready g c = c.loop-gate.invariant.0.ready
+
+pub loop-gate-init : goal.loop-gate-init
+loop-gate-init g c = (
+  none_split _ _ _ _ _ _ (omega (arith, c.requires.fits.processes, c.requires.few)) (c.all.view_is ∙ c.requires.all) c.in_ok-jobs.ensures.items,
+  search rules,
+  search rules,
+)
+
+pub split-rest-requires-clause-held : goal.split-rest-requires-clause-held
+split-rest-requires-clause-held g c =
+    let below : c.loop-gate.process < c.args.code.now.sizes.processes = search rules in
+    c.loop-gate.invariant.0.held c.loop-gate.process (omega arith) (omega (arith, below, c.requires.fits.processes))
