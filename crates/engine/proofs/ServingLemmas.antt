@@ -1,5 +1,5 @@
 -- From an input that was read to a response, and from a response to what is written.
-use Rattle.std.proofs.Common.{◌≡◌, ℕ, ◌+◌, ◌<◌, ◌≤◌, ◌++◌, ◌⊎◌, false, inl, inr, List, [], length, Option, Some, None, Result, Ok, Err, IfErr, IfOk, OnErr, OnOk, append-nil, arith, ap, refl, string_bytes, subst, sym, ◌∙◌}
+use Rattle.std.proofs.Common.{◌≡◌, ℕ, ◌+◌, ◌<◌, ◌≤◌, ◌++◌, ◌⊎◌, ◌↔◌, Bool, false, inl, inr, List, [], length, Option, Some, None, Result, Ok, Err, IfErr, IfOk, IsOkAnd, MatchResult, OnErr, OnOk, append-nil, arith, ap, refl, string_bytes, subst, sym, ◌∙◌}
 use Rattle.std.proofs.Math.ListN.{length-append}
 use Rattle.std.proofs.lemmas.Bool.{lt-ltb}
 use Rattle.std.proofs.lemmas.Bool.Decides.{leb_tells}
@@ -10,12 +10,13 @@ use Rattle.byte_io.specs.Writing.{CountsWrites, WritesPrefix}
 use Rattle.byte_io.specs.declared.counts.Counts.{Counts}
 use Rattle.byte_io.specs.declared.fault.EndFault.{EndFault}
 use Rattle.byte_io.specs.declared.fault.EndFault.TheVariants as end
+use Rattle.ticketc_lines.specs.Answer.{Answer}
 use Rattle.ticketc_lines.specs.Command.{PlainCommand}
 use Rattle.engine.specs.Commands.{CommandAnswers, InputAnswers, TextAnswers, UnlessRefused, is_run, line_answer, runs, wants_input}
 use Rattle.ticketc_lines.specs.declared.command.Command.{Command}
 use Rattle.ticketc_lines.specs.declared.command.Command.TheVariants.{Run}
 use Rattle.engine.specs.Faults.{end_fault_in}
-use Rattle.engine.specs.Serving.{Leaves, OnInput, ServesCommand, Writes, WritesSome}
+use Rattle.engine.specs.Serving.{Leaves, OnInput, ServesCommand, UnlessRun}
 use Rattle.ticketc_lines.specs.Text.{text_fault}
 use Rattle.ticketc_lines.specs.declared.command.LineFault.{LineFault}
 use Rattle.engine.specs.declared.fault.EngineFault.{EngineFault}
@@ -23,9 +24,11 @@ use Rattle.engine.specs.declared.fault.EngineFault.TheVariants.{Read, Write, Mem
 use Rattle.ticketc_lines.specs.declared.refusal.Refusal.{Refusal}
 use Rattle.ticketc_lines.specs.declared.refusal.Refusal.TheVariants.{TextTooLong}
 use Rattle.engine.specs.declared.response.Response.{Response}
+use Rattle.engine.specs.declared.serving.Served.{Served}
+use Rattle.engine.specs.declared.serving.Served.TheVariants as outcome
 use Rattle.engine.specs.prover.Faults.{end_fault}
 use Rattle.ticketc_lines.specs.Command.{plain_command}
-use Rattle.engine.specs.prover.Responses.{IsResponse, IsUnanswered, Says}
+use Rattle.engine.specs.prover.Responses.{IsResponse, IsUnanswered, RefusesLine, Says}
 
 Consumes-nil : (a : Option (List ℕ)) → Consumes a a []
 Consumes-nil None = tt
@@ -77,12 +80,6 @@ pub on_any : (known : Option (List ℕ)) (P : List ℕ → Type 0) → ((input :
 on_any None P is = record { input = []; is_known = tt; holds = is [] }
 on_any (Some all) P is = record { input = all; is_known = refl; holds = is all }
 
-pub answered_on_any : (fault : LineFault) (known : Option (List ℕ)) (response : Response)
-    → Says response (line_answer fault) → OnInput known (λ input. IsResponse (CommandAnswers (Err fault) input) response)
-answered_on_any fault known response told =
-    on_any known (λ input. IsResponse (CommandAnswers (Err fault) input) response)
-    (λ input. record { answer = line_answer fault; is_allowed = refl; says = told })
-
 -- a command of another variant is no run
 pub no_run : (command : Command (Bor (List ℕ))) → ((turns : ℕ) → command ≡ Run turns → ⊥) → runs (plain_command command) ≡ false
 no_run (Run turns) other = absurd (other turns refl)
@@ -90,6 +87,39 @@ no_run command other = refl
 
 pub takes_none : (known : Option (List ℕ)) → TakesFew known known
 takes_none known = record { bytes = []; taken = Consumes-nil known; few = omega arith }
+
+-- a response that was written is an answer that was
+left : {W : Type 0} (written : W → Option (List ℕ)) (before after : W) (run : Bool) (allowed : Answer → Type 0) (response : Response)
+    (result : Result ℕ EngineFault)
+    → IsResponse allowed response
+    → IfOk result (λ status. status ≡ response.status)
+    → OnOk result (Appends (written before) (written after) (string_bytes response.text))
+    → OnErr result (WritesPrefix (written before) (written after) (string_bytes response.text))
+    → IfErr result (λ fault. fault ≡ Write)
+    → Leaves written before after run result allowed
+left written before after run allowed response (Ok status) gave is all some fault = record {
+  answer = gave.answer;
+  is_allowed = gave.is_allowed;
+  status_is = is ∙ gave.says.status;
+  written = subst (λ (text : List ℕ). Appends (written before) (written after) text) gave.says.text all;
+}
+left written before after run allowed response (Err Write) gave is all some fault = record {
+  answer = gave.answer;
+  is_allowed = gave.is_allowed;
+  written = subst (λ (text : List ℕ). WritesPrefix (written before) (written after) text) gave.says.text some;
+}
+left written before after run allowed response (Err Read) gave is all some fault = absurd (cc)
+left written before after run allowed response (Err Memory) gave is all some fault = absurd (cc)
+left written before after run allowed response (Err Thread) gave is all some fault = absurd (cc)
+
+-- where no more than a write failed, no read did
+read_all : (result : Result ℕ EngineFault) → IfErr result (λ fault. fault ≡ Write) → (old new : Counts) → new.failures ≡ old.failures
+    → CountsReads (end_fault_in result) old new
+read_all (Ok status) fault old new none_failed = none_failed
+read_all (Err Write) fault old new none_failed = none_failed
+read_all (Err Read) fault old new none_failed = absurd (cc)
+read_all (Err Memory) fault old new none_failed = absurd (cc)
+read_all (Err Thread) fault old new none_failed = absurd (cc)
 
 module _ {R W : Type 0} (command : Result PlainCommand LineFault) (remaining : R → Option (List ℕ)) (reads : R → Counts)
     (written : W → Option (List ℕ)) (writes : W → Counts) (old new : R)
@@ -134,32 +164,43 @@ module _ {R W : Type 0} (command : Result PlainCommand LineFault) (remaining : R
       → IfErr result (λ fault. fault ≡ Write)
       → CountsWrites (end_fault_in result) (writes before) (writes after)
       → ServesCommand command remaining reads written writes old new before after result
-  gave_response response before after (Ok status) is_response none_failed is all some fault counted =
-      let answers : OnInput (remaining old) (λ input. Writes (written before) (written after) status (CommandAnswers command input)) = record {
+  gave_response response before after result is_response none_failed is all some fault counted =
+      let answers : OnInput (remaining old) (λ input. Leaves written before after (is_run command) result (CommandAnswers command input)) = record {
         input = is_response.input;
         is_known = is_response.is_known;
-        holds = record {
-          answer = is_response.holds.answer;
-          is_allowed = is_response.holds.is_allowed;
-          status_is = is ∙ is_response.holds.says.status;
-          written = subst (λ (text : List ℕ). Appends (written before) (written after) text) is_response.holds.says.text all;
-        };
+        holds = left written before after (is_run command) (CommandAnswers command is_response.input) response result is_response.holds is all some fault;
       } in
-      served before after (Ok status) answers none_failed counted
-  gave_response response before after (Err Write) is_response none_failed is all some fault counted =
-      let answers : OnInput (remaining old) (λ input. WritesSome (written before) (written after) (CommandAnswers command input)) = record {
-        input = is_response.input;
-        is_known = is_response.is_known;
-        holds = record {
-          answer = is_response.holds.answer;
-          is_allowed = is_response.holds.is_allowed;
-          written = subst (λ (text : List ℕ). WritesPrefix (written before) (written after) text) is_response.holds.says.text some;
-        };
-      } in
-      served before after (Err Write) answers none_failed counted
-  gave_response response before after (Err Read) is_response none_failed is all some fault counted = absurd (cc)
-  gave_response response before after (Err Memory) is_response none_failed is all some fault counted = absurd (cc)
-  gave_response response before after (Err Thread) is_response none_failed is all some fault counted = absurd (cc)
+      served before after result answers (read_all result fault (reads old) (reads new) none_failed) counted
+
+-- the answer to words that are refused
+pub refuses_line : {W : Type 0} (fault : LineFault) (written : W → Option (List ℕ)) (writes : W → Counts) (before after : W) (response : Response)
+    (result : Result ℕ EngineFault)
+    → Says response (line_answer fault)
+    → IfOk result (λ status. status ≡ response.status)
+    → OnOk result (Appends (written before) (written after) (string_bytes response.text))
+    → OnErr result (WritesPrefix (written before) (written after) (string_bytes response.text))
+    → IfErr result (λ fault. fault ≡ Write)
+    → CountsWrites (end_fault_in result) (writes before) (writes after)
+    → RefusesLine fault written writes before after result
+refuses_line fault written writes before after response result told is all some failed counted = record {
+  leaves = left written before after false (λ a. a ≡ line_answer fault) response result
+      (record { answer = line_answer fault; is_allowed = refl; says = told }) is all some failed;
+  reads_counted = λ reads. read_all result failed reads reads refl;
+  writes_counted = counted;
+}
+
+pub line_refused : {R W : Type 0} (command : Result PlainCommand LineFault) (fault : LineFault) (remaining : R → Option (List ℕ)) (reads : R → Counts)
+    (written : W → Option (List ℕ)) (writes : W → Counts) (reader : R) (before after : W) (result : Result ℕ EngineFault)
+    → command ≡ Err fault → RefusesLine fault written writes before after result
+    → ServesCommand command remaining reads written writes reader reader before after result
+line_refused command fault remaining reads written writes reader before after result asks refuses = rw asks (record {
+  answers = on_any (remaining reader) _ (λ input. refuses.leaves);
+  unread = λ unwanted. refl;
+  few = takes_none (remaining reader);
+  calls = omega arith;
+  reads_counted = refuses.reads_counted (reads reader);
+  writes_counted = refuses.writes_counted;
+})
 
 -- what is served from where another call left the ends is served from where that call found them, if it
 -- left them alone
@@ -172,3 +213,18 @@ served_from command other remaining reads written writes old between new first l
     subst (λ (j : Result PlainCommand LineFault). ServesCommand j remaining reads written writes old new first last result) (sym asks)
     (subst (λ r. ServesCommand other remaining reads written writes r new first last result) unread
     (subst (λ w. ServesCommand other remaining reads written writes between new w last result) unwritten served))
+
+-- what was told on: this status and no run, or the same fault
+abbrev pub IsToldOn : Result ℕ EngineFault → Result Served EngineFault → Type 0
+IsToldOn r told = MatchResult r (λ status. IsOkAnd told (λ it. it ≡ outcome.Status status)) (λ fault. told ≡ Err fault)
+
+pub unless_run : (r : Result ℕ EngineFault) (told : Result Served EngineFault) (P : Result ℕ EngineFault → Type 0) → IsToldOn r told → P r → UnlessRun told P
+unless_run (Ok status) (Ok it) P is held = rw is held
+unless_run (Ok status) (Err fault) P is held = absurd is
+unless_run (Err fault) told P is held = rw is held
+
+pub never_run : (r : Result ℕ EngineFault) (told : Result Served EngineFault) (X : ℕ → Type 0) → IsToldOn r told → ((turns : ℕ) → X turns → ⊥)
+    → IfOk told (λ it. (turns : ℕ) → (it ≡ outcome.Run turns) ↔ X turns)
+never_run (Ok status) (Ok it) X is never = λ turns. (λ same. absurd (cc), λ x. absurd (never turns x))
+never_run (Ok status) (Err fault) X is never = absurd is
+never_run (Err fault) told X is never = rw is tt

@@ -5,6 +5,7 @@ ghost use Rattle.engine.specs.prover.Faults.{end_fault, run_fault};
 use byte_io::EndFault;
 use schedule_text::NoMemory;
 use std::alloc::{AllocError, AllocFailed};
+use std::fmt;
 use thiserror::Error;
 use tick_merge::RunFault;
 
@@ -12,17 +13,30 @@ use tick_merge::RunFault;
 #[derive(Clone, Copy, Debug, PartialEq, Eq, Error)]
 pub enum EngineFault {
     /// A read failed, or 2,000,000 reads came to no end.
-    #[error("reading failed")]
     Read,
     /// A write failed, took nothing, or was interrupted more than 1,000 times in a row.
-    #[error("writing failed")]
     Write,
     /// Memory was refused.
-    #[error("out of memory")]
     Memory,
     /// A thread was refused.
-    #[error("no thread could be started")]
     Thread,
+}
+
+impl EngineFault {
+    fn told(self) -> &'static str {
+        match self {
+            EngineFault::Read => "reading failed",
+            EngineFault::Write => "writing failed",
+            EngineFault::Memory => "out of memory",
+            EngineFault::Thread => "no thread could be started",
+        }
+    }
+}
+
+impl fmt::Display for EngineFault {
+    fn fmt<W: fmt::Write>(&self, f: &mut fmt::Formatter<W>) -> fmt::Result {
+        f.write_str(self.told())
+    }
 }
 
 impl From<AllocError> for EngineFault {

@@ -23,8 +23,7 @@ pub fn emit_text(alloc: Global, text: &str) -> Result<String, Stop>
     ensures refused { IfErr result (λ stop. IfRefused stop (λ refusal. IsTextAnswer (lowered_answer emit_answer) text.now (refused refusal))) }
 {
     let code = lowered_code(alloc, text)?;
-    let emitted = write_code(alloc, &code)?;
-    Ok(emitted)
+    write_code(alloc, &code).map_err(Stop::from)
 }
 
 /// The report of the run of a code, or of the code of a program, under the schedule that a text spells.
@@ -42,8 +41,7 @@ fn report_of_code(alloc: Global, code: &Code, schedule: &str) -> Result<String, 
     ensures refused { IfErr result (λ stop. IfRefused stop (λ refusal. refused refusal ≡ code_answer schedule.now code.now)) }
 {
     let steps = read_schedule(alloc, schedule, code.sizes().processes())?;
-    let report = play_code(alloc, code, steps.as_slice())?;
-    Ok(report)
+    play_code(alloc, code, steps.as_slice()).map_err(Stop::from)
 }
 
 /// The code that a text is, or the code of the program that it is.
@@ -52,8 +50,7 @@ pub fn runnable_code(alloc: Global, text: &str) -> Result<Code, Stop>
     ensures refused { (by : StepCode → Answer) → IfErr result (λ stop. IfRefused stop (λ refusal. IsRunnableAnswer by text.now (refused refusal))) }
 {
     if is_code(text) {
-        let code = read_code(alloc, text)?;
-        Ok(code)
+        read_code(alloc, text).map_err(Stop::from)
     } else {
         lowered_code(alloc, text)
     }

@@ -3,7 +3,7 @@ ghost use Rattle.std.specs.Prelude.{◌≡◌, ◌<◌, All, IfErr, IfOk, string
 ghost use Rattle.tick_kinds.specs.Resolution.{resolved};
 ghost use Rattle.ticketc_lines.specs.Answer.{done, refused};
 ghost use Rattle.engine.specs.Lowered.{code_of, lowered_answer};
-ghost use Rattle.engine.specs.Maps.{carried as carried_steps, carried_answer, schedule_line as line_of_schedule};
+ghost use Rattle.engine.specs.Maps.{carried as carried_steps, carried_answer, carried_line as line_carried, schedule_line as line_of_schedule};
 ghost use Rattle.engine.specs.Programs.{IsTextAnswer};
 ghost use Rattle.ticketc_lines.specs.Stop.{IfRefused};
 
@@ -16,7 +16,7 @@ use tick_sim::{expand, project};
 use ticketc_lines::Stop;
 
 /// Which way a schedule is carried.
-#[derive(Clone, Copy, Debug, PartialEq, Eq)]
+#[derive(Clone, Copy)]
 pub enum Way {
     /// From the program to its code.
     Up,
@@ -30,10 +30,37 @@ pub fn carried_text(alloc: Global, way: Way, text: &str, schedule: &str) -> Resu
     ensures refused { IfErr result (λ stop. IfRefused stop (λ refusal. IsTextAnswer (lowered_answer (carried_answer way schedule.now)) text.now (refused refusal))) }
 {
     let (program, code) = lowering_of(alloc, text)?;
+    carried_schedule(alloc, way, &program, &code, schedule)
+}
+
+fn carried_schedule(
+    alloc: Global,
+    way: Way,
+    program: &Program,
+    code: &Code,
+    schedule: &str,
+) -> Result<String, Stop>
+    requires { code.now ≡ code_of program.now }
+    ensures ok { IfOk result (λ answer. done (string_bytes answer) ≡ carried_answer way schedule.now code.now) }
+    ensures refused { IfErr result (λ stop. IfRefused stop (λ refusal. refused refusal ≡ carried_answer way schedule.now code.now)) }
+{
     let steps = read_schedule(alloc, schedule, program.processes())?;
-    let there = carried(alloc, way, &program, &code, steps.as_slice())?;
-    let line = schedule_line(alloc, there.as_slice())?;
-    Ok(line)
+    carried_line(alloc, way, program, code, steps.as_slice()).map_err(Stop::from)
+}
+
+fn carried_line(
+    alloc: Global,
+    way: Way,
+    program: &Program,
+    code: &Code,
+    steps: &[u8],
+) -> Result<String, NoMemory>
+    requires code { code.now ≡ code_of program.now }
+    requires processes { All (λ p. p < (resolved program.now).processes) steps.now }
+    ensures { IfOk result (λ line. string_bytes line ≡ line_carried way code.now steps.now) }
+{
+    let there = carried(alloc, way, program, code, steps)?;
+    schedule_line(alloc, there.as_slice())
 }
 
 fn carried(

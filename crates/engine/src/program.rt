@@ -1,5 +1,5 @@
 //! The commands on a program, each as the text that it answers.
-ghost use Rattle.std.specs.Prelude.{IfErr, IfOk, string_bytes};
+ghost use Rattle.std.specs.Prelude.{◌≡◌, IfErr, IfOk, string_bytes};
 ghost use Rattle.tick_kinds.specs.Accepted.{IsAccepted};
 ghost use Rattle.tick_tree.specs.Plain.{Name, WholeProgram};
 ghost use Rattle.ticketc_lines.specs.Answer.{Answer, done, refused};
@@ -19,19 +19,25 @@ pub fn check_text(alloc: Global, text: &str) -> Result<String, Stop>
     ensures refused { IfErr result (λ stop. IfRefused stop (λ refusal. IsTextAnswer check_answer text.now (refused refusal))) }
 {
     let program = program_of(alloc, text)?;
-    let printed = print(alloc, program.tree())?;
-    Ok(printed)
+    print(alloc, program.tree()).map_err(Stop::from)
 }
 
-/// The report of an accepted program's run under the schedule that a text spells.
+/// The report of the run of the accepted program that a text is, under the schedule that another spells.
 pub fn source_text(alloc: Global, text: &str, schedule: &str) -> Result<String, Stop>
     ensures ok { IfOk result (λ answer. IsTextAnswer (source_answer schedule.now) text.now (done (string_bytes answer))) }
     ensures refused { IfErr result (λ stop. IfRefused stop (λ refusal. IsTextAnswer (source_answer schedule.now) text.now (refused refusal))) }
 {
     let program = program_of(alloc, text)?;
+    played(alloc, &program, schedule)
+}
+
+// The report of an accepted program's run under the schedule that a text spells.
+fn played(alloc: Global, program: &Program, schedule: &str) -> Result<String, Stop>
+    ensures ok { IfOk result (λ answer. done (string_bytes answer) ≡ source_answer schedule.now program.now) }
+    ensures refused { IfErr result (λ stop. IfRefused stop (λ refusal. refused refusal ≡ source_answer schedule.now program.now)) }
+{
     let steps = read_schedule(alloc, schedule, program.processes())?;
-    let report = play_source(alloc, &program, steps.as_slice())?;
-    Ok(report)
+    play_source(alloc, program, steps.as_slice()).map_err(Stop::from)
 }
 
 /// The accepted program that a text is.

@@ -9,7 +9,7 @@ ghost use Rattle.engine.specs.Commands.{is_run, runs};
 ghost use Rattle.ticketc_lines.specs.declared.command.Command.TheVariants.{Run};
 ghost use Rattle.engine.specs.Faults.{end_fault_in};
 ghost use Rattle.engine.specs.Serving.{Serves, ServesCommand, UnlessRun};
-ghost use Rattle.engine.specs.prover.Responses.{IsAnswered, IsAnsweredBy};
+ghost use Rattle.engine.specs.prover.Responses.{IsAnswered, IsAnsweredBy, RefusesLine};
 
 use crate::answer::response_to;
 use crate::fault::EngineFault;
@@ -19,7 +19,7 @@ use byte_io::{ByteSink, ByteSource, read_input, write_text};
 use command_line::asked;
 use std::alloc::Global;
 use tick_merge::OneRun;
-use ticketc_lines::{Command, command_of};
+use ticketc_lines::{Command, LineFault, command_of};
 
 /// What came of a command line that was served.
 #[derive(Clone, Copy, Debug, PartialEq, Eq)]
@@ -71,22 +71,37 @@ pub fn serve<R: ByteSource, W: ByteSink>(
     match command_of(request) {
         Ok(command) => match command {
             Command::Run(turns) => Ok(Served::Run(turns)),
-            _ => {
-                let respond = |input: &[u8]|
-                    requires fits { Fits (plain_command command) }
-                    requires no_run { runs (plain_command command) ≡ false }
-                    ensures { IsAnswered (plain_command command.entry) input.now result }
-                { response_to(alloc, command, input) };
-                let status = answered(alloc, reader, writer, respond)?;
-                Ok(Served::Status(status))
-            }
+            _ => obeyed(alloc, command, reader, writer).map(Served::Status),
         },
-        Err(fault) => {
-            let response = line_response(alloc, fault)?;
-            let status = write_response(writer, &response)?;
-            Ok(Served::Status(status))
-        }
+        Err(fault) => refused(alloc, fault, writer).map(Served::Status),
     }
+}
+
+// Reads the input, and writes the response to a command on it.
+fn obeyed<R: ByteSource, W: ByteSink>(
+    alloc: Global,
+    command: Command<&str>,
+    reader: &mut R,
+    writer: &mut W,
+) -> Result<u8, EngineFault>
+    requires fits { Fits (plain_command command) }
+    requires no_run { runs (plain_command command) ≡ false }
+    ensures { ServesCommand (Ok (plain_command command.entry)) R.remaining R.counts W.written W.counts reader.old reader.new writer.old writer.new result }
+{
+    let respond = |input: &[u8]|
+        requires fits { Fits (plain_command command) }
+        requires no_run { runs (plain_command command) ≡ false }
+        ensures { IsAnswered (plain_command command.entry) input.now result }
+    { response_to(alloc, command, input) };
+    answered(alloc, reader, writer, respond)
+}
+
+// Writes the response to a command line that is refused.
+fn refused<W: ByteSink>(alloc: Global, fault: LineFault, writer: &mut W) -> Result<u8, EngineFault>
+    ensures { RefusesLine fault W.written W.counts writer.old writer.new result }
+{
+    let response = line_response(alloc, fault)?;
+    write_response(writer, &response)
 }
 
 // Reads the input, and writes the response to it.

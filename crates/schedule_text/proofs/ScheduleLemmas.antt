@@ -1,9 +1,9 @@
 -- What the reading of a schedule keeps from byte to byte.
-use Rattle.std.proofs.Common.{◌≡◌, ◌==◌, ◌∙◌, ◌+◌, ◌-◌, ◌<◌, ◌≤◌, ◌∷◌, ◌++◌, ℕ, List, [], Ok, Err, Result, Bool, ap, arith, drop, get_or, length, refl, subst, sym, take, true, false, cond, leb-false, replicate, nat_le, nat_lt, Option, Some, None}
+use Rattle.std.proofs.Common.{◌≡◌, ◌==◌, ◌∙◌, ◌+◌, ◌-◌, ◌<◌, ◌≤◌, ◌∷◌, ◌++◌, ℕ, List, [], Ok, Err, Result, Bool, ap, ap₂, append_assoc, arith, drop, get_or, length, refl, subst, sym, take, true, false, cond, leb-false, replicate, nat_le, nat_lt, Option, Some, None}
 use Rattle.std.specs.List.{All, slice_split}
 use Rattle.std.proofs.Math.ListN.{length-drop, length-take}
 use Rattle.std.proofs.lemmas.Bool.{le-leb, le-ltb, lt-leb, lt-ltb, ltb-false}
-use Rattle.std.proofs.lemmas.List.{drop-drop, drop_more, get_or-drop, get_or-replicate, length-append, length-replicate, take-append-drop, take_rest}
+use Rattle.std.proofs.lemmas.List.{drop-drop, drop_more, get_or-drop, get_or-replicate, length-append, length-replicate, replicate_more, take-append-drop, take_rest}
 use Rattle.std.proofs.lemmas.List.Elements.{All-append, All-more, All-nil, All-replicate}
 use Rattle.std.proofs.lemmas.List.Splits.{slice_split_at, slice_split_none}
 use Rattle.base.specs.Blanks.{is_blank}
@@ -130,6 +130,30 @@ item_misfits make n place steps item (BadItem at) misfit = absurd misfit
 item_misfits make n place steps item (NoSuchProcess at) misfit = rw (le-leb n item.process misfit.1) (ap (λ (p : ℕ). Err (NoSuchProcess p)) (sym misfit.0))
 item_misfits make n place steps item TooLong misfit = rw (lt-leb n item.process misfit.0, lt-ltb 10000000 (length steps + item.steps) misfit.1) refl
 item_misfits make n place steps item NoMemory misfit = absurd misfit
+
+-- the same where they were counted, and each step was added
+pub item_pushed : {S : Type 0} (make : ℕ → S) (n place : ℕ) (steps new : List S) (item : Item) (count process counter : ℕ) (made : S)
+    → count ≡ length steps
+    → (process ≡ item.process) × (process < n) × (count + item.steps ≤ 10000000)
+    → made ≡ make process → item.steps ≤ counter → counter ≤ item.steps
+    → new ≡ steps ++ replicate counter made
+    → with_item make n place steps (Some item) ≡ Ok new
+item_pushed {S} make n place steps new item count process counter made counted fits making more less is =
+    let all : counter ≡ item.steps = omega arith in
+    item_fits make n place steps item (omega (arith, fits.0, fits.1)) (omega (arith, fits.2))
+    ∙ ap (λ (l : List S). Ok l) (sym (is ∙ ap₂ (λ (k : ℕ) (step : S). steps ++ replicate k step) all (making ∙ ap make fits.0)))
+
+-- one step more
+pub step_pushed : {S : Type 0} (made : S) (k : ℕ) (steps held new : List S) → held ≡ steps ++ replicate k made → new ≡ held ++ made ∷ []
+    → new ≡ steps ++ replicate (k + 1) made
+step_pushed {S} made k steps held new is pushed =
+    pushed ∙ ap (λ (l : List S). l ++ made ∷ []) is ∙ append_assoc steps (replicate k made) (made ∷ [])
+    ∙ ap (λ (l : List S). steps ++ l) (replicate_more k made)
+
+pub item_refused : {S : Type 0} (make : ℕ → S) (n place : ℕ) (steps : List S) (item : Item) (fault : ScheduleFault) (count : ℕ)
+    → count ≡ length steps → IsMisfit n place count item fault → with_item make n place steps (Some item) ≡ Err fault
+item_refused make n place steps item fault count counted misfit =
+    item_misfits make n place steps item fault (subst (λ k. IsMisfit n place k item fault) counted misfit)
 
 -- What items keep, where each is of a process below `n` and leads to no more than 10,000,000 steps.
 module _ {S : Type 0} (make : ℕ → S) (n : ℕ) (P : List S → Type 0)

@@ -1,7 +1,7 @@
 ghost use Rattle.std.specs.Prelude.{◌≡◌, ◌≢◌, ◌==◌, ◌<◌, All, IfErr, IfOk, OnOk, Some, if◌then◌else◌};
 ghost use Rattle.ticket_core.specs.declared.moves.Move.TheVariants.{Stamp, Clear};
 ghost use Rattle.schedule_text.specs.Moves.{moves_of, mover, with_moves};
-ghost use Rattle.schedule_text.specs.Schedule.{with_item};
+ghost use Rattle.schedule_text.specs.Schedule.{item_of, with_item};
 ghost use Rattle.schedule_text.specs.declared.schedule.ScheduleFault.TheVariants.{NoMemory};
 
 use crate::schedule::{Item, ScheduleFault, process_of, read_item};
@@ -37,11 +37,25 @@ fn push_piece(moves: &mut Vec<Move>, place: usize, piece: &[u8], n: u8) -> Resul
     ensures ok { OnOk result (with_moves n place moves.old.items piece.now ≡ Ok moves.new.items) }
     ensures err { IfErr result (λ fault. fault ≢ NoMemory → with_moves n place moves.old.items piece.now ≡ Err fault) }
 {
-    let Some(first) = piece.first() else {
-        return Ok(());
-    };
-    let clears = *first == CLEAR;
-    match read_item(if clears { &piece[1..] } else { piece }) {
+    match piece.split_first() {
+        None => Ok(()),
+        Some((&CLEAR, item)) => push_spelled(moves, place, item, true, n),
+        Some(_) => push_spelled(moves, place, piece, false, n),
+    }
+}
+
+// Adds the moves of the item that a text spells.
+fn push_spelled(
+    moves: &mut Vec<Move>,
+    place: usize,
+    text: &[u8],
+    clears: bool,
+    n: u8,
+) -> Result<(), ScheduleFault>
+    ensures ok { OnOk result (with_item (if clears then Clear else Stamp) n place moves.old.items (item_of text.now) ≡ Ok moves.new.items) }
+    ensures err { IfErr result (λ fault. fault ≢ NoMemory → with_item (if clears then Clear else Stamp) n place moves.old.items (item_of text.now) ≡ Err fault) }
+{
+    match read_item(text) {
         Some(item) => push_item(moves, place, item, clears, n),
         None => Err(ScheduleFault::BadItem(place)),
     }

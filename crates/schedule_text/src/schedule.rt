@@ -6,6 +6,7 @@ ghost use Rattle.schedule_text.specs.declared.schedule.ScheduleFault.TheVariants
 
 use base::{is_blank, number};
 use std::alloc::{AllocFailed, Global};
+use std::fmt;
 use thiserror::Error;
 
 /// The most steps of a schedule.
@@ -14,15 +15,32 @@ const STEP_LIMIT: u64 = 10_000_000;
 /// Why a text is no schedule. A place is the offset of the first byte of the first faulty item.
 #[derive(Clone, Copy, Debug, PartialEq, Eq, Error)]
 pub enum ScheduleFault {
-    #[error("bad item at {0}")]
     BadItem(usize),
-    #[error("no such process at {0}")]
     NoSuchProcess(usize),
     /// More than 10,000,000 steps.
-    #[error("too many steps")]
     TooLong,
-    #[error("out of memory")]
     NoMemory,
+}
+
+impl ScheduleFault {
+    // What is said, and the place that it ends with.
+    fn told(self) -> (&'static str, Option<usize>) {
+        match self {
+            ScheduleFault::BadItem(place) => ("bad item at ", Some(place)),
+            ScheduleFault::NoSuchProcess(place) => ("no such process at ", Some(place)),
+            ScheduleFault::TooLong => ("too many steps", None),
+            ScheduleFault::NoMemory => ("out of memory", None),
+        }
+    }
+}
+
+impl fmt::Display for ScheduleFault {
+    fn fmt<W: fmt::Write>(&self, f: &mut fmt::Formatter<W>) -> fmt::Result {
+        match self.told() {
+            (said, None) => f.write_str(said),
+            (said, Some(place)) => write!(f, "{said}{place}"),
+        }
+    }
 }
 
 impl<T: Drop> From<AllocFailed<T>> for ScheduleFault {

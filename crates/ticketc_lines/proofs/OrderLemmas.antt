@@ -1,12 +1,16 @@
 -- What the writing of `order`'s answer keeps from move to move.
-use Rattle.std.proofs.Common.{◌≡◌, ◌∙◌, ◌+◌, ◌<◌, ◌++◌, ◌∷◌, ℕ, List, ap, append_assoc, drop, get_or, length, sym}
+use Rattle.std.proofs.Common.{◌≡◌, ◌∙◌, ◌+◌, ◌<◌, ◌++◌, ◌∷◌, ℕ, List, Result, Ok, Err, OnOk, ap, append_assoc, codes, drop, get_or, if◌then◌else◌, length, map, sym}
+use Rattle.std.specs.Result.{is_ok}
 use Rattle.std.proofs.lemmas.List.{drop_more}
+use Rattle.std.specs.Fmt.{decimal}
+use Rattle.base.specs.Lines.{spaced}
 use Rattle.ticket_core.specs.Tickets.{start_tickets, ticket_ranks, tickets_moved}
 use Rattle.ticket_core.specs.declared.moves.Move.{Move}
 use Rattle.word_core.specs.Order.{IsOrdered, label_ranks}
+use Rattle.word_core.specs.Packed.{word}
 use Rattle.word_core.specs.Stamps.{Labels, labels_moved, moved, start_labels}
 use Rattle.word_core.proofs.Offered.{moves_law, length-moved, length-start_labels, start_ordered}
-use Rattle.ticketc_lines.specs.Order.{move_line, move_lines, state_lines}
+use Rattle.ticketc_lines.specs.Order.{label_text, move_line, move_lines, state_lines}
 
 -- after `i` moves: the others complete what the moves leave, and their lines the text
 pub record HasMoved (n : ℕ) (moves : List Move) (first text : List ℕ) (labels : Labels) (i : ℕ) : Type 0 where
@@ -49,3 +53,18 @@ pub state_lines-after : (n : ℕ) (moves : List Move) (labels : Labels) → labe
 state_lines-after n moves labels is =
     ap (λ (l : Labels). state_lines l (label_ranks l)) is
     ∙ ap (state_lines (labels_moved (start_labels n) moves)) (moves_law n moves).ranks
+
+-- where a text was added, or nothing
+pub if_pushed : {T E : Type 0} (r : Result T E) (new old more : List ℕ) (P : Type 0) → new ≡ (if is_ok r then old ++ more else old)
+    → (new ≡ old ++ more → P) → OnOk r P
+if_pushed (Ok t) new old more P is holds = holds is
+if_pushed (Err e) new old more P is holds = tt
+
+-- the lines of a state, as they are written piece by piece
+pub state_written : (old a b c d e f new : List ℕ) (labels : Labels) (ranks : List ℕ) (bits : ℕ) → bits ≡ word labels
+    → a ≡ old ++ codes "word " → b ≡ a ++ decimal bits
+    → c ≡ b ++ codes "\nlabels" → d ≡ c ++ spaced (map label_text labels)
+    → e ≡ d ++ codes "\nranks" → f ≡ e ++ spaced (map decimal ranks)
+    → new ≡ f ++ codes "\n" → new ≡ old ++ state_lines labels ranks
+state_written old a b c d e f new labels ranks bits is at_a at_b at_c at_d at_e at_f at_new =
+    rw (at_new, at_f, at_e, at_d, at_c, at_b, at_a, is) (simp append_assoc)

@@ -6,6 +6,7 @@ ghost use Rattle.ticketc_lines.specs.Command.{Fits, command_for, lawful as lawfu
 
 use base::number;
 use command_line::Request;
+use std::alloc::AllocError;
 
 /// The greatest N that a command line may have.
 const NUMBER_LIMIT: u64 = 4_294_967_295;
@@ -14,7 +15,7 @@ const NUMBER_LIMIT: u64 = 4_294_967_295;
 const TURNS_LIMIT: u64 = 1_000_000_000;
 
 /// What a command line asks for, with a schedule as its text.
-#[derive(Clone, Copy)]
+#[derive(Copy)]
 pub enum Command<T> {
     /// For so many processes, 1 to 6.
     Order(u8),
@@ -30,6 +31,16 @@ pub enum Command<T> {
     Project(T),
     /// A run on threads of so many turns, at most 1,000,000,000.
     Run(u64),
+}
+
+impl<T: Copy> Clone for Command<T> {
+    ghost is_clone = { λ command clone. clone ≡ command };
+
+    ghost is_infallible = { λ _. Unit {0} };
+
+    fn clone(&self) -> Result<Command<T>, AllocError> {
+        Ok(*self)
+    }
 }
 
 /// Why a command line is refused.

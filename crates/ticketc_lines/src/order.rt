@@ -15,7 +15,6 @@ use base::push_number;
 use label_core::Label;
 use schedule_text::{Move, read_moves};
 use std::alloc::{AllocError, Global};
-use std::fmt::Write;
 use word_core::{ABSENT_LABEL, EMPTY_LABEL, LAYOUT, LabelWord};
 
 /// The labels that `n` processes have after the stamps and clears that a text spells, and the way there.
@@ -114,7 +113,7 @@ fn push_labels(text: &mut String, word: &LabelWord) -> Result<(), AllocError>
     ensures { OnOk result (string_bytes text.new ≡ string_bytes text.old ++ spaced (map label_text word.now)) }
 {
     for process in 0..word.n() {
-        write!(text, " ")?;
+        text.push_str(" ")?;
         push_label(text, word, process)?;
     }
     Ok(())
@@ -137,7 +136,7 @@ fn push_digits(text: &mut String, label: &Label) -> Result<(), AllocError>
         return text.push_str(EMPTY_LABEL);
     }
     for i in 0..label.len() {
-        write!(text, "{}", label.digit(i))?;
+        push_number(text, u64::from(label.digit(i)))?;
     }
     Ok(())
 }
@@ -147,7 +146,14 @@ fn push_ranks(text: &mut String, word: &LabelWord) -> Result<(), AllocError>
 {
     let n = word.n() as usize;
     for rank in &word.ranks()[..n] {
-        write!(text, " {rank}")?;
+        push_spaced(text, *rank)?;
     }
     Ok(())
+}
+
+fn push_spaced(text: &mut String, rank: u8) -> Result<(), AllocError>
+    ensures { OnOk result (string_bytes text.new ≡ string_bytes text.old ++ codes " " ++ decimal rank) }
+{
+    text.push_str(" ")?;
+    push_number(text, u64::from(rank))
 }

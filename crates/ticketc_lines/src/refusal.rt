@@ -97,9 +97,7 @@ pub fn line_of(alloc: Global, refusal: Refusal) -> Result<String, AllocError>
 fn place_line(alloc: Global, name: &str, place: usize) -> Result<String, AllocError>
     ensures { IfOk result (λ line. string_bytes line ≡ name.now ++ decimal place ++ line_end) }
 {
-    let mut line = String::from_str(alloc, name)?;
-    writeln!(line, "{place}")?;
-    Ok(line)
+    format!(in alloc; "{name}{place}\n")
 }
 
 fn line_at(alloc: Global, name: &str, span: Span) -> Result<String, AllocError>
@@ -114,11 +112,8 @@ fn kinds_line(alloc: Global, span: Span, wanted: Kind, found: Kind) -> Result<St
     ensures { IfOk result (λ line. string_bytes line ≡ refusal_line (Refusal.WrongKind span wanted found)) }
 {
     let mut line = String::from_str(alloc, "refused 14 WrongKind")?;
-    write!(line, " {} {} ", span.start, span.end)?;
-    line.push_str(kind_text(wanted))?;
-    line.push_str(" ")?;
-    line.push_str(kind_text(found))?;
-    line.push_str("\n")?;
+    write!(line, " {} {}", span.start, span.end)?;
+    writeln!(line, " {} {}", kind_text(wanted), kind_text(found))?;
     Ok(line)
 }
 

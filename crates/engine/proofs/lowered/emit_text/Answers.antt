@@ -3,7 +3,7 @@ use Rattle.ticketc_lines.specs.Answer.{done}
 use Rattle.engine.specs.Lowered.{emit_answer, lowered_answer}
 use Rattle.engine.specs.Programs.{IsTextAnswer}
 use Rattle.engine.proofs.LoweredLemmas.{lowered_answered}
-use Rattle.engine.proofs.Weakening.{err_is}
+use Rattle.engine.proofs.Weakening.{err_is, if_err_mapped, if_mapped}
 use Rattle.engine.proofs.lowered.emit_text.Goals as goal
 
 pub returns-in_err-code-clause-refused : goal.returns-in_err-code-clause-refused
@@ -12,5 +12,10 @@ returns-in_err-code-clause-refused c =
 
 pub returns-clause-ok : goal.returns-clause-ok
 returns-clause-ok c =
-    subst (IsTextAnswer (lowered_answer emit_answer) c.args.text.now) (ap done (sym c.in_ok-emitted.ensures.text))
-    (lowered_answered emit_answer c.args.text.now c.in_ok-code.code c.in_ok-code.ensures.code)
+    if_mapped c.write_code.result c.map_err.result _ _ _ c.map_err.ensures.cases
+    (λ answer is. subst (IsTextAnswer (lowered_answer emit_answer) c.args.text.now) (ap done (sym is))
+    (lowered_answered emit_answer c.args.text.now c.in_ok-code.code c.in_ok-code.ensures.code)) c.write_code.ensures.text
+
+pub returns-clause-refused : goal.returns-clause-refused
+returns-clause-refused c =
+    if_err_mapped c.write_code.result c.map_err.result _ _ _ c.map_err.ensures.cases c.write_code.ensures.err (λ fault stop none gave. rw (gave, none) tt)

@@ -2,7 +2,7 @@ use Rattle.std.proofs.Common.{◌∙◌, ap}
 use Rattle.tick_syntax.specs.Printed.{printed}
 use Rattle.ticketc_lines.specs.Answer.{done}
 use Rattle.engine.specs.Programs.{accepted, check_answer}
-use Rattle.engine.proofs.Weakening.{err_is}
+use Rattle.engine.proofs.Weakening.{err_is, if_err_mapped, if_mapped}
 use Rattle.engine.proofs.program.check_text.Goals as goal
 
 pub returns-in_err-program-clause-refused : goal.returns-in_err-program-clause-refused
@@ -11,5 +11,9 @@ returns-in_err-program-clause-refused c =
 
 pub returns-clause-ok : goal.returns-clause-ok
 returns-clause-ok c =
-    accepted _ c.in_ok-program.ensures.reads c.in_ok-program.ensures.accepted
-    (ap done (c.in_ok-printed.ensures.ok ∙ ap printed c.tree.ensures.tree))
+    if_mapped c.print.result c.map_err.result _ _ _ c.map_err.ensures.cases
+    (λ answer is. accepted _ c.in_ok-program.ensures.reads c.in_ok-program.ensures.accepted (ap done (is ∙ ap printed c.tree.ensures.tree))) c.print.ensures.ok
+
+pub returns-clause-refused : goal.returns-clause-refused
+returns-clause-refused c =
+    if_err_mapped c.print.result c.map_err.result _ _ _ c.map_err.ensures.cases c.print.ensures.err (λ fault stop none gave. rw (gave, none) tt)
