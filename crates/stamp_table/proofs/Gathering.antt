@@ -1,5 +1,6 @@
 -- Any number of passes that meet, one after another.
-use Rattle.std.proofs.Common.{◌≡◌, ◌↔◌, ◌⊎◌, ℕ, zero, suc, ◌<◌, Bool, true, false, cond, ltb, List, [], ◌∷◌, length, refl, sym, ◌∙◌, subst, inl, inr, ⊎_elim, arith}
+use Rattle.std.proofs.Common.{◌≡◌, ◌↔◌, ◌⊎◌, ℕ, zero, suc, ◌<◌, Bool, true, false, cond, ltb, List, [], ◌∷◌, length, refl, sym, ◌∙◌, subst, inl, inr, ap, ⊎_elim, arith}
+use Rattle.word_core.specs.History.{IsLegal}
 use Rattle.std.specs.Prelude.{Any, slice_index_or}
 use Rattle.std.proofs.lemmas.List.{get_or_default}
 use Rattle.std.proofs.lemmas.List.Elements.{All-cons, All-nil, All-weaker}
@@ -17,18 +18,21 @@ any_cases : {X : Type 0} (P : X → Type 0) (x : X) (xs : List X) → Any P (x �
 any_cases P x xs (zero, y, below, at, is) = inl (subst P (sym at) is)
 any_cases P x xs (suc k, y, below, at, is) = inr (k, y, omega (arith, below), at, is)
 
--- one pass
-pub one_meets : (t : TableView) (pass : PassView) → pass.table ≡ t → AllMeet t (pass ∷ []) pass
-one_meets t pass here = record {
+-- one pass, looked at
+pub one_meets : (t : TableView) (pass met : PassView) → met.table ≡ t → ((p : ℕ) → Holds met.held p ↔ Holds pass.held p) → met.seen ≡ pass.seen
+    → IsLegal t.n t.rows met.seen → AllMeet t (pass ∷ []) met
+one_meets t pass met here same seen legal = record {
   table = here;
   held = λ p. (
-    λ holds. any_here (λ (x : PassView). Holds x.held p) pass [] holds,
-    λ some. ⊎_elim (λ holds. holds) (λ none. absurd (omega (arith, none.2))) (any_cases (λ (x : PassView). Holds x.held p) pass [] some),
+    λ holds. any_here (λ (x : PassView). Holds x.held p) pass [] ((same p).0 holds),
+    λ some. ⊎_elim (λ holds. (same p).1 holds) (λ none. absurd (omega (arith, none.2))) (any_cases (λ (x : PassView). Holds x.held p) pass [] some),
   );
-  seen = any_here (λ (x : PassView). pass.seen ≡ x.seen) pass [] refl;
-  fronts = All-cons (λ (x : PassView). StartsWith pass.seen x.seen) pass [] (starts_itself pass.seen) (All-nil (λ (x : PassView). StartsWith pass.seen x.seen));
-  all_mine = All-cons (λ (x : PassView). (p : ℕ) → Holds x.held p → mine p pass.seen ≡ mine p x.seen) pass [] (λ p holds. refl)
-      (All-nil (λ (x : PassView). (p : ℕ) → Holds x.held p → mine p pass.seen ≡ mine p x.seen));
+  seen = any_here (λ (x : PassView). met.seen ≡ x.seen) pass [] seen;
+  fronts = All-cons (λ (x : PassView). StartsWith met.seen x.seen) pass [] (subst (λ s. StartsWith met.seen s) seen (starts_itself met.seen))
+      (All-nil (λ (x : PassView). StartsWith met.seen x.seen));
+  all_mine = All-cons (λ (x : PassView). (p : ℕ) → Holds x.held p → mine p met.seen ≡ mine p x.seen) pass [] (λ p holds. ap (mine p) seen)
+      (All-nil (λ (x : PassView). (p : ℕ) → Holds x.held p → mine p met.seen ≡ mine p x.seen));
+  legal = legal;
 }
 
 -- what one of the passes held, the new one holds
@@ -76,4 +80,5 @@ module _ (t : TableView) (pass : PassView) (passes : List PassView) (met more : 
         All-cons (λ (x : PassView). (p : ℕ) → Holds x.held p → mine p more.seen ≡ mine p x.seen) pass passes meets.second_mine
         (λ k d below p holds.
         meets.first_mine p (held_by_all t passes met were k d below p holds) ∙ were.all_mine k d below p holds);
+    legal = subst (λ (u : TableView). IsLegal u.n u.rows more.seen) were.table meets.legal;
   }

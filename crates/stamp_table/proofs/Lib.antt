@@ -12,3 +12,4 @@ pub mod Meeting
 pub mod Gathering
 pub mod Rows
 pub mod Offered
+pub mod Examples

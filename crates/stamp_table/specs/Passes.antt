@@ -78,13 +78,14 @@ pub record Meets (first second met : PassView) : Type 0 where
 
 -- Any number of passes of a table met: the new one holds what any of them held, and has seen the longest
 -- of their lists, which begins with each. The steps of each process that it holds are what they were in
--- the pass that held it.
+-- the pass that held it. The list is a legal history.
 pub record AllMeet (t : TableView) (passes : List PassView) (met : PassView) : Type 0 where
   pub table : met.table ≡ t
   pub held : (p : ℕ) → Holds met.held p ↔ Any (λ (pass : PassView). Holds pass.held p) passes
   pub seen : Any (λ (pass : PassView). met.seen ≡ pass.seen) passes
   pub fronts : All (λ (pass : PassView). StartsWith met.seen pass.seen) passes
   pub all_mine : All (λ (pass : PassView). (p : ℕ) → Holds pass.held p → mine p met.seen ≡ mine p pass.seen) passes
+  pub legal : IsLegal t.n t.rows met.seen
 
 -- the pass of all processes of a table that has seen nothing yet
 abbrev pub whole : TableView → PassView

@@ -36,7 +36,8 @@ impl StampTable {
         ensures none { IsNone result ↔ (vec_len passes ≡ 0) }
         ensures met { IfSome result (λ met. AllMeet self.now passes.items met) }
     {
-        let mut met = passes.pop()?;
+        let first = passes.pop()?;
+        let mut met = self.looked_at(first);
         while let Some(pass) = passes.pop() {
             met = self.meet(met, pass);
         }

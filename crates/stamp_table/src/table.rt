@@ -1,6 +1,7 @@
 // A table from its making to the last meeting of its passes.
-ghost use Rattle.std.specs.Prelude.{◌≡◌, ◌≤◌, true, false, IfOk, slice_set};
+ghost use Rattle.std.specs.Prelude.{◌≡◌, ◌↔◌, ◌≤◌, ℕ, true, false, IfOk, slice_set};
 ghost use Rattle.stamp_table.specs.Passes.{Holds, none_held, together, whole, part, Meets};
+ghost use Rattle.word_core.specs.History.{IsLegal};
 
 use crate::fault::OpenFault;
 use crate::pass::Pass;
@@ -84,6 +85,29 @@ impl StampTable {
             rows,
         };
         (rest, one)
+    }
+
+    // The pass as it is. What it has seen is a legal history.
+    pub(crate) fn looked_at(&self, pass: Pass) -> Pass
+        requires here { pass.table ≡ self.now }
+        ensures table { result.table ≡ self.now }
+        ensures held { (p : ℕ) → Holds result.held p ↔ Holds pass.held p }
+        ensures seen { result.seen ≡ pass.seen }
+        ensures legal { IsLegal self.now.n self.now.rows result.seen }
+    {
+        let Pass {
+            mut seat,
+            held,
+            n,
+            rows,
+        } = pass;
+        looked::<Brand>(&self.table.shared, &mut seat);
+        Pass {
+            seat,
+            held: either_held(&held, &[false; 6]),
+            n,
+            rows,
+        }
     }
 
     /// A pass that holds what both hold, and has seen what either had.

@@ -7,11 +7,11 @@ use Rattle.stamp_table.proofs.table.StampTable.meet_all.Goals as goal
 
 pub loop-pass-init : goal.loop-pass-init
 loop-pass-init c =
-    let here = All-pop (λ (pass : PassView). pass.table ≡ c.args.self.now) _ _ (Some c.in_ok-met.met) c.in_ok-met.ensures.items c.requires in (
-      c.in_ok-met.met ∷ [],
-      c.in_ok-met.ensures.items,
+    let here = All-pop (λ (pass : PassView). pass.table ≡ c.args.self.now) _ _ (Some c.in_ok-first.first) c.in_ok-first.ensures.items c.requires in (
+      c.in_ok-first.first ∷ [],
+      c.in_ok-first.ensures.items,
       here.0,
-      one_meets c.args.self.now c.in_ok-met.met here.1,
+      one_meets c.args.self.now _ c.looked_at-met.result c.looked_at-met.ensures.table c.looked_at-met.ensures.held c.looked_at-met.ensures.seen c.looked_at-met.ensures.legal,
     )
 
 pub loop-pass-preserved : goal.loop-pass-preserved
