@@ -1,5 +1,5 @@
 -- The two maps item by item, as the code makes them.
-use Rattle.std.proofs.Common.{◌≡◌, ℕ, suc, ◌+◌, ◌-◌, ◌<◌, ◌≤◌, true, false, if◌then◌else◌, List, [], ◌∷◌, ◌++◌, All, length, drop, replicate, get_or, refl, ap, sym, ◌∙◌, subst, arith, append_assoc, Option, Some, None}
+use Rattle.std.proofs.Common.{◌≡◌, ℕ, suc, ◌+◌, ◌-◌, ◌<◌, ◌≤◌, Bool, true, false, if◌then◌else◌, List, [], ◌∷◌, ◌++◌, All, length, drop, replicate, get_or, refl, ap, sym, ◌∙◌, subst, arith, append_assoc, Option, Some, None}
 use Rattle.std.specs.Prelude.{slice_get}
 use Rattle.std.proofs.Math.Seq.{drop-cons, drop-length}
 use Rattle.std.proofs.lemmas.List.{append-nil}
@@ -39,6 +39,27 @@ module _ (n : ℕ) (code : List Instr) where
         | true ↦ All-cons P p (down_from n code schedule (C.code_step n code p d)) (all 0 p (omega arith)) later
         | false ↦ later
       ]
+
+  -- one item of a schedule of the code, whose step ended a step of the program, or none
+  pub down_more : (i : ℕ) (schedule steps steps' : List ℕ) (d d' : CodeState) (ends : Bool) (last : List ℕ) → i < length schedule
+      → ends ≡ is_commit n code (get_or schedule i 0) d → d' ≡ C.code_step n code (get_or schedule i 0) d
+      → steps' ≡ (if ends then steps ++ get_or schedule i 0 ∷ [] else steps)
+      → steps ++ down_from n code (drop i schedule) d ≡ last → steps' ++ down_from n code (drop (i + 1) schedule) d' ≡ last
+  down_more i schedule steps steps' d d' ends last inside told step grown whole =
+      let p : ℕ = get_or schedule i 0 in
+      let later : List ℕ = down_from n code (drop (suc i) schedule) (C.code_step n code p d) in
+      let next : i + 1 ≡ suc i = omega arith in
+      ap (λ j. steps' ++ down_from n code (drop j schedule) d') next
+      ∙ ap (λ d. steps' ++ down_from n code (drop (suc i) schedule) d) step
+      ∙ ap (λ s. s ++ later) grown
+      ∙ by p later ends
+      ∙ ap (λ b. steps ++ (if b then p ∷ later else later)) told
+      ∙ ap (λ t. steps ++ down_from n code t d) (sym (drop-cons schedule i 0 inside))
+      ∙ whole
+    where
+      by : (p : ℕ) (later : List ℕ) (b : Bool) → (if b then steps ++ p ∷ [] else steps) ++ later ≡ steps ++ (if b then p ∷ later else later)
+      by p later true = append_assoc steps (p ∷ []) later
+      by p later false = refl
 
   -- one item of a schedule of the program
   pub up_more : (i : ℕ) (schedule steps steps' : List ℕ) (d d' : CodeState) (last : List ℕ) → i < length schedule
