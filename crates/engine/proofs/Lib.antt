@@ -9,3 +9,4 @@ pub mod Reported
 pub mod RunKinds
 pub mod RunPrograms
 pub mod Unserved
+pub mod Examples

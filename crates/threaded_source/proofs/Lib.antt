@@ -1,2 +1,3 @@
 mod Shown
+mod Examples
 pub mod Offered

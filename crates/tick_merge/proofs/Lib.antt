@@ -17,4 +17,5 @@ mod Starting
 mod Ending
 mod OneAnswer
 mod Examples
+mod RunExamples
 pub mod Offered
