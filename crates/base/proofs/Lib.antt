@@ -1,3 +1,5 @@
-pub mod NumberLemmas
+pub mod Blocks
 pub mod DigitValues
+pub mod NumberLemmas
 pub mod Offered
+pub mod RowLemmas

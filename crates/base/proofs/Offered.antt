@@ -4,6 +4,8 @@ use Rattle.std.proofs.Common.{◌≡◌, ℕ, suc, ◌+◌, ◌-◌, ◌<◌, �
 use Rattle.std.proofs.lemmas.List.{set-append_right, take-replicate, drop-replicate, take_more, take_all}
 use Rattle.std.proofs.Math.Seq.{take-append-add, drop-append-add}
 use Rattle.base.specs.Rows.{padded}
+pub use Rattle.base.proofs.RowLemmas.{made_more, rows_set, fails_on, fails_with}
+pub use Rattle.base.proofs.Blocks.{statement_of_branch, statement_of_repeat}
 pub use Rattle.base.proofs.DigitValues.{number_of-digits, Spells, decimal_spells}
 
 -- the row is what counts of it, padded again

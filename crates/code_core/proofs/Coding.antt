@@ -5,8 +5,8 @@ use Rattle.std.proofs.lemmas.List.{append-nil, length-append, drop_more, drop_al
 use Rattle.std.proofs.lemmas.List.Elements.{All-nil, All-cons, All-head, All-tail, All-more}
 use Rattle.std.proofs.lemmas.Nat.{div-mul-add}
 use Rattle.std.proofs.lemmas.Option.{slice_get-map}
-use Rattle.machine_core.specs.declared.operator.Op.{Op}
-use Rattle.machine_core.specs.declared.operator.Op.TheVariants as O
+use Rattle.base.specs.declared.operator.Op.{Op}
+use Rattle.base.specs.declared.operator.Op.TheVariants as O
 use Rattle.code_core.specs.declared.instr.Instr.{Instr}
 use Rattle.code_core.specs.declared.instr.Instr.TheVariants as I
 use Rattle.code_core.specs.Words.{kind, sign_number, operands, word_of, constant_in, constants_of, words_from, words_of, sign_of, of_kind, decoded, decoded_all}

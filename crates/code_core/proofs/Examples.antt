@@ -1,6 +1,6 @@
 -- Small codes, and what the definitions make of them.
 use Rattle.std.proofs.Common.{◌≡◌, List, [], ◌∷◌, Some, refl}
-use Rattle.machine_core.specs.declared.operator.Op.TheVariants as O
+use Rattle.base.specs.declared.operator.Op.TheVariants as O
 use Rattle.code_core.specs.declared.instr.Instr.{Instr}
 use Rattle.code_core.specs.declared.instr.Instr.TheVariants as I
 use Rattle.code_core.specs.declared.fault.CodeFault.TheVariants as F

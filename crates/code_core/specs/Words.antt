@@ -1,8 +1,8 @@
 -- The words that a code is kept in: a number below 2 ^ 32 for each instruction, and one list of the
 -- constants that are pushed, in order of places.
 use Rattle.std.specs.Prelude.{ℕ, ◌+◌, ◌*◌, ◌/◌, ◌%◌, List, [], ◌∷◌, ◌++◌, length, map, slice_index, slice_index_or}
-use Rattle.machine_core.specs.declared.operator.Op.{Op}
-use Rattle.machine_core.specs.declared.operator.Op.TheVariants as O
+use Rattle.base.specs.declared.operator.Op.{Op}
+use Rattle.base.specs.declared.operator.Op.TheVariants as O
 use Rattle.code_core.specs.declared.instr.Instr.{Instr}
 use Rattle.code_core.specs.declared.instr.Instr.TheVariants as I
 

@@ -1,7 +1,7 @@
 ghost use Rattle.std.specs.Prelude.{◌≤◌};
 
 use crate::words::kind;
-use machine_core::Op;
+use base::Op;
 use std::fmt;
 
 /// One instruction of a process. Values stand on a stack of the process's own; slots of variables,

@@ -3,7 +3,7 @@ ghost use Rattle.code_core.specs.Words.{kind, sign_number, operands, word_of, co
 ghost use Rattle.code_core.specs.prover.Coding.{SlotsFit, AreCoded};
 
 use crate::instr::Instr;
-use machine_core::Op;
+use base::Op;
 use std::alloc::{AllocError, Global};
 
 /// A word for each instruction, and the values that are pushed.

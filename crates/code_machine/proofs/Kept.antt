@@ -1,6 +1,6 @@
 -- A process goes on running its code, and asks for nothing else than it may.
 use Rattle.std.proofs.Common.{◌≡◌, ℕ, ◌<◌, ◌≤◌, refl, ap, ◌∙◌, sym, subst, Option, Some, None}
-use Rattle.machine_core.specs.declared.event.Event.{Event}
+use Rattle.base.specs.declared.event.Event.{Event}
 use Rattle.code_core.specs.Instructions.{StepCode, CodeSizes}
 use Rattle.code_core.specs.declared.instr.Instr.{Instr}
 use Rattle.code_core.specs.Heights.{greatest_height}

@@ -25,12 +25,12 @@ use Rattle.std.proofs.lemmas.Bool.{both_ways, ltb-true}
 use Rattle.std.proofs.lemmas.List.{length-drop, length-set}
 use Rattle.std.proofs.lemmas.List.Elements.{All-set, All-get_or}
 use Rattle.std.proofs.lemmas.Option.{slice_get_within}
-use Rattle.machine_core.specs.declared.status.Trap.{Trap}
-use Rattle.machine_core.specs.declared.status.Trap.TheVariants as T
-use Rattle.machine_core.specs.declared.status.Status.{Status}
-use Rattle.machine_core.specs.declared.event.Act.{Act}
-use Rattle.machine_core.specs.declared.event.Act.TheVariants as A
-use Rattle.machine_core.specs.Operators.{operation}
+use Rattle.base.specs.declared.status.Trap.{Trap}
+use Rattle.base.specs.declared.status.Trap.TheVariants as T
+use Rattle.base.specs.declared.status.Status.{Status}
+use Rattle.base.specs.declared.event.Act.{Act}
+use Rattle.base.specs.declared.event.Act.TheVariants as A
+use Rattle.base.specs.Operators.{operation}
 use Rattle.code_core.specs.declared.instr.Instr.{Instr}
 use Rattle.code_core.specs.declared.instr.Instr.TheVariants as I
 use Rattle.code_core.specs.Instructions.{CodeSizes, pops, left, target, goes_on}

@@ -1,7 +1,7 @@
 -- What a step makes, from what became of its instruction.
 use Rattle.std.proofs.Common.{◌≡◌, ◌⊎◌, ⊎_elim, ℕ, List, Option, Some, None, refl, ap, ◌∙◌, sym}
 use Rattle.word_core.specs.Stamps.{Labels}
-use Rattle.machine_core.specs.declared.event.Event.{Event}
+use Rattle.base.specs.declared.event.Event.{Event}
 use Rattle.code_machine.specs.declared.ask.Ask.{Ask}
 use Rattle.code_machine.specs.declared.ask.Reply.{Reply}
 use Rattle.code_machine.specs.declared.ask.Advance.{Advance}

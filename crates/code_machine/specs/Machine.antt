@@ -3,16 +3,16 @@ use Rattle.std.specs.Prelude.{ℕ, ◌+◌, ◌==◌, nat_lt, Bool, true, false,
 use Rattle.label_core.specs.Labels.{same_label}
 use Rattle.word_core.specs.Stamps.{Labels, start_labels, label_at, is_present, stamped, cleared}
 use Rattle.word_core.specs.Order.{older_label, label_ranks}
-use Rattle.machine_core.specs.declared.status.Trap.{Trap}
-use Rattle.machine_core.specs.declared.status.Trap.TheVariants as T
-use Rattle.machine_core.specs.declared.status.Status.{Status}
-use Rattle.machine_core.specs.declared.status.Status.TheVariants.{Running, Ended, Trapped}
-use Rattle.machine_core.specs.declared.event.Act.{Act}
-use Rattle.machine_core.specs.declared.event.Act.TheVariants as A
-use Rattle.machine_core.specs.declared.event.Event.{Event}
-use Rattle.machine_core.specs.Operators.{truth_value, operation}
-use Rattle.machine_core.specs.Rows.{start_rows, register_at, register_set}
-use Rattle.machine_core.specs.Observables.{Observables, told, told_ranks}
+use Rattle.base.specs.declared.status.Trap.{Trap}
+use Rattle.base.specs.declared.status.Trap.TheVariants as T
+use Rattle.base.specs.declared.status.Status.{Status}
+use Rattle.base.specs.declared.status.Status.TheVariants.{Running, Ended, Trapped}
+use Rattle.base.specs.declared.event.Act.{Act}
+use Rattle.base.specs.declared.event.Act.TheVariants as A
+use Rattle.base.specs.declared.event.Event.{Event}
+use Rattle.base.specs.Operators.{truth_value, operation}
+use Rattle.base.specs.RegisterRows.{start_rows, register_at, register_set}
+use Rattle.base.specs.Observables.{Observables, told, told_ranks}
 use Rattle.code_core.specs.declared.instr.Instr.{Instr}
 use Rattle.code_core.specs.declared.instr.Instr.TheVariants as I
 use Rattle.code_core.specs.Instructions.{CodeSizes, StepCode}

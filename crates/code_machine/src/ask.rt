@@ -1,4 +1,4 @@
-use machine_core::Event;
+use base::Event;
 use word_core::LabelWord;
 
 /// What a process wants of the words that all processes share.

@@ -17,7 +17,7 @@ mod stack;
 mod telling;
 
 pub use ask::{Advance, Ask, Reply};
+pub use base::{Act, Event, NoMemory, Op, Outcome, Status, Trap};
 pub use code_core::{Code, CodeFault, Instr, Sizes, verify};
 pub use machine::{CodeMachine, Made, run};
-pub use machine_core::{Act, Event, NoMemory, Op, Outcome, Status, Trap};
 pub use proc::Proc;

@@ -1,6 +1,6 @@
 ghost use Rattle.std.specs.Prelude.{◌≡◌, false, ℕ, ◌<◌, ◌≤◌, List, length, map, slice_get, OnOk, OnErr, IfOk, IfSome, IsOk, IsTrue, Some, is_some, option_map, option_and_then, All};
-ghost use Rattle.machine_core.specs.Rows.{register_at};
-ghost use Rattle.machine_core.specs.Observables.{observed};
+ghost use Rattle.base.specs.RegisterRows.{register_at};
+ghost use Rattle.base.specs.Observables.{observed};
 ghost use Rattle.code_machine.specs.Machine.{code_start, code_step, running_as, next_instruction, next_act, run_of, statuses_of, places_of, observables, made, labels_left, rows_left};
 ghost use Rattle.code_machine.specs.Safety.{AreOrdered};
 ghost use Rattle.code_machine.specs.Process.{IsOf, event_of, next_of};
@@ -9,8 +9,8 @@ ghost use Rattle.code_machine.specs.prover.Parts.{moved_as, Makes, Keeps, AreNew
 use crate::ask::Advance;
 use crate::memory::CodeMemory;
 use crate::proc::Proc;
+use base::{Event, NoMemory, Outcome, Status};
 use code_core::{Code, Instr};
-use machine_core::{Event, NoMemory, Outcome, Status};
 use std::alloc::Global;
 use std::marker::Model;
 use word_core::LabelWord;

@@ -1,7 +1,7 @@
 // What a process makes of an instruction alone, and what it asks.
 
 ghost use Rattle.std.specs.Prelude.{◌≡◌, ◌<◌, ◌≤◌, ◌+◌, ◌==◌, ◌∷◌, ℕ, nat_lt, if◌then◌else◌, length, drop, slice_get, slice_index, Some, None};
-ghost use Rattle.machine_core.specs.Operators.{operation};
+ghost use Rattle.base.specs.Operators.{operation};
 ghost use Rattle.word_core.specs.Order.{IsOrdered};
 ghost use Rattle.code_machine.specs.Machine.{alone, goes, goes_on, stops, results, sets, keeps, scan_at, stamps, gets, compares, tells_held};
 ghost use Rattle.code_machine.specs.Process.{IsOf, advance_of, after_advance};
@@ -9,8 +9,8 @@ ghost use Rattle.code_machine.specs.prover.Held.{does_of, Becomes, Finds};
 
 use crate::ask::{Advance, Ask};
 use crate::proc::Proc;
+use base::{Act, Op, Status, Trap};
 use code_core::{Code, Instr};
-use machine_core::{Act, Op, Status, Trap};
 use word_core::LabelWord;
 
 // The number of a process as a value says it, where one of `n` processes has it.

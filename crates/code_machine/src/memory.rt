@@ -1,12 +1,12 @@
 ghost use Rattle.std.specs.Prelude.{◌≡◌, ◌<◌, ℕ, length, IfOk};
-ghost use Rattle.machine_core.specs.Rows.{start_rows};
+ghost use Rattle.base.specs.RegisterRows.{start_rows};
 ghost use Rattle.word_core.specs.Stamps.{start_labels};
 ghost use Rattle.word_core.specs.Packed.{AreLabels};
 ghost use Rattle.code_machine.specs.Machine.{same_labels, reply_in, labels_by, rows_by};
 
 use crate::ask::{Ask, Reply};
+use base::{NoMemory, Registers};
 use code_core::Sizes;
-use machine_core::{NoMemory, Registers};
 use std::alloc::Global;
 use word_core::LabelWord;
 

@@ -6,8 +6,8 @@ ghost use Rattle.code_machine.specs.Process.{IsOf, event_of, advance_of, after_a
 
 use crate::ask::{Advance, Reply};
 use crate::stack::{APART, Stack};
+use base::{Event, Status};
 use code_core::{Code, CodeFault, Instr};
-use machine_core::{Event, Status};
 use std::alloc::{AllocError, Global};
 use std::marker::Model;
 use word_core::LabelWord;

@@ -1,6 +1,6 @@
 ghost use Rattle.std.specs.Prelude.{◌≡◌, length};
 ghost use Rattle.word_core.specs.Order.{label_ranks};
-ghost use Rattle.machine_core.specs.Observables.{told_ranks};
+ghost use Rattle.base.specs.Observables.{told_ranks};
 
 use label_core::MOST_LABELS;
 use word_core::LabelWord;

@@ -12,8 +12,8 @@ use crate::making::index;
 use crate::memory::are_same;
 use crate::proc::Proc;
 use crate::ranks::ranks_of;
+use base::{Act, Event, Status};
 use code_core::{Code, Instr};
-use machine_core::{Act, Event, Status};
 use word_core::LabelWord;
 
 impl Proc {

@@ -4,8 +4,8 @@ ghost use Rattle.code_text.specs.prover.Guess.{guess, guessed_version, guessed_s
 ghost use Rattle.code_core.specs.Instructions.{AreSizes};
 
 use crate::reader::Reader;
+use base::Op;
 use code_core::{Instr, Sizes};
-use machine_core::Op;
 
 /// The instruction whose line begins this text, if one does; else any.
 pub fn guess(text: &[u8]) -> Instr

@@ -4,8 +4,8 @@ ghost use Rattle.code_text.specs.CodeText.{instr_text, instr_line, code_lines, h
 ghost use Rattle.code_text.specs.prover.Writing.{operands_text};
 ghost use Rattle.code_core.specs.declared.fault.CodeFault.TheVariants.{NoMemory};
 
+use base::Op;
 use code_core::{Code, CodeFault, Instr, Sizes};
-use machine_core::Op;
 use std::alloc::{AllocError, Global};
 use std::fmt::Write;
 

@@ -1,7 +1,7 @@
 -- An answer of `run` on a small program, worked by hand, and answers that are none of it.
 use Rattle.std.proofs.Common.{◌≡◌, ℕ, List, [], ◌∷◌, ◌++◌, codes, length, refl, ap, subst, lit<, arith}
 use Rattle.base.specs.Lines.{line_end}
-use Rattle.tick_tree.specs.Plain.{Name, number, out, nil, cons, WholeProgram}
+use Rattle.base.specs.Plain.{Name, number, out, nil, cons, WholeProgram}
 use Rattle.tick_merge.proofs.Offered.{seven_given, seven_run}
 use Rattle.threaded_source.proofs.Offered.{shows_seven}
 use Rattle.ticketc_lines.specs.Answer.{Answer, done}

@@ -7,7 +7,7 @@ use Rattle.tick_kinds.specs.Resolution.{resolved}
 use Rattle.tick_lower.specs.Lowered.{lowered_length}
 use Rattle.tick_lower.specs.declared.fault.LowerFault.{LowerFault}
 use Rattle.tick_lower.specs.declared.fault.LowerFault.TheVariants as lowering
-use Rattle.tick_tree.specs.Plain.{Name, WholeProgram}
+use Rattle.base.specs.Plain.{Name, WholeProgram}
 use Rattle.tick_syntax.proofs.Offered.{one_program}
 use Rattle.code_text.proofs.Offered.{one_reading}
 use Rattle.code_core.specs.Instructions.{StepCode}

@@ -10,7 +10,7 @@ use Rattle.schedule_text.specs.Schedule.{schedule_of}
 use Rattle.schedule_text.specs.Written.{schedule_text}
 use Rattle.schedule_text.specs.declared.schedule.ScheduleFault.{ScheduleFault}
 use Rattle.tick_sim.proofs.Offered.{down_law, up_law, down_lawful, down_short, up_lawful}
-use Rattle.tick_tree.specs.Plain.{Name, WholeProgram}
+use Rattle.base.specs.Plain.{Name, WholeProgram}
 use Rattle.tick_syntax.proofs.Offered.{program_text_begins}
 use Rattle.code_core.specs.Instructions.{StepCode}
 use Rattle.code_machine.specs.Machine.{code_start}

@@ -3,7 +3,7 @@ use Rattle.std.proofs.Common.{◌≡◌, ◌∙◌, ℕ, List, Option, Some, Non
 use Rattle.code_core.specs.Instructions.{StepCode}
 use Rattle.threaded_source.proofs.Offered.{threaded_source_law}
 use Rattle.tick_kinds.specs.Resolution.{resolved}
-use Rattle.tick_tree.specs.Plain.{Name, WholeProgram}
+use Rattle.base.specs.Plain.{Name, WholeProgram}
 use Rattle.tick_syntax.specs.RoundTrip.{IsTextOf}
 use Rattle.tick_syntax.proofs.Offered.{one_program, program_text_begins}
 use Rattle.ticketc_lines.specs.Answer.{Answer}

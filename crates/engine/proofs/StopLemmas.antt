@@ -6,7 +6,7 @@ use Rattle.tick_kinds.specs.declared.fault.KindFault.TheVariants as kinds
 use Rattle.schedule_text.specs.Schedule.{schedule_of}
 use Rattle.schedule_text.specs.declared.schedule.ScheduleFault.{ScheduleFault}
 use Rattle.schedule_text.specs.declared.schedule.ScheduleFault.TheVariants as schedule
-use Rattle.tick_tree.specs.Plain.{Name, WholeProgram}
+use Rattle.base.specs.Plain.{Name, WholeProgram}
 use Rattle.tick_syntax.specs.Refusal.{IsTextRefused}
 use Rattle.tick_syntax.specs.declared.fault.TextFault.{TextFault}
 use Rattle.tick_syntax.specs.declared.fault.TextFault.TheVariants as text

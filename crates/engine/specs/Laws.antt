@@ -6,7 +6,7 @@ use Rattle.base.specs.Lines.{line_end}
 use Rattle.command_line.specs.declared.request.Request.{Request}
 use Rattle.command_line.specs.declared.request.Request.TheVariants.{Source, Code, Expand, Project}
 use Rattle.schedule_text.specs.Written.{schedule_text}
-use Rattle.tick_tree.specs.Plain.{Name, WholeProgram}
+use Rattle.base.specs.Plain.{Name, WholeProgram}
 use Rattle.tick_syntax.specs.RoundTrip.{IsTextOf}
 use Rattle.code_core.specs.Instructions.{StepCode}
 use Rattle.ticketc_lines.specs.Answer.{Answer, done}

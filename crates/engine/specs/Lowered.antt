@@ -5,7 +5,7 @@ use Rattle.code_text.specs.CodeText.{ReadsAs, code_text}
 use Rattle.tick_kinds.specs.Accepted.{IsAccepted}
 use Rattle.tick_kinds.specs.Resolution.{resolved}
 use Rattle.tick_lower.specs.Lowered.{lowered, lowered_length, lowered_sizes}
-use Rattle.tick_tree.specs.Plain.{Name, WholeProgram}
+use Rattle.base.specs.Plain.{Name, WholeProgram}
 use Rattle.code_core.specs.Instructions.{StepCode}
 use Rattle.ticketc_lines.specs.Answer.{Answer, done, refused}
 use Rattle.engine.specs.Codes.{IsCodeAnswer}

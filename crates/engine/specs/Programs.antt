@@ -8,7 +8,7 @@ use Rattle.tick_kinds.specs.declared.fault.KindFault.{KindFault}
 use Rattle.tick_play.specs.Report.{source_report}
 use Rattle.schedule_text.specs.Schedule.{schedule_of}
 use Rattle.tick_syntax.specs.Nesting.{nesting}
-use Rattle.tick_tree.specs.Plain.{Name, WholeProgram}
+use Rattle.base.specs.Plain.{Name, WholeProgram}
 use Rattle.tick_syntax.specs.Printed.{printed}
 use Rattle.tick_syntax.specs.Refusal.{IsTextRefused}
 use Rattle.tick_syntax.specs.RoundTrip.{IsTextOf}

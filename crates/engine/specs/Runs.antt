@@ -1,11 +1,11 @@
 -- What `run` answers on a text: what its code lets others see on threads, or why it has no code.
 use Rattle.std.specs.Prelude.{◌≡◌, ℕ, List, []}
-use Rattle.machine_core.specs.Observables.{RunObservables}
+use Rattle.base.specs.Observables.{RunObservables}
 use Rattle.tick_play.specs.Outcome.{outcome_lines}
 use Rattle.tick_merge.specs.Runs.{IsWholeRun}
 use Rattle.threaded_source.specs.Shown.{ShowsOutcome}
 use Rattle.tick_kinds.specs.Resolution.{resolved}
-use Rattle.tick_tree.specs.Plain.{Name, WholeProgram}
+use Rattle.base.specs.Plain.{Name, WholeProgram}
 use Rattle.code_core.specs.Instructions.{StepCode}
 use Rattle.ticketc_lines.specs.Answer.{Answer, done}
 use Rattle.engine.specs.Codes.{code_answer}

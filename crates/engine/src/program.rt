@@ -1,7 +1,7 @@
 //! The commands on a program, each as the text that it answers.
 ghost use Rattle.std.specs.Prelude.{◌≡◌, IfErr, IfOk, string_bytes};
 ghost use Rattle.tick_kinds.specs.Accepted.{IsAccepted};
-ghost use Rattle.tick_tree.specs.Plain.{Name, WholeProgram};
+ghost use Rattle.base.specs.Plain.{Name, WholeProgram};
 ghost use Rattle.ticketc_lines.specs.Answer.{Answer, done, refused};
 ghost use Rattle.engine.specs.Programs.{IsProgramText, IsTextAnswer, check_answer, source_answer};
 ghost use Rattle.ticketc_lines.specs.Stop.{IfRefused};

@@ -1,10 +1,10 @@
 -- What holds of the code of a program where it holds of the program.
 use Rattle.std.specs.Prelude.{◌≡◌, ℕ, Bool, true, false, List, slice_get, Some}
 use Rattle.std.specs.List.{list_any}
-use Rattle.machine_core.specs.declared.status.Trap.{Trap}
-use Rattle.machine_core.specs.declared.run_outcome.RunEnd.TheVariants.{Trapped}
-use Rattle.machine_core.specs.Observables.{RunObservables}
-use Rattle.tick_tree.specs.Plain.{WholeProgram}
+use Rattle.base.specs.declared.status.Trap.{Trap}
+use Rattle.base.specs.declared.run_outcome.RunEnd.TheVariants.{Trapped}
+use Rattle.base.specs.Observables.{RunObservables}
+use Rattle.base.specs.Plain.{WholeProgram}
 use Rattle.tick_source.specs.Source.{source}
 use Rattle.tick_lower.specs.Lowered.{lowered, lowered_sizes}
 use Rattle.tick_sim.specs.Maps.{up}

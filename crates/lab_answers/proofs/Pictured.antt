@@ -1,8 +1,8 @@
 -- The picture of a run, of whose program the names and the number of processes were read.
 use Rattle.std.proofs.Common.{◌≡◌, ◌∙◌, ℕ, Bool, true, false, List, [], ◌∷◌, ap, if◌then◌else◌, map, refl, string_bytes}
-use Rattle.tick_tree.specs.Plain.{Name, WholeProgram}
-use Rattle.tick_tree.specs.View.{name_of}
-use Rattle.tick_tree.specs.declared.tree.Named.{Named}
+use Rattle.base.specs.Plain.{Name, WholeProgram}
+use Rattle.base.specs.View.{name_of}
+use Rattle.base.specs.declared.tree.Named.{Named}
 use Rattle.tick_kinds.specs.Resolution.{resolved}
 use Rattle.tick_draw.specs.Marks.{marks_of_code, program_marks}
 use Rattle.tick_draw.specs.Pictures.{picture}

@@ -1,6 +1,6 @@
 -- The run of an input and a text, and why there is none.
 use Rattle.std.proofs.Common.{◌≡◌, ℕ, Bool, List, Ok, subst, sym}
-use Rattle.tick_tree.specs.Plain.{Name, WholeProgram}
+use Rattle.base.specs.Plain.{Name, WholeProgram}
 use Rattle.schedule_text.specs.Schedule.{schedule_of}
 use Rattle.tick_explain.specs.Refusals.{IsProgram, IsScheduleRefused}
 use Rattle.tick_explain.specs.Reports.{TellsFor}

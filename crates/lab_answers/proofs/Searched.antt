@@ -1,6 +1,6 @@
 -- What an answer says, from what was explored or hunted and what the answer shows of it.
 use Rattle.std.proofs.Common.{◌≡◌, ◌≤◌, ℕ, List, [], length, refl, sym, ◌∙◌, subst, arith}
-use Rattle.tick_tree.specs.Plain.{Name, WholeProgram}
+use Rattle.base.specs.Plain.{Name, WholeProgram}
 use Rattle.tick_kinds.specs.Resolution.{resolved}
 use Rattle.state_search.specs.Watching.{Told, AreTold, IsWatched}
 use Rattle.tick_explore.specs.Searching.{AreToldFor, IfLimit, IfSafe, IfTrapped}

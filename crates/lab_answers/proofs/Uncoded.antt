@@ -1,9 +1,9 @@
 -- The tally of an input, and why there is none.
 use Rattle.std.proofs.Common.{◌≡◌, ◌∙◌, ℕ, List, length, ap, subst}
-use Rattle.machine_core.specs.Observables.{RunObservables}
+use Rattle.base.specs.Observables.{RunObservables}
 use Rattle.code_core.specs.Instructions.{StepCode}
 use Rattle.tick_tally.specs.Tallies.{AreCounted, AreRuns}
-use Rattle.tick_tree.specs.Plain.{Name, WholeProgram}
+use Rattle.base.specs.Plain.{Name, WholeProgram}
 use Rattle.tick_tally.specs.declared.counting.Counted.{Counted}
 use Rattle.tick_explain.specs.Refusals.{IsProgram, IsProgramRefused}
 use Rattle.tick_explain.specs.Reports.{Tells}

@@ -3,7 +3,7 @@ use Rattle.std.specs.Prelude.{◌≡◌, ◌≤◌, ℕ, List, [], length}
 use Rattle.tick_kinds.specs.Resolution.{resolved}
 use Rattle.tick_explain.specs.Refusals.{IsProgram, IsProgramRefused}
 use Rattle.tick_explain.specs.Reports.{Tells}
-use Rattle.tick_tree.specs.Plain.{WholeProgram}
+use Rattle.base.specs.Plain.{WholeProgram}
 use Rattle.state_search.specs.Watching.{Told, AreTold}
 use Rattle.tick_explore.specs.Searching.{IsLimit, IsSafe, IsShortestTrap}
 use Rattle.tick_explore.specs.Merging.{IsMergedLimit, IsMergedSafe}

@@ -1,7 +1,7 @@
 -- The code of a program, where it isn't too long.
 use Rattle.std.specs.Prelude.{◌≡◌, ◌≤◌, ◌<◌, ℕ, Bool, true, List}
 use Rattle.code_core.specs.Instructions.{StepCode}
-use Rattle.tick_tree.specs.Plain.{Name, WholeProgram}
+use Rattle.base.specs.Plain.{Name, WholeProgram}
 use Rattle.tick_kinds.specs.Resolution.{resolved}
 use Rattle.tick_lower.specs.Lowered.{lowered, lowered_length, lowered_sizes}
 use Rattle.lab_answers.specs.Lines.{too_long_line}

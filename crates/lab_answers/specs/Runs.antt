@@ -1,6 +1,6 @@
 -- What is answered of the run of a program, or of its code, under a schedule: a trace, or a picture.
 use Rattle.std.specs.Prelude.{◌≡◌, ℕ, Bool, true, false, List, map, Ok}
-use Rattle.tick_tree.specs.Plain.{Name, WholeProgram}
+use Rattle.base.specs.Plain.{Name, WholeProgram}
 use Rattle.tick_syntax.specs.Spelling.{Spells}
 use Rattle.tick_syntax.specs.declared.token.Token.{Token}
 use Rattle.tick_kinds.specs.Resolution.{resolved}

@@ -1,6 +1,6 @@
 -- What is told of what was explored or hunted in the program that an input is.
 use Rattle.std.specs.Prelude.{◌≡◌, ◌++◌, ℕ, List}
-use Rattle.tick_tree.specs.Plain.{Name, WholeProgram}
+use Rattle.base.specs.Plain.{Name, WholeProgram}
 use Rattle.tick_explore.specs.declared.answer.Explored.{Explored}
 use Rattle.tick_explore.specs.declared.answer.Explored.TheVariants.{Trapped, Safe, Limit}
 use Rattle.tick_hunt.specs.declared.answer.Hunted.{Hunted}

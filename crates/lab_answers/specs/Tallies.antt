@@ -1,6 +1,6 @@
 -- What is answered of runs of a program's code on threads.
 use Rattle.std.specs.Prelude.{◌≡◌, ℕ, List, length}
-use Rattle.machine_core.specs.Observables.{RunObservables}
+use Rattle.base.specs.Observables.{RunObservables}
 use Rattle.code_core.specs.Instructions.{StepCode}
 use Rattle.tick_tally.specs.Tallies.{AreCounted, AreRuns}
 use Rattle.tick_tally.specs.declared.counting.Counted.{Counted}

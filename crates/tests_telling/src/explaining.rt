@@ -4,7 +4,7 @@
 //! token of the language is put, and the words of the report are held against what the parser says.
 //! Where a growth is refused, a call is made once more.
 
-use machine_core::NoMemory;
+use base::NoMemory;
 use std::alloc::Global;
 use std::str;
 use std::test::Fail;

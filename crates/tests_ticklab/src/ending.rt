@@ -1,7 +1,7 @@
 //! How the program ends, over files, outputs and runs that are scripted: a row for each status.
+use base::RunOutcome;
 use code_core::Code;
 use lab_serving::{Files, Host, Progress, ended};
-use machine_core::RunOutcome;
 use std::alloc::{AllocError, Global};
 use std::env::Args;
 use std::io;

@@ -1,10 +1,10 @@
 -- What a small program shows under a schedule, worked by hand, and what it doesn't.
 use Rattle.std.proofs.Common.{◌≡◌, ℕ, zero, suc, List, [], ◌∷◌, get_or, Some, refl, sym, ap, subst, arith}
 use Rattle.std.specs.Prelude.{slice_get}
-use Rattle.machine_core.specs.declared.run_outcome.RunEnd.{RunEnd}
-use Rattle.machine_core.specs.declared.run_outcome.RunEnd.TheVariants.{Ended}
-use Rattle.machine_core.specs.Observables.{RunObservables}
-use Rattle.tick_tree.specs.Plain.{number, out, nil, cons, WholeProgram}
+use Rattle.base.specs.declared.run_outcome.RunEnd.{RunEnd}
+use Rattle.base.specs.declared.run_outcome.RunEnd.TheVariants.{Ended}
+use Rattle.base.specs.Observables.{RunObservables}
+use Rattle.base.specs.Plain.{number, out, nil, cons, WholeProgram}
 use Rattle.tick_merge.specs.Local.{outputs_of}
 use Rattle.tick_merge.specs.Ran.{events_by}
 use Rattle.tick_sim.specs.Laws.{seen}

@@ -1,7 +1,7 @@
 -- What holds of every run of a program's code on threads.
 use Rattle.std.specs.Prelude.{ℕ}
-use Rattle.machine_core.specs.Observables.{RunObservables}
-use Rattle.tick_tree.specs.Plain.{WholeProgram}
+use Rattle.base.specs.Observables.{RunObservables}
+use Rattle.base.specs.Plain.{WholeProgram}
 use Rattle.code_core.specs.Instructions.{StepCode}
 use Rattle.tick_lower.specs.Lowered.{lowered, lowered_sizes}
 use Rattle.tick_sim.specs.Maps.{down}

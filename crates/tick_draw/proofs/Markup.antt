@@ -4,8 +4,8 @@ use Rattle.std.proofs.Common.{◌≡◌, ◌∙◌, ap, sym, refl, arith, zero-a
 use Rattle.std.specs.Prelude.{◌==◌, ◌||◌, nat_lt, slice_get}
 use Rattle.std.specs.Fmt.{decimal}
 use Rattle.std.specs.List.{flat_map}
-use Rattle.machine_core.specs.declared.event.Act.{Act}
-use Rattle.machine_core.specs.declared.event.Act.TheVariants as A
+use Rattle.base.specs.declared.event.Act.{Act}
+use Rattle.base.specs.declared.event.Act.TheVariants as A
 use Rattle.tick_draw.specs.declared.mark.Mark.{Mark}
 use Rattle.tick_draw.specs.declared.mark.Sight.{Sight}
 use Rattle.tick_draw.specs.declared.mark.Sight.TheVariants as S

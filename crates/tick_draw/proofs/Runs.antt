@@ -4,7 +4,7 @@ use Rattle.std.specs.Prelude.{IfSome}
 use Rattle.std.proofs.Math.Seq.{drop-cons, drop-length}
 use Rattle.base.specs.Rows.{padded}
 use Rattle.ticket_core.specs.Tickets.{greatest_ticket, start_tickets}
-use Rattle.machine_core.specs.declared.event.Event.{Event}
+use Rattle.base.specs.declared.event.Event.{Event}
 use Rattle.code_core.specs.declared.instr.Instr.{Instr}
 use Rattle.tick_source.specs.Source.{SourceState, source_step}
 use Rattle.code_machine.specs.Machine.{CodeState, code_step, next_instruction}

@@ -6,17 +6,17 @@ use Rattle.std.proofs.Math.Seq.{drop-cons, drop-length}
 use Rattle.base.specs.Rows.{padded}
 use Rattle.ticket_core.specs.Tickets.{greatest_ticket, stamp_ticket, clear_ticket, older_ticket, holds_ticket}
 use Rattle.ticket_core.proofs.Offered.{greatest-stamp_ticket, greatest-clear_ticket, length-stamp_ticket, length-clear_ticket}
-use Rattle.tick_tree.specs.Plain.{Statement, assign, get, put, stamp, clear, scan, copy, older, held, out, branch, repeat, Block, nil, cons, onto, Expression}
-use Rattle.machine_core.specs.declared.event.Act.{Act}
-use Rattle.machine_core.specs.declared.event.Act.TheVariants as A
-use Rattle.machine_core.specs.declared.event.Event.{Event}
-use Rattle.machine_core.specs.declared.status.Trap.{Trap}
-use Rattle.machine_core.specs.declared.status.Trap.TheVariants as T
-use Rattle.machine_core.specs.declared.status.Status.{Status}
-use Rattle.machine_core.specs.declared.status.Status.TheVariants.{Running, Ended, Trapped}
-use Rattle.machine_core.specs.Observables.{told}
-use Rattle.machine_core.specs.Operators.{truth_value}
-use Rattle.machine_core.specs.Rows.{register_at, register_set}
+use Rattle.base.specs.Plain.{Statement, assign, get, put, stamp, clear, scan, copy, older, held, out, branch, repeat, Block, nil, cons, onto, Expression}
+use Rattle.base.specs.declared.event.Act.{Act}
+use Rattle.base.specs.declared.event.Act.TheVariants as A
+use Rattle.base.specs.declared.event.Event.{Event}
+use Rattle.base.specs.declared.status.Trap.{Trap}
+use Rattle.base.specs.declared.status.Trap.TheVariants as T
+use Rattle.base.specs.declared.status.Status.{Status}
+use Rattle.base.specs.declared.status.Status.TheVariants.{Running, Ended, Trapped}
+use Rattle.base.specs.Observables.{told}
+use Rattle.base.specs.Operators.{truth_value}
+use Rattle.base.specs.RegisterRows.{register_at, register_set}
 use Rattle.tick_source.specs.Values.{value}
 use Rattle.tick_source.specs.Source.{SourceProcess, SourceState, SourceStep, scan_at, goes, traps, with_value, with_index, does, did, step_of, step_as, source_step}
 use Rattle.tick_draw.specs.prover.Holding.{tickets_by, tickets_after}

@@ -1,9 +1,9 @@
 -- The lanes of each band, with the names of the processes; and how each process ended, beside its last lane.
 use Rattle.std.specs.Prelude.{ℕ, zero, suc, ◌+◌, ◌==◌, if◌then◌else◌, List, [], ◌∷◌, ◌++◌, codes}
-use Rattle.machine_core.specs.declared.event.Act.{Act}
-use Rattle.machine_core.specs.declared.event.Act.TheVariants as A
-use Rattle.machine_core.specs.declared.status.Status.{Status}
-use Rattle.machine_core.specs.declared.status.Status.TheVariants as T
+use Rattle.base.specs.declared.event.Act.{Act}
+use Rattle.base.specs.declared.event.Act.TheVariants as A
+use Rattle.base.specs.declared.status.Status.{Status}
+use Rattle.base.specs.declared.status.Status.TheVariants as T
 use Rattle.tick_draw.specs.declared.mark.Mark.{Mark}
 use Rattle.tick_draw.specs.declared.mark.Sight.{Sight}
 use Rattle.tick_draw.specs.declared.mark.Sight.TheVariants as S

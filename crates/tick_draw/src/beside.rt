@@ -8,7 +8,7 @@ use crate::mark::{Holdings, Mark, Sight};
 use crate::orders::ticket_of;
 use crate::words::{Cast, push_answer, push_label, push_ranks, push_read, push_written, trap_name};
 use crate::writing::{push, push_number};
-use machine_core::Act;
+use base::Act;
 use std::alloc::{AllocError, Global};
 use word_core::LabelWord;
 

@@ -3,8 +3,7 @@ ghost use Rattle.std.specs.Prelude.{◌≡◌, ◌+◌, ◌<◌, ◌^◌, IfSome
 ghost use Rattle.ticket_core.specs.Tickets.{greatest_ticket};
 ghost use Rattle.tick_draw.specs.prover.Holding.{tickets_after};
 
-use base::MOST_PROCESSES;
-use machine_core::{Act, Event};
+use base::{Act, Event, MOST_PROCESSES};
 
 /// The tickets move as the event of a step tells, where it has one.
 pub fn follow(tickets: &mut [u64; MOST_PROCESSES], event: Option<Event>)

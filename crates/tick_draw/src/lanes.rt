@@ -7,7 +7,7 @@ use crate::layout::{band_foot, lane_y};
 use crate::mark::{Mark, Sight};
 use crate::words::trap_name;
 use crate::writing::{push, push_one};
-use machine_core::{Act, Status};
+use base::{Act, Status};
 use std::alloc::AllocError;
 
 /// Adds so many bands.

@@ -23,7 +23,7 @@ mod style;
 mod words;
 mod writing;
 
-pub use machine_core::NoMemory;
+pub use base::NoMemory;
 pub use mark::{Holdings, Mark, Sight};
 pub use page::picture;
 pub use run::{code_marks, marks};

@@ -1,5 +1,4 @@
-use base::MOST_PROCESSES;
-use machine_core::Act;
+use base::{Act, MOST_PROCESSES};
 use word_core::LabelWord;
 
 /// What a picture shows of one step of a run.

@@ -4,8 +4,8 @@ ghost use Rattle.tick_draw.specs.Marks.{last_put, sight_of, with_event, with_los
 ghost use Rattle.tick_draw.specs.prover.Tables.{IsTable, Notes};
 
 use crate::mark::{Holdings, Mark, Sight};
+use base::{Act, Event, NoMemory};
 use code_machine::Instr;
-use machine_core::{Act, Event, NoMemory};
 use std::alloc::Global;
 use std::collections::BTreeMap;
 

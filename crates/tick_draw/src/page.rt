@@ -13,9 +13,9 @@ use crate::shapes::push_drawn;
 use crate::style::{backdrop, sheet};
 use crate::words::{Cast, push_sentence};
 use crate::writing::{push, push_escaped, push_one, push_two};
-use machine_core::NoMemory;
+use base::NoMemory;
+use base::tree::Named;
 use std::alloc::{AllocError, Global};
-use tick_tree::tree::Named;
 
 /// The marks of a run of `processes` processes as SVG. Rows of registers have these names, and `r` with
 /// its number where there is none. The title is read out, and stands above the picture.

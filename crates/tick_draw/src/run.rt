@@ -6,9 +6,8 @@ ghost use Rattle.tick_draw.specs.Marks.{marks_of_code, program_marks, told_after
 use crate::holding::follow;
 use crate::mark::{Holdings, Mark};
 use crate::marking::Marking;
-use base::{MOST_PROCESSES, NoMemory};
+use base::{Event, MOST_PROCESSES, NoMemory};
 use code_machine::{Code, CodeMachine, Instr, Made};
-use machine_core::Event;
 use std::alloc::Global;
 use tick_kinds::Program;
 use tick_source::SourceMachine;

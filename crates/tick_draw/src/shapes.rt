@@ -8,7 +8,7 @@ use crate::layout::{field_half, flag_middle, flag_width, is_far};
 use crate::mark::{Mark, Sight};
 use crate::words::Cast;
 use crate::writing::{push, push_one};
-use machine_core::Act;
+use base::Act;
 use std::alloc::{AllocError, Global};
 
 /// What stands in a lane for a mark, as the legend has it.

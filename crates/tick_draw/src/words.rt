@@ -8,10 +8,10 @@ ghost use Rattle.tick_draw.specs.Words.{act_text, answer_text, held_text, label_
 
 use crate::mark::{Holdings, Mark, Sight};
 use crate::writing::{push, push_escaped, push_number, push_wide};
+use base::tree::Named;
+use base::{Act, Trap};
 use label_core::Label;
-use machine_core::{Act, Trap};
 use std::alloc::AllocError;
-use tick_tree::tree::Named;
 use word_core::LabelWord;
 
 /// What is known besides the marks: how many processes there are, and the names of the rows.

@@ -1,8 +1,8 @@
 -- Whether a program goes on from a text's end, and whether the text is one: told by what the parser says of it.
 use Rattle.std.proofs.Common.{◌≡◌, ◌≢◌, ◌≤◌, ◌⊎◌, ◌==◌, ℕ, List, Bool, true, false, length, inl, inr, ap, refl, subst, sym}
 use Rattle.std.proofs.lemmas.Bool.{eqb-true, eqb-false}
-use Rattle.tick_tree.specs.Plain.{Name, WholeProgram, nowhere}
-use Rattle.tick_tree.specs.declared.span.Span.{Span}
+use Rattle.base.specs.Plain.{Name, WholeProgram, nowhere}
+use Rattle.base.specs.declared.span.Span.{Span}
 use Rattle.tick_syntax.specs.Nesting.{nesting}
 use Rattle.tick_syntax.specs.Refusal.{IsTextRefused}
 use Rattle.tick_syntax.specs.RoundTrip.{IsTextOf}

@@ -3,9 +3,9 @@ use Rattle.std.specs.Prelude.{◌≡◌, ◌⊎◌, ℕ, ◌+◌, ◌==◌, Bool
 use Rattle.std.specs.Borrow.{Bor}
 use Rattle.std.specs.List.{list_any}
 use Rattle.std.specs.Str.{IsUtf8, bytes_eq}
-use Rattle.machine_core.specs.declared.operator.Op.TheVariants as O
-use Rattle.tick_tree.specs.Plain.{Name, WholeProgram}
-use Rattle.tick_tree.specs.declared.span.Span.{Span}
+use Rattle.base.specs.declared.operator.Op.TheVariants as O
+use Rattle.base.specs.Plain.{Name, WholeProgram}
+use Rattle.base.specs.declared.span.Span.{Span}
 use Rattle.tick_syntax.specs.Decided.{IsWithinLimits}
 use Rattle.tick_syntax.specs.Refusal.{IsTextRefused}
 use Rattle.tick_syntax.specs.Terminals.{spelling}

@@ -2,7 +2,7 @@
 use Rattle.std.specs.Prelude.{ℕ, ◌==◌, Bool, true, false, ◌&&◌, ◌||◌, List, [], ◌∷◌, ◌++◌, codes, length, take, Option, Some, None, if◌then◌else◌}
 use Rattle.std.specs.Fmt.{decimal}
 use Rattle.std.specs.Str.{bytes_eq}
-use Rattle.tick_tree.specs.declared.span.Span.{Span}
+use Rattle.base.specs.declared.span.Span.{Span}
 use Rattle.tick_syntax.specs.declared.token.Token.{Token}
 use Rattle.tick_explain.specs.Pieces.{joined}
 use Rattle.tick_explain.specs.Settings.{Setting, about, after, before, front_end, here, is_name, open_brace, text_at}

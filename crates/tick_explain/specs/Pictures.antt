@@ -4,7 +4,7 @@ use Rattle.std.specs.Fmt.{decimal}
 use Rattle.std.specs.List.{count_by, flat_map}
 use Rattle.std.specs.Str.Lossy.{utf8_lossy}
 use Rattle.base.specs.Lines.{line_end}
-use Rattle.tick_tree.specs.declared.span.Span.{Span}
+use Rattle.base.specs.declared.span.Span.{Span}
 use Rattle.tick_explain.specs.Places.{IsLineStart, IsLineEnd, begins_character}
 
 -- a tab is shown as four blanks, a carriage return as nothing, another control byte as `?`

@@ -11,7 +11,7 @@ use Rattle.tick_kinds.specs.declared.fault.KindFault.{KindFault}
 use Rattle.schedule_text.specs.Schedule.{schedule_of}
 use Rattle.schedule_text.specs.declared.schedule.ScheduleFault.{ScheduleFault}
 use Rattle.tick_syntax.specs.Nesting.{nesting}
-use Rattle.tick_tree.specs.Plain.{Name, WholeProgram}
+use Rattle.base.specs.Plain.{Name, WholeProgram}
 use Rattle.tick_syntax.specs.Refusal.{IsTextRefused}
 use Rattle.tick_syntax.specs.RoundTrip.{IsTextOf}
 use Rattle.tick_syntax.specs.declared.fault.TextFault.{TextFault}

@@ -2,7 +2,7 @@
 use Rattle.std.specs.Prelude.{◌≡◌, ℕ, List, [], ◌++◌, codes, length, min, take, Option, Some, None}
 use Rattle.std.specs.Fmt.{decimal}
 use Rattle.base.specs.Lines.{line_end}
-use Rattle.tick_tree.specs.declared.span.Span.{Span}
+use Rattle.base.specs.declared.span.Span.{Span}
 use Rattle.tick_syntax.specs.declared.fault.TextFault.{TextFault}
 use Rattle.tick_syntax.specs.declared.fault.TextFault.TheVariants as T
 use Rattle.tick_explain.specs.Choosing.{hint_of}

@@ -10,7 +10,7 @@ use Rattle.schedule_text.specs.declared.schedule.ScheduleFault.{ScheduleFault}
 use Rattle.schedule_text.specs.declared.schedule.ScheduleFault.TheVariants as S
 use Rattle.tick_syntax.specs.declared.fault.TextFault.{TextFault}
 use Rattle.tick_syntax.specs.declared.fault.TextFault.TheVariants as T
-use Rattle.tick_tree.specs.declared.span.Span.{Span}
+use Rattle.base.specs.declared.span.Span.{Span}
 use Rattle.tick_explain.specs.Places.{IsLineStart, IsLineEnd, is_line_feed, begins_character}
 use Rattle.tick_explain.specs.declared.refusal.Refusal.{Refusal}
 use Rattle.tick_explain.specs.declared.refusal.Refusal.TheVariants.{Text, Kinds, Code, Schedule}

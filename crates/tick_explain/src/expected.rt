@@ -3,7 +3,7 @@ ghost use Rattle.std.specs.Prelude.{◌≡◌, ◌≢◌, ◌≤◌, ◌<◌, If
 ghost use Rattle.tick_explain.specs.Following.{AreFitting, BeginsProgram, Fits, IsWhole, MayFollow, Tests, is_at_end, sample};
 
 use crate::wanted::Wanted;
-use machine_core::NoMemory;
+use base::NoMemory;
 use std::alloc::Global;
 use std::str;
 use tick_syntax::{TextFault, parse};

@@ -7,7 +7,7 @@ ghost use Rattle.tick_explain.specs.Reports.{Tells, TellsFor};
 use crate::judgement::{begins_code, code_refusal, program_refusal, schedule_refusal};
 use crate::refusal::Refusal;
 use crate::report::report;
-use machine_core::NoMemory;
+use base::NoMemory;
 use std::alloc::Global;
 
 /// What is wrong with an input, as a report for people; `name` is that of its file. What begins with

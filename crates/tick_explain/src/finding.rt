@@ -7,7 +7,7 @@ use crate::expected::fitting_at;
 use crate::refusal::Refusal;
 use crate::scene::Scene;
 use crate::wanted::{Wanted, choices};
-use machine_core::NoMemory;
+use base::NoMemory;
 use std::alloc::Global;
 use std::str;
 use tick_syntax::token::Token;

@@ -10,8 +10,8 @@ use crate::pointer::Pointer;
 use crate::scene::Scene;
 use crate::sign_hint::SignHint;
 use crate::word_hint::WordHint;
+use base::span::Span;
 use std::alloc::AllocError;
-use tick_tree::span::Span;
 
 /// What may help.
 #[derive(Clone, Copy)]

@@ -4,9 +4,9 @@ ghost use Rattle.schedule_text.specs.Schedule.{schedule_of};
 ghost use Rattle.tick_explain.specs.Refusals.{BeginsCode, IsCode, IsCodeRefused, IsInputRefused, IsNoText, IsProgram, IsProgramRefused, IsScheduleRefused, IsTakenInput, IsText};
 
 use crate::refusal::Refusal;
+use base::NoMemory;
 use code_core::{Code, CodeFault};
 use code_text::read_code;
-use machine_core::NoMemory;
 use schedule_text::{ScheduleFault, read_schedule};
 use std::alloc::Global;
 use std::str;

@@ -6,9 +6,9 @@ ghost use Rattle.tick_explain.specs.Pictures.{IsPicture, caret_of, cut, margin, 
 
 use crate::place::{characters, line_end, line_start};
 use crate::writing::{push, push_decimal, push_often};
+use base::span::Span;
 use itoa::Buffer;
 use std::alloc::{AllocError, Global};
-use tick_tree::span::Span;
 
 const BEFORE_LIMIT: usize = 120;
 

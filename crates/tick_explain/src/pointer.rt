@@ -5,8 +5,8 @@ ghost use Rattle.tick_explain.specs.Settings.{setting};
 
 use crate::scene::Scene;
 use crate::writing::push_all;
+use base::span::Span;
 use std::alloc::AllocError;
-use tick_tree::span::Span;
 
 /// What may help, and speaks of another place.
 #[derive(Clone, Copy)]

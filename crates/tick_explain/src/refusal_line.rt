@@ -5,12 +5,12 @@ ghost use Rattle.tick_explain.specs.RefusalLine.{code_line, kind_name, kinds_lin
 
 use crate::refusal::Refusal;
 use crate::writing::{push, push_decimal};
+use base::span::Span;
 use code_core::CodeFault;
 use schedule_text::ScheduleFault;
 use std::alloc::AllocError;
 use tick_kinds::{Kind, KindFault};
 use tick_syntax::TextFault;
-use tick_tree::span::Span;
 
 /// Adds the line.
 pub fn push_refusal_line(out: &mut Vec<u8>, refusal: Refusal) -> Result<(), AllocError>

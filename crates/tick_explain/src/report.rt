@@ -22,9 +22,9 @@ use crate::setting::scene_of;
 use crate::spot::{span_at, spot_of};
 use crate::wanted::Wanted;
 use crate::writing::{push, push_decimal};
-use machine_core::NoMemory;
+use base::NoMemory;
+use base::span::Span;
 use std::alloc::{AllocError, Global};
-use tick_tree::span::Span;
 
 /// The report of a refusal, of a schedule of so many processes: its place, what is wrong, the line with
 /// a caret, what may help, and the line that `ticketc` tells.

@@ -5,9 +5,9 @@ ghost use Rattle.tick_explain.specs.Hints.{first_declaration, first_written};
 ghost use Rattle.tick_explain.specs.Choosing.{is_keyword_here, is_name_here};
 ghost use Rattle.tick_explain.specs.Settings.{about, after, as_text, before, counted, front, front_end, has_begun, here, is_name, open_brace, setting, shortened, sort_here, text_at, touches, unclosed, word};
 
+use base::span::Span;
 use std::str;
 use tick_syntax::token::{Sort, Token};
-use tick_tree::span::Span;
 
 /// A refusal's place in a text, with what stands about it.
 #[derive(Clone, Copy)]

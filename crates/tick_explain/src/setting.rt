@@ -5,8 +5,8 @@ ghost use Rattle.tick_explain.specs.Settings.{AreBlanksAfter, AreBlanksBefore, A
 use crate::refusal::Refusal;
 use crate::scene::{Scene, as_text, byte_at, text_at};
 use crate::spot::{span_at, spot_of};
+use base::span::Span;
 use tick_syntax::token::Token;
-use tick_tree::span::Span;
 
 /// The scene of a refusal in a text of these tokens.
 pub fn scene_of<'a>(

@@ -5,11 +5,11 @@ ghost use Rattle.tick_explain.specs.Spots.{IsCharacterEnd, IsItemEnd, IsNumbered
 use crate::place::line_end;
 use crate::refusal::Refusal;
 use base::is_blank;
+use base::span::Span;
 use code_core::CodeFault;
 use schedule_text::ScheduleFault;
 use tick_kinds::KindFault;
 use tick_syntax::TextFault;
-use tick_tree::span::Span;
 
 /// Where a refusal is.
 #[derive(Clone, Copy)]

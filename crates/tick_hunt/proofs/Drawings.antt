@@ -1,6 +1,6 @@
 -- The first steps of a run, one more at a time, and those that follow.
 use Rattle.std.proofs.Common.{◌≡◌, ℕ, zero, suc, ◌+◌, ◌-◌, ◌<◌, ◌≤◌, true, false, List, [], ◌∷◌, ◌++◌, length, take, refl, sym, ◌∙◌, ap, arith}
-use Rattle.tick_tree.specs.Plain.{WholeProgram}
+use Rattle.base.specs.Plain.{WholeProgram}
 use Rattle.tick_source.specs.Source.{SourceState, source_step, source_run, source_start, source}
 use Rattle.tick_explore.specs.Explored.{has_trapped}
 use Rattle.tick_hunt.specs.declared.plan.Mode.{Mode}

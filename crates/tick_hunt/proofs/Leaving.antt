@@ -3,7 +3,7 @@ use Rattle.std.proofs.Common.{◌≡◌, ℕ, zero, suc, ◌+◌, ◌-◌, ◌<�
 use Rattle.std.specs.List.{All}
 use Rattle.std.proofs.lemmas.List.{take-append-drop, length-take, length-drop, length-take-le, take_at, drop_at, drop-drop, append-nil}
 use Rattle.std.proofs.lemmas.List.Elements.{All-append, All-take, All-drop}
-use Rattle.tick_tree.specs.Plain.{WholeProgram}
+use Rattle.base.specs.Plain.{WholeProgram}
 use Rattle.tick_hunt.specs.Hunts.{without, left_of, IsPartOf, Traps}
 use Rattle.tick_hunt.specs.prover.Parts.{IsTrap, IsTrapOf}
 

@@ -8,9 +8,9 @@ use Rattle.std.proofs.lemmas.Bool.{both_ways}
 use Rattle.std.proofs.lemmas.List.{map-set}
 use Rattle.std.proofs.lemmas.Option.{same_Some, none-some, slice_get-map, slice_get_within}
 use Rattle.std.proofs.Math.Seq.{drop-cons, drop-length}
-use Rattle.machine_core.specs.declared.status.Status.{Status}
-use Rattle.machine_core.specs.declared.status.Status.TheVariants.{Running, Ended, Trapped}
-use Rattle.tick_tree.specs.Plain.{WholeProgram}
+use Rattle.base.specs.declared.status.Status.{Status}
+use Rattle.base.specs.declared.status.Status.TheVariants.{Running, Ended, Trapped}
+use Rattle.base.specs.Plain.{WholeProgram}
 use Rattle.tick_source.specs.Source.{SourceProcess, SourceState, start_process, source_start, did, step_as, step_of, source_step, source_run, statuses_of}
 use Rattle.tick_explore.specs.Explored.{is_trap, has_trapped}
 

@@ -1,7 +1,7 @@
 -- What the answer of a hunt says of the program's runs on whole-number tickets.
 use Rattle.std.specs.Prelude.{◌≡◌, ◌+◌, ◌<◌, ℕ, true, false, List, [], ◌∷◌, ◌++◌, length, take, drop}
 use Rattle.std.specs.List.{All}
-use Rattle.tick_tree.specs.Plain.{WholeProgram}
+use Rattle.base.specs.Plain.{WholeProgram}
 use Rattle.tick_source.specs.Source.{source}
 use Rattle.tick_explore.specs.Explored.{has_trapped}
 use Rattle.tick_hunt.specs.declared.answer.Hunted.{Hunted}

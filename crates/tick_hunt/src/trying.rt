@@ -9,8 +9,7 @@ ghost use Rattle.tick_hunt.specs.prover.Tries.{TrapsWithin};
 
 use crate::drawing::Drawing;
 use crate::plan::Plan;
-use base::NoMemory;
-use machine_core::Status;
+use base::{NoMemory, Status};
 use std::alloc::Global;
 use tick_kinds::Program;
 use tick_source::SourceMachine;

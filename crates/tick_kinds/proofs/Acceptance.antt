@@ -17,7 +17,7 @@ use Rattle.tick_kinds.specs.Within.{IsExpressionWithin, IsStatementWithin, IsWit
 use Rattle.tick_kinds.proofs.Accepting.{IsOnce, IsSmall, front_empty, back_empty, both_empty, kept_empty, pairs_from, once_from, declarations_fine, declarations_clear, smalls, fresh_first, all_left, all_right, all_both, within_limit, numbers_small}
 use Rattle.tick_kinds.proofs.Telling.{told, program_told}
 use Rattle.tick_kinds.proofs.Using.{letters-declarations, use_within, uses_declared, uses_clear}
-use Rattle.tick_tree.specs.Plain.{Name, Expression, number, named, me, count, binary, Statement, assign, get, put, stamp, clear, scan, copy, older, held, out, branch, repeat, Block, nil, cons, map_expression, map_statement, map_block, WholeProgram}
+use Rattle.base.specs.Plain.{Name, Expression, number, named, me, count, binary, Statement, assign, get, put, stamp, clear, scan, copy, older, held, out, branch, repeat, Block, nil, cons, map_expression, map_statement, map_block, WholeProgram}
 
 and_left : (a b : Bool) → (a && b) ≡ true → a ≡ true
 and_left true b h = refl

@@ -12,7 +12,7 @@ use Rattle.tick_kinds.specs.declared.kind.Kind.TheVariants as K
 use Rattle.tick_kinds.specs.Declarations.{Slot, Declaration, numbered, slot_in, limit}
 use Rattle.tick_kinds.specs.Refusals.{is_kind, declaration_refusals, declarations_refusals}
 use Rattle.tick_kinds.proofs.Telling.{or_else, slot_in-append, flips}
-use Rattle.tick_tree.specs.Plain.{Name}
+use Rattle.base.specs.Plain.{Name}
 
 pub is_kind-true : (a b : Kind) → is_kind a b ≡ true → a ≡ b
 is_kind-true K.Variable K.Variable h = refl

@@ -12,11 +12,11 @@ use Rattle.tick_kinds.specs.prover.Checked.{Checked, Table, Fails, is_memory, ch
 use Rattle.tick_kinds.specs.Declarations.{Slot, Declaration, declarations, numbered, limit}
 use Rattle.tick_kinds.specs.prover.Table.{slot_at}
 use Rattle.indexmap.specs.IndexMap.{IndexMap, IsEmpty}
-use Rattle.tick_tree.specs.declared.tree.Tree.{Tree}
-use Rattle.machine_core.specs.Refusing.{◌>>=◌}
-use Rattle.machine_core.proofs.Offered.{fails_on}
-use Rattle.tick_tree.specs.declared.tree.Named.{Named}
-use Rattle.tick_tree.specs.View.{name_of, tree_of}
+use Rattle.base.specs.declared.tree.Tree.{Tree}
+use Rattle.base.specs.Refusing.{◌>>=◌}
+use Rattle.base.proofs.Offered.{fails_on}
+use Rattle.base.specs.declared.tree.Named.{Named}
+use Rattle.base.specs.View.{name_of, tree_of}
 
 -- a name that was not declared, within the limit of its kind
 pub declares :

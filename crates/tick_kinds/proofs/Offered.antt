@@ -7,7 +7,7 @@ use Rattle.tick_kinds.specs.declared.resolved.Statement.{Row_of-Statement, end_o
 use Rattle.tick_kinds.specs.declared.resolved.Statement.TheBlock.{items-the_row-Statement, hidden-the_row-Statement-0, items_hidden-the_row-Statement-0}
 use Rattle.tick_kinds.specs.declared.resolved.Statement.TheVariants as S
 use Rattle.tick_kinds.specs.Resolved.{resolved_expression, resolved_statement, resolved_row, resolved_block}
-use Rattle.tick_tree.specs.Plain.{branch, repeat, cons}
+use Rattle.base.specs.Plain.{branch, repeat, cons}
 use Rattle.tick_kinds.specs.Laws.{AcceptanceLaw, WithinLaw}
 use Rattle.tick_kinds.proofs.Acceptance.{accepted_unless_refused, accepted_within}
 

@@ -6,17 +6,17 @@ use Rattle.tick_kinds.specs.declared.resolved.Expression as R
 use Rattle.tick_kinds.specs.declared.resolved.Statement as T
 use Rattle.tick_kinds.specs.declared.resolved.Statement.TheVariants as Q
 use Rattle.tick_kinds.specs.prover.Checked.{Checked, Fails, is_memory, checked_expression, checked_statement, checked_block}
-use Rattle.machine_core.specs.Refusing.{◌>>=◌}
-use Rattle.machine_core.proofs.Offered.{fails_on}
+use Rattle.base.specs.Refusing.{◌>>=◌}
+use Rattle.base.proofs.Offered.{fails_on}
 use Rattle.tick_kinds.specs.Declarations.{Slot}
 use Rattle.tick_kinds.specs.Resolved.{resolved_expression, resolved_statement, resolved_block}
 use Rattle.tick_kinds.proofs.Offered.{resolved_branch, resolved_repeat}
-use Rattle.tick_tree.proofs.Offered.{statement_of_branch, statement_of_repeat}
-use Rattle.tick_tree.specs.declared.tree.Expr.{Expr}
-use Rattle.tick_tree.specs.declared.tree.Stmt.{Stmt}
-use Rattle.tick_tree.specs.declared.tree.Stmt.TheVariants as S
-use Rattle.tick_tree.specs.Plain.{Name, Expression, Statement, Block, branch, repeat, nil, cons, onto}
-use Rattle.tick_tree.specs.View.{expression_of, statement_of, block_of}
+use Rattle.base.proofs.Offered.{statement_of_branch, statement_of_repeat}
+use Rattle.base.specs.declared.tree.Expr.{Expr}
+use Rattle.base.specs.declared.tree.Stmt.{Stmt}
+use Rattle.base.specs.declared.tree.Stmt.TheVariants as S
+use Rattle.base.specs.Plain.{Name, Expression, Statement, Block, branch, repeat, nil, cons, onto}
+use Rattle.base.specs.View.{expression_of, statement_of, block_of}
 
 -- the two statements that hold statements
 abbrev branching : Checked (Expression ℕ) → Checked (Block ℕ) → Checked (Block ℕ) → Checked (Statement ℕ)

@@ -11,13 +11,13 @@ use Rattle.tick_kinds.specs.declared.fault.KindFault.{KindFault}
 use Rattle.tick_kinds.specs.declared.fault.KindFault.TheVariants as F
 use Rattle.tick_kinds.specs.declared.kind.Kind.{Kind}
 use Rattle.tick_kinds.specs.declared.kind.Kind.TheVariants as K
-use Rattle.machine_core.specs.Refusing.{◌>>=◌}
+use Rattle.base.specs.Refusing.{◌>>=◌}
 use Rattle.tick_kinds.specs.prover.Checked.{Checked, number_if, with_declaration, checked_name, checked_expression, checked_assign, checked_get, checked_put, checked_copy, checked_older, checked_held, checked_statement, checked_block, checked_declaration, checked_declarations, checked_program}
 use Rattle.tick_kinds.specs.Declarations.{Slot, Declaration, declarations, slot_in, limit}
 use Rattle.tick_kinds.specs.Refusals.{is_kind, use_refusals, use_refusals_by, declaration_refusals, declarations_refusals, refusals}
 use Rattle.tick_kinds.specs.Resolution.{number_by, slot_number, resolved}
 use Rattle.tick_kinds.specs.Uses.{Use, expression_uses, statement_uses, block_uses}
-use Rattle.tick_tree.specs.Plain.{Name, Expression, number, named, me, count, binary, Statement, assign, get, put, stamp, clear, scan, copy, older, held, out, branch, repeat, Block, nil, cons, map_expression, map_statement, map_block, WholeProgram}
+use Rattle.base.specs.Plain.{Name, Expression, number, named, me, count, binary, Statement, assign, get, put, stamp, clear, scan, copy, older, held, out, branch, repeat, Block, nil, cons, map_expression, map_statement, map_block, WholeProgram}
 
 -- the first of the faults, else the value
 abbrev pub told : {A : Type 0} → List KindFault → A → Checked A

@@ -18,7 +18,7 @@ use Rattle.tick_kinds.specs.Refusals.{use_refusals, use_refusals_by}
 use Rattle.tick_kinds.specs.Uses.{Use}
 use Rattle.tick_kinds.proofs.Accepting.{IsOnce, is_kind-true, is_kind-same, front_empty, back_empty, both_empty, kept_empty}
 use Rattle.tick_kinds.proofs.Telling.{or_else, slot_in-append, none_of}
-use Rattle.tick_tree.specs.Plain.{Name, WholeProgram}
+use Rattle.base.specs.Plain.{Name, WholeProgram}
 
 abbrev has : List ℕ → List (List ℕ) → Bool
 has q ls = list_any (bytes_eq q) ls

@@ -3,7 +3,7 @@ use Rattle.std.specs.Prelude.{ℕ, ◌≤◌, ◌≢◌, List, map, length, All,
 use Rattle.std.specs.List.{AllPairs}
 use Rattle.tick_kinds.specs.Declarations.{declarations, section}
 use Rattle.tick_kinds.specs.Uses.{Use, block_uses}
-use Rattle.tick_tree.specs.Plain.{Name, WholeProgram}
+use Rattle.base.specs.Plain.{Name, WholeProgram}
 
 -- the letters of names
 abbrev pub letters_of : List Name → List (List ℕ)

@@ -1,6 +1,6 @@
 -- What holds of every program.
 use Rattle.std.specs.Prelude.{◌≡◌, ◌↔◌, None, length}
-use Rattle.tick_tree.specs.Plain.{Name, WholeProgram}
+use Rattle.base.specs.Plain.{Name, WholeProgram}
 use Rattle.tick_kinds.specs.Accepted.{IsAccepted}
 use Rattle.tick_kinds.specs.Refusals.{first_refusal}
 use Rattle.tick_kinds.specs.Resolution.{resolved}

@@ -7,7 +7,7 @@ use Rattle.tick_kinds.specs.declared.kind.Kind.{Kind}
 use Rattle.tick_kinds.specs.declared.kind.Kind.TheVariants as K
 use Rattle.tick_kinds.specs.Declarations.{Slot, Declaration, declarations, slot_in, limit}
 use Rattle.tick_kinds.specs.Uses.{Use, block_uses}
-use Rattle.tick_tree.specs.Plain.{Name, WholeProgram}
+use Rattle.base.specs.Plain.{Name, WholeProgram}
 
 abbrev pub is_kind : Kind → Kind → Bool
 is_kind K.Variable K.Variable = true

@@ -1,7 +1,7 @@
 -- A program with each name replaced by its number in the section that declares it.
 use Rattle.std.specs.Prelude.{ℕ, List, map, Option, Some, None}
 use Rattle.tick_kinds.specs.Declarations.{Slot, declarations, slot_in}
-use Rattle.tick_tree.specs.Plain.{Name, WholeProgram, map_block}
+use Rattle.base.specs.Plain.{Name, WholeProgram, map_block}
 
 -- 0 for a name that is not declared, which no accepted program uses
 abbrev pub number_by : Option Slot → ℕ

@@ -5,7 +5,7 @@ use Rattle.tick_kinds.specs.declared.resolved.Expression.TheVariants as E
 use Rattle.tick_kinds.specs.declared.resolved.Statement.{Row_of-Statement, end_of-Statement, more_of-Statement}
 use Rattle.tick_kinds.specs.declared.resolved.Statement as DeclaredStatement
 use Rattle.tick_kinds.specs.declared.resolved.Statement.TheVariants as S
-use Rattle.tick_tree.specs.Plain.{Expression, number, named, me, count, binary, Statement, assign, get, put, stamp, clear, scan, copy, older, held, out, branch, repeat, Block, nil, cons}
+use Rattle.base.specs.Plain.{Expression, number, named, me, count, binary, Statement, assign, get, put, stamp, clear, scan, copy, older, held, out, branch, repeat, Block, nil, cons}
 
 abbrev pub resolved_expression : DeclaredExpression.Expression → Expression ℕ
 resolved_expression (E.Number v) = number v

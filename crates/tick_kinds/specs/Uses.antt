@@ -2,7 +2,7 @@
 use Rattle.std.specs.Prelude.{List, [], ◌∷◌, ◌++◌}
 use Rattle.tick_kinds.specs.declared.kind.Kind.{Kind}
 use Rattle.tick_kinds.specs.declared.kind.Kind.TheVariants as K
-use Rattle.tick_tree.specs.Plain.{Name, Expression, number, named, me, count, binary, Statement, assign, get, put, stamp, clear, scan, copy, older, held, out, branch, repeat, Block, nil, cons}
+use Rattle.base.specs.Plain.{Name, Expression, number, named, me, count, binary, Statement, assign, get, put, stamp, clear, scan, copy, older, held, out, branch, repeat, Block, nil, cons}
 
 pub record Use : Type 0 where
   pub wanted : Kind

@@ -1,7 +1,7 @@
 -- Every number in a resolved block names something that is declared: a variable below the number of
 -- variables, a scan below that of scans, a register row below that of rows.
 use Rattle.std.specs.Prelude.{ℕ, ◌<◌}
-use Rattle.tick_tree.specs.Plain.{Expression, number, named, me, count, binary, Statement, assign, get, put, stamp, clear, scan, copy, older, held, out, branch, repeat, Block, nil, cons}
+use Rattle.base.specs.Plain.{Expression, number, named, me, count, binary, Statement, assign, get, put, stamp, clear, scan, copy, older, held, out, branch, repeat, Block, nil, cons}
 
 module _ (variables scans registers : ℕ) where
   abbrev pub IsExpressionWithin : Expression ℕ → Type 0

@@ -1,8 +1,8 @@
 use crate::kind::Kind;
+use base::span::Span;
 use std::alloc::{AllocError, AllocFailed};
 use std::fmt;
 use thiserror::Error;
-use tick_tree::span::Span;
 
 /// Why a program is refused. Spans are in bytes of the text that it was read from.
 #[derive(Clone, Copy, PartialEq, Eq, Error)]

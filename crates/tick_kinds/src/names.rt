@@ -1,4 +1,4 @@
-ghost use Rattle.tick_tree.specs.View.{tree_of, name_of, expression_of, statement_of, block_of};
+ghost use Rattle.base.specs.View.{tree_of, name_of, expression_of, statement_of, block_of};
 ghost use Rattle.tick_kinds.specs.Resolved.{resolved_expression, resolved_statement, resolved_block};
 ghost use Rattle.tick_kinds.specs.prover.Table.{slot_at};
 ghost use Rattle.tick_kinds.specs.prover.Checked.{Gives, checked_name, checked_expression, checked_assign, checked_get, checked_put, checked_copy, checked_older, checked_held, checked_statement, checked_block, checked_declaration, checked_declarations};
@@ -8,9 +8,9 @@ ghost use Rattle.std.specs.Prelude.{◌≡◌, None, map};
 use crate::fault::KindFault;
 use crate::kind::Kind;
 use crate::resolved::{Expression, Statement};
+use base::tree::{Expr, Named, Stmt, Tree};
 use indexmap::IndexMap;
 use std::alloc::Global;
-use tick_tree::tree::{Expr, Named, Stmt, Tree};
 
 // How many names of a kind there may be.
 fn limit_of(kind: Kind) -> usize

@@ -1,5 +1,5 @@
 ghost use Rattle.std.specs.Prelude.{◌≡◌, ◌≢◌, ◌≤◌, Some, length, map, IfOk, OnOk, IfErr};
-ghost use Rattle.tick_tree.specs.View.{tree_of, name_of};
+ghost use Rattle.base.specs.View.{tree_of, name_of};
 ghost use Rattle.tick_kinds.specs.Accepted.{IsAccepted};
 ghost use Rattle.tick_kinds.specs.prover.Checked.{Gives, checked_program};
 ghost use Rattle.tick_kinds.specs.Declarations.{declarations, numbered, slot_in};
@@ -12,9 +12,9 @@ use crate::fault::KindFault;
 use crate::kind::Kind;
 use crate::names::Names;
 use crate::resolved::Statement;
+use base::tree::{Named, Tree};
 use std::alloc::Global;
 use std::marker::Model;
-use tick_tree::tree::{Named, Tree};
 
 /// An accepted program: its tree, and its body with names replaced by numbers.
 #[derive(Drop)]
@@ -26,10 +26,10 @@ pub struct Program {
 impl Model for Program {
     ghost use Rattle.std.specs.Prelude.{◌≡◌, Ok};
     ghost use Rattle.std.specs.Coded.{codes};
-    ghost use Rattle.tick_tree.specs.Plain.{Name, WholeProgram};
-    ghost use Rattle.tick_tree.specs.View.{tree_of};
+    ghost use Rattle.base.specs.Plain.{Name, WholeProgram};
+    ghost use Rattle.base.specs.View.{tree_of};
     ghost use Rattle.tick_kinds.specs.prover.Checked.{checked_program};
-    ghost use Rattle.tick_tree.specs.prover.Coding.{written_blocks};
+    ghost use Rattle.base.specs.prover.Coding.{written_blocks};
     ghost use Rattle.tick_kinds.specs.Resolved.{resolved_block};
 
     ghost Value = { WholeProgram Name };

@@ -1,4 +1,4 @@
-use tick_tree::tree::Op;
+use base::tree::Op;
 
 /// An expression with its variables by number.
 #[derive(Drop)]

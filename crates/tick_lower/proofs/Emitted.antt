@@ -7,7 +7,7 @@ use Rattle.code_core.specs.declared.instr.Instr.{Instr}
 use Rattle.code_core.specs.declared.instr.Instr.TheVariants as I
 use Rattle.tick_kinds.specs.declared.resolved.Statement as DeclaredStatement
 use Rattle.tick_kinds.specs.Resolved.{resolved_statement, resolved_block}
-use Rattle.tick_tree.specs.Plain.{Expression, Statement, branch, repeat, Block, nil, cons}
+use Rattle.base.specs.Plain.{Expression, Statement, branch, repeat, Block, nil, cons}
 use Rattle.tick_lower.specs.Lowered.{expression_length, statement_length, block_length, expression_code, statement_code, block_code}
 use Rattle.tick_lower.proofs.Offered.{expression_long, statement_long, block_long}
 

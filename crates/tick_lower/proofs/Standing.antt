@@ -38,7 +38,7 @@ use Rattle.code_core.proofs.Offered.{get_seam}
 use Rattle.tick_kinds.specs.Declarations.{declarations, slot_in}
 use Rattle.tick_kinds.specs.Resolution.{resolved, slot_number}
 use Rattle.tick_kinds.specs.Within.{IsExpressionWithin, IsStatementWithin, IsWithin}
-use Rattle.tick_tree.specs.Plain.{Name, Expression, number, named, me, count, binary, Statement, assign, get, put, stamp, clear, scan, copy, older, held, out, branch, repeat, Block, nil, cons, WholeProgram}
+use Rattle.base.specs.Plain.{Name, Expression, number, named, me, count, binary, Statement, assign, get, put, stamp, clear, scan, copy, older, held, out, branch, repeat, Block, nil, cons, WholeProgram}
 use Rattle.tick_lower.specs.Lowered.{expression_length, statement_length, block_length, expression_code, statement_code, block_code, lowered, lowered_length, lowered_sizes}
 use Rattle.tick_lower.specs.prover.Paired.{after, paired}
 use Rattle.tick_lower.proofs.Along.{height_after, height_after-append, Along, along_as, along_front, along_back, along_join}

@@ -4,7 +4,7 @@ use Rattle.code_core.specs.Verified.{IsVerified}
 use Rattle.tick_kinds.specs.Accepted.{IsAccepted}
 use Rattle.tick_kinds.specs.Resolution.{resolved}
 use Rattle.tick_kinds.specs.Within.{IsWithin}
-use Rattle.tick_tree.specs.Plain.{Name, WholeProgram}
+use Rattle.base.specs.Plain.{Name, WholeProgram}
 use Rattle.tick_lower.specs.Lowered.{lowered, lowered_length, lowered_sizes}
 
 -- It is as long as `lowered_length` says.

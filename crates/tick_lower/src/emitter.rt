@@ -1,6 +1,6 @@
 ghost use Rattle.std.specs.Prelude.{◌≡◌, ◌≤◌, ◌<◌, ◌+◌, [], ◌∷◌, ◌++◌, length, slice_set, OnOk};
 ghost use Rattle.tick_kinds.specs.Resolved.{resolved_expression, resolved_statement, resolved_block};
-ghost use Rattle.tick_tree.specs.Plain.{stamp, branch, repeat};
+ghost use Rattle.base.specs.Plain.{stamp, branch, repeat};
 ghost use Rattle.tick_lower.specs.Lowered.{statement_length, block_length, expression_code, statement_code, block_code};
 
 use code_core::Instr;

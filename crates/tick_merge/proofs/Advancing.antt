@@ -2,9 +2,9 @@
 use Rattle.std.proofs.Common.{◌≡◌, ℕ, zero, suc, ◌+◌, ◌<◌, Bool, true, false, cond, List, refl, ap, sym, subst, ◌∙◌, arith}
 use Rattle.std.specs.Prelude.{Option, Some, None}
 use Rattle.std.proofs.lemmas.Option.{none-some}
-use Rattle.machine_core.specs.declared.status.Status.{Status}
-use Rattle.machine_core.specs.declared.status.Status.TheVariants.{Running, Ended, Trapped}
-use Rattle.machine_core.specs.declared.event.Act.{Act}
+use Rattle.base.specs.declared.status.Status.{Status}
+use Rattle.base.specs.declared.status.Status.TheVariants.{Running, Ended, Trapped}
+use Rattle.base.specs.declared.event.Act.{Act}
 use Rattle.word_core.specs.History.{Memory}
 use Rattle.word_core.specs.Stamps.{Labels}
 use Rattle.word_core.specs.declared.history.SharedAct.{SharedAct}

@@ -6,9 +6,9 @@ use Rattle.std.proofs.lemmas.List.{replicate-append-replicate, append-nil, lengt
 use Rattle.std.proofs.lemmas.List.Elements.{filter-append}
 use Rattle.std.proofs.lemmas.List.Sums.{sum_by-append}
 use Rattle.std.proofs.lemmas.Option.{slice_get-get_or}
-use Rattle.machine_core.specs.declared.event.Act.{Act}
-use Rattle.machine_core.specs.declared.event.Event.{Event}
-use Rattle.machine_core.specs.Observables.{told}
+use Rattle.base.specs.declared.event.Act.{Act}
+use Rattle.base.specs.declared.event.Event.{Event}
+use Rattle.base.specs.Observables.{told}
 use Rattle.tick_merge.specs.Ran.{occurs, events_by}
 
 pub get_set_same : {X : Type 0} (xs : List X) (k : ℕ) (x : X) → k < length xs → slice_get (slice_set xs k x) k ≡ Some x

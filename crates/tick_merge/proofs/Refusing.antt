@@ -3,8 +3,8 @@ use Rattle.std.proofs.Common.{◌≡◌, ⊎_elim, ℕ, ◌+◌, ◌<◌, ◌≤
 use Rattle.std.specs.Prelude.{slice_get, Some}
 use Rattle.std.proofs.lemmas.Bool.{cases_lt}
 use Rattle.std.proofs.lemmas.List.{append-nil, append_cancel_left, length-append}
-use Rattle.machine_core.specs.declared.event.Event.{Event}
-use Rattle.machine_core.specs.declared.status.Status.TheVariants.{Running}
+use Rattle.base.specs.declared.event.Event.{Event}
+use Rattle.base.specs.declared.status.Status.TheVariants.{Running}
 use Rattle.word_core.specs.History.{Memory, memory_of, MayFollow}
 use Rattle.word_core.specs.declared.history.Shared.{Shared}
 use Rattle.code_core.specs.Instructions.{StepCode}

@@ -1,13 +1,13 @@
 -- A run of a small code, worked by hand, and what is no run of it.
 use Rattle.std.proofs.Common.{◌≡◌, ℕ, zero, suc, List, [], ◌∷◌, Some, refl, subst, arith}
 use Rattle.std.specs.Prelude.{slice_get}
-use Rattle.machine_core.specs.declared.run_outcome.RunEnd.{RunEnd}
-use Rattle.machine_core.specs.declared.run_outcome.RunEnd.TheVariants.{Ended}
-use Rattle.machine_core.specs.Observables.{RunObservables}
+use Rattle.base.specs.declared.run_outcome.RunEnd.{RunEnd}
+use Rattle.base.specs.declared.run_outcome.RunEnd.TheVariants.{Ended}
+use Rattle.base.specs.Observables.{RunObservables}
 use Rattle.code_core.specs.declared.instr.Instr.TheVariants as I
 use Rattle.code_core.specs.Instructions.{sizes, StepCode}
 use Rattle.code_machine.specs.Machine.{CodeProcess, CodeState}
-use Rattle.machine_core.specs.declared.status.Status.TheVariants.{Running}
+use Rattle.base.specs.declared.status.Status.TheVariants.{Running}
 use Rattle.tick_merge.specs.Ran.{Runs}
 use Rattle.tick_merge.specs.Runs.{EndedSo, IsWholeRun}
 

@@ -1,8 +1,8 @@
 -- The schedule that a history and a number of instructions for each process make: before each step of
 -- the history what its process makes alone, then the step; after the history the rest of each process.
 use Rattle.std.specs.Prelude.{◌≡◌, ℕ, zero, suc, ◌-◌, ◌<◌, List, [], ◌∷◌, ◌++◌, replicate, slice_get, slice_index, Option, Some, None}
-use Rattle.machine_core.specs.declared.status.Status.{Status}
-use Rattle.machine_core.specs.declared.status.Status.TheVariants.{Running}
+use Rattle.base.specs.declared.status.Status.{Status}
+use Rattle.base.specs.declared.status.Status.TheVariants.{Running}
 use Rattle.word_core.specs.History.{memory_of}
 use Rattle.word_core.specs.declared.history.Shared.{Shared}
 use Rattle.code_core.specs.declared.instr.Instr.{Instr}

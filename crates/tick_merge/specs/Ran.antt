@@ -1,10 +1,10 @@
 -- What a run of a code does to what all processes share, and which turns its schedule gives.
 use Rattle.std.specs.Prelude.{◌≡◌, ℕ, ◌==◌, if◌then◌else◌, List, [], ◌∷◌, ◌++◌, count_by, slice_get, Option, Some, None}
 use Rattle.std.specs.List.{filter}
-use Rattle.machine_core.specs.declared.status.Status.{Status}
-use Rattle.machine_core.specs.declared.status.Status.TheVariants.{Running}
-use Rattle.machine_core.specs.declared.event.Event.{Event}
-use Rattle.machine_core.specs.Rows.{register_at}
+use Rattle.base.specs.declared.status.Status.{Status}
+use Rattle.base.specs.declared.status.Status.TheVariants.{Running}
+use Rattle.base.specs.declared.event.Event.{Event}
+use Rattle.base.specs.RegisterRows.{register_at}
 use Rattle.word_core.specs.Packed.{word}
 use Rattle.word_core.specs.History.{Memory}
 use Rattle.word_core.specs.declared.history.Shared.{Shared}

@@ -1,9 +1,9 @@
 -- What a run on threads comes to: what one run of the code machine does.
 use Rattle.std.specs.Prelude.{◌≡◌, ◌<◌, ◌≤◌, ℕ, true, List, length, slice_get, Some}
-use Rattle.machine_core.specs.declared.status.Status.TheVariants as S
-use Rattle.machine_core.specs.declared.run_outcome.RunEnd.{RunEnd}
-use Rattle.machine_core.specs.declared.run_outcome.RunEnd.TheVariants.{Ended, Trapped, TurnsSpent, OutputsFull}
-use Rattle.machine_core.specs.Observables.{RunObservables}
+use Rattle.base.specs.declared.status.Status.TheVariants as S
+use Rattle.base.specs.declared.run_outcome.RunEnd.{RunEnd}
+use Rattle.base.specs.declared.run_outcome.RunEnd.TheVariants.{Ended, Trapped, TurnsSpent, OutputsFull}
+use Rattle.base.specs.Observables.{RunObservables}
 use Rattle.code_core.specs.Instructions.{StepCode}
 use Rattle.code_machine.specs.Machine.{CodeProcess}
 use Rattle.code_machine.specs.Process.{gives_out}

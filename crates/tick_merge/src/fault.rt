@@ -1,7 +1,7 @@
 ghost use Rattle.std.specs.Prelude.{◌≡◌};
 ghost use Rattle.tick_merge.specs.declared.fault.MergeFault.TheVariants.{NoMemory as Refused};
 
-use machine_core::NoMemory;
+use base::NoMemory;
 use std::alloc::{AllocError, AllocFailed};
 use thiserror::Error;
 

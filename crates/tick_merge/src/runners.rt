@@ -1,11 +1,11 @@
 ghost use Rattle.std.specs.Prelude.{ℕ, IfOk};
 ghost use Rattle.code_core.specs.Instructions.{StepCode};
-ghost use Rattle.machine_core.specs.Observables.{RunObservables, run_observed};
+ghost use Rattle.base.specs.Observables.{RunObservables, run_observed};
 ghost use Rattle.tick_merge.specs.Runs.{IsWholeRun};
 
 use crate::run_fault::RunFault;
+use base::RunOutcome;
 use code_core::Code;
-use machine_core::RunOutcome;
 
 /// Makes one run of a code, and is used up by it: who has one, and no threads, can't run again.
 pub trait OneRun: Drop {

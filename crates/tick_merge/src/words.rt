@@ -1,7 +1,7 @@
 // What all processes share while a history is gone through.
 
 ghost use Rattle.std.specs.Prelude.{◌≡◌, ◌↔◌, ◌<◌, ◌≤◌, ℕ, length, IfOk, IsTrue};
-ghost use Rattle.machine_core.specs.Rows.{start_rows};
+ghost use Rattle.base.specs.RegisterRows.{start_rows};
 ghost use Rattle.word_core.specs.Stamps.{start_labels};
 ghost use Rattle.word_core.specs.History.{MayFollow, Answers};
 ghost use Rattle.word_core.specs.Packed.{AreLabels};
@@ -10,9 +10,9 @@ ghost use Rattle.code_machine.specs.Safety.{AreOrdered, IsLawful};
 ghost use Rattle.tick_merge.specs.Ran.{act_by};
 ghost use Rattle.tick_merge.specs.prover.Held.{memory_held};
 
+use base::{NoMemory, Registers};
 use code_core::Sizes;
 use code_machine::{Ask, Reply};
-use machine_core::{NoMemory, Registers};
 use std::alloc::Global;
 use word_core::{LabelWord, Shared, SharedAct};
 

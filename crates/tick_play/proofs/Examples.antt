@@ -2,14 +2,14 @@
 use Rattle.std.proofs.Common.{◌≡◌, ℕ, List, [], ◌∷◌, ◌++◌, codes, refl, replicate}
 use Rattle.std.specs.Fmt.{digits}
 use Rattle.base.specs.Lines.{line_end}
-use Rattle.machine_core.specs.declared.operator.Op.TheVariants as O
-use Rattle.tick_tree.specs.Plain.{number, named, me, binary, get, put, stamp, scan, older, out, Block, nil, cons, WholeProgram}
-use Rattle.machine_core.specs.declared.status.Trap.TheVariants as T
-use Rattle.machine_core.specs.declared.status.Status.TheVariants as S
-use Rattle.machine_core.specs.declared.event.Act.TheVariants as A
+use Rattle.base.specs.declared.operator.Op.TheVariants as O
+use Rattle.base.specs.Plain.{number, named, me, binary, get, put, stamp, scan, older, out, Block, nil, cons, WholeProgram}
+use Rattle.base.specs.declared.status.Trap.TheVariants as T
+use Rattle.base.specs.declared.status.Status.TheVariants as S
+use Rattle.base.specs.declared.event.Act.TheVariants as A
 use Rattle.code_core.specs.declared.instr.Instr.TheVariants as I
 use Rattle.code_core.specs.Instructions.{StepCode, sizes}
-use Rattle.machine_core.specs.declared.run_outcome.RunEnd.TheVariants as E
+use Rattle.base.specs.declared.run_outcome.RunEnd.TheVariants as E
 use Rattle.tick_play.specs.Outcome.{outcome_lines}
 use Rattle.tick_play.specs.Report.{code_report, report, source_report}
 

@@ -1,10 +1,10 @@
 -- What a run on threads let others see, as a text: a line for the outputs of each process, for each
 -- register row, and for how each process came to its end.
 use Rattle.std.specs.Prelude.{ℕ, List, ◌++◌, codes, map}
-use Rattle.machine_core.specs.declared.status.Status.TheVariants as S
-use Rattle.machine_core.specs.declared.run_outcome.RunEnd.{RunEnd}
-use Rattle.machine_core.specs.declared.run_outcome.RunEnd.TheVariants.{Ended, Trapped, TurnsSpent, OutputsFull}
-use Rattle.machine_core.specs.Observables.{RunObservables}
+use Rattle.base.specs.declared.status.Status.TheVariants as S
+use Rattle.base.specs.declared.run_outcome.RunEnd.{RunEnd}
+use Rattle.base.specs.declared.run_outcome.RunEnd.TheVariants.{Ended, Trapped, TurnsSpent, OutputsFull}
+use Rattle.base.specs.Observables.{RunObservables}
 use Rattle.tick_play.specs.Lines.{register_lines, row_lines, status_lines, status_text}
 
 -- one that has stopped is told as in a report

@@ -10,7 +10,7 @@ mod outcome;
 mod play;
 mod report;
 
-pub use machine_core::{NoMemory, Outcome, RunEnd, RunOutcome};
+pub use base::{NoMemory, Outcome, RunEnd, RunOutcome};
 pub use outcome::outcome_text;
 pub use play::{play_code, play_source};
 pub use report::report_of;

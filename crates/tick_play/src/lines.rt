@@ -3,8 +3,7 @@ ghost use Rattle.std.specs.Prelude.{◌≡◌, ◌++◌, OnOk, codes, decimal, m
 ghost use Rattle.base.specs.Lines.{spaced};
 ghost use Rattle.tick_play.specs.Lines.{row_line, row_lines, status_line, status_text, trap_text};
 
-use base::push_number;
-use machine_core::{Status, Trap};
+use base::{Status, Trap, push_number};
 use std::alloc::AllocError;
 
 /// A line for each row: its name, its number from 0 on, and its values.

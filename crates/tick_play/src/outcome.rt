@@ -1,10 +1,10 @@
 ghost use Rattle.std.specs.Prelude.{◌≡◌, ◌++◌, IfOk, OnOk, map, string_bytes};
-ghost use Rattle.machine_core.specs.Observables.{run_observed};
+ghost use Rattle.base.specs.Observables.{run_observed};
 ghost use Rattle.tick_play.specs.Lines.{status_line, status_lines};
 ghost use Rattle.tick_play.specs.Outcome.{end_text, outcome_lines};
 
 use crate::lines::{push_rows, push_state, push_status};
-use machine_core::{NoMemory, RunEnd, RunOutcome, Status};
+use base::{NoMemory, RunEnd, RunOutcome, Status};
 use std::alloc::{AllocError, Global};
 
 /// A line for the outputs of each process, then for each register row, and then for each process.

@@ -3,8 +3,8 @@ ghost use Rattle.tick_kinds.specs.Resolution.{resolved};
 ghost use Rattle.tick_play.specs.Report.{code_report, source_report};
 
 use crate::report::report_of;
+use base::NoMemory;
 use code_machine::Code;
-use machine_core::NoMemory;
 use std::alloc::Global;
 use tick_kinds::Program;
 

@@ -1,13 +1,12 @@
 ghost use Rattle.std.specs.Prelude.{◌≡◌, ◌++◌, IfOk, OnOk, map, string_bytes, take};
 ghost use Rattle.std.specs.Fmt.{decimal};
 ghost use Rattle.base.specs.Lines.{spaced};
-ghost use Rattle.machine_core.specs.Observables.{observed};
+ghost use Rattle.base.specs.Observables.{observed};
 ghost use Rattle.tick_play.specs.Lines.{status_lines, status_text};
 ghost use Rattle.tick_play.specs.Report.{act_text, event_line, event_lines, report};
 
 use crate::lines::{push_rows, push_status, push_value, push_values, trap_name};
-use base::push_number;
-use machine_core::{Act, Event, NoMemory, Outcome, Status};
+use base::{Act, Event, NoMemory, Outcome, Status, push_number};
 use std::alloc::{AllocError, Global};
 
 /// A line for each event, then for each register row, and then for each process.

@@ -4,8 +4,8 @@ use Rattle.std.specs.Prelude.{Some, All, slice_get, slice_index_or, vec_items, v
 use Rattle.std.proofs.lemmas.Bool.{cases_eq}
 use Rattle.std.proofs.lemmas.List.{length-append}
 use Rattle.std.proofs.lemmas.Option.{slice_get_within, slice_get-get_or}
-use Rattle.machine_core.specs.declared.run_outcome.RunEnd.{RunEnd}
-use Rattle.machine_core.specs.declared.run_outcome.RunEnd.TheVariants.{Ended}
+use Rattle.base.specs.declared.run_outcome.RunEnd.{RunEnd}
+use Rattle.base.specs.declared.run_outcome.RunEnd.TheVariants.{Ended}
 use Rattle.code_core.specs.Instructions.{StepCode}
 use Rattle.stamp_table.specs.Passes.{TableView, PassView, Holds, mine, AllMeet}
 use Rattle.stamp_table.proofs.Offered.{held_by_all}

@@ -2,9 +2,9 @@
 use Rattle.std.proofs.Common.{◌≡◌, ℕ, zero, suc, ◌<◌, ◌≤◌, List, [], ◌∷◌, length, get_or, ap, sym, subst, ◌∙◌, arith}
 use Rattle.std.specs.Prelude.{slice_get, slice_index, Some}
 use Rattle.std.proofs.lemmas.Option.{same_Some, slice_get_within, slice_get-get_or}
-use Rattle.machine_core.specs.declared.run_outcome.RunEnd.{RunEnd}
-use Rattle.machine_core.specs.declared.run_outcome.RunEnd.TheVariants.{Ended}
-use Rattle.machine_core.specs.Observables.{RunObservables}
+use Rattle.base.specs.declared.run_outcome.RunEnd.{RunEnd}
+use Rattle.base.specs.declared.run_outcome.RunEnd.TheVariants.{Ended}
+use Rattle.base.specs.Observables.{RunObservables}
 use Rattle.word_core.specs.History.{Memory}
 use Rattle.code_core.specs.Instructions.{StepCode}
 use Rattle.code_core.specs.Verified.{IsVerified}

@@ -7,8 +7,8 @@ ghost use Rattle.tick_run.specs.prover.Work.{AreReady, CanWork, Gathers, IsWork}
 use crate::gate::Gate;
 use crate::jobs::{Job, Limits};
 use crate::worker::{Worked, work};
+use base::RunEnd;
 use code_core::Code;
-use machine_core::RunEnd;
 use stamp_table::{Pass, StampTable};
 use std::alloc::{AllocError, Global};
 use std::sync::Wait;

@@ -13,8 +13,8 @@ mod registers;
 mod runner;
 mod worker;
 
+pub use base::{RunEnd, RunOutcome};
 pub use gate::Gate;
-pub use machine_core::{RunEnd, RunOutcome};
 pub use on_threads::OnThreads;
 pub use runner::run;
 pub use tick_merge::{OneRun, RunFault, Runner};

@@ -1,12 +1,12 @@
 ghost use Rattle.std.specs.Prelude.{◌≡◌, IfOk, vec_len};
-ghost use Rattle.machine_core.specs.Observables.{run_observed};
+ghost use Rattle.base.specs.Observables.{run_observed};
 ghost use Rattle.tick_merge.specs.Runs.{IsWholeRun};
 
 use crate::gate::Gate;
 use crate::runner::run;
+use base::RunOutcome;
 use code_core::Code;
 use code_machine::Ask;
-use machine_core::RunOutcome;
 use std::alloc::{AllocError, Global};
 use std::sync::Wait;
 use std::thread::Threads;

@@ -1,5 +1,5 @@
 ghost use Rattle.std.specs.Prelude.{◌≡◌, IfOk, map, vec_len, vec_items, vec_capacity};
-ghost use Rattle.machine_core.specs.Observables.{run_observed};
+ghost use Rattle.base.specs.Observables.{run_observed};
 ghost use Rattle.tick_merge.specs.Runs.{IsWholeRun};
 ghost use Rattle.tick_run.specs.prover.Turns.{IsFor};
 ghost use Rattle.tick_run.specs.prover.Rows.{HasRoom};
@@ -9,8 +9,8 @@ use crate::gate::Gate;
 use crate::gathering::{Gathered, room_for, run_all};
 use crate::jobs::{Limits, jobs_for};
 use crate::registers::{Blank, blank_rows, filled_rows};
+use base::RunOutcome;
 use code_core::Code;
-use machine_core::RunOutcome;
 use stamp_table::{StampTable, open};
 use std::alloc::Global;
 use std::sync::Wait;

@@ -9,9 +9,9 @@ ghost use Rattle.tick_run.specs.prover.Work.{CanWork, IsWork};
 
 use crate::gate::Gate;
 use crate::jobs::{Job, Limits};
+use base::{Act, Event, RunEnd, Status};
 use code_core::{Code, Instr};
 use code_machine::{Advance, Ask, Proc, Reply};
-use machine_core::{Act, Event, RunEnd, Status};
 use stamp_table::{Pass, StampTable, Swap};
 
 /// What a worker comes back with.

@@ -4,7 +4,7 @@
 -- labels that are there.
 use Rattle.std.proofs.Common.{◌≡◌, ℕ, Bool, true, false, if◌then◌else◌, List, [], ◌∷◌, refl, sym, ◌∙◌, subst, ⊎_elim, Option, Some, None}
 use Rattle.std.specs.Prelude.{slice_get}
-use Rattle.machine_core.specs.declared.status.Status.TheVariants.{Running}
+use Rattle.base.specs.declared.status.Status.TheVariants.{Running}
 use Rattle.code_core.specs.declared.instr.Instr.{Instr}
 use Rattle.word_core.specs.Stamps.{Labels}
 use Rattle.tick_source.specs.Source as S

@@ -1,14 +1,14 @@
 -- Small programs beside their codes.
 use Rattle.std.proofs.Common.{◌≡◌, ℕ, List, [], ◌∷◌, ◌++◌, refl, map, replicate}
-use Rattle.machine_core.specs.declared.operator.Op.TheVariants as O
-use Rattle.machine_core.specs.declared.status.Status.TheVariants.{Running, Ended, Trapped}
-use Rattle.machine_core.specs.declared.status.Trap.TheVariants as T
-use Rattle.machine_core.specs.declared.event.Act.{Act}
-use Rattle.machine_core.specs.declared.event.Act.TheVariants as A
-use Rattle.machine_core.specs.declared.event.Event.{Event}
-use Rattle.machine_core.specs.Observables.{Observables}
+use Rattle.base.specs.declared.operator.Op.TheVariants as O
+use Rattle.base.specs.declared.status.Status.TheVariants.{Running, Ended, Trapped}
+use Rattle.base.specs.declared.status.Trap.TheVariants as T
+use Rattle.base.specs.declared.event.Act.{Act}
+use Rattle.base.specs.declared.event.Act.TheVariants as A
+use Rattle.base.specs.declared.event.Event.{Event}
+use Rattle.base.specs.Observables.{Observables}
 use Rattle.word_core.specs.Packed.{word}
-use Rattle.tick_tree.specs.Plain.{number, named, me, binary, assign, stamp, clear, scan, older, held, out, branch, repeat, Block, nil, cons, WholeProgram}
+use Rattle.base.specs.Plain.{number, named, me, binary, assign, stamp, clear, scan, older, held, out, branch, repeat, Block, nil, cons, WholeProgram}
 use Rattle.code_machine.specs.Machine.{run_of}
 use Rattle.tick_lower.specs.Lowered.{lowered, lowered_sizes}
 use Rattle.tick_sim.specs.Maps.{down, up}

@@ -5,8 +5,8 @@ use Rattle.std.proofs.Math.Seq.{drop-cons, drop-length}
 use Rattle.std.proofs.lemmas.List.{append-nil}
 use Rattle.std.proofs.lemmas.List.Elements.{All-nil, All-cons, All-append, All-replicate}
 use Rattle.std.proofs.lemmas.Option.{same_Some, none-some}
-use Rattle.machine_core.specs.declared.status.Status.{Status}
-use Rattle.machine_core.specs.declared.status.Status.TheVariants.{Running}
+use Rattle.base.specs.declared.status.Status.{Status}
+use Rattle.base.specs.declared.status.Status.TheVariants.{Running}
 use Rattle.code_core.specs.declared.instr.Instr.{Instr}
 use Rattle.tick_source.specs.Source.{SourceState, source_step}
 use Rattle.code_machine.specs.Machine as C

@@ -13,14 +13,14 @@
 -- `Between`, and `Matches` of `Leads`.
 use Rattle.std.proofs.Common.{◌≡◌, ℕ, suc, ◌+◌, ◌≤◌, ◌⊎◌, true, false, List, [], ◌∷◌, Result, Ok, Err, Option, Some, None}
 use Rattle.std.specs.Prelude.{slice_get}
-use Rattle.machine_core.specs.declared.status.Status.{Status}
-use Rattle.machine_core.specs.declared.status.Status.TheVariants.{Running}
-use Rattle.machine_core.specs.declared.status.Trap.{Trap}
+use Rattle.base.specs.declared.status.Status.{Status}
+use Rattle.base.specs.declared.status.Status.TheVariants.{Running}
+use Rattle.base.specs.declared.status.Trap.{Trap}
 use Rattle.code_core.specs.declared.instr.Instr.{Instr}
 use Rattle.code_core.specs.declared.instr.Instr.TheVariants as I
 use Rattle.word_core.specs.Stamps.{Labels, stamped}
 use Rattle.word_core.specs.Agreement.{Agrees}
-use Rattle.tick_tree.specs.Plain.{stamp, Block, cons}
+use Rattle.base.specs.Plain.{stamp, Block, cons}
 use Rattle.tick_source.specs.Source as S
 use Rattle.tick_source.specs.Source.{SourceProcess, SourceState}
 use Rattle.code_machine.specs.Machine as C

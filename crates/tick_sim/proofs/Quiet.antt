@@ -4,14 +4,14 @@
 -- and a trap inside is at once the trap of the statement.
 use Rattle.std.proofs.Common.{◌≡◌, ℕ, suc, ◌+◌, List, [], ◌∷◌, ◌++◌, refl, ap, sym, ◌∙◌, subst, arith, Result, Ok, Err, Some, None, false}
 use Rattle.std.specs.Prelude.{slice_get, slice_index}
-use Rattle.machine_core.specs.declared.operator.Op.{Op}
-use Rattle.machine_core.specs.declared.status.Trap.{Trap}
-use Rattle.machine_core.specs.Operators.{operation}
+use Rattle.base.specs.declared.operator.Op.{Op}
+use Rattle.base.specs.declared.status.Trap.{Trap}
+use Rattle.base.specs.Operators.{operation}
 use Rattle.code_core.specs.declared.instr.Instr.{Instr}
 use Rattle.code_core.specs.declared.instr.Instr.TheVariants as I
 use Rattle.word_core.specs.Stamps.{Labels}
 use Rattle.word_core.specs.Agreement.{Agrees}
-use Rattle.tick_tree.specs.Plain.{Expression, number, named, me, count, binary, Block}
+use Rattle.base.specs.Plain.{Expression, number, named, me, count, binary, Block}
 use Rattle.tick_source.specs.Values.{operated, value}
 use Rattle.tick_source.specs.Source as S
 use Rattle.code_machine.specs.Machine as C

@@ -5,7 +5,7 @@ use Rattle.std.proofs.Common.{◌≡◌, ℕ, suc, ◌+◌, ◌≤◌, List, len
 use Rattle.std.specs.Prelude.{slice_get}
 use Rattle.code_core.specs.declared.instr.Instr.{Instr}
 use Rattle.code_core.specs.declared.instr.Instr.TheVariants as I
-use Rattle.tick_tree.specs.Plain.{Statement, branch, repeat, Block, nil, cons, onto}
+use Rattle.base.specs.Plain.{Statement, branch, repeat, Block, nil, cons, onto}
 use Rattle.tick_lower.specs.Lowered.{expression_length, statement_length, block_length, statement_code, block_code}
 use Rattle.tick_lower.proofs.Offered.{statement_long, HasAt, has_front, has_back}
 

@@ -3,7 +3,7 @@ use Rattle.std.proofs.Common.{◌≡◌, ℕ, List, length, refl, ap, sym, ◌�
 use Rattle.std.proofs.lemmas.List.{length-replicate}
 use Rattle.code_core.specs.declared.instr.Instr.{Instr}
 use Rattle.word_core.proofs.Offered.{agreement_law}
-use Rattle.tick_tree.specs.Plain.{Block, nil, cons, onto, WholeProgram}
+use Rattle.base.specs.Plain.{Block, nil, cons, onto, WholeProgram}
 use Rattle.tick_source.specs.Source as S
 use Rattle.code_machine.specs.Machine as C
 use Rattle.code_machine.proofs.Offered.{get-replicate}

@@ -29,14 +29,14 @@
 use Rattle.std.proofs.Common.{◌≡◌, ℕ, suc, ◌+◌, ◌≤◌, Bool, true, false, if◌then◌else◌, List, [], ◌∷◌, ◌++◌, length, refl, ap, sym, ◌∙◌, subst, arith, Option, Some, None}
 use Rattle.std.specs.Prelude.{◌==◌, ◌&&◌, nat_lt, slice_set}
 use Rattle.std.proofs.lemmas.Bool.{ltb-true}
-use Rattle.machine_core.specs.declared.status.Status.TheVariants.{Running}
-use Rattle.machine_core.specs.declared.status.Trap.{Trap}
-use Rattle.machine_core.specs.declared.status.Trap.TheVariants as T
-use Rattle.machine_core.specs.declared.event.Act.{Act}
-use Rattle.machine_core.specs.declared.event.Act.TheVariants as A
-use Rattle.machine_core.specs.Operators.{truth_value}
-use Rattle.machine_core.specs.Observables.{told_ranks}
-use Rattle.machine_core.specs.Rows.{register_at, register_set}
+use Rattle.base.specs.declared.status.Status.TheVariants.{Running}
+use Rattle.base.specs.declared.status.Trap.{Trap}
+use Rattle.base.specs.declared.status.Trap.TheVariants as T
+use Rattle.base.specs.declared.event.Act.{Act}
+use Rattle.base.specs.declared.event.Act.TheVariants as A
+use Rattle.base.specs.Operators.{truth_value}
+use Rattle.base.specs.Observables.{told_ranks}
+use Rattle.base.specs.RegisterRows.{register_at, register_set}
 use Rattle.code_core.specs.declared.instr.Instr.{Instr}
 use Rattle.code_core.specs.declared.instr.Instr.TheVariants as I
 use Rattle.ticket_core.specs.Tickets.{ticket_ranks, older_ticket, holds_ticket}
@@ -44,7 +44,7 @@ use Rattle.word_core.specs.Stamps.{Labels, label_at, is_present}
 use Rattle.word_core.specs.Order.{older_label, label_ranks}
 use Rattle.word_core.specs.Agreement.{Agrees}
 use Rattle.word_core.proofs.Offered.{agreement_law}
-use Rattle.tick_tree.specs.Plain.{Expression, Statement, assign, get, put, stamp, clear, scan, copy, older, held, out, branch, repeat, Block, nil, cons, onto}
+use Rattle.base.specs.Plain.{Expression, Statement, assign, get, put, stamp, clear, scan, copy, older, held, out, branch, repeat, Block, nil, cons, onto}
 use Rattle.tick_source.specs.Source as S
 use Rattle.code_machine.specs.Machine as C
 use Rattle.code_machine.specs.Machine.{CodeProcess, CodeStep, alone, asks}

@@ -1,9 +1,9 @@
 -- What a program and its code have in common under every schedule.
 use Rattle.std.specs.Prelude.{◌≡◌, ℕ, ◌*◌, ◌≤◌, List, [], ◌∷◌, length, slice_get, Option, Some, None}
-use Rattle.machine_core.specs.declared.status.Status.{Status}
-use Rattle.machine_core.specs.declared.status.Status.TheVariants.{Running}
-use Rattle.machine_core.specs.Observables.{Observables}
-use Rattle.tick_tree.specs.Plain.{WholeProgram}
+use Rattle.base.specs.declared.status.Status.{Status}
+use Rattle.base.specs.declared.status.Status.TheVariants.{Running}
+use Rattle.base.specs.Observables.{Observables}
+use Rattle.base.specs.Plain.{WholeProgram}
 use Rattle.tick_source.specs.Source as S
 use Rattle.tick_source.specs.Source.{SourceProcess, SourceState}
 use Rattle.code_machine.specs.Machine as C

@@ -7,9 +7,9 @@ ghost use Rattle.tick_sim.specs.Laws.{seen, seen_of_code};
 ghost use Rattle.tick_sim.specs.prover.Stepping.{IsReached};
 
 use crate::stepping::step_ends;
+use base::{NoMemory, Status};
 use code_core::Code;
 use code_machine::CodeMachine;
-use machine_core::{NoMemory, Status};
 use std::alloc::Global;
 use tick_kinds::Program;
 

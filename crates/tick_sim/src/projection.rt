@@ -5,9 +5,9 @@ ghost use Rattle.tick_sim.specs.Maps.{down};
 ghost use Rattle.tick_sim.specs.Laws.{seen, seen_of_code};
 
 use crate::stepping::step_ends;
+use base::NoMemory;
 use code_core::Code;
 use code_machine::CodeMachine;
-use machine_core::NoMemory;
 use std::alloc::Global;
 use tick_kinds::Program;
 

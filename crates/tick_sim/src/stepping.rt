@@ -3,9 +3,9 @@ ghost use Rattle.code_machine.specs.Machine.{code_step};
 ghost use Rattle.tick_sim.specs.Maps.{is_commit};
 ghost use Rattle.tick_sim.specs.prover.Stepping.{IsReached, ends_told};
 
+use base::NoMemory;
 use code_core::Instr;
 use code_machine::{CodeMachine, Made};
-use machine_core::NoMemory;
 use tick_lower::ends_step;
 
 /// Makes the next step of process `p` of the code, and tells whether it ended a step of the program.

@@ -4,7 +4,7 @@ use Rattle.std.proofs.Common.{◌≡◌, ℕ, ◌+◌, ◌≤◌, List, [], ◌�
 use Rattle.std.proofs.lemmas.List.{length-append}
 use Rattle.ticket_core.specs.Tickets.{greatest_ticket, stamp_ticket, clear_ticket}
 use Rattle.ticket_core.proofs.Offered.{greatest-stamp_ticket, greatest-clear_ticket}
-use Rattle.machine_core.specs.declared.event.Event.{Event}
+use Rattle.base.specs.declared.event.Event.{Event}
 
 module _ (p : ℕ) (old told new : List ℕ) (events more : List Event) (event : Event) (same : told ≡ old) (longer : more ≡ events ++ event ∷ [])
     (counted : greatest_ticket old ≤ length events) where

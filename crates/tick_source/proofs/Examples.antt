@@ -1,12 +1,12 @@
 -- Small programs, and what the definitions make of them.
 use Rattle.std.proofs.Common.{◌≡◌, ℕ, List, [], ◌∷◌, ◌++◌, Err, refl, replicate}
-use Rattle.machine_core.specs.declared.operator.Op.TheVariants as O
-use Rattle.tick_tree.specs.Plain.{Expression, number, named, me, binary, assign, get, put, stamp, clear, scan, older, held, out, branch, repeat, Block, nil, cons, WholeProgram}
-use Rattle.machine_core.specs.declared.status.Trap.TheVariants as T
-use Rattle.machine_core.specs.declared.status.Status.TheVariants.{Running, Ended, Trapped}
-use Rattle.machine_core.specs.declared.event.Act.{Act}
-use Rattle.machine_core.specs.declared.event.Act.TheVariants as A
-use Rattle.machine_core.specs.declared.event.Event.{Event}
+use Rattle.base.specs.declared.operator.Op.TheVariants as O
+use Rattle.base.specs.Plain.{Expression, number, named, me, binary, assign, get, put, stamp, clear, scan, older, held, out, branch, repeat, Block, nil, cons, WholeProgram}
+use Rattle.base.specs.declared.status.Trap.TheVariants as T
+use Rattle.base.specs.declared.status.Status.TheVariants.{Running, Ended, Trapped}
+use Rattle.base.specs.declared.event.Act.{Act}
+use Rattle.base.specs.declared.event.Act.TheVariants as A
+use Rattle.base.specs.declared.event.Event.{Event}
 use Rattle.tick_source.specs.Values.{value}
 use Rattle.tick_source.specs.Source.{source, observables}
 

@@ -4,7 +4,7 @@ use Rattle.std.specs.Prelude.{◌==◌}
 use Rattle.std.specs.Option.{option_map, option_copied}
 use Rattle.std.proofs.Math.Seq.{take-suc, take-suc-set, take-length}
 use Rattle.std.proofs.lemmas.List.{length-set, set-append_left}
-use Rattle.tick_tree.specs.Plain.{Block, nil, cons, onto}
+use Rattle.base.specs.Plain.{Block, nil, cons, onto}
 use Rattle.tick_kinds.specs.Resolved.{resolved_block, resolved_statement}
 use Rattle.tick_kinds.specs.declared.resolved.Statement as DeclaredStatement
 use Rattle.tick_source.specs.prover.Remaining.{first_of, after_first, joined, HasMore, IsUndone}

@@ -10,9 +10,9 @@ use Rattle.std.proofs.lemmas.Option.{slice_get-map, slice_get_read}
 use Rattle.std.proofs.Math.Seq.{map-set_same}
 use Rattle.std.proofs.Math.ListN.{get_or-map}
 use Rattle.ticket_core.specs.Tickets.{start_tickets}
-use Rattle.tick_tree.specs.Plain.{WholeProgram}
-use Rattle.machine_core.specs.Rows.{start_rows}
-use Rattle.machine_core.specs.declared.status.Status.TheVariants.{Running}
+use Rattle.base.specs.Plain.{WholeProgram}
+use Rattle.base.specs.RegisterRows.{start_rows}
+use Rattle.base.specs.declared.status.Status.TheVariants.{Running}
 use Rattle.base.specs.declared.no_memory.NoMemory.{NoMemory}
 use Rattle.tick_source.specs.declared.process.Process.{Process}
 use Rattle.tick_source.specs.declared.machine.SourceMachine.TheInside.{Inside}

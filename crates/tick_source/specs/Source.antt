@@ -1,17 +1,17 @@
 -- A ticket program as it runs on whole-number tickets: the state, what one step does, and the run.
 use Rattle.std.specs.Prelude.{◌≡◌, ℕ, ◌==◌, nat_lt, if◌then◌else◌, List, [], ◌∷◌, length, map, replicate, slice_get, slice_set, slice_index_or, Option, Some, None, Result, Ok, Err, IsOk}
 use Rattle.ticket_core.specs.Tickets.{start_tickets, stamp_ticket, clear_ticket, ticket_ranks, older_ticket, holds_ticket}
-use Rattle.tick_tree.specs.Plain.{Statement, assign, get, put, stamp, clear, scan, copy, older, held, out, branch, repeat, Block, nil, cons, onto, WholeProgram}
-use Rattle.machine_core.specs.declared.status.Trap.{Trap}
-use Rattle.machine_core.specs.declared.status.Trap.TheVariants as T
-use Rattle.machine_core.specs.declared.status.Status.{Status}
-use Rattle.machine_core.specs.declared.status.Status.TheVariants.{Running, Ended, Trapped}
-use Rattle.machine_core.specs.declared.event.Act.{Act}
-use Rattle.machine_core.specs.declared.event.Act.TheVariants as A
-use Rattle.machine_core.specs.declared.event.Event.{Event}
-use Rattle.machine_core.specs.Operators.{truth_value}
-use Rattle.machine_core.specs.Rows.{start_rows, register_at, register_set}
-use Rattle.machine_core.specs.Observables.{Observables, told, told_ranks}
+use Rattle.base.specs.Plain.{Statement, assign, get, put, stamp, clear, scan, copy, older, held, out, branch, repeat, Block, nil, cons, onto, WholeProgram}
+use Rattle.base.specs.declared.status.Trap.{Trap}
+use Rattle.base.specs.declared.status.Trap.TheVariants as T
+use Rattle.base.specs.declared.status.Status.{Status}
+use Rattle.base.specs.declared.status.Status.TheVariants.{Running, Ended, Trapped}
+use Rattle.base.specs.declared.event.Act.{Act}
+use Rattle.base.specs.declared.event.Act.TheVariants as A
+use Rattle.base.specs.declared.event.Event.{Event}
+use Rattle.base.specs.Operators.{truth_value}
+use Rattle.base.specs.RegisterRows.{start_rows, register_at, register_set}
+use Rattle.base.specs.Observables.{Observables, told, told_ranks}
 use Rattle.tick_source.specs.Values.{value}
 
 -- A process: its variables, its scans, each a whole ticket list, and the statements that remain.

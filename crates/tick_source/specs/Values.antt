@@ -1,9 +1,9 @@
 -- What an expression means: a number of 0 to 4294967295, or a trap.
 use Rattle.std.specs.Prelude.{ℕ, List, slice_index, Result, Ok, Err}
-use Rattle.machine_core.specs.declared.operator.Op.{Op}
-use Rattle.machine_core.specs.Operators.{operation}
-use Rattle.tick_tree.specs.Plain.{Expression, number, named, me, count, binary}
-use Rattle.machine_core.specs.declared.status.Trap.{Trap}
+use Rattle.base.specs.declared.operator.Op.{Op}
+use Rattle.base.specs.Operators.{operation}
+use Rattle.base.specs.Plain.{Expression, number, named, me, count, binary}
+use Rattle.base.specs.declared.status.Trap.{Trap}
 
 -- of two operands the left one counts first
 abbrev pub operated : Op → Result ℕ Trap → Result ℕ Trap → Result ℕ Trap

@@ -9,6 +9,6 @@ mod process;
 mod remaining;
 mod value;
 
+pub use base::{Act, Event, NoMemory, Outcome, Status, Trap};
 pub use machine::{SourceMachine, run};
-pub use machine_core::{Act, Event, NoMemory, Outcome, Status, Trap};
 pub use value::value_of;

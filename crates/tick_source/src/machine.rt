@@ -1,13 +1,13 @@
 ghost use Rattle.std.specs.Prelude.{◌≡◌, ◌<◌, length, OnOk, OnErr, IfOk, IsOk, Some, map, slice_get};
 ghost use Rattle.std.specs.List.{All};
 ghost use Rattle.tick_kinds.specs.Resolution.{resolved};
-ghost use Rattle.machine_core.specs.Rows.{register_at};
-ghost use Rattle.machine_core.specs.Observables.{observed};
+ghost use Rattle.base.specs.RegisterRows.{register_at};
+ghost use Rattle.base.specs.Observables.{observed};
 ghost use Rattle.tick_source.specs.Source.{source, source_start, source_step, observables, statuses_of, IsQuietStep};
 
 use crate::memory::SourceMemory;
 use crate::process::Process;
-use machine_core::{Event, NoMemory, Outcome, Status};
+use base::{Event, NoMemory, Outcome, Status};
 use std::alloc::Global;
 use std::marker::Model;
 use tick_kinds::Program;
@@ -24,7 +24,7 @@ pub struct SourceMachine<'a> {
 impl<'a> Model for SourceMachine<'a> {
     ghost use Rattle.std.specs.Coded.{codes};
     ghost use Rattle.tick_source.specs.Source.{SourceState};
-    ghost use Rattle.tick_tree.specs.prover.Coding.{resolved_blocks};
+    ghost use Rattle.base.specs.prover.Coding.{resolved_blocks};
 
     ghost Value = { SourceState };
 

@@ -2,7 +2,7 @@ ghost use Rattle.std.specs.Prelude.{◌≤◌};
 ghost use Rattle.std.specs.Vec.{vec_len};
 ghost use Rattle.ticket_core.specs.Tickets.{greatest_ticket};
 
-use machine_core::{Act, Event, NoMemory, Registers};
+use base::{Act, Event, NoMemory, Registers};
 use std::alloc::Global;
 use ticket_core::Tickets;
 
@@ -19,7 +19,7 @@ pub struct SourceMemory {
 impl SourceMemory {
     ghost use Rattle.std.specs.Prelude.{◌≡◌, ◌<◌, ◌≤◌, ◌++◌, ◌∷◌, [], length, OnOk, OnErr, IfOk};
     ghost use Rattle.ticket_core.specs.Tickets.{start_tickets, stamp_ticket, clear_ticket};
-    ghost use Rattle.machine_core.specs.Rows.{start_rows, register_set};
+    ghost use Rattle.base.specs.RegisterRows.{start_rows, register_set};
     ghost use Rattle.tick_source.specs.prover.Steps.{Shares};
 
     /// The start for `n` processes: all tickets and registers 0, and no event.

@@ -1,7 +1,7 @@
 ghost use Rattle.std.specs.Prelude.{◌≡◌, ◌<◌, length, OnOk, OnErr, IfOk, IsOk};
 ghost use Rattle.std.specs.List.{All};
 ghost use Rattle.tick_kinds.specs.Resolved.{resolved_expression, resolved_statement, resolved_block};
-ghost use Rattle.tick_tree.specs.Plain.{assign, get, put, stamp, clear, scan, copy, older, held, out, branch, repeat, number, cons};
+ghost use Rattle.base.specs.Plain.{assign, get, put, stamp, clear, scan, copy, older, held, out, branch, repeat, number, cons};
 ghost use Rattle.tick_source.specs.prover.Remaining.{after_first};
 ghost use Rattle.tick_source.specs.Source.{scan_at, start_process, IsQuiet, HasQuietFirst};
 ghost use Rattle.tick_source.specs.prover.Machine.{process_of};
@@ -12,7 +12,7 @@ ghost use Rattle.tick_source.specs.prover.Steps.{Makes, Keeps, traps_from, does_
 use crate::memory::SourceMemory;
 use crate::remaining::Remaining;
 use crate::value::value_of;
-use machine_core::{Act, NoMemory, Status, Trap, set_at};
+use base::{Act, NoMemory, Status, Trap, set_at};
 use std::alloc::Global;
 use tick_kinds::Program;
 use tick_kinds::resolved::{Expression, Statement};

@@ -2,9 +2,9 @@ ghost use Rattle.std.specs.Prelude.{◌≡◌, OnOk, OnErr, IfOk};
 ghost use Rattle.std.specs.Option.{option_map};
 ghost use Rattle.tick_kinds.specs.Resolved.{resolved_block, resolved_statement};
 ghost use Rattle.tick_source.specs.prover.Remaining.{first_of, after_first};
-ghost use Rattle.tick_tree.specs.Plain.{nil, onto};
+ghost use Rattle.base.specs.Plain.{nil, onto};
 
-use machine_core::NoMemory;
+use base::NoMemory;
 use std::alloc::Global;
 use std::marker::Model;
 use tick_kinds::resolved::Statement;
@@ -18,8 +18,8 @@ pub struct Remaining<'a> {
 
 impl<'a> Model for Remaining<'a> {
     ghost use Rattle.std.specs.Prelude.{ℕ};
-    ghost use Rattle.tick_tree.specs.Plain.{Block};
-    ghost use Rattle.tick_tree.specs.prover.Coding.{resolved_blocks};
+    ghost use Rattle.base.specs.Plain.{Block};
+    ghost use Rattle.base.specs.prover.Coding.{resolved_blocks};
     ghost use Rattle.tick_source.specs.prover.Remaining.{joined, IsUndone};
 
     ghost Value = { Block ℕ };

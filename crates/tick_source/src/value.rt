@@ -2,7 +2,7 @@ ghost use Rattle.std.specs.Prelude.{◌≡◌};
 ghost use Rattle.tick_kinds.specs.Resolved.{resolved_expression};
 ghost use Rattle.tick_source.specs.Values.{value};
 
-use machine_core::Trap;
+use base::Trap;
 use tick_kinds::resolved::Expression;
 
 /// What an expression means for process `p` of `n` with these variables.

@@ -8,7 +8,7 @@ use Rattle.tick_syntax.specs.declared.token.Sort.TheVariants as K
 use Rattle.tick_syntax.specs.declared.token.Token.{Token}
 use Rattle.tick_syntax.specs.Grammar.{program_tokens}
 use Rattle.tick_syntax.specs.Lexeme.{lexemes}
-use Rattle.tick_tree.specs.Plain.{Name, WholeProgram}
+use Rattle.base.specs.Plain.{Name, WholeProgram}
 use Rattle.tick_syntax.specs.RoundTrip.{IsTextOf}
 use Rattle.tick_syntax.specs.Spelling.{Spells, TokenAt}
 use Rattle.tick_syntax.proofs.FirstToken.{same_token}

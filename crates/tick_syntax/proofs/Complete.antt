@@ -25,7 +25,7 @@
 -- It goes through because the first token of what is left decides which rule it is: `statement_terminal` and
 -- `right_terminal` say so, and hold by computation.
 use Rattle.std.proofs.Common.{append_assoc, map, ◌≡◌, ℕ, zero, suc, ◌<◌, ◌≤◌, false, List, [], ◌∷◌, ◌++◌, length, Ok, Bor, refl, sym, ◌∙◌, ap, subst, arith}
-use Rattle.tick_tree.specs.declared.span.Span.{Span}
+use Rattle.base.specs.declared.span.Span.{Span}
 use Rattle.tick_syntax.specs.declared.valued_token.ValuedToken.{ValuedToken}
 use Rattle.tick_syntax.specs.declared.valued_token.Ending.{Ending}
 use Rattle.tick_syntax.specs.declared.valued_token.Ending.TheVariants as N
@@ -33,14 +33,14 @@ use Rattle.tick_syntax.specs.declared.valued_token.Section.{Section}
 use Rattle.tick_syntax.specs.declared.valued_token.Section.TheVariants as C
 use Rattle.tick_syntax.specs.declared.valued_token.Meaning.{Meaning}
 use Rattle.tick_syntax.specs.declared.valued_token.Meaning.TheVariants as M
-use Rattle.machine_core.specs.declared.operator.Op.{Op}
+use Rattle.base.specs.declared.operator.Op.{Op}
 use Rattle.tick_syntax.specs.declared.terminals.Terminal.{Terminal}
 use Rattle.tick_syntax.specs.declared.terminals.Terminal.TheVariants as T
 use Rattle.tick_syntax.specs.Lexeme.{Lexeme, a_name, a_number, a_terminal}
-use Rattle.tick_tree.specs.Plain.{Name, Expression, number, named, me, count, binary, Statement, assign, get, put, stamp, clear, scan, copy, older, held, out, branch, repeat, Block, nil, cons, WholeProgram}
+use Rattle.base.specs.Plain.{Name, Expression, number, named, me, count, binary, Statement, assign, get, put, stamp, clear, scan, copy, older, held, out, branch, repeat, Block, nil, cons, WholeProgram}
 use Rattle.tick_syntax.specs.Grammar.{expression_tokens, in_braces, statement_tokens, block_tokens, names_tokens, section_tokens, program_tokens, second_span}
 use Rattle.tick_syntax.specs.Nesting.{expression_nesting, statement_nesting, block_nesting, nesting}
-use Rattle.machine_core.specs.Refusing.{◌>>=◌}
+use Rattle.base.specs.Refusing.{◌>>=◌}
 use Rattle.tick_syntax.specs.prover.ValuedTokens.{plain}
 use Rattle.tick_syntax.specs.prover.Reading.{Reading, next_at, terminal_by, terminal_at, number_at, brace_at, operator_at, name_at, pair_at, brackets_at, expression_at, last_at, ended_at, named_last_at, copy_at, older_at, plain_at, right_at, assignment_at, out_at, branch_at, repeat_at, statement_with, statement_at, block_by, ends, statements_with, block_at, statements_at, names_at, begins, section_by, section_at, body_at, sections_at, headed_at, whole_at, program_at}
 use Rattle.tick_syntax.proofs.Symbols.{said_by, said, says}

@@ -24,15 +24,15 @@
 -- is why each half needs no induction on trees, which `Sound` and `Complete` have done.
 use Rattle.std.proofs.Common.{map, append_assoc, ◌≡◌, ◌≢◌, ℕ, suc, ◌+◌, ◌<◌, ◌≤◌, Bool, true, false, List, [], ◌∷◌, ◌++◌, length, Option, Some, None, Result, Ok, Err, refl, sym, ◌∙◌, ap, subst, arith, max}
 use Rattle.std.proofs.lemmas.Bool.{ne_eqb, eqb-true, eqb-false}
-use Rattle.tick_tree.specs.declared.span.Span.{Span}
+use Rattle.base.specs.declared.span.Span.{Span}
 use Rattle.tick_syntax.specs.declared.fault.TextFault.{TextFault}
 use Rattle.tick_syntax.specs.declared.valued_token.ValuedToken.{ValuedToken}
 use Rattle.tick_syntax.specs.declared.valued_token.Ending.TheVariants as N
 use Rattle.tick_syntax.specs.declared.valued_token.Meaning.TheVariants as M
-use Rattle.machine_core.specs.declared.operator.Op.TheVariants as O
+use Rattle.base.specs.declared.operator.Op.TheVariants as O
 use Rattle.tick_syntax.specs.declared.terminals.Terminal.TheVariants as T
 use Rattle.tick_syntax.specs.Lexeme.{Lexeme, a_name, a_number, a_terminal, nothing, lexemes}
-use Rattle.tick_tree.specs.Plain.{nowhere, Name, WholeProgram}
+use Rattle.base.specs.Plain.{nowhere, Name, WholeProgram}
 use Rattle.tick_syntax.specs.Grammar.{program_tokens, second_span, Derives}
 use Rattle.tick_syntax.specs.declared.token.Token.{Token}
 use Rattle.tick_syntax.specs.Nesting.{nesting, IsOpening, open_by}

@@ -5,7 +5,7 @@ use Rattle.tick_syntax.specs.declared.fault.TextFault.{TextFault}
 use Rattle.tick_syntax.specs.declared.fault.TextFault.TheVariants as F
 use Rattle.tick_syntax.specs.declared.valued_token.ValuedToken.{ValuedToken}
 use Rattle.tick_syntax.specs.declared.valued_token.Meaning.TheVariants as M
-use Rattle.tick_tree.specs.declared.span.Span.{Span}
+use Rattle.base.specs.declared.span.Span.{Span}
 use Rattle.tick_syntax.specs.declared.token.Sort.{Sort}
 use Rattle.tick_syntax.specs.declared.token.Sort.TheVariants as K
 use Rattle.tick_syntax.specs.declared.token.Token.{Token}
@@ -15,7 +15,7 @@ use Rattle.tick_syntax.specs.Grammar.{second_span, Derives}
 use Rattle.tick_syntax.specs.prover.ValuedTokens.{plain, SayAs}
 use Rattle.tick_syntax.specs.Lexeme.{Lexeme, lexeme_at, lexemes, of_terminal, bytes_at}
 use Rattle.tick_syntax.specs.Nesting.{nesting, open_by, IsShallow}
-use Rattle.tick_tree.specs.Plain.{Name, WholeProgram}
+use Rattle.base.specs.Plain.{Name, WholeProgram}
 use Rattle.tick_syntax.specs.prover.Reading.{program_at}
 use Rattle.tick_syntax.specs.Refusal.{CanStand, AllCanStand, IsTextRefused}
 use Rattle.tick_syntax.specs.RoundTrip.{IsTextOf}

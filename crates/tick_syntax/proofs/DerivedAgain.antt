@@ -8,8 +8,8 @@ use Rattle.tick_syntax.specs.declared.valued_token.Ending.TheVariants as N
 use Rattle.tick_syntax.specs.Lexeme.{Lexeme, a_name, a_number, a_terminal, nothing}
 use Rattle.tick_syntax.specs.Grammar.{program_tokens}
 use Rattle.tick_syntax.specs.Refusal.{AllCanStand}
-use Rattle.tick_tree.specs.declared.span.Span.{Span}
-use Rattle.tick_tree.specs.Plain.{Name, Expression, number, named, me, count, binary, map_expression, Statement, assign, get, put, stamp, clear, scan, copy, older, held, out, branch, repeat, map_statement, Block, nil, cons, map_block, WholeProgram, without_spans}
+use Rattle.base.specs.declared.span.Span.{Span}
+use Rattle.base.specs.Plain.{Name, Expression, number, named, me, count, binary, map_expression, Statement, assign, get, put, stamp, clear, scan, copy, older, held, out, branch, repeat, map_statement, Block, nil, cons, map_block, WholeProgram, without_spans}
 use Rattle.tick_syntax.proofs.Symbols.{Symbol, s_program, s_until, step, on_stack, run_by, run}
 use Rattle.tick_syntax.proofs.Spanless.{letters_of, spanless, spanless_all}
 use Rattle.tick_syntax.proofs.SpansAside.{name_at_none, program_at_none, program_plain}

@@ -10,7 +10,7 @@ use Rattle.tick_syntax.specs.Characters.{is_letter, is_digit, is_keyword}
 use Rattle.tick_syntax.specs.prover.Extents.{word_length, number_length, sign_length}
 use Rattle.tick_syntax.specs.Spelling.{starts, starts_token, span_of, IsWord, IsNumber, IsSign, IsToken, TokenAt, FaultAt}
 use Rattle.tick_syntax.specs.Terminals.{spelling, keywords}
-use Rattle.tick_tree.specs.declared.span.Span.{Span}
+use Rattle.base.specs.declared.span.Span.{Span}
 use Rattle.tick_syntax.specs.declared.token.Sort.{Sort}
 use Rattle.tick_syntax.specs.declared.token.Sort.TheVariants.{Name, Num, Keyword, Sign}
 use Rattle.tick_syntax.specs.declared.token.Token.{Token}

@@ -1,12 +1,12 @@
 -- The definitions computed on small programs.
 use Rattle.std.proofs.Common.{◌≡◌, ℕ, List, [], ◌∷◌, ◌++◌, Some, None, refl, codes}
 use Rattle.std.specs.Fmt.{decimal}
-use Rattle.tick_tree.specs.declared.span.Span.{Span}
+use Rattle.base.specs.declared.span.Span.{Span}
 use Rattle.tick_syntax.specs.declared.token.Sort.TheVariants as K
-use Rattle.machine_core.specs.declared.operator.Op.TheVariants as O
+use Rattle.base.specs.declared.operator.Op.TheVariants as O
 use Rattle.tick_syntax.specs.declared.terminals.Terminal.TheVariants as T
 use Rattle.tick_syntax.specs.Lexeme.{Lexeme, a_name, a_number, a_terminal, lexemes}
-use Rattle.tick_tree.specs.Plain.{Name, named, me, count, binary, out, repeat, nil, cons, WholeProgram}
+use Rattle.base.specs.Plain.{Name, named, me, count, binary, out, repeat, nil, cons, WholeProgram}
 use Rattle.tick_syntax.specs.Grammar.{program_tokens}
 use Rattle.tick_syntax.specs.Terminals.{signs, keywords, spelled_among}
 use Rattle.tick_syntax.specs.Nesting.{nesting}

@@ -1,6 +1,6 @@
 -- The reader's loops: what was read so far stands before what the rest gives.
 use Rattle.std.proofs.Common.{◌≡◌, ℕ, zero, suc, ◌<◌, Bool, true, false, List, [], ◌∷◌, ◌++◌, length, Ok, Err, refl, sym, ◌∙◌, ap, subst, append_assoc, arith}
-use Rattle.tick_tree.specs.declared.span.Span.{Span}
+use Rattle.base.specs.declared.span.Span.{Span}
 use Rattle.tick_syntax.specs.declared.fault.TextFault.{TextFault}
 use Rattle.tick_syntax.specs.declared.fault.TextFault.TheVariants as F
 use Rattle.tick_syntax.specs.declared.valued_token.ValuedToken.{ValuedToken}
@@ -9,12 +9,12 @@ use Rattle.tick_syntax.specs.declared.valued_token.Meaning.{Meaning}
 use Rattle.tick_syntax.specs.declared.valued_token.Meaning.TheVariants as M
 use Rattle.tick_syntax.specs.declared.terminals.Terminal.{Terminal}
 use Rattle.tick_syntax.specs.declared.terminals.Terminal.TheVariants as T
-use Rattle.tick_tree.specs.declared.tree.Stmt.{Stmt}
-use Rattle.tick_tree.specs.Plain.{Name, Expression, Statement, branch, repeat, Block, nil, cons, onto}
-use Rattle.tick_tree.specs.View.{statement_of, block_of}
+use Rattle.base.specs.declared.tree.Stmt.{Stmt}
+use Rattle.base.specs.Plain.{Name, Expression, Statement, branch, repeat, Block, nil, cons, onto}
+use Rattle.base.specs.View.{statement_of, block_of}
 use Rattle.tick_syntax.specs.prover.Reading.{Reading, Fails, is_memory, next_at, name_at, name_by, names_at, names_by, block_by, ends, statements_with, statements_at, statement_by, statement_with, statement_at, block_at, expression_at, terminal_at, branch_at, repeat_at}
-use Rattle.machine_core.specs.Refusing.{◌>>=◌}
-use Rattle.machine_core.proofs.Offered.{fails_on, fails_with}
+use Rattle.base.specs.Refusing.{◌>>=◌}
+use Rattle.base.proofs.Offered.{fails_on, fails_with}
 use Rattle.tick_syntax.proofs.Sound.{name_reads}
 use Rattle.tick_syntax.proofs.SoundStatements.{statement_reads}
 

@@ -1,7 +1,7 @@
 -- Tokens stop being a program at one place at most, and nowhere where they are one.
 use Rattle.std.proofs.Common.{◌≡◌, ℕ, ◌⊎◌, inl, inr, List, [], ◌∷◌, ◌++◌, refl, sym, ◌∙◌, ap, subst, append_assoc, arith}
 use Rattle.std.proofs.lemmas.List.{map-append, append-nil}
-use Rattle.tick_tree.specs.declared.span.Span.{Span}
+use Rattle.base.specs.declared.span.Span.{Span}
 use Rattle.tick_syntax.specs.declared.fault.TextFault.{TextFault}
 use Rattle.tick_syntax.specs.declared.fault.TextFault.TheVariants as F
 use Rattle.tick_syntax.specs.declared.token.Token.{Token}
@@ -9,7 +9,7 @@ use Rattle.tick_syntax.specs.declared.terminals.Terminal.TheVariants as T
 use Rattle.tick_syntax.specs.Grammar.{program_tokens}
 use Rattle.tick_syntax.specs.Lexeme.{Lexeme, a_terminal, lexeme_of, lexemes}
 use Rattle.tick_syntax.specs.Nesting.{IsOpening, open_by, open_after, IsShallow}
-use Rattle.tick_tree.specs.Plain.{Name, WholeProgram}
+use Rattle.base.specs.Plain.{Name, WholeProgram}
 use Rattle.tick_syntax.specs.Refusal.{AllCanStand, GoesOn, StopsAfter, IsUnexpected, IsTooDeep}
 use Rattle.tick_syntax.proofs.Continuations.{all_append}
 use Rattle.tick_syntax.proofs.TokensThatStand.{middle_stands}

@@ -1,18 +1,18 @@
 -- The printed tokens of statements with blocks and of sections, part by part.
 use Rattle.std.proofs.Common.{◌≡◌, List, Vec, Global, [], ◌∷◌, ◌++◌, ◌∙◌, ap, refl, append_assoc}
 use Rattle.std.proofs.lemmas.Grind.{flat_map-append}
-use Rattle.tick_tree.specs.declared.tree.Expr.{Expr}
-use Rattle.tick_tree.specs.declared.tree.Stmt.{Stmt}
-use Rattle.tick_tree.specs.declared.tree.Stmt.TheVariants.{If, While}
+use Rattle.base.specs.declared.tree.Expr.{Expr}
+use Rattle.base.specs.declared.tree.Stmt.{Stmt}
+use Rattle.base.specs.declared.tree.Stmt.TheVariants.{If, While}
 use Rattle.tick_syntax.specs.declared.terminals.Terminal.{Terminal}
 use Rattle.tick_syntax.specs.declared.terminals.Terminal.TheVariants as T
 use Rattle.tick_syntax.specs.Lexeme.{a_name, a_terminal}
-use Rattle.tick_tree.specs.Plain.{Name, Statement}
+use Rattle.base.specs.Plain.{Name, Statement}
 use Rattle.tick_syntax.specs.Grammar.{expression_tokens, in_braces, statement_tokens, block_tokens, names_tokens, section_tokens}
 use Rattle.tick_syntax.specs.Printed.{printed_token, printed_tokens}
 use Rattle.tick_syntax.specs.prover.Printing.{more_names}
-use Rattle.tick_tree.specs.View.{expression_of, statement_of, block_of}
-use Rattle.tick_tree.proofs.Rows.{statement_of_branch, statement_of_repeat}
+use Rattle.base.specs.View.{expression_of, statement_of, block_of}
+use Rattle.base.proofs.Blocks.{statement_of_branch, statement_of_repeat}
 
 -- the tokens of a statement with blocks
 pub tokens_branch : (s : Stmt) (e : Expr) (a b : Vec Stmt Global) → s ≡ If e a b → printed_tokens (statement_tokens (statement_of s)) ≡ printed_token (a_terminal T.If) ++ (printed_tokens (expression_tokens (expression_of e)) ++ (printed_tokens (in_braces (block_tokens (block_of a.items))) ++ (printed_token (a_terminal T.Else) ++ printed_tokens (in_braces (block_tokens (block_of b.items))))))

@@ -4,7 +4,7 @@ use Rattle.tick_syntax.specs.declared.token.Token.{Token}
 use Rattle.tick_syntax.specs.Grammar.{program_tokens, second_span, Derives}
 use Rattle.tick_syntax.specs.Refusal.{AllCanStand}
 use Rattle.tick_syntax.specs.Lexeme.{lexemes}
-use Rattle.tick_tree.specs.Plain.{Name, WholeProgram, without_spans}
+use Rattle.base.specs.Plain.{Name, WholeProgram, without_spans}
 use Rattle.tick_syntax.specs.Printed.{printed}
 use Rattle.tick_syntax.specs.RoundTrip.{IsTextOf, ReadsAs}
 use Rattle.tick_syntax.proofs.DerivedAgain.{program_again}

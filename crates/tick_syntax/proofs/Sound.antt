@@ -33,7 +33,7 @@
 -- stack's count agree on which bracket is one too many.
 use Rattle.std.proofs.Common.{sym, ◌≡◌, ◌≢◌, ℕ, zero, suc, ◌+◌, ◌<◌, ◌≤◌, ◌⊎◌, inl, inr, true, false, List, [], ◌∷◌, ◌++◌, length, Some, None, Result, Ok, Err, refl, ◌∙◌, ap, subst, append_assoc, arith, nat_eq, eq-eqb}
 use Rattle.std.proofs.lemmas.Bool.{ne_eqb}
-use Rattle.tick_tree.specs.declared.span.Span.{Span}
+use Rattle.base.specs.declared.span.Span.{Span}
 use Rattle.tick_syntax.specs.declared.fault.TextFault.{TextFault}
 use Rattle.tick_syntax.specs.declared.fault.TextFault.TheVariants as F
 use Rattle.tick_syntax.specs.declared.valued_token.ValuedToken.{ValuedToken}
@@ -42,10 +42,10 @@ use Rattle.tick_syntax.specs.declared.valued_token.Meaning.TheVariants as M
 use Rattle.tick_syntax.specs.declared.terminals.Terminal.{Terminal}
 use Rattle.tick_syntax.specs.declared.terminals.Terminal.TheVariants as T
 use Rattle.tick_syntax.specs.Lexeme.{Lexeme, a_name, a_terminal}
-use Rattle.tick_tree.specs.Plain.{Name, Expression}
+use Rattle.base.specs.Plain.{Name, Expression}
 use Rattle.tick_syntax.specs.Grammar.{expression_tokens}
 use Rattle.tick_syntax.specs.Nesting.{expression_nesting}
-use Rattle.machine_core.specs.Refusing.{◌>>=◌}
+use Rattle.base.specs.Refusing.{◌>>=◌}
 use Rattle.tick_syntax.specs.prover.Reading.{Reading, next_at, terminal_at, terminal_by, operator_at, operator_by, name_at, name_by, pair_at, brackets_at, expression_by, expression_at, last_at}
 use Rattle.tick_syntax.proofs.Symbols.{said_by, says, Symbol, s_semicolon, s_name, s_becomes, s_else, s_close, s_operator, s_expression, step, opened, is_full, on_stack, fault_by, fault}
 

@@ -1,6 +1,6 @@
 -- What the reader reads is what the grammar has: whole programs.
 use Rattle.std.proofs.Common.{append_assoc, map, ◌≡◌, ℕ, ◌≤◌, List, [], ◌∷◌, ◌++◌, Some, None, Ok, Err, refl, sym, ◌∙◌, ap, subst, arith, inl, inr}
-use Rattle.tick_tree.specs.declared.span.Span.{Span}
+use Rattle.base.specs.declared.span.Span.{Span}
 use Rattle.tick_syntax.specs.declared.fault.TextFault.{TextFault}
 use Rattle.tick_syntax.specs.declared.fault.TextFault.TheVariants as F
 use Rattle.tick_syntax.specs.declared.valued_token.ValuedToken.{ValuedToken}
@@ -12,10 +12,10 @@ use Rattle.tick_syntax.specs.declared.valued_token.Meaning.TheVariants as M
 use Rattle.tick_syntax.specs.declared.terminals.Terminal.{Terminal}
 use Rattle.tick_syntax.specs.declared.terminals.Terminal.TheVariants as T
 use Rattle.tick_syntax.specs.Lexeme.{Lexeme, a_name, a_number, a_terminal}
-use Rattle.tick_tree.specs.Plain.{Name, Block, WholeProgram}
+use Rattle.base.specs.Plain.{Name, Block, WholeProgram}
 use Rattle.tick_syntax.specs.Grammar.{block_tokens, names_tokens, section_tokens, program_tokens, second_span}
 use Rattle.tick_syntax.specs.Nesting.{block_nesting, nesting}
-use Rattle.machine_core.specs.Refusing.{◌>>=◌}
+use Rattle.base.specs.Refusing.{◌>>=◌}
 use Rattle.tick_syntax.specs.prover.Reading.{Reading, next_at, terminal_at, terminal_by, number_at, number_by, name_by, names_by, names_at, begins, section_by, section_at, statements_at, body_at, sections_at, headed_at, whole_at, program_at, nothing_after}
 use Rattle.std.proofs.lemmas.List.{append-nil}
 use Rattle.tick_syntax.specs.prover.ValuedTokens.{plain}

@@ -1,7 +1,7 @@
 -- Names and tokens apart from their places in a text.
 use Rattle.std.specs.Prelude.{ℕ, List, map}
 use Rattle.tick_syntax.specs.Lexeme.{Lexeme, a_name, a_number, a_terminal, nothing}
-use Rattle.tick_tree.specs.Plain.{nowhere, Name}
+use Rattle.base.specs.Plain.{nowhere, Name}
 
 abbrev pub letters_of : Name → List ℕ
 letters_of x = x.letters

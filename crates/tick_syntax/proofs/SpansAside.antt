@@ -5,7 +5,7 @@ use Rattle.tick_syntax.specs.declared.terminals.Terminal.{Terminal}
 use Rattle.tick_syntax.specs.declared.terminals.Terminal.TheVariants as T
 use Rattle.tick_syntax.specs.Lexeme.{Lexeme, a_name, a_number, a_terminal, nothing}
 use Rattle.tick_syntax.specs.Nesting.{expression_nesting, statement_nesting, block_nesting, nesting}
-use Rattle.tick_tree.specs.Plain.{nowhere, Name, Expression, number, named, me, count, binary, map_expression, Statement, assign, get, put, stamp, clear, scan, copy, older, held, out, branch, repeat, map_statement, Block, nil, cons, map_block, WholeProgram, without_spans}
+use Rattle.base.specs.Plain.{nowhere, Name, Expression, number, named, me, count, binary, map_expression, Statement, assign, get, put, stamp, clear, scan, copy, older, held, out, branch, repeat, map_statement, Block, nil, cons, map_block, WholeProgram, without_spans}
 use Rattle.tick_syntax.specs.Grammar.{expression_tokens, statement_tokens, block_tokens, names_tokens, section_tokens, program_tokens}
 use Rattle.tick_syntax.specs.Printed.{printed_token, printed_tokens, printed}
 use Rattle.tick_syntax.proofs.Spanless.{letters_of, spanless, spanless_all}

@@ -9,7 +9,7 @@ use Rattle.std.proofs.lemmas.List.Folds.{drop_split}
 use Rattle.tick_syntax.specs.Characters.{is_letter, is_digit}
 use Rattle.tick_syntax.specs.prover.Extents.{word_length, number_length, sign_length, IsReadAt}
 use Rattle.tick_syntax.specs.Spelling.{starts, gap_length, after_gap, span_of, IsWord, IsNumber, IsSign, IsToken, HasToken, TokenAt, FaultAt, SpellsFrom, Spells, FaultAfter, FirstFault}
-use Rattle.tick_tree.specs.declared.span.Span.{Span}
+use Rattle.base.specs.declared.span.Span.{Span}
 use Rattle.tick_syntax.specs.declared.token.Sort.{Sort}
 use Rattle.tick_syntax.specs.declared.token.Sort.TheVariants as K
 use Rattle.tick_syntax.specs.declared.valued_token.Meaning.TheVariants as M

@@ -1,11 +1,11 @@
 -- What a token says, read in its text.
 use Rattle.std.specs.Prelude.{ℕ, List, Option, Some, None, map, slice_range}
-use Rattle.tick_tree.specs.declared.span.Span.{Span}
+use Rattle.base.specs.declared.span.Span.{Span}
 use Rattle.tick_syntax.specs.declared.token.Sort.{Sort}
 use Rattle.tick_syntax.specs.declared.token.Sort.TheVariants as K
 use Rattle.tick_syntax.specs.declared.token.Token.{Token}
 use Rattle.tick_syntax.specs.declared.terminals.Terminal.{Terminal}
-use Rattle.tick_tree.specs.Plain.{Name}
+use Rattle.base.specs.Plain.{Name}
 use Rattle.tick_syntax.specs.Terminals.{signs, keywords, spelled_among}
 
 -- a name, a number, a keyword or a sign; or nothing that the language has

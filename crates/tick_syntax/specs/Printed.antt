@@ -7,7 +7,7 @@ use Rattle.tick_syntax.specs.declared.terminals.Terminal.TheVariants as T
 use Rattle.tick_syntax.specs.Terminals.{spelling}
 use Rattle.tick_syntax.specs.Grammar.{program_tokens}
 use Rattle.tick_syntax.specs.Lexeme.{Lexeme, a_name, a_number, a_terminal, nothing}
-use Rattle.tick_tree.specs.Plain.{Name, WholeProgram}
+use Rattle.base.specs.Plain.{Name, WholeProgram}
 
 -- a line feed after these terminals, and a space after all others
 abbrev pub after_terminal : Terminal → ℕ

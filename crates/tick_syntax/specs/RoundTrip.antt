@@ -3,7 +3,7 @@ use Rattle.std.specs.Prelude.{◌≡◌, ℕ, List}
 use Rattle.tick_syntax.specs.declared.token.Token.{Token}
 use Rattle.tick_syntax.specs.Grammar.{Derives}
 use Rattle.tick_syntax.specs.Nesting.{nesting}
-use Rattle.tick_tree.specs.Plain.{Name, WholeProgram, without_spans}
+use Rattle.base.specs.Plain.{Name, WholeProgram, without_spans}
 use Rattle.tick_syntax.specs.Printed.{printed}
 use Rattle.tick_syntax.specs.Spelling.{Spells}
 

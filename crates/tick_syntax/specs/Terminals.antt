@@ -2,8 +2,8 @@
 use Rattle.std.specs.Prelude.{ℕ, List, [], ◌∷◌, Option, codes}
 use Rattle.std.specs.List.{find}
 use Rattle.std.specs.Str.{bytes_eq}
-use Rattle.machine_core.specs.declared.operator.Op.TheVariants as O
-use Rattle.machine_core.specs.Operators.{sign}
+use Rattle.base.specs.declared.operator.Op.TheVariants as O
+use Rattle.base.specs.Operators.{sign}
 use Rattle.tick_syntax.specs.declared.terminals.Terminal.{Terminal}
 use Rattle.tick_syntax.specs.declared.terminals.Terminal.TheVariants as T
 

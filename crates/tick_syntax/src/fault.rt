@@ -1,7 +1,7 @@
+use base::span::Span;
 use std::alloc::{AllocError, AllocFailed};
 use std::fmt;
 use thiserror::Error;
-use tick_tree::span::Span;
 
 /// Why a text is refused. Places and spans are in bytes of the text, from 0.
 #[derive(Clone, Copy, PartialEq, Eq, Error)]

@@ -15,8 +15,8 @@ use crate::fault::TextFault;
 use crate::terminals::{keyword_of, sign_of};
 use crate::token::Token;
 use crate::valued_token::{Meaning, ValuedToken};
+use base::span::Span;
 use std::alloc::Global;
-use tick_tree::span::Span;
 
 const TEXT_LIMIT: usize = 1_000_000;
 

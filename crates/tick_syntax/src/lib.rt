@@ -14,8 +14,8 @@ pub mod terminals;
 pub mod token;
 mod valued_token;
 
+pub use base::{span, tree};
 pub use fault::TextFault;
 pub use lexer::tokens;
 pub use parser::parse;
 pub use printer::print;
-pub use tick_tree::{span, tree};

@@ -2,22 +2,22 @@
 ghost use Rattle.std.specs.Prelude.{◌≡◌, ◌≢◌, ◌<◌, ◌≤◌, ◌⊎◌, ℕ, List, [], length, drop, map, IfOk, IfErr, IsOkUnless, MatchResult};
 ghost use Rattle.tick_syntax.specs.prover.Reading.{Gives, GivesAlways, GivesWhole, IsOkUnlessMemory, next_at, terminal_at, brace_at, operator_at, name_at, number_at, pair_at, brackets_at, expression_at, last_at, ended_at, named_last_at, copy_at, older_at, plain_at, right_at, assignment_at, out_at, branch_at, repeat_at, block_at, statement_at, statements_at, names_at, section_at, body_at, sections_at, headed_at, whole_at, program_at};
 ghost use Rattle.tick_syntax.specs.Nesting.{nesting};
-ghost use Rattle.tick_tree.specs.Plain.{Name, WholeProgram, get, put, stamp, clear, scan, held};
+ghost use Rattle.base.specs.Plain.{Name, WholeProgram, get, put, stamp, clear, scan, held};
 ghost use Rattle.tick_syntax.specs.declared.fault.TextFault.TheVariants.{NoMemory, TextTooLong, Unexpected, TooDeep};
 ghost use Rattle.tick_syntax.specs.Refusal.{IsTextRefused};
 ghost use Rattle.tick_syntax.specs.declared.fault.TextFault.{TextFault};
 ghost use Rattle.tick_syntax.specs.RoundTrip.{IsTextOf};
 ghost use Rattle.tick_syntax.specs.Spelling.{HasToken};
-ghost use Rattle.tick_tree.specs.declared.span.Span.{Span};
-ghost use Rattle.tick_tree.specs.View.{name_of, expression_of, statement_of, block_of, tree_of};
+ghost use Rattle.base.specs.declared.span.Span.{Span};
+ghost use Rattle.base.specs.View.{name_of, expression_of, statement_of, block_of, tree_of};
 
 use crate::fault::TextFault;
 use crate::lexer::valued_tokens;
 use crate::terminals::Terminal;
 use crate::valued_token::{Ending, Meaning, Section, ValuedToken};
+use base::span::Span;
+use base::tree::{Expr, Named, Op, Stmt, Tree};
 use std::alloc::Global;
-use tick_tree::span::Span;
-use tick_tree::tree::{Expr, Named, Op, Stmt, Tree};
 
 /// The tree of a text, which is the only one that it has; else the first refusal of the text: its
 /// length, the first fault of its tokens, or where the tokens stop being a program within the

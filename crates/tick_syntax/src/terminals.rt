@@ -1,7 +1,7 @@
 ghost use Rattle.std.specs.Prelude.{◌≡◌};
 ghost use Rattle.tick_syntax.specs.Terminals.{spelling, signs, keywords, spelled_among};
 
-use tick_tree::tree::Op;
+use base::tree::Op;
 
 /// A keyword or a sign.
 #[derive(Clone, Copy, PartialEq, Eq)]

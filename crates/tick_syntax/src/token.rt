@@ -1,4 +1,4 @@
-use tick_tree::span::Span;
+use base::span::Span;
 
 /// What a token is. Which keyword or sign it is, the text at its span says.
 #[derive(Clone, Copy, PartialEq, Eq, Debug)]

@@ -5,7 +5,7 @@ ghost use Rattle.tick_syntax.specs.prover.ValuedTokens.{is_sign_terminal, plain}
 
 use crate::terminals::Terminal;
 use crate::token::{Sort, Token};
-use tick_tree::span::Span;
+use base::span::Span;
 
 /// What a token says.
 #[derive(Clone, Copy)]

@@ -1,6 +1,6 @@
 -- Runs made one after the other, and one more.
 use Rattle.std.proofs.Common.{List, [], ◌∷◌, ◌++◌}
-use Rattle.machine_core.specs.Observables.{RunObservables}
+use Rattle.base.specs.Observables.{RunObservables}
 use Rattle.tick_tally.specs.Tallies.{AreRuns, no_run, one_run}
 
 pub one_more_run : {M : Type 0} (Ran : M → RunObservables → M → Type 0) (before between after : M) (seen : List RunObservables) (outcome : RunObservables)

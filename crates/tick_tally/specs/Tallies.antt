@@ -3,7 +3,7 @@ use Rattle.std.specs.Prelude.{◌≡◌, ◌≢◌, ◌≤◌, ℕ, List, [], �
 use Rattle.std.specs.Global.{Global}
 use Rattle.std.specs.List.{All, AllPairs, Contains, count_by}
 use Rattle.std.specs.declared.cmp.Ordering.TheVariants.{Less}
-use Rattle.machine_core.specs.Observables.{RunObservables}
+use Rattle.base.specs.Observables.{RunObservables}
 use Rattle.tick_play.specs.Outcome.{outcome_lines}
 use Rattle.tick_tally.specs.declared.counting.Counted.{Counted}
 use Rattle.tick_tally.specs.Times.{times_of}

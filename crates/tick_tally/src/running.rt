@@ -1,13 +1,13 @@
 ghost use Rattle.std.specs.Prelude.{◌≡◌, ℕ, List, String, length, map, IfOk, string_bytes};
 ghost use Rattle.std.specs.Global.{Global};
 ghost use Rattle.std.specs.List.{sum_by};
-ghost use Rattle.machine_core.specs.Observables.{RunObservables};
+ghost use Rattle.base.specs.Observables.{RunObservables};
 ghost use Rattle.tick_play.specs.Outcome.{outcome_lines};
 ghost use Rattle.tick_tally.specs.Tallies.{AreCounted, AreRuns};
 
 use crate::counting::{Counted, count_texts};
+use base::NoMemory;
 use code_core::Code;
-use machine_core::NoMemory;
 use std::alloc::Global;
 use tick_merge::{RunFault, Runner};
 use tick_play::outcome_text;

@@ -7,12 +7,12 @@ use Rattle.std.proofs.lemmas.List.Elements.{All-append, All-cons, All-drop, All-
 use Rattle.std.proofs.lemmas.Option.{get_or_from_slice_get, slice_get_within}
 use Rattle.std.proofs.lemmas.Str.{IsCharBoundary-after_ascii, IsCharBoundary-before_ascii}
 use Rattle.tick_syntax.specs.Characters.{is_name_part, is_digit, is_letter, is_lone_sign, is_sign, lone_signs, before_equals, may_precede_equals}
-use Rattle.tick_tree.specs.declared.span.Span.{Span}
+use Rattle.base.specs.declared.span.Span.{Span}
 use Rattle.tick_syntax.specs.declared.token.Sort.{Sort}
 use Rattle.tick_syntax.specs.declared.token.Sort.TheVariants as K
 use Rattle.tick_syntax.specs.declared.token.Token.{Token}
 use Rattle.tick_syntax.specs.Grammar.{block_tokens, statement_tokens}
-use Rattle.tick_tree.specs.Plain.{nowhere, Name, Statement, assign, get, put, stamp, clear, scan, copy, older, held, out, branch, repeat, Block, nil, cons, WholeProgram}
+use Rattle.base.specs.Plain.{nowhere, Name, Statement, assign, get, put, stamp, clear, scan, copy, older, held, out, branch, repeat, Block, nil, cons, WholeProgram}
 use Rattle.tick_syntax.specs.Spelling.{IsToken, StandInOrder, starts}
 use Rattle.tick_trace.specs.Places.{between, extent, head_tokens, heads, inner_heads, opening_tokens, statement_heads}
 use Rattle.tick_trace.specs.prover.Heads.{IsCut}

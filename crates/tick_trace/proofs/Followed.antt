@@ -4,15 +4,15 @@ use Rattle.std.specs.Prelude.{nat_lt, slice_get, slice_set, slice_index, if◌th
 use Rattle.std.proofs.lemmas.Bool.{both_ways}
 use Rattle.std.proofs.lemmas.Option.{same_Some, none-some, slice_get_past, slice_get_within, slice_get-get_or}
 use Rattle.std.proofs.lemmas.List.{get_or_past}
-use Rattle.machine_core.specs.declared.status.Trap.{Trap}
-use Rattle.machine_core.specs.declared.status.Trap.TheVariants as T
-use Rattle.machine_core.specs.declared.event.Act.{Act}
-use Rattle.machine_core.specs.declared.event.Act.TheVariants as A
-use Rattle.machine_core.specs.declared.event.Event.{Event}
-use Rattle.machine_core.specs.declared.status.Status.{Status}
-use Rattle.machine_core.specs.declared.status.Status.TheVariants.{Running, Ended, Trapped}
-use Rattle.machine_core.specs.Observables.{told}
-use Rattle.tick_tree.specs.Plain.{Statement, assign, get, put, stamp, clear, scan, copy, older, held, out, branch, repeat, Block, nil, cons, onto}
+use Rattle.base.specs.declared.status.Trap.{Trap}
+use Rattle.base.specs.declared.status.Trap.TheVariants as T
+use Rattle.base.specs.declared.event.Act.{Act}
+use Rattle.base.specs.declared.event.Act.TheVariants as A
+use Rattle.base.specs.declared.event.Event.{Event}
+use Rattle.base.specs.declared.status.Status.{Status}
+use Rattle.base.specs.declared.status.Status.TheVariants.{Running, Ended, Trapped}
+use Rattle.base.specs.Observables.{told}
+use Rattle.base.specs.Plain.{Statement, assign, get, put, stamp, clear, scan, copy, older, held, out, branch, repeat, Block, nil, cons, onto}
 use Rattle.tick_kinds.specs.Resolved.{resolved_statement}
 use Rattle.tick_source.specs.Values.{value}
 use Rattle.tick_source.specs.Source.{SourceProcess, SourceState, SourceStep, with_value, does, did, source_step, step_of, step_as, statuses_of}

@@ -2,19 +2,19 @@
 use Rattle.std.proofs.Common.{◌≡◌, ℕ, zero, suc, ◌+◌, ◌-◌, ◌*◌, ◌<◌, ◌≤◌, List, Vec, Global, [], ◌∷◌, ◌++◌, length, refl, ap, ◌∙◌, sym, subst, arith, append_assoc, length-append, length-drop, drop, take, take_all, drop-cons, drop-drop, drop_of_length-le, add-one, get_or, ⊎_elim}
 use Rattle.std.proofs.lemmas.List.{append-nil}
 use Rattle.std.proofs.lemmas.Bool.{cases_lt}
-use Rattle.machine_core.specs.declared.operator.Op.{Op}
+use Rattle.base.specs.declared.operator.Op.{Op}
 use Rattle.tick_syntax.specs.declared.terminals.Terminal.{Terminal}
 use Rattle.tick_syntax.specs.declared.terminals.Terminal.TheVariants as T
-use Rattle.tick_tree.specs.declared.span.Span.{Span}
+use Rattle.base.specs.declared.span.Span.{Span}
 use Rattle.tick_syntax.specs.declared.token.Token.{Token}
-use Rattle.tick_tree.specs.declared.tree.Expr.{Expr}
-use Rattle.tick_tree.specs.declared.tree.Stmt.{Stmt}
-use Rattle.tick_tree.specs.declared.tree.Stmt.TheVariants as S
+use Rattle.base.specs.declared.tree.Expr.{Expr}
+use Rattle.base.specs.declared.tree.Stmt.{Stmt}
+use Rattle.base.specs.declared.tree.Stmt.TheVariants as S
 use Rattle.tick_syntax.specs.Grammar.{block_tokens, expression_tokens, in_braces, names_tokens, section_tokens, statement_tokens}
 use Rattle.tick_syntax.specs.Lexeme.{Lexeme, a_terminal}
-use Rattle.tick_tree.specs.Plain.{Name, Expression, binary, Statement, assign, get, put, stamp, clear, scan, copy, older, held, out, branch, repeat, Block, nil, cons, WholeProgram}
-use Rattle.tick_tree.specs.View.{block_of, expression_of, statement_of}
-use Rattle.tick_tree.proofs.Offered.{statement_of_branch, statement_of_repeat}
+use Rattle.base.specs.Plain.{Name, Expression, binary, Statement, assign, get, put, stamp, clear, scan, copy, older, held, out, branch, repeat, Block, nil, cons, WholeProgram}
+use Rattle.base.specs.View.{block_of, expression_of, statement_of}
+use Rattle.base.proofs.Offered.{statement_of_branch, statement_of_repeat}
 use Rattle.tick_trace.specs.Places.{extent, head_tokens, heads, inner_heads, opening_tokens}
 use Rattle.tick_trace.specs.prover.Heads.{names_count, whole_heads}
 

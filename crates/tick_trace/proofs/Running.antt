@@ -4,9 +4,9 @@ use Rattle.std.specs.Prelude.{slice_get, slice_set, slice_index, option_and_then
 use Rattle.std.proofs.lemmas.Bool.{cases_eq}
 use Rattle.std.proofs.lemmas.Option.{get_or_from_slice_get, slice_get_read}
 use Rattle.std.proofs.lemmas.List.{get_or-set_same, get_or-set_other}
-use Rattle.machine_core.specs.declared.status.Status.{Status}
-use Rattle.machine_core.specs.declared.status.Status.TheVariants.{Running, Ended, Trapped}
-use Rattle.tick_tree.specs.Plain.{WholeProgram, Block, nil, cons, onto}
+use Rattle.base.specs.declared.status.Status.{Status}
+use Rattle.base.specs.declared.status.Status.TheVariants.{Running, Ended, Trapped}
+use Rattle.base.specs.Plain.{WholeProgram, Block, nil, cons, onto}
 use Rattle.tick_source.specs.Source.{SourceProcess, SourceState, source_start, start_process, source_step, step_of, step_as, did}
 use Rattle.tick_trace.specs.declared.links.Link.{Link}
 use Rattle.tick_trace.specs.StatementSteps.{running_as, running_at}

@@ -1,7 +1,7 @@
 -- The statements of a program by number, from 0 on in the order of the text: what is in the blocks of a
 -- statement comes after it, and before what follows it.
 use Rattle.std.specs.Prelude.{◌≡◌, ℕ, suc, ◌+◌, List, [], ◌∷◌, ◌++◌, slice_get, Option, Some, None}
-use Rattle.tick_tree.specs.Plain.{Statement, branch, repeat, Block, nil, cons, onto}
+use Rattle.base.specs.Plain.{Statement, branch, repeat, Block, nil, cons, onto}
 
 abbrev mutual
   -- how many statements a statement is, with those of its blocks

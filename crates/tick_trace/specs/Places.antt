@@ -2,12 +2,12 @@
 use Rattle.std.specs.Prelude.{◌≡◌, ℕ, ◌+◌, ◌-◌, ◌==◌, ◌||◌, nat_lt, nat_le, Bool, if◌then◌else◌, List, [], ◌∷◌, ◌++◌, drop, length, map, slice_get, slice_range, take, Option, Some, None}
 use Rattle.std.specs.List.{before_first}
 use Rattle.std.specs.Str.{trim_end}
-use Rattle.tick_tree.specs.declared.span.Span.{Span}
+use Rattle.base.specs.declared.span.Span.{Span}
 use Rattle.tick_syntax.specs.declared.terminals.Terminal.TheVariants as T
 use Rattle.tick_syntax.specs.declared.token.Token.{Token}
 use Rattle.tick_syntax.specs.Grammar.{block_tokens, expression_tokens, section_tokens, statement_tokens}
 use Rattle.tick_syntax.specs.Lexeme.{Lexeme, a_number, a_terminal}
-use Rattle.tick_tree.specs.Plain.{nowhere, Name, Statement, branch, repeat, Block, nil, cons, WholeProgram}
+use Rattle.base.specs.Plain.{nowhere, Name, Statement, branch, repeat, Block, nil, cons, WholeProgram}
 use Rattle.tick_syntax.specs.Spelling.{Spells}
 use Rattle.tick_trace.specs.declared.spots.Place.{Place}
 use Rattle.tick_trace.specs.declared.spots.Spot.{Spot}

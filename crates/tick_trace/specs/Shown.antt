@@ -1,7 +1,7 @@
 -- What steps of both machines show alike.
 use Rattle.std.specs.Prelude.{Option, Some, None}
-use Rattle.machine_core.specs.declared.event.Act.{Act}
-use Rattle.machine_core.specs.declared.event.Act.TheVariants as A
+use Rattle.base.specs.declared.event.Act.{Act}
+use Rattle.base.specs.declared.event.Act.TheVariants as A
 
 -- the order of the processes is shown after a step that may change it
 abbrev pub shown : {X : Type 0} → Option Act → X → Option X

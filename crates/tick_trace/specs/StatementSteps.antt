@@ -1,10 +1,10 @@
 -- What each step of a program does.
 use Rattle.std.specs.Prelude.{◌≡◌, ℕ, List, [], ◌∷◌, length, take, slice_get, slice_index, Option, Some, None, option_and_then}
-use Rattle.machine_core.specs.declared.event.Event.{Event}
-use Rattle.machine_core.specs.declared.status.Status.{Status}
-use Rattle.machine_core.specs.declared.status.Status.TheVariants.{Running}
-use Rattle.machine_core.specs.Observables.{told}
-use Rattle.tick_tree.specs.Plain.{Statement, assign, get, older, held, Block, nil, cons, WholeProgram}
+use Rattle.base.specs.declared.event.Event.{Event}
+use Rattle.base.specs.declared.status.Status.{Status}
+use Rattle.base.specs.declared.status.Status.TheVariants.{Running}
+use Rattle.base.specs.Observables.{told}
+use Rattle.base.specs.Plain.{Statement, assign, get, older, held, Block, nil, cons, WholeProgram}
 use Rattle.tick_source.specs.Source.{SourceProcess, SourceState, source, source_step}
 use Rattle.tick_trace.specs.declared.steps.StatementStep.{StatementStep}
 use Rattle.tick_trace.specs.declared.steps.Written.{Written}

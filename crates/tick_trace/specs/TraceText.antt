@@ -3,15 +3,15 @@ use Rattle.std.specs.Prelude.{ℕ, zero, suc, ◌+◌, ◌-◌, List, [], ◌∷
 use Rattle.std.specs.Fmt.{decimal}
 use Rattle.base.specs.Lines.{line_end}
 use Rattle.ticket_core.specs.Tickets.{ticket_ranks, holds_ticket}
-use Rattle.machine_core.specs.declared.status.Trap.{Trap}
-use Rattle.machine_core.specs.declared.status.Trap.TheVariants as T
-use Rattle.machine_core.specs.declared.event.Act.{Act}
-use Rattle.machine_core.specs.declared.event.Act.TheVariants as A
+use Rattle.base.specs.declared.status.Trap.{Trap}
+use Rattle.base.specs.declared.status.Trap.TheVariants as T
+use Rattle.base.specs.declared.event.Act.{Act}
+use Rattle.base.specs.declared.event.Act.TheVariants as A
 use Rattle.word_core.specs.Stamps.{Labels, label_at, is_present}
 use Rattle.word_core.specs.Order.{label_ranks}
 use Rattle.code_core.specs.declared.instr.Instr.{Instr}
 use Rattle.code_text.specs.CodeText.{instr_text}
-use Rattle.tick_tree.specs.Plain.{Name, WholeProgram}
+use Rattle.base.specs.Plain.{Name, WholeProgram}
 use Rattle.tick_trace.specs.Places.{Standing}
 use Rattle.tick_trace.specs.declared.steps.Written.{Written}
 use Rattle.tick_trace.specs.declared.steps.StatementStep.{StatementStep}

@@ -7,9 +7,9 @@ ghost use Rattle.tick_trace.specs.TraceText.{instruction_line, instruction_lines
 use crate::columns::{end_words, push_head, push_place};
 use crate::steps::InstructionStep;
 use crate::wording::{push_act, push_rank};
+use base::NoMemory;
 use code_core::Instr;
 use code_text::push_instruction;
-use machine_core::NoMemory;
 use std::alloc::{AllocError, Global};
 use tick_kinds::Program;
 use word_core::LabelWord;

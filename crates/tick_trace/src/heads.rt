@@ -2,15 +2,15 @@
 
 ghost use Rattle.std.specs.Prelude.{◌≡◌, ◌++◌, ◌*◌, ◌+◌, IfOk, OnOk, drop, length};
 ghost use Rattle.tick_syntax.specs.Grammar.{block_tokens, expression_tokens, statement_tokens};
-ghost use Rattle.tick_tree.specs.View.{block_of, expression_of, statement_of};
+ghost use Rattle.base.specs.View.{block_of, expression_of, statement_of};
 ghost use Rattle.tick_trace.specs.Places.{extent, head_tokens, heads, opening_tokens, statement_heads};
 ghost use Rattle.tick_trace.specs.prover.Heads.{names_count, whole_heads};
 
+use base::span::Span;
+use base::tree::{Expr, Stmt};
 use std::alloc::{AllocError, Global};
 use tick_kinds::Program;
 use tick_syntax::token::Token;
-use tick_tree::span::Span;
-use tick_tree::tree::{Expr, Stmt};
 
 /// Where the head of each statement stands, in the order of the text, whose tokens these are: what it has
 /// up to its block or its end.

@@ -5,9 +5,9 @@ ghost use Rattle.tick_trace.specs.InstructionSteps.{AreInstructionSteps, IsInstr
 
 use crate::shown::{act_after, shown};
 use crate::steps::InstructionStep;
+use base::{Act, NoMemory};
 use code_core::{Code, Instr};
 use code_machine::{CodeMachine, Made};
-use machine_core::{Act, NoMemory};
 use std::alloc::Global;
 
 /// Each step of the code under the schedule. Each number in the schedule is below the number of

@@ -17,9 +17,9 @@ mod statements;
 mod steps;
 mod wording;
 
+pub use base::NoMemory;
 pub use code_lines::code_trace;
 pub use instructions::code_steps;
-pub use machine_core::NoMemory;
 pub use source_lines::source_trace;
 pub use spots::{Spot, places};
 pub use statements::source_steps;

@@ -5,7 +5,7 @@ ghost use Rattle.tick_trace.specs.Numbers.{size, size_of};
 ghost use Rattle.tick_trace.specs.prover.Links.{Adds, AddsOne, Begins, IsTable, is_past, is_zero, went};
 ghost use Rattle.tick_trace.specs.StatementSteps.{target};
 
-use machine_core::{NoMemory, Trap};
+use base::{NoMemory, Trap};
 use std::alloc::{AllocError, Global};
 use tick_kinds::resolved::{Expression, Statement};
 use tick_source::value_of;

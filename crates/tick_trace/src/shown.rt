@@ -1,7 +1,7 @@
 ghost use Rattle.std.specs.Prelude.{◌≡◌, slice_get, option_map};
 ghost use Rattle.tick_trace.specs.Shown.{shown};
 
-use machine_core::{Act, Event};
+use base::{Act, Event};
 
 /// What others see of the steps after the first so many events.
 pub fn act_after(events: &[Event], count: usize) -> Option<Act>

@@ -8,10 +8,10 @@ ghost use Rattle.tick_trace.specs.Places.{Stand, first_line, next_place, standin
 ghost use Rattle.tick_trace.specs.prover.Heads.{HasPassed, IsCut};
 
 use crate::heads::heads;
+use base::span::Span;
 use std::alloc::Global;
 use tick_kinds::Program;
 use tick_syntax::{TextFault, tokens};
-use tick_tree::span::Span;
 
 /// A statement as it stands in a text.
 #[derive(Clone, Copy, PartialEq, Eq, Debug)]

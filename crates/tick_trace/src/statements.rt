@@ -1,6 +1,6 @@
 ghost use Rattle.std.specs.Prelude.{◌≡◌, ◌<◌, ◌≤◌, ℕ, [], ◌∷◌, ◌++◌, IfOk, OnOk, All, length, map, option_map, slice_index};
 ghost use Rattle.tick_kinds.specs.Resolution.{resolved};
-ghost use Rattle.tick_tree.specs.Plain.{Block};
+ghost use Rattle.base.specs.Plain.{Block};
 ghost use Rattle.tick_source.specs.Source.{source, source_step};
 ghost use Rattle.tick_trace.specs.StatementSteps.{AreStatementSteps, IsStatementStep, events_after, running_at, wrote};
 ghost use Rattle.tick_trace.specs.declared.steps.StatementStep.{StatementStep};
@@ -9,7 +9,7 @@ ghost use Rattle.tick_trace.specs.prover.Links.{HasCome, IsTable, link_at, linke
 use crate::links::{Link, following, links, target};
 use crate::shown::{act_after, shown};
 use crate::steps::{StatementStep, Written};
-use machine_core::{NoMemory, Status};
+use base::{NoMemory, Status};
 use std::alloc::Global;
 use tick_kinds::Program;
 use tick_source::SourceMachine;

@@ -1,5 +1,5 @@
+use base::Act;
 use code_core::Instr;
-use machine_core::Act;
 use ticket_core::Tickets;
 use word_core::LabelWord;
 

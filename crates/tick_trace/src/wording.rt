@@ -1,15 +1,14 @@
 //! What a step showed, in words.
 
 ghost use Rattle.std.specs.Prelude.{◌≡◌, ◌++◌, OnOk, Some, map, string_bytes, take};
-ghost use Rattle.tick_tree.specs.View.{name_of};
+ghost use Rattle.base.specs.View.{name_of};
 ghost use Rattle.tick_trace.specs.TraceText.{act_text, name_at, rank_text, ranks_text, register_text, trap_text, variable_text};
 
-use base::push_number;
-use machine_core::{Act, Trap};
+use base::tree::Named;
+use base::{Act, Trap, push_number};
 use std::alloc::AllocError;
 use std::fmt::Write;
 use tick_kinds::Program;
-use tick_tree::tree::Named;
 
 /// What others see of a step of process `p`.
 pub fn push_act(text: &mut String, program: &Program, p: u8, act: Act) -> Result<(), AllocError>

@@ -4,7 +4,7 @@ use Rattle.std.specs.Fmt.{decimal}
 use Rattle.base.specs.Lines.{line_end}
 use Rattle.tick_kinds.specs.declared.kind.Kind.{Kind}
 use Rattle.tick_kinds.specs.declared.kind.Kind.TheVariants.{Variable, Scan, Register}
-use Rattle.tick_tree.specs.declared.span.Span.{Span}
+use Rattle.base.specs.declared.span.Span.{Span}
 use Rattle.ticketc_lines.specs.declared.refusal.Refusal.{Refusal}
 use Rattle.ticketc_lines.specs.declared.refusal.Refusal.TheVariants.{TextTooLong, BadCharacter, NumberTooBig, NameTooLong, Unexpected, TooDeep, Processes, ProcessesAt, Twice, Unknown, WrongKind, TooMany, EmptyCode, BadJump, StackShort, HeightsDiffer, BadSlot, FallsOff, CodeTooLong, BadLine, BadStamp, ProgramTooLong, BadItem, NoSuchProcess, ScheduleTooLong}
 

@@ -3,10 +3,10 @@ ghost use Rattle.std.specs.Fmt.{decimal};
 ghost use Rattle.base.specs.Lines.{line_end};
 ghost use Rattle.ticketc_lines.specs.Refusal.{kind_name, refusal_line, span_line};
 
+use base::span::Span;
 use std::alloc::{AllocError, Global};
 use std::fmt::Write;
 use tick_kinds::Kind;
-use tick_tree::span::Span;
 
 /// Why an input is refused. A place is an offset in bytes, where nothing else is
 /// said, and a span one of bytes of the input.

@@ -4,8 +4,8 @@ ghost use Rattle.ticketc_lines.specs.Stop.{code_stop, kinds_stop, lower_stop, sc
 ghost use Rattle.ticketc_lines.specs.declared.stop.Stop.TheVariants.{Memory, Refused};
 
 use crate::refusal::Refusal;
+use base::NoMemory;
 use code_core::CodeFault;
-use machine_core::NoMemory;
 use schedule_text::ScheduleFault;
 use std::alloc::AllocError;
 use tick_kinds::KindFault;

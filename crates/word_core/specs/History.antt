@@ -1,8 +1,8 @@
 -- Histories: the steps of all processes on what they share, in one order, each with its answer.
 use Rattle.std.specs.Prelude.{◌≡◌, ◌≢◌, ℕ, ◌^◌, ◌<◌, List, [], ◌∷◌, length, All}
-use Rattle.machine_core.specs.Rows.{start_rows}
+use Rattle.base.specs.RegisterRows.{start_rows}
 use Rattle.ticket_core.specs.Tickets.{start_tickets, stamp_ticket, clear_ticket}
-pub use Rattle.machine_core.specs.Rows.{register_at, register_set}
+pub use Rattle.base.specs.RegisterRows.{register_at, register_set}
 use Rattle.word_core.specs.Stamps.{Labels, start_labels, stamped, cleared}
 use Rattle.word_core.specs.Packed.{word}
 use Rattle.word_core.specs.declared.history.Shared.{Shared}

@@ -2,8 +2,8 @@
 use Rattle.std.specs.Prelude.{◌≡◌, ℕ, ◌+◌, ◌-◌, ◌*◌, ◌%◌, ◌==◌, ◌||◌, if◌then◌else◌, List, [], ◌∷◌, ◌++◌, length, slice_index, drop, Option, None, Some}
 use Rattle.std.specs.Borrow.{Bor}
 use Rattle.std.specs.Char.{is_ascii_digit}
-use Rattle.machine_core.specs.declared.operator.Op.{Op}
-use Rattle.machine_core.specs.declared.operator.Op.TheVariants as O
+use Rattle.base.specs.declared.operator.Op.{Op}
+use Rattle.base.specs.declared.operator.Op.TheVariants as O
 use Rattle.code_core.specs.declared.instr.Instr.{Instr}
 use Rattle.code_core.specs.declared.instr.Instr.TheVariants as I
 use Rattle.code_core.specs.Instructions.{CodeSizes}

@@ -1,7 +1,7 @@
 -- What stands after the name of an instruction.
 use Rattle.std.specs.Prelude.{ℕ, List, [], ◌++◌, codes}
 use Rattle.std.specs.Fmt.{decimal}
-use Rattle.machine_core.specs.Operators.{sign}
+use Rattle.base.specs.Operators.{sign}
 use Rattle.code_text.specs.declared.writing.Operands.{Operands}
 use Rattle.code_text.specs.declared.writing.Operands.TheVariants as P
 

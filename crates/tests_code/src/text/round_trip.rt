@@ -1,11 +1,11 @@
 use crate::text::answers::{read, told, written};
+use base::Op;
 use code_core::CodeFault::BadLine;
 use code_core::Instr;
 use code_core::Instr::{
     Bin, Clear, Copy, Count, Exchange, Get, Halt, Held, Jump, JumpZero, Load, LoadWord, Me, Next,
     Older, Out, Push, Put, Scan, Store,
 };
-use machine_core::Op;
 use std::str;
 use std::test::Fail;
 use testing::{holds, is_same};

@@ -1,4 +1,5 @@
 use crate::text::answers::{sizes_of, told, verified};
+use base::Op;
 use code_core::CodeFault::{
     BadJump, BadSlot, BadStamp, Empty, FallsOff, HeightsDiffer, StackShort,
 };
@@ -7,7 +8,6 @@ use code_core::Instr::{
     Push, Put, Scan, Store,
 };
 use code_core::{CodeFault, Instr, Sizes};
-use machine_core::Op;
 use std::test::Fail;
 use testing::{holds, is_same};
 

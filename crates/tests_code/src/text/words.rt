@@ -1,10 +1,10 @@
 //! The words that a code is kept in, and the instructions that they say.
 use crate::text::answers::{sizes_of, verified};
+use base::Op;
 use code_core::Instr;
 use code_core::Instr::{
     Bin, Copy, Get, Halt, Jump, JumpZero, Load, Me, Older, Out, Push, Put, Scan, Store,
 };
-use machine_core::Op;
 use std::test::Fail;
 use testing::is_same;
 

@@ -1,10 +1,10 @@
+use base::span::Span;
+use base::tree::Tree;
 use std::test::Fail;
 use testing::{accepted, holds, is_same};
 use tick_kinds::resolved::Statement;
 use tick_kinds::{Kind, KindFault, Program, check};
 use tick_syntax::parse;
-use tick_tree::span::Span;
-use tick_tree::tree::Tree;
 
 fn is_numbered(program: &Program) -> bool {
     program.kind("y") == Some((Kind::Variable, 1))

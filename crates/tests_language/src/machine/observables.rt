@@ -1,4 +1,4 @@
-use machine_core::{Registers, set_at};
+use base::{Registers, set_at};
 use std::test::Fail;
 use testing::is_same;
 

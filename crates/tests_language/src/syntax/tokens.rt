@@ -1,9 +1,9 @@
+use base::span::Span;
 use std::alloc::Global;
 use std::test::Fail;
 use testing::is_same;
 use tick_syntax::token::{Sort, Token};
 use tick_syntax::tokens;
-use tick_tree::span::Span;
 
 fn token(sort: Sort, start: usize, end: usize) -> Token {
     Token {

@@ -1,7 +1,7 @@
 //! A runner by script, of which every so many runs one traps: each call counts once.
 
+use base::{RunEnd, RunOutcome, Trap};
 use code_core::Code;
-use machine_core::{RunEnd, RunOutcome, Trap};
 use std::alloc::{AllocError, Global};
 use std::test::Fail;
 use testing::{accepted, is_same};

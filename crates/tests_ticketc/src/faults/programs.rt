@@ -1,10 +1,10 @@
 //! Faults of texts, of kinds and of schedules.
 use crate::faults::told::tells;
+use base::span::Span;
 use std::test::Fail;
 use tick_kinds::{Kind, KindFault};
 use tick_play::ScheduleFault;
 use tick_syntax::TextFault;
-use tick_tree::span::Span;
 
 const SPAN: Span = Span { start: 7, end: 12 };
 

@@ -1,9 +1,9 @@
 -- What a step does to the tickets of all processes, by what it lets others see.
 use Rattle.std.specs.Prelude.{ℕ, List, Option, Some, None}
 use Rattle.ticket_core.specs.Tickets.{stamp_ticket, clear_ticket}
-use Rattle.machine_core.specs.declared.event.Act.{Act}
-use Rattle.machine_core.specs.declared.event.Act.TheVariants as A
-use Rattle.machine_core.specs.declared.event.Event.{Event}
+use Rattle.base.specs.declared.event.Act.{Act}
+use Rattle.base.specs.declared.event.Act.TheVariants as A
+use Rattle.base.specs.declared.event.Event.{Event}
 
 abbrev pub tickets_by : ℕ → Act → List ℕ → List ℕ
 tickets_by p A.Stamp tickets = stamp_ticket p tickets

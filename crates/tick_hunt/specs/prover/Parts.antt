@@ -1,7 +1,7 @@
 -- What becomes of a schedule under which a process traps, as items are left out.
 use Rattle.std.specs.Prelude.{◌<◌, ℕ, List}
 use Rattle.std.specs.List.{All}
-use Rattle.tick_tree.specs.Plain.{WholeProgram}
+use Rattle.base.specs.Plain.{WholeProgram}
 use Rattle.tick_hunt.specs.Hunts.{Traps, IsPartOf}
 
 -- a schedule of the program's processes under which one traps

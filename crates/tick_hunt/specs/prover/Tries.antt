@@ -1,6 +1,6 @@
 -- How far a run has come.
 use Rattle.std.specs.Prelude.{◌≡◌, ◌<◌, ◌≤◌, ℕ, zero, suc, true, false, length}
-use Rattle.tick_tree.specs.Plain.{WholeProgram}
+use Rattle.base.specs.Plain.{WholeProgram}
 use Rattle.tick_source.specs.Source.{SourceState, source}
 use Rattle.tick_explore.specs.Explored.{has_trapped}
 use Rattle.tick_hunt.specs.declared.plan.Mode.{Mode}

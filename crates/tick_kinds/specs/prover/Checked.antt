@@ -3,15 +3,15 @@
 use Rattle.std.specs.Prelude.{ℕ, Bool, true, false, List, [], ◌∷◌, Option, Some, None, Result, Ok, Err, if◌then◌else◌, is_some, ◌&&◌, nat_lt, nat_le}
 use Rattle.std.specs.Map.{update}
 use Rattle.std.specs.Str.{bytes_eq}
-use Rattle.machine_core.specs.Refusing.{◌>>=◌, FailsBut, GivesBut}
+use Rattle.base.specs.Refusing.{◌>>=◌, FailsBut, GivesBut}
 use Rattle.tick_kinds.specs.declared.fault.KindFault.{KindFault}
 use Rattle.tick_kinds.specs.declared.fault.KindFault.TheVariants as F
 use Rattle.tick_kinds.specs.declared.kind.Kind.{Kind}
 use Rattle.tick_kinds.specs.declared.kind.Kind.TheVariants as K
 use Rattle.tick_kinds.specs.Declarations.{Slot, Declaration, declarations, limit}
 use Rattle.tick_kinds.specs.Refusals.{is_kind}
-use Rattle.tick_tree.specs.declared.span.Span.{Span}
-use Rattle.tick_tree.specs.Plain.{Name, Expression, number, named, me, count, binary, Statement, assign, get, put, stamp, clear, scan, copy, older, held, out, branch, repeat, Block, nil, cons, WholeProgram}
+use Rattle.base.specs.declared.span.Span.{Span}
+use Rattle.base.specs.Plain.{Name, Expression, number, named, me, count, binary, Statement, assign, get, put, stamp, clear, scan, copy, older, held, out, branch, repeat, Block, nil, cons, WholeProgram}
 
 abbrev pub Checked : Type 0 → Type 0
 Checked A = Result A KindFault

@@ -1,7 +1,7 @@
 -- What the code holds while it goes through a history.
 use Rattle.std.specs.Prelude.{◌≡◌, ◌+◌, ℕ, zero, suc, List, Option, Some, None}
-use Rattle.machine_core.specs.declared.status.Status.{Status}
-use Rattle.machine_core.specs.declared.status.Status.TheVariants.{Running}
+use Rattle.base.specs.declared.status.Status.{Status}
+use Rattle.base.specs.declared.status.Status.TheVariants.{Running}
 use Rattle.word_core.specs.History.{Memory}
 use Rattle.word_core.specs.declared.history.SharedAct.{SharedAct}
 use Rattle.code_core.specs.declared.instr.Instr.{Instr}

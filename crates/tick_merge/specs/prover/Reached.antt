@@ -4,7 +4,7 @@ use Rattle.word_core.specs.History.{memory_of, IsLegal}
 use Rattle.word_core.specs.declared.history.Shared.{Shared}
 use Rattle.code_core.specs.Instructions.{StepCode}
 use Rattle.code_core.specs.Verified.{IsVerified}
-use Rattle.machine_core.specs.declared.status.Status.TheVariants.{Running}
+use Rattle.base.specs.declared.status.Status.TheVariants.{Running}
 use Rattle.code_machine.specs.Machine.{CodeProcess, Moved, alone, did, start_process}
 use Rattle.code_machine.specs.Process.{OneProcess, IsOf}
 use Rattle.tick_merge.specs.Ran.{run_under, occurs}

@@ -1,6 +1,6 @@
 -- Where a run under a schedule stands while a history is gone through.
 use Rattle.std.specs.Prelude.{◌≡◌, ◌≤◌, ◌<◌, ℕ, List, slice_get, slice_index, Some}
-use Rattle.machine_core.specs.declared.event.Event.{Event}
+use Rattle.base.specs.declared.event.Event.{Event}
 use Rattle.word_core.specs.History.{memory_of}
 use Rattle.word_core.specs.declared.history.Shared.{Shared}
 use Rattle.code_core.specs.Instructions.{StepCode}

@@ -1,11 +1,11 @@
 -- One turn of a worker: one instruction of its process, by itself.
 use Rattle.std.specs.Prelude.{◌≡◌, ℕ, ◌+◌, true, List, [], ◌∷◌, ◌++◌, slice_get, Some}
-use Rattle.machine_core.specs.declared.status.Status.{Status}
-use Rattle.machine_core.specs.declared.status.Status.TheVariants as S
-use Rattle.machine_core.specs.declared.event.Act.{Act}
-use Rattle.machine_core.specs.declared.event.Act.TheVariants as A
-use Rattle.machine_core.specs.declared.run_outcome.RunEnd.{RunEnd}
-use Rattle.machine_core.specs.declared.run_outcome.RunEnd.TheVariants as E
+use Rattle.base.specs.declared.status.Status.{Status}
+use Rattle.base.specs.declared.status.Status.TheVariants as S
+use Rattle.base.specs.declared.event.Act.{Act}
+use Rattle.base.specs.declared.event.Act.TheVariants as A
+use Rattle.base.specs.declared.run_outcome.RunEnd.{RunEnd}
+use Rattle.base.specs.declared.run_outcome.RunEnd.TheVariants as E
 use Rattle.word_core.specs.declared.history.Shared.{Shared}
 use Rattle.word_core.specs.declared.history.SharedAct.{SharedAct}
 use Rattle.code_core.specs.Instructions.{StepCode}

@@ -1,6 +1,6 @@
 -- What workers start with, and what they come back with.
 use Rattle.std.specs.Prelude.{◌≡◌, ◌<◌, ◌≤◌, ℕ, min, List, [], length, slice_get, Some, vec_items, vec_capacity}
-use Rattle.machine_core.specs.declared.run_outcome.RunEnd.{RunEnd}
+use Rattle.base.specs.declared.run_outcome.RunEnd.{RunEnd}
 use Rattle.code_core.specs.Instructions.{StepCode}
 use Rattle.code_machine.specs.Machine.{start_process}
 use Rattle.code_machine.specs.Process.{OneProcess, IsOf}

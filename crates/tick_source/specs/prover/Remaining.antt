@@ -1,7 +1,7 @@
 -- The statements that remain, as blocks that are open one inside the other.
 use Rattle.std.specs.Prelude.{ℕ, List, [], ◌∷◌, Option, Some, None}
 use Rattle.std.proofs.Common.{Bor}
-use Rattle.tick_tree.specs.Plain.{Statement, Block, nil, cons, onto}
+use Rattle.base.specs.Plain.{Statement, Block, nil, cons, onto}
 use Rattle.tick_kinds.specs.Resolved.{resolved_block}
 use Rattle.tick_kinds.specs.declared.resolved.Statement as DeclaredStatement
 

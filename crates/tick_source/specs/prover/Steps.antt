@@ -1,11 +1,11 @@
 -- What a step of one process does to what the machine holds.
 use Rattle.std.specs.Prelude.{◌≡◌, ℕ, length}
-use Rattle.tick_tree.specs.Plain.{Statement}
-use Rattle.machine_core.specs.declared.status.Trap.{Trap}
+use Rattle.base.specs.Plain.{Statement}
+use Rattle.base.specs.declared.status.Trap.{Trap}
 use Rattle.tick_source.specs.declared.process.Process.{Process}
 use Rattle.tick_source.specs.declared.memory.SourceMemory.{SourceMemory}
 use Rattle.tick_source.specs.prover.Remaining.{after_first}
-use Rattle.machine_core.specs.Observables.{told}
+use Rattle.base.specs.Observables.{told}
 use Rattle.tick_source.specs.Source.{SourceStep, does, did, traps}
 
 -- what the process did, and with it to what is shared

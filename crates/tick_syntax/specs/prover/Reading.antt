@@ -1,7 +1,7 @@
 -- Reading a program from the front of a list of tokens, step by step: what each function of the reader
 -- gives. That it reads the grammar's programs is proved of these definitions.
 use Rattle.std.specs.Prelude.{◌≡◌, ℕ, zero, suc, Bool, true, false, List, [], ◌∷◌, drop, length, Result, Ok, Err}
-use Rattle.tick_tree.specs.declared.span.Span.{Span}
+use Rattle.base.specs.declared.span.Span.{Span}
 use Rattle.tick_syntax.specs.declared.fault.TextFault.{TextFault}
 use Rattle.tick_syntax.specs.declared.fault.TextFault.TheVariants as F
 use Rattle.tick_syntax.specs.declared.valued_token.ValuedToken.{ValuedToken}
@@ -11,11 +11,11 @@ use Rattle.tick_syntax.specs.declared.valued_token.Section.{Section}
 use Rattle.tick_syntax.specs.declared.valued_token.Section.TheVariants as C
 use Rattle.tick_syntax.specs.declared.valued_token.Meaning.{Meaning}
 use Rattle.tick_syntax.specs.declared.valued_token.Meaning.TheVariants as M
-use Rattle.machine_core.specs.declared.operator.Op.{Op}
-use Rattle.machine_core.specs.Refusing.{◌>>=◌, FailsBut, GivesBut}
+use Rattle.base.specs.declared.operator.Op.{Op}
+use Rattle.base.specs.Refusing.{◌>>=◌, FailsBut, GivesBut}
 use Rattle.tick_syntax.specs.declared.terminals.Terminal.{Terminal}
 use Rattle.tick_syntax.specs.declared.terminals.Terminal.TheVariants as T
-use Rattle.tick_tree.specs.Plain.{Name, Expression, number, named, me, count, binary, Statement, assign, get, put, stamp, clear, scan, copy, older, held, out, branch, repeat, Block, nil, cons, WholeProgram}
+use Rattle.base.specs.Plain.{Name, Expression, number, named, me, count, binary, Statement, assign, get, put, stamp, clear, scan, copy, older, held, out, branch, repeat, Block, nil, cons, WholeProgram}
 
 -- what was read and the tokens after it, or a refusal
 abbrev pub Reading : Type 0 → Type 0

@@ -1,9 +1,9 @@
 -- How many tokens a section has, the heads of one statement with those of its blocks, and where they stand.
 use Rattle.std.specs.Prelude.{◌≡◌, ℕ, zero, suc, ◌+◌, ◌*◌, ◌<◌, ◌≤◌, List, ◌∷◌, drop, length, take}
 use Rattle.std.specs.Str.{IsCharBoundary}
-use Rattle.tick_tree.specs.declared.span.Span.{Span}
+use Rattle.base.specs.declared.span.Span.{Span}
 use Rattle.tick_syntax.specs.declared.token.Token.{Token}
-use Rattle.tick_tree.specs.Plain.{Name, Statement}
+use Rattle.base.specs.Plain.{Name, Statement}
 use Rattle.tick_trace.specs.Places.{extent, first_place, head_tokens, inner_heads, place_after}
 use Rattle.tick_trace.specs.declared.spots.Passed.{Passed}
 

@@ -1,6 +1,6 @@
 -- The steps of the first items of a schedule.
 use Rattle.std.specs.Prelude.{◌≡◌, ℕ, List, [], length, map, take, slice_get, slice_index, Some}
-use Rattle.tick_tree.specs.Plain.{WholeProgram}
+use Rattle.base.specs.Plain.{WholeProgram}
 use Rattle.tick_source.specs.Source.{source, source_step}
 use Rattle.code_core.specs.Instructions.{StepCode}
 use Rattle.code_machine.specs.Machine.{code_step, run_of}

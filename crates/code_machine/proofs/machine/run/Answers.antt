@@ -1,6 +1,6 @@
 use Rattle.std.proofs.Common.{◌≡◌, IfOk, ap, ◌∙◌, subst, arith, length, get_or}
 use Rattle.std.proofs.lemmas.List.{length-replicate}
-use Rattle.machine_core.specs.Observables.{observed}
+use Rattle.base.specs.Observables.{observed}
 use Rattle.code_machine.specs.Machine.{code_run, code_step, run_of, start_process, observables}
 use Rattle.code_machine.proofs.Steps.{run_more, run_done}
 use Rattle.code_machine.proofs.machine.run.Goals as goal

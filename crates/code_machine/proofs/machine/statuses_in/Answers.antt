@@ -1,7 +1,7 @@
 use Rattle.std.proofs.Common.{◌≡◌, ℕ, ◌+◌, ◌<◌, List, [], ◌∷◌, ◌++◌, sym, ap, ◌∙◌, arith, rules, map, take, length, get_or}
 use Rattle.std.proofs.lemmas.List.{take_more, map-append}
 use Rattle.std.proofs.Math.Seq.{take-length}
-use Rattle.machine_core.specs.declared.status.Status.{Status}
+use Rattle.base.specs.declared.status.Status.{Status}
 use Rattle.code_machine.specs.Process.{OneProcess}
 use Rattle.code_machine.proofs.machine.statuses_in.Goals as goal
 

@@ -1,6 +1,6 @@
 use Rattle.std.proofs.Common.{inl}
 use Rattle.std.proofs.lemmas.Result.{IfOk-weaker}
-use Rattle.tick_tree.specs.View.{tree_of}
+use Rattle.base.specs.View.{tree_of}
 use Rattle.tick_explain.proofs.Begun.{tested}
 use Rattle.tick_explain.proofs.expected.begins_program.Goals as goal
 

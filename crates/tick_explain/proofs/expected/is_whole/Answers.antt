@@ -1,4 +1,4 @@
-use Rattle.tick_tree.specs.View.{tree_of}
+use Rattle.base.specs.View.{tree_of}
 use Rattle.tick_explain.proofs.expected.is_whole.Goals as goal
 
 pub returns-in-Ok : goal.returns-in-Ok

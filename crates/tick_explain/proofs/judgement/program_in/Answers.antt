@@ -1,7 +1,7 @@
 use Rattle.std.proofs.Common.{ℕ, List, subst}
 use Rattle.tick_syntax.specs.Refusal.{IsTextRefused}
 use Rattle.tick_syntax.specs.RoundTrip.{IsTextOf}
-use Rattle.tick_tree.specs.View.{tree_of}
+use Rattle.base.specs.View.{tree_of}
 use Rattle.tick_explain.specs.Refusals.{no_program, not_accepted}
 use Rattle.tick_explain.proofs.judgement.program_in.Goals as goal
 

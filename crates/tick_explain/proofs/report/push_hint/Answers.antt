@@ -1,6 +1,6 @@
 use Rattle.std.proofs.Common.{◌≡◌, ◌∙◌, ◌++◌, ℕ, List, Option, ap, append_assoc, codes, refl, subst}
 use Rattle.base.specs.Lines.{line_end}
-use Rattle.tick_tree.specs.declared.span.Span.{Span}
+use Rattle.base.specs.declared.span.Span.{Span}
 use Rattle.tick_explain.specs.Hints.{hint_text}
 use Rattle.tick_explain.specs.Reports.{IsSeen, hinted}
 use Rattle.tick_explain.specs.Settings.{setting}

@@ -1,6 +1,6 @@
 use Rattle.std.proofs.Common.{◌+◌, ◌*◌, drop}
 use Rattle.tick_kinds.specs.Resolved.{resolved_expression, resolved_statement, resolved_block}
-use Rattle.tick_tree.specs.Plain.{branch, repeat}
+use Rattle.base.specs.Plain.{branch, repeat}
 use Rattle.tick_lower.specs.Lowered.{statement_length, block_length}
 use Rattle.tick_lower.proofs.Emitted.{Emitting}
 use Rattle.tick_lower.proofs.emitter.+statement.Given as goal

@@ -40,13 +40,13 @@ loop-p-preserved c =
     let before : List ℕ = c.loop-p.steps.items in
     let did = c.in_ok-step_ends.ensures in
     let grown : c.if-branch.steps.items ≡ (if c.in_ok-step_ends.field-0 then before ++ p ∷ [] else before) =
-        elim c.if-branch.branch [ then-branch+in_ok-push w ↦ ap (λ v. v.items) w.steps-is ∙ w.in_ok-push.ensures.items ∙ ap (λ b. if b then before ++ p ∷ [] else before) (sym w.if-branch.true) | else-branch w ↦ ap (λ v. v.items) w.steps-is ∙ ap (λ b. if b then before ++ p ∷ [] else before) (sym w.if-branch.false) ] in
+    elim c.if-branch.branch [ then-branch+in_ok-push w ↦ ap (λ v. v.items) w.steps-is ∙ w.in_ok-push.ensures.items ∙ ap (λ b. if b then before ++ p ∷ [] else before) (sym w.if-branch.true) | else-branch w ↦ ap (λ v. v.items) w.steps-is ∙ ap (λ b. if b then before ++ p ∷ [] else before) (sym w.if-branch.false) ] in
     let Kept : StepCode → Type 0 = λ code.
-        c.if-branch.steps.items ++ down_from code.sizes.processes code.instructions (drop (c.loop-p.p-index + 1) schedule) c.step_ends.new.machine.state
-        ≡ down code.sizes code.instructions schedule in
+    c.if-branch.steps.items ++ down_from code.sizes.processes code.instructions (drop (c.loop-p.p-index + 1) schedule) c.step_ends.new.machine.state
+    ≡ down code.sizes code.instructions schedule in
     let code = c.loop-p.machine.code in
     let kept = subst (λ (code : StepCode). before ++ down_from code.sizes.processes code.instructions (drop c.loop-p.p-index schedule) c.loop-p.machine.state
-        ≡ down code.sizes code.instructions schedule) (sym was.same) was.kept in
+    ≡ down code.sizes code.instructions schedule) (sym was.same) was.kept in
     record {
       kept = subst Kept was.same
           (down_more code.sizes.processes code.instructions c.loop-p.p-index schedule before c.if-branch.steps.items c.loop-p.machine.state

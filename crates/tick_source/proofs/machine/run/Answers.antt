@@ -1,5 +1,5 @@
 use Rattle.std.proofs.Common.{◌≡◌, IfOk, ap, ◌∙◌, subst, arith, length}
-use Rattle.machine_core.specs.Observables.{observed}
+use Rattle.base.specs.Observables.{observed}
 use Rattle.tick_kinds.specs.Resolution.{resolved}
 use Rattle.tick_source.specs.Source.{source, source_run, observables}
 use Rattle.tick_source.proofs.Steps.{run_more, run_done}

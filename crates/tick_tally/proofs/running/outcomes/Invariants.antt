@@ -1,6 +1,6 @@
 use Rattle.std.proofs.Common.{◌≡◌, List, length, map}
 use Rattle.std.specs.Prelude.{string_bytes}
-use Rattle.machine_core.specs.Observables.{RunObservables}
+use Rattle.base.specs.Observables.{RunObservables}
 use Rattle.tick_play.specs.Outcome.{outcome_lines}
 use Rattle.tick_tally.specs.Tallies.{AreRuns}
 use Rattle.tick_tally.proofs.running.outcomes.Given as goal

@@ -1,5 +1,5 @@
 use Rattle.std.proofs.Common.{⊎_elim}
-use Rattle.tick_tree.specs.View.{statement_of}
+use Rattle.base.specs.View.{statement_of}
 use Rattle.tick_trace.proofs.HeadTokens.{IsPlain, branch_heads, branch_lent, branch_past, head_pushed, next_statement, plain_as, plain_heads, one_more, repeat_heads, repeat_lent, repeat_past, rest_more}
 use Rattle.tick_trace.proofs.heads.+adding.Goals as goal
 

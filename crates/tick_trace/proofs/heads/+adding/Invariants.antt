@@ -1,6 +1,6 @@
 use Rattle.std.proofs.Common.{◌≡◌, ◌++◌, drop, length}
 use Rattle.tick_syntax.specs.Grammar.{block_tokens}
-use Rattle.tick_tree.specs.View.{block_of}
+use Rattle.base.specs.View.{block_of}
 use Rattle.tick_trace.specs.Places.{heads}
 use Rattle.tick_trace.proofs.heads.+adding.Given as goal
 

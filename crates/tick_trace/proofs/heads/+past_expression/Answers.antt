@@ -1,6 +1,6 @@
 use Rattle.std.proofs.Common.{◌+◌, ap, ◌∙◌, sym, drop, length, refl}
 use Rattle.tick_syntax.specs.Grammar.{expression_tokens}
-use Rattle.tick_tree.specs.View.{expression_of}
+use Rattle.base.specs.View.{expression_of}
 use Rattle.tick_trace.proofs.HeadTokens.{binary_long, past_two}
 use Rattle.tick_trace.proofs.heads.+past_expression.Goals as goal
 

@@ -1,5 +1,5 @@
 use Rattle.std.proofs.Common.{ap, ◌∙◌, length, arith}
-use Rattle.tick_tree.specs.Plain.{nowhere}
+use Rattle.base.specs.Plain.{nowhere}
 use Rattle.tick_trace.specs.Places.{statement_heads}
 use Rattle.tick_trace.proofs.Cutting.{head_fits}
 use Rattle.tick_trace.proofs.spots.places.Goals as goal

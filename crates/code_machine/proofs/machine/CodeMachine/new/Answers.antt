@@ -1,5 +1,5 @@
 use Rattle.std.proofs.Common.{ap, ◌∙◌, sym, subst, replicate}
-use Rattle.machine_core.specs.Rows.{start_rows}
+use Rattle.base.specs.RegisterRows.{start_rows}
 use Rattle.word_core.specs.Stamps.{start_labels}
 use Rattle.code_machine.specs.Machine.{start_process}
 use Rattle.code_machine.specs.Safety.{AreOrdered}

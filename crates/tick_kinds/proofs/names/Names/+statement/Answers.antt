@@ -4,7 +4,7 @@ use Rattle.tick_kinds.proofs.Steps.{first_fails, second_fails, body_fails, branc
 use Rattle.tick_kinds.specs.prover.Checked.{Fails, checked_block, checked_statement}
 use Rattle.tick_kinds.specs.Resolved.{resolved_block}
 use Rattle.tick_kinds.specs.prover.Table.{slot_at}
-use Rattle.tick_tree.specs.View.{block_of}
+use Rattle.base.specs.View.{block_of}
 use Rattle.tick_kinds.proofs.names.Names.+statement.Goals as goal
 
 pub statement-returns-in-Assign : goal.statement-returns-in-Assign

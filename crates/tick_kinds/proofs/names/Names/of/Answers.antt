@@ -1,7 +1,7 @@
 use Rattle.std.proofs.Common.{refl, map}
 use Rattle.tick_kinds.specs.declared.kind.Kind.TheVariants as K
 use Rattle.tick_kinds.specs.Declarations.{numbered}
-use Rattle.tick_tree.specs.View.{name_of}
+use Rattle.base.specs.View.{name_of}
 use Rattle.std.proofs.lemmas.Result.{err_from_is_err_and}
 use Rattle.tick_kinds.proofs.Declaring.{nothing_declared, declarations-tree, first_section_fails, second_section_fails, third_section_fails, sections_declared}
 use Rattle.tick_kinds.proofs.names.Names.of.Goals as goal

@@ -4,7 +4,7 @@ use Rattle.tick_kinds.proofs.program.Program.body.Goals as goal
 use Rattle.tick_kinds.specs.Resolution.{resolved}
 use Rattle.tick_kinds.specs.Resolved.{resolved_block}
 use Rattle.tick_kinds.specs.Within.{IsWithin}
-use Rattle.tick_tree.specs.View.{tree_of}
+use Rattle.base.specs.View.{tree_of}
 
 pub returns-clause-resolved : goal.returns-clause-resolved
 returns-clause-resolved c =

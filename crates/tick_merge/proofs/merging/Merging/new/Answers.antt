@@ -1,5 +1,5 @@
 use Rattle.std.proofs.Common.{◌≡◌, ap, sym, subst, ◌∙◌, arith, vec_items}
-use Rattle.machine_core.specs.Rows.{start_rows}
+use Rattle.base.specs.RegisterRows.{start_rows}
 use Rattle.word_core.specs.Stamps.{start_labels}
 use Rattle.tick_merge.specs.prover.Reached.{AreNew}
 use Rattle.tick_merge.proofs.Starting.{none_new, one_new, reached_start}

@@ -3,7 +3,7 @@ use Rattle.std.proofs.lemmas.List.{length-map, length-replicate}
 use Rattle.tick_kinds.specs.Resolution.{resolved}
 use Rattle.tick_source.specs.Source.{start_process}
 use Rattle.tick_source.specs.prover.Machine.{process_of}
-use Rattle.machine_core.proofs.Offered.{made_more}
+use Rattle.base.proofs.Offered.{made_more}
 use Rattle.tick_source.proofs.StandsFor.{ticketed_start, state_start}
 use Rattle.tick_source.proofs.machine.SourceMachine.new.Goals as goal
 

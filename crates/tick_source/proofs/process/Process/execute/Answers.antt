@@ -1,5 +1,5 @@
 use Rattle.std.proofs.Common.{OnOk, ap, ◌∙◌, sym, subst}
-use Rattle.tick_tree.specs.Plain.{cons}
+use Rattle.base.specs.Plain.{cons}
 use Rattle.tick_source.specs.prover.Remaining.{after_first}
 use Rattle.tick_source.specs.prover.Steps.{Makes, does_from}
 use Rattle.tick_kinds.proofs.Offered.{branch_lent, repeat_lent}

@@ -2,7 +2,7 @@ use Rattle.std.proofs.Common.{ap, ◌∙◌, sym, subst}
 use Rattle.tick_source.specs.prover.Remaining.{joined, IsUndone}
 use Rattle.tick_source.proofs.Open.{joined_more, undone_more, more_of}
 use Rattle.tick_kinds.specs.Resolved.{resolved_block}
-use Rattle.tick_tree.specs.Plain.{onto}
+use Rattle.base.specs.Plain.{onto}
 use Rattle.tick_source.proofs.remaining.Remaining.enter.Goals as goal
 
 pub invariant_of-self : goal.invariant_of-self

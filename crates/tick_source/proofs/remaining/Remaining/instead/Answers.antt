@@ -2,7 +2,7 @@ use Rattle.std.proofs.Common.{ap, ◌∙◌, sym, arith, refl}
 use Rattle.tick_source.specs.prover.Remaining.{after_first}
 use Rattle.tick_source.proofs.Open.{joined_both, undone_both, joined_instead, undone_set, long_rest, more_of}
 use Rattle.tick_kinds.specs.Resolved.{resolved_block}
-use Rattle.tick_tree.specs.Plain.{onto}
+use Rattle.base.specs.Plain.{onto}
 use Rattle.tick_source.proofs.remaining.Remaining.instead.Goals as goal
 
 pub invariant_of-self-then-open-gt1 : goal.invariant_of-self-then-open-gt1

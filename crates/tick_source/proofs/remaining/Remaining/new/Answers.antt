@@ -2,7 +2,7 @@ use Rattle.std.proofs.Common.{ap, ◌∙◌}
 use Rattle.tick_source.specs.prover.Remaining.{joined}
 use Rattle.tick_source.proofs.Open.{onto-nil}
 use Rattle.tick_kinds.specs.Resolved.{resolved_block}
-use Rattle.tick_tree.specs.Plain.{onto}
+use Rattle.base.specs.Plain.{onto}
 use Rattle.tick_source.proofs.remaining.Remaining.new.Goals as goal
 
 pub returns : goal.returns

@@ -1,8 +1,8 @@
 use Rattle.std.proofs.Common.{◌≡◌, ◌∙◌, ap, sym, Ok, drop, rules}
 use Rattle.std.proofs.lemmas.Result.{err_from_is_err_and}
-use Rattle.tick_tree.specs.Plain.{nil, cons, onto}
-use Rattle.tick_tree.specs.View.{statement_of, block_of}
-use Rattle.tick_tree.proofs.Rows.{statement_of_branch, statement_of_repeat}
+use Rattle.base.specs.Plain.{nil, cons, onto}
+use Rattle.base.specs.View.{statement_of, block_of}
+use Rattle.base.proofs.Blocks.{statement_of_branch, statement_of_repeat}
 use Rattle.tick_syntax.specs.declared.terminals.Terminal.TheVariants as T
 use Rattle.tick_syntax.specs.declared.valued_token.Meaning.TheVariants as M
 use Rattle.tick_syntax.proofs.Loops.{statement_by_first, statements_none, statements_fail, statements_last, statements_more, statement_shorter, block_more, branch_gives, repeat_gives}

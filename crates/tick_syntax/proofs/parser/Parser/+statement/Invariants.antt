@@ -1,6 +1,6 @@
 use Rattle.std.proofs.Common.{◌≡◌, ◌+◌, ◌*◌, drop, length}
 use Rattle.tick_syntax.specs.prover.Reading.{statements_at}
-use Rattle.tick_tree.specs.View.{block_of}
+use Rattle.base.specs.View.{block_of}
 use Rattle.tick_syntax.proofs.Loops.{after_block}
 use Rattle.tick_syntax.proofs.parser.Parser.+statement.Given as goal
 

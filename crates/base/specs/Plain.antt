@@ -1,8 +1,8 @@
 -- Programs as plain trees. A is what stands for a name: its letters with their place as a text has it,
 -- or a number once names are resolved.
 use Rattle.std.specs.Prelude.{ℕ, List, map}
-use Rattle.tick_tree.specs.declared.span.Span.{Span}
-use Rattle.machine_core.specs.declared.operator.Op.{Op}
+use Rattle.base.specs.declared.span.Span.{Span}
+use Rattle.base.specs.declared.operator.Op.{Op}
 
 -- a span that is no place of a text
 abbrev pub nowhere : Span

@@ -1,9 +1,9 @@
 -- The operators of expressions: how they are spelled, and what they mean.
 use Rattle.std.specs.Prelude.{ℕ, ◌+◌, ◌-◌, ◌*◌, ◌/◌, ◌%◌, ◌==◌, nat_lt, nat_le, Bool, if◌then◌else◌, List, codes, Result, Ok, Err}
-use Rattle.machine_core.specs.declared.operator.Op.{Op}
-use Rattle.machine_core.specs.declared.operator.Op.TheVariants as O
-use Rattle.machine_core.specs.declared.status.Trap.{Trap}
-use Rattle.machine_core.specs.declared.status.Trap.TheVariants as T
+use Rattle.base.specs.declared.operator.Op.{Op}
+use Rattle.base.specs.declared.operator.Op.TheVariants as O
+use Rattle.base.specs.declared.status.Trap.{Trap}
+use Rattle.base.specs.declared.status.Trap.TheVariants as T
 
 abbrev pub sign : Op → List ℕ
 sign O.Add = codes "+"

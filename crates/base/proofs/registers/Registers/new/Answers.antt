@@ -1,6 +1,6 @@
 use Rattle.std.proofs.Common.{◌≡◌, ap, ◌∙◌, arith, replicate, map}
-use Rattle.machine_core.proofs.Offered.{made_more}
-use Rattle.machine_core.proofs.registers.Registers.new.Goals as goal
+use Rattle.base.proofs.Offered.{made_more}
+use Rattle.base.proofs.registers.Registers.new.Goals as goal
 
 pub loop-init : goal.loop-init
 loop-init c = ap (map (λ row. row.items)) c.in_ok-all.ensures.items

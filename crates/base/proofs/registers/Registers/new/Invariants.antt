@@ -1,5 +1,5 @@
 use Rattle.std.proofs.Common.{◌≡◌, replicate, map}
-use Rattle.machine_core.proofs.registers.Registers.new.Given as goal
+use Rattle.base.proofs.registers.Registers.new.Given as goal
 
 -- the rows so far
 abbrev pub invariant-loop : goal.invariant-loop

@@ -1,11 +1,11 @@
 -- The lists of statements in a declared statement are plain blocks.
 use Rattle.std.proofs.Common.{◌≡◌, Vec, Global, refl, ◌∙◌, ap}
-use Rattle.tick_tree.specs.declared.tree.Expr.{Expr}
-use Rattle.tick_tree.specs.declared.tree.Stmt.{Stmt, Row_of-Stmt, end_of-Stmt, more_of-Stmt}
-use Rattle.tick_tree.specs.declared.tree.Stmt.TheVariants as S
-use Rattle.tick_tree.specs.declared.tree.Stmt.TheBlock.{items-the_row-Stmt, hidden-the_row-Stmt-0, items_hidden-the_row-Stmt-0}
-use Rattle.tick_tree.specs.Plain.{branch, repeat, cons}
-use Rattle.tick_tree.specs.View.{expression_of, statement_of, row_of, block_of}
+use Rattle.base.specs.declared.tree.Expr.{Expr}
+use Rattle.base.specs.declared.tree.Stmt.{Stmt, Row_of-Stmt, end_of-Stmt, more_of-Stmt}
+use Rattle.base.specs.declared.tree.Stmt.TheVariants as S
+use Rattle.base.specs.declared.tree.Stmt.TheBlock.{items-the_row-Stmt, hidden-the_row-Stmt-0, items_hidden-the_row-Stmt-0}
+use Rattle.base.specs.Plain.{branch, repeat, cons}
+use Rattle.base.specs.View.{expression_of, statement_of, row_of, block_of}
 
 row_block : {n : _} → (k : Row_of-Stmt n) → row_of k ≡ block_of (items-the_row-Stmt n k)
 row_block end_of-Stmt = refl

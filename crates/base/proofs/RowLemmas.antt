@@ -1,8 +1,8 @@
 -- What the crates above may cite.
 use Rattle.std.proofs.Common.{◌≡◌, Bool, true, false, Result, Err, ℕ, ◌+◌, ◌<◌, List, [], ◌∷◌, ◌++◌, ap, ◌∙◌, sym, length, map, set, get_or, replicate, Vec, Global}
 use Rattle.std.proofs.lemmas.List.{map-set, get_or-map, map-append, replicate_more}
-use Rattle.machine_core.specs.Rows.{register_set}
-use Rattle.machine_core.specs.Refusing.{◌>>=◌, Unless, FailsBut}
+use Rattle.base.specs.RegisterRows.{register_set}
+use Rattle.base.specs.Refusing.{◌>>=◌, Unless, FailsBut}
 
 -- one more of the same, where each is seen through `f`
 pub made_more : {X Y : Type 0} (f : X → Y) (xs more : List X) (x : X) (y : Y) (k : ℕ) → more ≡ xs ++ x ∷ [] → f x ≡ y

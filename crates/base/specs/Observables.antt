@@ -1,11 +1,11 @@
 -- What a run lets others see: one record for every machine.
 use Rattle.std.specs.Prelude.{ℕ, ◌-◌, List, [], ◌∷◌, ◌++◌, map, replicate, Option, Some, None}
-use Rattle.machine_core.specs.declared.event.Act.{Act}
-use Rattle.machine_core.specs.declared.event.Event.{Event}
-use Rattle.machine_core.specs.declared.status.Status.{Status}
-use Rattle.machine_core.specs.declared.outcome.Outcome.{Outcome}
-use Rattle.machine_core.specs.declared.run_outcome.RunEnd.{RunEnd}
-use Rattle.machine_core.specs.declared.run_outcome.RunOutcome.{RunOutcome}
+use Rattle.base.specs.declared.event.Act.{Act}
+use Rattle.base.specs.declared.event.Event.{Event}
+use Rattle.base.specs.declared.status.Status.{Status}
+use Rattle.base.specs.declared.outcome.Outcome.{Outcome}
+use Rattle.base.specs.declared.run_outcome.RunEnd.{RunEnd}
+use Rattle.base.specs.declared.run_outcome.RunOutcome.{RunOutcome}
 
 -- The events in the order of their steps, the register rows, and for each process its status.
 pub record Observables : Type 0 where

@@ -1,8 +1,8 @@
 ghost use Rattle.std.specs.Prelude.{◌≡◌, IfOk, map};
-ghost use Rattle.machine_core.specs.Rows.{start_rows, register_at, register_set};
+ghost use Rattle.base.specs.RegisterRows.{start_rows, register_at, register_set};
 
+use crate::NoMemory;
 use crate::place::set_at;
-use base::NoMemory;
 use std::alloc::Global;
 use std::marker::Model;
 

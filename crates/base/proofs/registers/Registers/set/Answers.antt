@@ -2,9 +2,9 @@ use Rattle.std.proofs.Common.{◌≡◌, ◌<◌, ap, sym, ◌∙◌, arith, len
 use Rattle.std.specs.Prelude.{slice_set}
 use Rattle.std.specs.Vec.{with_items}
 use Rattle.std.proofs.lemmas.List.{with_items_is, length-set}
-use Rattle.machine_core.proofs.Offered.{rows_set}
-use Rattle.machine_core.specs.Rows.{register_set}
-use Rattle.machine_core.proofs.registers.Registers.set.Goals as goal
+use Rattle.base.proofs.Offered.{rows_set}
+use Rattle.base.specs.RegisterRows.{register_set}
+use Rattle.base.proofs.registers.Registers.set.Goals as goal
 
 pub returns : goal.returns
 returns c =

@@ -1,5 +1,5 @@
 ghost use Rattle.std.specs.Prelude.{◌≡◌};
-ghost use Rattle.machine_core.specs.Operators.{sign, fitting, operation};
+ghost use Rattle.base.specs.Operators.{sign, fitting, operation};
 
 use crate::status::Trap;
 

@@ -2,9 +2,9 @@
 use base.Stored.{Gv, gnil, gnum, gcons, Coded, num}
 use Rattle.std.specs.Prelude.{◌≡◌, ℕ, List, [], ◌∷◌, ◌==◌, if◌then◌else◌, refl}
 use Rattle.std.proofs.Common.{ap, sym, ◌∙◌}
-use Rattle.machine_core.specs.declared.operator.Op.{Op}
-use Rattle.machine_core.specs.declared.operator.Op.TheVariants as O
-use Rattle.tick_tree.specs.Plain.{Name, Expression, number, named, me, count, binary, Statement, assign, get, put, stamp, clear, scan, copy, older, held, out, branch, repeat, Block, nil, cons}
+use Rattle.base.specs.declared.operator.Op.{Op}
+use Rattle.base.specs.declared.operator.Op.TheVariants as O
+use Rattle.base.specs.Plain.{Name, Expression, number, named, me, count, binary, Statement, assign, get, put, stamp, clear, scan, copy, older, held, out, branch, repeat, Block, nil, cons}
 
 abbrev operator_number : Op → ℕ
 operator_number O.Add = 0

@@ -1,12 +1,12 @@
 -- The plain tree that a declared tree is.
 use Rattle.std.specs.Prelude.{List, [], ◌∷◌, map, string_bytes}
-use Rattle.tick_tree.specs.declared.tree.Named.{Named}
-use Rattle.tick_tree.specs.declared.tree.Expr.{Expr}
-use Rattle.tick_tree.specs.declared.tree.Expr.TheVariants as E
-use Rattle.tick_tree.specs.declared.tree.Stmt.{Stmt, Row_of-Stmt, end_of-Stmt, more_of-Stmt}
-use Rattle.tick_tree.specs.declared.tree.Stmt.TheVariants as S
-use Rattle.tick_tree.specs.declared.tree.Tree.{Tree}
-use Rattle.tick_tree.specs.Plain.{Name, Expression, number, named, me, count, binary, Statement, assign, get, put, stamp, clear, scan, copy, older, held, out, branch, repeat, Block, nil, cons, WholeProgram}
+use Rattle.base.specs.declared.tree.Named.{Named}
+use Rattle.base.specs.declared.tree.Expr.{Expr}
+use Rattle.base.specs.declared.tree.Expr.TheVariants as E
+use Rattle.base.specs.declared.tree.Stmt.{Stmt, Row_of-Stmt, end_of-Stmt, more_of-Stmt}
+use Rattle.base.specs.declared.tree.Stmt.TheVariants as S
+use Rattle.base.specs.declared.tree.Tree.{Tree}
+use Rattle.base.specs.Plain.{Name, Expression, number, named, me, count, binary, Statement, assign, get, put, stamp, clear, scan, copy, older, held, out, branch, repeat, Block, nil, cons, WholeProgram}
 
 abbrev pub name_of : Named → Name
 name_of x = record { letters = string_bytes x.name; span = x.span }

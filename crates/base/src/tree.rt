@@ -1,5 +1,5 @@
+pub use crate::Op;
 use crate::span::Span;
-pub use machine_core::Op;
 
 /// A name as it stands in a text: its letters, and where they are.
 #[derive(PartialEq, Eq, Debug, Drop)]

@@ -1,5 +1,5 @@
+use crate::MOST_PROCESSES;
 use crate::status::Trap;
-use base::MOST_PROCESSES;
 
 /// What a step lets others see. Values are of the whole range of `u32`; register rows and processes
 /// count from 0.

@@ -1,4 +1,0 @@
-pub mod Operators
-pub mod Rows
-pub mod Observables
-pub mod Refusing
