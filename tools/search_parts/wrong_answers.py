@@ -1,0 +1,65 @@
+"""Answers of ticklab that are wrong in one part."""
+import re
+
+from . import told
+
+
+def with_schedule(change):
+    """Tells another schedule, or another trap, in the form of an answer."""
+    def changed(status, output):
+        if status != told.TRAPPED:
+            return status, output
+        head = output.split("\n")[0]
+        schedule, trap = change(*told.trapped(head, output))
+        lines = [f"{number:4}  P{process}     1:1    end" for number, process in enumerate(schedule, 1)]
+        return status, "\n".join([head, " ".join(map(str, schedule)), *lines]) + f" | trap {trap}\n"
+
+    return changed
+
+
+def with_output(pattern, new):
+    return lambda status, output: (status, re.sub(pattern, new, output))
+
+
+def with_states(more):
+    """Tells that there are so many more states."""
+    return with_output(r"\d+(?= states\))", lambda it: str(int(it[0]) + more))
+
+
+def answered(status, answer):
+    """Answers this where another status was."""
+    return lambda found, output: answer if found == status else (found, output)
+
+
+def with_status(status, other):
+    return lambda found, output: (other if found == status else found, output)
+
+
+OTHER = {"Zero": "Below", "Below": "Index", "Index": "Overflow", "Overflow": "Zero"}
+
+# The form in which `with_schedule` tells is taken.
+RIGHT = with_schedule(lambda schedule, trap: (schedule, trap))
+
+# What is wrong, and what is made of a status and an output.
+CASES = (
+    ("there is a state more", with_states(1)),
+    ("there is a state less", with_states(-1)),
+    ("a trap is taken for none", answered(told.TRAPPED, told.safe(9))),
+    ("a trap is taken for too many states", answered(told.TRAPPED, told.more(9))),
+    ("the limit is met where it isn't", answered(told.SAFE, told.more(9))),
+    ("the limit isn't met where it is", answered(told.MORE, told.safe(9))),
+    ("a trap has the status of none", with_status(told.TRAPPED, told.SAFE)),
+    ("the limit has the status of no trap", with_status(told.MORE, told.SAFE)),
+    ("a schedule lacks its first step", with_schedule(lambda schedule, trap: (schedule[1:], trap))),
+    ("a schedule lacks its last step", with_schedule(lambda schedule, trap: (schedule[:-1], trap))),
+    ("a schedule has a step behind its trap", with_schedule(lambda schedule, trap: (schedule + schedule[-1:], trap))),
+    ("a schedule has a step too many", with_schedule(lambda schedule, trap: ([schedule[0] ^ 1, *schedule], trap))),
+    ("a schedule is of other processes", with_schedule(lambda schedule, trap: ([it ^ 1 for it in schedule], trap))),
+    ("a trap has another name", with_schedule(lambda schedule, trap: (schedule, OTHER[trap]))),
+    ("a shortest schedule isn't told as one", with_output(told.SHORTEST, told.TRAPS)),
+    ("a merged schedule is told as a shortest one", with_output(told.TRAPS, told.SHORTEST)),
+    ("a step isn't told", with_output(r"\n   2 .*", "")),
+    ("a step is told of another process", with_output("  P0 ", "  P1 ")),
+    ("each step is told to trap", with_output(r"(?m)^( .*?)(?: [|] trap .*)?$", r"\1 | trap Zero")),
+    ("something stands behind the answer", with_output(r"\Z", "\n")),
+)
