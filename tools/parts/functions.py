@@ -5,13 +5,10 @@ The files are laid out by `rt fmt`: a function begins at the left edge, or four 
 import os
 import re
 
-HEAD = re.compile(r"^(\s*)(?:pub(?:\([\w:]+\))?\s+)?(const\s+)?(?:unsafe\s+|extern\s+\"C\"\s+)*fn\s+(\w+)(<[^>]*>)?")
+HEAD = re.compile(r"^(\s*)(?:pub(?:\([\w:]+\))?\s+)?(const\s+)?(?:unsafe\s+|extern\s+\"C\"\s+)*fn\s+(\w+)")
 IMPL = re.compile(r"^impl\b(?:<[^{]*?>)?\s+(.*?)\s*(?:\{|where\b|$)")
 TYPE = re.compile(r"(?m)^(?:pub(?:\([\w:]+\))?\s+)?(?:struct|enum|union)\s+(\w+)")
 CYCLE = re.compile(r"#\[cycle\((\w+)\)\]")
-# Types that a function is given by its caller: `<T>`, and not lifetimes alone.
-GENERIC = re.compile(r"<(?!\s*'\w+\s*(,\s*'\w+\s*)*>)")
-TAKES_A_TRAIT = re.compile(r"impl (Fn|Trait|\w+)[ <(+].*[,)]|\brt: ")
 
 
 class Function:
@@ -23,17 +20,15 @@ class Function:
         self.owner = owner
         head = next(found for found in map(HEAD.match, self.text) if found)
         self.indent, self.is_const = head[1], bool(head[2])
-        self.is_generic = bool(head[4] and GENERIC.search(head[4]))
         cycle = CYCLE.search("\n".join(self.text))
         # The functions of a cycle have one proof, which stands under the cycle's name.
         self.proof = f"{path.rpartition('::')[0]}::+{cycle[1]}" if cycle else path
         self.is_in_cycle = bool(cycle)
 
     def is_plain(self, types):
-        """Whether its body may be left out: it belongs to no trait, is given no types, and no constant is made by it."""
+        """Whether its body may be left out: it belongs to no trait and to no cycle, and no constant is made by it."""
         of_trait = self.owner[:1].isupper() and self.owner not in types
-        text = "\n".join(self.text)
-        return not (of_trait or self.is_generic or self.is_in_cycle or self.is_const or "#[test" in text or TAKES_A_TRAIT.search(text))
+        return not (of_trait or self.is_in_cycle or self.is_const or "#[test" in "\n".join(self.text))
 
     def body(self):
         """The places in `text` of the line that opens the body and of the one that closes it, if it is laid out so."""
@@ -41,8 +36,10 @@ class Function:
         opens = [at for at, line in enumerate(self.text)
                  if line.startswith(self.indent) and not line.startswith(outer) and line.rstrip().endswith("{")]
         ends = [at for at, line in enumerate(self.text) if line == f"{self.indent}}}"]
-        is_laid_out = not any(line and not line.startswith(self.indent) for line in self.text)
-        return (opens[-1], ends[0]) if opens and ends and opens[-1] < ends[0] and is_laid_out else None
+        if not opens or not ends or opens[-1] > ends[0]:
+            return None
+        is_laid_out = not any(line and not line.startswith(self.indent) for line in self.text[: ends[0]])
+        return (opens[-1], ends[0]) if is_laid_out else None
 
 
 def module_of(file):
