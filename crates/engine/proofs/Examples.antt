@@ -1,9 +1,11 @@
 -- An answer of `run` on a small program, worked by hand, and answers that are none of it.
-use Rattle.std.proofs.Common.{◌≡◌, ℕ, List, [], ◌∷◌, ◌++◌, codes, length, refl, ap, subst, lit<, arith}
+use Rattle.std.proofs.Common.{ℕ, List, [], ◌++◌, codes, refl, ap, arith}
+use Rattle.std.specs.Fmt.{digits}
 use Rattle.base.specs.Lines.{line_end}
 use Rattle.base.specs.Plain.{Name, number, out, nil, cons, WholeProgram}
 use Rattle.tick_merge.proofs.Offered.{seven_given, seven_run}
-use Rattle.threaded_source.proofs.Offered.{shows_seven}
+use Rattle.threaded_source.proofs.Offered.{threaded_source_law}
+use Rattle.tick_kinds.specs.Resolution.{resolved}
 use Rattle.ticketc_lines.specs.Answer.{Answer, done}
 use Rattle.engine.specs.Runs.{IsProgramOutcome}
 
@@ -23,7 +25,12 @@ seven_told = done (codes "outputs 0 7" ++ line_end ++ codes "status 0 ended" ++ 
 
 told_seven : IsProgramOutcome gives_seven 5 seven_told
 unfolding digits
-told_seven = record { outcome = seven_given; is_run = seven_run; shows = shows_seven; told = refl }
+told_seven = record {
+  outcome = seven_given;
+  is_run = seven_run;
+  shows = threaded_source_law (resolved gives_seven) 5 10000 seven_given seven_run;
+  told = refl;
+}
 
 -- no answer of another status is one
 none_refused : (text : List ℕ) → IsProgramOutcome gives_seven 5 (record { status = 1; text = text }) → ⊥
