@@ -1,4 +1,4 @@
-"""A single step of a process (docs/LANGUAGE.md), and a merged one (docs/EXPLORING.md, Macro steps)."""
+"""A single step of a process (docs/LANGUAGE.md), and a merged one (docs/EXPLORING.md, Merged steps)."""
 from typing import NamedTuple
 
 from . import statements
