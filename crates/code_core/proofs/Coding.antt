@@ -1,4 +1,12 @@
--- What is encoded is decoded to what it was.
+-- What is encoded is decoded to what it was: `coding_end` says it of a whole code.
+--
+-- A word is the kind of its instruction times 2 ^ 24, plus operands below 2 ^ 16. So division gives the kind
+-- back (`kind_back`), and the bits below give the operands back, by a case split on the instruction (`said`).
+-- The difficulty is Push. Its word has only the number of its constant, and decoding needs the list of all
+-- constants. So `back_from`, by induction on the instructions, allows any list of constants before theirs.
+-- The words are made in a loop: `coding_next` keeps its invariant `Coding`, and `coding_end` applies
+-- `back_from`. `decoded_at` is for one place: the instruction there is what its word says.
+-- Read `back_from` first.
 use Rattle.std.proofs.Common.{◌≡◌, ℕ, ◌+◌, ◌*◌, ◌/◌, ◌%◌, ◌<◌, ◌≤◌, List, [], ◌∷◌, ◌++◌, refl, ap, ◌∙◌, sym, subst, length, drop, get_or, arith, append_assoc, Some}
 use Rattle.std.specs.Prelude.{All, slice_index, slice_get, option_map}
 use Rattle.std.proofs.lemmas.List.{append-nil, length-append, drop_more, drop_all, take_all}

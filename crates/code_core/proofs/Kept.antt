@@ -1,4 +1,12 @@
--- What a pass that finds no fault has seen of every place.
+-- What a pass that finds no fault has seen of every place: `kept_all`, by induction on the instructions.
+--
+-- The invariant is `Kept`: each place that was passed has what `KeptAt` lists. Its slots and operands are
+-- there, its stamp is whole, and it leaves the height that is known of the next place and of the place it
+-- jumps to. `kept_more` adds one place, at which none of the seven tests found a fault (`NoFault`).
+-- The difficulty is a jump ahead. The place it goes to was not passed yet, so only what the first jump to it
+-- left is known of its height. `known_more` shows that this stays true when the place is passed: one of the
+-- tests compares its own height with what the jump left.
+-- Read `KeptAt` first, then `known_more`.
 use Rattle.std.proofs.Common.{◌≡◌, ◌⊎◌, inl, inr, ⊎_elim, ℕ, zero, suc, ◌+◌, ◌<◌, ◌≤◌, true, false, if◌then◌else◌, List, [], ◌∷◌, ◌++◌, refl, ap, ◌∙◌, sym, subst, length, map, arith, Option, Some, None, append_assoc}
 use Rattle.std.specs.Prelude.{◌==◌, ◌&&◌, slice_get, slice_index}
 use Rattle.std.proofs.lemmas.Bool.{cases_lt, ltb-false, eqb-true, not-false}

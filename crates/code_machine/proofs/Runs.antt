@@ -1,4 +1,13 @@
--- Every state of every run of a fine code is safe.
+-- Every state of every run of a verified code is safe, and no process is stuck in it: `never_stuck_law`.
+--
+-- `AllSafe` is an invariant of the run: it holds at the start (`all_start`), and a step keeps it
+-- (`step_safe`). `run_safe` is the induction on the schedule.
+-- The difficulty is in what is shared. By `did_safe` (`Safe.antt`) the process that steps stays safe if the
+-- labels of a word in the reply are in order. They are, because the shared labels are in order (`has_word`).
+-- And the shared labels stay in order (`labels_ordered`): a won exchange writes what a stamp makes of labels
+-- in order, and a clear keeps the order.
+-- The other processes stay safe, because `IsSafe` looks at one process alone (`each_after`).
+-- Read `after_safe` first.
 use Rattle.std.proofs.Common.{◌≡◌, ⊎_elim, ℕ, ◌<◌, ◌≤◌, true, false, if◌then◌else◌, List, [], ◌∷◌, length, replicate, get_or, refl, ap, ◌∙◌, sym, subst, arith, Option, Some, None}
 use Rattle.std.specs.Prelude.{slice_get, slice_set, All}
 use Rattle.std.proofs.lemmas.Bool.{both_ways}

@@ -1,4 +1,12 @@
--- A step of the machine is the defined step, and keeps the machine sound.
+-- A step of the machine is the defined step, and keeps the machine sound: `stepped`.
+--
+-- What the code did is known part by part: `Makes`, or `Keeps` where memory was refused. `made_step` puts the
+-- parts together to the state that `code_step` defines. `as_parts` shows that the definition has these parts,
+-- by cases of the status: a process that has stopped changes nothing.
+-- Two things are difficult. The code takes the number of the process from the process itself (`me`), the
+-- definition takes its place in the list; soundness says that they are the same (`held_me`). And memory may
+-- be refused only where an event is told: if the list of events did not grow, none was told (`told_same`).
+-- Read the record `Stepped` first, then `made_step`.
 use Rattle.std.proofs.Common.{◌≡◌, ⊎_elim, ℕ, suc, ◌+◌, ◌<◌, false, List, [], ◌∷◌, ◌++◌, refl, ap, ◌∙◌, sym, subst, length, map, set, drop, get_or, replicate, arith, Result, Ok, Err, Option, None, Some, OnOk, OnErr, IfOk, IfSome}
 use Rattle.std.specs.Prelude.{slice_get, slice_set, is_some, IsOk}
 use Rattle.std.specs.Option.{option_map, option_and_then}

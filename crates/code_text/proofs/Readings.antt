@@ -1,4 +1,12 @@
--- Each text is a code or has a fault.
+-- Each text is a code or has a fault: `some_reading`.
+--
+-- The difficulty is that a line is bad only if it is the line of no instruction (`HasNoLine`), and that
+-- speaks of all instructions. So the instruction is guessed from the text (`guess`). If the line of any
+-- instruction begins the text, that instruction is the guess (`guess_line` in `Guessing.antt`). So it is
+-- enough to compare the line of the guess with the text (`begins_or_not`), and to test whether the guess may
+-- stand (`decided_in`, `decided_range`). The header is guessed in the same way (`header_or_none`).
+-- `lines_or_bad` goes on line by line, by induction on a bound of the length: a line has at least one byte
+-- (`shorter`). At the end `verified_or_not` asks whether the code has a fault. Read `line_or_none` first.
 use Rattle.std.proofs.Common.{◌≡◌, ◌⊎◌, ⊎_elim, inl, inr, ℕ, zero, suc, ◌+◌, ◌<◌, ◌≤◌, ◌^◌, ◌==◌, if◌then◌else◌, List, [], ◌∷◌, ◌++◌, length, refl, ap, ◌∙◌, sym, subst, arith, append_assoc, drop, get_or, Option, Some, None, Result, Ok, Err}
 use Rattle.std.proofs.lemmas.Bool.{cases_Bool, cases_eq, cases_lt}
 use Rattle.std.proofs.lemmas.Bool.Decides.{eqb_tells}

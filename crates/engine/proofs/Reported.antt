@@ -1,4 +1,13 @@
--- A report of a program and one of its code, under schedules that stand for each other.
+-- A report of a program and one of its code are the same, under schedules that stand for each other:
+-- `drop_law` for the line that `drop` prints, `lift_law` for the one that `lift` prints.
+--
+-- Only what is done has status 0. So an answer of status 0 comes from an accepted program (`accepting`),
+-- whose code is not too long (`lowering`), and from a schedule that spells steps (`scheduling`). For these
+-- steps the two laws of the simulation give the same report (`same_down`, `same_up`).
+-- The difficulty is that the steps are printed and read again. They read back as the same steps if each is of
+-- a process that there is and they are at most 10,000,000 (`kept_reads_back`, `led_reads_back`). `drop` makes
+-- no more steps than it reads. `lift` may make more, so there the number is a premise.
+-- Read `drop_text` first.
 use Rattle.std.proofs.Common.{◌≡◌, ◌<◌, ◌≤◌, ◌^◌, ◌++◌, ◌∙◌, ℕ, List, Bool, true, false, nat_lt, length, ap, refl, subst, sym, Option, Some, None, Result, Ok, Err, arith}
 use Rattle.base.specs.Lines.{line_end}
 use Rattle.tick_kinds.specs.Accepted.{IsAccepted}

@@ -1,4 +1,13 @@
 -- From an input that was read to a response, and from a response to what is written.
+--
+-- The first is `answered_on_read`: a response to what was read is a response to the whole input. The
+-- difficulty is that at most 1,000,001 bytes are read. If 1,000,000 or fewer came, they are the whole input.
+-- If more came, both they and the whole input are too long, and have the same answer (`both_too_long`).
+-- The second is `gave_response`: a command whose response was written is served (`ServesCommand`). It is a
+-- case split on how writing ended (`left`): all of the text was written, or the write failed after a prefix
+-- of it.
+-- `unanswered` and `gave_up_reading` are for commands without a response.
+-- Read `on_read` first, then `left`.
 use Rattle.std.proofs.Common.{◌≡◌, ℕ, ◌+◌, ◌<◌, ◌≤◌, ◌++◌, ◌⊎◌, ◌↔◌, Bool, false, inl, inr, List, [], length, Option, Some, None, Result, Ok, Err, IfErr, IfOk, IsOkAnd, MatchResult, OnErr, OnOk, append-nil, arith, ap, refl, string_bytes, subst, sym, ◌∙◌}
 use Rattle.std.proofs.Math.ListN.{length-append}
 use Rattle.std.proofs.lemmas.Bool.{lt-ltb}

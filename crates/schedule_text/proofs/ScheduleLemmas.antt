@@ -1,4 +1,13 @@
--- What the reading of a schedule keeps from byte to byte.
+-- What the reading of a schedule keeps from byte to byte, and what is known of the steps that it reads.
+--
+-- The invariant is `HasStepsTo`: the steps so far and the pieces from `start` on make the whole. A byte that
+-- is no blank keeps it (`piece_goes_on`). A blank ends a piece, which is added (`piece_added`) or has the
+-- fault of the whole text (`piece_faulty`). At the end of the text stands the last piece (`last_piece`).
+-- The difficulty is that the definition splits all of the text at blanks, but the code goes byte by byte.
+-- `piece_ended` joins the two: the text from `start` splits into the piece and the pieces after the blank.
+-- In the second part, a property that each piece keeps is shown of all that is read (`all_pieces-keep`):
+-- processes are in range (`schedule_of-below`), and there are at most 10,000,000 steps (`schedule_of-short`).
+-- Read `piece_ended` first.
 use Rattle.std.proofs.Common.{◌≡◌, ◌==◌, ◌∙◌, ◌+◌, ◌-◌, ◌<◌, ◌≤◌, ◌∷◌, ◌++◌, ℕ, List, [], Ok, Err, Result, Bool, ap, ap₂, append_assoc, arith, drop, get_or, length, refl, subst, sym, take, true, false, cond, leb-false, replicate, nat_le, nat_lt, Option, Some, None}
 use Rattle.std.specs.List.{All, slice_split}
 use Rattle.std.proofs.Math.ListN.{length-drop, length-take}

@@ -1,5 +1,12 @@
--- Titles and names of rows open no tag. Two pictures of the same marks are the same pieces but for escaped texts,
--- of which each has no `<`; and texts with as many `<`, joined in turn, have as many.
+-- Titles and names of rows open no tag. Two pictures of the same marks have as many `<`, whatever their
+-- titles are and however their rows are named (`markup_law`).
+-- The idea. The two pictures are the same pieces but for escaped texts. An escaped text has no `<`
+-- (`none_in`). Texts with as many `<`, joined in turn, have as many (`joined`). So the page goes piece by
+-- piece from the name of a row (`at_row`) to the whole picture (`picture_alike`).
+-- The difficulty. A row without a name shows its number, so there must be as many names on both sides
+-- (`named`). An outline may be as wide as its words. But only puts and gets name a row, and their outlines
+-- don't depend on the words (`put_drawn`, `get_drawn`).
+-- Read `joined` and `none_in` first.
 use Rattle.std.proofs.Common.{◌≡◌, ◌∙◌, ap, sym, refl, arith, zero-add, ℕ, zero, suc, ◌+◌, Bool, true, false, if◌then◌else◌, List, [], ◌∷◌, ◌++◌, codes, length, Option, None, Some}
 use Rattle.std.specs.Prelude.{◌==◌, ◌||◌, nat_lt, slice_get}
 use Rattle.std.specs.Fmt.{decimal}

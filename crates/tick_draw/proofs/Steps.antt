@@ -1,4 +1,12 @@
--- What a step of either machine tells, and what it does to tickets.
+-- What a step of the source machine tells, and what it does to tickets. By `step_tells` each step has an act,
+-- or none: the events are the old ones with this act told, and the tickets move as the act says. `step_event`
+-- reads the event of a step from the events of the state after it.
+-- The idea is a case split on the statement (`does_moves`). A stamp and a clear move the tickets, and their
+-- acts say so. All other steps leave the tickets, and so do traps (`value_moves`, `index_moves`).
+-- The difficulty is the row of six tickets, which is padded with zeros (`row_after`). Its greatest ticket is
+-- the greatest of the tickets (`greatest_row`). A process that there is writes into the front of the row, and
+-- leaves the zeros.
+-- Read `Tells` and `does_moves` first.
 use Rattle.std.proofs.Common.{◌≡◌, ℕ, zero, suc, ◌+◌, ◌-◌, ◌<◌, ◌≤◌, Bool, true, false, if◌then◌else◌, List, [], ◌∷◌, ◌++◌, replicate, max, refl, ap, subst, ◌∙◌, sym, length, drop, get_or, set, arith, Result, Ok, Err, Option, None, Some}
 use Rattle.std.specs.Prelude.{nat_lt, ◌==◌, slice_get, slice_set, IfSome}
 use Rattle.std.proofs.lemmas.List.{set-append_left}

@@ -1,5 +1,13 @@
--- Runs of the source machine: a process that has trapped stays so, a step changes the status of its own
--- process alone, and where all have stopped nothing more happens.
+-- Runs of the source machine: a process that has trapped stays so (`trapped_stays`), a step changes the
+-- status of its own process alone, and where all have stopped nothing more happens (`nothing_more`). So where
+-- none had trapped, the status of the process that steps tells whether one has (`trap_told`).
+-- The idea. A process has trapped where some status of a list is a trap, and a step writes one status
+-- (`statuses_set`). `any_stays` and `any_new` say what such a write does to the answer. Runs follow by
+-- induction on the schedule.
+-- The difficulty is small. The process of a step may have stopped, or there may be no such process. So each
+-- fact is shown by a case split on the process (`stays_of`, `told_of`, `idle_of`) and its status (`stays_as`,
+-- `told_as`, `idle_as`).
+-- Read `any_stays` and `any_new` first.
 use Rattle.std.proofs.Common.{◌≡◌, ℕ, zero, suc, ◌+◌, ◌<◌, ◌≤◌, Bool, true, false, List, [], ◌∷◌, ◌++◌, length, map, set, drop, get_or, replicate, refl, sym, ◌∙◌, ap, subst, arith, Option, Some, None}
 use Rattle.std.specs.Prelude.{slice_get, slice_set, ◌||◌}
 use Rattle.std.specs.List.{list_any}

@@ -1,5 +1,13 @@
--- What checking a program comes to: exactly the accepted programs are not refused, the first refusal is told,
--- and every number in a resolved body is within its section.
+-- What checking a program comes to: exactly the accepted programs are not refused
+-- (`accepted_unless_refused`), the first refusal is told unless memory was refused (`refused`), and every
+-- number in a resolved body is within its section (`body_within`).
+--
+-- The idea. `program_told` (`Telling.antt`) says what checking answers: the first of `refusals p`, or the
+-- resolved body where that list is empty. So the question is when it is. `accepted_from` takes the empty
+-- list apart and reads the fields of `IsAccepted` off its parts; `clear_from` goes back. The numbers are an
+-- induction on the tree (`block_within`): where a list of uses has no refusal, no part of it has one. The
+-- difficulty is in the limits: a refusal looks at the number of one declaration, `IsAccepted` at the length
+-- of a section (`section_limit`). Read `accepted_from` first.
 use Rattle.std.proofs.Common.{◌≡◌, ◌≢◌, ◌<◌, ◌≤◌, ◌+◌, ◌↔◌, ℕ, Bool, true, false, if◌then◌else◌, ◌&&◌, nat_le, List, [], ◌∷◌, ◌++◌, length, map, Some, None, Ok, Err, refl, sym, ap, ◌∙◌, subst, arith, true≢false}
 use Rattle.std.proofs.lemmas.Bool.{leb-true, le-leb}
 use Rattle.std.proofs.lemmas.Grind.{flat_map-append}

@@ -1,4 +1,13 @@
--- A program is accepted exactly where nothing refuses it.
+-- A program is accepted exactly where nothing refuses it; this page has the part of the declarations. Nothing
+-- refuses them exactly where no name is declared twice and each number is within the limit of its kind
+-- (`declarations_fine`, and back `declarations_clear`).
+--
+-- The idea. A refusal compares a declaration with those before it, and `IsAccepted` (`specs/Accepted.antt`)
+-- any two. The induction is on the declarations, for any list `before` of earlier ones: each is new beside
+-- `before` and within its limit (`IsFresh`), and no two of them share their letters (`IsOnce`). The
+-- difficulty is that `before` grows by one at each step: what is fresh beside the longer list is fresh beside
+-- `before` and differs from the one more (`earlier`), and back (`later`). Read `IsFresh` and
+-- `declarations_fine` first.
 use Rattle.std.proofs.Common.{◌≡◌, ◌≢◌, ◌<◌, ◌≤◌, ◌+◌, ℕ, suc, Bool, true, false, if◌then◌else◌, is_some, nat_lt, List, [], ◌∷◌, ◌++◌, length, map, Option, Some, None, refl, sym, ap, ◌∙◌, arith, true≢false, All}
 use Rattle.std.proofs.lemmas.Bool.{ltb-true, lt-ltb}
 use Rattle.std.proofs.lemmas.List.Elements.{All-cons}

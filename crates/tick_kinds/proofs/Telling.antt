@@ -1,5 +1,12 @@
--- Checking from the front on tells the first of a program's refusals, and resolves its names where there
--- is none.
+-- Checking from the front on tells the first of a program's refusals, and resolves its names where there is
+-- none (`program_told`).
+--
+-- The idea. `told fs a` is the first of the faults `fs`, or the value `a` where there is none. Each step of
+-- checking answers `told` of its own refusals and its own value; two steps in a row do so with both lists of
+-- refusals (`told-then`). For the body this is an induction on the tree (`block_told`). The difficulty is in
+-- the declarations: checking updates a table, in which the newest name counts, and the definition looks
+-- through a list, in which the first one counts. `table-more` shows that they agree where the name is new;
+-- where it is not, checking stops. Read `told` and `told-then` first, then `statement_told`.
 use Rattle.std.proofs.Common.{◌≡◌, ℕ, Bool, true, false, if◌then◌else◌, ◌&&◌, is_some, nat_lt, nat_le, List, [], ◌∷◌, ◌++◌, Option, Some, None, Ok, Err, refl, sym, ap, ◌∙◌, append_assoc, true≢false}
 use Rattle.std.proofs.lemmas.List.{append-nil}
 use Rattle.std.proofs.lemmas.Grind.{flat_map-append}

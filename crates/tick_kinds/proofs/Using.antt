@@ -1,5 +1,12 @@
--- The names that a program uses: nothing refuses one exactly where its place's section declares it, and then
--- its number is within that section.
+-- The names that a program uses: nothing refuses one exactly where its place's section declares it
+-- (`uses_declared`, and back `uses_clear`), and then its number is within that section (`use_within`).
+--
+-- The idea. Looking a name up goes through three sections in turn (`three`). Two facts of one section are
+-- shown by induction on its names: it has a slot exactly where it has the letters (`some_there`), and the
+-- slot has its kind and a number below its end (`slot_there`). So it is with whatever is found among all
+-- declarations (`found`). The difficulty is the way back: an earlier section could have the same letters,
+-- with another kind. Where names are declared once, the sections before have no such letters (`apart`);
+-- `declared_kind` is the case split on the kind. Read `three` and `found` first.
 use Rattle.std.proofs.Common.{◌≡◌, ◌<◌, ◌+◌, ℕ, suc, Bool, true, false, if◌then◌else◌, ◌||◌, is_some, List, [], ◌∷◌, ◌++◌, length, map, Option, Some, None, refl, sym, ap, ◌∙◌, subst, arith, true≢false, All, Contains}
 use Rattle.std.proofs.lemmas.Cmp.{nat_list_eq_equiv}
 use Rattle.std.proofs.lemmas.List.{map-append}

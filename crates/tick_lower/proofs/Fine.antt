@@ -1,4 +1,12 @@
--- A code that is fine at each place has no fault.
+-- A code that is fine at each place has no fault, and `paired` gives its heights: `fine_verified`.
+--
+-- `passes` follows the pass that looks for faults, by induction on the instructions to come. It finds no
+-- fault, and it gives each place the height that follows from the instruction before alone.
+-- The difficulty is that the pass also looks at jumps. An earlier jump to a place may give it its height, and
+-- all that reach a place must leave the same height. `Fine` asks of a jump that it leaves an empty stack, to
+-- a place of height 0 that is not inside a stamp (`Jumps`, `Starts`). So what the pass finds of a jump is
+-- always the height 0 (`jump_found`), and no height differs from it (`reached`, `reaches`).
+-- Read `passes` first, then `jump_found`.
 use Rattle.std.proofs.Common.{◌≡◌, ⊎_elim, ℕ, zero, suc, ◌+◌, ◌<◌, ◌≤◌, Bool, true, false, not, if◌then◌else◌, List, [], ◌∷◌, ◌++◌, refl, ap, ◌∙◌, sym, subst, length, arith, Option, Some, None, append_assoc}
 use Rattle.std.specs.Prelude.{◌==◌, ◌&&◌, ◌||◌, nat_lt, slice_get, unwrap_or}
 use Rattle.std.proofs.lemmas.Bool.{lt-ltb, le-ltb, eq-eqb, ne_eqb, cases_eq, cases_lt}

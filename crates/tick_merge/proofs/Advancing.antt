@@ -1,4 +1,12 @@
 -- What an advance tells of the instruction that was made.
+--
+-- The first part is for instructions that a process makes alone, one after the other. `GoesAlone` is the
+-- invariant. `goes_more` keeps it; `goes_stop` and `goes_end` show that it made as many as `alone_for` says.
+-- The second part is for an ask. It is the act that comes next (`ask_next`), and where an advance is no ask,
+-- no act comes next (`no_ask_next`). `answered_made` shows where the reply leads the process.
+-- The difficulty is that the code sees only what an advance tells. So the lemmas go by cases of the status
+-- and the step, and refute the cases that tell something else. And `alone_for` is a recursion on the turns
+-- left, but the code counts up; so the invariant has both numbers. Read `went_alone` and `rests` first.
 use Rattle.std.proofs.Common.{◌≡◌, ℕ, zero, suc, ◌+◌, ◌<◌, Bool, true, false, cond, List, refl, ap, sym, subst, ◌∙◌, arith}
 use Rattle.std.specs.Prelude.{Option, Some, None}
 use Rattle.std.proofs.lemmas.Option.{none-some}

@@ -1,4 +1,12 @@
--- A process is led to its next step, or to the end of its turns.
+-- A process is led to its next step (`leads`), or to the end of its turns (`spends`).
+--
+-- Both are by induction on the turns that are left. If the next instruction is made alone, the run stands at
+-- the same history (`stands_alone`), and there the induction goes on. If it asks, it is the next step of the
+-- history (`is_next`), and the run stands at the history with this step (`stands_asks`).
+-- The difficulty is that only the end is given: the process by itself comes to it with these steps
+-- (`ComesTo`). `goes_on` finds the next instruction from that. By `once_per_answers` the answers decide where
+-- a process is. So in the run it stands where it stood on its way to that end, and goes on as it did there.
+-- Read `goes_on` first, then `leads`.
 use Rattle.std.proofs.Common.{◌≡◌, ◌≢◌, ℕ, zero, suc, ◌+◌, ◌<◌, ◌≤◌, List, [], ◌∷◌, ◌++◌, length, replicate, refl, ap, sym, subst, ◌∙◌, append_assoc, arith}
 use Rattle.std.specs.Prelude.{slice_get, Some}
 use Rattle.std.proofs.lemmas.List.{append-nil, append_cancel_left}

@@ -1,4 +1,13 @@
--- A history is merged or refused, and refused in one way.
+-- No history is both merged and refused, and none is refused in two ways: `one_answer`.
+--
+-- A refusal is of a step after a possible beginning (`CanBegin`), or of a process after the whole history. A
+-- possible beginning has no refused step in it (`not_refused`). So of two refused steps neither comes before
+-- the other (`places`, `within_once`), and one step has one fault only (`same_step`). After the whole history
+-- only the first process that fails is refused (`at_end_once`).
+-- The difficulty is in `not_refused`: a process that makes its steps of a history within some turns makes its
+-- steps of a prefix within them too (`makes_less`). `had_made` is the induction on the number of
+-- instructions: it takes them back one by one until the later steps are gone.
+-- Read `not_refused` first, then `within_once`.
 use Rattle.std.proofs.Common.{◌≡◌, inl, inr, ⊎_elim, ℕ, zero, suc, ◌<◌, ◌≤◌, List, [], ◌∷◌, ◌++◌, length, refl, ap, sym, subst, ◌∙◌, arith}
 use Rattle.std.specs.Prelude.{slice_index}
 use Rattle.std.proofs.lemmas.Bool.{cases_lt}

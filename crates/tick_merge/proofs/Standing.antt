@@ -1,4 +1,13 @@
--- A run that stands at a history, with one instruction more.
+-- A run that stands at a history, with one instruction more: `stands_alone` and `stands_asks`.
+--
+-- `Stands` says that the run made just this history, that its memory is that of the history, and that each
+-- process stands where it stands by itself. An instruction that is made alone keeps the history; an ask adds
+-- its step. Both are cases of `stands_by`: process `p` makes one instruction more by itself too (`next_at`),
+-- and of the others nothing changes (`each_next`).
+-- The difficulty is the ask. Its step has to fit the reply of the machine (`act_fits`), and has to leave the
+-- memory that the ask leaves (`leaves`). For this an exchange has to write what a stamp of the process makes;
+-- in a verified code it does (`asks_own`).
+-- Read `stands_by` first.
 use Rattle.std.proofs.Common.{◌≡◌, ◌≢◌, ⊎_elim, ℕ, List, [], ◌∷◌, ◌++◌, refl, ap, sym, subst, ◌∙◌}
 use Rattle.std.specs.Prelude.{slice_get, Some}
 use Rattle.std.proofs.lemmas.List.{append-nil}

@@ -1,4 +1,13 @@
--- A step of the history is made.
+-- A step of the history is made (`taken`), or its process can't make it (`not_made`, `no_turns`). After the
+-- history a process makes the rest of its instructions alone, or it can't (`spent_or_not`).
+--
+-- Before this the process made alone what it could (`IsLed`). So it has no instruction left, or it has
+-- stopped, or it asks. If it asks for the act of the step, the run goes on by `stands_asks`. If not, `no_way`
+-- and `no_rest` of `Refusing.antt` show that the process can't make what the history tells.
+-- The difficulty is to show `Reached` again: the code holds a memory and processes, and they have to be those
+-- of the run under the schedule. `same_memory` shows it of the memory before the step, and `words_new` after
+-- it. `changed` gathers what the step changed, for `reached_as`.
+-- Read `taken` first, then `not_made`.
 use Rattle.std.proofs.Common.{◌≡◌, ℕ, zero, suc, ◌+◌, ◌-◌, ◌<◌, ◌==◌, Bool, true, false, List, [], ◌∷◌, ◌++◌, length, replicate, refl, ap, sym, subst, ◌∙◌, append_assoc, arith}
 use Rattle.std.specs.Prelude.{slice_get, slice_set, slice_index, Some, vec_items}
 use Rattle.std.proofs.lemmas.Bool.{eqb-true, eqb-false}

@@ -1,4 +1,13 @@
--- An instruction that a worker makes is one of its process by itself.
+-- An instruction that a worker makes is one of its process by itself. There are three lemmas, by what the
+-- advance tells: `silent`, `made` and `asked`.
+--
+-- `IsAt` says where a process by itself stands after some instructions, and what it has given out. `at_alone`
+-- and `at_asked` add one instruction, made alone or with a step on what is shared. The three lemmas find out
+-- which of the two it was, and refute the other.
+-- The difficulty is in the values that are given out: only the instruction Out may give one out. `out_at_out`
+-- shows it of what is made alone. `quiet_reply` shows that an ask gives nothing out, whatever the reply. Both
+-- are case splits on the instruction.
+-- Read `at_alone` and `at_asked` first.
 use Rattle.std.proofs.Common.{◌≡◌, ℕ, ◌+◌, Bool, true, false, if◌then◌else◌, List, [], ◌∷◌, ◌++◌, refl, sym, ap, subst, ◌∙◌, Result, Ok, Err}
 use Rattle.std.specs.Prelude.{Option, Some, None, nat_lt, ◌&&◌, slice_get, slice_index}
 use Rattle.std.proofs.lemmas.List.{append-nil}

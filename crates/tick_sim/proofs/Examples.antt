@@ -1,4 +1,12 @@
--- Small programs beside their codes.
+-- Small programs beside their codes: what they show, and which schedules stand for each other.
+--
+-- Each lemma is one case, computed: both sides come to the same, by `refl`. `seen` is what a program shows,
+-- and `seen_of_code` what its code shows. `down` makes a schedule of the program from one of the code, and
+-- `up` the other way. For all programs and schedules the laws are proved in `Down.antt` and `Up.antt`.
+-- The cases are those that are difficult for the maps: an exchange that is lost (`lost_code`), a process that
+-- has stopped (`counts_past`), a trap inside an expression (`below_code`), and labels that come back while a
+-- stamp is on its way (`back_code`, `around_code`).
+-- Read `its_run`, `its_steps` and `its_code` first.
 use Rattle.std.proofs.Common.{◌≡◌, ℕ, List, [], ◌∷◌, ◌++◌, refl, map, replicate}
 use Rattle.base.specs.declared.operator.Op.TheVariants as O
 use Rattle.base.specs.declared.status.Status.TheVariants.{Running, Ended, Trapped}
@@ -149,7 +157,7 @@ back_down = refl
 back_source : seen stamps_and_scans back_steps ≡ came_back
 back_source = refl
 
--- a ticket that is given up, and asked for before and after
+-- a ticket is given up; before that the other process is found without one, and after it process 0 itself
 abbrev gives_up : WholeProgram ℕ
 gives_up =
     program 2 (0 ∷ []) (0 ∷ []) []

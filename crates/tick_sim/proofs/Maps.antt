@@ -1,4 +1,13 @@
--- The two maps item by item, as the code makes them.
+-- The two maps item by item, as the code makes them: `down_more` and `up_more`, with `all_done` at the end.
+--
+-- Both loops keep the same invariant: what was made so far, with what the map makes of the rest, is the
+-- whole. One item more unrolls the definition once. For `up` an inner loop makes the steps of one item:
+-- `lead_more` is for a step that ends none of the program, `lead_end` for the one that does.
+-- The difficulty is that this inner loop has to come to such a step within the length of the code. It does
+-- where all processes stand between two steps of the program (`running_commits`). After each item they stand
+-- so again (`item_rests`).
+-- What holds of each item of a schedule holds of each that the maps make (`down_lawful`, `up_lawful`).
+-- Read `down_more` first, then `lead_more`.
 use Rattle.std.proofs.Common.{◌≡◌, ℕ, suc, ◌+◌, ◌-◌, ◌<◌, ◌≤◌, Bool, true, false, if◌then◌else◌, List, [], ◌∷◌, ◌++◌, All, length, drop, replicate, get_or, refl, ap, sym, ◌∙◌, subst, arith, append_assoc, Option, Some, None}
 use Rattle.std.specs.Prelude.{slice_get}
 use Rattle.std.proofs.Math.Seq.{drop-cons, drop-length}

@@ -1,7 +1,13 @@
 -- The instructions of an expression are made quietly and leave its value on the stack, whatever others do
--- meanwhile. By induction on the expression, with what follows it as the conclusion: whatever leads on from
+-- meanwhile: `expression_leads`.
+--
+-- The proof is by induction on the expression, with what follows it as the conclusion: whatever leads on from
 -- the value leads on from the expression. So the two operands of an operator are put one before the other,
 -- and a trap inside is at once the trap of the statement.
+-- The difficulty is in the operator, where three parts may trap. `then_leads` hands on the trap of an
+-- operand, and `operate_leads` is the case split on what the operator comes to.
+-- Statements use `last_value` (an expression, and the instruction that takes its value) and `two_values`.
+-- Read `Leads` and `LeadsWith` in `Match.antt` first, then `expression_leads`.
 use Rattle.std.proofs.Common.{◌≡◌, ℕ, suc, ◌+◌, List, [], ◌∷◌, ◌++◌, refl, ap, sym, ◌∙◌, subst, arith, Result, Ok, Err, Some, None, false}
 use Rattle.std.specs.Prelude.{slice_get, slice_index}
 use Rattle.base.specs.declared.operator.Op.{Op}

@@ -1,5 +1,13 @@
--- The machine stands for the state that the definitions speak of, and has a ticket for each process, in
--- each scan too: at the start, and after each step.
+-- The machine stands for the state that the definitions speak of, and has a ticket for each process, in each
+-- scan too: at the start (`state_start`, `ticketed_start`), and after each step (`step_ok`, `step_err`,
+-- `step_stopped`, `ticketed_step`).
+--
+-- The idea. `state_of` views the machine as a state. A step changes one process and what is shared, and
+-- `Makes` or `Keeps` says how. Where the machine puts the process back into its list, the state has it at the
+-- same place (`set_back`), so each field of the new state follows (`made`). The difficulty is that the code
+-- counts processes by their tickets, and the definition by the list of processes. `IsTicketed` says that both
+-- are as many, so it has to be kept by each step (`ticketed_made`, `ticketed_kept`). Read `made` and
+-- `running_step` first.
 use Rattle.std.proofs.Common.{◌≡◌, ℕ, ◌<◌, List, [], ◌∷◌, refl, ap, ◌∙◌, sym, subst, length, map, set, get_or, replicate, arith, Result, Ok, Err, Some, OnOk, OnErr}
 use Rattle.std.specs.Prelude.{slice_get, slice_set}
 use Rattle.std.specs.List.{All}

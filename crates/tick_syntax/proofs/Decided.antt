@@ -1,4 +1,13 @@
--- Each text is one program within the limits, or it has one refusal.
+-- Each text is one program within the limits, or it has one refusal: one program at most (`one_program`), one
+-- refusal at most (`one_refusal`), never both (`never_both`), and never neither (`never_neither`).
+--
+-- The idea. Tokens spell a text, or it has a first fault (`spelled_or_faulty`). Tokens that spell it are
+-- given values (`all_valued`), and the reader decides about these (`read`): its program is what the tokens
+-- derive (`program_read`), and its fault is where they stop (`fault_read`). `told` sorts a refusal into one
+-- of length and tokens or one of the grammar; earlier pages have that there is one at most of each. The
+-- difficulty is in `never_both`: a program has its limit on the tree, a refusal on the brackets from token to
+-- token. `keeps_shallow` gets the second from the first: the reader reads the program, so no bracket was one
+-- too many. Read `never_neither` first.
 use Rattle.std.proofs.Common.{◌≡◌, ℕ, ◌≤◌, ◌⊎◌, inl, inr, Bool, true, false, List, [], ◌∷◌, ◌++◌, length, map, Option, Some, None, Result, Ok, Err, refl, sym, ◌∙◌, subst, arith}
 use Rattle.std.proofs.lemmas.Bool.Decides.{leb_tells}
 use Rattle.tick_syntax.specs.declared.fault.TextFault.{TextFault}

@@ -1,4 +1,13 @@
--- The longest fronts of a text are its words, numbers and signs.
+-- The longest fronts of a text are its words, numbers and signs (`word_of_text`, `number_of_text`,
+-- `sign_of_text`). Where it has none of them no token begins (`no_token`). And back: where a text begins with
+-- such a piece, its front is as long as the piece (`word_length_is`, `number_length_is`, `sign_length_is`).
+--
+-- The idea. A word or a number is the longest front of which each byte passes a test. `front_passes` and
+-- `front_stops` say so for any test, and `front_is` is the way back, all by induction on the bytes. A sign
+-- has one byte or two, so its lemmas are a case split on the first bytes. The difficulty is there: a sign of
+-- one byte is longest only where no `=` makes it one of two (`sign_of_text`, `lone_length`). That no sign
+-- begins with a letter or a digit is computed over all first bytes of signs (`sign_first`). Read
+-- `front_passes` and `word_of_text` first.
 use Rattle.std.proofs.Common.{◌≡◌, ℕ, suc, inl, inr, ◌<◌, Bool, true, false, cond, List, [], ◌∷◌, ◌++◌, ◌+◌, length, take, drop, refl, ap, ◌∙◌, arith, ◌&&◌, ◌==◌, not}
 use Rattle.std.specs.List.{list_all, list_any, prefix_len}
 use Rattle.std.proofs.lemmas.Bool.{and_parts, and_from, and_left, and_right, or_cases, or_from, or_left, or_right, cond_both, cond-true, cond-false, eqb-true, ne_eqb, leb-true, lt-leb, not-true, false≢true}

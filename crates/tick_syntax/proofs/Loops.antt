@@ -1,4 +1,13 @@
--- The reader's loops: what was read so far stands before what the rest gives.
+-- The reader's loops: what was read so far stands before what the rest gives (`after_names`, `after_block`),
+-- and both together are what reading gives from where the loop began. A turn keeps this (`names_on`,
+-- `statements_more`), and each exit answers by it (`names_last`, `statements_last`; `names_fail` and the like
+-- for refusals).
+--
+-- The idea. The definitions are recursive, and the code loops. `names_step` and `statements_step` open a
+-- definition once; `after_more` and `after_statement` move what was read from the rest to the front. The
+-- difficulty is that `statements_at` bounds its statements by the number of its own tokens, and after a
+-- statement fewer are left. `enough` shows that any bound above the number of tokens gives the same, since
+-- each statement takes a token. Read `statements_more` first.
 use Rattle.std.proofs.Common.{◌≡◌, ℕ, zero, suc, ◌<◌, Bool, true, false, List, [], ◌∷◌, ◌++◌, length, Ok, Err, refl, sym, ◌∙◌, ap, subst, append_assoc, arith}
 use Rattle.base.specs.declared.span.Span.{Span}
 use Rattle.tick_syntax.specs.declared.fault.TextFault.{TextFault}

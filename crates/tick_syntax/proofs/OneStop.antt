@@ -1,4 +1,12 @@
--- Tokens stop being a program at one place at most, and nowhere where they are one.
+-- Tokens stop being a program at one place at most (`stops_once`), and nowhere where they are one within the
+-- limits (`no_stop`).
+--
+-- The idea. A stop has a front of tokens before it. Two fronts of one list are the same, or one goes on past
+-- the other (`compared`). There the longer one takes the token at which the shorter one stops. But what goes
+-- on to a program does so from each of its own fronts (`front_goes_on`), so that token is not unexpected. And
+-- along a front that begins a program at most 64 brackets are open, so it is no bracket too many
+-- (`not_shallow`). The difficulty is that `GoesOn` wants tokens that a text can have, and so of those between
+-- the two stops (`past_goes_on`). Read `compared` and `unexpected_once` first.
 use Rattle.std.proofs.Common.{◌≡◌, ℕ, ◌⊎◌, inl, inr, List, [], ◌∷◌, ◌++◌, refl, sym, ◌∙◌, ap, subst, append_assoc, arith}
 use Rattle.std.proofs.lemmas.List.{map-append, append-nil}
 use Rattle.base.specs.declared.span.Span.{Span}

@@ -1,4 +1,12 @@
--- What the reader reads is what the grammar has: whole programs.
+-- What the reader reads is what the grammar has: whole programs. Where it answers a program, the tokens say
+-- that program (`program_ok`); where it refuses, the symbols refuse with the same fault (`program_err`).
+--
+-- The idea. As in `Sound` and `SoundStatements`, each part of a program is read as its symbols are (`Reads`):
+-- names, sections, the body. `processes_front` puts these in a row, and `whole_reads` is the program. The
+-- difficulty is a section that is left out: it takes no token, and `Reads` wants one taken. So
+-- `section_reads` takes what is read after the section as an argument. Where there is no section, its symbol
+-- takes what the symbol of the next part takes (`section_front`). Read `IsRead` and `program_ok` first, then
+-- `whole_reads`.
 use Rattle.std.proofs.Common.{append_assoc, map, ◌≡◌, ℕ, ◌≤◌, List, [], ◌∷◌, ◌++◌, Some, None, Ok, Err, refl, sym, ◌∙◌, ap, subst, arith, inl, inr}
 use Rattle.base.specs.declared.span.Span.{Span}
 use Rattle.tick_syntax.specs.declared.fault.TextFault.{TextFault}

@@ -1,4 +1,13 @@
--- What may still come, as a stack of symbols, and the first token at which nothing does.
+-- What may still come, as a stack of symbols, and the first token at which nothing does (`fault`).
+--
+-- This page is definitions; its one lemma is `says_same`: the values of a text's tokens say what the tokens
+-- say. The idea. `step s x` are the symbols that stand in the place of `s` once `x` was read, or none, where
+-- `s` does not begin with `x`. `run` does so token by token and gives the symbols that are left. `fault` does
+-- so with a limit on open brackets and gives the first refusal: a token without a place, tokens or symbols
+-- left over, or a bracket too many. Two things need care. Brackets have no counter: as many are open as there
+-- are symbols that close one (`opened`). And a section may be left out, so its step falls through to the next
+-- part's (`variables_step`). `Sound.antt` ties the reader to `fault`, and `Continuations.antt` ties programs
+-- to `run`. Read `step` first.
 use Rattle.std.proofs.Common.{◌≡◌, refl, ap, ◌∙◌, ℕ, suc, Bool, true, false, List, [], ◌∷◌, ◌++◌, Option, Some, None, nat_eq}
 use Rattle.base.specs.declared.span.Span.{Span}
 use Rattle.tick_syntax.specs.declared.fault.TextFault.{TextFault}

@@ -1,4 +1,12 @@
--- The token at a place of a text, and how the tokens that are read so far go on.
+-- The token at a place of a text, and how the tokens that are read so far go on. What is measured at a place
+-- is a token there (`read_at`) or a fault (`long_name`, `big_number`, `no_sign_here`). At the end of the text
+-- the tokens so far spell it (`read_all`), and a fault after them is the text's first (`read_fault`).
+--
+-- The idea. `LongestPieces` speaks of the front of a text, and the code of two places in it; `shape_at` goes
+-- from one to the other. The rest is the invariant of the lexer's loop, `ReadSoFar`. The difficulty is that
+-- `SpellsFrom` takes tokens off the front, and the loop adds them at the end. So the invariant speaks of any
+-- tokens `later`: if they spell what is left, then those so far and these spell the whole text. One token
+-- more goes to the front of `later` (`read_more`). Read `ReadSoFar` and `read_more` first.
 use Rattle.std.proofs.Common.{map, ◌≡◌, ℕ, ◌<◌, ◌≤◌, ◌⊎◌, inl, inr, refl, zero-add, Bool, true, List, [], ◌∷◌, ◌++◌, ◌+◌, ◌-◌, length, take, drop, get_or, sym, ap, ◌∙◌, subst, arith, slice_range, append_assoc, Some, None, false, Bor, not}
 use Rattle.std.specs.Str.Parse.{digits_value}
 use Rattle.std.specs.Option.{is_some}

@@ -1,5 +1,12 @@
--- Which tokens a text can have: what each token of a spelled text says, and that a token that says it is
--- spelled again where it is printed.
+-- Which tokens a text can have: what each token of a spelled text says (`all_stand`), and that a token that
+-- says it is spelled again where it is printed (`written`).
+--
+-- The idea. Both are a case split, on the sort of the token and on what it says. A name or a number is a
+-- token by the conditions that `CanStand` has. The difficulty is in keywords and signs: a text has bytes that
+-- pass a test (`is_keyword`, `is_sign`), and what they say is looked up by their spelling (`spelled_among`).
+-- `is_keyword` and the lookup go through one list (`keyword_found`). `is_sign` looks at one byte at a time,
+-- so the lookup is computed for each byte that passes (`sign_found`). Back, each terminal is found by its own
+-- spelling (`terminal_told`). Read `sort_stands` first, then `Written`.
 use Rattle.std.proofs.Common.{cond, sym, false, ◌||◌, ◌≡◌, ℕ, Bool, true, ◌==◌, ◌⊎◌, inl, inr, Option, Some, None, List, [], ◌∷◌, ◌++◌, refl, ap, ◌∙◌, drop, slice_range}
 use Rattle.std.proofs.lemmas.Bool.{and_parts, eqb-true, false≢true}
 use Rattle.std.specs.Fmt.{decimal}

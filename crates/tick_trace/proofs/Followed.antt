@@ -1,4 +1,13 @@
--- A process that runs comes from number to number as the program does.
+-- A process that runs comes from number to number as the program does (`came`). `step_is` says that a step is
+-- told rightly: the number of its statement, its act, the variable that it wrote, and the tickets.
+-- `code_told` says it of the act of a code's step.
+-- The idea. Where the process goes on after a statement, one of two blocks remains, by whether its test is 0
+-- (`does_on`). The link of a number has two numbers, at which just these remain. So the number that is taken
+-- is right (`follows`).
+-- The difficulty. A link has the statement of its number, and the machine has what remains. These blocks are
+-- equal, so their first statements are, and what follows them (`first_or`, `after_first`). Where there is no
+-- link nothing remains (`past_end`). Nothing is claimed of where a stopped process is.
+-- Read `does_on` first, then `follows`.
 use Rattle.std.proofs.Common.{◌≡◌, ℕ, zero, suc, ◌<◌, ◌≤◌, Bool, true, false, List, [], ◌∷◌, ◌++◌, length, refl, ap, ◌∙◌, sym, subst, arith, map, Option, Some, None, Result, Ok, Err}
 use Rattle.std.specs.Prelude.{nat_lt, slice_get, slice_set, slice_index, if◌then◌else◌, option_and_then, option_map}
 use Rattle.std.proofs.lemmas.Bool.{both_ways}

@@ -1,4 +1,12 @@
--- How many tokens statements and sections have.
+-- How many tokens statements and sections have, and so where the heads of statements stand. `rest_more` and
+-- `one_more` take one statement more of a block: the first for the tokens that follow, the second for the
+-- heads.
+-- The idea. The tokens of a statement are pieces in a row, so its length is their sum (`branch_long`,
+-- `repeat_long`). To drop two pieces in turn is to drop their sum (`past_two`).
+-- The difficulty is bookkeeping. The code passes head, braces and blocks one by one, with an equation for
+-- each. The definitions drop several at once. `branch_past` and `repeat_past` join these equations for the
+-- tokens. `branch_heads` and `repeat_heads` do it for the heads, which the code pushes at the end.
+-- Read `past_two` first, then `branch_past`.
 use Rattle.std.proofs.Common.{◌≡◌, ℕ, zero, suc, ◌+◌, ◌-◌, ◌*◌, ◌<◌, ◌≤◌, List, Vec, Global, [], ◌∷◌, ◌++◌, length, refl, ap, ◌∙◌, sym, subst, arith, append_assoc, length-append, length-drop, drop, take, take_all, drop-cons, drop-drop, drop_of_length-le, add-one, get_or, ⊎_elim}
 use Rattle.std.proofs.lemmas.List.{append-nil}
 use Rattle.std.proofs.lemmas.Bool.{cases_lt}

@@ -1,4 +1,12 @@
--- The links of a program are right for what remains at each number.
+-- The links of a program are right for what remains at each number (`table_of`).
+-- The idea. A function `R` says what remains at each number. The links of a block are right for every `R`
+-- that has at their numbers what remains of the block. `adds_plain`, `adds_repeat` and `adds_branch` show
+-- this for a statement, `adding_more` for one statement more of a block. The induction is the code's, which
+-- calls itself for inner blocks. At the end `R` is what remains of the whole body.
+-- The difficulty. A link may have a number whose own link isn't there yet, so the lemmas speak of `R` and not
+-- of the table. A block has as many numbers as its size says (`length_remains`). An empty block begins where
+-- it goes on (`begins`).
+-- Read `begins` first, then `adding_more`.
 use Rattle.std.proofs.Common.{◌≡◌, ℕ, zero, suc, ◌+◌, ◌<◌, ◌≤◌, List, [], ◌∷◌, ◌++◌, length, refl, ap, ◌∙◌, sym, subst, arith, append_assoc, add-one, drop, get_or, drop_of_length-le, false, Some}
 use Rattle.std.specs.Prelude.{slice_get, slice_index_or}
 use Rattle.std.specs.Prelude.{◌==◌}

@@ -1,7 +1,12 @@
--- Labels that agree with whole-number tickets keep doing so through each stamp and each clear.
+-- Labels that agree with whole-number tickets keep doing so through each stamp and each clear
+-- (`agreement_law`), so after any of these moves from the start they stand for the tickets (`moves_law`).
 --
--- The new label dominates each of the others that are present as the new ticket is above each of the
--- others, and nothing changes among the others.
+-- The idea. The new label dominates each of the others that are present as the new ticket is above each of
+-- the others (`stamp_fits`), and nothing changes among the others (`set_ordered` of `Setting.antt`). The
+-- difficulty is that there is a label which dominates the others: `next_law` wants one of them to be
+-- greatest, and `can_choose` (`Choosing.antt`) finds it by the greatest ticket. Labels that agree stand for
+-- the tickets (`stands_for`): ranks count the same comparisons, and equal labels of two that are present
+-- would be equal tickets. Read `stamped_kept` first.
 use Rattle.std.proofs.Common.{◌≡◌, ◌≢◌, ℕ, zero, suc, ◌+◌, ◌-◌, ◌<◌, true, false, ltb, Option, None, Some, List, [], ◌∷◌, length, refl, sym, ap, ◌∙◌, subst, arith, ⊎_elim, length-set, get_or-set_other}
 use Rattle.std.specs.Prelude.{All, IfSome, slice_index}
 use Rattle.std.proofs.lemmas.Bool.{cases_lt, lt-ltb, le-ltb, ltb-true, ltb-false}

@@ -1,4 +1,13 @@
--- What the bits of a word say of its labels, and back.
+-- What the bits of a word say of its labels, and back: the labels that are read from a word are those that it
+-- packs (`labels_read`), and bits that have what they may have are the word of the labels read from them
+-- (`is_word`). So two lists of labels with one word are the same list (`distinct_law`).
+--
+-- The idea. A word has two halves, bytes below bit 48 and presence bits from there on. Each half is numbers
+-- in fields of one width, and `Fields.antt` has how these are read, set and cleared. This page does so for
+-- both halves and puts them together; `mask_word` and `written` do it for a label that goes or comes. The
+-- difficulty is that the halves must not meet: with at most six processes the bytes stay below bit 48
+-- (`halves`), and a byte of the whole word is one of its lower half (`byte_low`). Read `halves` and
+-- `labels_read` first.
 use Rattle.std.proofs.Common.{◌≡◌, ℕ, suc, zero, ◌+◌, ◌-◌, ◌*◌, ◌/◌, ◌%◌, ◌^◌, ◌<◌, ◌≤◌, Option, None, Some, List, length, set, refl, sym, ap, ◌∙◌, subst, arith, length-set}
 use Rattle.std.specs.Prelude.{◌==◌, All, IfSome, bit_and}
 use Rattle.std.proofs.Math.Nat.{div-eq_of_lt}
