@@ -25,6 +25,9 @@ class Function:
         self.proof = f"{path.rpartition('::')[0]}::+{cycle[1]}" if cycle else path
         self.is_in_cycle = bool(cycle)
 
+    def name(self):
+        return self.path.rpartition("::")[2]
+
     def is_plain(self, types):
         """Whether its body may be left out: it belongs to no trait and to no cycle, and no constant is made by it."""
         of_trait = self.owner[:1].isupper() and self.owner not in types
@@ -108,6 +111,13 @@ class Source:
 
     def all_functions(self):
         return [function for file in self.texts for function in self.functions(file)]
+
+    def opening_of(self, method):
+        """The lines that open the `impl` in which a method stands."""
+        before = self.texts[method.file].split("\n")[: method.first]
+        opens = max(at for at, line in enumerate(before) if line.startswith("impl"))
+        ends = next(at for at in range(opens, len(before)) if before[at].endswith("{"))
+        return "\n".join(before[opens : ends + 1])
 
     def proofs(self):
         """For the path of each function, under which its proof stands."""

@@ -1,10 +1,12 @@
-"""Edits, and the rounds in which they are planted.
+"""Edits, and the rounds in which they are planted: each stands in a function of its own, or in a copy of one.
 
 An edit is a file of lines `file: PATH`, `old: TEXT` and `new: TEXT`. Each `old:` text stands once in its file, in
 one line, and the `new:` text that follows takes its place; a further pair applies to what the earlier ones made.
 """
 import os
 import shutil
+
+from parts.copies import Copy, may_copy
 
 
 class BadEdit(Exception):
@@ -57,33 +59,67 @@ class Edit:
     def proofs(self):
         return {it.proof for it in self.functions}
 
-    def plant(self, folder):
+
+class Planted:
+    """An edit in a round, where it turns its functions or a copy of the one that it turns."""
+
+    def __init__(self, edit, copy=None):
+        self.edit, self.copy = edit, copy
+        self.name, self.lines, self.is_wide = edit.name, edit.lines, edit.is_wide
+        self.functions = [copy] if copy else edit.functions
+
+    def paths(self):
+        return {it.path for it in self.functions}
+
+    def proofs(self):
+        return {it.proof for it in self.functions}
+
+    def plant(self, folder, built, crate, source):
         """Puts the wrong body into a copy of the crate, a line for a line."""
-        for file, number, old, new in self.lines:
+        if self.copy:
+            function = self.copy.function
+            self.copy.put(folder, self.turned(function.file, list(function.text), function.first), source)
+            self.copy.put_proof(folder, built, crate)
+            return
+        for file in sorted({file for file, *_ in self.edit.lines}):
             with open(f"{folder}/{file}", encoding="utf-8") as text:
                 lines = text.read().split("\n")
-            if lines[number - 1].count(old) != 1:
-                raise BadEdit(f"line {number} of {file} is not what it replaces")
-            lines[number - 1] = lines[number - 1].replace(old, new)
             with open(f"{folder}/{file}", "w", encoding="utf-8") as text:
-                text.write("\n".join(lines))
+                text.write("\n".join(self.turned(file, lines, 1)))
+
+    def turned(self, of, lines, first):
+        """Lines of a file, the first of which has this number, with the wrong body in them."""
+        for file, number, old, new in self.edit.lines:
+            at = number - first
+            if file == of and lines[at].count(old) != 1:
+                raise BadEdit(f"line {number} of {file} is not what it replaces")
+            if file == of:
+                lines[at] = lines[at].replace(old, new)
+        return lines
 
 
-def fits(edit, group):
-    """Whether an edit may be tried in one round with others: all stand in different functions."""
-    return not any(edit.is_wide or other.is_wide or edit.proofs() & other.proofs() for other in group)
-
-
-def rounds_of(edits):
-    """As few rounds as come of taking each edit into the first that it fits."""
+def rounds_of(edits, source):
+    """As few rounds as come of taking each edit into the first in which it has a function for itself."""
     rounds = []
     for edit in edits:
-        into = next((group for group in rounds if fits(edit, group)), None)
-        if into is None:
-            rounds.append([edit])
+        for group in rounds:
+            planted = planted_in(edit, group, source)
+            if planted:
+                group.append(planted)
+                break
         else:
-            into.append(edit)
+            rounds.append([Planted(edit)])
     return rounds
+
+
+def planted_in(edit, group, source):
+    """An edit as it may be tried in one round with others: in its functions, in a copy where another turns that, or not."""
+    if edit.is_wide or any(other.is_wide for other in group):
+        return None
+    beside = [other for other in group if edit.proofs() & other.edit.proofs()]
+    if not beside:
+        return Planted(edit)
+    return Planted(edit, Copy(edit.functions[0], len(beside) + 1)) if may_copy(edit, source) else None
 
 
 HOLE = """use Rattle.{crate}.proofs.{module}.Statement.{{statement}}

@@ -1,4 +1,4 @@
--- The bytes that separate what stands beside them.
+-- Blanks: the bytes that separate the parts of a text.
 use Rattle.std.specs.Prelude.{ℕ, Bool, ◌||◌, ◌==◌}
 
 -- space, tab, carriage return and line feed

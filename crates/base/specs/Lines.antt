@@ -1,4 +1,4 @@
--- What the lines of all texts are made of.
+-- What the lines of all texts have in common: line ends, and spaces before parts.
 use Rattle.std.specs.Prelude.{ℕ, List, [], ◌∷◌, ◌++◌, codes}
 
 -- a line feed

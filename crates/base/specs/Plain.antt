@@ -1,5 +1,5 @@
--- Programs as plain trees. A is what stands for a name: its letters with their place as a text has it,
--- or a number once names are resolved.
+-- Programs as plain trees. `A` is the type of names: the letters of a name with their place in the text, or a
+-- number once names are resolved.
 use Rattle.std.specs.Prelude.{ℕ, List, map}
 use Rattle.base.specs.declared.span.Span.{Span}
 use Rattle.base.specs.declared.operator.Op.{Op}

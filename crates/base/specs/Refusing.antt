@@ -1,5 +1,5 @@
--- The frame of what may be refused, generic in the refusals: what goes on after an answer, and what a
--- function answers that may be refused memory too.
+-- Answers that may be a refusal, for any type of refusals: how one follows another, and what a function
+-- answers that may also be refused memory.
 use Rattle.std.specs.Prelude.{◌≡◌, Bool, true, false, Result, Ok, Err}
 
 infixl 10 ◌>>=◌

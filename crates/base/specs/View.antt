@@ -1,4 +1,4 @@
--- The plain tree that a declared tree is.
+-- The plain tree of a tree that the code declares.
 use Rattle.std.specs.Prelude.{List, [], ◌∷◌, map, string_bytes}
 use Rattle.base.specs.declared.tree.Named.{Named}
 use Rattle.base.specs.declared.tree.Expr.{Expr}

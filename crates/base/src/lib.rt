@@ -1,12 +1,12 @@
-//! What everyone stands on: want of memory, what texts are made of, what the machines share, and the tree of a program.
+//! `base` holds what many crates share: want of memory, parts of texts, events and outcomes, and trees.
 //!
 //! - Texts of programs, codes, schedules and answers share blanks, decimal numbers and lines.
-//! - The machine on whole-number tickets and the machine on bounded labels share operators, traps and register rows. They
-//!   speak of the same events, statuses and outcomes, so that their runs can be compared as they are.
-//! - A program's tree has a plain form, in which the specifications speak of it.
+//! - The machine on tickets and the machine on labels share operators, traps, register rows, events, statuses
+//!   and outcomes. So their runs can be compared directly.
+//! - `tree` has the tree of a program. Definitions speak of it in its plain form (`specs/Plain.antt`).
+//! - `proofs/Offered.antt` has lemmas about rows of a fixed length of which the first few items count.
 //!
-//! Start with `NoMemory`, with `Event` and `Outcome`, or with `tree::Tree`. Of rows of a fixed number of items, of which
-//! the first few count, there are lemmas alone, in `proofs/Offered.antt`: tickets and labels are held in such rows.
+//! Start with `Event`, `Outcome` and `tree::Tree`.
 #![tactic(auto)]
 
 mod blank;

@@ -1,8 +1,9 @@
-//! Step code: the instructions that a ticket program becomes, and which lists of them are codes.
+//! `code_core` defines step code: the instructions that a program is compiled to, and which lists are codes.
 //!
-//! Start with `Instr`. `verify` accepts a list of instructions as a `Code` exactly where no place
-//! of it has a fault: then a process that runs it always finds its operands, its slots and its next
-//! instruction, and a stamp is made of its three instructions in a row.
+//! `verify` accepts a list of instructions as a `Code` exactly if no place of it has a fault. A process that
+//! runs a `Code` always finds its operands, its slots and its next instruction. Each stamp in it is made of
+//! its three instructions in a row.
+//! Start with `Instr`.
 #![tactic(auto)]
 
 mod code;

@@ -1,4 +1,4 @@
--- One process by itself: what becomes of its next instruction, and what an answer makes of it.
+-- One process by itself: what its next instruction does, and how it goes on by an answer.
 use Rattle.std.specs.Prelude.{ℕ, ◌<◌, ◌≤◌, Bool, true, false, Option, Some, None}
 use Rattle.base.specs.declared.status.Status.{Status}
 use Rattle.base.specs.declared.status.Status.TheVariants.{Running}

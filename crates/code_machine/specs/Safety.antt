@@ -1,4 +1,4 @@
--- What a process and a state of a run always have, so that no step is ever stuck.
+-- The invariant of a process, and of a state of a run: no step is ever stuck.
 use Rattle.std.specs.Prelude.{◌≡◌, ℕ, ◌<◌, ◌≤◌, true, List, length, slice_get, All, Some}
 use Rattle.word_core.specs.Stamps.{Labels, stamped}
 use Rattle.word_core.specs.Packed.{AreLabels}

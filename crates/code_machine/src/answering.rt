@@ -1,4 +1,4 @@
-// What a reply makes of the process that asked for it.
+// How a process goes on by the reply to what it asked for.
 
 ghost use Rattle.std.specs.Prelude.{◌≡◌, ℕ, slice_get, slice_index, Some};
 ghost use Rattle.code_machine.specs.Machine.{gets, loads, exchanges, scans, writes, clears};

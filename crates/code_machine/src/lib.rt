@@ -1,8 +1,9 @@
-// The machine of step code: what a verified code does on bounded labels and registers, step by step
-// under a schedule that is given.
-//
-// Start with `CodeMachine::new`, or with `run` for a whole schedule. A `Proc` is one process by
-// itself: it asks for what it needs of the shared words, and goes on by the answer.
+//! `code_machine` runs a verified code on labels and registers, step by step, under a given schedule.
+//!
+//! A `CodeMachine` makes single steps, and `run` runs a whole schedule. A `Proc` is one process by itself: it
+//! asks for what it needs of the label word and the registers, and goes on by the reply. `laws` states what
+//! holds of every run. Codes are those of `code_core`, labels those of `word_core`.
+//! Start with `CodeMachine::new`.
 #![tactic(auto)]
 
 mod answering;

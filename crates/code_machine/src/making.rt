@@ -1,4 +1,4 @@
-// What a process makes of an instruction alone, and what it asks.
+// What an instruction does to its process alone, and what the process asks for.
 
 ghost use Rattle.std.specs.Prelude.{◌≡◌, ◌<◌, ◌≤◌, ◌+◌, ◌==◌, ◌∷◌, ℕ, nat_lt, if◌then◌else◌, length, drop, slice_get, slice_index, Some, None};
 ghost use Rattle.base.specs.Operators.{operation};

@@ -1,6 +1,8 @@
-//! Step code as a text, written and read.
+//! `code_text` writes a code as a text, and reads such texts.
 //!
-//! Start with `write_code` and `read_code`. `laws` has that a text is one code or has one fault.
+//! `laws` states that each text is read as one code or has one fault, and that a written code is read as
+//! itself. Codes are those of `code_core`.
+//! Start with `write_code` and `read_code`.
 #![tactic(auto)]
 
 mod guess;

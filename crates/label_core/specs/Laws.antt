@@ -1,4 +1,4 @@
--- What holds of every label and every next one.
+-- What holds of every label, and of every label that is taken next.
 use Rattle.std.specs.Prelude.{◌≡◌, ℕ, ◌-◌, ◌<◌, true, List, [], All, slice_index_or}
 use Rattle.label_core.specs.Labels.{IsLabel, IsNumbered, CanChoose, dominates, next}
 use Rattle.label_core.specs.declared.table.TheConstants.{DIGITS}

@@ -1,8 +1,9 @@
-//! Labels of the nested three-cycles: which of two dominates, which one a process takes next beside
-//! those of the others, and how many each dominates. It takes no memory and refuses nothing.
+//! `label_core` defines labels: which of two dominates, and which label a process takes next.
 //!
-//! Start with `Label::new` and `next_label`. A label is a list of digits 0, 1, 2, the outermost
-//! cycle first; it is kept as the number that these are in base 3.
+//! A label is a place in nested three-cycles: a list of digits 0, 1, 2, the outermost cycle first. It is kept
+//! as the number that these digits are in base 3. `next_label` chooses the next label beside those of the
+//! others. `ranks` counts how many labels each one dominates. No call takes memory.
+//! Start with `Label::new` and `next_label`.
 #![tactic(auto)]
 
 mod choosing;

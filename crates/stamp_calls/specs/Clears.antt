@@ -1,4 +1,4 @@
--- A clear.
+-- What a clear does, and the order that it gives.
 use Rattle.std.specs.Prelude.{◌≡◌, [], ◌∷◌, ◌++◌}
 use Rattle.word_core.specs.Stamps.{Labels, cleared}
 use Rattle.word_core.specs.Packed.{AreLabels, word}

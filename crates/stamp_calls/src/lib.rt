@@ -1,35 +1,35 @@
-//! Stamp, scan and clear: what a program with threads uses in place of a ticket counter.
+//! `stamp_calls` lets threads of a Rust program stamp, scan and clear, in place of a ticket counter.
 //!
-//! A ticket counter grows without bound. Here each of one to six processes has a label of a few
-//! digits, or none, and all labels stand in the one word of a `StampTable`. A `Caller` is a pass of
-//! such a table and the process that steps with it; each thread has its own. There are four calls:
+//! A ticket counter grows without bound. Here each of one to six processes has a label of a few digits, or
+//! none. All labels stand in the one word of a `StampTable`. A `Caller` is a pass of such a table and one
+//! process that the pass holds; each thread has its own caller. There are four calls:
 //!
-//! - `scan` gives the `Order` as it is. It is one load.
-//! - `try_stamp` takes a new ticket if the order still is the one handed in, and gives the order just
-//!   after; else it gives the order that it found. It is one exchange.
-//! - `stamp` tries until it has its ticket, and gives the order just after. It alone may wait.
-//! - `clear` gives the ticket up, and gives the order just after. It is one `fetch_and`: it never
-//!   fails, whatever others do.
+//! - `scan` gives the current `Order`. It is one load.
+//! - `try_stamp` takes a new ticket if the order is still the one handed in, and gives the order just after;
+//!   else it gives the order that it found. It is one exchange.
+//! - `stamp` tries until it has its ticket, and gives the order just after. Only this call may wait.
+//! - `clear` gives the ticket up, and gives the order just after. It is one `fetch_and`, and it never fails,
+//!   whatever others do.
 //!
-//! An `Order` answers what the tickets would: `held(i)` whether process `i` holds a ticket,
-//! `older(i, j)` whether the ticket of `i` is smaller than that of `j`, `rank(i)` how many tickets are
-//! smaller than that of `i`. Who holds none has ticket 0, and so is older than each that holds one.
-//! `read` and `write` are for the registers of a table that has some. No call takes memory.
+//! An `Order` answers what the tickets would: `held(i)` whether process `i` holds a ticket, `older(i, j)`
+//! whether the ticket of `i` is smaller than that of `j`, `rank(i)` how many tickets are smaller than that of
+//! `i`. A process without a ticket has ticket 0, so it is older than each process that holds one. `read` and
+//! `write` are for the registers of a table that has some. No call takes memory. Start with `Caller`.
 //!
 //! # What is promised
 //!
-//! All steps on a table are one growing history, and a caller has seen a beginning of it. Each call
-//! adds its own steps, and has then seen all up to them (`GoesOn`, `own`). The order that it gives is
-//! that of the tickets after just these steps, which are whole numbers without bound (`tickets`); it
-//! never mixes two moments. `specs/Callers.antt`, `specs/Stamps.antt` and `specs/Clears.antt` have the
-//! words.
+//! All steps on a table form one growing history, and a caller has seen a beginning of it. Each call adds its
+//! own steps; the caller has then seen the history up to them (`GoesOn`, `own`). The order that a call gives
+//! is the order of the tickets at that point of the history (`tickets`); it never mixes two moments. Tickets
+//! are whole numbers without bound. `specs/Callers.antt`, `specs/Stamps.antt` and `specs/Clears.antt` have
+//! the definitions.
 //!
-//! Nothing is said of progress: a try may be lost each time, and `stamp` may try forever.
+//! No progress is promised: each try may be lost, and `stamp` may try forever.
 //!
 //! # A lock
 //!
-//! Four threads count. What keeps them apart is their tickets: a process comes (`stamp`), waits until
-//! nobody older holds a ticket, works, and leaves (`clear`).
+//! Four threads count. Their tickets keep them apart: a process takes a ticket (`stamp`), waits until no
+//! older process holds one, works, and gives its ticket up (`clear`).
 //!
 //! ```
 //! ghost use Rattle.std.specs.Prelude.{◌≡◌, ◌<◌, length};
@@ -139,17 +139,17 @@
 //! }
 //! ```
 //!
-//! - The line of the crate in `crates.txt` names `stamp_table` and `stamp_calls`, and the file `HANDLES`
-//!   has `Threads` and `Wait`. Only a clause that speaks of labels needs `word_core` too.
-//! - A loop in which a caller steps keeps of which table the caller is, and which process it steps as:
-//!   each call says so (`GoesOn`, clause `caller`). It is one line in the loop's invariant, for `enters`
+//! - In `crates.txt` the line of a crate with this lock names `stamp_table` and `stamp_calls`. The file
+//!   `HANDLES` has `Threads` and `Wait`. The crate needs `word_core` too only if a clause speaks of labels.
+//! - If a caller steps in a loop, the loop's invariant keeps the caller's table and process. Each call
+//!   ensures that both stay (`GoesOn`, clause `caller`). It is one line of the invariant: for `enters`
 //!   `(l.caller.pass.table ≡ l.initial.caller.pass.table) × (l.caller.process ≡ l.initial.caller.process)`,
 //!   and for `counts` `(l.caller.pass.table ≡ l.table) × (l.caller.process ≡ l.p)`.
-//! - `split` gives each thread a pass of its own, and the closure that a thread runs takes it along. A
-//!   closure that hands passes on, as to `both`, says by a `requires` of its own what it hands on. Where
-//!   the pass is to come back, the closure gives it back (`Caller::into_pass`), an `ensures` says of
-//!   which table it is and what it holds, and `meet` brings together what the threads have seen.
-//!   `split_all` and `meet_all` do so for all processes at once.
+//! - `split` gives each thread a pass of its own, which the closure of the thread takes along. A closure that
+//!   hands passes on, as to `both`, has a `requires` about these passes. To get a pass back, the closure
+//!   returns it (`Caller::into_pass`), with an `ensures` about its table and the processes that it holds.
+//!   Then `meet` makes one pass of two, which has seen what either had. `split_all` and `meet_all` do so for
+//!   all processes at once.
 #![tactic(auto)]
 
 mod caller;

@@ -1,4 +1,4 @@
-// The registers of a table, read and written as a caller.
+// A caller reads and writes the registers of a table.
 ghost use Rattle.std.specs.Prelude.{◌≡◌, ◌<◌, [], ◌∷◌, ◌++◌};
 ghost use Rattle.word_core.specs.History.{register_at};
 ghost use Rattle.word_core.specs.declared.history.SharedAct.TheVariants.{Read, Write};

@@ -1,4 +1,4 @@
--- The labels that a word holds.
+-- The labels that a word of a table holds are in the order of whole numbers.
 use Rattle.std.specs.Prelude.{◌≡◌, ℕ, length}
 use Rattle.word_core.specs.Stamps.{Labels}
 use Rattle.word_core.specs.Order.{IsOrdered}

@@ -1,4 +1,4 @@
--- A pass stands for some of the processes of a table and for the steps that it has seen.
+-- A pass holds some of the processes of a table, and has seen a beginning of its history.
 use Rattle.std.specs.Prelude.{◌≡◌, ◌↔◌, ℕ, ◌==◌, nat_lt, Bool, true, false, ◌||◌, if◌then◌else◌, List, [], ◌∷◌, ◌++◌, length, slice_index_or, All, Any}
 use Rattle.std.specs.List.{filter}
 use Rattle.atomic_table.specs.Seated.{TableId}

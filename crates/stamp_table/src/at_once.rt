@@ -1,4 +1,4 @@
-// The passes of all processes at once: split, and met.
+// Splits a pass into one for each process, and makes one pass of several.
 ghost use Rattle.std.specs.Prelude.{◌≡◌, ◌↔◌, ◌<◌, ℕ, true, All, IsNone, IfSome, IfOk, IfErr, Some, slice_get, slice_set, vec_len};
 ghost use Rattle.stamp_table.specs.Passes.{Holds, none_held, part, AllMeet};
 

@@ -1,12 +1,11 @@
-// A label word and rows of registers that threads share.
-//
-// All steps on a table are one growing history, told one after the other. A `Pass` stands for some of
-// the processes and for the steps that it has seen; each call that takes one adds just one step to the
-// history, its caller's, and the pass has then seen all up to it. No call waits, and only `open` takes
-// memory. Start with `open`; `split` gives each thread a pass of its own, and `meet` and `close` bring
-// together what they have seen.
-//
-// It stands in two parts over one rule (`rule`): the label word, and the registers.
+//! `stamp_table` has the label word and the register rows that threads share.
+//!
+//! All steps on a table form one growing history. A `Pass` holds some of the processes, and has seen a
+//! beginning of the history. `load`, `exchange`, `clear`, `read` and `write` each add one step of the
+//! caller's process; the pass has then seen the history up to this step. `split` gives each thread a pass of
+//! its own, `meet` makes one pass of two, and `close` ends the table. No call waits, and only `open` and
+//! `split_all` take memory. The label word and the registers are under one rule (`rule`).
+//! Start with `open`.
 #![tactic(auto)]
 
 mod at_once;

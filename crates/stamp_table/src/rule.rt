@@ -1,5 +1,5 @@
-// The rule of a table, what each kind of step tells its caller, and how views are cut and joined. All
-// of it is for the proofs: no value of a `View` is made.
+// The rule of a table, what each kind of step tells its caller, and how views are cut and joined. All of it
+// is for proofs: no `View` exists when the program runs.
 
 use atomic_table::{Join, Play, Split, TableRule};
 use std::collections::LinkedList;

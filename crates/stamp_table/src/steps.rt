@@ -1,5 +1,5 @@
-// The atomic steps on the words of a table, each with what the rule asks of it and what it tells. Which
-// step of the history it is, the caller's proof says (`Doing`).
+// The atomic steps on the words of a table, each with what it has to satisfy by the rule, and what it tells.
+// The caller's proof says which step of the history it is (`Doing`).
 ghost use Rattle.std.specs.Prelude.{◌≡◌, ◌+◌, ◌^◌, ◌<◌, ◌==◌, [], bit_and};
 ghost use prog.Atomic.{either};
 ghost use Rattle.stamp_table.specs.Rule.{plain};

@@ -1,4 +1,4 @@
-// A table from its making to the last meeting of its passes.
+// A table: how it is made, and how its passes are split and meet.
 ghost use Rattle.std.specs.Prelude.{◌≡◌, ◌↔◌, ◌≤◌, ℕ, true, false, IfOk, slice_set};
 ghost use Rattle.stamp_table.specs.Passes.{Holds, none_held, together, whole, part, Meets};
 ghost use Rattle.word_core.specs.History.{IsLegal};

@@ -1,8 +1,8 @@
-//! Codes and their machine under one name: a code's text, what a verified code is, and what it does
-//! step by step.
+//! `step_code` re-exports codes, their texts and their machine under one name.
 //!
-//! Start with `read_code` and `run`. Nothing is defined here: the text is `code_text`'s, the code
-//! `code_core`'s, and the machine `code_machine`'s.
+//! It defines nothing: codes come from `code_core`, their texts from `code_text`, and their machine from
+//! `code_machine`.
+//! Start with `read_code` and `run`.
 #![tactic(auto)]
 
 pub use code_core::{Code, CodeFault, Instr, Sizes, verify};

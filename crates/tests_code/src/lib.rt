@@ -1,9 +1,9 @@
-//! What no command shows of codes: codes as values, and the machine that runs them, one instruction after
-//! the other.
+//! `tests_code` tests what no command shows of codes: codes as values, and the machine that runs them.
 //!
-//! Start with `text`, which reads, writes and verifies codes; `stepping` runs them, and `lowering` has
-//! what the compiler says of one. What commands answer on codes, and on the codes and schedules of
-//! programs, stands in `answers/`.
+//! `text` reads, writes and verifies codes. `stepping` runs them, one instruction after the other. `lowering`
+//! tests the height of the longest code that the compiler makes. What commands answer on codes, and on the
+//! codes and schedules of programs, stands in `answers/`.
+//! Start with `text`.
 #![tactic(auto)]
 
 #[cfg(test)]

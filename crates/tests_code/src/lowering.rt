@@ -1,7 +1,7 @@
 //! The height of a code that the compiler makes, which no command shows.
 
 use std::test::Fail;
-use testing::{accepted, is_same, repeated};
+use tests_shared::{accepted, is_same, repeated};
 use tick_lower::lower;
 
 #[test]

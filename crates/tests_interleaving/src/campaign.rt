@@ -1,5 +1,4 @@
-//! Programs on threads that go as they like, with random delays: each outcome is one of those that the
-//! machine has.
+//! Programs on threads with random delays: each outcome is one of those that the machine finds.
 
 use crate::every::{every_outcome, is_among};
 use crate::programs::{PROGRAMS, Small, code_of};
@@ -11,7 +10,7 @@ use std::sync::atomic::AtomicU64;
 use std::sync::atomic::Ordering::SeqCst;
 use std::test::Fail;
 use std::thread::{Threads, yield_now};
-use testing::{Polls, holds, is_same};
+use tests_shared::{Polls, holds, is_same};
 use tick_run::{Gate, RunOutcome, run};
 
 const SEED: u64 = 20_260_731;

@@ -1,5 +1,5 @@
-//! Programs on threads that keep an order of their steps on what is shared: they come to just what the
-//! machine comes to in that order.
+//! Programs on threads that keep a given order of their steps on what is shared: the outcome is the one that
+//! the machine has in that order.
 
 use crate::in_order::run_in_order;
 use crate::orders::any_order;
@@ -8,7 +8,7 @@ use code_machine::Code;
 use std::sync::Wait;
 use std::test::Fail;
 use std::thread::Threads;
-use testing::is_same;
+use tests_shared::is_same;
 
 const SEED: u64 = 20_260_801;
 

@@ -1,4 +1,5 @@
-//! What was asked for, in the order of the steps, as a history: with what was found, by the words alone.
+//! What processes asked for, in the order of the steps, as a history. What each step found is computed from a
+//! word and registers alone.
 
 use crate::notes::{Asked, Note};
 use std::alloc::Global;

@@ -9,7 +9,7 @@ use std::sync::atomic::AtomicU64;
 use std::sync::atomic::Ordering::SeqCst;
 use std::test::Fail;
 use std::thread::Threads;
-use testing::{Polls, holds, is_same};
+use tests_shared::{Polls, holds, is_same};
 use tick_run::{Gate, RunOutcome, run};
 
 // Before each step it waits until all steps that come before it in the order were made, and then notes

@@ -1,11 +1,13 @@
-//! What small programs come to on threads is what the machine comes to, under some schedule where each
-//! thread goes as it likes, and under just the one where an order is forced.
+//! `tests_interleaving` compares small programs on threads with the machine on labels.
 //!
-//! `every` has all outcomes of a code, by the machine: one for each order of its steps on what is
-//! shared. `campaign` runs each program many times on threads with random delays; `forced` makes
-//! random orders, and has the threads keep them; `recorded` notes the steps of such runs, and merges them
-//! to a schedule of the code. The seeds stand in `campaign`, `forced` and `recorded`: other ones, and more
-//! runs, are tried by changing them there.
+//! - `every` finds all outcomes of a code by the machine: one for each order of its steps on what is shared.
+//! - `campaign` runs each program many times on threads with random delays. Each outcome has to be one of
+//!   these.
+//! - `forced` makes random orders, and lets the threads keep them. The outcome has to be that of the order.
+//! - `recorded` notes the steps of such runs, and merges them to a schedule of the code.
+//!
+//! To try other seeds or more runs, change the constants in `campaign`, `forced` and `recorded`.
+//! Start with `every`.
 #![tactic(auto)]
 
 #[cfg(test)]

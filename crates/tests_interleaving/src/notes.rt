@@ -1,4 +1,4 @@
-//! What gates were told, in the order of the steps.
+//! What gates were told, step by step in order.
 
 use code_machine::Ask;
 use std::sync::atomic::AtomicU64;

@@ -1,7 +1,7 @@
 use code_machine::Code;
 use std::alloc::Global;
 use std::test::Fail;
-use testing::accepted;
+use tests_shared::accepted;
 use tick_lower::lower;
 
 /// A program, how many instructions each process may make, how many values it may give out, and how many

@@ -1,6 +1,6 @@
-//! Runs on threads whose steps on what is shared were noted: merged to a schedule they are a run of the
-//! code, with the same outcome to the byte, and the code reports under it what the program reports under
-//! what it stands for.
+//! The steps of runs on threads are noted, and merged to a schedule of the code. Under this schedule the code
+//! has the same outcome, to the byte. Its report is that of the program under the schedule that `project`
+//! makes.
 
 ghost use Rattle.std.specs.Prelude.{◌≡◌, length};
 
@@ -14,7 +14,7 @@ use std::alloc::Global;
 use std::sync::Wait;
 use std::test::Fail;
 use std::thread::Threads;
-use testing::{accepted, is_same};
+use tests_shared::{accepted, is_same};
 use tick_kinds::Program;
 use tick_lower::lower;
 use tick_merge::{Shared, merge};

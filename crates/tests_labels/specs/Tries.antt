@@ -1,4 +1,4 @@
--- What threads that try to stamp are told, in the words of the one history.
+-- What threads that try to stamp are told, as statements about the one history.
 use Rattle.std.specs.Prelude.{◌≡◌, ℕ, suc, ◌<◌, List, [], ◌∷◌, slice_index}
 use Rattle.word_core.specs.History.{Memory, memory_of, IsLegal}
 use Rattle.word_core.specs.declared.history.Shared.{Shared}

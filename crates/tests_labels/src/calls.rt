@@ -1,5 +1,5 @@
-//! A client of `stamp_calls`, which stands on its contracts alone: a queue, a lock that lets in whoever
-//! came first, and threads that stamp and try to stamp. The tests of `stamp_calls` stand here.
+//! A client of `stamp_calls` that is proved from its contracts alone: a queue, a lock that serves in order of
+//! tickets, and threads that stamp and try to stamp. The tests of `stamp_calls` stand here.
 
 mod lock;
 #[cfg(test)]

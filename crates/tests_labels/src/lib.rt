@@ -1,7 +1,8 @@
-//! Labels, the word that packs them, and the tables and calls that threads stamp through.
+//! `tests_labels` tests labels, the word that packs them, and the tables and calls that threads stamp with.
 //!
-//! Start with `word`, which has labels, words and tickets beside a second implementation; `table` has
-//! threads that try to stamp, and `calls` threads that stamp, wait in a queue or share a lock.
+//! `word` compares labels, words and tickets with a second implementation. In `table` threads try to stamp.
+//! In `calls` threads stamp, wait in a queue or share a lock.
+//! Start with `word`.
 #![tactic(auto)]
 
 pub mod calls;

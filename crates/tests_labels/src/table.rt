@@ -1,5 +1,5 @@
-//! A client of `stamp_table`, which stands on its contracts alone: threads that try to stamp, each a
-//! given number of times. What each of them was told is what one legal history says of it.
+//! A client of `stamp_table` that is proved from its contracts alone: threads that try to stamp, each a given
+//! number of times. What the threads were told agrees with one legal history.
 
 #[cfg(test)]
 mod tests;

@@ -1,7 +1,8 @@
-//! What no command shows of programs: tokens and names as values, and the machine on tickets, step by step.
+//! `tests_language` tests what no command shows of programs: tokens, names, and the machine on tickets.
 //!
-//! Start with `syntax` for tokens and printing, and with `machine` for kinds, registers and steps. What
+//! `syntax` tests tokens and printing. `machine` tests kinds, registers, and the machine step by step. What
 //! commands answer on programs stands in `answers/`.
+//! Start with `syntax`.
 #![tactic(auto)]
 
 #[cfg(test)]

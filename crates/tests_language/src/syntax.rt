@@ -1,4 +1,4 @@
-//! Tests of `tick_syntax`, apart from it: what no command shows.
+//! Tests of `tick_syntax`: what no command shows.
 //!
 //! Start with `tokens`.
 

@@ -1,6 +1,7 @@
-//! Pictures of runs and of labels: their marks and frames, and the texts that they are drawn as.
+//! `tests_pictures` tests pictures of runs and of labels: their marks and frames, and their texts.
 //!
-//! Start with `of_runs` for programs and codes under a schedule, and with `of_labels` for labels.
+//! `of_runs` tests pictures of programs and codes under a schedule, and `of_labels` pictures of labels.
+//! Start with `of_runs`.
 #![tactic(auto)]
 
 #[cfg(test)]

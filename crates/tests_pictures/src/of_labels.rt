@@ -1,8 +1,8 @@
-//! Tests of `label_draw`: whole pictures, labels and order by hand and by `LabelWord`'s own calls, and
-//! that each picture is well-formed.
+//! Tests of `ticklab_labels`: whole pictures, labels and orders against rows written by hand and against the
+//! calls of `LabelWord`, and that each picture is well-formed.
 //!
-//! Start with `rows`, and `pictures` for the texts. Where a growth is refused, a call is made once
-//! more, so that the tests pass too where any one growth of such a call is refused.
+//! A call whose memory was refused is made once more. So the tests also pass if any one growth of such a call
+//! is refused. Start with `rows`, and with `pictures` for the texts.
 
 mod asking;
 mod markup;

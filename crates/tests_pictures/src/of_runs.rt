@@ -1,4 +1,4 @@
-//! Tests of `tick_draw`: marks of whole runs, and pictures as texts.
+//! Tests of `ticklab_draw`: marks of whole runs, and pictures as texts.
 //!
 //! Start with `runs`; `programs` has the texts.
 

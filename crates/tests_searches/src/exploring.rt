@@ -1,4 +1,4 @@
-//! Tests of what a watch is told of an exploring. How many states programs have, and which schedules trap,
+//! Tests of what a watch is told of an exploration. How many states programs have, and which of them trap,
 //! stands in `answers/states.txt`.
 
 mod watching;

@@ -1,4 +1,4 @@
-//! Tests of hunts: programs with a fault are caught, what is found is minimal, and the same plan has the same
+//! Tests of hunts: faults of programs are found, each by a minimal schedule, and the same plan has the same
 //! answer. Hunts that find nothing stand in `answers/ticklab_hunt.txt`.
 //!
 //! Start with `finds`; `programs` has the texts.

@@ -1,8 +1,9 @@
-//! The search for a shortest way, what a watch of an exploring is told, and the hunt through random
-//! schedules.
+//! `tests_searches` tests the search for a shortest schedule, and the hunt through random schedules.
 //!
-//! Start with `searching` for small machines whose answers are known, and with `hunting` for programs;
-//! `examples` has texts. What is explored of programs stands in `answers/states.txt`.
+//! `searching` has small machines whose answers are known. `exploring` tests what a watch is told of an
+//! exploration. `hunting` tests hunts through programs. `examples` has texts of programs. What `explore`
+//! answers on programs stands in `answers/states.txt`.
+//! Start with `searching`.
 #![tactic(auto)]
 
 #[cfg(test)]

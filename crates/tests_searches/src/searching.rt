@@ -1,4 +1,4 @@
-//! Tests of the search on small machines, beside answers of a second, slow one and answers that are known.
+//! Tests of the search on small machines, against a second, slow search and against known answers.
 
 mod dial;
 mod jugs;

@@ -1,16 +1,16 @@
-//! Tests of `tick_explain` against the parser; whole reports are rows of `answers/`.
+//! Tests of `ticklab_explain` against the parser; whole reports are rows of `answers/`.
 //!
-//! What is told to be expected is all that the parser takes there: after each token of a program each
-//! token of the language is put, and the words of the report are held against what the parser says.
-//! Where a growth is refused, a call is made once more.
+//! A report says which tokens may stand at its place, and these are all that the parser takes there. To test
+//! this, each token of the language is put after each token of a program, and the report is compared with
+//! what the parser says. A call whose memory was refused is made once more.
 
 use base::NoMemory;
 use std::alloc::Global;
 use std::str;
 use std::test::Fail;
-use testing::holds;
-use tick_explain::explain_program;
+use tests_shared::holds;
 use tick_syntax::{TextFault, parse, tokens};
+use ticklab_explain::explain_program;
 
 fn of_program(alloc: Global, name: &str, input: &[u8]) -> Result<Option<Vec<u8>>, NoMemory> {
     match explain_program(alloc, name, input) {

@@ -1,6 +1,7 @@
-//! What `ticklab` tells of a text and of a schedule: what may come after a token, and each step of both machines.
+//! `tests_telling` tests what `ticklab` says of texts and of schedules.
 //!
-//! Start with `explaining` for refusals, and with `tracing` for steps.
+//! `explaining` tests which tokens a refusal says may stand next. `tracing` tests each step of both machines.
+//! Start with `explaining`.
 #![tactic(auto)]
 
 #[cfg(test)]

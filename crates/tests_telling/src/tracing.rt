@@ -1,5 +1,5 @@
-//! Tests of `tick_trace`: where statements stand, and each step against the machines. Whole traces are rows of
-//! `answers/`.
+//! Tests of `ticklab_trace`: where statements stand, and each step against the machines. Whole traces are rows
+//! of `answers/`.
 //!
 //! Start with `events`.
 

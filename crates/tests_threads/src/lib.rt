@@ -1,6 +1,8 @@
-//! Runs of codes on threads, the tallies of many runs, and the histories that are merged to a schedule.
+//! `tests_threads` tests runs of codes on threads, tallies of many runs, and merged histories.
 //!
-//! Start with `runs`; `tallying` counts the outcomes of runs, and `merging` has histories by hand.
+//! `runs` runs codes on threads. `tallying` counts the outcomes of runs. `merging` has histories written by
+//! hand, which are merged to a schedule.
+//! Start with `runs`.
 #![tactic(auto)]
 
 #[cfg(test)]

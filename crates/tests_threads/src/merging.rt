@@ -1,5 +1,5 @@
-//! Tests of merged histories: the rows, every kind of step, each beginning and each bent step of a
-//! history, and a long one.
+//! Tests of merged histories: rows, a history with every kind of step, all its beginnings, changes of each of
+//! its steps, and a long history.
 
 mod bent;
 mod long;

@@ -1,5 +1,5 @@
-//! Tests of runs on threads: what each process gives out and how it ends, that workers are under way
-//! at the same time, and that a thread that is refused is told.
+//! Tests of runs on threads: what each process gives out and how it ends, that workers run at the same time,
+//! and that a run with a refused thread says so.
 
 mod alone;
 mod before_steps;

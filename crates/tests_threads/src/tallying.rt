@@ -1,6 +1,7 @@
-//! Tests of tallies: what is counted, and that each text is that of an outcome which may come.
+//! Tests of tallies: what is counted, and that each text is that of a possible outcome.
 //!
-//! Start with `alone`; `tallies` makes them of the texts of programs, and `scripted` counts runs whose outcomes are known.
+//! Start with `alone`; `tallies` makes tallies of programs that are given as texts, and `scripted` counts
+//! runs whose outcomes are known.
 
 mod alone;
 mod racing;

@@ -1,8 +1,8 @@
-//! Tests of the library `engine`: of what no command line of the built program shows.
+//! Tests of the library `ticketc_answers`: what no clause says, and no command line of the built program shows.
 //!
-//! What no clause says stands here: what ends that fail make of a command, and words that no host
-//! gives. Start with `answering`, over which the others stand. What each command answers stands in
-//! `answers/`, as rows that the built program is asked.
+//! The tests show what a command does if its reader or writer fails, and have words that no host gives. Start
+//! with `answering`, which the other files use. What each command answers stands in `answers/`, as rows that
+//! the built program is asked.
 
 mod answering;
 mod disturbed;

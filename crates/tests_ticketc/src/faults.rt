@@ -1,5 +1,4 @@
-//! Tests of what faults are as texts: no clause says it, and whoever calls a library shows it to
-//! people.
+//! Tests of the texts of faults: no clause says them, and callers of a library show them to people.
 //!
 //! Start with the file that is named by what makes the fault; `told` has what they share.
 

@@ -1,8 +1,7 @@
-//! Tests of standard input and output as ends.
+//! Tests of `HostReader` and `HostWriter`: what no clause says.
 //!
-//! What no clause says stands here: that words are answered where memory is left, that a call of an
-//! end is one call of the host, and that each kind of error but an interruption ends the program.
-//! Start with `ends`, over which the others stand.
+//! Words are answered where memory is left. A call of the reader or the writer is one call of the host. Each
+//! kind of error except an interruption ends the program. Start with `ends`, which the other files use.
 
 mod ends;
 mod failing;

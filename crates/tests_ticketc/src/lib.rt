@@ -1,7 +1,8 @@
-//! `ticketc`: what its commands make of ends that fail, what its ends over the host do, and the texts of all
-//! faults. What its commands answer stands in `answers/`.
+//! `tests_ticketc` tests what no `ticketc` command line shows: failing readers and writers, and fault texts.
 //!
-//! Start with `commands`; `host` has standard input and output as ends, and `faults` the texts.
+//! `commands` serves command lines over readers and writers that fail. `host` tests `HostReader` and
+//! `HostWriter`. `faults` has the texts of all faults. What commands answer stands in `answers/`.
+//! Start with `commands`.
 #![tactic(auto)]
 
 #[cfg(test)]

@@ -1,11 +1,12 @@
-//! The calls over an input of one name, made once more where memory was refused, and answers whole.
-use lab_answers::AnswerFault::NoMemory;
-use lab_answers::{AnswerFault, Response, explored, explored_merged, labelled};
+//! The calls on an input whose file has a fixed name, made once more where memory was refused; and whole
+//! answers.
+use searches_explore::Watch;
 use std::alloc::Global;
 use std::str;
 use std::test::Fail;
-use testing::is_same;
-use tick_explore::Watch;
+use tests_shared::is_same;
+use ticklab_answers::AnswerFault::NoMemory;
+use ticklab_answers::{AnswerFault, Response, explored, explored_merged, labelled};
 
 pub type Answered = Result<Response, AnswerFault>;
 

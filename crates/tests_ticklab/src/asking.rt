@@ -1,7 +1,7 @@
 // A command line as the program gets it.
-use lab_line::{Line, asked};
 use std::alloc::{AllocError, Global};
 use std::test::Fail;
+use ticklab_line::{Line, asked};
 
 /// The words after the program's name, each as a text of its own.
 pub fn words_of(alloc: Global, words: &[&str]) -> Result<Vec<String>, AllocError> {

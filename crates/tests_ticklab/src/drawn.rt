@@ -1,9 +1,9 @@
-//! The name of a file in a picture, where it would be markup.
-use lab_answers::{Response, drawn};
+//! A picture of a file whose name would be markup.
 use std::alloc::{AllocError, Global};
 use std::str;
 use std::test::Fail;
-use testing::{holds, is_same};
+use tests_shared::{holds, is_same};
+use ticklab_answers::{Response, drawn};
 
 static BOTH_INSIDE: &str = "\
 processes 2;

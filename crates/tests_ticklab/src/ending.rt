@@ -1,16 +1,16 @@
 //! How the program ends, over files, outputs and runs that are scripted: a row for each status.
 use base::RunOutcome;
 use code_core::Code;
-use lab_serving::{Files, Host, Progress, ended};
+use searches_explore::Watch;
 use std::alloc::{AllocError, Global};
 use std::env::Args;
 use std::io;
 use std::io::{Error, ErrorKind, Write};
 use std::process::ExitCode;
 use std::test::Fail;
-use testing::holds;
-use tick_explore::Watch;
+use tests_shared::holds;
 use tick_merge::{RunFault, Runner};
+use ticklab_serving::{Files, Host, Progress, ended};
 
 static FILES: [(&str, &[u8]); 6] = [
     ("out", b"processes 1; begin out 7; end"),

@@ -1,7 +1,8 @@
-//! `ticklab`: what its command lines ask for, and what no command line shows of its answers.
+//! `tests_ticklab` tests what `ticklab` command lines ask for, and what none of them shows of the answers.
 //!
-//! Start with `lines`, and with `ending` for how the program ends. The answers themselves are rows of
-//! `answers/`. Where a growth is refused, a call is made once more.
+//! `lines` has command lines with what they ask for, and `ending` tests how the program ends. The answers
+//! themselves are rows of `answers/`. A call whose memory was refused is made once more.
+//! Start with `lines`.
 #![tactic(auto)]
 
 #[cfg(test)]

@@ -1,7 +1,7 @@
 //! Command lines and what they ask for.
 use crate::asking::asked_for;
 use std::test::Fail;
-use testing::is_same;
+use tests_shared::is_same;
 
 static ASKED: [(&[&str], &str); 14] = [
     (

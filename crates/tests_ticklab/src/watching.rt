@@ -1,9 +1,9 @@
 //! What a watch is told of a search, and that it changes no answer.
 use crate::answering::{explored_of, is_answer, merged_of};
+use searches_explore::Watch;
 use std::alloc::Global;
 use std::test::Fail;
-use testing::is_same;
-use tick_explore::Watch;
+use tests_shared::is_same;
 
 /// What was told last, how often, and whether more each time.
 #[derive(Drop)]

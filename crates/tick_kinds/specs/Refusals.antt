@@ -1,4 +1,4 @@
--- Why a program is refused: each fault in order of the text. The first of them is the one that is told.
+-- Why a program is refused: each fault, in order of the text. The first fault is the one that is told.
 use Rattle.std.specs.Prelude.{ℕ, List, [], ◌∷◌, ◌++◌, Bool, true, false, ◌&&◌, Option, Some, None, is_some, if◌then◌else◌, nat_lt, nat_le}
 use Rattle.std.specs.List.{flat_map}
 use Rattle.tick_kinds.specs.declared.fault.KindFault.{KindFault}

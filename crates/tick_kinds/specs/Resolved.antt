@@ -1,4 +1,4 @@
--- The plain tree over numbers that a resolved tree is.
+-- The plain tree over numbers of a resolved tree that the code declares.
 use Rattle.std.specs.Prelude.{ℕ, List, [], ◌∷◌}
 use Rattle.tick_kinds.specs.declared.resolved.Expression as DeclaredExpression
 use Rattle.tick_kinds.specs.declared.resolved.Expression.TheVariants as E

@@ -1,5 +1,5 @@
--- Every number in a resolved block names something that is declared: a variable below the number of
--- variables, a scan below that of scans, a register row below that of rows.
+-- Every number in a resolved block names something that is declared: the number of a variable is below the
+-- number of variables, and so for scans and register rows.
 use Rattle.std.specs.Prelude.{ℕ, ◌<◌}
 use Rattle.base.specs.Plain.{Expression, number, named, me, count, binary, Statement, assign, get, put, stamp, clear, scan, copy, older, held, out, branch, repeat, Block, nil, cons}
 

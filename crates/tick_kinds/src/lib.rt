@@ -1,9 +1,9 @@
-//! Which programs are accepted, and each accepted program with its names resolved to numbers.
+//! `tick_kinds` decides which programs are accepted, and replaces the names of an accepted one by numbers.
 //!
-//! Start with `check`. It takes a tree and gives a `Program`, or the tree back with the first fault
-//! in order of the text. Contracts see a `Program` as the plain tree that it was made of, which is
-//! accepted; `resolved` is the same tree with each name replaced by its number in the section that
-//! declares it.
+//! `check` takes a tree. It gives a `Program`, or it gives the tree back with the first fault in order of the
+//! text. Contracts see a `Program` as the plain tree that it was made of, which is accepted. `resolved` is
+//! the same tree with each name replaced by its number in the section that declares it.
+//! Start with `check`.
 #![tactic(auto)]
 
 mod fault;

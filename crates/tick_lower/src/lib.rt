@@ -1,8 +1,9 @@
-//! The compiler: the step code that an accepted program becomes.
+//! `tick_lower` compiles an accepted program to step code.
 //!
-//! Start with `lower`. Contracts see the code as `lowered` of the resolved program, a recursion on
-//! its tree; `laws` says that every such code is verified. `commit` tells where a step of the
+//! Contracts see the code as `lowered` of the resolved program, a recursion on its tree. `laws` states that
+//! the code is verified unless it is too long. `commit` tells at which places of the code a step of the
 //! program ends.
+//! Start with `lower`.
 #![tactic(auto)]
 
 mod emitter;

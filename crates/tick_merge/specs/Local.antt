@@ -1,4 +1,4 @@
--- One process of a code by itself, where the answers to all that it asks for are given.
+-- One process of a code by itself, if the answers to all that it asks for are given.
 use Rattle.std.specs.Prelude.{◌≡◌, ℕ, zero, suc, List, [], ◌∷◌, ◌++◌, Option, Some, None}
 use Rattle.base.specs.declared.status.Status.TheVariants.{Running}
 use Rattle.base.specs.declared.event.Act.{Act}

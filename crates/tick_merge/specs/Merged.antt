@@ -1,5 +1,6 @@
--- The schedule that a history and a number of instructions for each process make: before each step of
--- the history what its process makes alone, then the step; after the history the rest of each process.
+-- The schedule that is made of a history and a number of instructions for each process. For each step of the
+-- history its process first makes the instructions that it makes alone, then the step. After the history each
+-- process makes the rest of its instructions.
 use Rattle.std.specs.Prelude.{◌≡◌, ℕ, zero, suc, ◌-◌, ◌<◌, List, [], ◌∷◌, ◌++◌, replicate, slice_get, slice_index, Option, Some, None}
 use Rattle.base.specs.declared.status.Status.{Status}
 use Rattle.base.specs.declared.status.Status.TheVariants.{Running}

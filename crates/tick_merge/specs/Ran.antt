@@ -1,4 +1,5 @@
--- What a run of a code does to what all processes share, and which turns its schedule gives.
+-- What a run of a code does to what all processes share, and how many instructions its schedule has for each
+-- process.
 use Rattle.std.specs.Prelude.{◌≡◌, ℕ, ◌==◌, if◌then◌else◌, List, [], ◌∷◌, ◌++◌, count_by, slice_get, Option, Some, None}
 use Rattle.std.specs.List.{filter}
 use Rattle.base.specs.declared.status.Status.{Status}

@@ -1,4 +1,4 @@
--- Where a history and numbers of instructions are no run of a code: the first place that counts.
+-- The first place at which a history and numbers of instructions are no run of a code.
 use Rattle.std.specs.Prelude.{◌≡◌, ◌⊎◌, ◌<◌, ◌≤◌, ℕ, List, [], ◌∷◌, ◌++◌, length, slice_index}
 use Rattle.word_core.specs.History.{memory_of, MayFollow, IsLegal}
 use Rattle.word_core.specs.declared.history.Shared.{Shared}

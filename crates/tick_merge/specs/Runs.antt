@@ -1,4 +1,4 @@
--- What a run on threads comes to: what one run of the code machine does.
+-- The outcome of a run on threads: it is the outcome of one run of the code machine.
 use Rattle.std.specs.Prelude.{◌≡◌, ◌<◌, ◌≤◌, ℕ, true, List, length, slice_get, Some}
 use Rattle.base.specs.declared.status.Status.TheVariants as S
 use Rattle.base.specs.declared.run_outcome.RunEnd.{RunEnd}

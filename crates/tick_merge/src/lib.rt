@@ -1,11 +1,11 @@
-//! A history that all processes of a code made together, as a schedule of the code: a run on threads is
-//! a run of the machine.
+//! `tick_merge` turns a history of all processes of a code into one schedule of the code.
 //!
-//! Start with `merge`. `specs/Local.antt` says what one process of a code does by itself, where the answers
-//! to all that it asks for are given: a history is put together from such runs. `laws` has what holds of
-//! each of them, and of every history; there a run on threads has its schedule without a call.
-//! `specs/Runs.antt` says what a run on threads comes to, and `OneRun` and `Runner` are what makes one, for
-//! callers that have no threads of their own.
+//! So a run on threads is a run of the machine. `specs/Local.antt` says what one process does by itself if
+//! all answers to it are given; a history is put together from such runs. `laws` states what holds of each
+//! such run and of every history. By these laws a run on threads has its schedule without a call of `merge`.
+//! `specs/Runs.antt` defines the outcome of a run on threads. `OneRun` and `Runner` are traits of what makes
+//! such runs, for callers without threads of their own.
+//! Start with `merge`.
 #![tactic(auto)]
 
 mod fault;

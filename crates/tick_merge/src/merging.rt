@@ -1,4 +1,4 @@
-// A history is gone through, and its processes are led from step to step.
+// Goes through a history, and leads its processes from step to step.
 
 ghost use Rattle.std.specs.Prelude.{◌≡◌, ◌<◌, ℕ, List, [], IfOk, IfErr, OnOk, length};
 ghost use Rattle.word_core.specs.History.{IsLegal, MayFollow};

@@ -1,4 +1,4 @@
-// One process: what it makes alone, and the step that it makes then.
+// One process: the instructions that it makes alone, and then its next step on what is shared.
 
 ghost use Rattle.std.specs.Prelude.{◌≡◌, ◌≤◌, ◌++◌, ◌↔◌, OnOk, IfOk, IsTrue, Some, replicate};
 ghost use Rattle.std.specs.Bool.{OnTrue};

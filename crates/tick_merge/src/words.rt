@@ -1,4 +1,4 @@
-// What all processes share while a history is gone through.
+// The label word and the registers while `merge` goes through a history.
 
 ghost use Rattle.std.specs.Prelude.{◌≡◌, ◌↔◌, ◌<◌, ◌≤◌, ℕ, length, IfOk, IsTrue};
 ghost use Rattle.base.specs.RegisterRows.{start_rows};

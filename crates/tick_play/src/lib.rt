@@ -1,8 +1,9 @@
-//! Runs told as texts; the texts of schedules are shown again here.
+//! `tick_play` writes what a run shows as a text.
 //!
-//! Start with `play_source` and `play_code` for the report of a whole run under a schedule. Both
-//! machines are told by the one report of what a run lets others see, and a run on threads, whose
-//! events have no known order, by `outcome_text`.
+//! `play_source` and `play_code` run a whole schedule and write the report of the run. Both write it by
+//! `report_of`. `outcome_text` writes the outcome of a run on threads, whose events have no known order. The
+//! calls of `language_schedules` are re-exported here.
+//! Start with `play_source` and `play_code`.
 #![tactic(auto)]
 
 mod lines;
@@ -11,7 +12,9 @@ mod play;
 mod report;
 
 pub use base::{NoMemory, Outcome, RunEnd, RunOutcome};
+pub use language_schedules::{
+    Move, ScheduleFault, laws, read_moves, read_schedule, write_schedule,
+};
 pub use outcome::outcome_text;
 pub use play::{play_code, play_source};
 pub use report::report_of;
-pub use schedule_text::{Move, ScheduleFault, laws, read_moves, read_schedule, write_schedule};

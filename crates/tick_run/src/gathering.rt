@@ -1,4 +1,4 @@
-// Workers are started, one for each process, and what they come back with is gathered.
+// Starts a worker for each process, and gathers what the workers come back with.
 
 ghost use Rattle.std.specs.Prelude.{◌≡◌, ◌≤◌, ◌<◌, ◌+◌, ◌++◌, ◌∷◌, [], IfOk, length, map, vec_len, vec_items, vec_capacity};
 ghost use Rattle.tick_run.specs.prover.Turns.{IsFor};

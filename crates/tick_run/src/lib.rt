@@ -1,8 +1,9 @@
-//! Runs a code with each of its processes on a thread of its own, over one table that they share.
+//! `tick_run` runs a code with each of its processes on a thread of its own, over one table that they share.
 //!
-//! Start with `run`. What each process did stands in one history of all; a `Gate` is told before
-//! each instruction that touches what is shared. `OnThreads` runs a code with nobody waiting, for
-//! callers that have no threads of their own: once as a `OneRun`, or once for each call as a `Runner`.
+//! The steps of all processes form one history. A `Gate` is called before each instruction that touches what
+//! is shared. `OnThreads` runs a code with gates at which nobody waits, for callers without threads of their
+//! own: once as a `OneRun`, or once for each call as a `Runner`.
+//! Start with `run`.
 #![tactic(auto)]
 
 mod gate;

@@ -1,8 +1,9 @@
-//! A program and its code under schedules: what each step of the one is in the other.
+//! `tick_sim` states that a program and its code show the same, and maps schedules of one to the other.
 //!
-//! Start with `laws`: whatever the code of a program shows under a schedule, the program shows
-//! under the schedule that `project` makes of it; and whatever the program shows, its code shows
-//! under the schedule that `expand` makes. Contracts see the two maps as `down` and `up`.
+//! Whatever the code of a program shows under a schedule, the program shows under the schedule that `project`
+//! makes of it. Whatever the program shows, its code shows under the schedule that `expand` makes. Contracts
+//! see the two maps as `down` and `up`.
+//! Start with `laws`.
 #![tactic(auto)]
 
 mod expansion;

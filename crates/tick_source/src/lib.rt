@@ -1,6 +1,8 @@
-//! A ticket program, run step by step on whole-number tickets under a schedule that is given.
+//! `tick_source` runs a program on tickets, step by step, under a given schedule.
 //!
-//! Start with `SourceMachine::new`, or with `run` for a whole schedule.
+//! A `SourceMachine` makes single steps, and `run` runs a whole schedule. `specs/Source.antt` says what a
+//! step does. Programs are those of `tick_kinds`, tickets those of `ticket_core`.
+//! Start with `SourceMachine::new`.
 #![tactic(auto)]
 
 mod machine;

@@ -1,4 +1,5 @@
--- The grammar: the tokens of a program, in their order. Tokens are a program where what they say is these.
+-- The grammar: the tokens of a program, in their order. A list of tokens is a program if it says exactly
+-- these.
 use Rattle.std.specs.Prelude.{◌≡◌, ℕ, List, [], ◌∷◌, ◌++◌}
 use Rattle.base.specs.declared.span.Span.{Span}
 use Rattle.tick_syntax.specs.declared.terminals.Terminal.{Terminal}

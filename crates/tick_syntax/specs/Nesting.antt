@@ -1,4 +1,4 @@
--- How deep brackets stand within one another.
+-- How deeply brackets are nested.
 use Rattle.std.specs.Prelude.{ℕ, suc, ◌-◌, ◌≤◌, List, [], ◌∷◌, max}
 use Rattle.tick_syntax.specs.declared.terminals.Terminal.TheVariants as T
 use Rattle.tick_syntax.specs.Lexeme.{Lexeme, a_terminal}

@@ -1,4 +1,4 @@
--- Which program a text is, and what it is to print a program so that it reads back.
+-- Which program a text is, and what it means that a printed program reads back.
 use Rattle.std.specs.Prelude.{◌≡◌, ℕ, List}
 use Rattle.tick_syntax.specs.declared.token.Token.{Token}
 use Rattle.tick_syntax.specs.Grammar.{Derives}

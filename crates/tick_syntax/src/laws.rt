@@ -1,4 +1,4 @@
-// What holds of texts and programs at large.
+// What holds of all texts and all programs.
 ghost use Rattle.tick_syntax.specs.Decided.{OneProgram, OneRefusal, NeverBoth, NeverNeither};
 ghost use Rattle.tick_syntax.specs.RoundTrip.{PrintedReadsBack, PrintedStays, SpansDoNotShow};
 

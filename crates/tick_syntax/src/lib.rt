@@ -1,6 +1,8 @@
-//! The text form of a ticket program: its tokens, its grammar and its tree.
+//! `tick_syntax` reads the text of a program into its tree, and prints a tree as a text.
 //!
-//! Start with `parse`, from a text to its tree, and `print`, back to the one printed text.
+//! `tokens` gives the tokens of a text, `parse` its tree, and `print` the one printed text of a tree.
+//! `specs/Grammar.antt` has the grammar.
+//! Start with `parse` and `print`.
 #![tactic(auto)]
 
 mod characters;

@@ -1,5 +1,5 @@
--- The ticket object in whole numbers: a list with one ticket a process, without bound; who holds none
--- has 0.
+-- The ticket object in whole numbers: a list with one ticket for each process, without bound. A process that
+-- holds none has ticket 0.
 use Rattle.std.specs.Prelude.{ℕ, ◌+◌, Bool, nat_lt, max, List, [], ◌∷◌, map, replicate, count_by, slice_index, slice_set}
 use Rattle.ticket_core.specs.declared.moves.Move.{Move}
 use Rattle.ticket_core.specs.declared.moves.Move.TheVariants.{Stamp, Clear}

@@ -1,8 +1,8 @@
-//! The ticket object in plain numbers: each process holds a ticket or none, which is ticket 0; a
-//! stamp takes one above the greatest, a clear gives it up, and two processes are in the order of
-//! their tickets. It is the model that bounded labels are measured against. It takes no memory and
-//! refuses nothing.
+//! `ticket_core` has the ticket object in whole numbers: the model that labels are measured against.
 //!
+//! Each process has a ticket, which is 0 if it holds none. A stamp takes the ticket one above the greatest,
+//! and a clear gives the ticket up. Two processes are in the order of their tickets. No call takes memory,
+//! and no call refuses.
 //! Start with `Tickets::new`.
 #![tactic(auto)]
 

@@ -1,14 +1,14 @@
-//! `ticketc` answers one command line from standard input to standard output, and ends with the
-//! status of its answer.
+//! `ticketc` answers one command line from standard input to standard output, and ends with a status.
 //!
-//! There is `main` alone; start with `ended` of `engine`, which does it all.
+//! There is only `main`. It calls `ended` of `ticketc_answers`, which does everything.
+//! Start with `ticketc_answers`.
 #![tactic(auto)]
 
-use byte_io::{HostReader, HostWriter};
-use engine::ended;
 use std::env::args;
 use std::process::ExitCode;
 use tick_run::OnThreads;
+use ticketc_answers::ended;
+use ticketc_io::{HostReader, HostWriter};
 
 fn main(rt: HostRuntime) -> ExitCode {
     ended(

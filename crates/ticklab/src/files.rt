@@ -1,11 +1,11 @@
 //! The files of the host, and standard input.
 ghost use Rattle.std.specs.Prelude.{◌≡◌, IfOk, IfSome, take};
 
-use lab_serving::Files;
 use std::alloc::Global;
 use std::fs::File;
 use std::io;
 use std::io::Read;
+use ticklab_serving::Files;
 
 /// Files by their names, as the host has them.
 #[derive(Drop)]

@@ -1,7 +1,8 @@
 //! `ticklab` shows what a ticket program does: under every schedule, under random ones, and step by step.
 //!
-//! There is `main` alone, and what it has of the host; start with `ended` of `lab_serving`, which does it
-//! all.
+//! There is only `main`, with the files of the host and the line that tells how far a search is. `main` calls
+//! `ended` of `ticklab_serving`, which does everything else.
+//! Start with `ended` of `ticklab_serving`.
 #![tactic(auto)]
 
 mod files;
@@ -9,10 +10,10 @@ mod progress;
 
 use crate::files::HostFiles;
 use crate::progress::HostProgress;
-use lab_serving::{Host, ended};
 use std::env::args;
 use std::process::ExitCode;
 use tick_run::OnThreads;
+use ticklab_serving::{Host, ended};
 
 fn main(rt: HostRuntime) -> ExitCode {
     ended(

@@ -1,9 +1,9 @@
 //! How far a search is, told on standard error where that is a terminal.
 ghost use Rattle.std.specs.Prelude.{◌≡◌, false};
 
-use lab_serving::Progress;
+use searches_explore::Watch;
 use std::io::IsTerminal;
-use tick_explore::Watch;
+use ticklab_serving::Progress;
 
 /// A line that is written over while the search goes on.
 #[derive(Drop)]

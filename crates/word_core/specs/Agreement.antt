@@ -1,4 +1,4 @@
--- Labels that stand for tickets.
+-- When labels agree with tickets, and when they stand for them.
 use Rattle.std.specs.Prelude.{◌≡◌, ◌≢◌, ℕ, ◌<◌, List, true}
 use Rattle.ticket_core.specs.Tickets.{ticket_ranks, older_ticket, holds_ticket}
 use Rattle.word_core.specs.Stamps.{Labels, label_at, is_present}

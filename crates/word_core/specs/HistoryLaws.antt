@@ -1,4 +1,4 @@
--- What every legal history keeps.
+-- What holds of every history, and of every legal one.
 use Rattle.std.specs.Prelude.{◌≡◌, ◌≤◌, ◌↔◌, ℕ, List, [], ◌∷◌, ◌++◌}
 use Rattle.word_core.specs.Stamps.{Labels}
 use Rattle.word_core.specs.Packed.{AreLabels, word}

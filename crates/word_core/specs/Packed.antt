@@ -1,5 +1,5 @@
--- The labels of all processes as one number: each label, read as a number in base 3, in a byte of its
--- own, that of process 0 lowest; and from bit 48 on a bit for each process, set where it is present.
+-- The labels of all processes as one number. Each label is read as a number in base 3, and has a byte of its
+-- own; that of process 0 is lowest. From bit 48 on there is a bit for each process, set if it is present.
 use Rattle.std.specs.Prelude.{◌≡◌, ℕ, ◌+◌, ◌-◌, ◌*◌, ◌^◌, Option, None, Some, List, [], ◌∷◌, length, All, IfSome}
 use Rattle.label_core.specs.Labels.{IsLabel, label_number}
 use Rattle.word_core.specs.Stamps.{Labels}

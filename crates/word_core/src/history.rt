@@ -1,4 +1,4 @@
-// What threads do to a shared word and to shared registers, told one step after the other.
+// Steps of threads on the shared label word and registers, one after the other.
 
 /// One step on shared words: whose it is, and what it did and found.
 #[derive(Clone, Copy, PartialEq, Eq, Debug)]

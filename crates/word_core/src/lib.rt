@@ -1,9 +1,10 @@
-// The labels of all processes packed into one 64-bit word: how a stamp and a clear change it, and the
-// order of the processes in it. It takes no memory and refuses nothing.
-//
-// Contracts see a `LabelWord` as a list with a label for each process that is present, and none for
-// one that is absent; how they are packed is told by `bits`, `read` and `clear_mask` alone. `laws` has
-// what holds of every list of stamps and clears: the labels stand for the whole-number tickets.
+//! `word_core` packs the labels of all processes into one 64-bit word, with its stamps, clears and order.
+//!
+//! Contracts see a `LabelWord` as a list, with a label for each process that is present and none for one that
+//! is absent. Beside laws, only `bits`, `read`, `from_bits` and `clear_mask` tell how labels are packed.
+//! `laws` states that after any stamps and clears the labels stand for the tickets. `history` has the steps
+//! on what threads share. No call takes memory.
+//! Start with `LabelWord::start`.
 #![tactic(auto)]
 
 pub mod history;

@@ -1,4 +1,5 @@
--- Blocks as trees of numbers, and back: by it a proof tells apart the blocks that a model has as its value.
+-- Blocks coded as trees of numbers, and read back. By this coding a proof tells apart the blocks that are the
+-- value of a model.
 use base.Stored.{Gv, gnil, gnum, gcons, Coded, num}
 use Rattle.std.specs.Prelude.{◌≡◌, ℕ, List, [], ◌∷◌, ◌==◌, if◌then◌else◌, refl}
 use Rattle.std.proofs.Common.{ap, sym, ◌∙◌}

@@ -1,4 +1,4 @@
--- What the words of a code are known to be.
+-- What is known of the words of a code.
 use Rattle.std.specs.Prelude.{◌≡◌, ℕ, ◌/◌, ◌%◌, ◌≤◌, ◌<◌, All, List, ◌++◌, length, take, drop}
 use Rattle.code_core.specs.declared.instr.Instr.{Instr}
 use Rattle.code_core.specs.declared.instr.Instr.TheVariants as I

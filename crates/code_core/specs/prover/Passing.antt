@@ -1,4 +1,4 @@
--- What a pass over the places of a code keeps.
+-- The invariant of a pass over the places of a code.
 use Rattle.std.specs.Prelude.{◌≡◌, ℕ, ◌≤◌, ◌<◌, List, [], ◌++◌, length, map, drop, slice_get, slice_set, Option, Some, None}
 use Rattle.code_core.specs.declared.instr.Instr.{Instr}
 use Rattle.code_core.specs.Instructions.{CodeSizes}

@@ -1,4 +1,4 @@
--- How a process is held.
+-- The process that a `Proc` holds.
 use Rattle.std.specs.Prelude.{◌≡◌, ◌<◌, ◌≤◌, ℕ, List, length, reverse}
 use Rattle.std.specs.Bool.{OnTrue}
 use Rattle.std.specs.Vec.{vec_capacity}

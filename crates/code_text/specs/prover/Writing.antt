@@ -1,4 +1,4 @@
--- What stands after the name of an instruction.
+-- The operands that stand after the name of an instruction.
 use Rattle.std.specs.Prelude.{ℕ, List, [], ◌++◌, codes}
 use Rattle.std.specs.Fmt.{decimal}
 use Rattle.base.specs.Operators.{sign}

@@ -1,4 +1,4 @@
--- What a step asks of the rule, and what it tells the one who makes it.
+-- What a step has to satisfy by the rule, and what it tells its caller.
 use Rattle.std.specs.Prelude.{◌≡◌, ℕ, Bool, true, false, cond, List, [], slice_index, slice_set}
 use Rattle.atomic_table.specs.Table.{Me}
 use Rattle.word_core.specs.History.{memory_of, after, MayFollow, IsLegal}

@@ -1,5 +1,5 @@
-//! Each call that takes memory. Where a growth was refused it is asked once more, so that these tests
-//! also pass where any one growth of such a call is refused: no answer changes in place of the error.
+//! The calls that take memory. A call whose memory was refused is made once more. So these tests also pass if
+//! any one growth of such a call is refused: the call then gives the error, and never another answer.
 ghost use Rattle.std.specs.Prelude.{◌≡◌, ◌<◌, length, IfOk, All};
 ghost use Rattle.code_machine.specs.Machine.{code_start};
 ghost use Rattle.code_machine.specs.Process.{IsOf};

@@ -6,7 +6,7 @@ use crate::stepping::codes::code_of;
 use code_machine::{Act, Advance, Code, Event, Instr, Op, Proc, Status};
 use std::alloc::{AllocError, Global};
 use std::test::Fail;
-use testing::{holds, is_same};
+use tests_shared::{holds, is_same};
 
 const DID: [Event; 2] = [
     Event {

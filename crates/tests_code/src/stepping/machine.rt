@@ -5,7 +5,7 @@ use crate::stepping::codes::{GIVES_SEVEN, STAMPS_AND_COMPARES, code_of};
 use crate::stepping::outcomes::is_outcome;
 use code_machine::{Act, CodeMachine, Event, Instr, Made, NoMemory, Status};
 use std::test::Fail;
-use testing::{holds, is_same};
+use tests_shared::{holds, is_same};
 
 fn event(process: u8, act: Act) -> Event {
     Event { process, act }

@@ -4,7 +4,7 @@ use crate::stepping::answers::process_of;
 use crate::stepping::codes::{GIVES_SEVEN, code_of};
 use code_machine::{Act, Advance, Ask, Code, Event, Instr, Proc, Reply};
 use std::test::Fail;
-use testing::is_same;
+use tests_shared::is_same;
 
 const PUTS_ITS_NUMBER: [Instr; 3] = [Instr::Me, Instr::Put(0), Instr::Halt];
 

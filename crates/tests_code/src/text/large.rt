@@ -3,7 +3,7 @@ use code_core::CodeFault::{BadJump, BadLine, FallsOff, TooLong};
 use code_core::Instr::{Halt, Jump, Push};
 use code_core::{CodeFault, Instr};
 use std::test::Fail;
-use testing::{holds, is_same, repeated};
+use tests_shared::{holds, is_same, repeated};
 
 const SIZES: &str = "tickcode 2 1 0 0 0\n";
 

@@ -1,7 +1,7 @@
 use crate::text::answers::read;
 use code_core::CodeFault::BadLine;
 use std::test::Fail;
-use testing::holds;
+use tests_shared::holds;
 
 // Texts that commands read as programs, since they don't begin with the nine bytes of a code. Here their
 // first line is bad.

@@ -8,7 +8,7 @@ use code_core::Instr::{
 };
 use std::str;
 use std::test::Fail;
-use testing::{holds, is_same};
+use tests_shared::{holds, is_same};
 
 // Each instruction and each operator, with numbers of one digit and more.
 const EVERY: &str = "tickcode 2 6 64 16 8

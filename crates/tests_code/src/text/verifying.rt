@@ -9,7 +9,7 @@ use code_core::Instr::{
 };
 use code_core::{CodeFault, Instr, Sizes};
 use std::test::Fail;
-use testing::{holds, is_same};
+use tests_shared::{holds, is_same};
 
 // Processes, variables, scans and register rows, and whether a code can have them.
 static SIZES: [(u8, u8, u8, u8, bool); 10] = [

@@ -1,4 +1,4 @@
-//! The words that a code is kept in, and the instructions that they say.
+//! The words that keep a code, and the instructions that they stand for.
 use crate::text::answers::{sizes_of, verified};
 use base::Op;
 use code_core::Instr;
@@ -6,7 +6,7 @@ use code_core::Instr::{
     Bin, Copy, Get, Halt, Jump, JumpZero, Load, Me, Older, Out, Push, Put, Scan, Store,
 };
 use std::test::Fail;
-use testing::is_same;
+use tests_shared::is_same;
 
 // Instructions, the words that keep them, and the values that they push.
 static KEPT: [(&[Instr], &[u32], &[u32]); 2] = [

@@ -8,7 +8,7 @@ use std::sync::atomic::AtomicU64;
 use std::sync::atomic::Ordering::SeqCst;
 use std::test::Fail;
 use std::thread::Threads;
-use testing::{is_same, on_threads};
+use tests_shared::{is_same, on_threads};
 
 // A count that a process read is lost where another comes in between.
 #[test]

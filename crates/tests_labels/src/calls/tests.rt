@@ -5,7 +5,7 @@ use stamp_calls::{Caller, Order, Tried, clear, read, scan, stamp, try_stamp, wri
 use stamp_table::{StampTable, open};
 use std::sync::Wait;
 use std::test::Fail;
-use testing::{holds, is_same};
+use tests_shared::{holds, is_same};
 
 // Two callers stamp in turn: the order after both.
 fn both_stamp<R: Wait>(rt: &R, table: &StampTable, first: &mut Caller, second: &mut Caller) -> Order

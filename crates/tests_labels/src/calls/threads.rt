@@ -6,7 +6,7 @@ use stamp_table::{OpenFault, Pass, StampTable, open};
 use std::alloc::{AllocError, Global};
 use std::sync::Wait;
 use std::thread::Threads;
-use testing::on_threads;
+use tests_shared::on_threads;
 
 /// What a process does, over and over.
 #[derive(Clone, Copy, PartialEq, Eq, Debug)]

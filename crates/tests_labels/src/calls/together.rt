@@ -1,4 +1,4 @@
-//! Threads that work on one table, one for each process.
+//! Threads on one table, one for each process.
 ghost use Rattle.std.specs.Prelude.{◌≡◌, ◌≤◌, ◌<◌, IfOk, length};
 
 use crate::calls::threads::{Work, all_work, holds_all, meet_in_pairs};
@@ -8,7 +8,7 @@ use stamp_table::{Final, Pass, StampTable};
 use std::sync::Wait;
 use std::test::Fail;
 use std::thread::Threads;
-use testing::{holds, is_same};
+use tests_shared::{holds, is_same};
 
 // How often each process won. After each stamp nobody else held a newer ticket.
 fn wins(done: &[Worked], n: u8, count: u32) -> Result<[u32; 6], Fail> {

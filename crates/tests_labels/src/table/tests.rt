@@ -8,7 +8,7 @@ use stamp_table::{Pass, StampTable, Swap, open};
 use std::alloc::Global;
 use std::test::Fail;
 use std::thread::Threads;
-use testing::{holds, is_same};
+use tests_shared::{holds, is_same};
 use word_core::LabelWord;
 
 // Bits with two processes, and whether they are a word: no process present, the first, both, the first

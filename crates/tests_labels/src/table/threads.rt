@@ -5,7 +5,7 @@ use crate::table::trying::{Tried, tries};
 use stamp_table::{Final, OpenFault, Pass, open};
 use std::alloc::{AllocError, Global};
 use std::thread::Threads;
-use testing::on_threads;
+use tests_shared::on_threads;
 
 /// What stood there in the end, and how many tries of each process won.
 #[derive(Drop)]

@@ -1,10 +1,10 @@
-//! A word and tickets beside what they should be.
+//! Compares a word and tickets with what they should be.
 ghost use Rattle.std.specs.Prelude.{◌<◌, length};
 
 use crate::word::plain::{Digits, Plain};
 use label_core::Label;
 use std::test::Fail;
-use testing::{holds, is_same};
+use tests_shared::{holds, is_same};
 use ticket_core::Tickets;
 use word_core::LabelWord;
 

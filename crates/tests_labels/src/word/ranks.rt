@@ -2,7 +2,7 @@ ghost use Rattle.std.specs.Prelude.{◌<◌, IsTrue, length};
 ghost use Rattle.word_core.specs.Agreement.{Agrees};
 
 use std::test::Fail;
-use testing::holds;
+use tests_shared::holds;
 use ticket_core::Tickets;
 use word_core::LabelWord;
 use word_core::laws::law_agreement;

@@ -1,7 +1,7 @@
-//! Which bits are a word: each number of processes, and each word that is one but for a bit.
+//! Which bits are a word: for each number of processes, and for words with one bit changed.
 use crate::word::plain::Plain;
 use std::test::Fail;
-use testing::{holds, is_same};
+use tests_shared::{holds, is_same};
 use ticket_core::Move;
 use word_core::LabelWord;
 

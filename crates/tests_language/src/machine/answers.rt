@@ -1,5 +1,5 @@
-//! Each call of the source machine that takes memory. Where a growth was refused it is asked once more,
-//! so that a test of these also passes where any one growth of such a call is refused.
+//! The calls of the source machine that take memory. A call whose memory was refused is made once more. So a
+//! test of these calls also passes if any one growth of such a call is refused.
 ghost use Rattle.std.specs.Prelude.{◌≡◌, ◌<◌, length, IfOk};
 ghost use Rattle.std.specs.List.{All};
 ghost use Rattle.tick_kinds.specs.Resolution.{resolved};

@@ -1,7 +1,7 @@
 use base::span::Span;
 use base::tree::Tree;
 use std::test::Fail;
-use testing::{accepted, holds, is_same};
+use tests_shared::{accepted, holds, is_same};
 use tick_kinds::resolved::Statement;
 use tick_kinds::{Kind, KindFault, Program, check};
 use tick_syntax::parse;

@@ -1,6 +1,6 @@
 use base::{Registers, set_at};
 use std::test::Fail;
-use testing::is_same;
+use tests_shared::is_same;
 
 #[test]
 fn holds_registers(rt: HostRuntime) -> Result<(), Fail> {

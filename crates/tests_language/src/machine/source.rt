@@ -2,7 +2,7 @@ ghost use Rattle.std.specs.Prelude.{◌≡◌, ◌<◌, length};
 
 use crate::machine::answers::{machine_of, outcome_of, step_often};
 use std::test::Fail;
-use testing::{accepted, holds, is_same};
+use tests_shared::{accepted, holds, is_same};
 use tick_play::read_schedule;
 use tick_source::{Act, Event, NoMemory, SourceMachine, Status};
 

@@ -1,5 +1,5 @@
 use std::test::Fail;
-use testing::is_same;
+use tests_shared::is_same;
 use tick_syntax::{parse, print};
 
 // Texts with more processes than there may be, as they are printed.

@@ -1,7 +1,7 @@
 use base::span::Span;
 use std::alloc::Global;
 use std::test::Fail;
-use testing::is_same;
+use tests_shared::is_same;
 use tick_syntax::token::{Sort, Token};
 use tick_syntax::tokens;
 

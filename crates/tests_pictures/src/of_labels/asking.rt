@@ -1,13 +1,13 @@
 //! The calls, made once more where memory was refused.
 
 ghost use Rattle.std.specs.Prelude.{◌≤◌, ◌<◌, ◌+◌, All, IfOk, length, vec_len};
-ghost use Rattle.schedule_text.specs.Moves.{mover};
+ghost use Rattle.language_schedules.specs.Moves.{mover};
 
 use base::NoMemory;
-use label_draw::{Frame, MOST_MOVES, frames, write_frames};
-use schedule_text::{Move, ScheduleFault, read_moves};
+use language_schedules::{Move, ScheduleFault, read_moves};
 use std::alloc::Global;
 use std::test::Fail;
+use ticklab_labels::{Frame, MOST_MOVES, frames, write_frames};
 
 /// The moves that a text spells.
 pub fn moves_of(alloc: Global, n: u8, text: &str) -> Result<Vec<Move>, Fail>

@@ -2,11 +2,11 @@
 
 use crate::of_labels::asking::{drawn, picture_of, told};
 use crate::of_labels::pictures::PICTURES;
-use label_draw::Frame;
-use schedule_text::Move;
+use language_schedules::Move;
 use std::alloc::Global;
 use std::test::Fail;
-use testing::{holds, is_same};
+use tests_shared::{holds, is_same};
+use ticklab_labels::Frame;
 use word_core::LabelWord;
 
 #[test]

@@ -1,12 +1,13 @@
-//! Long lists of moves: each frame by `LabelWord`'s own calls, an element for each, and well-formed.
+//! Long lists of moves: each frame agrees with the calls of `LabelWord`, each has its element in the picture,
+//! and the picture is well-formed.
 ghost use Rattle.std.specs.Prelude.{◌<◌, ◌≤◌};
 
 use crate::of_labels::asking::{drawn, told};
 use crate::of_labels::markup::{count_of, is_well_formed};
-use schedule_text::Move;
+use language_schedules::Move;
 use std::alloc::Global;
 use std::test::Fail;
-use testing::{holds, is_same, repeated};
+use tests_shared::{holds, is_same, repeated};
 use word_core::LabelWord;
 
 static WALKS: [(u8, &str); 6] = [

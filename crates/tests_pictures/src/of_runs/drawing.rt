@@ -1,14 +1,14 @@
 //! The calls, made once more where memory was refused.
 
 use code_machine::Code;
-use schedule_text::read_schedule;
+use language_schedules::read_schedule;
 use std::alloc::Global;
 use std::str;
 use std::test::Fail;
-use testing::accepted;
-use tick_draw::{Mark, NoMemory, code_marks, marks, picture};
+use tests_shared::accepted;
 use tick_kinds::Program;
 use tick_lower::lower;
+use ticklab_draw::{Mark, NoMemory, code_marks, marks, picture};
 
 /// The marks of a program's run.
 pub fn marked(alloc: Global, program: &Program, schedule: &str) -> Result<Vec<Mark>, Fail> {

@@ -1,4 +1,4 @@
-//! Whether a text is markup whose tags are closed in turn.
+//! Whether a text is markup in which each tag is closed by its own name.
 
 use std::alloc::Global;
 use std::test::Fail;

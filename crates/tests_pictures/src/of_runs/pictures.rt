@@ -5,7 +5,7 @@ use crate::of_runs::markup::{is_closed, times};
 use crate::of_runs::programs::{COUNTED, DIVIDED, STAMPED, TWO_WORDS};
 use std::alloc::Global;
 use std::test::Fail;
-use testing::{holds, is_same};
+use tests_shared::{holds, is_same};
 
 // That a picture is closed markup with so many marks, and has these pieces.
 fn shows(alloc: Global, bytes: &[u8], marks: usize, pieces: &[&str]) -> Result<(), Fail> {

@@ -4,9 +4,9 @@ use crate::of_runs::drawing::{code_marked, marked};
 use crate::of_runs::programs::{DIVIDED, STAMPED, TWO_WORDS};
 use code_machine::{Act, Trap};
 use std::test::Fail;
-use testing::{accepted, is_same};
-use tick_draw::{Holdings, Mark, Sight};
+use tests_shared::{accepted, is_same};
 use tick_lower::lower;
+use ticklab_draw::{Holdings, Mark, Sight};
 
 fn mark(step: usize, process: u8, sight: Sight) -> Mark {
     Mark {

@@ -1,10 +1,10 @@
-//! How far a search is, as a watch is told it.
+//! What a watch is told of how far a search is.
 
 use crate::examples::{TICKET_COUNT, TWO_TICKETS};
+use searches_explore::{Explored, Watch, explore_watched};
 use std::alloc::Global;
 use std::test::Fail;
-use testing::{accepted, is_same};
-use tick_explore::{Explored, Watch, explore_watched};
+use tests_shared::{accepted, is_same};
 
 #[derive(Drop)]
 struct Told {

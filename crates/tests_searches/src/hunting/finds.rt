@@ -3,10 +3,10 @@
 use crate::examples;
 use crate::hunting::programs::{ALONE, SERVICE_WITH_FAULT, SIX};
 use crate::hunting::replay::{needs_all, traps};
+use searches_hunt::{Hunted, Mode, Plan, hunt};
 use std::alloc::Global;
 use std::test::Fail;
-use testing::{accepted, holds};
-use tick_hunt::{Hunted, Mode, Plan, hunt};
+use tests_shared::{accepted, holds};
 
 fn plan(mode: Mode, runs: u32) -> Plan {
     Plan {

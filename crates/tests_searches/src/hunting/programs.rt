@@ -1,4 +1,4 @@
-//! Programs with a property as a trap, with a fault and without.
+//! Programs that trap if a property fails, some with a fault and some without.
 
 /// Traps in whatever order, in the third step of any process.
 pub static ALONE: &str = "\

@@ -1,10 +1,10 @@
-//! The same plan has the same answer, and another seed or another mode goes other ways.
+//! The same plan has the same answer, and another seed or mode tries other schedules.
 
 use crate::examples::QUEUE_WITH_FAULT;
 use crate::hunting::programs::SERVICE_WITH_FAULT;
+use searches_hunt::{Hunted, Mode, Plan, hunt};
 use std::test::Fail;
-use testing::{accepted, holds, is_same};
-use tick_hunt::{Hunted, Mode, Plan, hunt};
+use tests_shared::{accepted, holds, is_same};
 
 fn plan(seed: u64, mode: Mode) -> Plan {
     Plan {

@@ -1,11 +1,11 @@
-//! What a schedule comes to, by the run of the whole program, and a schedule without one of its steps.
+//! Whether the whole program traps under a schedule, and under the schedule without one of its steps.
 ghost use Rattle.std.specs.Prelude.{◌<◌, length};
 ghost use Rattle.std.specs.List.{All};
 ghost use Rattle.tick_kinds.specs.Resolution.{resolved};
 
 use std::alloc::Global;
 use std::test::Fail;
-use testing::holds;
+use tests_shared::holds;
 use tick_kinds::Program;
 use tick_source::{Status, run};
 

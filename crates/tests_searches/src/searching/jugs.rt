@@ -1,12 +1,12 @@
-//! Two jugs, of three and of five: four is measured by six steps and no fewer, and five can't be had of two
-//! even ones.
+//! Two jugs that hold three and five: to measure four takes six steps and no fewer. Two jugs that hold even
+//! numbers never measure five.
 ghost use Rattle.std.specs.Prelude.{◌≡◌, ◌<◌, ◌≤◌, ◌==◌, ◌&&◌, ◌||◌, ℕ, Bool, nat_lt, if◌then◌else◌};
 ghost use Rattle.tests_searches.specs.Machines.{poured, nobody_else, same_jugs};
 
-use state_search::{Machine, NoMemory, Searched, search};
+use searches_states::{Machine, NoMemory, Searched, search};
 use std::alloc::Global;
 use std::test::Fail;
-use testing::{holds, is_same};
+use tests_shared::{holds, is_same};
 
 #[derive(Clone, Copy, Debug)]
 struct Jugs {

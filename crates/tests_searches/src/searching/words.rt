@@ -1,12 +1,12 @@
-//! A machine of many words a state.
+//! A machine whose states have many words.
 ghost use Rattle.std.specs.Prelude.{◌≡◌, ◌<◌, ◌≤◌, ℕ, Bool, true, false, List, length, nat_lt, if◌then◌else◌};
 ghost use Rattle.tests_searches.specs.Machines.{counted_up, nobody_else};
 ghost use Rattle.std.proofs.lemmas.Slice.Eq.{bytes_eq-Decides};
 
-use state_search::{Machine, NoMemory, Searched, search};
+use searches_states::{Machine, NoMemory, Searched, search};
 use std::alloc::Global;
 use std::test::Fail;
-use testing::holds;
+use tests_shared::holds;
 
 // Each of three processes counts up to this.
 #[derive(Drop)]

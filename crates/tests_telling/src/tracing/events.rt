@@ -6,10 +6,10 @@ use crate::tracing::programs::{
 };
 use std::alloc::Global;
 use std::test::Fail;
-use testing::{accepted, is_same};
+use tests_shared::{accepted, is_same};
 use tick_kinds::Program;
 use tick_lower::lower;
-use tick_trace::{code_steps, source_steps};
+use ticklab_trace::{code_steps, source_steps};
 
 // The program that a text is, for a schedule that it can have.
 fn program_for(alloc: Global, text: &str, schedule: &[u8]) -> Result<Program, Fail> {

@@ -1,4 +1,4 @@
-//! Programs that are traced, with a schedule of each.
+//! Programs that are traced, each with a schedule.
 
 pub static QUEUE: &str = "\
 # First come, first served: a process goes in when nobody who came before it still waits.

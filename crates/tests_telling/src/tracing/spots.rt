@@ -2,8 +2,8 @@
 
 use std::alloc::Global;
 use std::test::Fail;
-use testing::{accepted, is_same};
-use tick_trace::{Spot, places};
+use tests_shared::{accepted, is_same};
+use ticklab_trace::{Spot, places};
 
 static TEXT: &str = "\
 # a comment with ; and { and stamp;

@@ -1,10 +1,10 @@
-//! A history with every kind of step: what it is merged to, where each beginning of it ends too soon,
-//! and where each step that is bent is told.
+//! A history with every kind of step: what it is merged to, where each of its beginnings ends too soon, and
+//! that a changed step is told at its place.
 
 use crate::merging::merged::{BOTH_STAMPED, STAMPED, comes_to};
 use std::alloc::Global;
 use std::test::Fail;
-use testing::holds;
+use tests_shared::holds;
 use tick_merge::{MergeFault, Shared, SharedAct};
 
 // Each process writes 5, stamps, scans, reads what process 0 wrote, and clears.

@@ -3,7 +3,7 @@
 use crate::merging::merged::comes_to;
 use std::alloc::Global;
 use std::test::Fail;
-use testing::holds;
+use tests_shared::holds;
 use tick_merge::{Shared, SharedAct};
 
 const STEPS: usize = 10_000;

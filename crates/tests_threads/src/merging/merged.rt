@@ -1,4 +1,4 @@
-//! What a history is merged to.
+//! What a history is merged to, in rows.
 
 ghost use Rattle.std.specs.Prelude.{◌≡◌, length};
 
@@ -6,7 +6,7 @@ use code_machine::Code;
 use code_text::read_code;
 use std::alloc::Global;
 use std::test::Fail;
-use testing::holds;
+use tests_shared::holds;
 use tick_merge::{MergeFault, Shared, merge};
 
 /// The word of two processes of which process 0 has stamped.

@@ -1,5 +1,5 @@
-//! That a gate is called before the step that it is told of, for the process that it belongs to. The
-//! order of the steps is forced, so that a gate that came after its step would see it for sure.
+//! A gate is called before the step that it is told of, and for the process that it belongs to. The order of
+//! the steps is forced, so a gate called after its step would be noticed.
 
 use crate::runs::running::{is_outcome, run_of};
 use code_machine::Ask;
@@ -8,7 +8,7 @@ use std::sync::atomic::AtomicU64;
 use std::sync::atomic::Ordering::SeqCst;
 use std::test::Fail;
 use std::thread::Threads;
-use testing::{Polls, holds, is_same};
+use tests_shared::{Polls, holds, is_same};
 use tick_run::{Gate, RunEnd};
 
 // if me { x = get r me; put r 5; x = get r me; } else { x = get r 1; out x; }

@@ -5,7 +5,7 @@ use code_machine::Ask;
 use std::sync::atomic::AtomicU64;
 use std::sync::atomic::Ordering::SeqCst;
 use std::test::Fail;
-use testing::{Polls, holds, is_same};
+use tests_shared::{Polls, holds, is_same};
 use tick_run::{Gate, RunEnd};
 
 // if (me == 0) { stamp; stamp; s = scan; x = older s 1 0; out x; s = scan; }

@@ -5,7 +5,7 @@ use code_machine::Ask;
 use std::sync::atomic::AtomicU64;
 use std::sync::atomic::Ordering::SeqCst;
 use std::test::Fail;
-use testing::{holds, is_same};
+use tests_shared::{holds, is_same};
 use tick_run::{Gate, RunEnd, RunOutcome};
 
 // Process 0: put r 9; stamp; s = scan; x = get r me; clear; out x; and process 1 ends.

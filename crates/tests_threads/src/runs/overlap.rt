@@ -1,12 +1,12 @@
-//! Workers that are under way at the same time: gates hold them until others have gone on, and no gate
-//! has to give up. Whoever ran one worker after the other, or two at a time, would meet the limit.
+//! Workers run at the same time: gates hold them until others have gone on, and no gate waits up to its
+//! limit. If workers ran one after the other, or two at a time, a gate would reach its limit.
 
 use crate::runs::running::{gave, is_outcome, run_of};
 use code_machine::Ask;
 use std::sync::atomic::AtomicU64;
 use std::sync::atomic::Ordering::SeqCst;
 use std::test::Fail;
-use testing::{Polls, holds};
+use tests_shared::{Polls, holds};
 use tick_run::{Gate, RunEnd, RunOutcome};
 
 // stamp; s = scan; x = older s 0 1; out x;

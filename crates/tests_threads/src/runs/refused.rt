@@ -8,7 +8,7 @@ use std::sync::atomic::AtomicU64;
 use std::sync::atomic::Ordering::SeqCst;
 use std::test::Fail;
 use std::thread::Threads;
-use testing::{holds, is_same};
+use tests_shared::{holds, is_same};
 use tick_run::{Gate, RunFault, run};
 
 // while 1 { put r me; }

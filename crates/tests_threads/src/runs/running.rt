@@ -1,11 +1,11 @@
-//! Runs of the codes that texts are.
+//! Runs of codes that are given as texts.
 use code_machine::Ask;
 use code_text::read_code;
 use std::alloc::{AllocError, Global};
 use std::sync::Wait;
 use std::test::Fail;
 use std::thread::Threads;
-use testing::holds;
+use tests_shared::holds;
 use tick_run::{Gate, RunEnd, RunOutcome, run};
 
 /// A gate that does nothing.

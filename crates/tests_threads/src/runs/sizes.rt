@@ -1,4 +1,5 @@
-//! Runs of each number of processes and of register rows, and of more than 1,000,000,000 turns.
+//! Runs with each number of processes and of register rows, also with a limit of more than 1,000,000,000
+//! turns.
 
 use crate::runs::running::{gave, open_gates, run_of};
 use std::alloc::{AllocError, Global};
@@ -6,7 +7,7 @@ use std::fmt::Write;
 use std::sync::Wait;
 use std::test::Fail;
 use std::thread::Threads;
-use testing::holds;
+use tests_shared::holds;
 use tick_run::{RunEnd, RunOutcome};
 
 // put each row's number and the own number in it; out me;

@@ -1,9 +1,9 @@
-//! Processes that stop early leave the others to go on.
+//! If some processes stop early, the others go on.
 
 use crate::runs::running::{Row, come_to, is_outcome, open_gates, run_of};
 use code_machine::Trap;
 use std::test::Fail;
-use testing::holds;
+use tests_shared::holds;
 use tick_run::RunEnd;
 
 // if (me == 1) { x = (0 - 1); } else { out 5; }

@@ -2,7 +2,7 @@
 
 use crate::tallying::tallies::{always_ends_with, tallied};
 use std::test::Fail;
-use testing::{is_same, repeated};
+use tests_shared::{is_same, repeated};
 
 const TURNS: u64 = 1_000_000;
 

@@ -1,10 +1,10 @@
-//! Two processes that race: what comes of it differs from run to run, and each outcome is one that may be.
+//! Two processes that race: the outcomes differ from run to run, and each is a possible one.
 
 use crate::tallying::tallies::tallied;
+use searches_tally::Counted;
 use std::cmp::Ordering;
 use std::test::Fail;
-use testing::{holds, is_same};
-use tick_tally::Counted;
+use tests_shared::{holds, is_same};
 
 const RUNS: u32 = 400;
 

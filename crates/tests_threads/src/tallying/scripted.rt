@@ -1,13 +1,13 @@
-//! A runner by script, of which every so many runs one traps: each call counts once.
+//! A scripted runner, of which one run in a given number traps: each call counts once.
 
 use base::{RunEnd, RunOutcome, Trap};
 use code_core::Code;
+use searches_tally::{Counted, tally};
 use std::alloc::{AllocError, Global};
 use std::test::Fail;
-use testing::{accepted, is_same};
+use tests_shared::{accepted, is_same};
 use tick_lower::lower;
 use tick_run::{RunFault, Runner};
-use tick_tally::{Counted, tally};
 
 /// Each run whose number can be divided by `every` traps.
 #[derive(Drop)]

@@ -1,4 +1,4 @@
-//! Processes that spend their turns, and such as trap.
+//! Processes that spend their turns, and processes that trap.
 
 use crate::tallying::tallies::always_ends_with;
 use std::test::Fail;

@@ -1,11 +1,11 @@
-//! Tallies of the programs that texts are.
+//! Tallies of programs that are given as texts.
+use searches_tally::{Counted, RunFault, tally};
 use std::sync::Wait;
 use std::test::Fail;
 use std::thread::Threads;
-use testing::{accepted, is_same};
+use tests_shared::{accepted, is_same};
 use tick_lower::lower;
 use tick_run::OnThreads;
-use tick_tally::{Counted, RunFault, tally};
 
 /// So many runs of the program. Where memory or a thread was refused it is asked once more, so that these
 /// tests also pass where any one growth of a tally is refused: no answer changes in place of the error.

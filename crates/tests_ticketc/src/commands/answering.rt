@@ -1,12 +1,12 @@
-//! A command line, answered over ends in memory.
+//! A command line, answered over a reader and a writer in memory.
 use crate::commands::in_memory::{Disturbance, Input, Output};
-use engine::{EngineFault, engine};
 use std::alloc::{AllocError, Global};
 use std::sync::Wait;
 use std::test::Fail;
 use std::thread::Threads;
-use testing::holds;
+use tests_shared::holds;
 use tick_run::OnThreads;
+use ticketc_answers::{EngineFault, engine};
 
 pub const USAGE: &str =
     "usage: ticketc order N | check | emit | source S | code S | lift S | drop S | run TURNS\n";

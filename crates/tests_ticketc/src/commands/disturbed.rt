@@ -1,9 +1,9 @@
 //! A writer that takes several bytes at a call or none, and words that are refused before anything is read.
 use crate::commands::answering::{USAGE, served};
 use crate::commands::in_memory::{Disturbance, Input, Output};
-use engine::EngineFault;
 use std::test::Fail;
-use testing::holds;
+use tests_shared::holds;
+use ticketc_answers::EngineFault;
 
 // How many bytes a write takes, how the writes are disturbed, what comes of it, what is written, and
 // the row's name.

@@ -1,11 +1,12 @@
-//! Each call of an end, disturbed in each way, over each command. Both ends move a byte at a time.
+//! Each call of the reader and of the writer, disturbed in each way, for each command. Both move one byte at
+//! a time.
 use crate::commands::answering::{Outcome, USAGE, served};
 use crate::commands::in_memory::{Disturbance, Input, Output};
-use engine::EngineFault;
 use std::sync::Wait;
 use std::test::Fail;
 use std::thread::Threads;
-use testing::holds;
+use tests_shared::holds;
+use ticketc_answers::EngineFault;
 
 // A command line, the bytes that are to be read, the status and the answer.
 type Row = (

@@ -1,10 +1,10 @@
 //! A run that is handed on where there are no threads.
 use crate::commands::answering::line;
 use crate::commands::in_memory::{Disturbance, Input, Output};
-use engine::{Served, serve};
 use std::alloc::Global;
 use std::test::Fail;
-use testing::holds;
+use tests_shared::holds;
+use ticketc_answers::{Served, serve};
 
 const COUNT: &[u8] = b"processes 1; var x; begin while (x < 2) { x = (x + 1); } out x; end";
 

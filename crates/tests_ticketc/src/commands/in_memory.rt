@@ -1,6 +1,6 @@
-//! Ends in memory, which may be disturbed at chosen calls.
-use engine::{ByteSink, ByteSource, Counts, Transfer};
+//! A reader and a writer in memory, which may be disturbed at chosen calls.
 use std::alloc::Global;
+use ticketc_answers::{ByteSink, ByteSource, Counts, Transfer};
 
 /// At which calls an end is disturbed, the first call being 1.
 #[derive(Clone, Copy)]

@@ -1,7 +1,7 @@
 //! Schedules of 1,000,000 bytes, which are longer than a word that the host gives a program.
 use crate::commands::answering::says;
 use std::test::Fail;
-use testing::repeated;
+use tests_shared::repeated;
 
 const SEVENS: &[u8] = b"processes 2; begin while 1 { out 7; } end";
 

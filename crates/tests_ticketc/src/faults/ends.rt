@@ -1,11 +1,11 @@
-//! Faults of ends, of threads and of memory.
+//! Faults of reading and writing, of threads and of memory.
 use crate::faults::told::tells;
 use base::NoMemory;
-use byte_io::EndFault;
-use engine::EngineFault;
 use stamp_table::OpenFault;
 use std::test::Fail;
 use tick_run::RunFault;
+use ticketc_answers::EngineFault;
+use ticketc_io::EndFault;
 
 static END_FAULTS: [(EndFault, &str); 3] = [
     (EndFault::Read, "reading failed"),

@@ -2,7 +2,7 @@
 use std::alloc::Global;
 use std::fmt::Display;
 use std::test::Fail;
-use testing::holds;
+use tests_shared::holds;
 
 /// That this is the text of the fault.
 pub fn tells<F: Display>(alloc: Global, fault: &F, text: &str) -> Result<(), Fail> {

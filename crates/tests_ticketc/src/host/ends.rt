@@ -1,5 +1,3 @@
-use byte_io::{HostReader, HostWriter};
-use engine::ended;
 use std::alloc::{AllocError, Global};
 use std::env::Args;
 use std::io;
@@ -9,6 +7,8 @@ use std::sync::Wait;
 use std::test::Fail;
 use std::thread::Threads;
 use tick_run::OnThreads;
+use ticketc_answers::ended;
+use ticketc_io::{HostReader, HostWriter};
 
 /// One call that fails, the first being 1.
 #[derive(Clone, Copy)]

@@ -3,7 +3,7 @@ use std::io::ErrorKind;
 use std::sync::Wait;
 use std::test::Fail;
 use std::thread::Threads;
-use testing::holds;
+use tests_shared::holds;
 
 // Every kind but an interruption.
 static KINDS: [ErrorKind; 41] = [

@@ -2,7 +2,7 @@ use crate::host::ends::{Failing, Given, NEVER, Taken, served};
 use std::alloc::{AllocError, Global};
 use std::io::ErrorKind;
 use std::test::Fail;
-use testing::{holds, repeated};
+use tests_shared::{holds, repeated};
 
 // How many bytes a call moves at most, and how many calls read the input and write the answer so. Room for
 // 16,384 bytes is read into.

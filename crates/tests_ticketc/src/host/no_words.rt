@@ -1,8 +1,8 @@
-//! Words that are not to be had.
+//! The host gives no words.
 use crate::host::ends::{Given, NEVER, Taken, ending_of};
 use std::io::{Error, ErrorKind};
 use std::test::Fail;
-use testing::holds;
+use tests_shared::holds;
 
 static NO_WORDS: [ErrorKind; 2] = [ErrorKind::InvalidData, ErrorKind::OutOfMemory];
 

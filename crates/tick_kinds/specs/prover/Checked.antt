@@ -1,5 +1,5 @@
--- Names replaced by their numbers from the front of a program on, up to the first fault: what each
--- function of `check` gives. What it comes to is told by `refusals` and `resolved`.
+-- What each function of `check` gives: names are replaced by their numbers, from the front of a program up to
+-- the first fault. `refusals` and `resolved` say what the result is.
 use Rattle.std.specs.Prelude.{ℕ, Bool, true, false, List, [], ◌∷◌, Option, Some, None, Result, Ok, Err, if◌then◌else◌, is_some, ◌&&◌, nat_lt, nat_le}
 use Rattle.std.specs.Map.{update}
 use Rattle.std.specs.Str.{bytes_eq}

@@ -1,4 +1,4 @@
--- What a table of names says of letters.
+-- What a table of names has for the letters of a name.
 use Rattle.std.specs.Borrow.{Bor}
 use Rattle.std.specs.Prelude.{ℕ, List, Option}
 use Rattle.std.specs.Str.{bytes_eq}

@@ -1,8 +1,8 @@
 -- The heights of a code whose jumps all leave the stack empty.
 --
--- In the code of a program every jump leaves the stack empty, and goes to a place where it is empty. So
--- the height of a place follows from the instruction before it alone: what that leaves where it goes on,
--- and 0 after a jump or the end.
+-- In the code of a program every jump leaves the stack empty, and goes to a place where it is empty. So the
+-- height of a place follows from the instruction before it. It is what that instruction leaves if it goes on
+-- to the place, and 0 after a jump or the end.
 use Rattle.std.specs.Prelude.{ℕ, List, [], ◌∷◌, map, unwrap_or}
 use Rattle.code_core.specs.declared.instr.Instr.{Instr}
 use Rattle.code_core.specs.Heights.{Placed, greatest, hands_on}

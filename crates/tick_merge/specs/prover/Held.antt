@@ -1,4 +1,4 @@
--- What the code holds while it goes through a history.
+-- What `merge` holds while it goes through a history.
 use Rattle.std.specs.Prelude.{◌≡◌, ◌+◌, ℕ, zero, suc, List, Option, Some, None}
 use Rattle.base.specs.declared.status.Status.{Status}
 use Rattle.base.specs.declared.status.Status.TheVariants.{Running}

@@ -1,4 +1,4 @@
--- How far a history was gone through.
+-- How far `merge` has gone through a history.
 use Rattle.std.specs.Prelude.{◌≡◌, ◌≤◌, ◌<◌, ◌+◌, ℕ, Bool, true, false, List, [], ◌∷◌, ◌++◌, length, replicate, slice_get, slice_index, Some, vec_items}
 use Rattle.word_core.specs.History.{memory_of, IsLegal}
 use Rattle.word_core.specs.declared.history.Shared.{Shared}

@@ -1,4 +1,4 @@
--- Where a run under a schedule stands while a history is gone through.
+-- Where the run under the schedule so far stands, while `merge` goes through a history.
 use Rattle.std.specs.Prelude.{◌≡◌, ◌≤◌, ◌<◌, ℕ, List, slice_get, slice_index, Some}
 use Rattle.base.specs.declared.event.Event.{Event}
 use Rattle.word_core.specs.History.{memory_of}

@@ -1,4 +1,4 @@
--- The statements that remain, as blocks that are open one inside the other.
+-- The statements that remain, as open blocks, one inside the other.
 use Rattle.std.specs.Prelude.{ℕ, List, [], ◌∷◌, Option, Some, None}
 use Rattle.std.proofs.Common.{Bor}
 use Rattle.base.specs.Plain.{Statement, Block, nil, cons, onto}

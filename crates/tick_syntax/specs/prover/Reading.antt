@@ -1,5 +1,5 @@
--- Reading a program from the front of a list of tokens, step by step: what each function of the reader
--- gives. That it reads the grammar's programs is proved of these definitions.
+-- What each function of the parser gives: a program is read from the front of a list of tokens, step by step.
+-- Proofs show that these definitions read the programs of the grammar.
 use Rattle.std.specs.Prelude.{◌≡◌, ℕ, zero, suc, Bool, true, false, List, [], ◌∷◌, drop, length, Result, Ok, Err}
 use Rattle.base.specs.declared.span.Span.{Span}
 use Rattle.tick_syntax.specs.declared.fault.TextFault.{TextFault}

@@ -1,4 +1,4 @@
--- What valued tokens say, and of which tokens they are.
+-- What valued tokens say, and which tokens they are without their values.
 use Rattle.std.specs.Prelude.{◌≡◌, Bool, true, false, ℕ, List, [], ◌∷◌, map}
 use Rattle.tick_syntax.specs.declared.token.Sort.{Sort}
 use Rattle.tick_syntax.specs.declared.token.Sort.TheVariants as K

@@ -1,8 +1,0 @@
-use Rattle.ticketc_lines.specs.Command.{plain_command}
-use Rattle.engine.proofs.RunLemmas.{stop_answered}
-use Rattle.engine.proofs.answer.response_to.Goals as goal
-
-pub returns-in-Err : goal.returns-in-Err
-returns-in-Err c =
-    stop_answered (plain_command c.args.command) c.args.input.now c.in-Err.stop c.stop_response.result c.stop_response.ensures.ok c.stop_response.ensures.err
-    c.in-Err.ensures.refused

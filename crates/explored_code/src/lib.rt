@@ -1,4 +1,0 @@
-//! What an exploration of a program says of the program's code on bounded labels.
-#![tactic(auto)]
-
-pub mod laws;

@@ -1,6 +1,0 @@
-use Rattle.std.proofs.Common.{◌∙◌}
-use Rattle.lab_line.proofs.Numbers.{number_parsed}
-use Rattle.lab_line.proofs.values.number.Goals as goal
-
-pub returns : goal.returns
-returns c = c.ok.ensures.value ∙ number_parsed 32 c.args.text.now _ c.parse.ensures.value.0

@@ -1,0 +1,124 @@
+-- The first steps of a run, one more at a time, and those that follow.
+use Rattle.std.proofs.Common.{◌≡◌, ℕ, zero, suc, ◌+◌, ◌-◌, ◌<◌, ◌≤◌, true, false, List, [], ◌∷◌, ◌++◌, length, take, refl, sym, ◌∙◌, ap, arith}
+use Rattle.base.specs.Plain.{WholeProgram}
+use Rattle.tick_source.specs.Source.{SourceState, source_step, source_run, source_start, source}
+use Rattle.searches_explore.specs.Explored.{has_trapped}
+use Rattle.searches_hunt.specs.declared.plan.Mode.{Mode}
+use Rattle.searches_hunt.specs.declared.plan.Plan.{Plan}
+use Rattle.searches_hunt.specs.declared.drawing.Drawing.{Drawing}
+use Rattle.rand_pcg.specs.Lcg.{Lcg}
+use Rattle.rand_pcg.specs.Pcg.{pcg32}
+use Rattle.searches_hunt.specs.Draws.{chosen, more_steps, fresh, drawing_by, next_drawing, drawn, start_drawing, random_schedule}
+use Rattle.searches_hunt.specs.Hunts.{Traps, TrapsNot, IsPartOf}
+use Rattle.searches_hunt.specs.prover.Tries.{drawing_after, first_steps, TrapsWithin, IsAfter}
+use Rattle.searches_hunt.proofs.Runs.{run_append, trapped_stays}
+use Rattle.searches_hunt.proofs.Leaving.{part_first}
+
+abbrev more_left : Drawing → ℕ → Drawing
+more_left d k = record d { more = k }
+
+on_by : (mode : Mode) (n : ℕ) (d : Drawing) (k : ℕ) → 0 < k → record d { more = k - 1 } ≡ drawing_by mode n d k
+on_by mode n d zero h = absurd (omega arith)
+on_by mode n d (suc k) h = ap (more_left d) (let e : suc k - 1 ≡ k = omega arith in e)
+
+-- the process of the last word goes on
+pub goes_on : (mode : Mode) (n : ℕ) (d : Drawing) → 0 < d.more → record d { more = d.more - 1 } ≡ next_drawing mode n d
+unfolding next_drawing
+goes_on mode n d h = on_by mode n d d.more h
+
+-- a new word is drawn
+pub draws_word : (mode : Mode) (n : ℕ) (d : Drawing) → d.more ≡ 0 → (word p more : ℕ) (g : Lcg) → p ≡ chosen n word → more ≡ more_steps mode word
+    → (word, g) ≡ pcg32 d.generator → record { process = p; more = more; generator = g } ≡ next_drawing mode n d
+unfolding next_drawing
+draws_word mode n d none word p more g is_p is_more drawn_word =
+    (λ i. record { process = is_p i; more = is_more i; generator = g })
+    ∙ ap (fresh mode n) drawn_word
+    ∙ ap (drawing_by mode n d) (sym none)
+
+pub after_more : (mode : Mode) (n k : ℕ) (d : Drawing) → drawing_after mode n (suc k) d ≡ next_drawing mode n (drawing_after mode n k d)
+after_more mode n zero d = refl
+after_more mode n (suc k) d = after_more mode n k (next_drawing mode n d)
+
+pub drawn_more : (mode : Mode) (n k : ℕ) (d : Drawing)
+    → drawn mode n (suc k) d ≡ drawn mode n k d ++ (next_drawing mode n (drawing_after mode n k d)).process ∷ []
+drawn_more mode n zero d = refl
+drawn_more mode n (suc k) d = ap (λ xs. (next_drawing mode n d).process ∷ xs) (drawn_more mode n k (next_drawing mode n d))
+
+-- so many steps are these and those that follow
+drawn_parts : (mode : Mode) (n k j : ℕ) (d : Drawing) → drawn mode n (j + k) d ≡ drawn mode n k d ++ drawn mode n j (drawing_after mode n k d)
+drawn_parts mode n zero j d = ap (λ i. drawn mode n i d) (let e : j + 0 ≡ j = omega arith in e)
+drawn_parts mode n (suc k) j d =
+    ap (λ i. drawn mode n i d) (let e : j + suc k ≡ suc (j + k) = omega arith in e)
+    ∙ ap (λ xs. (next_drawing mode n d).process ∷ xs) (drawn_parts mode n k j (next_drawing mode n d))
+
+pub drawn_first : (mode : Mode) (n k m : ℕ) (d : Drawing) → k ≤ m
+    → drawn mode n m d ≡ drawn mode n k d ++ drawn mode n (m - k) (drawing_after mode n k d)
+drawn_first mode n k m d h =
+    ap (λ i. drawn mode n i d) (let e : m ≡ (m - k) + k = omega arith in e) ∙ drawn_parts mode n k (m - k) d
+
+pub drawn_length : (mode : Mode) (n k : ℕ) (d : Drawing) → length (drawn mode n k d) ≡ k
+drawn_length mode n zero d = refl
+drawn_length mode n (suc k) d = ap suc (drawn_length mode n k (next_drawing mode n d))
+
+module _ (a : WholeProgram ℕ) (plan : Plan) (run : ℕ) where
+  -- one step more of the run
+  pub one_more : (k : ℕ) (s s' : SourceState) → s ≡ first_steps a plan run k
+      → s' ≡ source_step a.processes (next_drawing plan.mode a.processes (drawing_after plan.mode a.processes k (start_drawing plan.seed run))).process s
+      → s' ≡ first_steps a plan run (k + 1)
+  one_more k s s' is step =
+      let d = start_drawing plan.seed run in
+      let next : k + 1 ≡ suc k = omega arith in
+      step
+      ∙ ap (source_step a.processes (next_drawing plan.mode a.processes (drawing_after plan.mode a.processes k d)).process) is
+      ∙ sym (run_append a.processes (drawn plan.mode a.processes k d) ((next_drawing plan.mode a.processes (drawing_after plan.mode a.processes k d)).process ∷ []) (source_start a))
+      ∙ ap (source a) (sym (drawn_more plan.mode a.processes k d))
+      ∙ ap (λ i. first_steps a plan run i) (sym next)
+
+  -- what a step makes of how far the run has come
+  pub made_on : (k p : ℕ) (s s' : SourceState) (d d' : Drawing) → IsAfter a plan run k s d
+      → d' ≡ next_drawing plan.mode a.processes d → p ≡ d'.process → s' ≡ source_step (length s.processes) p s → s' ≡ first_steps a plan run (k + 1)
+  made_on k p s s' d d' before drew is step =
+      let next : d' ≡ next_drawing plan.mode a.processes (drawing_after plan.mode a.processes k (start_drawing plan.seed run)) =
+      drew ∙ ap (next_drawing plan.mode a.processes) before.drew in
+      one_more k s s' before.made
+      (step ∙ ap (λ n. source_step n p s) before.processes ∙ ap (λ q. source_step a.processes q s) (is ∙ ap (λ e. e.process) next))
+
+  pub steps_on : (k p : ℕ) (s s' : SourceState) (d d' : Drawing) → IsAfter a plan run k s d
+      → d' ≡ next_drawing plan.mode a.processes d → p ≡ d'.process → s' ≡ source_step (length s.processes) p s
+      → d'.process < a.processes → length s'.processes ≡ length s.processes → has_trapped s' ≡ false → IsAfter a plan run (k + 1) s' d'
+  steps_on k p s s' d d' before drew is step below many none = record {
+    made = made_on k p s s' d d' before drew is step;
+    drew = drew ∙ ap (next_drawing plan.mode a.processes) before.drew ∙ sym (after_more plan.mode a.processes k (start_drawing plan.seed run))
+        ∙ ap (λ i. drawing_after plan.mode a.processes i (start_drawing plan.seed run)) (let e : suc k ≡ k + 1 = omega arith in e);
+    none = none;
+    processes = many ∙ before.processes;
+    process = below;
+  }
+
+  whole_run : (k : ℕ) → k ≤ plan.steps
+      → source a (random_schedule plan a.processes run)
+      ≡ source_run a.processes (drawn plan.mode a.processes (plan.steps - k) (drawing_after plan.mode a.processes k (start_drawing plan.seed run))) (first_steps a plan run k)
+  whole_run k h =
+      let d = start_drawing plan.seed run in
+      ap (source a) (drawn_first plan.mode a.processes k plan.steps d h)
+      ∙ run_append a.processes (drawn plan.mode a.processes k d) (drawn plan.mode a.processes (plan.steps - k) (drawing_after plan.mode a.processes k d)) (source_start a)
+
+  -- the first steps are part of the run
+  pub part_of_run : (k : ℕ) → k ≤ plan.steps → IsPartOf (drawn plan.mode a.processes k (start_drawing plan.seed run)) (random_schedule plan a.processes run)
+  part_of_run k h =
+      let d = start_drawing plan.seed run in
+      part_first (drawn plan.mode a.processes k d) (drawn plan.mode a.processes (plan.steps - k) (drawing_after plan.mode a.processes k d))
+      (random_schedule plan a.processes run) (drawn_first plan.mode a.processes k plan.steps d h)
+
+  -- Who has trapped after the first steps has after all.
+  pub trapped_whole : (k : ℕ) → TrapsWithin a plan run k → Traps a (random_schedule plan a.processes run)
+  trapped_whole k t =
+      ap has_trapped (whole_run k t.within)
+      ∙ trapped_stays a.processes (drawn plan.mode a.processes (plan.steps - k) (drawing_after plan.mode a.processes k (start_drawing plan.seed run))) (first_steps a plan run k) t.trapped
+
+  -- Where nothing more happens after the first steps, the run comes to what they do.
+  pub stopped_whole : (k : ℕ) (s : SourceState) → k ≤ plan.steps → s ≡ first_steps a plan run k
+      → ((schedule : List ℕ) → source_run a.processes schedule s ≡ s) → has_trapped s ≡ false → TrapsNot a (random_schedule plan a.processes run)
+  stopped_whole k s h is idle none =
+      let rest = drawn plan.mode a.processes (plan.steps - k) (drawing_after plan.mode a.processes k (start_drawing plan.seed run)) in
+      ap has_trapped (whole_run k h ∙ ap (source_run a.processes rest) (sym is) ∙ idle rest) ∙ none

@@ -1,5 +1,0 @@
-use Rattle.threaded_source.proofs.Shown.{threaded_source_law}
-use Rattle.threaded_source.proofs.laws.law_threaded_source.Goals as goal
-
-pub returns : goal.returns
-returns c = threaded_source_law

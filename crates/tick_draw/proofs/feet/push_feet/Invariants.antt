@@ -1,7 +1,0 @@
-use Rattle.std.proofs.Common.{◌≡◌, ◌++◌, drop}
-use Rattle.tick_draw.specs.Feet.{feet_text}
-use Rattle.tick_draw.proofs.feet.push_feet.Given as goal
-
-abbrev pub invariant-loop-at : goal.invariant-loop-at
-invariant-loop-at l =
-    l.out.items ++ feet_text l.n l.marks l.at (drop l.at l.marks) ≡ l.fn.out.items ++ feet_text l.n l.marks 0 l.marks

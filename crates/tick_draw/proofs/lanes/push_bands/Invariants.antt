@@ -1,6 +1,0 @@
-use Rattle.std.proofs.Common.{◌≡◌, ◌++◌}
-use Rattle.tick_draw.specs.Lanes.{bands_text}
-use Rattle.tick_draw.proofs.lanes.push_bands.Given as goal
-
-abbrev pub invariant-loop-band : goal.invariant-loop-band
-invariant-loop-band l = l.out.items ≡ l.fn.out.items ++ bands_text l.n l.band

@@ -1,6 +1,0 @@
-use Rattle.std.proofs.Common.{◌≡◌, ◌++◌}
-use Rattle.tick_draw.specs.Lanes.{ends_text}
-use Rattle.tick_draw.proofs.lanes.push_ends.Given as goal
-
-abbrev pub invariant-loop-p : goal.invariant-loop-p
-invariant-loop-p l = l.out.items ≡ l.fn.out.items ++ ends_text l.n l.band l.marks l.p

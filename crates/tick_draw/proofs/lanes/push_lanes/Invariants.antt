@@ -1,6 +1,0 @@
-use Rattle.std.proofs.Common.{◌≡◌, ◌++◌}
-use Rattle.tick_draw.specs.Lanes.{lanes_text}
-use Rattle.tick_draw.proofs.lanes.push_lanes.Given as goal
-
-abbrev pub invariant-loop-p : goal.invariant-loop-p
-invariant-loop-p l = l.out.items ≡ l.fn.out.items ++ lanes_text l.n l.band l.p

@@ -1,5 +1,0 @@
-use Rattle.tick_draw.proofs.Markup.{markup_law}
-use Rattle.tick_draw.proofs.laws.law_markup.Goals as goal
-
-pub returns : goal.returns
-returns c = markup_law

@@ -1,6 +1,0 @@
-use Rattle.std.proofs.Common.{◌≡◌, ◌++◌}
-use Rattle.tick_draw.specs.Orders.{ranked}
-use Rattle.tick_draw.proofs.orders.add_ranked.Given as goal
-
-abbrev pub invariant-loop-i : goal.invariant-loop-i
-invariant-loop-i l = l.found.items ≡ l.fn.found.items ++ ranked l.held l.rank l.i

@@ -1,8 +1,0 @@
-//! What holds of all pictures.
-
-ghost use Rattle.tick_draw.specs.Laws.{MarkupLaw};
-
-/// No title and no name of a row opens a tag: a picture has as many `<` whatever they are.
-pub fn law_markup()
-    ensures { MarkupLaw }
-{}

@@ -1,6 +1,0 @@
-use Rattle.std.proofs.Common.{◌≡◌, drop}
-use Rattle.tick_explain.specs.Choosing.{first_that_fits}
-use Rattle.tick_explain.proofs.hint.first_that_fits.Given as goal
-
-abbrev pub invariant-loop-fits : goal.invariant-loop-fits
-invariant-loop-fits l = first_that_fits (drop l.fits-index l.rules) ≡ first_that_fits l.rules

@@ -1,0 +1,25 @@
+//! `ticketc_io` reads the input of a program and writes its answer, through any reader and writer.
+//!
+//! A reader is a `ByteSource`, a writer a `ByteSink`. `specs/Calls.antt` says what one call of them does.
+//! `read_input` and `write_text` are the two loops over such calls. `HostReader` and `HostWriter` wrap a
+//! reader and a writer of the standard library. Nothing here knows what is read and written.
+//! Start with `ByteSource` and `ByteSink`.
+#![tactic(auto)]
+
+mod counts;
+mod fault;
+mod host;
+mod reading;
+mod sink;
+mod source;
+mod transfer;
+mod writing;
+
+pub use counts::Counts;
+pub use fault::EndFault;
+pub use host::{HostReader, HostWriter, transfer_of};
+pub use reading::{INPUT_LIMIT, read_input};
+pub use sink::ByteSink;
+pub use source::ByteSource;
+pub use transfer::Transfer;
+pub use writing::write_text;

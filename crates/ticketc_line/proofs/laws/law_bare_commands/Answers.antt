@@ -1,0 +1,8 @@
+use Rattle.std.proofs.Common.{refl}
+use Rattle.clap.proofs.OnLiterals.{clap_on_literals}
+use Rattle.ticketc_line.specs.Line.{command_in, is_taken}
+use Rattle.ticketc_line.proofs.laws.law_bare_commands.Goals as goal
+
+pub returns : goal.returns
+unfolding clap_on_literals is_taken command_in
+returns c = record { check = refl; emit = refl; text_after_check = refl; text_after_emit = refl }

@@ -1,0 +1,31 @@
+-- A settled answer is what was answered, or tells the report of a refusal.
+use Rattle.std.proofs.Common.{◌≡◌, ℕ, List, Result, Ok, Err, IfOk, IfErr, IsErrAnd, MatchResult, subst, sym}
+use Rattle.ticklab_answers.specs.Responses.{Refuses}
+use Rattle.ticklab_answers.specs.Stops.{IfRefused, IsRefusal, TellsReport}
+use Rattle.ticklab_answers.specs.declared.response.Response.{Response}
+use Rattle.ticklab_answers.specs.declared.stop.Stop.{Stop}
+use Rattle.ticklab_answers.specs.declared.stop.Stop.TheVariants.{Refused, Fault}
+
+refuses_by : {Q : List ℕ → Type 0} (x : Response) (report : List ℕ) → TellsReport x report → Q report → Refuses Q x
+refuses_by {Q} x report t told = record { status = t.status; nothing = t.nothing; told = subst Q (sym t.told) told }
+
+pub settled_by : {P R : Response → Type 0} {Q : List ℕ → Type 0} {E : Type 0} (answered : Result Response Stop) (r : Result Response E)
+    → ((x : Response) → P x → R x) → ((x : Response) → Refuses Q x → R x)
+    → IfOk answered P → IfErr answered (λ stop. IfRefused stop Q)
+    → IfOk r (λ x. MatchResult answered (λ given. x ≡ given) (IsRefusal x)) → IfOk r R
+settled_by {P} (Ok given) (Ok x) f g ok err same = f x (subst P (sym same) ok)
+settled_by (Err (Refused report)) (Ok x) f g ok err told = g x (refuses_by x report.items told err)
+settled_by (Err (Fault fault)) (Ok x) f g ok err told = absurd told
+settled_by (Ok given) (Err e) f g ok err same = tt
+settled_by (Err stop) (Err e) f g ok err same = tt
+
+-- the report of a refusal, told for another reason
+pub refused_as : {P Q : List ℕ → Type 0} (stop : Stop) → ((report : List ℕ) → P report → Q report) → IfRefused stop P → IfRefused stop Q
+refused_as (Refused report) f h = f report.items h
+refused_as (Fault fault) f h = tt
+
+-- a `?` hands a stop on
+pub stopped_by : {T : Type 0} (Q : List ℕ → Type 0) (stop : Stop) (r : Result T Stop) → IsErrAnd r (λ d. d ≡ stop) → IfRefused stop Q
+    → IfErr r (λ d. IfRefused d Q)
+stopped_by Q stop (Ok x) err held = tt
+stopped_by Q stop (Err d) err held = subst (λ s. IfRefused s Q) (sym err) held

@@ -1,0 +1,28 @@
+-- What `explain` answers on an input, and on a schedule of it: the report goes to standard output.
+use Rattle.std.specs.Prelude.{◌≡◌, ℕ, List, Ok}
+use Rattle.language_schedules.specs.Schedule.{schedule_of}
+use Rattle.ticklab_explain.specs.Refusals.{BeginsCode, IsCode, IsInputRefused, IsProgram, IsScheduleRefused, IsTakenInput}
+use Rattle.ticklab_explain.specs.Reports.{Tells, TellsFor}
+use Rattle.ticklab_answers.specs.Lines.{both_taken_line, taken_line}
+use Rattle.ticklab_answers.specs.Responses.{Gives}
+use Rattle.ticklab_answers.specs.declared.response.Response.{Response}
+
+pub data Explains (name input : List ℕ) (response : Response) : Type 0 where
+  taken : IsTakenInput input → Gives 0 (λ out. out ≡ taken_line name) response → Explains name input response
+  explained : Gives 1 (Tells (IsInputRefused input) name input) response → Explains name input response
+
+-- the input is a code or a program of so many processes
+pub data HasProcesses (input : List ℕ) (n : ℕ) : Type 0 where
+  processes_of_code : BeginsCode input → (is : IsCode input) → n ≡ is.code.sizes.processes → HasProcesses input n
+  processes_of_program : (BeginsCode input → ⊥) → (is : IsProgram input) → n ≡ is.program.processes → HasProcesses input n
+
+-- a schedule of so many processes, and the name of their input
+pub data ExplainsSchedule (n : ℕ) (name from text : List ℕ) (response : Response) : Type 0 where
+  schedule_taken : (steps : List ℕ) → schedule_of n text ≡ Ok steps → Gives 0 (λ out. out ≡ both_taken_line name) response
+      → ExplainsSchedule n name from text response
+  schedule_explained : Gives 1 (TellsFor n (IsScheduleRefused n text) from text) response → ExplainsSchedule n name from text response
+
+-- the input comes first
+pub data ExplainsBoth (name input from text : List ℕ) (response : Response) : Type 0 where
+  input_taken : (n : ℕ) → HasProcesses input n → ExplainsSchedule n name from text response → ExplainsBoth name input from text response
+  input_explained : Gives 1 (Tells (IsInputRefused input) name input) response → ExplainsBoth name input from text response

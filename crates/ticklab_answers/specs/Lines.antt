@@ -1,0 +1,80 @@
+-- Lines of the answers.
+use Rattle.std.specs.Prelude.{◌++◌, ◌==◌, if◌then◌else◌, ℕ, List, [], ◌∷◌, codes, string_bytes}
+use Rattle.std.specs.Fmt.{decimal}
+use Rattle.base.specs.Lines.{line_end}
+use Rattle.language_schedules.specs.Written.{schedule_text}
+use Rattle.language_schedules.specs.declared.schedule.ScheduleFault.{ScheduleFault}
+use Rattle.language_schedules.specs.declared.schedule.ScheduleFault.TheVariants.{BadItem, NoSuchProcess, TooLong, NoMemory}
+use Rattle.searches_hunt.specs.declared.plan.Plan.{Plan}
+use Rattle.searches_tally.specs.declared.counting.Counted.{Counted}
+
+-- The first lines where a trap was found: how it was found, and the schedule.
+
+abbrev pub shortest_line : List ℕ
+shortest_line = codes "a process traps under this schedule, and under no shorter one:"
+
+abbrev pub some_line : List ℕ
+some_line = codes "a process traps under this schedule:"
+
+abbrev pub minimal_line : List ℕ
+minimal_line = codes "a process traps under this schedule, and where any one step is left out none does:"
+
+abbrev pub trap_lines : List ℕ → List ℕ → List ℕ
+trap_lines found schedule = found ++ line_end ++ schedule_text schedule ++ line_end
+
+-- so many of them, as `1 run` and `2 runs`
+unfoldable pub many : ℕ → List ℕ → List ℕ → List ℕ
+many count one more = decimal count ++ codes " " ++ (if count == 1 then one else more)
+
+abbrev pub states_text : ℕ → List ℕ
+states_text count = many count (codes "state") (codes "states")
+
+abbrev pub runs_text : ℕ → List ℕ
+runs_text count = many count (codes "run") (codes "runs")
+
+abbrev pub steps_text : ℕ → List ℕ
+steps_text count = many count (codes "step") (codes "steps")
+
+-- no trap was found
+abbrev pub safe_line : ℕ → List ℕ
+safe_line states = codes "no process traps under any schedule (" ++ states_text states ++ codes ")\n"
+
+abbrev pub limit_line : ℕ → List ℕ
+limit_line states = codes "there are more than " ++ states_text states ++ codes ": nothing is said of all schedules\n"
+
+abbrev pub nothing_line : Plan → List ℕ
+nothing_line plan =
+    codes "no process traps in " ++ runs_text plan.runs ++ codes " of at most " ++ steps_text plan.steps ++ codes " of seed "
+    ++ decimal plan.seed ++ codes "\n"
+
+-- an input that is taken, and one with a schedule that is
+abbrev pub taken_line : List ℕ → List ℕ
+taken_line name = name ++ codes ": nothing is wrong\n"
+
+abbrev pub both_taken_line : List ℕ → List ℕ
+both_taken_line name = name ++ codes ": nothing is wrong, nor with the schedule\n"
+
+-- a program whose code isn't made
+abbrev pub too_long_line : List ℕ → List ℕ
+too_long_line name = name ++ codes ": error: its code would have more than 65535 instructions\n"
+
+-- labels that aren't drawn
+abbrev pub number_line : List ℕ
+number_line = codes "N: error: there are 1 to 6 processes\n"
+
+abbrev pub spelling_line : ScheduleFault → List ℕ
+spelling_line (BadItem place) = codes "STAMPS: error: bad item at " ++ decimal place ++ codes "\n"
+spelling_line (NoSuchProcess place) = codes "STAMPS: error: no such process at " ++ decimal place ++ codes "\n"
+spelling_line TooLong = codes "STAMPS: error: too many steps\n"
+spelling_line NoMemory = []
+
+abbrev pub many_line : ℕ → List ℕ
+many_line count = codes "STAMPS: error: there are " ++ decimal count ++ codes " moves, and at most 400 are drawn\n"
+
+-- how many of so many runs came to an outcome, and the outcome
+abbrev pub count_text : ℕ → Counted → List ℕ
+count_text times counted = decimal counted.times ++ codes " of " ++ runs_text times ++ codes ":\n" ++ string_bytes counted.outcome
+
+abbrev pub count_texts : ℕ → List Counted → List ℕ
+count_texts times [] = []
+count_texts times (counted ∷ counts) = count_text times counted ++ count_texts times counts

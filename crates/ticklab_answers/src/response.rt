@@ -1,0 +1,71 @@
+ghost use Rattle.std.specs.Prelude.{◌≡◌, IfOk, MatchResult, [], string_bytes};
+ghost use Rattle.ticklab_answers.specs.Stops.{IsRefusal};
+
+use crate::fault::AnswerFault;
+use crate::stop::Stop;
+use std::alloc::Global;
+
+/// The whole answer to a command.
+#[derive(Drop)]
+pub struct Response {
+    /// The exit status.
+    pub status: u8,
+    /// What goes to standard output.
+    pub out: Vec<u8>,
+    /// What goes to standard error.
+    pub told: Vec<u8>,
+}
+
+/// It is done, and this is the answer.
+pub const DONE: u8 = 0;
+/// An input is refused.
+pub const REFUSED: u8 = 1;
+/// A schedule was found under which a process traps.
+pub const TRAPPED: u8 = 5;
+/// There are more states than were to be seen.
+pub const LIMIT: u8 = 6;
+
+/// An answer on standard output.
+pub fn answer(alloc: Global, status: u8, text: String) -> Response
+    ensures status { result.status ≡ status }
+    ensures out { result.out.items ≡ string_bytes text }
+    ensures told { result.told.items ≡ [] }
+{
+    output(alloc, status, text.into_bytes())
+}
+
+/// The same of bytes.
+pub fn output(alloc: Global, status: u8, out: Vec<u8>) -> Response
+    ensures status { result.status ≡ status }
+    ensures out { result.out ≡ out }
+    ensures told { result.told.items ≡ [] }
+{
+    Response {
+        status,
+        out,
+        told: Vec::new(alloc),
+    }
+}
+
+fn refused(alloc: Global, report: Vec<u8>) -> Response
+    ensures status { result.status ≡ 1 }
+    ensures out { result.out.items ≡ [] }
+    ensures told { result.told ≡ report }
+{
+    Response {
+        status: REFUSED,
+        out: Vec::new(alloc),
+        told: report,
+    }
+}
+
+/// A refusal is told on standard error, with nothing on standard output.
+pub fn settled(alloc: Global, answered: Result<Response, Stop>) -> Result<Response, AnswerFault>
+    ensures { IfOk result (λ response. MatchResult answered (λ given. response ≡ given) (IsRefusal response)) }
+{
+    match answered {
+        Ok(response) => Ok(response),
+        Err(Stop::Refused(report)) => Ok(refused(alloc, report)),
+        Err(Stop::Fault(fault)) => Err(fault),
+    }
+}

@@ -1,0 +1,189 @@
+-- Titles and names of rows open no tag. Two pictures of the same marks have as many `<`, whatever their
+-- titles are and however their rows are named (`markup_law`).
+-- The idea. The two pictures are the same pieces but for escaped texts. An escaped text has no `<`
+-- (`none_in`). Texts with as many `<`, joined in turn, have as many (`joined`). So the page goes piece by
+-- piece from the name of a row (`at_row`) to the whole picture (`picture_alike`).
+-- The difficulty. A row without a name shows its number, so there must be as many names on both sides
+-- (`named`). An outline may be as wide as its words. But only puts and gets name a row, and their outlines
+-- don't depend on the words (`put_drawn`, `get_drawn`).
+-- Read `joined` and `none_in` first.
+use Rattle.std.proofs.Common.{◌≡◌, ◌∙◌, ap, sym, refl, arith, zero-add, ℕ, zero, suc, ◌+◌, Bool, true, false, if◌then◌else◌, List, [], ◌∷◌, ◌++◌, codes, length, Option, None, Some}
+use Rattle.std.specs.Prelude.{◌==◌, ◌||◌, nat_lt, slice_get}
+use Rattle.std.specs.Fmt.{decimal}
+use Rattle.std.specs.List.{flat_map}
+use Rattle.base.specs.declared.event.Act.{Act}
+use Rattle.base.specs.declared.event.Act.TheVariants as A
+use Rattle.ticklab_draw.specs.declared.mark.Mark.{Mark}
+use Rattle.ticklab_draw.specs.declared.mark.Sight.{Sight}
+use Rattle.ticklab_draw.specs.declared.mark.Sight.TheVariants as S
+use Rattle.ticklab_draw.specs.declared.shapes.Shape.TheVariants.{Put, Get}
+use Rattle.ticklab_draw.specs.Escapes.{escaped, escaped_byte}
+use Rattle.ticklab_draw.specs.Laws.{MarkupLaw, openings}
+use Rattle.ticklab_draw.specs.Layout.{is_far, page_height}
+use Rattle.ticklab_draw.specs.Legend.{legend_text}
+use Rattle.ticklab_draw.specs.Pictures.{about, group_head, group_text, groups_text, heading, page_head, page_size, picture, title_element, titled, under_text}
+use Rattle.ticklab_draw.specs.Shapes.{above, below, beside, drawn, drawn_as, label, outline, shape_of, words_text}
+use Rattle.ticklab_draw.specs.Style.{backdrop, sheet}
+use Rattle.ticklab_draw.specs.Words.{act_text, origin_text, row_as, row_text, sentence, sight_text}
+
+-- Two texts have as many `<`.
+pub record Alike (a b : List ℕ) : Type 0 where
+  pub same : openings a ≡ openings b
+
+counted : (t : Bool) (x y z : ℕ) → x ≡ y + z → (if t then 1 + x else x) ≡ (if t then 1 + y else y) + z
+counted true x y z e = omega (arith, e)
+counted false x y z e = e
+
+openings-append : (a b : List ℕ) → openings (a ++ b) ≡ openings a + openings b
+openings-append [] b = sym (zero-add (openings b))
+openings-append (x ∷ a) b = counted (x == 60) (openings (a ++ b)) (openings a) (openings b) (openings-append a b)
+
+both : (a : List ℕ) → Alike a a
+both a = record { same = refl }
+
+joined : {a b c d : List ℕ} → Alike a b → Alike c d → Alike (a ++ c) (b ++ d)
+joined {a = a} {b = b} {c = c} {d = d} p q = record {
+  same =
+      openings-append a c ∙ ap (λ (k : ℕ). k + openings c) p.same ∙ ap (λ (k : ℕ). openings b + k) q.same
+      ∙ sym (openings-append b d);
+}
+
+-- an escaped byte, by what it is
+byte_by : (amp lt gt quote tick odd : Bool) (b : ℕ) → (b == 60) ≡ lt
+    → openings (if amp then codes "&amp;" else if lt then codes "&lt;" else if gt then codes "&gt;" else if quote then codes "&quot;" else if tick then codes "&#39;" else if odd then codes "?" else b ∷ []) ≡ 0
+byte_by true lt gt quote tick odd b is = refl
+byte_by false true gt quote tick odd b is = refl
+byte_by false false true quote tick odd b is = refl
+byte_by false false false true tick odd b is = refl
+byte_by false false false false true odd b is = refl
+byte_by false false false false false true b is = refl
+byte_by false false false false false false b is = ap (λ (t : Bool). if t then 1 else 0) is
+
+none_in : (text : List ℕ) → openings (escaped text) ≡ 0
+none_in [] = refl
+none_in (b ∷ text) =
+    openings-append (escaped_byte b) (escaped text)
+    ∙ ap (λ (k : ℕ). k + openings (escaped text)) (byte_by (b == 38) (b == 60) (b == 62) (b == 34) (b == 39) (nat_lt b 32 || (b == 127)) b refl)
+    ∙ zero-add (openings (escaped text)) ∙ none_in text
+
+texts : (a b : List ℕ) → Alike (escaped a) (escaped b)
+texts a b = record { same = none_in a ∙ sym (none_in b) }
+
+-- a row by any other name
+named : (row : ℕ) (rows renamed : List (List ℕ)) (k : ℕ) → length rows ≡ length renamed
+    → Alike (row_as row (slice_get rows k)) (row_as row (slice_get renamed k))
+named row [] [] k e = both (row_as row None)
+named row [] (y ∷ renamed) k e = absurd (omega (arith, e))
+named row (x ∷ rows) [] k e = absurd (omega (arith, e))
+named row (x ∷ rows) (y ∷ renamed) zero e = texts x y
+named row (x ∷ rows) (y ∷ renamed) (suc k) e = named row rows renamed k (omega (arith, e))
+
+module _ (n : ℕ) (rows renamed : List (List ℕ)) (e : length rows ≡ length renamed) where
+  at_row : (r : ℕ) → Alike (row_text rows r) (row_text renamed r)
+  at_row r = named r rows renamed r e
+
+  put_alike : (r v : ℕ) → Alike (row_text rows r ++ codes " := " ++ decimal v) (row_text renamed r ++ codes " := " ++ decimal v)
+  put_alike r v = joined (joined (at_row r) (both (codes " := "))) (both (decimal v))
+
+  read_alike : (r i v : ℕ)
+      → Alike (row_text rows r ++ codes "[" ++ decimal i ++ codes "] = " ++ decimal v) (row_text renamed r ++ codes "[" ++ decimal i ++ codes "] = " ++ decimal v)
+  read_alike r i v = joined (joined (joined (joined (at_row r) (both (codes "["))) (both (decimal i))) (both (codes "] = "))) (both (decimal v))
+
+  gets_alike : (r i v : ℕ)
+      → Alike (codes "gets " ++ row_text rows r ++ codes "[" ++ decimal i ++ codes "] = " ++ decimal v)
+      (codes "gets " ++ row_text renamed r ++ codes "[" ++ decimal i ++ codes "] = " ++ decimal v)
+  gets_alike r i v =
+      joined (joined (joined (joined (joined (both (codes "gets ")) (at_row r)) (both (codes "["))) (both (decimal i))) (both (codes "] = "))) (both (decimal v))
+
+  act_alike : (act : Act) → Alike (act_text n rows act) (act_text n renamed act)
+  act_alike (A.Put r v) = joined (joined (joined (both (codes "puts ")) (at_row r)) (both (codes " := "))) (both (decimal v))
+  act_alike (A.Get r i v) = gets_alike r i v
+  act_alike A.Stamp = both _
+  act_alike A.Clear = both _
+  act_alike (A.Scan ranks) = both _
+  act_alike (A.Older i j answer) = both _
+  act_alike (A.Held i answer) = both _
+  act_alike (A.Out v) = both _
+  act_alike (A.Trap trap) = both _
+  act_alike A.End = both _
+
+  sight_alike : (sight : Sight) → Alike (sight_text n rows sight) (sight_text n renamed sight)
+  sight_alike (S.Act act) = act_alike act
+  sight_alike (S.Get r i v put) = joined (gets_alike r i v) (both (origin_text put))
+  sight_alike (S.Stamp held) = both _
+  sight_alike (S.Clear held) = both _
+  sight_alike (S.Lost held) = both _
+
+  sentence_alike : (m : Mark) → Alike (sentence n rows m) (sentence n renamed m)
+  unfolding sentence
+  sentence_alike m =
+      joined (both (codes "step " ++ decimal m.step ++ codes ": P" ++ decimal m.process ++ codes " ")) (sight_alike m.sight)
+
+  label_alike : {w v : List ℕ} (head style : List ℕ) → Alike w v → Alike (label head style w) (label head style v)
+  unfolding label
+  label_alike head style alike = joined (joined (both (head ++ style ++ codes ">")) alike) (both (codes "</text>"))
+
+  put_drawn : (far : Bool) {w v : List ℕ} → Alike w v → Alike (drawn_as Put far w) (drawn_as Put far v)
+  unfolding outline words_text
+  put_drawn far alike = joined (both (outline Put 0)) (label_alike (above far) [] alike)
+
+  get_drawn : (far : Bool) {w v : List ℕ} → Alike w v → Alike (drawn_as Get far w) (drawn_as Get far v)
+  unfolding outline words_text
+  get_drawn far alike = joined (both (outline Get 0)) (label_alike (below far) [] alike)
+
+  act_drawn : (far : Bool) (p : ℕ) (act : Act)
+      → Alike (drawn_as (shape_of (S.Act act)) far (beside n rows p (S.Act act))) (drawn_as (shape_of (S.Act act)) far (beside n renamed p (S.Act act)))
+  act_drawn far p (A.Put r v) = put_drawn far (put_alike r v)
+  act_drawn far p (A.Get r i v) = get_drawn far (read_alike r i v)
+  act_drawn far p A.Stamp = both _
+  act_drawn far p A.Clear = both _
+  act_drawn far p (A.Scan ranks) = both _
+  act_drawn far p (A.Older i j answer) = both _
+  act_drawn far p (A.Held i answer) = both _
+  act_drawn far p (A.Out v) = both _
+  act_drawn far p (A.Trap trap) = both _
+  act_drawn far p A.End = both _
+
+  sight_drawn : (far : Bool) (p : ℕ) (sight : Sight)
+      → Alike (drawn_as (shape_of sight) far (beside n rows p sight)) (drawn_as (shape_of sight) far (beside n renamed p sight))
+  sight_drawn far p (S.Act act) = act_drawn far p act
+  sight_drawn far p (S.Get r i v put) = get_drawn far (read_alike r i v)
+  sight_drawn far p (S.Stamp held) = both _
+  sight_drawn far p (S.Clear held) = both _
+  sight_drawn far p (S.Lost held) = both _
+
+  drawn_alike : (at : ℕ) (m : Mark) → Alike (drawn n rows at m) (drawn n renamed at m)
+  unfolding drawn
+  drawn_alike at m = sight_drawn (is_far at) m.process m.sight
+
+  group_alike : (at : ℕ) (m : Mark) → Alike (group_text n rows at m) (group_text n renamed at m)
+  unfolding group_text
+  group_alike at m =
+      joined (joined (joined (joined (both (group_head n at m.process)) (sentence_alike m)) (both (codes "</title>"))) (drawn_alike at m)) (both (codes "</g>\n"))
+
+  groups_alike : (at : ℕ) (marks : List Mark) → Alike (groups_text n rows at marks) (groups_text n renamed at marks)
+  groups_alike at [] = both []
+  groups_alike at (m ∷ marks) = joined (group_alike at m) (groups_alike (at + 1) marks)
+
+titled_alike : (before title other after : List ℕ) → Alike (titled before title after) (titled before other after)
+unfolding titled
+titled_alike before title other after = joined (joined (both before) (texts title other)) (both after)
+
+head_alike : (title other : List ℕ) (n count : ℕ) → Alike (page_head title n count) (page_head other n count)
+unfolding page_head title_element
+head_alike title other n count =
+    joined (joined (both (page_size (page_height n count))) (titled_alike (codes "<title id=\"title\">") title other (codes "</title>\n"))) (both (about n count))
+
+heading_alike : (title other : List ℕ) → Alike (heading title) (heading other)
+unfolding heading
+heading_alike title other =
+    joined (both (sheet ++ backdrop)) (titled_alike (codes "<text class=\"title\" x=\"16\" y=\"26\">") title other (codes "</text>\n"))
+
+picture_alike : (title other : List ℕ) (n : ℕ) (rows renamed : List (List ℕ)) (marks : List Mark) → length rows ≡ length renamed
+    → Alike (picture title n rows marks) (picture other n renamed marks)
+unfolding picture
+picture_alike title other n rows renamed marks e =
+    joined (joined (joined (joined (head_alike title other n (length marks)) (heading_alike title other)) (both (under_text n marks))) (groups_alike n rows renamed e 0 marks)) (both (legend_text n (length marks)))
+
+pub markup_law : MarkupLaw
+markup_law title other n rows renamed marks e = (picture_alike title other n rows renamed marks e).same

@@ -1,0 +1,41 @@
+-- What the picture's signs mean, below all bands.
+use Rattle.std.specs.Prelude.{ℕ, ◌-◌, List, [], ◌∷◌, ◌++◌, codes}
+use Rattle.ticklab_draw.specs.declared.shapes.Shape.{Shape}
+use Rattle.ticklab_draw.specs.declared.shapes.Shape.TheVariants.{Put, Get, Stamp, Clear, Scan, Yes, No, Out, Trap, End, Lost}
+use Rattle.ticklab_draw.specs.Lanes.{caption}
+use Rattle.ticklab_draw.specs.Layout.{page_height}
+
+-- what a shape looks like, as a sign of UTF-8 or in a word
+abbrev pub sign : Shape → List ℕ
+sign Put = 226 ∷ 150 ∷ 160 ∷ []  -- ■
+sign Get = 226 ∷ 150 ∷ 161 ∷ []  -- □
+sign Stamp = 226 ∷ 151 ∷ 143 ∷ []  -- ●
+sign Clear = 226 ∷ 138 ∷ 150 ∷ []  -- ⊖
+sign Scan = 226 ∷ 151 ∷ 139 ∷ []  -- ○
+sign Yes = 226 ∷ 151 ∷ 134 ∷ []  -- ◆
+sign No = 226 ∷ 151 ∷ 135 ∷ []  -- ◇
+sign Out = codes "flag:"
+sign Trap = 226 ∷ 156 ∷ 149 ∷ []  -- ✕
+sign End = 226 ∷ 150 ∷ 140 ∷ []  -- ▌
+sign Lost = codes "dashed:"
+
+-- between two entries, a dot in the middle of the line
+abbrev pub dot : List ℕ
+dot = 32 ∷ 194 ∷ 183 ∷ 32 ∷ []
+
+unfoldable pub first_legend : List ℕ
+first_legend =
+    sign Put ++ codes " put" ++ dot ++ sign Get ++ codes " get, and an arrow from the put that it reads" ++ dot
+    ++ sign Stamp ++ codes " stamp, with its ticket" ++ dot ++ sign Clear ++ codes " clear" ++ dot
+    ++ codes "order: who holds a ticket, smallest first"
+
+unfoldable pub second_legend : List ℕ
+second_legend =
+    sign Scan ++ codes " scan, with ranks" ++ dot ++ sign Yes ++ codes " yes, " ++ sign No ++ codes " no to a question" ++ dot
+    ++ sign Out ++ codes " a value given out" ++ dot ++ sign Trap ++ codes " trap" ++ dot ++ sign End ++ codes " end" ++ dot
+    ++ sign Lost ++ codes " a lost exchange" ++ dot ++ codes "step: its number in the schedule"
+
+-- both lines, at the foot of the page of so many marks, and the end of the picture
+unfoldable pub legend_text : ℕ → ℕ → List ℕ
+legend_text n count =
+    caption (page_height n count - 42) first_legend ++ caption (page_height n count - 22) second_legend ++ codes "</svg>\n"

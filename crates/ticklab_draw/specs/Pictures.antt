@@ -1,0 +1,72 @@
+-- A run as SVG, to the byte: a page with its title, its style, lanes with what stands below them, a group for
+-- each mark in order, and the legend. The title and the names of rows are written as `Escapes` says.
+use Rattle.std.specs.Prelude.{ℕ, ◌+◌, List, [], ◌∷◌, ◌++◌, codes, length}
+use Rattle.ticklab_draw.specs.declared.mark.Mark.{Mark}
+use Rattle.ticklab_draw.specs.Colours.{colour}
+use Rattle.ticklab_draw.specs.Escapes.{escaped}
+use Rattle.ticklab_draw.specs.Feet.{feet_text}
+use Rattle.ticklab_draw.specs.Lanes.{bands_text, ends_text}
+use Rattle.ticklab_draw.specs.Layout.{last_band, mark_x, mark_y, page_height}
+use Rattle.ticklab_draw.specs.Legend.{legend_text}
+use Rattle.ticklab_draw.specs.Shapes.{drawn}
+use Rattle.ticklab_draw.specs.Style.{backdrop, sheet}
+use Rattle.ticklab_draw.specs.Words.{sentence}
+use Rattle.ticklab_draw.specs.Writing.{one_number, two_numbers}
+
+unfoldable pub group_name : ℕ → List ℕ
+group_name at = one_number (codes "<g id=\"mark-") (at + 1) (codes "\" color=\"")
+
+unfoldable pub group_place : ℕ → ℕ → List ℕ
+group_place x y = two_numbers (codes "\" transform=\"translate(") x (codes " ") y (codes ")\"><title>")
+
+-- the head of the group of the mark of this place, which is of process `p` of `n`: its name, its colour, and where it stands
+unfoldable pub group_head : ℕ → ℕ → ℕ → List ℕ
+group_head n at p = group_name at ++ colour p ++ group_place (mark_x at) (mark_y n at p)
+
+-- a mark: its place, what it shows in words, and what is drawn of it
+unfoldable pub group_text : ℕ → List (List ℕ) → ℕ → Mark → List ℕ
+group_text n rows at m = group_head n at m.process ++ sentence n rows m ++ codes "</title>" ++ drawn n rows at m ++ codes "</g>\n"
+
+-- a group for each of these marks, in order, the first of which has this place
+abbrev pub groups_text : ℕ → List (List ℕ) → ℕ → List Mark → List ℕ
+groups_text n rows at [] = []
+groups_text n rows at (m ∷ marks) = group_text n rows at m ++ groups_text n rows (at + 1) marks
+
+-- an element so high, and as much of what is drawn in it
+unfoldable pub page_element : ℕ → List ℕ
+page_element height =
+    one_number (codes "<svg xmlns=\"http://www.w3.org/2000/svg\" role=\"img\" aria-labelledby=\"title about\" width=\"1000\" height=\"") height (codes "\"")
+
+unfoldable pub page_view : ℕ → List ℕ
+page_view height = one_number (codes " viewBox=\"0 0 1000 ") height (codes "\">\n")
+
+unfoldable pub page_size : ℕ → List ℕ
+page_size height = page_element height ++ page_view height
+
+-- the title between these pieces of markup
+unfoldable pub titled : List ℕ → List ℕ → List ℕ → List ℕ
+titled before title after = before ++ escaped title ++ after
+
+unfoldable pub title_element : List ℕ → List ℕ
+title_element title = titled (codes "<title id=\"title\">") title (codes "</title>\n")
+
+unfoldable pub about : ℕ → ℕ → List ℕ
+about n count = two_numbers (codes "<desc id=\"about\">") count (codes " marks of a run; processes: ") n (codes "</desc>\n")
+
+-- the page, its title and what it is of
+unfoldable pub page_head : List ℕ → ℕ → ℕ → List ℕ
+page_head title n count = page_size (page_height n count) ++ title_element title ++ about n count
+
+-- the style, and the title once more, which is seen
+unfoldable pub heading : List ℕ → List ℕ
+heading title = sheet ++ backdrop ++ titled (codes "<text class=\"title\" x=\"16\" y=\"26\">") title (codes "</text>\n")
+
+-- what stands under the marks: lanes, how each process ended, and steps, orders and arrows
+unfoldable pub under_text : ℕ → List Mark → List ℕ
+under_text n marks =
+    bands_text n (last_band (length marks) + 1) ++ ends_text n (last_band (length marks)) marks n ++ feet_text n marks 0 marks
+
+-- the picture of these marks of a run of `n` processes, whose rows have these names
+unfoldable pub picture : List ℕ → ℕ → List (List ℕ) → List Mark → List ℕ
+picture title n rows marks =
+    page_head title n (length marks) ++ heading title ++ under_text n marks ++ groups_text n rows 0 marks ++ legend_text n (length marks)

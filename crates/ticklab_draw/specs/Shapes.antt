@@ -1,0 +1,128 @@
+-- What is drawn where a mark stands: its shape, which its act decides, and the words beside it.
+use Rattle.std.specs.Prelude.{ℕ, ◌==◌, ◌*◌, nat_lt, Bool, if◌then◌else◌, List, [], ◌++◌, codes, length, map, take, slice_index}
+use Rattle.std.specs.Fmt.{decimal}
+use Rattle.base.specs.Lines.{spaced}
+use Rattle.word_core.specs.Stamps.{Labels, label_at}
+use Rattle.base.specs.declared.event.Act.{Act}
+use Rattle.base.specs.declared.event.Act.TheVariants as A
+use Rattle.ticklab_draw.specs.declared.mark.Mark.{Mark}
+use Rattle.ticklab_draw.specs.declared.mark.Sight.{Sight}
+use Rattle.ticklab_draw.specs.declared.mark.Sight.TheVariants as S
+use Rattle.ticklab_draw.specs.declared.mark.Holdings.{Holdings}
+use Rattle.ticklab_draw.specs.declared.mark.Holdings.TheVariants as H
+use Rattle.ticklab_draw.specs.declared.shapes.Shape.{Shape}
+use Rattle.ticklab_draw.specs.declared.shapes.Shape.TheVariants.{Put, Get, Stamp, Clear, Scan, Yes, No, Out, Trap, End, Lost}
+use Rattle.ticklab_draw.specs.Layout.{field_half, flag_middle, flag_width, is_far}
+use Rattle.ticklab_draw.specs.Words.{answer_text, label_text, row_text, trap_text}
+use Rattle.ticklab_draw.specs.Writing.{one_number}
+
+-- the shape of an answer, of an act, and of what a mark shows
+abbrev pub answer_shape : ℕ → Shape
+answer_shape answer = if answer == 0 then No else Yes
+
+abbrev pub act_shape : Act → Shape
+act_shape (A.Put r v) = Put
+act_shape (A.Get r i v) = Get
+act_shape A.Stamp = Stamp
+act_shape A.Clear = Clear
+act_shape (A.Scan ranks) = Scan
+act_shape (A.Older i j answer) = answer_shape answer
+act_shape (A.Held i answer) = answer_shape answer
+act_shape (A.Out v) = Out
+act_shape (A.Trap trap) = Trap
+act_shape A.End = End
+
+abbrev pub shape_of : Sight → Shape
+shape_of (S.Act act) = act_shape act
+shape_of (S.Get r i v put) = Get
+shape_of (S.Stamp held) = Stamp
+shape_of (S.Clear held) = Clear
+shape_of (S.Lost held) = Lost
+
+-- the ticket or the label of process `p`
+abbrev pub own_label : ℕ → Labels → List ℕ
+own_label p labels = if nat_lt p (length labels) then label_text (label_at labels p) else []
+
+abbrev pub own_text : ℕ → Holdings → List ℕ
+own_text p (H.Tickets tickets) = decimal (slice_index tickets p)
+own_text p (H.Labels labels) = own_label p labels
+
+-- the words beside an act: a row and a value, ranks, a question with its answer, a value, or why a process was stopped
+abbrev pub beside_act : ℕ → List (List ℕ) → Act → List ℕ
+beside_act n rows (A.Put r v) = row_text rows r ++ codes " := " ++ decimal v
+beside_act n rows (A.Get r i v) = row_text rows r ++ codes "[" ++ decimal i ++ codes "] = " ++ decimal v
+beside_act n rows A.Stamp = []
+beside_act n rows A.Clear = []
+beside_act n rows (A.Scan ranks) = spaced (map decimal (take n ranks))
+beside_act n rows (A.Older i j answer) = decimal i ++ codes " &lt; " ++ decimal j ++ codes "? " ++ answer_text answer
+beside_act n rows (A.Held i answer) = decimal i ++ codes " held? " ++ answer_text answer
+beside_act n rows (A.Out v) = decimal v
+beside_act n rows (A.Trap trap) = trap_text trap
+beside_act n rows A.End = []
+
+-- those beside what a mark of process `p` shows
+abbrev pub beside : ℕ → List (List ℕ) → ℕ → Sight → List ℕ
+beside n rows p (S.Act act) = beside_act n rows act
+beside n rows p (S.Get r i v put) = row_text rows r ++ codes "[" ++ decimal i ++ codes "] = " ++ decimal v
+beside n rows p (S.Stamp held) = own_text p held
+beside n rows p (S.Clear held) = []
+beside n rows p (S.Lost held) = []
+
+-- a field so wide on each side
+unfoldable pub field : ℕ → List ℕ
+field half =
+    one_number (codes "<rect class=\"f\" x=\"-") half (codes "\" y=\"-12\"") ++ one_number (codes " width=\"") (half * 2) (codes "\"")
+    ++ codes " height=\"24\" rx=\"12\"/>"
+
+unfoldable pub flag : ℕ → List ℕ
+flag width = one_number (codes "<path class=\"flag\" d=\"M0 0V-28H") width (codes "l-5 8l5 8H0\"/>")
+
+-- how each shape is drawn: that of a stamp and that of a value given out are as wide as the letters in them
+unfoldable pub outline : Shape → ℕ → List ℕ
+outline Put letters = codes "<rect class=\"f\" x=\"-7\" y=\"-7\" width=\"14\" height=\"14\"/>"
+outline Get letters = codes "<rect class=\"o\" x=\"-6\" y=\"-6\" width=\"12\" height=\"12\"/>"
+outline Stamp letters = field (field_half letters)
+outline Clear letters = codes "<circle class=\"o\" r=\"8\"/><path class=\"l\" d=\"M-8 0H8\"/>"
+outline Scan letters = codes "<circle class=\"o\" r=\"8\"/>"
+outline Yes letters = codes "<path class=\"f\" d=\"M-8 0L0 -8L8 0L0 8Z\"/>"
+outline No letters = codes "<path class=\"o\" d=\"M-8 0L0 -8L8 0L0 8Z\"/>"
+outline Out letters = flag (flag_width letters)
+outline Trap letters = codes "<path class=\"x\" d=\"M-8 -8L8 8M8 -8L-8 8\"/>"
+outline End letters = codes "<rect class=\"f\" x=\"-2\" y=\"-11\" width=\"5\" height=\"22\"/>"
+outline Lost letters = codes "<circle class=\"o\" r=\"7\" stroke-dasharray=\"3 2.5\"/>"
+
+-- above and below a shape, near it or farther off
+abbrev pub above : Bool → List ℕ
+above far = if far then codes "<text y=\"-27\"" else codes "<text y=\"-14\""
+
+abbrev pub below : Bool → List ℕ
+below far = if far then codes "<text y=\"36\"" else codes "<text y=\"23\""
+
+-- words where the text's head says, in this style
+unfoldable pub label : List ℕ → List ℕ → List ℕ → List ℕ
+label head style words = head ++ style ++ codes ">" ++ words ++ codes "</text>"
+
+unfoldable pub flag_label : List ℕ → List ℕ
+flag_label words = one_number (codes "<text class=\"on\" x=\"") (flag_middle (length words)) (codes "\" y=\"-16\">") ++ words ++ codes "</text>"
+
+-- where the words of each shape stand
+unfoldable pub words_text : Shape → Bool → List ℕ → List ℕ
+words_text Put far words = label (above far) [] words
+words_text Get far words = label (below far) [] words
+words_text Stamp far words = label (codes "<text class=\"in\" y=\"4\"") [] words
+words_text Clear far words = []
+words_text Scan far words = label (below far) (codes " class=\"strong\"") words
+words_text Yes far words = label (below far) [] words
+words_text No far words = label (below far) [] words
+words_text Out far words = flag_label words
+words_text Trap far words = label (above far) (codes " class=\"trap\"") words
+words_text End far words = []
+words_text Lost far words = []
+
+-- a shape and its words
+abbrev pub drawn_as : Shape → Bool → List ℕ → List ℕ
+drawn_as shape far words = outline shape (length words) ++ words_text shape far words
+
+-- what is drawn of the mark of this place, of one of `n` processes, where rows have these names
+unfoldable pub drawn : ℕ → List (List ℕ) → ℕ → Mark → List ℕ
+drawn n rows at m = drawn_as (shape_of m.sight) (is_far at) (beside n rows m.process m.sight)

@@ -1,0 +1,100 @@
+// What stands below the lanes for each mark: the number of its step, the new order of tickets if it changed,
+// and an arrow to a get.
+ghost use Rattle.std.specs.Prelude.{◌≡◌, ◌++◌, OnOk};
+ghost use Rattle.ticklab_draw.specs.Feet.{change_text, feet_text, foot_text, order_at, order_text, when_line};
+
+use crate::arrows::{push_arrow, push_step};
+use crate::colours::{push_colour, push_stroke};
+use crate::layout::{band_foot, band_of, band_top, mark_x, order_y, step_y};
+use crate::mark::{Holdings, Mark, Sight};
+use crate::orders::{holders, push_order_words};
+use crate::writing::{push, push_one, push_two};
+use std::alloc::{AllocError, Global};
+
+/// Adds what stands below the lanes for each of these marks.
+pub fn push_feet(alloc: Global, out: &mut Vec<u8>, n: u8, marks: &[Mark]) -> Result<(), AllocError>
+    ensures { OnOk result (out.new.items ≡ out.old.items ++ feet_text n marks.now 0 marks.now) }
+{
+    for (at, mark) in marks.iter().enumerate() {
+        push_foot(alloc, out, n, at, mark, marks)?;
+    }
+    Ok(())
+}
+
+#[tactic(auto, unfolding(crate::specs::Feet::foot_text))]
+fn push_foot(
+    alloc: Global,
+    out: &mut Vec<u8>,
+    n: u8,
+    at: usize,
+    mark: &Mark,
+    marks: &[Mark],
+) -> Result<(), AllocError>
+    ensures { OnOk result (out.new.items ≡ out.old.items ++ foot_text n at mark.now marks.now) }
+{
+    push_step(out, mark_x(at), step_y(n, at), "", mark.step)?;
+    push_change(alloc, out, n, at, mark.process, mark.sight)?;
+    push_arrow(out, n, at, mark, marks)
+}
+
+fn push_change(
+    alloc: Global,
+    out: &mut Vec<u8>,
+    n: u8,
+    at: usize,
+    p: u8,
+    sight: Sight,
+) -> Result<(), AllocError>
+    ensures { OnOk result (out.new.items ≡ out.old.items ++ change_text n at p sight) }
+{
+    match sight {
+        Sight::Stamp(held) => push_order(alloc, out, n, at, p, held),
+        Sight::Clear(held) => push_order(alloc, out, n, at, p, held),
+        _ => Ok(()),
+    }
+}
+
+#[tactic(auto, unfolding(crate::specs::Feet::order_text))]
+fn push_order(
+    alloc: Global,
+    out: &mut Vec<u8>,
+    n: u8,
+    at: usize,
+    p: u8,
+    held: Holdings,
+) -> Result<(), AllocError>
+    ensures { OnOk result (out.new.items ≡ out.old.items ++ order_text n at p held) }
+{
+    let found = holders(alloc, &held)?;
+    let band = band_of(at);
+    push_when(out, mark_x(at), band_top(n, band), band_foot(n, band), p)?;
+    push_order_at(out, mark_x(at), order_y(n, at), p, &found)
+}
+
+// The line through all lanes where an order changed.
+#[tactic(auto, unfolding(crate::specs::Feet::when_line))]
+fn push_when(out: &mut Vec<u8>, x: u64, top: u128, foot: u128, p: u8) -> Result<(), AllocError>
+    ensures { OnOk result (out.new.items ≡ out.old.items ++ when_line x top foot p) }
+{
+    push_stroke(out, "<path class=\"when\"", p)?;
+    push_two(out, " d=\"M", x, " ", top, "V")?;
+    push_one(out, "", foot, "\"/>")
+}
+
+#[tactic(auto, unfolding(crate::specs::Feet::order_at))]
+fn push_order_at(
+    out: &mut Vec<u8>,
+    x: u64,
+    y: u128,
+    p: u8,
+    processes: &[u8],
+) -> Result<(), AllocError>
+    ensures { OnOk result (out.new.items ≡ out.old.items ++ order_at x y p processes.now) }
+{
+    let begin = "<text class=\"order\" x=\"";
+    push_two(out, begin, x, "\" y=\"", y, "\" color=\"")?;
+    push_colour(out, p)?;
+    push(out, "\">")?;
+    push_order_words(out, processes)?;
+    push(out, "</text>\n")
+}

@@ -1,0 +1,149 @@
+// The lanes of all bands, and how each process ended.
+ghost use Rattle.std.specs.Prelude.{◌≡◌, ◌++◌, ◌<◌, ◌^◌, OnOk};
+ghost use Rattle.ticklab_draw.specs.Lanes.{band_text, bands_text, caption, end_of, end_style, end_text, end_words, ended, ended_by, ends_text, lane_line, lane_name, lane_text, lanes_text};
+
+use crate::colours::{push_colour, push_stroke};
+use crate::layout::{band_foot, lane_y};
+use crate::mark::{Mark, Sight};
+use crate::words::trap_name;
+use crate::writing::{push, push_one};
+use base::{Act, Status};
+use std::alloc::AllocError;
+
+/// Adds so many bands.
+pub fn push_bands(out: &mut Vec<u8>, n: u8, bands: usize) -> Result<(), AllocError>
+    ensures { OnOk result (out.new.items ≡ out.old.items ++ bands_text n bands) }
+{
+    for band in 0..bands {
+        push_band(out, n, band)?;
+    }
+    Ok(())
+}
+
+#[tactic(auto, unfolding(crate::specs::Lanes::band_text))]
+fn push_band(out: &mut Vec<u8>, n: u8, band: usize) -> Result<(), AllocError>
+    ensures { OnOk result (out.new.items ≡ out.old.items ++ band_text n band) }
+{
+    push_lanes(out, n, band)?;
+    push_caption(out, band_foot(n, band) + 10, "order")?;
+    push_caption(out, band_foot(n, band) + 40, "step")
+}
+
+fn push_lanes(out: &mut Vec<u8>, n: u8, band: usize) -> Result<(), AllocError>
+    ensures { OnOk result (out.new.items ≡ out.old.items ++ lanes_text n band n) }
+{
+    for p in 0..n {
+        push_lane(out, lane_y(n, band, p), p)?;
+    }
+    Ok(())
+}
+
+#[tactic(auto, unfolding(crate::specs::Lanes::lane_text))]
+fn push_lane(out: &mut Vec<u8>, y: u128, p: u8) -> Result<(), AllocError>
+    requires { y < 2 ^ 90 }
+    ensures { OnOk result (out.new.items ≡ out.old.items ++ lane_text y p) }
+{
+    push_lane_line(out, y, p)?;
+    push_lane_name(out, y + 5, p)
+}
+
+#[tactic(auto, unfolding(crate::specs::Lanes::lane_line))]
+fn push_lane_line(out: &mut Vec<u8>, y: u128, p: u8) -> Result<(), AllocError>
+    ensures { OnOk result (out.new.items ≡ out.old.items ++ lane_line y p) }
+{
+    push_stroke(out, "<path class=\"lane\"", p)?;
+    push_one(out, " d=\"M50 ", y, "H896\"/>")
+}
+
+#[tactic(auto, unfolding(crate::specs::Lanes::lane_name))]
+fn push_lane_name(out: &mut Vec<u8>, y: u128, p: u8) -> Result<(), AllocError>
+    ensures { OnOk result (out.new.items ≡ out.old.items ++ lane_name y p) }
+{
+    push_one(out, "<text class=\"name\" x=\"16\" y=\"", y, "\" color=\"")?;
+    push_colour(out, p)?;
+    push_one(out, "\">P", u128::from(p), "</text>\n")
+}
+
+/// Adds words at the left edge.
+#[tactic(auto, unfolding(crate::specs::Lanes::caption))]
+pub fn push_caption(out: &mut Vec<u8>, y: u128, words: &str) -> Result<(), AllocError>
+    ensures { OnOk result (out.new.items ≡ out.old.items ++ caption y words.now) }
+{
+    push_one(out, "<text class=\"left\" x=\"16\" y=\"", y, "\">")?;
+    push(out, words)?;
+    push(out, "</text>\n")
+}
+
+/// Adds how each process stands after these marks, beside its lane of a band.
+pub fn push_ends(out: &mut Vec<u8>, n: u8, band: usize, marks: &[Mark]) -> Result<(), AllocError>
+    ensures { OnOk result (out.new.items ≡ out.old.items ++ ends_text n band marks.now n) }
+{
+    for p in 0..n {
+        push_end(out, lane_y(n, band, p) + 4, end_of(p, marks))?;
+    }
+    Ok(())
+}
+
+fn end_of(p: u8, marks: &[Mark]) -> Status
+    ensures { result ≡ end_of p marks.now }
+{
+    let mut status = Status::Running;
+    for mark in marks {
+        if mark.process == p {
+            status = ended(status, mark.sight);
+        }
+    }
+    status
+}
+
+fn ended(status: Status, sight: Sight) -> Status
+    ensures { result ≡ ended status sight }
+{
+    match sight {
+        Sight::Act(act) => ended_by(status, act),
+        _ => status,
+    }
+}
+
+fn ended_by(status: Status, act: Act) -> Status
+    ensures { result ≡ ended_by status act }
+{
+    match act {
+        Act::End => Status::Ended,
+        Act::Trap(trap) => Status::Trapped(trap),
+        _ => status,
+    }
+}
+
+#[tactic(auto, unfolding(crate::specs::Lanes::end_text))]
+fn push_end(out: &mut Vec<u8>, y: u128, status: Status) -> Result<(), AllocError>
+    ensures { OnOk result (out.new.items ≡ out.old.items ++ end_text y status) }
+{
+    push(out, end_style(status))?;
+    push_one(out, " x=\"903\" y=\"", y, "\">")?;
+    push_end_words(out, status)?;
+    push(out, "</text>\n")
+}
+
+fn end_style(status: Status) -> &'static str
+    ensures { result.now ≡ end_style status }
+{
+    match status {
+        Status::Running => "<text class=\"left\"",
+        Status::Ended => "<text class=\"left\"",
+        Status::Trapped(_) => "<text class=\"left trap\"",
+    }
+}
+
+fn push_end_words(out: &mut Vec<u8>, status: Status) -> Result<(), AllocError>
+    ensures { OnOk result (out.new.items ≡ out.old.items ++ end_words status) }
+{
+    match status {
+        Status::Running => push(out, "running"),
+        Status::Ended => push(out, "ended"),
+        Status::Trapped(trap) => {
+            push(out, "trap ")?;
+            push(out, trap_name(trap))
+        }
+    }
+}

@@ -1,0 +1,190 @@
+// The picture of a list of marks.
+ghost use Rattle.std.specs.Prelude.{◌≡◌, ◌++◌, IfOk, OnOk};
+ghost use Rattle.ticklab_draw.specs.Words.{names};
+ghost use Rattle.ticklab_draw.specs.Pictures.{about, group_head, group_name, group_place, group_text, groups_text, heading, page_element, page_head, page_size, page_view, picture, title_element, titled, under_text};
+
+use crate::colours::push_colour;
+use crate::feet::push_feet;
+use crate::lanes::{push_bands, push_ends};
+use crate::layout::{last_band, mark_x, mark_y, page_height};
+use crate::legend::push_legend;
+use crate::mark::Mark;
+use crate::shapes::push_drawn;
+use crate::style::{backdrop, sheet};
+use crate::words::{Cast, push_sentence};
+use crate::writing::{push, push_escaped, push_one, push_two};
+use base::NoMemory;
+use base::tree::Named;
+use std::alloc::{AllocError, Global};
+
+/// The marks of a run of `processes` processes as SVG. Rows of registers have these names, and `r` with
+/// its number where there is none. The title is read out, and stands above the picture.
+#[tactic(auto, unfolding(crate::specs::Pictures::picture))]
+pub fn picture(
+    alloc: Global,
+    title: &str,
+    processes: u8,
+    registers: &[Named],
+    marks: &[Mark],
+) -> Result<Vec<u8>, NoMemory>
+    ensures { IfOk result (λ text. text.items ≡ picture title.now processes (names registers.now) marks.now) }
+{
+    let cast = Cast {
+        processes,
+        registers,
+    };
+    let mut out = Vec::new(alloc);
+    push_page(&mut out, title, processes, marks.len())?;
+    push_heading(&mut out, title)?;
+    push_under(alloc, &mut out, processes, marks)?;
+    push_groups(alloc, &mut out, cast, marks)?;
+    push_legend(&mut out, processes, marks.len())?;
+    Ok(out)
+}
+
+// The page, its title and what it is of, for who sees it and for who has it read out.
+#[tactic(auto, unfolding(crate::specs::Pictures::page_head))]
+fn push_page(out: &mut Vec<u8>, title: &str, n: u8, count: usize) -> Result<(), AllocError>
+    ensures { OnOk result (out.new.items ≡ out.old.items ++ page_head title.now n count) }
+{
+    push_size(out, page_height(n, count))?;
+    push_title(out, title)?;
+    push_about(out, n, count)
+}
+
+#[tactic(auto, unfolding(crate::specs::Pictures::page_size))]
+fn push_size(out: &mut Vec<u8>, height: u128) -> Result<(), AllocError>
+    ensures { OnOk result (out.new.items ≡ out.old.items ++ page_size height) }
+{
+    push_page_element(out, height)?;
+    push_page_view(out, height)
+}
+
+#[tactic(auto, unfolding(crate::specs::Pictures::page_element))]
+fn push_page_element(out: &mut Vec<u8>, height: u128) -> Result<(), AllocError>
+    ensures { OnOk result (out.new.items ≡ out.old.items ++ page_element height) }
+{
+    push_one(
+        out,
+        "<svg xmlns=\"http://www.w3.org/2000/svg\" role=\"img\" aria-labelledby=\"title about\" width=\"1000\" height=\"",
+        height,
+        "\"",
+    )
+}
+
+#[tactic(auto, unfolding(crate::specs::Pictures::page_view))]
+fn push_page_view(out: &mut Vec<u8>, height: u128) -> Result<(), AllocError>
+    ensures { OnOk result (out.new.items ≡ out.old.items ++ page_view height) }
+{
+    push_one(out, " viewBox=\"0 0 1000 ", height, "\">\n")
+}
+
+#[tactic(auto, unfolding(crate::specs::Pictures::title_element))]
+fn push_title(out: &mut Vec<u8>, title: &str) -> Result<(), AllocError>
+    ensures { OnOk result (out.new.items ≡ out.old.items ++ title_element title.now) }
+{
+    push_titled(out, "<title id=\"title\">", title, "</title>\n")
+}
+
+// The title between pieces of markup.
+#[tactic(auto, unfolding(crate::specs::Pictures::titled))]
+fn push_titled(out: &mut Vec<u8>, before: &str, title: &str, after: &str) -> Result<(), AllocError>
+    ensures { OnOk result (out.new.items ≡ out.old.items ++ titled before.now title.now after.now) }
+{
+    push(out, before)?;
+    push_escaped(out, title)?;
+    push(out, after)
+}
+
+#[tactic(auto, unfolding(crate::specs::Pictures::about))]
+fn push_about(out: &mut Vec<u8>, n: u8, count: usize) -> Result<(), AllocError>
+    ensures { OnOk result (out.new.items ≡ out.old.items ++ about n count) }
+{
+    push_two(
+        out,
+        "<desc id=\"about\">",
+        count as u64,
+        " marks of a run; processes: ",
+        u128::from(n),
+        "</desc>\n",
+    )
+}
+
+// The style, and the title once more, which is seen.
+#[tactic(auto, unfolding(crate::specs::Pictures::heading))]
+fn push_heading(out: &mut Vec<u8>, title: &str) -> Result<(), AllocError>
+    ensures { OnOk result (out.new.items ≡ out.old.items ++ heading title.now) }
+{
+    push(out, sheet())?;
+    push(out, backdrop())?;
+    let before = "<text class=\"title\" x=\"16\" y=\"26\">";
+    push_titled(out, before, title, "</text>\n")
+}
+
+// What stands under the marks: lanes, how each process ended, and steps, orders and arrows.
+#[tactic(auto, unfolding(crate::specs::Pictures::under_text))]
+fn push_under(alloc: Global, out: &mut Vec<u8>, n: u8, marks: &[Mark]) -> Result<(), AllocError>
+    ensures { OnOk result (out.new.items ≡ out.old.items ++ under_text n marks.now) }
+{
+    let last = last_band(marks.len());
+    push_bands(out, n, last + 1)?;
+    push_ends(out, n, last, marks)?;
+    push_feet(alloc, out, n, marks)
+}
+
+// A group for each mark, in order.
+fn push_groups(
+    alloc: Global,
+    out: &mut Vec<u8>,
+    cast: Cast<'_>,
+    marks: &[Mark],
+) -> Result<(), AllocError>
+    ensures { OnOk result (out.new.items ≡ out.old.items ++ groups_text cast.entry.processes (names cast.entry.registers.now) 0 marks.now) }
+{
+    for (at, mark) in marks.iter().enumerate() {
+        push_group(alloc, out, cast, at, mark)?;
+    }
+    Ok(())
+}
+
+// A mark: where it stands, what it shows in words, and what is drawn of it.
+#[tactic(auto, unfolding(crate::specs::Pictures::group_text))]
+fn push_group(
+    alloc: Global,
+    out: &mut Vec<u8>,
+    cast: Cast<'_>,
+    at: usize,
+    mark: &Mark,
+) -> Result<(), AllocError>
+    ensures { OnOk result (out.new.items ≡ out.old.items ++ group_text cast.entry.processes (names cast.entry.registers.now) at mark.now) }
+{
+    push_group_head(out, cast.processes, at, mark.process)?;
+    push_sentence(out, cast, mark)?;
+    push(out, "</title>")?;
+    push_drawn(alloc, out, cast, at, mark)?;
+    push(out, "</g>\n")
+}
+
+#[tactic(auto, unfolding(crate::specs::Pictures::group_head))]
+fn push_group_head(out: &mut Vec<u8>, n: u8, at: usize, p: u8) -> Result<(), AllocError>
+    ensures { OnOk result (out.new.items ≡ out.old.items ++ group_head n at p) }
+{
+    push_group_name(out, at)?;
+    push_colour(out, p)?;
+    push_group_place(out, mark_x(at), mark_y(n, at, p))
+}
+
+#[tactic(auto, unfolding(crate::specs::Pictures::group_name))]
+fn push_group_name(out: &mut Vec<u8>, at: usize) -> Result<(), AllocError>
+    ensures { OnOk result (out.new.items ≡ out.old.items ++ group_name at) }
+{
+    push_one(out, "<g id=\"mark-", at as u128 + 1, "\" color=\"")
+}
+
+#[tactic(auto, unfolding(crate::specs::Pictures::group_place))]
+fn push_group_place(out: &mut Vec<u8>, x: u64, y: u128) -> Result<(), AllocError>
+    ensures { OnOk result (out.new.items ≡ out.old.items ++ group_place x y) }
+{
+    let place = "\" transform=\"translate(";
+    push_two(out, place, x, " ", y, ")\"><title>")
+}

@@ -1,0 +1,94 @@
+// Adds texts and numbers to a picture.
+ghost use Rattle.std.specs.Prelude.{◌≡◌, ◌++◌, OnOk};
+ghost use Rattle.std.specs.Fmt.{decimal};
+ghost use Rattle.std.specs.List.{flat_map};
+ghost use Rattle.ticklab_draw.specs.Escapes.{escaped, escaped_byte};
+ghost use Rattle.ticklab_draw.specs.Writing.{one_number, two_numbers};
+
+use itoa::Buffer;
+use std::alloc::AllocError;
+
+/// Adds a text that is markup.
+pub fn push(out: &mut Vec<u8>, text: &str) -> Result<(), AllocError>
+    ensures { OnOk result (out.new.items ≡ out.old.items ++ text.now) }
+{
+    out.extend_from_slice(text.as_bytes())
+}
+
+/// Adds the digits of a number.
+pub fn push_number(out: &mut Vec<u8>, number: u64) -> Result<(), AllocError>
+    ensures { OnOk result (out.new.items ≡ out.old.items ++ decimal number) }
+{
+    push(out, Buffer::new().format(number))
+}
+
+/// Adds the digits of a great number.
+pub fn push_wide(out: &mut Vec<u8>, number: u128) -> Result<(), AllocError>
+    ensures { OnOk result (out.new.items ≡ out.old.items ++ decimal number) }
+{
+    push(out, Buffer::new().format(number))
+}
+
+/// Adds a number with markup before and after it.
+#[tactic(auto, unfolding(crate::specs::Writing::one_number))]
+pub fn push_one(
+    out: &mut Vec<u8>,
+    before: &str,
+    number: u128,
+    after: &str,
+) -> Result<(), AllocError>
+    ensures { OnOk result (out.new.items ≡ out.old.items ++ one_number before.now number after.now) }
+{
+    push(out, before)?;
+    push_wide(out, number)?;
+    push(out, after)
+}
+
+/// Adds two numbers with markup before, between and after them.
+#[tactic(auto, unfolding(crate::specs::Writing::two_numbers))]
+pub fn push_two(
+    out: &mut Vec<u8>,
+    before: &str,
+    first: u64,
+    between: &str,
+    second: u128,
+    after: &str,
+) -> Result<(), AllocError>
+    ensures { OnOk result (out.new.items ≡ out.old.items ++ two_numbers before.now first between.now second after.now) }
+{
+    push(out, before)?;
+    push_number(out, first)?;
+    push(out, between)?;
+    push_wide(out, second)?;
+    push(out, after)
+}
+
+/// Adds a text that is no markup.
+pub fn push_escaped(out: &mut Vec<u8>, text: &str) -> Result<(), AllocError>
+    ensures { OnOk result (out.new.items ≡ out.old.items ++ escaped text.now) }
+{
+    push_escaped_bytes(out, text.as_bytes())
+}
+
+fn push_escaped_bytes(out: &mut Vec<u8>, bytes: &[u8]) -> Result<(), AllocError>
+    ensures { OnOk result (out.new.items ≡ out.old.items ++ flat_map escaped_byte bytes.now) }
+{
+    for byte in bytes {
+        push_byte(out, *byte)?;
+    }
+    Ok(())
+}
+
+fn push_byte(out: &mut Vec<u8>, byte: u8) -> Result<(), AllocError>
+    ensures { OnOk result (out.new.items ≡ out.old.items ++ escaped_byte byte) }
+{
+    match byte {
+        b'&' => push(out, "&amp;"),
+        b'<' => push(out, "&lt;"),
+        b'>' => push(out, "&gt;"),
+        b'"' => push(out, "&quot;"),
+        b'\'' => push(out, "&#39;"),
+        0..=31 | 127 => push(out, "?"),
+        _ => out.extend_from_slice(&[byte]),
+    }
+}

@@ -1,0 +1,261 @@
+-- Which hint is told: that of the first rule that fits.
+use Rattle.std.specs.Prelude.{ℕ, ◌==◌, nat_eq, Bool, true, false, not, ◌&&◌, ◌||◌, List, [], ◌∷◌, codes, length, Option, Some, None, is_some, is_none, slice_index, if◌then◌else◌}
+use Rattle.std.specs.List.{list_any, starts_with, ends_with}
+use Rattle.std.specs.Option.{option_map_or, option_or}
+use Rattle.std.specs.Str.{bytes_eq}
+use Rattle.code_core.specs.declared.fault.CodeFault.{CodeFault}
+use Rattle.code_core.specs.declared.fault.CodeFault.TheVariants as C
+use Rattle.tick_kinds.specs.declared.fault.KindFault.{KindFault}
+use Rattle.tick_kinds.specs.declared.fault.KindFault.TheVariants as N
+use Rattle.tick_kinds.specs.declared.kind.Kind.{Kind}
+use Rattle.tick_kinds.specs.declared.kind.Kind.TheVariants as K
+use Rattle.language_schedules.specs.declared.schedule.ScheduleFault.{ScheduleFault}
+use Rattle.language_schedules.specs.declared.schedule.ScheduleFault.TheVariants as S
+use Rattle.tick_syntax.specs.declared.fault.TextFault.{TextFault}
+use Rattle.tick_syntax.specs.declared.fault.TextFault.TheVariants as T
+use Rattle.ticklab_explain.specs.Following.{is_one_of, sample}
+use Rattle.ticklab_explain.specs.Hints.{first_declaration, is_section}
+use Rattle.ticklab_explain.specs.Settings.{Setting, about, after, before, has_begun, here, is_name, is_keyword, open_brace, shortened, sort_here, touches}
+use Rattle.ticklab_explain.specs.declared.advice.Advice.TheVariants as A
+use Rattle.ticklab_explain.specs.declared.hint.Hint.{Hint}
+use Rattle.ticklab_explain.specs.declared.hint.Hint.TheVariants.{Fixed, Naming, Signs, Words, Pointing}
+use Rattle.ticklab_explain.specs.declared.name_hint.NameHint.TheVariants as H
+use Rattle.ticklab_explain.specs.declared.sign_hint.SignHint.TheVariants as I
+use Rattle.ticklab_explain.specs.declared.word_hint.WordHint.TheVariants as W
+use Rattle.ticklab_explain.specs.declared.pointer.Pointer.TheVariants as P
+use Rattle.ticklab_explain.specs.declared.refusal.Refusal.{Refusal}
+use Rattle.ticklab_explain.specs.declared.refusal.Refusal.TheVariants.{Text, Kinds, Code, Schedule}
+use Rattle.ticklab_explain.specs.declared.wanted.Wanted.{Wanted}
+
+-- of rules, which are whether they fit and a hint, the first that fits
+abbrev pub first_that_fits : List (Bool × Hint) → Option Hint
+first_that_fits [] = None
+first_that_fits (rule ∷ rules) = if rule.0 then Some rule.1 else first_that_fits rules
+
+-- the word is this
+abbrev pub is : List ℕ → List ℕ → Bool
+is word other = bytes_eq word other
+
+-- a token is wanted that is told by this sample
+abbrev pub wants : List Wanted → List ℕ → Bool
+wants wanted word = list_any (λ one. bytes_eq (sample one) word) wanted
+
+unfoldable pub is_name_here : Setting → Bool
+is_name_here s = option_map_or is_name (sort_here s) false
+
+unfoldable pub is_keyword_here : Setting → Bool
+is_keyword_here s = option_map_or is_keyword (sort_here s) false
+
+-- of the text as a whole
+unfoldable pub whole_slip : Setting → List Wanted → Option Hint
+whole_slip s wanted = first_that_fits (
+    (length s.tokens == 0, Fixed A.EmptyText)
+    ∷ ((s.at == 0) && is (here s) (codes "tickcode"), Fixed A.CodeText)
+    ∷ (is (before s 1) (codes "end"), Fixed A.NothingFollows)
+    ∷ (is_none (sort_here s) && wants wanted (codes "end"), Fixed A.EndIsMissing)
+    ∷ [])
+
+-- of blocks
+unfoldable pub block_slip : Setting → List Wanted → Option Hint
+block_slip s wanted = first_that_fits (
+    (is_some (open_brace s) && ((is_none (sort_here s) || is (here s) (codes "end")) && wants wanted (codes "}")), Pointing P.BraceIsOpen)
+    ∷ (is (here s) (codes "if") && is (before s 1) (codes "else"), Fixed A.NoElseIf)
+    ∷ (wants wanted (codes "else"), Fixed A.ElseIsMissing)
+    ∷ [])
+
+-- of words that other languages have
+unfoldable pub foreign_slip : Setting → Option Hint
+foreign_slip s = first_that_fits (
+    (is (before s 1) (codes "not"), Words W.NotWord)
+    ∷ (is (before s 1) (codes "await"), Words W.Await)
+    ∷ (is (before s 1) (codes "and"), Fixed A.NoAnd)
+    ∷ (is (here s) (codes "const"), Fixed A.NoConstants)
+    ∷ (is (here s) (codes "and"), Fixed A.NoAnd)
+    ∷ (is (here s) (codes "or"), Fixed A.NoOr)
+    ∷ [])
+
+-- the keywords that give a value, in a statement of their own
+abbrev pub givers : List (List ℕ)
+givers = codes "older" ∷ codes "held" ∷ codes "get" ∷ codes "scan" ∷ codes "copy" ∷ []
+
+-- of keywords at places of names and values
+unfoldable pub keyword_slip : Setting → List Wanted → Option Hint
+keyword_slip s wanted = first_that_fits (
+    (is_keyword_here s && wants wanted (codes "x"), Words W.Keyword)
+    ∷ (is_one_of (here s) (codes "stamp" ∷ codes "clear" ∷ []) && (wants wanted (codes "me") || wants wanted (codes "get")), Words W.NoValue)
+    ∷ (is_one_of (here s) givers && wants wanted (codes "me"), Words W.OwnStatement)
+    ∷ [])
+
+-- of what the place wants first
+unfoldable pub place_slip : Setting → List Wanted → Option Hint
+place_slip s wanted = first_that_fits (
+    (wants wanted (codes "x") && is (before s 1) (codes "older"), Fixed A.OlderWantsScan)
+    ∷ (wants wanted (codes "x") && is (before s 1) (codes "held"), Fixed A.HeldWantsScan)
+    ∷ (wants wanted (codes "me") && is (before s 2) (codes "get"), Words W.GetWantsProcess)
+    ∷ (wants wanted (codes "begin") && is_section (here s), Fixed A.SectionOrder)
+    ∷ (wants wanted (codes "begin"), Fixed A.BeginIsMissing)
+    ∷ [])
+
+-- `//` or `/*`
+unfoldable pub begins_comment : Setting → Bool
+begins_comment s =
+    (is (here s) (codes "/") && is_one_of (after s 1) (codes "/" ∷ codes "*" ∷ []))
+    || (is_one_of (here s) (codes "/" ∷ codes "*" ∷ []) && (is (before s 1) (codes "/") && touches s))
+
+abbrev pub arithmetic : List (List ℕ)
+arithmetic = codes "+" ∷ codes "-" ∷ codes "*" ∷ codes "/" ∷ codes "%" ∷ []
+
+abbrev pub operators : List (List ℕ)
+operators =
+    codes "+" ∷ codes "-" ∷ codes "*" ∷ codes "/" ∷ codes "%" ∷ codes "<" ∷ codes "<=" ∷ codes "==" ∷ codes "!=" ∷ []
+
+-- of equals signs and operators
+unfoldable pub operator_slip : Setting → List Wanted → Option Hint
+operator_slip s wanted = first_that_fits (
+    (begins_comment s, Fixed A.CommentSign)
+    ∷ (is (here s) (codes "==") && wants wanted (codes "="), Fixed A.OneEqualsAssigns)
+    ∷ (is (here s) (codes "=") && wants wanted (codes "+"), Fixed A.TwoEqualsCompare)
+    ∷ (is_one_of (here s) arithmetic && (wants wanted (codes "=") && is (after s 1) (codes "=")), Words W.AssignedInPlace)
+    ∷ (is (here s) (codes "-") && (wants wanted (codes "get") || wants wanted (codes "me")), Fixed A.NoNegatives)
+    ∷ (is_one_of (here s) operators && wants wanted (codes ")"), Words W.OneOperator)
+    ∷ (is_one_of (here s) operators && (wants wanted (codes ";") || wants wanted (codes "{")), Words W.OwnBrackets)
+    ∷ [])
+
+-- of other signs, and of an operand more than the statement has
+unfoldable pub sign_slip : Setting → List Wanted → Option Hint
+sign_slip s wanted = first_that_fits (
+    (is (here s) (codes ";") && (wants wanted (codes "stamp") && is (before s 1) (codes "}")), Fixed A.NoSemicolonAfterBlock)
+    ∷ (is (here s) (codes ";") && wants wanted (codes "stamp"), Fixed A.NoEmptyStatement)
+    ∷ (is (here s) (codes ";") && (wants wanted (codes "x") && not (has_begun s)), Fixed A.NoEmptySection)
+    ∷ (is (here s) (codes ",") && wants wanted (codes ";"), Fixed A.SemicolonForComma)
+    ∷ (wants wanted (codes ";") && (is (before s 3) (codes "put") && is (after s 1) (codes ";")), Words W.OwnRegister)
+    ∷ [])
+
+-- of a `;` that was left out
+unfoldable pub missing_slip : Setting → List Wanted → Option Hint
+missing_slip s wanted = first_that_fits (
+    (wants wanted (codes ";") && (is_none (sort_here s) || (is_name_here s || (is_keyword_here s || is (here s) (codes "}")))), Pointing P.SemicolonIsMissing)
+    ∷ [])
+
+-- where no program goes on: of the text as a whole, of words, of signs, of a semicolon
+unfoldable pub slip : Setting → List Wanted → Option Hint
+slip s wanted =
+    option_or (whole_slip s wanted) (option_or (block_slip s wanted) (option_or (foreign_slip s)
+    (option_or (keyword_slip s wanted) (option_or (place_slip s wanted) (option_or (operator_slip s wanted)
+    (option_or (sign_slip s wanted) (missing_slip s wanted)))))))
+
+-- signs between two operands, before one, and of a register
+unfoldable pub compared_slip : Setting → Option Hint
+compared_slip s = first_that_fits (
+    (is (about s) (codes ">") && (slice_index s.text s.span.end == 61), Signs I.AtLeast)
+    ∷ (is (about s) (codes ">"), Signs I.Greater)
+    ∷ (is (about s) ((226 ∷ 137 ∷ 165 ∷ [])), Signs I.AtLeastSign)
+    ∷ (is (about s) (codes "&"), Signs I.Both)
+    ∷ (is (about s) (codes "|"), Signs I.Either)
+    ∷ (is (about s) (codes "!"), Signs I.NotSign)
+    ∷ (is (about s) (codes "["), Signs I.Indexed)
+    ∷ [])
+
+-- the text begins with these two bytes
+unfoldable pub begins_with : Setting → ℕ → ℕ → Bool
+begins_with s first second = (slice_index s.text 0 == first) && (slice_index s.text 1 == second)
+
+unfoldable pub other_sign_slip : Setting → Option Hint
+other_sign_slip s = first_that_fits (
+    (is_one_of (about s) (codes "\"" ∷ codes "'" ∷ []), Fixed A.NoStrings)
+    ∷ (is (about s) ((226 ∷ 137 ∷ 164 ∷ [])), Fixed A.AtMostSign)
+    ∷ (is (about s) ((226 ∷ 137 ∷ 160 ∷ [])), Fixed A.DiffersSign)
+    ∷ (is_one_of (about s) ((195 ∷ 151 ∷ []) ∷ (194 ∷ 183 ∷ []) ∷ []), Fixed A.TimesSign)
+    ∷ (is (about s) ((195 ∷ 183 ∷ [])), Fixed A.DividesSign)
+    ∷ (is_one_of (about s) ((226 ∷ 136 ∷ 146 ∷ []) ∷ (226 ∷ 128 ∷ 147 ∷ []) ∷ []), Fixed A.MinusSign)
+    ∷ (is (about s) (codes ":"), Fixed A.Assigns)
+    ∷ (is (about s) (239 ∷ 187 ∷ 191 ∷ []), Fixed A.ByteOrderMark)
+    ∷ (begins_with s 255 254 || begins_with s 254 255, Fixed A.Utf16)
+    ∷ [])
+
+-- of a character that begins no token
+unfoldable pub character_slip : Setting → Option Hint
+character_slip s = option_or (compared_slip s) (other_sign_slip s)
+
+abbrev pub text_hint : Setting → List Wanted → TextFault → Option Hint
+text_hint s wanted T.TextTooLong = None
+text_hint s wanted (T.BadCharacter place) = character_slip s
+text_hint s wanted (T.NumberTooBig span) = Some (Fixed A.GreatestNumber)
+text_hint s wanted (T.NameTooLong span) = Some (Fixed A.LongestName)
+text_hint s wanted (T.Unexpected span) = slip s wanted
+text_hint s wanted (T.TooDeep span) = Some (Fixed A.DeepestBracket)
+text_hint s wanted T.NoMemory = None
+
+unfoldable pub unknown_slip : Setting → Option Hint
+unknown_slip s = first_that_fits (
+    (is (about s) (codes "true"), Fixed A.TrueIsOne)
+    ∷ (is (about s) (codes "false"), Fixed A.FalseIsZero)
+    ∷ (true, Naming H.Declared)
+    ∷ [])
+
+-- of a register in the place of a variable
+unfoldable pub register_slip : Setting → Option Hint
+register_slip s = first_that_fits (
+    (is (after s 1) (codes "="), Naming H.WrittenByPut)
+    ∷ (true, Naming H.ReadByGet)
+    ∷ [])
+
+-- where the first kind is wanted, and the second found
+abbrev pub kind_slip : Setting → Kind → Kind → Option Hint
+kind_slip s K.Variable K.Register = register_slip s
+kind_slip s K.Variable K.Variable = Some (Fixed A.LookAtScan)
+kind_slip s K.Variable K.Scan = Some (Fixed A.LookAtScan)
+kind_slip s K.Scan found = Some (Fixed A.ScanFirst)
+kind_slip s K.Register found = Some (Fixed A.GetAndPut)
+
+unfoldable pub twice_slip : Setting → Option Hint
+twice_slip s = first_that_fits ((is_some (first_declaration s), Pointing P.DeclaredFirst) ∷ [])
+
+abbrev pub kinds_hint : Setting → KindFault → Option Hint
+kinds_hint s (N.Processes span) = Some (Fixed A.ProcessRange)
+kinds_hint s (N.Twice span) = twice_slip s
+kinds_hint s (N.Unknown span) = unknown_slip s
+kinds_hint s (N.WrongKind span wanted found) = kind_slip s wanted found
+kinds_hint s (N.TooMany span) = Some (Fixed A.MostNames)
+kinds_hint s N.NoMemory = None
+
+abbrev pub code_hint : CodeFault → Option Hint
+code_hint (C.BadLine line) = if line == 1 then Some (Fixed A.FirstLine) else Some (Fixed A.InstructionLine)
+code_hint C.Empty = None
+code_hint C.TooLong = None
+code_hint (C.BadJump place) = None
+code_hint (C.StackShort place) = None
+code_hint (C.HeightsDiffer place) = None
+code_hint (C.BadSlot place) = None
+code_hint (C.FallsOff place) = None
+code_hint (C.BadStamp place) = None
+code_hint C.NoMemory = None
+
+-- a byte of the item, its begin and its end
+abbrev pub has : List ℕ → ℕ → Bool
+has item byte = list_any (λ one. one == byte) item
+
+unfoldable pub item_slip : List ℕ → Option Hint
+item_slip item = first_that_fits (
+    (has item 40 || has item 41, Fixed A.NoGroups)
+    ∷ (has item 44 || has item 59, Fixed A.Blanks)
+    ∷ (starts_with nat_eq item (codes "#"), Fixed A.NoComments)
+    ∷ (starts_with nat_eq item (codes "-"), Fixed A.CountedFromZero)
+    ∷ (starts_with nat_eq item (codes "c"), Fixed A.NoClears)
+    ∷ (starts_with nat_eq item (codes "*") || ends_with nat_eq item (codes "*"), Fixed A.NoBlankAtStar)
+    ∷ (ends_with nat_eq item (codes "*0"), Fixed A.OneStepAtLeast)
+    ∷ (has item 120, Fixed A.StarRepeats)
+    ∷ (true, Fixed A.OnlyDigits)
+    ∷ [])
+
+abbrev pub schedule_hint : Setting → ScheduleFault → Option Hint
+schedule_hint s (S.BadItem place) = item_slip (shortened (about s))
+schedule_hint s (S.NoSuchProcess place) = Some (Naming H.ProcessCount)
+schedule_hint s S.TooLong = Some (Fixed A.LongestSchedule)
+schedule_hint s S.NoMemory = None
+
+abbrev pub hint_of : Setting → List Wanted → Refusal → Option Hint
+hint_of s wanted (Text fault) = text_hint s wanted fault
+hint_of s wanted (Kinds fault) = kinds_hint s fault
+hint_of s wanted (Code fault) = code_hint fault
+hint_of s wanted (Schedule fault) = schedule_hint s fault

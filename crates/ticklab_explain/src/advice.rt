@@ -1,0 +1,128 @@
+// Hints whose words are always the same.
+ghost use Rattle.std.specs.Prelude.{◌≡◌};
+ghost use Rattle.ticklab_explain.specs.Hints.{advice_text};
+
+/// What may help, in words that are always the same.
+#[derive(Clone, Copy)]
+pub enum Advice {
+    GreatestNumber,
+    LongestName,
+    DeepestBracket,
+    FirstLine,
+    InstructionLine,
+    NoGroups,
+    Blanks,
+    NoComments,
+    CountedFromZero,
+    NoClears,
+    NoBlankAtStar,
+    OneStepAtLeast,
+    StarRepeats,
+    OnlyDigits,
+    LongestSchedule,
+    ProcessRange,
+    MostNames,
+    TrueIsOne,
+    FalseIsZero,
+    LookAtScan,
+    ScanFirst,
+    GetAndPut,
+    NoStrings,
+    AtMostSign,
+    DiffersSign,
+    TimesSign,
+    DividesSign,
+    MinusSign,
+    Assigns,
+    ByteOrderMark,
+    Utf16,
+    EmptyText,
+    CodeText,
+    NothingFollows,
+    EndIsMissing,
+    NoElseIf,
+    ElseIsMissing,
+    NoConstants,
+    NoAnd,
+    NoOr,
+    OlderWantsScan,
+    HeldWantsScan,
+    SectionOrder,
+    BeginIsMissing,
+    CommentSign,
+    OneEqualsAssigns,
+    TwoEqualsCompare,
+    NoSemicolonAfterBlock,
+    NoEmptyStatement,
+    NoEmptySection,
+    SemicolonForComma,
+    NoNegatives,
+}
+
+impl Advice {
+    /// The words.
+    #[tactic(auto, unfolding(crate::specs::Hints::advice_text))]
+    pub fn text(self) -> &'static str
+        ensures { result.now ≡ advice_text self }
+    {
+        match self {
+            Advice::GreatestNumber => "the greatest number is 4294967295",
+            Advice::LongestName => "a name has at most 64 bytes",
+            Advice::DeepestBracket => "at most 64 are: give a part its own statement",
+            Advice::FirstLine =>
+                "it is `tickcode 2 P V S R`, with the numbers of processes, variables, scans and registers",
+            Advice::InstructionLine =>
+                "it is a name, and numbers after one space each, as `Push 5`; the last line ends too",
+            Advice::NoGroups => "there are no groups: write each item out",
+            Advice::Blanks => "items are separated by blanks",
+            Advice::NoComments => "a schedule has no comments",
+            Advice::CountedFromZero => "processes are counted from 0",
+            Advice::NoClears => "items `cP`, which clear, are of `ticketc order` alone",
+            Advice::NoBlankAtStar => "no blank stands beside `*`: `0*5` is five steps of process 0",
+            Advice::OneStepAtLeast => "K is at least 1",
+            Advice::StarRepeats => "`0*5` is five steps of process 0",
+            Advice::OnlyDigits => "P and K are written in digits `0` to `9`",
+            Advice::LongestSchedule => "a schedule has at most 10000000 steps",
+            Advice::ProcessRange => "a program has 1 to 6 processes",
+            Advice::MostNames => "there are at most 64 variables, 16 scans and 8 registers",
+            Advice::TrueIsOne => "there is no `true`: write 1",
+            Advice::FalseIsZero => "there is no `false`: write 0",
+            Advice::LookAtScan => "a scan is looked at by `x = older s 0 1;` and `x = held s 0;`",
+            Advice::ScanFirst => "tickets are looked at in a scan: `s = scan;`",
+            Advice::GetAndPut => "`get` reads a register, and `put` writes one",
+            Advice::NoStrings => "there are no strings: `out` gives a number out",
+            Advice::AtMostSign => "write `<=`",
+            Advice::DiffersSign => "write `!=`",
+            Advice::TimesSign => "write `*`",
+            Advice::DividesSign => "write `/`",
+            Advice::MinusSign => "write `-`",
+            Advice::Assigns => "`=` assigns",
+            Advice::ByteOrderMark =>
+                "this is a byte-order mark: save the text as UTF-8 without one",
+            Advice::Utf16 => "the text is UTF-16: save it as UTF-8",
+            Advice::EmptyText => "the text is empty: a program begins with `processes 2;`",
+            Advice::CodeText =>
+                "this is the text of a code, which `ticketc code` and `ticketc run` take; a program is wanted here",
+            Advice::NothingFollows => "nothing may follow `end`",
+            Advice::EndIsMissing => "a program ends with `end`",
+            Advice::NoElseIf => "there is no `else if`: write `else { if .. }`",
+            Advice::ElseIsMissing => "every `if` has an `else`: write `else { }`",
+            Advice::NoConstants => "there are no constants: write the number where it is used",
+            Advice::NoAnd => "there is no `and`: of values that are 0 or 1 write `(x * y)`",
+            Advice::NoOr => "there is no `or`: of values that are 0 or 1 write `((x + y) != 0)`",
+            Advice::OlderWantsScan => "`older` wants a scan first: `older s 0 1`",
+            Advice::HeldWantsScan => "`held` wants a scan first: `held s 0`",
+            Advice::SectionOrder =>
+                "`var` comes before `scan`, and `scan` before `reg`, each once at most",
+            Advice::BeginIsMissing => "the statements stand between `begin` and `end`",
+            Advice::CommentSign => "a comment begins with `#`",
+            Advice::OneEqualsAssigns => "one `=` assigns; `==` compares",
+            Advice::TwoEqualsCompare => "`==` compares; one `=` assigns",
+            Advice::NoSemicolonAfterBlock => "no `;` stands after `}`",
+            Advice::NoEmptyStatement => "there is no empty statement",
+            Advice::NoEmptySection => "a section without names is left out",
+            Advice::SemicolonForComma => "write `;` in place of `,`",
+            Advice::NoNegatives => "there are no negative numbers: they are 0 to 4294967295",
+        }
+    }
+}

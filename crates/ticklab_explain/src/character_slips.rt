@@ -1,0 +1,77 @@
+// Common slips with characters that begin no token.
+ghost use Rattle.std.specs.Prelude.{◌≡◌};
+ghost use Rattle.ticklab_explain.specs.Choosing.{begins_with, character_slip, compared_slip, other_sign_slip};
+ghost use Rattle.ticklab_explain.specs.Settings.{setting};
+
+use crate::advice::Advice;
+use crate::hint::{Hint, first_that_fits};
+use crate::scene::{Scene, byte_at};
+use crate::sign_hint::SignHint;
+use crate::wanted::is_one_of;
+
+/// What may help at a character that begins no token.
+#[tactic(auto, unfolding(crate::specs::Choosing::character_slip))]
+pub fn character_slip(scene: &Scene) -> Option<Hint>
+    ensures { result ≡ character_slip (setting scene.now) }
+{
+    compared_slip(scene).or(other_sign_slip(scene))
+}
+
+// Signs between two operands, before one, and of a register.
+#[tactic(auto, unfolding(crate::specs::Choosing::compared_slip))]
+fn compared_slip(scene: &Scene) -> Option<Hint>
+    ensures { result ≡ compared_slip (setting scene.now) }
+{
+    let is_or_equal = byte_at(scene.text, scene.span.end) == b'=';
+    first_that_fits(&[
+        (
+            scene.is_about(">") & is_or_equal,
+            Hint::Signs(SignHint::AtLeast),
+        ),
+        (scene.is_about(">"), Hint::Signs(SignHint::Greater)),
+        (scene.is_about("≥"), Hint::Signs(SignHint::AtLeastSign)),
+        (scene.is_about("&"), Hint::Signs(SignHint::Both)),
+        (scene.is_about("|"), Hint::Signs(SignHint::Either)),
+        (scene.is_about("!"), Hint::Signs(SignHint::NotSign)),
+        (scene.is_about("["), Hint::Signs(SignHint::Indexed)),
+    ])
+}
+
+#[tactic(auto, unfolding(crate::specs::Choosing::other_sign_slip))]
+fn other_sign_slip(scene: &Scene) -> Option<Hint>
+    ensures { result ≡ other_sign_slip (setting scene.now) }
+{
+    let about = scene.about();
+    let is_utf_16 = begins_with(scene, 0xff, 0xfe) | begins_with(scene, 0xfe, 0xff);
+    first_that_fits(&[
+        (
+            is_one_of(about, &["\"", "'"]),
+            Hint::Fixed(Advice::NoStrings),
+        ),
+        (scene.is_about("≤"), Hint::Fixed(Advice::AtMostSign)),
+        (scene.is_about("≠"), Hint::Fixed(Advice::DiffersSign)),
+        (
+            is_one_of(about, &["×", "·"]),
+            Hint::Fixed(Advice::TimesSign),
+        ),
+        (scene.is_about("÷"), Hint::Fixed(Advice::DividesSign)),
+        (
+            is_one_of(about, &["−", "–"]),
+            Hint::Fixed(Advice::MinusSign),
+        ),
+        (scene.is_about(":"), Hint::Fixed(Advice::Assigns)),
+        (
+            scene.is_about("\u{feff}"),
+            Hint::Fixed(Advice::ByteOrderMark),
+        ),
+        (is_utf_16, Hint::Fixed(Advice::Utf16)),
+    ])
+}
+
+// Whether the text begins with these two bytes.
+#[tactic(auto, unfolding(crate::specs::Choosing::begins_with))]
+fn begins_with(scene: &Scene, first: u8, second: u8) -> bool
+    ensures { result ≡ begins_with (setting scene.now) first second }
+{
+    (byte_at(scene.text, 0) == first) & (byte_at(scene.text, 1) == second)
+}

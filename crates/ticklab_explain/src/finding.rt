@@ -1,0 +1,57 @@
+// What a report rests on: the tokens of its text, and what is wanted at its place.
+ghost use Rattle.std.specs.Prelude.{IfOk};
+ghost use Rattle.ticklab_explain.specs.Reports.{AreWanted, TextWanted};
+ghost use Rattle.ticklab_explain.specs.Settings.{AreTokens, setting};
+
+use crate::expected::fitting_at;
+use crate::refusal::Refusal;
+use crate::scene::Scene;
+use crate::wanted::{Wanted, choices};
+use base::NoMemory;
+use std::alloc::Global;
+use std::str;
+use tick_syntax::token::Token;
+use tick_syntax::{TextFault, tokens};
+
+/// The tokens of an input; none where none spell it.
+pub fn tokens_of(alloc: Global, input: &[u8]) -> Result<Vec<Token>, NoMemory>
+    ensures { IfOk result (λ tokens. AreTokens input.now tokens.items) }
+{
+    let Ok(text) = str::from_utf8(input) else {
+        return Ok(Vec::new(alloc));
+    };
+    match tokens(alloc, text) {
+        Ok(tokens) => Ok(tokens),
+        Err(TextFault::NoMemory) => Err(NoMemory),
+        Err(_) => Ok(Vec::new(alloc)),
+    }
+}
+
+/// What is wanted at the place of a refusal, where no program goes on.
+pub fn wanted_at(alloc: Global, scene: &Scene, refusal: Refusal) -> Result<Vec<Wanted>, NoMemory>
+    ensures { IfOk result (λ wanted. AreWanted (setting scene.now) refusal wanted.items) }
+{
+    match refusal {
+        Refusal::Text(fault) => text_wanted(alloc, scene, fault),
+        Refusal::Kinds(_) | Refusal::Code(_) | Refusal::Schedule(_) => Ok(Vec::new(alloc)),
+    }
+}
+
+fn text_wanted(alloc: Global, scene: &Scene, fault: TextFault) -> Result<Vec<Wanted>, NoMemory>
+    ensures { IfOk result (λ wanted. TextWanted (setting scene.now) fault wanted.items) }
+{
+    match fault {
+        TextFault::Unexpected(_) => fitting_at(
+            alloc,
+            scene.text,
+            scene.span.start,
+            choices(scene.before(1)),
+        ),
+        TextFault::TextTooLong
+        | TextFault::BadCharacter(_)
+        | TextFault::NumberTooBig(_)
+        | TextFault::NameTooLong(_)
+        | TextFault::TooDeep(_)
+        | TextFault::NoMemory => Ok(Vec::new(alloc)),
+    }
+}

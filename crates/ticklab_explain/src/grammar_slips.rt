@@ -1,0 +1,157 @@
+// Common slips at a token where no program goes on, known by the tokens around the place.
+ghost use Rattle.std.specs.Prelude.{◌≡◌};
+ghost use Rattle.ticklab_explain.specs.Choosing.{block_slip, foreign_slip, keyword_slip, missing_slip, place_slip, slip, wants, whole_slip};
+ghost use Rattle.ticklab_explain.specs.Hints.{is_section};
+ghost use Rattle.ticklab_explain.specs.Settings.{setting};
+
+use crate::advice::Advice;
+use crate::hint::{Hint, first_that_fits};
+use crate::pointer::Pointer;
+use crate::scene::Scene;
+use crate::sign_slips::{operator_slip, sign_slip};
+use crate::wanted::{Wanted, is_one_of};
+use crate::word_hint::WordHint;
+
+/// Whether a token is wanted that is told by this sample.
+pub fn wants(wanted: &[Wanted], sample: &str) -> bool
+    ensures { result ≡ wants wanted.now sample.now }
+{
+    wanted.iter().any(|one| one.sample() == sample)
+}
+
+/// What may help: the first that fits, of the text as a whole, of words, and of signs.
+#[tactic(auto, unfolding(crate::specs::Choosing::slip))]
+pub fn slip(scene: &Scene, wanted: &[Wanted]) -> Option<Hint>
+    ensures { result ≡ slip (setting scene.now) wanted.now }
+{
+    let of_signs = operator_slip(scene, wanted).or(sign_slip(scene, wanted).or(missing_slip(
+        scene, wanted,
+    )));
+    let of_words = foreign_slip(scene).or(keyword_slip(scene, wanted).or(place_slip(
+        scene, wanted,
+    ).or(of_signs)));
+    whole_slip(scene, wanted).or(block_slip(scene, wanted).or(of_words))
+}
+
+#[tactic(auto, unfolding(crate::specs::Choosing::whole_slip))]
+fn whole_slip(scene: &Scene, wanted: &[Wanted]) -> Option<Hint>
+    ensures { result ≡ whole_slip (setting scene.now) wanted.now }
+{
+    first_that_fits(&[
+        (scene.tokens.is_empty(), Hint::Fixed(Advice::EmptyText)),
+        (
+            (scene.at == 0) & scene.is_here("tickcode"),
+            Hint::Fixed(Advice::CodeText),
+        ),
+        (
+            scene.is_before(1, "end"),
+            Hint::Fixed(Advice::NothingFollows),
+        ),
+        (
+            scene.is_at_end() & wants(wanted, "end"),
+            Hint::Fixed(Advice::EndIsMissing),
+        ),
+    ])
+}
+
+#[tactic(auto, unfolding(crate::specs::Choosing::block_slip))]
+fn block_slip(scene: &Scene, wanted: &[Wanted]) -> Option<Hint>
+    ensures { result ≡ block_slip (setting scene.now) wanted.now }
+{
+    let ends = scene.is_at_end() | scene.is_here("end");
+    first_that_fits(&[
+        (
+            scene.open_brace().is_some() & (ends & wants(wanted, "}")),
+            Hint::Pointing(Pointer::BraceIsOpen),
+        ),
+        (
+            scene.is_here("if") & scene.is_before(1, "else"),
+            Hint::Fixed(Advice::NoElseIf),
+        ),
+        (wants(wanted, "else"), Hint::Fixed(Advice::ElseIsMissing)),
+    ])
+}
+
+// Words that other languages have.
+#[tactic(auto, unfolding(crate::specs::Choosing::foreign_slip))]
+fn foreign_slip(scene: &Scene) -> Option<Hint>
+    ensures { result ≡ foreign_slip (setting scene.now) }
+{
+    first_that_fits(&[
+        (scene.is_before(1, "not"), Hint::Words(WordHint::NotWord)),
+        (scene.is_before(1, "await"), Hint::Words(WordHint::Await)),
+        (scene.is_before(1, "and"), Hint::Fixed(Advice::NoAnd)),
+        (scene.is_here("const"), Hint::Fixed(Advice::NoConstants)),
+        (scene.is_here("and"), Hint::Fixed(Advice::NoAnd)),
+        (scene.is_here("or"), Hint::Fixed(Advice::NoOr)),
+    ])
+}
+
+// Keywords at places of names and values.
+#[tactic(auto, unfolding(crate::specs::Choosing::keyword_slip))]
+fn keyword_slip(scene: &Scene, wanted: &[Wanted]) -> Option<Hint>
+    ensures { result ≡ keyword_slip (setting scene.now) wanted.now }
+{
+    let here = scene.here();
+    let is_value = wants(wanted, "me") | wants(wanted, "get");
+    first_that_fits(&[
+        (
+            scene.is_keyword() & wants(wanted, "x"),
+            Hint::Words(WordHint::Keyword),
+        ),
+        (
+            is_one_of(here, &["stamp", "clear"]) & is_value,
+            Hint::Words(WordHint::NoValue),
+        ),
+        (
+            is_one_of(here, &["older", "held", "get", "scan", "copy"]) & wants(wanted, "me"),
+            Hint::Words(WordHint::OwnStatement),
+        ),
+    ])
+}
+
+// What the place wants first.
+#[tactic(auto, unfolding(crate::specs::Choosing::place_slip))]
+fn place_slip(scene: &Scene, wanted: &[Wanted]) -> Option<Hint>
+    ensures { result ≡ place_slip (setting scene.now) wanted.now }
+{
+    first_that_fits(&[
+        (
+            wants(wanted, "x") & scene.is_before(1, "older"),
+            Hint::Fixed(Advice::OlderWantsScan),
+        ),
+        (
+            wants(wanted, "x") & scene.is_before(1, "held"),
+            Hint::Fixed(Advice::HeldWantsScan),
+        ),
+        (
+            wants(wanted, "me") & scene.is_before(2, "get"),
+            Hint::Words(WordHint::GetWantsProcess),
+        ),
+        (
+            wants(wanted, "begin") & is_section(scene.here()),
+            Hint::Fixed(Advice::SectionOrder),
+        ),
+        (wants(wanted, "begin"), Hint::Fixed(Advice::BeginIsMissing)),
+    ])
+}
+
+/// Whether a word begins a section.
+#[tactic(auto, unfolding(crate::specs::Hints::is_section))]
+pub fn is_section(word: &str) -> bool
+    ensures { result ≡ is_section word.now }
+{
+    (word == "var") | (word == "scan") | (word == "reg")
+}
+
+// A `;` that was left out, told where it belongs.
+#[tactic(auto, unfolding(crate::specs::Choosing::missing_slip))]
+fn missing_slip(scene: &Scene, wanted: &[Wanted]) -> Option<Hint>
+    ensures { result ≡ missing_slip (setting scene.now) wanted.now }
+{
+    let is_word = scene.is_name() | (scene.is_keyword() | scene.is_here("}"));
+    first_that_fits(&[(
+        wants(wanted, ";") & (scene.is_at_end() | is_word),
+        Hint::Pointing(Pointer::SemicolonIsMissing),
+    )])
+}

@@ -1,0 +1,69 @@
+// A hint of any kind.
+ghost use Rattle.std.specs.Prelude.{◌≡◌, ◌++◌, OnOk, string_bytes};
+ghost use Rattle.ticklab_explain.specs.Choosing.{first_that_fits};
+ghost use Rattle.ticklab_explain.specs.Hints.{hint_span, hint_text};
+ghost use Rattle.ticklab_explain.specs.Settings.{setting};
+
+use crate::advice::Advice;
+use crate::name_hint::NameHint;
+use crate::pointer::Pointer;
+use crate::scene::Scene;
+use crate::sign_hint::SignHint;
+use crate::word_hint::WordHint;
+use base::span::Span;
+use std::alloc::AllocError;
+
+/// What may help.
+#[derive(Clone, Copy)]
+pub enum Hint {
+    /// In words that are always the same.
+    Fixed(Advice),
+    /// In words that quote names.
+    Naming(NameHint),
+    /// In words that quote what stands beside a sign.
+    Signs(SignHint),
+    /// In words that quote those about the place.
+    Words(WordHint),
+    /// What speaks of another place.
+    Pointing(Pointer),
+}
+
+impl Hint {
+    /// Adds its words.
+    pub fn push(self, text: &mut String, scene: &Scene) -> Result<(), AllocError>
+        ensures { OnOk result (string_bytes text.new ≡ string_bytes text.old ++ hint_text (setting scene.now) self) }
+    {
+        match self {
+            Hint::Fixed(advice) => text.push_str(advice.text()),
+            Hint::Naming(hint) => hint.push(text, scene),
+            Hint::Signs(hint) => hint.push(text, scene),
+            Hint::Words(hint) => hint.push(text, scene),
+            Hint::Pointing(pointer) => pointer.push(text, scene),
+        }
+    }
+
+    /// The other place that it speaks of.
+    pub fn span(self, scene: &Scene) -> Option<Span>
+        ensures { result ≡ hint_span (setting scene.now) self }
+    {
+        match self {
+            Hint::Fixed(_) | Hint::Naming(_) | Hint::Signs(_) | Hint::Words(_) => None,
+            Hint::Pointing(pointer) => pointer.span(scene),
+        }
+    }
+}
+
+/// Whether a hint fits, and the hint.
+pub type Rule = (bool, Hint);
+
+/// Of rules in their order the first that fits.
+pub fn first_that_fits(rules: &[Rule]) -> Option<Hint>
+    ensures { result ≡ first_that_fits rules.now }
+{
+    for (fits, hint) in rules {
+        if *fits {
+            return Some(*hint);
+        }
+    }
+    None
+}

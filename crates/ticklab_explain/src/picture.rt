@@ -1,0 +1,131 @@
+// A line of a text with a caret under a part of it.
+ghost use Rattle.std.specs.Prelude.{◌≡◌, ◌++◌, ℕ, List, IfOk, OnOk, length, replicate};
+ghost use Rattle.std.specs.Fmt.{decimal};
+ghost use Rattle.std.specs.List.{flat_map};
+ghost use Rattle.ticklab_explain.specs.Pictures.{IsPicture, caret_of, cut, margin, picture, shown, shown_byte, source_line};
+
+use crate::place::{characters, line_end, line_start};
+use crate::writing::{push, push_decimal, push_often};
+use base::span::Span;
+use itoa::Buffer;
+use std::alloc::{AllocError, Global};
+
+const BEFORE_LIMIT: usize = 120;
+
+const AFTER_LIMIT: usize = 240;
+
+/// Adds the line where a span begins, under its number, with a caret under the span.
+pub fn push_picture(
+    alloc: Global,
+    out: &mut Vec<u8>,
+    text: &[u8],
+    span: Span,
+    number: usize,
+) -> Result<(), AllocError>
+    ensures { OnOk result ((drawn : List ℕ) × IsPicture text.now span number drawn × (out.new.items ≡ out.old.items ++ drawn)) }
+{
+    let at = span.start.min(text.len());
+    let start = line_start(text, at);
+    let stop = line_end(text, at);
+    let from = start.max(at.saturating_sub(BEFORE_LIMIT));
+    let to = at + (stop - at).min(AFTER_LIMIT);
+    let end = at.max(span.end.min(to));
+    let mut before = Vec::new(alloc);
+    push_cut(&mut before, from - start)?;
+    push_shown(alloc, &mut before, &text[from..at])?;
+    let mut part = Vec::new(alloc);
+    push_shown(alloc, &mut part, &text[at..end])?;
+    let mut after = Vec::new(alloc);
+    push_shown(alloc, &mut after, &text[end..to])?;
+    push_cut(&mut after, stop - to)?;
+    push_lines(out, number, &before, &part, &after)
+}
+
+fn push_cut(out: &mut Vec<u8>, rest: usize) -> Result<(), AllocError>
+    ensures { OnOk result (out.new.items ≡ out.old.items ++ cut rest) }
+{
+    if rest == 0 { Ok(()) } else { push(out, "..") }
+}
+
+fn push_lines(
+    out: &mut Vec<u8>,
+    number: usize,
+    before: &[u8],
+    part: &[u8],
+    after: &[u8],
+) -> Result<(), AllocError>
+    ensures { OnOk result (out.new.items ≡ out.old.items ++ picture number before.now part.now after.now) }
+{
+    push_margin(out, number)?;
+    push(out, "\n")?;
+    push_source(out, number, before, part, after)?;
+    push_caret(out, number, characters(before), characters(part))
+}
+
+fn push_source(
+    out: &mut Vec<u8>,
+    number: usize,
+    before: &[u8],
+    part: &[u8],
+    after: &[u8],
+) -> Result<(), AllocError>
+    ensures { OnOk result (out.new.items ≡ out.old.items ++ source_line number before.now part.now after.now) }
+{
+    push_decimal(out, number)?;
+    push(out, " | ")?;
+    out.extend_from_slice(before)?;
+    out.extend_from_slice(part)?;
+    out.extend_from_slice(after)?;
+    push(out, "\n")
+}
+
+// The caret's line, for so many columns before the caret and so many under which it stands.
+fn push_caret(
+    out: &mut Vec<u8>,
+    number: usize,
+    before: usize,
+    part: usize,
+) -> Result<(), AllocError>
+    ensures { OnOk result (out.new.items ≡ out.old.items ++ caret_of number before part) }
+{
+    push_margin(out, number)?;
+    push(out, " ")?;
+    push_often(out, b' ', before)?;
+    push_often(out, b'^', part.max(1))?;
+    push(out, "\n")
+}
+
+fn push_margin(out: &mut Vec<u8>, number: usize) -> Result<(), AllocError>
+    ensures { OnOk result (out.new.items ≡ out.old.items ++ margin number) }
+{
+    push_often(out, b' ', Buffer::new().format(number).len())?;
+    push(out, " |")
+}
+
+// Bytes as they are shown.
+fn push_shown(alloc: Global, out: &mut Vec<u8>, bytes: &[u8]) -> Result<(), AllocError>
+    ensures { OnOk result (out.new.items ≡ out.old.items ++ shown bytes.now) }
+{
+    let text = String::from_utf8_lossy(alloc, bytes)?;
+    push_plain(out, text.as_bytes())
+}
+
+fn push_plain(out: &mut Vec<u8>, bytes: &[u8]) -> Result<(), AllocError>
+    ensures { OnOk result (out.new.items ≡ out.old.items ++ flat_map shown_byte bytes.now) }
+{
+    for byte in bytes {
+        push_byte(out, *byte)?;
+    }
+    Ok(())
+}
+
+fn push_byte(out: &mut Vec<u8>, byte: u8) -> Result<(), AllocError>
+    ensures { OnOk result (out.new.items ≡ out.old.items ++ shown_byte byte) }
+{
+    match byte {
+        b'\t' => push(out, "    "),
+        b'\r' => Ok(()),
+        0..=31 => push(out, "?"),
+        _ => out.extend_from_slice(&[byte]),
+    }
+}

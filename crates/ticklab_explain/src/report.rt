@@ -1,0 +1,202 @@
+// The report of a refusal.
+ghost use Rattle.std.specs.Prelude.{◌≡◌, ◌++◌, ℕ, List, IfOk, OnOk, codes, length, min, string_bytes};
+ghost use Rattle.base.specs.Lines.{line_end};
+ghost use Rattle.ticklab_explain.specs.Hints.{hint_text};
+ghost use Rattle.ticklab_explain.specs.Messages.{message_of};
+ghost use Rattle.ticklab_explain.specs.Pictures.{IsPicture};
+ghost use Rattle.ticklab_explain.specs.Places.{IsPlace};
+ghost use Rattle.ticklab_explain.specs.Reports.{AreHintLines, IsHead, IsReport, IsSeen, IsWritten, error_text, last_line, place_text};
+ghost use Rattle.ticklab_explain.specs.Settings.{setting};
+ghost use Rattle.ticklab_explain.specs.declared.place.Place.{Place};
+
+use crate::choosing::hint_of;
+use crate::finding::{tokens_of, wanted_at};
+use crate::hint::Hint;
+use crate::messages::push_message;
+use crate::picture::push_picture;
+use crate::place::{Place, place_of};
+use crate::refusal::Refusal;
+use crate::refusal_line::push_refusal_line;
+use crate::scene::Scene;
+use crate::setting::scene_of;
+use crate::spot::{span_at, spot_of};
+use crate::wanted::Wanted;
+use crate::writing::{push, push_decimal};
+use base::NoMemory;
+use base::span::Span;
+use std::alloc::{AllocError, Global};
+
+/// The report of a refusal, of a schedule of so many processes: its place, what is wrong, the line with
+/// a caret, what may help, and the line that `ticketc` tells.
+pub fn report(
+    alloc: Global,
+    processes: u8,
+    name: &str,
+    text: &[u8],
+    refusal: Refusal,
+) -> Result<Vec<u8>, NoMemory>
+    ensures { IfOk result (λ report. IsReport processes name.now text.now refusal report.items) }
+{
+    let tokens = tokens_of(alloc, text)?;
+    let scene = scene_of(processes, text, &tokens, refusal);
+    let wanted = wanted_at(alloc, &scene, refusal)?;
+    told(alloc, name, &scene, &wanted, refusal)
+}
+
+fn told(
+    alloc: Global,
+    name: &str,
+    scene: &Scene,
+    wanted: &[Wanted],
+    refusal: Refusal,
+) -> Result<Vec<u8>, NoMemory>
+    ensures { IfOk result (λ report. IsWritten name.now (setting scene.now) wanted.now refusal report.items) }
+{
+    let message = message(alloc, scene, wanted, refusal)?;
+    let hint = hint_of(scene, wanted, refusal);
+    let mut out = Vec::new(alloc);
+    push_head(alloc, &mut out, name, scene.text, refusal, &message)?;
+    push_hint(alloc, &mut out, name, scene, hint)?;
+    push_last(&mut out, refusal)?;
+    Ok(out)
+}
+
+fn message(
+    alloc: Global,
+    scene: &Scene,
+    wanted: &[Wanted],
+    refusal: Refusal,
+) -> Result<String, AllocError>
+    ensures { IfOk result (λ message. string_bytes message ≡ message_of (setting scene.now) wanted.now refusal) }
+{
+    let mut text = String::new(alloc);
+    push_message(&mut text, scene, wanted, refusal)?;
+    Ok(text)
+}
+
+fn push_head(
+    alloc: Global,
+    out: &mut Vec<u8>,
+    name: &str,
+    text: &[u8],
+    refusal: Refusal,
+    message: &str,
+) -> Result<(), AllocError>
+    ensures { OnOk result ((head : List ℕ) × IsHead name.now text.now refusal message.now head × (out.new.items ≡ out.old.items ++ head)) }
+{
+    match span_at(text, spot_of(refusal)) {
+        Some(span) => push_placed(alloc, out, name, text, span, message)?,
+        None => push_unplaced(out, name, message)?,
+    }
+    Ok(())
+}
+
+fn push_placed(
+    alloc: Global,
+    out: &mut Vec<u8>,
+    name: &str,
+    text: &[u8],
+    span: Span,
+    message: &str,
+) -> Result<(), AllocError>
+    ensures { OnOk result ((place : Place) × (drawn : List ℕ) × IsPlace text.now (min span.start (length text.now)) place × IsPicture text.now span place.line drawn × (out.new.items ≡ out.old.items ++ (place_text name.now place ++ error_text message.now ++ drawn))) }
+{
+    let place = place_of(text, span.start.min(text.len()));
+    push_place(out, name, place)?;
+    push_error(out, message)?;
+    push_picture(alloc, out, text, span, place.line)
+}
+
+fn push_unplaced(out: &mut Vec<u8>, name: &str, message: &str) -> Result<(), AllocError>
+    ensures { OnOk result (out.new.items ≡ out.old.items ++ (name.now ++ error_text message.now)) }
+{
+    push(out, name)?;
+    push_error(out, message)
+}
+
+fn push_place(out: &mut Vec<u8>, name: &str, place: Place) -> Result<(), AllocError>
+    ensures { OnOk result (out.new.items ≡ out.old.items ++ place_text name.now place) }
+{
+    push(out, name)?;
+    push(out, ":")?;
+    push_decimal(out, place.line)?;
+    push(out, ":")?;
+    push_decimal(out, place.column)
+}
+
+fn push_error(out: &mut Vec<u8>, message: &str) -> Result<(), AllocError>
+    ensures { OnOk result (out.new.items ≡ out.old.items ++ error_text message.now) }
+{
+    push(out, ": error: ")?;
+    push(out, message)?;
+    push(out, "\n")
+}
+
+// What may help, and the place that it speaks of.
+fn push_hint(
+    alloc: Global,
+    out: &mut Vec<u8>,
+    name: &str,
+    scene: &Scene,
+    hint: Option<Hint>,
+) -> Result<(), AllocError>
+    ensures { OnOk result ((lines : List ℕ) × AreHintLines name.now scene.now.text.now (setting scene.now) hint lines × (out.new.items ≡ out.old.items ++ lines)) }
+{
+    match hint {
+        Some(hint) => {
+            push_words(alloc, out, scene, hint)?;
+            push_seen(alloc, out, name, scene.text, hint.span(scene))?;
+        }
+        None => {}
+    }
+    Ok(())
+}
+
+fn push_words(alloc: Global, out: &mut Vec<u8>, scene: &Scene, hint: Hint) -> Result<(), AllocError>
+    ensures { OnOk result (out.new.items ≡ out.old.items ++ (codes "hint: " ++ hint_text (setting scene.now) hint ++ line_end)) }
+{
+    let mut words = String::new(alloc);
+    hint.push(&mut words, scene)?;
+    push(out, "hint: ")?;
+    push(out, &words)?;
+    push(out, "\n")
+}
+
+fn push_seen(
+    alloc: Global,
+    out: &mut Vec<u8>,
+    name: &str,
+    text: &[u8],
+    span: Option<Span>,
+) -> Result<(), AllocError>
+    ensures { OnOk result ((seen : List ℕ) × IsSeen name.now text.now span seen × (out.new.items ≡ out.old.items ++ seen)) }
+{
+    match span {
+        Some(span) => push_other(alloc, out, name, text, span)?,
+        None => {}
+    }
+    Ok(())
+}
+
+fn push_other(
+    alloc: Global,
+    out: &mut Vec<u8>,
+    name: &str,
+    text: &[u8],
+    span: Span,
+) -> Result<(), AllocError>
+    ensures { OnOk result ((place : Place) × (drawn : List ℕ) × IsPlace text.now (min span.start (length text.now)) place × IsPicture text.now span place.line drawn × (out.new.items ≡ out.old.items ++ (codes " --> " ++ place_text name.now place ++ line_end ++ drawn))) }
+{
+    let place = place_of(text, span.start.min(text.len()));
+    push(out, " --> ")?;
+    push_place(out, name, place)?;
+    push(out, "\n")?;
+    push_picture(alloc, out, text, span, place.line)
+}
+
+fn push_last(out: &mut Vec<u8>, refusal: Refusal) -> Result<(), AllocError>
+    ensures { OnOk result (out.new.items ≡ out.old.items ++ last_line refusal) }
+{
+    push(out, "ticketc: ")?;
+    push_refusal_line(out, refusal)
+}

@@ -1,0 +1,136 @@
+// The place of a refusal in its text.
+ghost use Rattle.std.specs.Prelude.{◌≡◌, ◌≤◌, length};
+ghost use Rattle.ticklab_explain.specs.Settings.{AreBlanksAfter, AreBlanksBefore, AreTokens, IsSetting, IsWordAfter, IsWordBefore, IsWordEnd, IsWordStart, behind, index_from, is_doubled, is_compared, is_word_byte, setting};
+
+use crate::refusal::Refusal;
+use crate::scene::{Scene, as_text, byte_at, text_at};
+use crate::spot::{span_at, spot_of};
+use base::span::Span;
+use tick_syntax::token::Token;
+
+/// The scene of a refusal in a text of these tokens.
+pub fn scene_of<'a>(
+    processes: u8,
+    text: &'a [u8],
+    tokens: &'a [Token],
+    refusal: Refusal,
+) -> Scene<'a>
+    requires { AreTokens text.now tokens.now }
+    ensures { IsSetting processes text.now refusal (setting result) }
+{
+    let span = span_at(text, spot_of(refusal)).unwrap_or(Span { start: 0, end: 0 });
+    Scene {
+        text,
+        tokens,
+        span,
+        at: index_from(span.start, tokens),
+        left: word_before(text, span.start),
+        right: word_after(text, behind(text, span)),
+        processes,
+    }
+}
+
+// The first token that begins at a byte or after it; how many there are, where none does.
+fn index_from(start: usize, tokens: &[Token]) -> usize
+    ensures { result ≡ index_from start tokens.now }
+{
+    for (index, token) in tokens.iter().enumerate() {
+        if start <= token.span.start {
+            return index;
+        }
+    }
+    tokens.len()
+}
+
+// Whether a sign stands there that compares or joins two operands elsewhere.
+#[tactic(auto, unfolding(crate::specs::Settings::is_compared))]
+fn is_compared(word: &str) -> bool
+    ensures { result ≡ is_compared word.now }
+{
+    (word == ">") | (word == "≥") | (word == "&") | (word == "|")
+}
+
+fn is_doubled(byte: u8) -> bool
+    ensures { result ≡ is_doubled byte }
+{
+    (byte == b'=') | (byte == b'&') | (byte == b'|')
+}
+
+// What stands behind a sign of which two may stand together, and behind all else.
+#[tactic(auto, unfolding(crate::specs::Settings::behind))]
+fn behind(text: &[u8], span: Span) -> usize
+    ensures { result ≡ behind text.now span }
+{
+    let is_one = is_compared(text_at(text, span)) & is_doubled(byte_at(text, span.end));
+    if is_one { span.end + 1 } else { span.end }
+}
+
+fn is_word_byte(byte: u8) -> bool
+    ensures { result ≡ is_word_byte byte }
+{
+    byte.is_ascii_alphabetic() | byte.is_ascii_digit() | (byte == b'_')
+}
+
+// The name or number right before a place, with blanks between; nothing where another thing stands.
+fn word_before(text: &[u8], at: usize) -> &str
+    ensures { IsWordBefore text.now at result.now }
+{
+    let end = blank_start(text, at.min(text.len()));
+    let start = word_start(text, end);
+    as_text(&text[start..end])
+}
+
+// Where the blanks before a place begin.
+fn blank_start(text: &[u8], at: usize) -> usize
+    requires { at ≤ length text.now }
+    ensures { AreBlanksBefore text.now at result }
+{
+    let mut start = at;
+    while start > 0 && text[start - 1] == b' ' {
+        start -= 1;
+    }
+    start
+}
+
+fn word_start(text: &[u8], at: usize) -> usize
+    requires { at ≤ length text.now }
+    ensures { IsWordStart text.now at result }
+{
+    let mut start = at;
+    while start > 0 && at - start < 64 && is_word_byte(text[start - 1]) {
+        start -= 1;
+    }
+    start
+}
+
+// The name or number right after a place.
+fn word_after(text: &[u8], at: usize) -> &str
+    ensures { IsWordAfter text.now at result.now }
+{
+    let start = blank_end(text, at.min(text.len()));
+    let end = word_end(text, start);
+    as_text(&text[start..end])
+}
+
+// Where the blanks from a place on end.
+fn blank_end(text: &[u8], at: usize) -> usize
+    requires { at ≤ length text.now }
+    ensures { AreBlanksAfter text.now at result }
+{
+    let mut end = at;
+    while end < text.len() && text[end] == b' ' {
+        end += 1;
+    }
+    end
+}
+
+fn word_end(text: &[u8], at: usize) -> usize
+    requires { at ≤ length text.now }
+    ensures { IsWordEnd text.now at result }
+{
+    let mut end = at;
+    while end < text.len() && end - at < 64 && is_word_byte(text[end]) {
+        end += 1;
+    }
+    end
+}

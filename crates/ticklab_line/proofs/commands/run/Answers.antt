@@ -1,0 +1,6 @@
+use Rattle.ticklab_line.proofs.commands.run.Goals as goal
+
+pub returns : goal.returns
+returns c =
+    let schedule = c.taking-run.ensures _ _ c.filed.ensures c.word.ensures in
+    c.taking.ensures _ _ schedule c.flag.ensures

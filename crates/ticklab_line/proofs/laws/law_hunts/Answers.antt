@@ -1,0 +1,23 @@
+use Rattle.std.proofs.Common.{refl}
+use Rattle.clap.proofs.OnLiterals.{clap_on_literals}
+use Rattle.ticklab_line.specs.Lines.{command_in, faults}
+use Rattle.ticklab_line.proofs.laws.law_hunts.Goals as goal
+
+pub returns : goal.returns
+unfolding clap_on_literals faults command_in
+returns c = record {
+  plain = ((refl, refl), (refl, refl));
+  seed = ((refl, refl), (refl, refl));
+  runs = ((refl, refl), (refl, refl));
+  steps = ((refl, refl), (refl, refl));
+  uniform = ((refl, refl), (refl, refl));
+  threads_alone = (refl, refl);
+  threads_runs = refl;
+  threads_seed = (refl, refl);
+  threads_runs_given = (refl, refl);
+  threads_steps = (refl, refl);
+  threads_uniform = (refl, refl);
+  steps_threads = (refl, refl);
+  uniform_threads = (refl, refl);
+  all = (refl, refl);
+}

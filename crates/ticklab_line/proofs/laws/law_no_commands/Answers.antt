@@ -1,0 +1,23 @@
+use Rattle.std.proofs.Common.{refl}
+use Rattle.clap.proofs.OnLiterals.{clap_on_literals}
+use Rattle.ticklab_line.specs.Lines.{command_in, faults}
+use Rattle.ticklab_line.proofs.laws.law_no_commands.Goals as goal
+
+pub returns : goal.returns
+unfolding clap_on_literals faults command_in
+returns c = record {
+  nothing = refl;
+  unknown = refl;
+  help = refl;
+  explore_help = refl;
+  hunt_help = refl;
+  help_command = refl;
+  merged_true = refl;
+  version = refl;
+  no_file = refl;
+  no_schedule = refl;
+  no_moves = refl;
+  no_number = refl;
+  large_number = refl;
+  one_number = refl;
+}

@@ -1,0 +1,50 @@
+-- Which options do not go together: `--threads`, and each option that says how a hunt draws its schedules.
+use Rattle.std.specs.Prelude.{Bool, true, false, List, ◌++◌, ◌||◌, Option, Some, None, codes, bytes_eq, map}
+use Rattle.std.specs.Prelude.{if◌then◌else◌, find, is_some, option_and_then, option_map}
+use Rattle.std.specs.Option.{option_map_or}
+use Rattle.clap.specs.Walk.{Row, Text, all_of}
+use Rattle.ticklab_line.specs.Found.{is_given, is_set}
+use Rattle.ticklab_line.specs.declared.conflicts.Conflict.{Conflict}
+
+abbrev pub is_of_plan : Text → Bool
+is_of_plan id = bytes_eq id (codes "seed") || (bytes_eq id (codes "runs")
+    || (bytes_eq id (codes "steps") || bytes_eq id (codes "uniform")))
+
+-- the first option of a plan that is given, as it is shown
+abbrev pub plan_option : List Row → Option Text
+plan_option rows =
+    if is_given (codes "seed") rows then Some (codes "--seed <N>")
+    else if is_given (codes "runs") rows then Some (codes "--runs <N>")
+    else if is_given (codes "steps") rows then Some (codes "--steps <N>")
+    else if is_set (codes "uniform") rows then Some (codes "--uniform")
+    else None
+
+abbrev pub may_conflict : Text → Bool
+may_conflict id = bytes_eq id (codes "threads") || is_of_plan id
+
+-- of these names in the order in which the words gave them, `threads` is the first
+abbrev pub threads_lead : List Text → Bool
+threads_lead ids = option_map_or (bytes_eq (codes "threads")) (find may_conflict ids) false
+
+-- two options, in the order in which they were given
+abbrev pub in_order : Bool → Text → Text × Text
+in_order true option = (codes "--threads <TIMES> <TURNS>", option)
+in_order false option = (option, codes "--threads <TIMES> <TURNS>")
+
+-- the texts of a conflict
+abbrev pub shown : Conflict → Text × Text
+shown conflict = (conflict.first.now, conflict.second.now)
+
+-- two options that do not go together
+abbrev pub conflict_of : List Row → Option (Text × Text)
+conflict_of rows = if is_some (all_of (codes "threads") rows)
+    then option_map (in_order (threads_lead (map (λ r. r.id) rows))) (plan_option rows) else None
+
+abbrev pub conflict_in : Option (Text × List Row) → Option (Text × Text)
+conflict_in = option_and_then (λ p. conflict_of p.1)
+
+-- what is told of them
+abbrev pub conflict_text : Text × Text → Text
+conflict_text options =
+    codes "error: the argument '" ++ options.0 ++ codes "' cannot be used with '" ++ options.1
+    ++ codes "'\n\nUsage: ticklab hunt " ++ options.0 ++ codes " <FILE>\n\nFor more information, try '--help'.\n"

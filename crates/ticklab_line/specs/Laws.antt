@@ -1,0 +1,85 @@
+-- What command lines ask for, computed from the description of the command line alone.
+use Rattle.std.specs.Prelude.{◌≡◌, true, false, List, [], ◌∷◌, Option, Some, None, codes}
+use Rattle.clap.specs.Walk.{Text}
+use Rattle.clap.specs.Kinds.{Kinds}
+use Rattle.clap.specs.declared.error.kind.ErrorKind.TheVariants as kind
+use Rattle.ticklab_line.specs.Lines.{IsAsked, command_in, faults}
+use Rattle.ticklab_line.specs.Conflicts.{conflict_in}
+use Rattle.ticklab_line.specs.Found.{runs_in}
+use Rattle.ticklab_line.specs.declared.request.Request.{Request}
+use Rattle.ticklab_line.specs.declared.request.Request.TheVariants.{Explore, Hunt, Trace, Draw, Explain, Labels}
+
+abbrev pub line : List Text → List Text
+line words = codes "ticklab" ∷ words
+
+-- `clap` takes the words after the program's name, and these two options of them, if any, do not go together
+abbrev pub IsTaken : List Text → Option (Text × Text) → Type 0
+IsTaken words conflict = (faults (line words) ≡ []) × (conflict_in (command_in (line words)) ≡ conflict)
+
+-- the words ask for this
+abbrev pub Asks : List Text → Request Text → Type 0
+Asks words request = IsTaken words None × IsAsked (command_in (line words)) (Some request) None
+
+-- one of these kinds is told of the words
+abbrev pub Tells : List Text → Kinds → Type 0
+Tells words kinds = faults (line words) ≡ kinds
+
+pub record CommandsLaw : Type 0 where
+  pub explore : (rest : Text) → Asks (codes "explore" ∷ (97 ∷ rest) ∷ []) (Explore (97 ∷ rest) 1000000 false)
+  pub explore_limit : Asks (codes "explore" ∷ codes "a" ∷ codes "--limit" ∷ codes "7" ∷ []) (Explore (codes "a") 7 false)
+  pub explore_merged : Asks (codes "explore" ∷ codes "--merged" ∷ codes "a" ∷ []) (Explore (codes "a") 1000000 true)
+  pub trace : Asks (codes "trace" ∷ codes "a" ∷ codes "0 1*3" ∷ []) (Trace (codes "a") (codes "0 1*3") false)
+  pub trace_code : Asks (codes "trace" ∷ codes "-" ∷ codes "@b" ∷ codes "--code" ∷ []) (Trace (codes "-") (codes "@b") true)
+  pub draw : Asks (codes "draw" ∷ codes "a" ∷ [] ∷ []) (Draw (codes "a") [] false)
+  pub draw_code : Asks (codes "draw" ∷ codes "--code" ∷ codes "a" ∷ codes "0" ∷ []) (Draw (codes "a") (codes "0") true)
+  pub explain : Asks (codes "explain" ∷ codes "a" ∷ []) (Explain (codes "a") None)
+  pub explain_schedule : Asks (codes "explain" ∷ codes "a" ∷ codes "0" ∷ []) (Explain (codes "a") (Some (codes "0")))
+  pub labels : Asks (codes "labels" ∷ codes "3" ∷ codes "0 c1" ∷ []) (Labels 3 (codes "0 c1"))
+
+-- the words after `hunt` and a program ask for this plan
+abbrev pub HuntsBy : List Text → Request Text → Type 0
+HuntsBy words = Asks (codes "hunt" ∷ codes "a" ∷ words)
+
+-- they have two options that do not go together, shown so
+abbrev pub Conflicts : List Text → Text → Text → Type 0
+Conflicts words first second = IsTaken (codes "hunt" ∷ codes "a" ∷ words) (Some (first, second))
+
+-- `--threads 5 9` and more words
+abbrev pub threads : List Text → List Text
+threads words = codes "--threads" ∷ codes "5" ∷ codes "9" ∷ words
+
+abbrev pub shown_threads : Text
+shown_threads = codes "--threads <TIMES> <TURNS>"
+
+pub record HuntsLaw : Type 0 where
+  pub plain : HuntsBy [] (Hunt (codes "a") 0 10000 300 false)
+  pub seed : HuntsBy (codes "--seed" ∷ codes "18446744073709551615" ∷ []) (Hunt (codes "a") 18446744073709551615 10000 300 false)
+  pub runs : HuntsBy (codes "--runs" ∷ codes "2" ∷ []) (Hunt (codes "a") 0 2 300 false)
+  pub steps : HuntsBy (codes "--steps" ∷ codes "2" ∷ []) (Hunt (codes "a") 0 10000 2 false)
+  pub uniform : HuntsBy (codes "--uniform" ∷ []) (Hunt (codes "a") 0 10000 300 true)
+  pub threads_alone : IsTaken (codes "hunt" ∷ codes "a" ∷ threads []) None
+  pub threads_runs : runs_in (command_in (line (codes "hunt" ∷ codes "a" ∷ threads [])))
+      ≡ Some (record { file = codes "a"; times = 5; turns = 9 })
+  pub threads_seed : Conflicts (threads (codes "--seed" ∷ codes "0" ∷ [])) shown_threads (codes "--seed <N>")
+  pub threads_runs_given : Conflicts (threads (codes "--runs=10000" ∷ [])) shown_threads (codes "--runs <N>")
+  pub threads_steps : Conflicts (threads (codes "--steps" ∷ codes "5" ∷ [])) shown_threads (codes "--steps <N>")
+  pub threads_uniform : Conflicts (threads (codes "--uniform" ∷ [])) shown_threads (codes "--uniform")
+  pub steps_threads : Conflicts (codes "--steps" ∷ codes "5" ∷ threads []) (codes "--steps <N>") shown_threads
+  pub uniform_threads : Conflicts (codes "--uniform" ∷ threads []) (codes "--uniform") shown_threads
+  pub all : Conflicts (codes "--steps" ∷ codes "5" ∷ threads (codes "--uniform" ∷ codes "--seed" ∷ codes "1" ∷ [])) (codes "--seed <N>") shown_threads
+
+pub record NoCommandsLaw : Type 0 where
+  pub nothing : Tells [] (kind.DisplayHelpOnMissingArgumentOrSubcommand ∷ [])
+  pub unknown : Tells (codes "sort" ∷ codes "a" ∷ []) (kind.UnknownArgument ∷ kind.InvalidSubcommand ∷ [])
+  pub help : Tells (codes "--help" ∷ []) (kind.DisplayHelp ∷ [])
+  pub explore_help : Tells (codes "explore" ∷ codes "--help" ∷ []) (kind.DisplayHelp ∷ [])
+  pub hunt_help : Tells (codes "hunt" ∷ codes "-h" ∷ []) (kind.DisplayHelp ∷ [])
+  pub help_command : Tells (codes "help" ∷ []) (kind.DisplayHelp ∷ kind.InvalidSubcommand ∷ [])
+  pub merged_true : Tells (codes "explore" ∷ codes "a" ∷ codes "--merged=true" ∷ []) (kind.TooManyValues ∷ [])
+  pub version : Tells (codes "--version" ∷ []) (kind.UnknownArgument ∷ [])
+  pub no_file : Tells (codes "explore" ∷ []) (kind.MissingRequiredArgument ∷ [])
+  pub no_schedule : Tells (codes "trace" ∷ codes "a" ∷ []) (kind.MissingRequiredArgument ∷ [])
+  pub no_moves : Tells (codes "labels" ∷ codes "2" ∷ []) (kind.MissingRequiredArgument ∷ [])
+  pub no_number : Tells (codes "explore" ∷ codes "a" ∷ codes "--limit" ∷ codes "x" ∷ []) (kind.ValueValidation ∷ [])
+  pub large_number : Tells (codes "explore" ∷ codes "a" ∷ codes "--limit" ∷ codes "4294967296" ∷ []) (kind.ValueValidation ∷ [])
+  pub one_number : Tells (codes "hunt" ∷ codes "a" ∷ codes "--threads" ∷ codes "5" ∷ []) (kind.WrongNumberOfValues ∷ [])

@@ -1,0 +1,67 @@
+-- What the words of a command line ask for.
+use Rattle.std.specs.Prelude.{◌≡◌, ◌≢◌, List, [], ◌∷◌, MatchOption, Option, Some, None, codes, string_bytes}
+use Rattle.clap.specs.Walk.{Row, Text}
+use Rattle.clap.specs.Simple.{subcommand_of}
+use Rattle.clap.specs.Faults.{fault_of}
+use Rattle.clap.specs.Kinds.{IsAmong, Kinds}
+use Rattle.clap.specs.declared.error.kind.ErrorKind.{ErrorKind}
+use Rattle.clap.specs.declared.error.kind.ErrorKind.TheVariants as kind
+use Rattle.ticklab_line.specs.CommandLine.{ticklab}
+use Rattle.ticklab_line.specs.Conflicts.{conflict_in, conflict_text}
+use Rattle.ticklab_line.specs.Found.{plain_request, plain_runs, request_in, runs_in}
+use Rattle.ticklab_line.specs.declared.request.Request.{Request}
+use Rattle.ticklab_line.specs.declared.request.Runs.{Runs}
+use Rattle.ticklab_line.specs.declared.asking.Line.{Line}
+use Rattle.ticklab_line.specs.declared.asking.Line.TheVariants as line
+
+-- the command that `clap` finds in the words, the first of which is the program's name, with the values that it read
+unfoldable pub command_in : List Text → Option (Text × List Row)
+command_in words = subcommand_of ticklab words
+
+-- The kinds of which one is told in place of a command: none where `clap` takes the words, more than one only
+-- where it may tell either, as help or an unknown command after `help`.
+unfoldable pub faults : List Text → Kinds
+faults words = fault_of ticklab words
+
+-- what was found asks for this, and for nothing where it is nothing
+abbrev pub IsAsked : Option (Text × List Row) → Option (Request Text) → Option (Runs Text) → Type 0
+IsAsked found request runs = (request_in found ≡ request) × (runs_in found ≡ runs)
+
+-- what is told where a number is out of its range
+abbrev pub number_text : Text
+number_text = codes "error: a number is out of its range\n"
+
+-- what is answered to words that have no conflict
+abbrev pub IsMeant : Option (Text × List Row) → Line → Type 0
+IsMeant found (line.Request request) = IsAsked found (Some (plain_request request)) None
+IsMeant found (line.Runs runs) = runs_in found ≡ Some (plain_runs runs)
+IsMeant found (line.Help text) = ⊥
+IsMeant found (line.Refused text) = IsAsked found None None × (string_bytes text ≡ number_text)
+
+abbrev pub IsRefused : Text → Line → Type 0
+IsRefused wanted (line.Refused text) = string_bytes text ≡ wanted
+IsRefused wanted _ = ⊥
+
+-- what is answered where `clap` takes the words
+abbrev pub IsFound : Option (Text × List Row) → Line → Type 0
+IsFound found l = MatchOption (conflict_in found) (IsMeant found l) (λ options. IsRefused (conflict_text options) l)
+
+-- what is answered where it does not: help only where help is one of the kinds, a refusal only where another is
+abbrev pub IsTold : Kinds → Line → Type 0
+IsTold kinds (line.Help text) = IsAmong kind.DisplayHelp kinds
+IsTold kinds (line.Refused text) = (k : ErrorKind) × (k ≢ kind.DisplayHelp) × IsAmong k kinds
+IsTold kinds _ = ⊥
+
+abbrev pub AnswersBy : Kinds → Option (Text × List Row) → Line → Type 0
+AnswersBy [] found = IsFound found
+AnswersBy (k ∷ ks) found = IsTold (k ∷ ks)
+
+-- the words ask for this, or this is told of them
+abbrev pub Answers : List Text → Line → Type 0
+Answers words = AnswersBy (faults words) (command_in words)
+
+-- the same by the one kind that is told
+abbrev pub IsToldBy : ErrorKind → Line → Type 0
+IsToldBy k (line.Help text) = k ≡ kind.DisplayHelp
+IsToldBy k (line.Refused text) = k ≢ kind.DisplayHelp
+IsToldBy k _ = ⊥

@@ -1,0 +1,94 @@
+//! The arguments of commands, as they are described to `clap`.
+ghost use Rattle.std.specs.Prelude.{◌≡◌, codes, pos};
+ghost use Rattle.clap.specs.declared.builder.value_parser.ValueParser.TheVariants.{Signed, Unsigned};
+ghost use Rattle.ticklab_line.specs.CommandLine.{IsWord, flag_rule, further_rule, number_rule, processes_rule, threads_rule, up_to, word_rule};
+
+use clap::builder::ValueParser;
+use clap::{Arg, ArgAction, value_parser};
+use std::alloc::Global;
+
+static RUNS_AND_TURNS: [&str; 2] = ["TIMES", "TURNS"];
+
+/// A word that has to be there.
+pub fn word<'a>(alloc: Global, name: &'a str, value: &'a str, help: &'a str) -> Arg<'a>
+    ensures { IsWord (word_rule name.entry.now) result }
+{
+    further(alloc, name, value, help).required(true)
+}
+
+/// A word that may be left out.
+pub fn further<'a>(alloc: Global, name: &'a str, value: &'a str, help: &'a str) -> Arg<'a>
+    ensures { IsWord (further_rule name.entry.now) result }
+{
+    Arg::new(alloc, name).value_name(value).help(help)
+}
+
+pub fn processes<'a>(alloc: Global) -> Arg<'a>
+    ensures { IsWord processes_rule result }
+{
+    word(
+        alloc,
+        "processes",
+        "N",
+        "How many processes there are, 1 to 6",
+    )
+    .value_parser(one_to_six())
+}
+
+pub fn flag<'a>(alloc: Global, name: &'a str, help: &'a str) -> Arg<'a>
+    ensures { IsWord (flag_rule name.entry.now) result }
+{
+    Arg::new(alloc, name)
+        .long(name)
+        .action(ArgAction::SetTrue)
+        .help(help)
+}
+
+/// An option with a number. What stands for it where it is left out is for the help alone.
+pub fn number<'a>(
+    alloc: Global,
+    name: &'a str,
+    value: &'a str,
+    parser: ValueParser<'a>,
+    help: &'a str,
+) -> Arg<'a>
+    ensures { IsWord (number_rule name.entry.now parser.entry) result }
+{
+    further(alloc, name, value, help)
+        .long(name)
+        .value_parser(parser)
+}
+
+/// How many steps a schedule of a hunt may have.
+pub fn length<'a>() -> ValueParser<'a>
+    ensures { result ≡ up_to 10000000 }
+{
+    value_parser!(u32).range(0..=10_000_000)
+}
+
+fn one_to_six<'a>() -> ValueParser<'a>
+    ensures { result ≡ Signed (pos 1) (pos 6) }
+{
+    value_parser!(u8).range(1..=6)
+}
+
+fn up_to_a_billion<'a>() -> ValueParser<'a>
+    ensures { result ≡ Unsigned 0 1000000000 }
+{
+    value_parser!(u64).range(0..=1_000_000_000)
+}
+
+/// Two numbers in place of a plan.
+pub fn threads<'a>(alloc: Global) -> Arg<'a>
+    ensures { IsWord threads_rule result }
+{
+    Arg::new(alloc, "threads")
+        .long("threads")
+        .value_names(&RUNS_AND_TURNS)
+        .num_args(2)
+        .value_parser(up_to_a_billion())
+        .help(
+            "Runs the code on threads instead, so many times, each process for at most so many turns; \
+and prints how often each outcome came",
+        )
+}

@@ -1,0 +1,80 @@
+ghost use Rattle.std.specs.Prelude.{◌≡◌, ◌≢◌, IfOk, map, string_bytes};
+ghost use Rattle.clap.specs.Simple.{subcommand_rows_of};
+ghost use Rattle.clap.specs.Values.{kind_of};
+ghost use Rattle.ticklab_line.specs.Lines.{Answers, IsFound, IsMeant, IsToldBy, number_text};
+
+use crate::commands::command_line;
+use crate::conflicts::{conflict_in, conflict_text};
+use crate::reading::{request_in, runs_in};
+use crate::request::{Request, Runs};
+use clap::error::ErrorKind;
+use clap::{ArgMatches, Error};
+use std::alloc::{AllocError, Global};
+
+/// What a command line asks for, or what is told in place of an answer.
+#[derive(Drop)]
+pub enum Line<'a> {
+    Request(Request<&'a str>),
+    Runs(Runs<&'a str>),
+    /// The help that was asked for.
+    Help(String),
+    /// The words are no command, and why.
+    Refused(String),
+}
+
+/// What the words of a command line ask for, of which the first is the program's name. The only error is
+/// that memory was refused.
+pub fn asked<'a>(alloc: Global, words: &'a [String]) -> Result<Line<'a>, AllocError>
+    ensures { IfOk result (Answers (map string_bytes words.entry.now)) }
+{
+    match command_line(alloc)?.try_get_matches_from(words) {
+        Ok(matches) => found(alloc, &matches),
+        Err(error) => told(alloc, error),
+    }
+}
+
+fn found<'a>(alloc: Global, matches: &ArgMatches<'a>) -> Result<Line<'a>, AllocError>
+    ensures { IfOk result (IsFound (subcommand_rows_of matches.now)) }
+{
+    match conflict_in(matches) {
+        Some(options) => Ok(Line::Refused(conflict_text(alloc, options)?)),
+        None => meant(alloc, matches),
+    }
+}
+
+fn meant<'a>(alloc: Global, matches: &ArgMatches<'a>) -> Result<Line<'a>, AllocError>
+    ensures { IfOk result (IsMeant (subcommand_rows_of matches.now)) }
+{
+    if let Some(runs) = runs_in(matches) {
+        return Ok(Line::Runs(runs));
+    }
+    match request_in(matches) {
+        Some(request) => Ok(Line::Request(request)),
+        None => Ok(Line::Refused(number_refused(alloc)?)),
+    }
+}
+
+// Where `clap` took a number that is out of its range.
+fn number_refused(alloc: Global) -> Result<String, AllocError>
+    ensures { IfOk result (λ text. string_bytes text ≡ number_text) }
+{
+    String::from_str(alloc, "error: a number is out of its range\n")
+}
+
+fn told<'a>(alloc: Global, error: Error) -> Result<Line<'a>, AllocError>
+    ensures { IfOk result (λ line. IsToldBy (kind_of error) line × (kind_of error ≢ ErrorKind.OutOfMemory)) }
+{
+    match error.kind() {
+        ErrorKind::OutOfMemory => Err(AllocError),
+        kind => Ok(line_told(kind, format!(in alloc; "{error}")?)),
+    }
+}
+
+fn line_told<'a>(kind: ErrorKind, text: String) -> Line<'a>
+    ensures { IsToldBy kind result }
+{
+    match kind {
+        ErrorKind::DisplayHelp => Line::Help(text),
+        _ => Line::Refused(text),
+    }
+}

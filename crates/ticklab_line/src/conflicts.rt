@@ -1,0 +1,101 @@
+//! Options that do not go together.
+ghost use Rattle.std.specs.Prelude.{◌≡◌, IfOk, map, option_map, string_bytes};
+ghost use Rattle.clap.specs.Matches.{found_of};
+ghost use Rattle.clap.specs.Walk.{rows_of};
+ghost use Rattle.clap.specs.Simple.{subcommand_rows_of};
+ghost use Rattle.ticklab_line.specs.Conflicts.{conflict_in as conflict_found, conflict_of, conflict_text, in_order, may_conflict, plan_option, shown, threads_lead};
+
+use crate::values::{is_set, text_in, texts_in};
+use clap::ArgMatches;
+use std::alloc::{AllocError, Global};
+
+const THREADS: &str = "--threads <TIMES> <TURNS>";
+
+/// Two options that do not go together, as they are shown, in the order in which they were given.
+#[derive(Drop)]
+pub struct Conflict<'a> {
+    first: &'a str,
+    second: &'a str,
+}
+
+/// The options of the words that do not go together, where there are some.
+pub fn conflict_in(matches: &ArgMatches<'_>) -> Option<Conflict<'static>>
+    ensures { option_map shown result ≡ conflict_found (subcommand_rows_of matches.now) }
+{
+    let (_name, given) = matches.subcommand()?;
+    conflict_of(given)
+}
+
+fn conflict_of(given: &ArgMatches<'_>) -> Option<Conflict<'static>>
+    ensures { option_map shown result ≡ conflict_of (rows_of (found_of given.now)) }
+{
+    let _threads = texts_in(given, "threads")?;
+    let option = plan_option(given)?;
+    Some(in_order(threads_lead(given), option))
+}
+
+fn in_order(threads_lead: bool, option: &str) -> Conflict<'_>
+    ensures { shown result ≡ in_order threads_lead option.now }
+{
+    if threads_lead {
+        return Conflict {
+            first: THREADS,
+            second: option,
+        };
+    }
+    Conflict {
+        first: option,
+        second: THREADS,
+    }
+}
+
+// The first option of a plan that is given, as it is shown.
+fn plan_option(given: &ArgMatches<'_>) -> Option<&'static str>
+    ensures { option_map (λ option. option.now) result ≡ plan_option (rows_of (found_of given.now)) }
+{
+    if text_in(given, "seed").is_some() {
+        return Some("--seed <N>");
+    }
+    if text_in(given, "runs").is_some() {
+        return Some("--runs <N>");
+    }
+    if text_in(given, "steps").is_some() {
+        return Some("--steps <N>");
+    }
+    if is_set(given, "uniform") {
+        return Some("--uniform");
+    }
+    None
+}
+
+// Whether `--threads` was given before each option of a plan.
+fn threads_lead(given: &ArgMatches<'_>) -> bool
+    ensures { result ≡ threads_lead (map (λ row. row.id) (rows_of (found_of given.now))) }
+{
+    for id in given.ids() {
+        if may_conflict(id) {
+            return id == "threads";
+        }
+    }
+    false
+}
+
+fn may_conflict(id: &str) -> bool
+    ensures { result ≡ may_conflict id.now }
+{
+    matches!(id, "threads" | "seed" | "runs" | "steps" | "uniform")
+}
+
+/// What is told of them, as `clap` tells it of two of its own.
+pub fn conflict_text(alloc: Global, options: Conflict<'_>) -> Result<String, AllocError>
+    ensures { IfOk result (λ text. string_bytes text ≡ conflict_text (shown options.entry)) }
+{
+    let mut text = String::from_str(alloc, "error: the argument '")?;
+    text.push_str(options.first)?;
+    text.push_str("' cannot be used with '")?;
+    text.push_str(options.second)?;
+    text.push_str("'\n\nUsage: ticklab hunt ")?;
+    text.push_str(options.first)?;
+    text.push_str(" <FILE>\n\nFor more information, try '--help'.\n")?;
+    Ok(text)
+}

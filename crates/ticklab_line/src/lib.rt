@@ -1,0 +1,20 @@
+//! `ticklab_line` says what the words of a `ticklab` command line ask for, and has the help.
+//!
+//! `clap` parses the words by the command line that `specs/CommandLine.antt` describes. Only this crate and
+//! `ticketc_line` call `clap`. Checking a crate that calls it takes long, so nothing else stands here.
+//! `specs/Lines.antt` says what `asked` answers.
+//! Start with `asked`.
+#![tactic(auto)]
+
+mod arguments;
+mod asking;
+mod commands;
+mod conflicts;
+mod laws;
+mod reading;
+mod request;
+mod values;
+
+pub use asking::{Line, asked};
+pub use laws::{law_commands, law_hunts, law_no_commands};
+pub use request::{Request, Runs};

@@ -1,0 +1,27 @@
+//! `ticklab_trace` tells what each step of a run did, as a list and as lines for people.
+//!
+//! `source_steps` lists the steps of a program on tickets, and `code_steps` those of a code on labels.
+//! `source_trace` and `code_trace` write a line for each step. `places` finds the statements of a program in
+//! its text.
+//! Start with `source_steps` and `code_steps`.
+#![tactic(auto)]
+
+mod code_lines;
+mod columns;
+mod heads;
+mod instructions;
+mod links;
+mod shown;
+mod source_lines;
+mod spots;
+mod statements;
+mod steps;
+mod wording;
+
+pub use base::NoMemory;
+pub use code_lines::code_trace;
+pub use instructions::code_steps;
+pub use source_lines::source_trace;
+pub use spots::{Spot, places};
+pub use statements::source_steps;
+pub use steps::{InstructionStep, StatementStep, Written};

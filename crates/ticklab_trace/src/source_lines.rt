@@ -1,0 +1,170 @@
+//! The lines of the steps of a program.
+
+ghost use Rattle.std.specs.Prelude.{◌≡◌, ◌<◌, ◌++◌, IfOk, OnOk, length, map, option_map, slice_get, slice_index, string_bytes};
+ghost use Rattle.ticklab_trace.specs.Places.{told_standing};
+ghost use Rattle.ticklab_trace.specs.TraceText.{done_text, order_text, spot_text, statement_line, statement_lines, step_text, taken_text, ticket_rank};
+
+use crate::columns::{push_head, push_nowhere, push_where, push_words};
+use crate::spots::Spot;
+use crate::steps::StatementStep;
+use crate::wording::{push_act, push_rank, push_variable};
+use base::{Act, NoMemory, push_number};
+use std::alloc::{AllocError, Global};
+use tick_kinds::Program;
+use ticket_core::Tickets;
+
+/// A line for each step: its number from 1, the process, where its statement stands and how it reads,
+/// and what it did. `spots` are those of the program's text, as `places` tells them.
+pub fn source_trace(
+    alloc: Global,
+    program: &Program,
+    spots: &[Spot<'_>],
+    steps: &[StatementStep],
+) -> Result<String, NoMemory>
+    ensures { IfOk result (λ text. string_bytes text ≡ statement_lines program.now (map told_standing spots.now) 0 steps.now) }
+{
+    let mut text = String::new(alloc);
+    for (number, step) in steps.iter().enumerate() {
+        push_line(&mut text, program, spots, number, *step)?;
+    }
+    Ok(text)
+}
+
+fn push_line(
+    text: &mut String,
+    program: &Program,
+    spots: &[Spot<'_>],
+    number: usize,
+    step: StatementStep,
+) -> Result<(), AllocError>
+    requires { number < 18446744073709551615 }
+    ensures { OnOk result (string_bytes text.new ≡ string_bytes text.old ++ statement_line program.now (map told_standing spots.now) number step) }
+{
+    push_head(text, number, step.process)?;
+    push_step(text, program, spots, step)?;
+    text.push_str("\n")
+}
+
+// What comes after the process.
+fn push_step(
+    text: &mut String,
+    program: &Program,
+    spots: &[Spot<'_>],
+    step: StatementStep,
+) -> Result<(), AllocError>
+    ensures { OnOk result (string_bytes text.new ≡ string_bytes text.old ++ step_text program.now (map told_standing spots.now) step step.number step.act) }
+{
+    match (step.number, step.act) {
+        (None, None) => text.push_str("stopped"),
+        (None, Some(act)) => {
+            push_nowhere(text)?;
+            push_done(text, program, "", step, Some(act))
+        }
+        (Some(number), act) => push_statement(text, program, spots.get(number).copied(), step, act),
+    }
+}
+
+// The statement at its place of the text, and what it did.
+fn push_statement(
+    text: &mut String,
+    program: &Program,
+    spot: Option<Spot<'_>>,
+    step: StatementStep,
+    act: Option<Act>,
+) -> Result<(), AllocError>
+    ensures { OnOk result (string_bytes text.new ≡ string_bytes text.old ++ spot_text program.now step act (option_map told_standing spot.entry)) }
+{
+    match spot {
+        None => {
+            push_where(text, 0, 0)?;
+            push_done(text, program, "", step, act)
+        }
+        Some(spot) => {
+            push_where(text, spot.line, spot.column)?;
+            push_done(text, program, spot.words, step, act)
+        }
+    }
+}
+
+// The words of a statement, and what it did.
+fn push_done(
+    text: &mut String,
+    program: &Program,
+    words: &str,
+    step: StatementStep,
+    act: Option<Act>,
+) -> Result<(), AllocError>
+    ensures { OnOk result (string_bytes text.new ≡ string_bytes text.old ++ done_text program.now words.now step.process act step.written step.tickets) }
+{
+    match (act, step.written) {
+        (None, None) => text.push_str(words),
+        (None, Some(written)) => {
+            push_words(text, words)?;
+            push_variable(text, program, written.variable, written.value)
+        }
+        (Some(act), None) => {
+            push_words(text, words)?;
+            push_act(text, program, step.process, act)?;
+            push_order(text, step.process, act, step.tickets)
+        }
+        (Some(act), Some(written)) => {
+            push_words(text, words)?;
+            push_act(text, program, step.process, act)?;
+            text.push_str(", ")?;
+            push_variable(text, program, written.variable, written.value)
+        }
+    }
+}
+
+// The ticket that a stamp took, and the order of all processes.
+fn push_order(
+    text: &mut String,
+    p: u8,
+    act: Act,
+    tickets: Option<Tickets>,
+) -> Result<(), AllocError>
+    ensures { OnOk result (string_bytes text.new ≡ string_bytes text.old ++ order_text p act tickets) }
+{
+    let Some(tickets) = tickets else {
+        return Ok(());
+    };
+    push_taken(text, p, act, &tickets)?;
+    text.push_str(", order")?;
+    for i in 0..tickets.count() {
+        push_rank(text, rank_of(&tickets, i))?;
+    }
+    Ok(())
+}
+
+fn push_taken(text: &mut String, p: u8, act: Act, tickets: &Tickets) -> Result<(), AllocError>
+    ensures { OnOk result (string_bytes text.new ≡ string_bytes text.old ++ taken_text act p tickets.now) }
+{
+    match act {
+        Act::Stamp => {
+            text.push_str(", ticket ")?;
+            push_number(text, ticket_of(tickets, p))
+        }
+        _ => Ok(()),
+    }
+}
+
+fn ticket_of(tickets: &Tickets, p: u8) -> u64
+    ensures { result ≡ slice_index tickets.now p }
+{
+    if p < tickets.count() {
+        tickets.ticket(p)
+    } else {
+        0
+    }
+}
+
+fn rank_of(tickets: &Tickets, i: u8) -> Option<u8>
+    requires { i < length tickets.now }
+    ensures { result ≡ ticket_rank tickets.now i }
+{
+    if tickets.held(i) {
+        Some(tickets.ranks()[usize::from(i)])
+    } else {
+        None
+    }
+}

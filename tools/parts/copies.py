@@ -1,0 +1,62 @@
+"""Copies of functions, for rounds in which more than one edit turns the same function.
+
+A copy stands at the end of the function's file, under a name of its own, with its contract and its proof. Nothing
+calls it, so it stands for the function where its body is turned.
+"""
+import os
+import re
+import shutil
+
+
+class Copy:
+    """The copy of a function that has this number; `first` and `last` are known once it stands in its file."""
+
+    def __init__(self, function, number):
+        self.function, self.file = function, function.file
+        self.name = f"{function.name()}_copy_{number}"
+        self.path = f"{function.path.rpartition('::')[0]}::{self.name}".removeprefix("::")
+        self.proof = self.path
+        self.first = self.last = 0
+
+    def put(self, folder, lines, source):
+        """Puts the copy into a copy of the crate, with these lines as its text."""
+        name = re.compile(rf"\bfn {self.function.name()}\b")
+        lines = [name.sub(f"fn {self.name}", line) for line in lines]
+        if self.function.indent:
+            lines = [source.opening_of(self.function), *lines, "}"]
+        with open(f"{folder}/{self.file}", encoding="utf-8") as text:
+            before = text.read().rstrip("\n").split("\n")
+        self.first, self.last = len(before) + 1, len(before) + len(lines)
+        with open(f"{folder}/{self.file}", "w", encoding="utf-8") as text:
+            text.write("\n".join([*before, *lines, ""]))
+
+    def put_proof(self, folder, built, crate):
+        """Puts the function's proof, as it stands in the crate, under the name of the copy."""
+        old, new = (path.replace("::", "/") for path in (self.function.path, self.path))
+        if not os.path.isdir(f"{built}/proofs/{old}"):
+            return
+        shutil.copytree(f"{built}/proofs/{old}", f"{folder}/proofs/{new}")
+        module, own = (f"Rattle.{crate}.proofs.{path.replace('/', '.')}" for path in (old, new))
+        spec = self.function.name()
+        for at, _, names in os.walk(f"{folder}/proofs/{new}"):
+            for file in names:
+                with open(f"{at}/{file}", encoding="utf-8") as text:
+                    proof = text.read()
+                proof = re.sub(rf"{re.escape(module)}(?=[. ])", own, proof)
+                proof = re.sub(rf"\b{spec}_spec\b", f"{self.name}_spec", proof)
+                with open(f"{at}/{file}", "w", encoding="utf-8") as text:
+                    text.write(proof)
+
+
+def may_copy(edit, source):
+    """Whether an edit may turn a copy: it turns one function, which belongs to no trait and doesn't call itself."""
+    if edit.is_wide or len(edit.paths()) != 1:
+        return False
+    function = edit.functions[0]
+    body = function.body()
+    return function.is_plain(source.types) and body is not None and not calls(function.text[body[0] + 1 :], function.name())
+
+
+def calls(lines, name):
+    """Whether these lines call a function of this name, by the name alone or as one of `self`."""
+    return re.search(rf"(?:(?<![\w.:])|\bself\.|\bSelf::){name}\(", "\n".join(lines)) is not None
