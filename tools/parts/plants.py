@@ -78,7 +78,8 @@ class Planted:
         """Puts the wrong body into a copy of the crate, a line for a line."""
         if self.copy:
             function = self.copy.function
-            self.copy.put(folder, self.turned(function.file, list(function.text), function.first), source)
+            lines = function.text[: function.body()[1] + 1]
+            self.copy.put(folder, self.turned(function.file, lines, function.first), source)
             self.copy.put_proof(folder, built, crate)
             return
         for file in sorted({file for file, *_ in self.edit.lines}):
