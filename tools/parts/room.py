@@ -2,7 +2,6 @@
 
 What the toolchain keeps on the machine serves here too, and what is proved here is kept for later runs.
 """
-import concurrent.futures
 import contextlib
 import os
 import shutil
@@ -34,24 +33,20 @@ def laid(top, names, crates, room):
 def proved(top, names, crates, tell=None, first=()):
     """A room with these crates and those below them proved and built; `tell` is told of each that is done.
 
-    `first` are lists of crates that are proved side by side before all others, each list with the number of its
-    processors. There each proof has one of them, which takes less of their time; else idle ones go to a proof that starts.
+    Of those that are proved `first` each has one processor, which takes less of their time; then idle ones go to a
+    proof that starts.
     """
     # (`rt` sweeps away folders of this name that a killed run left)
     with tempfile.TemporaryDirectory(prefix=f"rt-copy-{os.getpid()}-") as room:
         laid(top, names, crates, room)
-        tell = tell or (lambda name: None)
-        with concurrent.futures.ThreadPoolExecutor() as pool:
-            runs = [pool.submit(prove, room, tell, ["rt", "ci", *own], jobs) for own, jobs in first]
-        for run in runs:
-            run.result()
-        prove(room, tell, ["rt", "ci"])
+        if first:
+            prove(room, tell, ["rt", "ci", *first], {**os.environ, "RT_JOBS": str(os.cpu_count())})
+        prove(room, tell or (lambda name: None), ["rt", "ci"], os.environ)
         yield room
 
 
-def prove(room, tell, words, jobs=None):
-    """Runs `rt ci` in a room, on so many processors or on all."""
-    environment = {**os.environ, "RT_JOBS": str(jobs)} if jobs else os.environ
+def prove(room, tell, words, environment):
+    """Runs `rt ci` in a room."""
     command = subprocess.Popen(
         words, cwd=room, env=environment, stdin=subprocess.DEVNULL, stdout=subprocess.PIPE, stderr=subprocess.STDOUT,
         text=True, errors="replace",
