@@ -8,5 +8,4 @@ pub mod RunLemmas
 pub mod Reported
 pub mod RunKinds
 pub mod RunPrograms
-pub mod Unserved
 pub mod Examples

@@ -1,15 +1,14 @@
 //! The engine takes the words of a command line, a reader and a writer, and returns a status.
 ghost use Rattle.std.specs.Prelude.{◌≡◌, ◌↔◌, ◌⊎◌, ℕ, true, false, IfErr, IfOk, Ok, OnErr, OnOk, map, string_bytes};
-ghost use Rattle.std.specs.Fn.{FnOnceReturnsAt};
 ghost use Rattle.std.specs.Io.KnownBytes.{Appends};
 ghost use Rattle.ticketc_line.specs.Line.{asked_in};
 ghost use Rattle.ticketc_io.specs.Writing.{CountsWrites, WritesPrefix};
-ghost use Rattle.ticketc_refusals.specs.Command.{Fits, PlainCommand, command_for, plain_command};
+ghost use Rattle.ticketc_refusals.specs.Command.{Fits, command_for, plain_command};
 ghost use Rattle.ticketc_answers.specs.Commands.{is_run, runs};
 ghost use Rattle.ticketc_refusals.specs.declared.command.Command.TheVariants.{Run};
 ghost use Rattle.ticketc_answers.specs.Faults.{end_fault_in};
 ghost use Rattle.ticketc_answers.specs.Serving.{Serves, ServesCommand, UnlessRun};
-ghost use Rattle.ticketc_answers.specs.prover.Responses.{IsAnswered, IsAnsweredBy, RefusesLine};
+ghost use Rattle.ticketc_answers.specs.prover.Responses.{RefusesLine};
 
 use crate::answer::response_to;
 use crate::fault::EngineFault;
@@ -46,10 +45,9 @@ pub fn engine<O: OneRun, R: ByteSource, W: ByteSink>(
     match serve(alloc, words, reader, writer)? {
         Served::Status(status) => Ok(status),
         Served::Run(turns) => {
-            let respond = |input: &[u8]|
-                ensures { IsAnswered (Run turns) input.now result }
-            { run_response(alloc, one, turns, input) };
-            answered(alloc, reader, writer, respond)
+            let input = read_input(alloc, reader)?;
+            let response = run_response(alloc, one, turns, input.as_slice())?;
+            write_response(writer, &response)
         }
     }
 }
@@ -88,12 +86,9 @@ fn obeyed<R: ByteSource, W: ByteSink>(
     requires no_run { runs (plain_command command) ≡ false }
     ensures { ServesCommand (Ok (plain_command command.entry)) R.remaining R.counts W.written W.counts reader.old reader.new writer.old writer.new result }
 {
-    let respond = |input: &[u8]|
-        requires fits { Fits (plain_command command) }
-        requires no_run { runs (plain_command command) ≡ false }
-        ensures { IsAnswered (plain_command command.entry) input.now result }
-    { response_to(alloc, command, input) };
-    answered(alloc, reader, writer, respond)
+    let input = read_input(alloc, reader)?;
+    let response = response_to(alloc, command, input.as_slice())?;
+    write_response(writer, &response)
 }
 
 // Writes the response to a command line that is refused.
@@ -101,21 +96,6 @@ fn refused<W: ByteSink>(alloc: Global, fault: LineFault, writer: &mut W) -> Resu
     ensures { RefusesLine fault W.written W.counts writer.old writer.new result }
 {
     let response = line_response(alloc, fault)?;
-    write_response(writer, &response)
-}
-
-// Reads the input, and writes the response to it.
-fn answered<R: ByteSource, W: ByteSink, F: FnOnce(&[u8]) -> Result<Response, EngineFault>>(
-    alloc: Global,
-    reader: &mut R,
-    writer: &mut W,
-    respond: F,
-) -> Result<u8, EngineFault>
-    requires { F.IsAlwaysCallable respond }
-    ensures { (command : PlainCommand) → IsAnsweredBy command (FnOnceReturnsAt F.FnOnce respond) → ServesCommand (Ok command) R.remaining R.counts W.written W.counts reader.old reader.new writer.old writer.new result }
-{
-    let input = read_input(alloc, reader)?;
-    let response = respond(input.as_slice())?;
     write_response(writer, &response)
 }
 

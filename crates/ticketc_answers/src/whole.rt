@@ -2,7 +2,7 @@
 ghost use Rattle.std.specs.Prelude.{◌≡◌, IfErr, IfOk};
 ghost use Rattle.std.specs.Process.{exit_status};
 ghost use Rattle.std.specs.Vec.Iter.{into_iter_items};
-ghost use Rattle.ticketc_answers.specs.Ended.{Ends, ServesWords};
+ghost use Rattle.ticketc_answers.specs.Ended.{Ends};
 
 use crate::exit::exit_code;
 use crate::fault::EngineFault;
@@ -28,22 +28,12 @@ pub fn ended<O: OneRun, R: ByteSource, W: ByteSink>(
     ensures { Ends given R.remaining R.counts W.written W.counts reader.old reader.new writer.old writer.new (exit_status result) }
 {
     match given {
-        Ok(words) => exit_code(served(alloc, one, words, reader, writer)),
+        Ok(given) => match words_of(alloc, given) {
+            Ok(words) => exit_code(engine(alloc, one, words.as_slice(), reader, writer)),
+            Err(fault) => exit_code(Err(fault)),
+        },
         Err(_) => ExitCode::from(NO_WORDS),
     }
-}
-
-fn served<O: OneRun, R: ByteSource, W: ByteSink>(
-    alloc: Global,
-    one: O,
-    given: Args,
-    reader: &mut R,
-    writer: &mut W,
-) -> Result<u8, EngineFault>
-    ensures { ServesWords given R.remaining R.counts W.written W.counts reader.old reader.new writer.old writer.new result }
-{
-    let words = words_of(alloc, given)?;
-    engine(alloc, one, words.as_slice(), reader, writer)
 }
 
 fn words_of(alloc: Global, given: Args) -> Result<Vec<String>, EngineFault>

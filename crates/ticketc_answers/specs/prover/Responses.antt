@@ -36,10 +36,6 @@ abbrev pub IsAnswered : PlainCommand → List ℕ → Result Response EngineFaul
 IsAnswered command input (Ok response) = IsResponse (InputAnswers command input) response
 IsAnswered command input (Err fault) = IsUnanswered (runs command) fault
 
--- what is given for an input is a response to the command on it
-abbrev pub IsAnsweredBy : PlainCommand → (List ℕ → Result Response EngineFault → Type 0) → Type 0
-IsAnsweredBy command gives = (input : List ℕ) (result : Result Response EngineFault) → gives input result → IsAnswered command input result
-
 -- the response to what stops a command
 abbrev pub SaysStop : Response → Stop → Type 0
 SaysStop response (Refused refusal) = Says response (refused refusal)
