@@ -10,7 +10,7 @@ use Rattle.word_core.specs.declared.history.SharedAct.TheVariants.{Load, Won, Lo
 use Rattle.stamp_table.specs.Passes.{Holds, by, mine, TableView, PassView, Appends, AllMeet, memory_seen}
 use Rattle.stamp_table.proofs.Offered.{extends_own, held_by_all}
 use Rattle.tests_labels.specs.Tries.{wins, wins_by, Ran, Served}
-use Rattle.tests_labels.specs.declared.table.trying.Tried.{Tried}
+use Rattle.tests_labels.specs.declared.table.tried.Tried.{Tried}
 
 wins_by-add : (act : SharedAct) (k m : ℕ) → wins_by act (k + m) ≡ wins_by act k + m
 wins_by-add (Load found) k m = refl

@@ -2,13 +2,10 @@
 //! tickets, and threads that stamp and try to stamp. The tests of `stamp_calls` stand here.
 
 mod lock;
-#[cfg(test)]
 mod locking;
 mod queue;
-#[cfg(test)]
 mod tests;
 mod threads;
-#[cfg(test)]
 mod together;
 mod working;
 

@@ -5,7 +5,8 @@
 //! Start with `word`.
 #![tactic(auto)]
 
-pub mod calls;
+#[cfg(test)]
+mod calls;
 pub mod table;
 #[cfg(test)]
 mod word;

@@ -3,8 +3,11 @@
 
 #[cfg(test)]
 mod tests;
+#[cfg(test)]
 mod threads;
+// (lemmas name it, so it stands beside the tests)
+mod tried;
+#[cfg(test)]
 mod trying;
 
-pub use threads::{Counted, all_try};
-pub use trying::{Tried, tries, try_once};
+pub use tried::Tried;

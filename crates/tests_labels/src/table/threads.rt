@@ -1,7 +1,8 @@
 ghost use Rattle.std.specs.Prelude.{◌≡◌, ◌≤◌, IfOk, map};
 ghost use Rattle.tests_labels.specs.Tries.{Ran, Served};
 
-use crate::table::trying::{Tried, tries};
+use crate::table::tried::Tried;
+use crate::table::trying::tries;
 use stamp_table::{Final, OpenFault, Pass, open};
 use std::alloc::{AllocError, Global};
 use std::thread::Threads;

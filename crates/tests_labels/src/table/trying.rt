@@ -2,14 +2,8 @@ ghost use Rattle.std.specs.Prelude.{◌≡◌, ◌+◌, ◌≤◌, cond};
 ghost use Rattle.stamp_table.specs.Passes.{Holds, mine};
 ghost use Rattle.tests_labels.specs.Tries.{wins, Ran};
 
+use crate::table::tried::Tried;
 use stamp_table::{Pass, StampTable, Swap};
-
-/// A pass after some tries, and how many of them won.
-#[derive(Drop)]
-pub struct Tried {
-    pub pass: Pass,
-    pub won: u32,
-}
 
 /// Tries to stamp once, and says whether it won.
 pub fn try_once(table: &StampTable, pass: &mut Pass, p: u8) -> bool

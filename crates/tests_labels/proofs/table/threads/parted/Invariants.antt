@@ -1,6 +1,6 @@
 use Rattle.std.proofs.Common.{◌≡◌, ◌+◌, ◌≤◌, ◌++◌, ℕ, map, vec_items, vec_len, vec_capacity}
 use Rattle.std.specs.Vec.Iter.{into_iter_items, into_iter_len}
-use Rattle.tests_labels.specs.declared.table.trying.Tried.{Tried}
+use Rattle.tests_labels.specs.declared.table.tried.Tried.{Tried}
 use Rattle.tests_labels.proofs.table.threads.parted.Given as goal
 
 -- the first have parted, and the others follow

@@ -1,0 +1,8 @@
+use stamp_table::Pass;
+
+/// A pass after some tries, and how many of them won.
+#[derive(Drop)]
+pub struct Tried {
+    pub pass: Pass,
+    pub won: u32,
+}
