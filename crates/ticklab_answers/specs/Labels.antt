@@ -3,8 +3,8 @@ use Rattle.std.specs.Prelude.{◌≡◌, ◌≤◌, ◌<◌, ℕ, List, length, 
 use Rattle.ticket_core.specs.declared.moves.Move.{Move}
 use Rattle.language_schedules.specs.Moves.{moves_of}
 use Rattle.language_schedules.specs.declared.schedule.ScheduleFault.{ScheduleFault}
-use Rattle.ticklab_labels.specs.Frames.{frames_of}
-use Rattle.ticklab_labels.specs.Pictures.{picture}
+use Rattle.ticklab_draw.specs.labels.Frames.{frames_of}
+use Rattle.ticklab_draw.specs.labels.Pictures.{picture}
 use Rattle.ticklab_answers.specs.Lines.{many_line, number_line, spelling_line}
 use Rattle.ticklab_answers.specs.Responses.{Gives, Refuses}
 use Rattle.ticklab_answers.specs.declared.response.Response.{Response}

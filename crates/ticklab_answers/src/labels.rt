@@ -7,11 +7,11 @@ ghost use Rattle.ticklab_answers.specs.Stops.{IfRefused};
 
 use crate::fault::AnswerFault;
 use crate::reading::moves_of;
-use crate::response::{DONE, Response, answer, settled};
+use crate::response::{DONE, Response, output, settled};
 use crate::stop::Stop;
 use base::NoMemory;
 use std::alloc::{AllocError, Global};
-use ticklab_labels::{MOST_MOVES, frames, write_frames};
+use ticklab_draw::{MOST_MOVES, frames, write_frames};
 
 /// The labels of `n` processes under the stamps and clears that a text spells, as a picture.
 pub fn labelled(alloc: Global, n: u8, text: &str) -> Result<Response, AnswerFault>
@@ -43,8 +43,8 @@ fn frames_drawn(alloc: Global, n: u8, text: &str) -> Result<Response, Stop>
         return Err(Stop::Refused(line.into_bytes()));
     }
     let frames = frames(alloc, n, moves.as_slice())?;
-    let text = write_frames(alloc, n, frames.as_slice())?;
-    Ok(answer(alloc, DONE, text))
+    let out = write_frames(alloc, n, frames.as_slice())?;
+    Ok(output(alloc, DONE, out))
 }
 
 // There are more moves than are drawn.

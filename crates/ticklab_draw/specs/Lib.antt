@@ -14,4 +14,5 @@ pub mod Legend
 pub mod Style
 pub mod Pictures
 pub mod Laws
+pub mod labels
 pub mod prover

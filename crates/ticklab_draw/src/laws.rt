@@ -1,8 +1,15 @@
-//! What holds of all pictures.
+//! What holds of all pictures, and of all frames.
 
 ghost use Rattle.ticklab_draw.specs.Laws.{MarkupLaw};
+ghost use Rattle.ticklab_draw.specs.labels.Laws.{FramesLaw};
 
 /// No title and no name of a row opens a tag: a picture has as many `<` whatever they are.
 pub fn law_markup()
     ensures { MarkupLaw }
+{}
+
+/// Frame `k` has the labels after the first `k` moves, and the order that it shows is that of the
+/// whole-number tickets then.
+pub fn law_frames()
+    ensures { FramesLaw }
 {}

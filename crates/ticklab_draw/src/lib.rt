@@ -2,6 +2,7 @@
 //!
 //! `marks` runs a program under a schedule, and `code_marks` runs a code; both give a list of marks.
 //! `picture` draws a list of marks.
+//! `labels` draws the labels after each move: `frames` and `write_frames`.
 //! Start with `marks`.
 #![tactic(auto)]
 
@@ -10,6 +11,7 @@ mod beside;
 mod colours;
 mod feet;
 mod holding;
+mod labels;
 mod lanes;
 pub mod laws;
 mod layout;
@@ -25,6 +27,7 @@ mod words;
 mod writing;
 
 pub use base::NoMemory;
+pub use labels::{Frame, MOST_MOVES, frames, write_frames};
 pub use mark::{Holdings, Mark, Sight};
 pub use page::picture;
 pub use run::{code_marks, marks};

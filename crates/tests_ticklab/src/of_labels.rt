@@ -1,0 +1,11 @@
+//! Tests of `labels` in `ticklab_draw`: whole pictures, labels and orders against rows written by hand and
+//! against the calls of `LabelWord`, and that each picture is well-formed.
+//!
+//! A call whose memory was refused is made once more. So the tests also pass if any one growth of such a call
+//! is refused. Start with `rows`, and with `pictures` for the texts.
+
+mod asking;
+mod markup;
+mod pictures;
+mod rows;
+mod walks;

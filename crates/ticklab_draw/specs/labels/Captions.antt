@@ -1,0 +1,54 @@
+-- The words at a frame: the move above it; the labels and the order under it.
+use Rattle.std.specs.Prelude.{ℕ, zero, suc, ◌+◌, ◌-◌, ◌==◌, Bool, true, false, Option, None, Some, List, [], ◌∷◌, ◌++◌, codes, length, map, if◌then◌else◌}
+use Rattle.std.specs.Fmt.{decimal}
+use Rattle.std.specs.List.{flat_map}
+use Rattle.base.specs.Lines.{spaced}
+use Rattle.ticket_core.specs.declared.moves.Move.{Move}
+use Rattle.ticket_core.specs.declared.moves.Move.TheVariants.{Stamp, Clear}
+use Rattle.word_core.specs.Order.{label_ranks}
+use Rattle.word_core.specs.Stamps.{Labels}
+use Rattle.ticklab_draw.specs.labels.Layout.{is_nested, frame_height}
+use Rattle.ticklab_draw.specs.Writing.{one_number, two_numbers}
+
+unfoldable pub heading_text : ℕ → Option Move → List ℕ
+heading_text at None = codes "<text class='move' x='8' y='18'>start</text>\n"
+heading_text at (Some (Stamp p)) = two_numbers (codes "<text class='move' x='8' y='18'>") at (codes ": stamp ") p (codes "</text>\n")
+heading_text at (Some (Clear p)) = two_numbers (codes "<text class='move' x='8' y='18'>") at (codes ": clear ") p (codes "</text>\n")
+
+-- the digits of a label, a dash where it has none, and a dot for an absent process
+abbrev pub label_text : Option (List ℕ) → List ℕ
+label_text None = codes "."
+label_text (Some label) = if length label == 0 then codes "-" else flat_map decimal label
+
+unfoldable pub labels_told : Labels → List ℕ
+labels_told labels =
+    one_number (codes "<text class='told' x='8' y='") (frame_height (length labels) - 38) (codes "'>labels")
+    ++ spaced (map label_text labels) ++ codes "</text>\n"
+
+-- a table shows them above
+abbrev pub labels_line : Labels → List ℕ
+labels_line labels = if is_nested (length labels) then labels_told labels else []
+
+-- what stands before a process: `<` before the first of its rank, but for the lowest, and else a comma
+abbrev pub mark_before : ℕ → Bool → List ℕ
+mark_before rank first = if first then (if rank == 0 then [] else codes "&lt;") else codes ","
+
+-- the processes of this rank, from process `p` on, where `first` tells that there was none before
+abbrev pub ranked_text : ℕ → Bool → ℕ → List ℕ → List ℕ
+ranked_text rank first p [] = []
+ranked_text rank first p (other ∷ ranks) =
+    if other == rank then one_number (mark_before rank first) p [] ++ ranked_text rank false (p + 1) ranks
+    else ranked_text rank first (p + 1) ranks
+
+-- the processes below this rank, the oldest first
+abbrev pub order_text : List ℕ → ℕ → List ℕ
+order_text ranks zero = []
+order_text ranks (suc rank) = order_text ranks rank ++ ranked_text rank true 0 ranks
+
+abbrev pub order_of : Labels → List ℕ
+order_of labels = order_text (label_ranks labels) (length (label_ranks labels))
+
+unfoldable pub order_line : Labels → List ℕ
+order_line labels =
+    one_number (codes "<text class='told' x='8' y='") (frame_height (length labels) - 20) (codes "'>order ")
+    ++ order_of labels ++ codes "</text>\n"

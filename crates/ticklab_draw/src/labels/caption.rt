@@ -1,0 +1,125 @@
+// What stands under a frame: the labels, and the processes from the oldest on.
+ghost use Rattle.std.specs.Prelude.{◌≡◌, ◌++◌, ◌≤◌, OnOk, length, map, true};
+ghost use Rattle.base.specs.Lines.{spaced};
+ghost use Rattle.ticklab_draw.specs.labels.Captions.{label_text, labels_line, labels_told, mark_before, order_line, order_of, order_text, ranked_text};
+
+use crate::labels::layout::{frame_height, is_nested};
+use crate::writing::{push, push_number, push_one};
+use label_core::Label;
+use std::alloc::AllocError;
+use word_core::{ABSENT_LABEL, EMPTY_LABEL, LabelWord};
+
+/// Adds the labels, as `ticketc order` writes them. A table has them above.
+pub fn push_labels_line(out: &mut Vec<u8>, labels: &LabelWord) -> Result<(), AllocError>
+    ensures { OnOk result (out.new.items ≡ out.old.items ++ labels_line labels.now) }
+{
+    if is_nested(labels.n()) {
+        push_labels_told(out, labels)
+    } else {
+        Ok(())
+    }
+}
+
+#[tactic(auto, unfolding(crate::specs::labels::Captions::labels_told))]
+fn push_labels_told(out: &mut Vec<u8>, labels: &LabelWord) -> Result<(), AllocError>
+    ensures { OnOk result (out.new.items ≡ out.old.items ++ labels_told labels.now) }
+{
+    let height = frame_height(labels.n()) - 38;
+    push_one(
+        out,
+        "<text class='told' x='8' y='",
+        u128::from(height),
+        "'>labels",
+    )?;
+    push_labels(out, labels)?;
+    push(out, "</text>\n")
+}
+
+fn push_labels(out: &mut Vec<u8>, labels: &LabelWord) -> Result<(), AllocError>
+    ensures { OnOk result (out.new.items ≡ out.old.items ++ spaced (map label_text labels.now)) }
+{
+    for process in 0..labels.n() {
+        push(out, " ")?;
+        push_label(out, &labels.label(process))?;
+    }
+    Ok(())
+}
+
+fn push_label(out: &mut Vec<u8>, label: &Option<Label>) -> Result<(), AllocError>
+    ensures { OnOk result (out.new.items ≡ out.old.items ++ label_text label.now) }
+{
+    match label {
+        Some(label) => push_digits(out, label),
+        None => push(out, ABSENT_LABEL),
+    }
+}
+
+fn push_digits(out: &mut Vec<u8>, label: &Label) -> Result<(), AllocError>
+    ensures { OnOk result (out.new.items ≡ out.old.items ++ label_text (Some label.now)) }
+{
+    if label.is_empty() {
+        return push(out, EMPTY_LABEL);
+    }
+    for place in 0..label.len() {
+        push_number(out, u64::from(label.digit(place)))?;
+    }
+    Ok(())
+}
+
+/// Adds the processes from the oldest on.
+#[tactic(auto, unfolding(crate::specs::labels::Captions::order_line))]
+pub fn push_order_line(out: &mut Vec<u8>, labels: &LabelWord) -> Result<(), AllocError>
+    ensures { OnOk result (out.new.items ≡ out.old.items ++ order_line labels.now) }
+{
+    let height = frame_height(labels.n()) - 20;
+    push_one(
+        out,
+        "<text class='told' x='8' y='",
+        u128::from(height),
+        "'>order ",
+    )?;
+    push_order_of(out, labels)?;
+    push(out, "</text>\n")
+}
+
+#[tactic(auto, using(crate::proofs::labels::RankLemmas::order_of_row))]
+fn push_order_of(out: &mut Vec<u8>, labels: &LabelWord) -> Result<(), AllocError>
+    ensures { OnOk result (out.new.items ≡ out.old.items ++ order_of labels.now) }
+{
+    let n = labels.n() as usize;
+    push_order(out, &labels.ranks()[..n])
+}
+
+fn push_order(out: &mut Vec<u8>, ranks: &[u8]) -> Result<(), AllocError>
+    requires { length ranks.now ≤ 6 }
+    ensures { OnOk result (out.new.items ≡ out.old.items ++ order_text ranks.now (length ranks.now)) }
+{
+    for rank in 0..ranks.len() {
+        push_ranked(out, ranks, rank as u8)?;
+    }
+    Ok(())
+}
+
+// The processes of this rank: those without a label have one in common.
+fn push_ranked(out: &mut Vec<u8>, ranks: &[u8], rank: u8) -> Result<(), AllocError>
+    ensures { OnOk result (out.new.items ≡ out.old.items ++ ranked_text rank true 0 ranks.now) }
+{
+    let mut first = true;
+    for (process, &other) in ranks.iter().enumerate() {
+        if other == rank {
+            push_one(out, mark_before(rank, first), process as u128, "")?;
+            first = false;
+        }
+    }
+    Ok(())
+}
+
+fn mark_before(rank: u8, first: bool) -> &'static str
+    ensures { result.now ≡ mark_before rank first }
+{
+    match (rank, first) {
+        (_, false) => ",",
+        (0, true) => "",
+        _ => "&lt;",
+    }
+}

@@ -1,0 +1,112 @@
+// What a frame shows: the move, where each process has its label, the labels, and the order.
+ghost use Rattle.std.specs.Prelude.{◌≡◌, ◌++◌, ◌≤◌, ◌<◌, OnOk, length};
+ghost use Rattle.ticklab_draw.specs.labels.Captions.{heading_text};
+ghost use Rattle.ticklab_draw.specs.labels.Figures.{figure_text, figures_text, nest_text};
+ghost use Rattle.ticklab_draw.specs.labels.Pictures.{begin_text, frame_name, frame_place, frame_text};
+ghost use Rattle.word_core.specs.Stamps.{label_at};
+
+use crate::labels::caption::{push_labels_line, push_order_line};
+use crate::labels::cycles::push_process;
+use crate::labels::layout::{frame_left, frame_top, is_nested};
+use crate::labels::run::Frame;
+use crate::labels::table::push_row;
+use crate::writing::{push, push_one, push_two};
+use std::alloc::AllocError;
+use ticket_core::Move;
+use word_core::LabelWord;
+
+/// Adds a frame, which stands at this place of the list.
+pub fn push_frame(out: &mut Vec<u8>, at: usize, frame: &Frame) -> Result<(), AllocError>
+    requires { at ≤ 400 }
+    ensures { OnOk result (out.new.items ≡ out.old.items ++ frame_text at frame.now) }
+{
+    let n = frame.labels.n();
+    push_begin(out, n, at as u64)?;
+    push_heading(out, at as u64, frame.made)?;
+    push_nest(out, n)?;
+    push_figures(out, frame.made, &frame.labels)?;
+    push_labels_line(out, &frame.labels)?;
+    push_order_line(out, &frame.labels)?;
+    push(out, "</g>\n")
+}
+
+fn push_begin(out: &mut Vec<u8>, n: u8, at: u64) -> Result<(), AllocError>
+    requires { at ≤ 400 }
+    ensures { OnOk result (out.new.items ≡ out.old.items ++ begin_text n at) }
+{
+    push_frame_name(out, at)?;
+    push_frame_place(out, n, at)
+}
+
+#[tactic(auto, unfolding(crate::specs::labels::Pictures::frame_name))]
+fn push_frame_name(out: &mut Vec<u8>, at: u64) -> Result<(), AllocError>
+    ensures { OnOk result (out.new.items ≡ out.old.items ++ frame_name at) }
+{
+    push_one(out, "<g id='frame-", u128::from(at), "'")
+}
+
+#[tactic(auto, unfolding(crate::specs::labels::Pictures::frame_place))]
+fn push_frame_place(out: &mut Vec<u8>, n: u8, at: u64) -> Result<(), AllocError>
+    requires { at ≤ 400 }
+    ensures { OnOk result (out.new.items ≡ out.old.items ++ frame_place n at) }
+{
+    push_two(
+        out,
+        " transform='translate(",
+        frame_left(n, at),
+        " ",
+        u128::from(frame_top(n, at)),
+        ")'>\n",
+    )
+}
+
+#[tactic(auto, unfolding(crate::specs::labels::Captions::heading_text))]
+fn push_heading(out: &mut Vec<u8>, at: u64, made: Option<Move>) -> Result<(), AllocError>
+    ensures { OnOk result (out.new.items ≡ out.old.items ++ heading_text at made) }
+{
+    let begin = "<text class='move' x='8' y='18'>";
+    match made {
+        None => push(out, "<text class='move' x='8' y='18'>start</text>\n"),
+        Some(Move::Stamp(p)) => push_two(out, begin, at, ": stamp ", u128::from(p), "</text>\n"),
+        Some(Move::Clear(p)) => push_two(out, begin, at, ": clear ", u128::from(p), "</text>\n"),
+    }
+}
+
+#[tactic(auto, unfolding(crate::specs::labels::Figures::nest_text))]
+fn push_nest(out: &mut Vec<u8>, n: u8) -> Result<(), AllocError>
+    ensures { OnOk result (out.new.items ≡ out.old.items ++ nest_text n) }
+{
+    if is_nested(n) {
+        push(out, "<use href='#nest'/>\n")
+    } else {
+        Ok(())
+    }
+}
+
+// Where each process has its label.
+fn push_figures(out: &mut Vec<u8>, made: Option<Move>, labels: &LabelWord) -> Result<(), AllocError>
+    ensures { OnOk result (out.new.items ≡ out.old.items ++ figures_text (length labels.now) made 0 labels.now) }
+{
+    for process in 0..labels.n() {
+        push_figure(out, made, labels, process)?;
+    }
+    Ok(())
+}
+
+fn push_figure(
+    out: &mut Vec<u8>,
+    made: Option<Move>,
+    labels: &LabelWord,
+    process: u8,
+) -> Result<(), AllocError>
+    requires { process < length labels.now }
+    ensures { OnOk result (out.new.items ≡ out.old.items ++ figure_text (length labels.now) made process (label_at labels.now process)) }
+{
+    let n = labels.n();
+    let label = labels.label(process);
+    if is_nested(n) {
+        push_process(out, n, made, process, &label)
+    } else {
+        push_row(out, made, process, &label)
+    }
+}

@@ -1,2 +1,0 @@
-mod FrameLemmas
-mod RankLemmas

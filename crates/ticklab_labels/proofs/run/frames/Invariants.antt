@@ -1,5 +1,0 @@
-use Rattle.ticklab_labels.proofs.FrameLemmas.{HasMade}
-use Rattle.ticklab_labels.proofs.run.frames.Given as goal
-
-abbrev pub invariant-loop-made : goal.invariant-loop-made
-invariant-loop-made l = HasMade l.n l.moves l.frames.items l.labels l.made-index
