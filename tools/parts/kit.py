@@ -18,6 +18,13 @@ def version():
     return subprocess.run(["rt", "version"], stdout=subprocess.PIPE, text=True, check=True).stdout.strip()
 
 
+def keeps():
+    """Whether `rt ci` keeps on this machine what it proved, as it says in its help, so that another run doesn't prove it
+    again."""
+    told = subprocess.run(["rt", "help"], stdout=subprocess.PIPE, stderr=subprocess.STDOUT, text=True).stdout
+    return "--anew" in told
+
+
 def check_words(kit, name, top, crates, near):
     """The command that checks a crate, over the libraries that stand built in the repository `top`."""
     crate, kin = crates[name], near[:-1]

@@ -1,6 +1,7 @@
-"""A room: a copy of some crates and of all below them, which `rt ci` has proved there.
+"""A room: a copy of some crates and of all below them, which `rt ci` proves there.
 
-What the toolchain keeps on the machine serves here too, and what is proved here is kept for later runs.
+Where the toolchain keeps what it proved on the machine, that serves here too. Where they stand built in the repository
+itself, as after its own `rt ci`, that is the room.
 """
 import contextlib
 import os
@@ -8,7 +9,7 @@ import shutil
 import subprocess
 import tempfile
 
-from parts.crates import below_all
+from parts.crates import below_all, files_of
 
 LEFT_OUT = shutil.ignore_patterns("out", "must-fail", "edits")
 
@@ -27,6 +28,35 @@ def laid(top, names, crates, room):
     for name in kin:
         shutil.copytree(f"{top}/crates/{name}", f"{room}/crates/{name}", ignore=LEFT_OUT)
     return kin
+
+
+def stand(top, names, crates):
+    """Whether these crates and those below them stand proved and built in the repository itself: each is newer than all
+    that it is made of."""
+    built = {}
+    for name in below_all(names, crates):
+        folder = f"{top}/crates/{name}"
+        files = [f"{top}/crates.txt", f"{top}/HANDLES", *(f"{folder}/{path}" for path in files_of(folder))]
+        below = [built[it] for it in crates[name].libraries if it in crates]
+        is_program = os.path.isfile(f"{folder}/src/main.rt")
+        # A library is a folder, and each has this file.
+        made = f"{folder}/out/{name}" if is_program else f"{folder}/out/rlib/{name}.rlib/format"
+        if not os.path.isfile(made):
+            return False
+        built[name] = os.stat(made).st_mtime_ns
+        if built[name] <= max([*below, *(os.stat(path).st_mtime_ns for path in files)]):
+            return False
+    return True
+
+
+@contextlib.contextmanager
+def built(top, names, crates):
+    """Where these crates and those below them stand proved and built: in the repository itself, or in a room."""
+    if stand(top, names, crates):
+        yield top
+    else:
+        with proved(top, names, crates) as room:
+            yield room
 
 
 @contextlib.contextmanager
