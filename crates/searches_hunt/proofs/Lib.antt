@@ -1,3 +1,6 @@
 mod Runs
 mod Drawings
 mod Leaving
+mod Chained
+mod Joined
+mod Ordered

@@ -1,8 +1,9 @@
-//! `searches_hunt` tries random schedules on a program that is too large to explore, until a process traps.
+//! `searches_hunt` tries a program that is too large to explore: under random schedules, or on threads.
 //!
-//! It gives the first schedule under which a process traps, and leaves out the steps that the trap doesn't
-//! need. The schedules that it tries follow from the `Plan` alone, so the same plan always has the same
-//! answer.
+//! `hunt` tries random schedules until a process traps. It gives the first schedule under which one does, and
+//! leaves out the steps that the trap doesn't need. The schedules that it tries follow from the `Plan` alone,
+//! so the same plan always has the same answer.
+//! `tally` has a code run on threads many times, and counts how often each outcome comes.
 //! Start with `hunt`.
 #![tactic(auto)]
 
@@ -11,9 +12,12 @@ mod drawing;
 mod hunting;
 mod plan;
 mod shrinking;
+mod tallying;
 mod trying;
 
 pub use answer::Hunted;
 pub use base::NoMemory;
 pub use hunting::hunt;
 pub use plan::{Mode, Plan};
+pub use tallying::{Counted, tally};
+pub use tick_merge::RunFault;

@@ -1,7 +1,7 @@
 //! What a watch is told of how far a search is.
 
 use crate::examples::{TICKET_COUNT, TWO_TICKETS};
-use searches_explore::{Explored, Watch, explore_watched};
+use searches_explore::{Explored, Watch, explore};
 use std::alloc::Global;
 use std::test::Fail;
 use tests_shared::{accepted, is_same};
@@ -48,7 +48,7 @@ fn watched(alloc: Global, text: &str, states: u32) -> Result<Told, Fail> {
         is_more: true,
         states: 0,
     };
-    let explored = explore_watched(alloc, &program, 1_000_000, &mut watch)?;
+    let explored = explore(alloc, &program, 1_000_000, &mut watch)?;
     is_same(&explored, &Explored::Safe { states })?;
     Ok(watch)
 }
@@ -67,6 +67,6 @@ fn each_65536_gone(rt: HostRuntime) -> Result<(), Fail> {
 fn lines_on_standard_error(rt: HostRuntime) -> Result<(), Fail> {
     let program = accepted(rt.alloc(), TICKET_COUNT)?;
     let mut lines = Lines { rt: &rt };
-    let explored = explore_watched(rt.alloc(), &program, 1_000_000, &mut lines)?;
+    let explored = explore(rt.alloc(), &program, 1_000_000, &mut lines)?;
     is_same(&explored, &Explored::Safe { states: 168_352 })
 }

@@ -3,7 +3,7 @@
 ghost use Rattle.std.specs.Prelude.{◌≡◌, ◌<◌, ◌≤◌, ◌==◌, ◌&&◌, ◌||◌, ℕ, Bool, nat_lt, if◌then◌else◌};
 ghost use Rattle.tests_searches.specs.Machines.{poured, nobody_else, same_jugs};
 
-use searches_states::{Machine, NoMemory, Searched, search};
+use searches_states::{Machine, NoMemory, Searched, Unwatched, search};
 use std::alloc::Global;
 use std::test::Fail;
 use tests_shared::{holds, is_same};
@@ -59,8 +59,8 @@ impl Machine for Jugs {
 
 // Where a growth was refused, it is asked once more.
 fn searched(alloc: Global, jugs: &Jugs, limit: u32) -> Result<Searched, NoMemory> {
-    match search(alloc, jugs, (0, 0), limit) {
-        Err(NoMemory) => search(alloc, jugs, (0, 0), limit),
+    match search(alloc, jugs, (0, 0), limit, &mut Unwatched) {
+        Err(NoMemory) => search(alloc, jugs, (0, 0), limit, &mut Unwatched),
         found => found,
     }
 }

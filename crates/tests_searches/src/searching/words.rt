@@ -3,7 +3,7 @@ ghost use Rattle.std.specs.Prelude.{◌≡◌, ◌<◌, ◌≤◌, ℕ, Bool, tr
 ghost use Rattle.tests_searches.specs.Machines.{counted_up, nobody_else};
 ghost use Rattle.std.proofs.lemmas.Slice.Eq.{bytes_eq-Decides};
 
-use searches_states::{Machine, NoMemory, Searched, search};
+use searches_states::{Machine, NoMemory, Searched, Unwatched, search};
 use std::alloc::Global;
 use std::test::Fail;
 use tests_shared::holds;
@@ -54,6 +54,6 @@ impl Machine for Counting {
 fn many_states_of_many_words(rt: HostRuntime) -> Result<(), Fail> {
     let alloc = rt.alloc();
     let start = vec![in alloc; 0; 30]?;
-    let found = search(alloc, &Counting { top: 19 }, start, 10_000)?;
+    let found = search(alloc, &Counting { top: 19 }, start, 10_000, &mut Unwatched)?;
     holds(found == Searched::Nowhere { states: 8_000 }, 0)
 }

@@ -1,3 +1,0 @@
-mod Chained
-mod Joined
-mod Ordered
