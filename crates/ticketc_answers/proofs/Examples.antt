@@ -6,7 +6,7 @@ use Rattle.base.specs.Plain.{Name, number, out, nil, cons, WholeProgram}
 use Rattle.tick_merge.proofs.Offered.{seven_given, seven_run}
 use Rattle.threads_source.proofs.Offered.{threaded_source_law}
 use Rattle.tick_kinds.specs.Resolution.{resolved}
-use Rattle.ticketc_refusals.specs.Answer.{Answer, done}
+use Rattle.ticketc_answers.specs.Answer.{Answer, done}
 use Rattle.ticketc_answers.specs.Runs.{IsProgramOutcome}
 
 -- one process that gives out 7, and ends

@@ -1,10 +1,10 @@
+pub mod Told
+pub mod Lowering
+pub mod Decided
+pub mod Determined
+pub mod OrderLemmas
 pub mod ServingLemmas
-pub mod StopLemmas
-pub mod ScheduleLemmas
 pub mod Weakening
-pub mod LoweredLemmas
-pub mod AnswerLemmas
-pub mod RunLemmas
 pub mod Reported
 pub mod RunKinds
 pub mod RunPrograms

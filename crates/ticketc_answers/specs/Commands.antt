@@ -1,63 +1,48 @@
 -- What the engine answers, by what the words ask for and by the input.
-use Rattle.std.specs.Prelude.{◌≡◌, ℕ, Bool, true, false, List, Option, Some, None, Result, Ok, Err}
-use Rattle.ticketc_line.specs.declared.request.Request.{Request}
-use Rattle.ticketc_refusals.specs.Answer.{Answer, refused, usage}
-use Rattle.ticketc_answers.specs.Codes.{code_answer}
-use Rattle.ticketc_answers.specs.Lowered.{IsRunnableAnswer, emit_answer, lowered_answer}
+use Rattle.std.specs.Prelude.{◌≡◌, ℕ, Bool, true, false, List, Ok, Err}
+use Rattle.ticketc_line.specs.Asked.{Asked, PlainCommand}
+use Rattle.ticketc_line.specs.declared.command.Command.TheVariants.{Order, Check, Emit, Source, Code, Expand, Project, Run}
+use Rattle.ticketc_line.specs.declared.command.LineFault.{LineFault}
+use Rattle.ticketc_line.specs.declared.command.LineFault.TheVariants.{Usage, Processes}
+use Rattle.ticketc_answers.specs.Answer.{Answer, no_processes, usage}
+use Rattle.ticketc_answers.specs.Codes.{OnCode, OnLowered, code_answer, emit_answer}
+use Rattle.ticketc_answers.specs.Inputs.{Is, OnProgram, OnText}
 use Rattle.ticketc_answers.specs.Maps.{carried_answer}
-use Rattle.ticketc_refusals.specs.Order.{order_answer}
-use Rattle.ticketc_answers.specs.Programs.{IsTextAnswer, check_answer, source_answer}
-use Rattle.ticketc_answers.specs.Runs.{IsRunAnswer}
-use Rattle.ticketc_refusals.specs.Text.{text_fault}
-use Rattle.ticketc_refusals.specs.Command.{PlainCommand, command_for}
-use Rattle.ticketc_refusals.specs.declared.command.Command.TheVariants.{Order, Check, Emit, Source, Code, Expand, Project, Run}
-use Rattle.ticketc_refusals.specs.declared.command.LineFault.{LineFault}
-use Rattle.ticketc_refusals.specs.declared.command.LineFault.TheVariants.{Usage, Processes}
+use Rattle.ticketc_answers.specs.Order.{order_answer}
+use Rattle.ticketc_answers.specs.Programs.{check_answer, source_answer}
+use Rattle.ticketc_answers.specs.Runs.{IsOutcomeOf}
 use Rattle.ticketc_answers.specs.declared.maps.Way.TheVariants.{Up, Down}
-use Rattle.ticketc_refusals.specs.declared.refusal.Refusal.{Refusal}
-use Rattle.ticketc_refusals.specs.declared.refusal.Refusal.TheVariants as refusal
 
--- what a command answers on a text
-abbrev pub TextAnswers : PlainCommand → List ℕ → Answer → Type 0
-TextAnswers (Order n) text a = a ≡ order_answer n text
-TextAnswers Check text a = IsTextAnswer check_answer text a
-TextAnswers Emit text a = IsTextAnswer (lowered_answer emit_answer) text a
-TextAnswers (Source schedule) text a = IsTextAnswer (source_answer schedule) text a
-TextAnswers (Code schedule) text a = IsRunnableAnswer (code_answer schedule) text a
-TextAnswers (Expand schedule) text a = IsTextAnswer (lowered_answer (carried_answer Up schedule)) text a
-TextAnswers (Project schedule) text a = IsTextAnswer (lowered_answer (carried_answer Down schedule)) text a
-TextAnswers (Run turns) text a = IsRunAnswer turns text a
-
-abbrev pub UnlessRefused : Option Refusal → (Answer → Type 0) → Answer → Type 0
-UnlessRefused None P a = P a
-UnlessRefused (Some refusal) P a = a ≡ refused refusal
-
--- and on an input
+-- what a command answers on an input
 abbrev pub InputAnswers : PlainCommand → List ℕ → Answer → Type 0
-InputAnswers command input a = UnlessRefused (text_fault input) (TextAnswers command input) a
+InputAnswers (Order n) = OnText (Is (order_answer n))
+InputAnswers Check = OnProgram (Is check_answer)
+InputAnswers Emit = OnLowered (Is emit_answer)
+InputAnswers (Source schedule) = OnProgram (Is (source_answer schedule))
+InputAnswers (Code schedule) = OnCode (Is (code_answer schedule))
+InputAnswers (Expand schedule) = OnLowered (Is (carried_answer Up schedule))
+InputAnswers (Project schedule) = OnLowered (Is (carried_answer Down schedule))
+InputAnswers (Run turns) = OnCode (IsOutcomeOf turns)
 
 -- words that are refused have an answer that no input changes
 abbrev pub line_answer : LineFault → Answer
 line_answer Usage = usage
-line_answer Processes = refused refusal.Processes
+line_answer Processes = no_processes
 
-abbrev pub CommandAnswers : Result PlainCommand LineFault → List ℕ → Answer → Type 0
-CommandAnswers (Ok command) input a = InputAnswers command input a
-CommandAnswers (Err fault) input a = a ≡ line_answer fault
-
-abbrev pub Answers : Option (Request (List ℕ)) → List ℕ → Answer → Type 0
-Answers asked input a = CommandAnswers (command_for asked) input a
+abbrev pub Answers : Asked → List ℕ → Answer → Type 0
+Answers (Ok command) input a = InputAnswers command input a
+Answers (Err fault) input a = a ≡ line_answer fault
 
 -- whether the input is read at all
-abbrev pub wants_input : Result PlainCommand LineFault → Bool
+abbrev pub wants_input : Asked → Bool
 wants_input (Ok command) = true
 wants_input (Err fault) = false
 
-abbrev pub runs : PlainCommand → Bool
-runs (Run turns) = true
-runs other = false
-
 -- whether it is a run on threads, the one command that may have more than one answer
-abbrev pub is_run : Result PlainCommand LineFault → Bool
-is_run (Ok command) = runs command
-is_run (Err fault) = false
+abbrev pub is_run : PlainCommand → Bool
+is_run (Run turns) = true
+is_run other = false
+
+abbrev pub asks_run : Asked → Bool
+asks_run (Ok command) = is_run command
+asks_run (Err fault) = false

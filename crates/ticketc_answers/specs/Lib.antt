@@ -1,10 +1,13 @@
-pub mod Faults
+pub mod Answer
+pub mod Stop
+pub mod Inputs
 pub mod Programs
 pub mod Codes
-pub mod Lowered
 pub mod Maps
+pub mod Order
 pub mod Runs
 pub mod Commands
+pub mod Faults
 pub mod Serving
 pub mod Laws
 pub mod Exit

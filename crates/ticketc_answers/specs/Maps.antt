@@ -5,7 +5,7 @@ use Rattle.language_schedules.specs.Schedule.{schedule_of}
 use Rattle.language_schedules.specs.Written.{schedule_text}
 use Rattle.tick_sim.specs.Maps.{down, up}
 use Rattle.code_core.specs.Instructions.{StepCode}
-use Rattle.ticketc_refusals.specs.Answer.{Answer, scheduled}
+use Rattle.ticketc_answers.specs.Answer.{Answer, scheduled}
 use Rattle.ticketc_answers.specs.declared.maps.Way.{Way}
 use Rattle.ticketc_answers.specs.declared.maps.Way.TheVariants.{Up, Down}
 

@@ -1,19 +1,15 @@
 -- What serving a command line does to the reader and the writer.
 use Rattle.std.specs.Prelude.{◌≡◌, ℕ, ◌+◌, ◌≤◌, Bool, true, false, List, Option, IfSome, Result, Ok, Err}
 use Rattle.std.specs.Io.KnownBytes.{Appends}
-use Rattle.ticketc_line.specs.declared.request.Request.{Request}
 use Rattle.ticketc_io.specs.Reading.{CountsReads, TakesFew}
 use Rattle.ticketc_io.specs.Writing.{CountsWrites, WritesPrefix}
 use Rattle.ticketc_io.specs.declared.counts.Counts.{Counts}
-use Rattle.ticketc_refusals.specs.Answer.{Answer}
-use Rattle.ticketc_refusals.specs.Command.{PlainCommand, command_for}
-use Rattle.ticketc_answers.specs.Commands.{CommandAnswers, is_run, wants_input}
+use Rattle.ticketc_line.specs.Asked.{Asked}
+use Rattle.ticketc_answers.specs.Answer.{Answer}
+use Rattle.ticketc_answers.specs.Commands.{Answers, asks_run, wants_input}
 use Rattle.ticketc_answers.specs.Faults.{end_fault_in}
-use Rattle.ticketc_refusals.specs.declared.command.LineFault.{LineFault}
 use Rattle.ticketc_answers.specs.declared.fault.EngineFault.{EngineFault}
 use Rattle.ticketc_answers.specs.declared.fault.EngineFault.TheVariants.{Read, Write, Memory, Thread}
-use Rattle.ticketc_answers.specs.declared.serving.Served.{Served}
-use Rattle.ticketc_answers.specs.declared.serving.Served.TheVariants.{Status, Run}
 
 -- P of some input, which is the one that is still to come where that is known
 pub record OnInput (known : Option (List ℕ)) (P : List ℕ → Type 0) : Type 0 where
@@ -43,26 +39,14 @@ Leaves written old new run (Err Read) allowed = new ≡ old
 Leaves written old new run (Err Memory) allowed = new ≡ old
 Leaves written old new run (Err Thread) allowed = (run ≡ true) × (new ≡ old)
 
--- What words ask for was served: `remaining` and `reads` are what is known of the reader, its bytes and
--- its counts, and `written` and `writes` what is known of the writer.
-pub record ServesCommand {R W : Type 0} (command : Result PlainCommand LineFault) (remaining : R → Option (List ℕ)) (reads : R → Counts)
+-- A command line was served: `remaining` and `reads` are what is known of the reader, its bytes and its
+-- counts, and `written` and `writes` what is known of the writer.
+pub record Serves {R W : Type 0} (asked : Asked) (remaining : R → Option (List ℕ)) (reads : R → Counts)
     (written : W → Option (List ℕ)) (writes : W → Counts) (reader_old reader_new : R) (writer_old writer_new : W)
     (result : Result ℕ EngineFault) : Type 0 where
-  pub answers : OnInput (remaining reader_old) (λ input. Leaves written writer_old writer_new (is_run command) result (CommandAnswers command input))
-  pub unread : wants_input command ≡ false → reader_new ≡ reader_old
+  pub answers : OnInput (remaining reader_old) (λ input. Leaves written writer_old writer_new (asks_run asked) result (Answers asked input))
+  pub unread : wants_input asked ≡ false → reader_new ≡ reader_old
   pub few : TakesFew (remaining reader_old) (remaining reader_new)
   pub calls : (reads reader_new).calls ≤ (reads reader_old).calls + 2000000
   pub reads_counted : CountsReads (end_fault_in result) (reads reader_old) (reads reader_new)
   pub writes_counted : CountsWrites (end_fault_in result) (writes writer_old) (writes writer_new)
-
--- a command line was served
-abbrev pub Serves : {R W : Type 0} → Option (Request (List ℕ)) → (R → Option (List ℕ)) → (R → Counts) → (W → Option (List ℕ)) → (W → Counts)
-    → R → R → W → W → Result ℕ EngineFault → Type 0
-Serves asked remaining reads written writes reader_old reader_new writer_old writer_new result =
-    ServesCommand (command_for asked) remaining reads written writes reader_old reader_new writer_old writer_new result
-
--- P of what was served, where no run is handed on
-abbrev pub UnlessRun : Result Served EngineFault → (Result ℕ EngineFault → Type 0) → Type 0
-UnlessRun (Ok (Status status)) P = P (Ok status)
-UnlessRun (Ok (Run turns)) P = Unit {0}
-UnlessRun (Err fault) P = P (Err fault)

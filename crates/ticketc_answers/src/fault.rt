@@ -1,12 +1,11 @@
 ghost use Rattle.std.specs.Prelude.{◌≡◌};
 ghost use Rattle.ticketc_answers.specs.declared.fault.EngineFault.TheVariants.{Memory};
-ghost use Rattle.ticketc_answers.specs.prover.Faults.{end_fault, run_fault};
+ghost use Rattle.ticketc_answers.specs.prover.Faults.{end_fault};
 
 use language_schedules::NoMemory;
 use std::alloc::{AllocError, AllocFailed};
 use std::fmt;
 use thiserror::Error;
-use tick_merge::RunFault;
 use ticketc_io::EndFault;
 
 /// Why the engine has no status to give.
@@ -71,17 +70,6 @@ impl From<EndFault> for EngineFault {
             EndFault::Read => EngineFault::Read,
             EndFault::Write => EngineFault::Write,
             EndFault::Memory => EngineFault::Memory,
-        }
-    }
-}
-
-impl From<RunFault> for EngineFault {
-    ghost from_gives = { λ error fault. fault ≡ run_fault error };
-
-    fn from(error: RunFault) -> EngineFault {
-        match error {
-            RunFault::NoMemory => EngineFault::Memory,
-            RunFault::NoThread => EngineFault::Thread,
         }
     }
 }

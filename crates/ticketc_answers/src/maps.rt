@@ -1,19 +1,18 @@
 //! The answers of `lift` and `drop`: a schedule of a program's code or of the program, in one line.
-ghost use Rattle.std.specs.Prelude.{◌≡◌, ◌<◌, All, IfErr, IfOk, string_bytes};
+ghost use Rattle.std.specs.Prelude.{◌≡◌, ◌<◌, All, IfOk, false, string_bytes};
 ghost use Rattle.tick_kinds.specs.Resolution.{resolved};
-ghost use Rattle.ticketc_refusals.specs.Answer.{done, refused};
-ghost use Rattle.ticketc_answers.specs.Lowered.{code_of, lowered_answer};
+ghost use Rattle.ticketc_answers.specs.Codes.{OnLowered, code_of};
+ghost use Rattle.ticketc_answers.specs.Inputs.{Is};
 ghost use Rattle.ticketc_answers.specs.Maps.{carried as carried_steps, carried_answer, carried_line as line_carried, schedule_line as line_of_schedule};
-ghost use Rattle.ticketc_answers.specs.Programs.{IsTextAnswer};
-ghost use Rattle.ticketc_refusals.specs.Stop.{IfRefused};
+ghost use Rattle.ticketc_answers.specs.Stop.{Tells};
 
-use crate::lowered::lowering_of;
+use crate::codes::lowering_of;
+use crate::stop::Stop;
 use code_core::Code;
 use language_schedules::{NoMemory, read_schedule, write_schedule};
 use std::alloc::Global;
 use tick_kinds::Program;
 use tick_sim::{expand, project};
-use ticketc_refusals::Stop;
 
 /// Which way a schedule is carried.
 #[derive(Clone, Copy)]
@@ -24,12 +23,11 @@ pub enum Way {
     Down,
 }
 
-/// The schedule that the spelled one is on the other side, of the program that a text is and its code.
-pub fn carried_text(alloc: Global, way: Way, text: &str, schedule: &str) -> Result<String, Stop>
-    ensures ok { IfOk result (λ answer. IsTextAnswer (lowered_answer (carried_answer way schedule.now)) text.now (done (string_bytes answer))) }
-    ensures refused { IfErr result (λ stop. IfRefused stop (λ refusal. IsTextAnswer (lowered_answer (carried_answer way schedule.now)) text.now (refused refusal))) }
+/// The schedule that the spelled one is on the other side, of the program that an input is and its code.
+pub fn carried_text(alloc: Global, way: Way, input: &[u8], schedule: &str) -> Result<String, Stop>
+    ensures { Tells false (OnLowered (Is (carried_answer way schedule.now)) input.now) result }
 {
-    let (program, code) = lowering_of(alloc, text)?;
+    let (program, code) = lowering_of(alloc, input)?;
     carried_schedule(alloc, way, &program, &code, schedule)
 }
 
@@ -41,11 +39,11 @@ fn carried_schedule(
     schedule: &str,
 ) -> Result<String, Stop>
     requires { code.now ≡ code_of program.now }
-    ensures ok { IfOk result (λ answer. done (string_bytes answer) ≡ carried_answer way schedule.now code.now) }
-    ensures refused { IfErr result (λ stop. IfRefused stop (λ refusal. refused refusal ≡ carried_answer way schedule.now code.now)) }
+    ensures { Tells false (Is (carried_answer way schedule.now) code.now) result }
 {
     let steps = read_schedule(alloc, schedule, program.processes())?;
-    carried_line(alloc, way, program, code, steps.as_slice()).map_err(Stop::from)
+    let line = carried_line(alloc, way, program, code, steps.as_slice())?;
+    Ok(line)
 }
 
 fn carried_line(

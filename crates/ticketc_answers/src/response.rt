@@ -1,12 +1,14 @@
 //! A response: the text to write, and the status that goes with it.
 ghost use Rattle.std.specs.Prelude.{◌≡◌, IfErr, IfOk};
-ghost use Rattle.ticketc_refusals.specs.Answer.{refused, usage};
+ghost use Rattle.ticketc_answers.specs.Answer.{no_processes, refused, too_long, usage};
 ghost use Rattle.ticketc_answers.specs.Commands.{line_answer};
-ghost use Rattle.ticketc_answers.specs.prover.Responses.{Says, SaysStop};
+ghost use Rattle.ticketc_answers.specs.prover.Responses.{IsFaultOf, Says, SaysStop};
 
 use crate::fault::EngineFault;
+use crate::stop::Stop;
 use std::alloc::{AllocError, Global};
-use ticketc_refusals::{LineFault, Refusal, Stop, line_of};
+use ticketc_line::LineFault;
+use ticketc_refusals::{Refusal, line_of};
 
 /// A text and a status, 0 to 2.
 #[derive(Drop)]
@@ -15,14 +17,16 @@ pub struct Response {
     pub text: String,
 }
 
-/// The response to what stops a command. Want of memory has none.
+/// The response to what stops a command. Want of memory or of a thread has none.
 pub fn stop_response(alloc: Global, stop: Stop) -> Result<Response, EngineFault>
     ensures ok { IfOk result (λ response. SaysStop response stop) }
-    ensures err { IfErr result (λ fault. fault ≡ EngineFault.Memory) }
+    ensures err { IfErr result (IsFaultOf stop) }
 {
     match stop {
         Stop::Refused(refusal) => Ok(refusal_response(alloc, refusal)?),
+        Stop::TooLong => Ok(too_long_response(alloc)?),
         Stop::Memory => Err(EngineFault::Memory),
+        Stop::Thread => Err(EngineFault::Thread),
     }
 }
 
@@ -33,14 +37,28 @@ fn refusal_response(alloc: Global, refusal: Refusal) -> Result<Response, AllocEr
     Ok(Response { status: 1, text })
 }
 
+fn too_long_response(alloc: Global) -> Result<Response, AllocError>
+    ensures { IfOk result (λ response. Says response too_long) }
+{
+    let text = String::from_str(alloc, "refused 31 TooLong\n")?;
+    Ok(Response { status: 1, text })
+}
+
 /// The response to a command line that is refused.
 pub fn line_response(alloc: Global, fault: LineFault) -> Result<Response, AllocError>
     ensures { IfOk result (λ response. Says response (line_answer fault)) }
 {
     match fault {
         LineFault::Usage => usage_response(alloc),
-        LineFault::Processes => refusal_response(alloc, Refusal::Processes),
+        LineFault::Processes => processes_response(alloc),
     }
+}
+
+fn processes_response(alloc: Global) -> Result<Response, AllocError>
+    ensures { IfOk result (λ response. Says response no_processes) }
+{
+    let text = String::from_str(alloc, "refused 11 Processes\n")?;
+    Ok(Response { status: 1, text })
 }
 
 fn usage_response(alloc: Global) -> Result<Response, AllocError>

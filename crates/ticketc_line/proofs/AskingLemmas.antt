@@ -1,5 +1,5 @@
 -- From what `clap` says of a command and its matches to the command line that is described.
-use Rattle.std.proofs.Common.{◌≡◌, ◌∙◌, ◌&&◌, ◌<◌, ◌+◌, ℕ, Bool, ◌∷◌, List, get_or, length, map, sym, take, [], Option, Some, None, true, false, ap, ap₂, codes, option_map, Box, refl, subst, inl, inr}
+use Rattle.std.proofs.Common.{◌≡◌, ◌∙◌, ◌&&◌, ◌<◌, ◌+◌, ℕ, Bool, ◌∷◌, List, get_or, length, map, sym, take, [], Option, Some, None, Err, true, false, ap, ap₂, codes, option_map, Box, refl, subst, inl, inr}
 use Rattle.std.proofs.lemmas.List.{map_more}
 use Rattle.std.proofs.lemmas.List.Sums.{fold-append}
 use Rattle.std.specs.Borrow.{Bor}
@@ -20,7 +20,9 @@ use Rattle.clap.specs.declared.builder.command.Command.{Command}
 use Rattle.clap.specs.declared.builder.command.Command.TheViews.{out-Command}
 use Rattle.clap.specs.declared.parser.matches.SubCommand.{SubCommand}
 use Rattle.clap.specs.declared.parser.matches.ArgMatches.TheViews.{out-SubCommand}
-use Rattle.ticketc_line.specs.Line.{command_in, command_shape, plain_command, with_commands, is_faultless, is_taken, asked_in, asked_in_rows, named, ticketc}
+use Rattle.ticketc_line.specs.Asked.{named}
+use Rattle.ticketc_line.specs.Line.{command_in, command_shape, plain_row, with_commands, is_faultless, is_taken, asked_in, asked_in_rows, ticketc}
+use Rattle.ticketc_line.specs.declared.command.LineFault.TheVariants.{Usage}
 
 pub with_one_more : (old sub new : Command) (app : App) (shape : Shape)
     → AddsSubcommand old sub new
@@ -32,11 +34,11 @@ with_one_more old sub new app shape adds is_part is_line = adds.shape is_part.1 
 -- the line with the commands before one, and then that one
 pub one_more_of : (app : App) (items : List (Bor Text × Bool)) (i : ℕ) (d : Bor Text × Bool)
     → i < length items
-    → with_subcommand (with_commands app (map plain_command (take i items))) (command_shape (plain_command (get_or items i d)))
-    ≡ with_commands app (map plain_command (take (i + 1) items))
+    → with_subcommand (with_commands app (map plain_row (take i items))) (command_shape (plain_row (get_or items i d)))
+    ≡ with_commands app (map plain_row (take (i + 1) items))
 one_more_of app items i d within =
-    sym (ap (with_commands app) (map_more plain_command items i d within)
-    ∙ fold-append (λ (a : App) (command : Text × Bool). with_subcommand a (command_shape command)) app (map plain_command (take i items)) (plain_command (get_or items i d) ∷ []))
+    sym (ap (with_commands app) (map_more plain_row items i d within)
+    ∙ fold-append (λ (a : App) (command : Text × Bool). with_subcommand a (command_shape command)) app (map plain_row (take i items)) (plain_row (get_or items i d) ∷ []))
 
 pub named-rows : {Z : Type 0} (o : Option (Box SubCommand Z)) (name : Text) (rows : List Row)
     → Some name ≡ option_map (λ b. (out-SubCommand (box_value b)).name.now) o
@@ -82,7 +84,7 @@ pub asked_in-refused : (app : App) (words : List Text) (error : Error)
     → app ≡ ticketc
     → (is_simple_and_free app ≡ true → HasKind (fault_of app words) error)
     → (kind_of error ≡ kind.OutOfMemory → ⊥)
-    → None ≡ asked_in words
+    → Err Usage ≡ asked_in words
 unfolding is_taken
 asked_in-refused app words error is_line fails has_memory =
     let P : App → Type 0 = λ a. is_simple_and_free a ≡ true → HasKind (fault_of a words) error in

@@ -1,34 +1,23 @@
 -- What a command line means: `clap`'s parse of the command described here.
-use Rattle.std.specs.Prelude.{◌≡◌, Bool, true, false, IfOk, List, Result, [], ◌∷◌, Option, Some, None, codes, bytes_eq}
+use Rattle.std.specs.Prelude.{◌≡◌, Bool, true, false, IfOk, List, Result, Err, [], ◌∷◌, Option, Some, None, codes}
 use Rattle.std.specs.Borrow.{Bor}
-use Rattle.std.specs.Prelude.{if◌then◌else◌, fold, option_and_then}
+use Rattle.std.specs.Prelude.{if◌then◌else◌, fold}
 use Rattle.clap.specs.Walk.{Row, Text, first_of}
 use Rattle.clap.specs.Simple.{App, Shape, app_of, shape_of, new_app, new_rule, on_top, subcommand_of, with_rule, with_subcommand}
 use Rattle.clap.specs.Kinds.{Kinds}
 use Rattle.clap.specs.Faults.{fault_of}
 use Rattle.clap.specs.declared.builder.command.Command.{Command}
 use Rattle.clap.specs.declared.builder.command.Command.TheViews.{out-Command}
-use Rattle.ticketc_line.specs.declared.request.Request.{Request}
-use Rattle.ticketc_line.specs.declared.request.Request.TheVariants.{Order, Check, Emit, Source, Code, Expand, Project, Run}
-
--- a request for a text that is lent, as one for the text itself
-abbrev pub plain_request : Request (Bor Text) → Request Text
-plain_request (Order text) = Order text.now
-plain_request Check = Check
-plain_request Emit = Emit
-plain_request (Source text) = Source text.now
-plain_request (Code text) = Code text.now
-plain_request (Expand text) = Expand text.now
-plain_request (Project text) = Project text.now
-plain_request (Run text) = Run text.now
+use Rattle.ticketc_line.specs.Asked.{Asked, named}
+use Rattle.ticketc_line.specs.declared.command.LineFault.TheVariants.{Usage}
 
 -- the commands, and whether a text has to follow each
 abbrev pub commands : List (Text × Bool)
 commands = (codes "order", true) ∷ (codes "check", false) ∷ (codes "emit", false) ∷ (codes "source", true)
     ∷ (codes "code", true) ∷ (codes "lift", true) ∷ (codes "drop", true) ∷ (codes "run", true) ∷ []
 
-abbrev pub plain_command : Bor Text × Bool → Text × Bool
-plain_command (name, takes_text) = (name.now, takes_text)
+abbrev pub plain_row : Bor Text × Bool → Text × Bool
+plain_row (name, takes_text) = (name.now, takes_text)
 
 abbrev pub command_shape : Text × Bool → Shape
 command_shape (name, true) = (with_rule (new_app name) (record (new_rule (codes "value")) { required = true })).top
@@ -51,25 +40,9 @@ IsLine app line = IfOk line (λ command. app_of command ≡ app)
 abbrev pub IsPart : {E : Type 0} → Shape → Result Command E → Type 0
 IsPart shape part = IfOk part (λ command. (shape_of command ≡ shape) × ((out-Command command).has_globals ≡ false))
 
--- the command of this name, with the text that it wants
-abbrev pub named_with : Text → Text → Option (Request Text)
-named_with name text =
-    if bytes_eq name (codes "order") then Some (Order text)
-    else if bytes_eq name (codes "source") then Some (Source text)
-    else if bytes_eq name (codes "code") then Some (Code text)
-    else if bytes_eq name (codes "lift") then Some (Expand text)
-    else if bytes_eq name (codes "drop") then Some (Project text)
-    else if bytes_eq name (codes "run") then Some (Run text)
-    else None
-
-abbrev pub named : Text → Option Text → Option (Request Text)
-named name text =
-    if bytes_eq name (codes "check") then Some Check
-    else if bytes_eq name (codes "emit") then Some Emit
-    else option_and_then (named_with name) text
-
-abbrev pub asked_in_rows : Option (Text × List Row) → Option (Request Text)
-asked_in_rows rows = option_and_then (λ p. named p.0 (first_of (codes "value") p.1)) rows
+abbrev pub asked_in_rows : Option (Text × List Row) → Asked
+asked_in_rows None = Err Usage
+asked_in_rows (Some p) = named p.0 (first_of (codes "value") p.1)
 
 abbrev pub is_faultless : Kinds → Bool
 is_faultless [] = true
@@ -83,6 +56,6 @@ is_taken words = is_faultless (fault_of ticketc words)
 unfoldable pub command_in : List Text → Option (Text × List Row)
 command_in words = subcommand_of ticketc words
 
--- what the words ask for, and nothing where they are no command
-abbrev pub asked_in : List Text → Option (Request Text)
-asked_in words = if is_taken words then asked_in_rows (command_in words) else None
+-- what the words ask for, or why they are refused
+abbrev pub asked_in : List Text → Asked
+asked_in words = if is_taken words then asked_in_rows (command_in words) else Err Usage

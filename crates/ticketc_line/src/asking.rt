@@ -1,22 +1,28 @@
 ghost use Rattle.std.specs.Prelude.{◌≡◌, IfOk, Ok, map, option_map, string_bytes};
 ghost use Rattle.clap.specs.Simple.{App, Shape, app_of, subcommand_rows_of, with_subcommand};
-ghost use Rattle.ticketc_line.specs.Line.{IsLine, IsPart, asked_in, asked_in_rows, command_shape, named, named_with, plain_command, plain_request, subcommand_wanted, ticketc, with_commands};
+ghost use Rattle.ticketc_line.specs.Asked.{Fits, named, named_with, plain_asked, plain_command};
+ghost use Rattle.ticketc_line.specs.Line.{IsLine, IsPart, asked_in, asked_in_rows, command_shape, plain_row, subcommand_wanted, ticketc, with_commands};
 
-use crate::request::Request;
+use crate::command::{Command, LineFault};
+use crate::numbers::{processes, turns};
 use clap::error::ErrorKind;
-use clap::{Arg, ArgMatches, Command};
+use clap::{Arg, ArgMatches, Command as Line};
 use std::alloc::{AllocError, Global};
 
-/// What the words of a command line mean, of which the first is the program's name, and `None`
-/// where they are no command. The only error is that memory was refused.
-pub fn asked<'a>(alloc: Global, words: &'a [String]) -> Result<Option<Request<&'a str>>, AllocError>
-    ensures { IfOk result (λ r. option_map plain_request r ≡ asked_in (map string_bytes words.entry.now)) }
+/// What the words of a command line ask for, of which the first is the program's name, or why they are
+/// refused. The only other error is that memory was refused.
+pub fn asked<'a>(
+    alloc: Global,
+    words: &'a [String],
+) -> Result<Result<Command<&'a str>, LineFault>, AllocError>
+    ensures asked { IfOk result (λ r. plain_asked r ≡ asked_in (map string_bytes words.entry.now)) }
+    ensures fits { IfOk result (λ r. IfOk r (λ command. Fits (plain_command command))) }
 {
     match command_line(alloc)?.try_get_matches_from(words) {
         Ok(matches) => Ok(found(&matches)),
         Err(error) => match error.kind() {
             ErrorKind::OutOfMemory => Err(AllocError),
-            _ => Ok(None),
+            _ => Ok(Err(LineFault::Usage)),
         },
     }
 }
@@ -33,7 +39,7 @@ static COMMANDS: [(&str, bool); 8] = [
     ("run", true),
 ];
 
-fn command_line<'a>(alloc: Global) -> Result<Command<'a>, AllocError>
+fn command_line<'a>(alloc: Global) -> Result<Line<'a>, AllocError>
     ensures { IsLine ticketc result }
 {
     with_all(alloc, Ok(wanting_one(alloc)), &COMMANDS)
@@ -41,10 +47,10 @@ fn command_line<'a>(alloc: Global) -> Result<Command<'a>, AllocError>
 
 fn with_all<'a>(
     alloc: Global,
-    first: Result<Command<'a>, AllocError>,
+    first: Result<Line<'a>, AllocError>,
     commands: &'a [(&'a str, bool)],
-) -> Result<Command<'a>, AllocError>
-    ensures { (app : App) → IsLine app first.entry → IsLine (with_commands app (map plain_command commands.entry.now)) result }
+) -> Result<Line<'a>, AllocError>
+    ensures { (app : App) → IsLine app first.entry → IsLine (with_commands app (map plain_row commands.entry.now)) result }
 {
     let mut line = first;
     for (name, takes_text) in commands {
@@ -55,16 +61,16 @@ fn with_all<'a>(
 
 // The line with one more command.
 fn with<'a>(
-    line: Result<Command<'a>, AllocError>,
-    more: Result<Command<'a>, AllocError>,
-) -> Result<Command<'a>, AllocError>
+    line: Result<Line<'a>, AllocError>,
+    more: Result<Line<'a>, AllocError>,
+) -> Result<Line<'a>, AllocError>
     ensures { (app : App) (shape : Shape) → IsLine app line.entry → IsPart shape more.entry → IsLine (with_subcommand app shape) result }
 {
     let (line, more) = both(line, more)?;
     line.subcommand(more)
 }
 
-// Both, where both are there. (Whatever may fail where it owns a `Command` takes long to prove: this may, and owns
+// Both, where both are there. (Whatever may fail where it owns a `Line` takes long to prove: this may, and owns
 // none.)
 fn both<A: Drop, B: Drop>(
     first: Result<A, AllocError>,
@@ -75,49 +81,57 @@ fn both<A: Drop, B: Drop>(
     Ok((first?, second?))
 }
 
-fn wanting_one<'a>(alloc: Global) -> Command<'a>
+fn wanting_one<'a>(alloc: Global) -> Line<'a>
     ensures { app_of result ≡ subcommand_wanted }
 {
-    Command::new(alloc, "ticketc").subcommand_required(true)
+    Line::new(alloc, "ticketc").subcommand_required(true)
 }
 
-fn command<'a>(alloc: Global, name: &'a str, takes_text: bool) -> Result<Command<'a>, AllocError>
+fn command<'a>(alloc: Global, name: &'a str, takes_text: bool) -> Result<Line<'a>, AllocError>
     ensures { IsPart (command_shape (name.entry.now, takes_text)) result }
 {
-    let command = Command::new(alloc, name);
+    let command = Line::new(alloc, name);
     if takes_text {
         return command.arg(Arg::new(alloc, "value").required(true));
     }
     Ok(command)
 }
 
-fn found<'a>(matches: &ArgMatches<'a>) -> Option<Request<&'a str>>
-    ensures { option_map plain_request result ≡ asked_in_rows (subcommand_rows_of matches.now) }
+fn found<'a>(matches: &ArgMatches<'a>) -> Result<Command<&'a str>, LineFault>
+    ensures asked { plain_asked result ≡ asked_in_rows (subcommand_rows_of matches.now) }
+    ensures fits { IfOk result (λ command. Fits (plain_command command)) }
 {
-    let (name, inner) = matches.subcommand()?;
-    request_named(name, inner.get_str("value"))
-}
-
-fn request_named<'a>(name: &str, text: Option<&'a str>) -> Option<Request<&'a str>>
-    ensures { option_map plain_request result ≡ named name.now (option_map (λ t. t.now) text.entry) }
-{
-    match name {
-        "check" => Some(Request::Check),
-        "emit" => Some(Request::Emit),
-        _ => request_with(name, text?),
+    match matches.subcommand() {
+        Some((name, inner)) => command_named(name, inner.get_str("value")),
+        None => Err(LineFault::Usage),
     }
 }
 
-fn request_with<'a>(name: &str, text: &'a str) -> Option<Request<&'a str>>
-    ensures { option_map plain_request result ≡ named_with name.now text.entry.now }
+fn command_named<'a>(name: &str, text: Option<&'a str>) -> Result<Command<&'a str>, LineFault>
+    ensures asked { plain_asked result ≡ named name.now (option_map (λ t. t.now) text.entry) }
+    ensures fits { IfOk result (λ command. Fits (plain_command command)) }
 {
     match name {
-        "order" => Some(Request::Order(text)),
-        "source" => Some(Request::Source(text)),
-        "code" => Some(Request::Code(text)),
-        "lift" => Some(Request::Expand(text)),
-        "drop" => Some(Request::Project(text)),
-        "run" => Some(Request::Run(text)),
-        _ => None,
+        "check" => Ok(Command::Check),
+        "emit" => Ok(Command::Emit),
+        _ => match text {
+            Some(text) => command_with(name, text),
+            None => Err(LineFault::Usage),
+        },
+    }
+}
+
+fn command_with<'a>(name: &str, text: &'a str) -> Result<Command<&'a str>, LineFault>
+    ensures asked { plain_asked result ≡ named_with name.now text.entry.now }
+    ensures fits { IfOk result (λ command. Fits (plain_command command)) }
+{
+    match name {
+        "order" => Ok(Command::Order(processes(text)?)),
+        "source" => Ok(Command::Source(text)),
+        "code" => Ok(Command::Code(text)),
+        "lift" => Ok(Command::Expand(text)),
+        "drop" => Ok(Command::Project(text)),
+        "run" => Ok(Command::Run(turns(text)?)),
+        _ => Err(LineFault::Usage),
     }
 }

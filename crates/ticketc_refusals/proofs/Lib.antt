@@ -1,2 +1,2 @@
-mod OrderLemmas
-mod TextLemmas
+pub mod Decided
+pub mod Offered

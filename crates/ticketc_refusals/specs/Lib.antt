@@ -1,6 +1,2 @@
-pub mod Refusal
-pub mod Stop
-pub mod Text
-pub mod Answer
-pub mod Order
-pub mod Command
+pub mod Refusals
+pub mod RefusalLine

@@ -1,20 +1,17 @@
-//! `ticketc_refusals` has what `ticketc` answers without a program: refusals, and the answer of `order`.
+//! `ticketc_refusals` takes an input for a text, a program, a code or a schedule, or says why it is refused.
 //!
-//! `command_of` makes a command of what a command line asks for. A `Refusal` has its line (`line_of`), and a
-//! `Stop` is what a fault of any layer means to a command. `text_of` takes an input as a text, and
-//! `order_text` is the whole answer of `order`. The commands on programs and codes are in `ticketc_answers`, and so
-//! are reading and writing.
-//! Start with `command_of` and `Refusal`.
+//! A `Refusal` is a fault of the crate that found it. `judgement` finds it, and `refusal_line` writes the line
+//! that `ticketc` tells. `specs/Refusals.antt` says which refusals an input has.
+//! `proofs/Offered.antt` says that it has one, or is what it is taken for, and never both.
+//! Start with `program_in` and `Refusal`.
 #![tactic(auto)]
 
-mod command;
-mod order;
+mod judgement;
 mod refusal;
-mod stop;
-mod text;
+mod refusal_line;
 
-pub use command::{Command, LineFault, command_of};
-pub use order::order_text;
-pub use refusal::{Refusal, line_of};
-pub use stop::Stop;
-pub use text::text_of;
+pub use judgement::{
+    begins_code, code_in, code_refusal, program_in, program_refusal, schedule_refusal, text_of,
+};
+pub use refusal::Refusal;
+pub use refusal_line::line_of;

@@ -1,36 +1,89 @@
 //! A run that is handed on where there are no threads.
 use crate::commands::answering::line;
 use crate::commands::in_memory::{Disturbance, Input, Output};
+use base::RunOutcome;
+use code_core::Code;
 use std::alloc::Global;
 use std::test::Fail;
 use tests_shared::holds;
-use ticketc_answers::{Served, serve};
+use tick_merge::{OneRun, RunFault};
+use ticketc_answers::{EngineFault, engine};
 
 const COUNT: &[u8] = b"processes 1; var x; begin while (x < 2) { x = (x + 1); } out x; end";
 
-// What serving comes to without threads, and how often it reads and writes.
-fn handed_on(alloc: Global, words: &[&str]) -> Result<(Option<Served>, u64, u64), Fail> {
+// Starts no thread, and keeps how many turns are asked for.
+#[derive(Drop)]
+struct Unthreaded<'a> {
+    turns: &'a mut Option<u64>,
+}
+
+impl OneRun for Unthreaded<'_> {
+    fn run_once(self, _code: &Code, turns: u64, _outs: u32) -> Result<RunOutcome, RunFault> {
+        *self.turns = Some(turns);
+        Err(RunFault::NoThread)
+    }
+}
+
+// What serving comes to without threads.
+#[derive(Clone, Copy, PartialEq, Eq)]
+struct Outcome {
+    status: Result<u8, EngineFault>,
+    // Of the run that is handed on.
+    turns: Option<u64>,
+    is_read: bool,
+    writes: u64,
+}
+
+fn handed_on(alloc: Global, words: &[&str]) -> Result<Outcome, Fail> {
     let mut reader = Input::new(COUNT, 1000, Disturbance::Never);
     let mut writer = Output::new(alloc, 1000, Disturbance::Never);
     let line = line(alloc, words)?;
-    let served = serve(alloc, line.as_slice(), &mut reader, &mut writer).ok();
-    Ok((served, reader.counts.calls, writer.counts.calls))
+    let mut turns = None;
+    let one = Unthreaded { turns: &mut turns };
+    let status = engine(alloc, one, line.as_slice(), &mut reader, &mut writer);
+    Ok(Outcome {
+        status,
+        turns,
+        is_read: reader.counts.calls > 0,
+        writes: writer.counts.calls,
+    })
 }
 
-static HANDED_ON: [(&[&str], Served, u64); 3] = [
-    (&["ticketc", "run", "0025"], Served::Run(25), 0),
-    (&["ticketc", "run", "+25"], Served::Status(2), 1),
-    (&["ticketc", "check"], Served::Status(0), 1),
+static HANDED_ON: [(&[&str], Outcome); 3] = [
+    (
+        &["ticketc", "run", "0025"],
+        Outcome {
+            status: Err(EngineFault::Thread),
+            turns: Some(25),
+            is_read: true,
+            writes: 0,
+        },
+    ),
+    (
+        &["ticketc", "run", "+25"],
+        Outcome {
+            status: Ok(2),
+            turns: None,
+            is_read: false,
+            writes: 1,
+        },
+    ),
+    (
+        &["ticketc", "check"],
+        Outcome {
+            status: Ok(0),
+            turns: None,
+            is_read: true,
+            writes: 1,
+        },
+    ),
 ];
 
-// Without threads a run is handed on, with both ends as they were.
+// Without threads nothing of a run is written.
 #[test]
 fn served_without_threads(rt: HostRuntime) -> Result<(), Fail> {
-    for (words, outcome, writes) in &HANDED_ON {
-        let (served, reads, written) = handed_on(rt.alloc(), words)?;
-        let is_read = *outcome == Served::Status(0);
-        let is_so = served == Some(*outcome) && (reads > 0) == is_read && written == *writes;
-        holds(is_so, *words)?;
+    for (words, outcome) in &HANDED_ON {
+        holds(handed_on(rt.alloc(), words)? == *outcome, *words)?;
     }
     Ok(())
 }

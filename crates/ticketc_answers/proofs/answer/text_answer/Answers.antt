@@ -1,22 +1,25 @@
 use Rattle.ticketc_answers.proofs.answer.text_answer.Goals as goal
 
 pub returns-in-Order : goal.returns-in-Order
-returns-in-Order c = rw c.in-Order.is (record { ok = c.order_text.ensures.ok; refused = c.order_text.ensures.refused })
+returns-in-Order g c = rw c.in-Order.is c.order_text.ensures
 
 pub returns-in-Check : goal.returns-in-Check
-returns-in-Check c = rw c.in-Check.is (record { ok = c.check_text.ensures.ok; refused = c.check_text.ensures.refused })
+returns-in-Check g c = rw c.in-Check.is c.check_text.ensures
 
 pub returns-in-Emit : goal.returns-in-Emit
-returns-in-Emit c = rw c.in-Emit.is (record { ok = c.emit_text.ensures.ok; refused = c.emit_text.ensures.refused })
+returns-in-Emit g c = rw c.in-Emit.is c.emit_text.ensures
 
 pub returns-in-Source : goal.returns-in-Source
-returns-in-Source c = rw c.in-Source.is (record { ok = c.source_text.ensures.ok; refused = c.source_text.ensures.refused })
+returns-in-Source g c = rw c.in-Source.is c.source_text.ensures
 
 pub returns-in-Code : goal.returns-in-Code
-returns-in-Code c = rw c.in-Code.is (record { ok = c.code_report.ensures.ok; refused = c.code_report.ensures.refused })
+returns-in-Code g c = rw c.in-Code.is c.code_report.ensures
 
 pub returns-in-Expand : goal.returns-in-Expand
-returns-in-Expand c = rw c.in-Expand.is (record { ok = c.carried_text.ensures.ok; refused = c.carried_text.ensures.refused })
+returns-in-Expand g c = rw c.in-Expand.is c.carried_text.ensures
 
 pub returns-in-Project : goal.returns-in-Project
-returns-in-Project c = rw c.in-Project.is (record { ok = c.carried_text-in-Project.ensures.ok; refused = c.carried_text-in-Project.ensures.refused })
+returns-in-Project g c = rw c.in-Project.is c.carried_text-in-Project.ensures
+
+pub returns-in-Run : goal.returns-in-Run
+returns-in-Run g c = rw c.in-Run.is c.run_text.ensures

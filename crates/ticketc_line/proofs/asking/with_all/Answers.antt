@@ -3,7 +3,7 @@ use Rattle.std.proofs.lemmas.List.{take_all}
 use Rattle.std.specs.Borrow.{Bor}
 use Rattle.clap.specs.Simple.{App}
 use Rattle.clap.specs.Walk.{Text}
-use Rattle.ticketc_line.specs.Line.{IsLine, plain_command, with_commands}
+use Rattle.ticketc_line.specs.Line.{IsLine, plain_row, with_commands}
 use Rattle.ticketc_line.proofs.AskingLemmas.{one_more_of}
 use Rattle.ticketc_line.proofs.asking.with_all.Goals as goal
 
@@ -14,5 +14,5 @@ loop-name-preserved c = λ app is_line.
 
 pub returns : goal.returns
 returns c = λ app is_line.
-    subst (λ (commands : List (Bor Text × Bool)). IsLine (with_commands app (map plain_command commands)) c.loop-name.line)
+    subst (λ (commands : List (Bor Text × Bool)). IsLine (with_commands app (map plain_row commands)) c.loop-name.line)
     (take_all c.loop-name.name-index c.args.commands.now c.loop-name-test.false) (c.loop-name.invariant app is_line)
