@@ -1,35 +1,62 @@
 //! The calls on an input whose file has a fixed name, made once more where memory was refused; and whole
 //! answers.
-use searches_explore::Watch;
+use crate::reading::OneFile;
 use std::alloc::Global;
 use std::str;
 use std::test::Fail;
 use tests_shared::is_same;
 use ticklab_answers::AnswerFault::NoMemory;
-use ticklab_answers::{AnswerFault, Response, explored, explored_merged, labelled};
+use ticklab_answers::LabFault::Answer;
+use ticklab_answers::{LabFault, Progress, Response, explored, labelled};
 
-pub type Answered = Result<Response, AnswerFault>;
+pub type Answered = Result<Response, LabFault>;
 
 // The name of the file of each input.
 static NAME: &str = "a.tick";
 
-pub fn explored_of<W: Watch>(alloc: Global, input: &[u8], limit: u32, watch: &mut W) -> Answered {
-    match explored(alloc, NAME, input, limit, watch) {
-        Err(NoMemory) => explored(alloc, NAME, input, limit, watch),
+fn searched_once<W: Progress>(
+    alloc: Global,
+    input: &[u8],
+    limit: u32,
+    is_merged: bool,
+    watch: &mut W,
+) -> Answered {
+    let mut files = OneFile {
+        name: NAME,
+        bytes: input,
+    };
+    explored(alloc, &mut files, watch, NAME, limit, is_merged)
+}
+
+fn searched<W: Progress>(
+    alloc: Global,
+    input: &[u8],
+    limit: u32,
+    is_merged: bool,
+    watch: &mut W,
+) -> Answered {
+    match searched_once(alloc, input, limit, is_merged, watch) {
+        Err(Answer(NoMemory)) => searched_once(alloc, input, limit, is_merged, watch),
         answered => answered,
     }
 }
 
-pub fn merged_of<W: Watch>(alloc: Global, input: &[u8], limit: u32, watch: &mut W) -> Answered {
-    match explored_merged(alloc, NAME, input, limit, watch) {
-        Err(NoMemory) => explored_merged(alloc, NAME, input, limit, watch),
-        answered => answered,
-    }
+pub fn explored_of<W: Progress>(
+    alloc: Global,
+    input: &[u8],
+    limit: u32,
+    watch: &mut W,
+) -> Answered {
+    searched(alloc, input, limit, false, watch)
+}
+
+pub fn merged_of<W: Progress>(alloc: Global, input: &[u8], limit: u32, watch: &mut W) -> Answered {
+    searched(alloc, input, limit, true, watch)
 }
 
 pub fn labelled_of(alloc: Global, n: u8, moves: &str) -> Answered {
     match labelled(alloc, n, moves) {
-        Err(NoMemory) => labelled(alloc, n, moves),
+        Err(Answer(NoMemory)) => labelled(alloc, n, moves),
         answered => answered,
     }
 }

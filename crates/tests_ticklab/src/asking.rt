@@ -18,7 +18,6 @@ pub fn asked_for(alloc: Global, words: &[&str]) -> Result<String, Fail> {
     let words = words_of(alloc, words)?;
     match asked(alloc, words.as_slice())? {
         Line::Request(request) => Ok(format!(in alloc; "{request:?}")?),
-        Line::Runs(runs) => Ok(format!(in alloc; "{runs:?}")?),
         Line::Help(_text) => Ok(String::from_str(alloc, "help")?),
         Line::Refused(text) => Ok(format!(in alloc; "{text}")?),
     }

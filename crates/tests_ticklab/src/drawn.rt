@@ -1,4 +1,6 @@
 //! A picture of a file whose name would be markup.
+use crate::answering::Answered;
+use crate::reading::OneFile;
 use std::alloc::{AllocError, Global};
 use std::str;
 use std::test::Fail;
@@ -17,6 +19,10 @@ end
 ";
 
 static SCHEDULE: &str = "1 0*4 1";
+
+fn drawn_of(alloc: Global, name: &str, bytes: &[u8]) -> Answered {
+    drawn(alloc, &mut OneFile { name, bytes }, name, SCHEDULE, false)
+}
 
 // What goes out where it is done and nothing is told.
 fn picture_in(response: &Response) -> Result<&str, Fail> {
@@ -37,8 +43,8 @@ fn beside<'a>(alloc: Global, text: &'a str, name: &str) -> Result<Vec<&'a str>, 
 #[test]
 fn hostile_name(rt: HostRuntime) -> Result<(), Fail> {
     let (alloc, input) = (rt.alloc(), BOTH_INSIDE.as_bytes());
-    let plain = drawn(alloc, "a.tick", input, "SCHEDULE", SCHEDULE, false)?;
-    let hostile = drawn(alloc, "a<b>&\"c\".tick", input, "SCHEDULE", SCHEDULE, false)?;
+    let plain = drawn_of(alloc, "a.tick", input)?;
+    let hostile = drawn_of(alloc, "a<b>&\"c\".tick", input)?;
     let wanted = beside(alloc, picture_in(&plain)?, "a.tick")?;
     let found = beside(
         alloc,

@@ -1,4 +1,5 @@
 //! How the program ends, over files, outputs and runs that are scripted: a row for each status.
+use crate::reading::first_of;
 use base::RunOutcome;
 use code_core::Code;
 use searches_explore::Watch;
@@ -10,7 +11,7 @@ use std::process::ExitCode;
 use std::test::Fail;
 use tests_shared::holds;
 use tick_merge::{RunFault, Runner};
-use ticklab_serving::{Files, Host, Progress, ended};
+use ticklab_answers::{Files, Host, Progress, ended};
 
 static FILES: [(&str, &[u8]); 6] = [
     ("out", b"processes 1; begin out 7; end"),
@@ -49,16 +50,6 @@ impl Files for Shelf {
         self.inputs = self.inputs.saturating_add(1);
         first_of(alloc, INPUT, most)
     }
-}
-
-fn first_of(alloc: Global, bytes: &[u8], most: u64) -> io::Result<Vec<u8>> {
-    let mut first = Vec::new(alloc);
-    for byte in bytes {
-        if (first.len() as u64) < most {
-            first.push(*byte)?;
-        }
-    }
-    Ok(first)
 }
 
 /// Keeps what is written to it, unless it fails at once.

@@ -26,6 +26,8 @@ mod of_labels;
 #[cfg(test)]
 mod of_runs;
 #[cfg(test)]
+mod reading;
+#[cfg(test)]
 mod tracing;
 #[cfg(test)]
 mod watching;

@@ -1,9 +1,8 @@
-//! Tests of `ticklab_draw`: marks of whole runs, and pictures as texts.
+//! Tests of `ticklab_draw`: pictures as texts.
 //!
-//! Start with `runs`; `programs` has the texts.
+//! Start with `pictures`; `programs` has the texts.
 
 mod drawing;
 mod markup;
 mod pictures;
 mod programs;
-mod runs;

@@ -4,6 +4,7 @@ use searches_explore::Watch;
 use std::alloc::Global;
 use std::test::Fail;
 use tests_shared::is_same;
+use ticklab_answers::Progress;
 
 /// What was told last, how often, and whether more each time.
 #[derive(Drop)]
@@ -39,6 +40,10 @@ impl Watch for Notes {
         self.states = states;
         self.gone = gone;
     }
+}
+
+impl Progress for Notes {
+    fn end(&self) {}
 }
 
 // A process is before its test with each number up to 24, before its assignment with each up to 23, has

@@ -2,7 +2,7 @@ use base::{Act, MOST_PROCESSES};
 use word_core::LabelWord;
 
 /// What a picture shows of one step of a run.
-#[derive(Clone, Copy, PartialEq, Eq, Debug)]
+#[derive(Clone, Copy)]
 pub struct Mark {
     /// The number of the step in the schedule, from 1.
     pub step: usize,
@@ -13,7 +13,7 @@ pub struct Mark {
 }
 
 /// What a mark shows.
-#[derive(Clone, Copy, PartialEq, Eq, Debug)]
+#[derive(Clone, Copy)]
 pub enum Sight {
     /// An act that nothing more is told of.
     Act(Act),
@@ -29,7 +29,7 @@ pub enum Sight {
 }
 
 /// What all processes hold.
-#[derive(Clone, Copy, PartialEq, Eq, Debug)]
+#[derive(Clone, Copy)]
 pub enum Holdings {
     /// The ticket of each process of a program, 0 for none; past the last process 0.
     Tickets([u64; MOST_PROCESSES]),

@@ -251,7 +251,8 @@ fn push_tickets(out: &mut Vec<u8>, n: u8, tickets: &[u64]) -> Result<(), AllocEr
     Ok(())
 }
 
-fn push_labels(out: &mut Vec<u8>, word: &LabelWord) -> Result<(), AllocError>
+/// The label of each process, after a space.
+pub fn push_labels(out: &mut Vec<u8>, word: &LabelWord) -> Result<(), AllocError>
     ensures { OnOk result (out.new.items ≡ out.old.items ++ spaced (map label_text word.now)) }
 {
     for process in 0..word.n() {

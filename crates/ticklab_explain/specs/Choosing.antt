@@ -23,8 +23,8 @@ use Rattle.ticklab_explain.specs.declared.name_hint.NameHint.TheVariants as H
 use Rattle.ticklab_explain.specs.declared.sign_hint.SignHint.TheVariants as I
 use Rattle.ticklab_explain.specs.declared.word_hint.WordHint.TheVariants as W
 use Rattle.ticklab_explain.specs.declared.pointer.Pointer.TheVariants as P
-use Rattle.ticklab_explain.specs.declared.refusal.Refusal.{Refusal}
-use Rattle.ticklab_explain.specs.declared.refusal.Refusal.TheVariants.{Text, Kinds, Code, Schedule}
+use Rattle.ticketc_refusals.specs.declared.refusal.Refusal.{Refusal}
+use Rattle.ticketc_refusals.specs.declared.refusal.Refusal.TheVariants.{Text, Kinds, Code, Schedule}
 use Rattle.ticklab_explain.specs.declared.wanted.Wanted.{Wanted}
 
 -- of rules, which are whether they fit and a hint, the first that fits

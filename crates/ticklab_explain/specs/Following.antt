@@ -1,9 +1,8 @@
 -- What may stand next in a program.
-use Rattle.std.specs.Prelude.{◌≡◌, ◌⊎◌, ℕ, ◌+◌, ◌==◌, Bool, true, false, ◌||◌, List, [], ◌∷◌, ◌++◌, codes, length, min, take, Option, Some, None, if◌then◌else◌}
+use Rattle.std.specs.Prelude.{◌≡◌, ◌⊎◌, ℕ, ◌+◌, ◌==◌, Bool, true, false, List, [], ◌∷◌, ◌++◌, codes, length, Option, Some, None, if◌then◌else◌}
 use Rattle.std.specs.Borrow.{Bor}
 use Rattle.std.specs.List.{list_any}
 use Rattle.std.specs.Str.{IsUtf8, bytes_eq}
-use Rattle.base.specs.declared.operator.Op.TheVariants as O
 use Rattle.base.specs.Plain.{Name, WholeProgram}
 use Rattle.base.specs.declared.span.Span.{Span}
 use Rattle.tick_syntax.specs.Decided.{IsWithinLimits}
@@ -15,7 +14,7 @@ use Rattle.tick_syntax.specs.declared.terminals.Terminal.TheVariants as T
 use Rattle.tick_syntax.specs.declared.token.Sort.{Sort}
 use Rattle.tick_syntax.specs.declared.token.Sort.TheVariants as K
 use Rattle.ticklab_explain.specs.Pieces.{joined}
-use Rattle.ticklab_explain.specs.Settings.{Setting, before, here, sort_here}
+use Rattle.ticklab_explain.specs.Settings.{Setting, here, sort_here}
 use Rattle.ticklab_explain.specs.declared.wanted.Wanted.{Wanted}
 use Rattle.ticklab_explain.specs.declared.wanted.Wanted.TheVariants.{Statement, Value, Expression, Operator, Name as AName, Number, TextEnd, Word}
 

@@ -1,5 +1,5 @@
 -- What each hint says.
-use Rattle.std.specs.Prelude.{ℕ, ◌==◌, Bool, true, false, ◌&&◌, ◌||◌, List, [], ◌∷◌, ◌++◌, codes, length, take, Option, Some, None, if◌then◌else◌}
+use Rattle.std.specs.Prelude.{ℕ, ◌==◌, Bool, true, false, ◌&&◌, ◌||◌, List, [], ◌∷◌, ◌++◌, codes, length, Option, Some, None, if◌then◌else◌}
 use Rattle.std.specs.Fmt.{decimal}
 use Rattle.std.specs.Str.{bytes_eq}
 use Rattle.base.specs.declared.span.Span.{Span}
@@ -18,6 +18,8 @@ use Rattle.ticklab_explain.specs.declared.hint.Hint.{Hint}
 use Rattle.ticklab_explain.specs.declared.hint.Hint.TheVariants.{Fixed, Naming, Signs, Words, Pointing}
 use Rattle.ticklab_explain.specs.declared.pointer.Pointer.{Pointer}
 use Rattle.ticklab_explain.specs.declared.pointer.Pointer.TheVariants as P
+use Rattle.ticklab_explain.specs.declared.piece.Piece.{Piece}
+use Rattle.ticklab_explain.specs.declared.piece.Piece.TheVariants as Q
 
 -- the sign `≥`
 abbrev pub at_least_sign : List ℕ
@@ -133,6 +135,18 @@ declared_in text is_first is_next (token ∷ tokens) =
 
 unfoldable pub declared_names : Setting → List ℕ
 declared_names s = codes "declared are" ++ declared_in s.text true false s.tokens
+
+-- a piece of a hint: words, or what is quoted of the text
+abbrev pub piece_text : Setting → Piece → List ℕ
+piece_text s (Q.Words words) = words.now
+piece_text s Q.About = about s
+piece_text s Q.Here = here s
+piece_text s (Q.Before count) = before s count
+piece_text s (Q.After count) = after s count
+piece_text s (Q.Left other) = or_else s.left other.now
+piece_text s (Q.Right other) = or_else s.right other.now
+piece_text s Q.Meaning = meaning (here s)
+piece_text s Q.Statement = statement_of (here s)
 
 -- those that quote names
 abbrev pub name_hint_text : Setting → NameHint → List ℕ

@@ -1,6 +1,4 @@
 pub mod Places
-pub mod Refusals
-pub mod RefusalLine
 pub mod Spots
 pub mod Pictures
 pub mod Pieces

@@ -1,5 +1,5 @@
 -- What is wrong, in words: one message for each refusal.
-use Rattle.std.specs.Prelude.{ℕ, ◌-◌, ◌==◌, Bool, List, [], ◌∷◌, ◌++◌, codes, length, if◌then◌else◌}
+use Rattle.std.specs.Prelude.{ℕ, ◌-◌, ◌==◌, List, [], ◌∷◌, codes, length, if◌then◌else◌}
 use Rattle.std.specs.Fmt.{decimal}
 use Rattle.std.specs.Str.{is_utf8}
 use Rattle.code_core.specs.declared.fault.CodeFault.{CodeFault}
@@ -15,8 +15,8 @@ use Rattle.tick_syntax.specs.declared.fault.TextFault.TheVariants as T
 use Rattle.ticklab_explain.specs.Following.{expectation}
 use Rattle.ticklab_explain.specs.Pieces.{joined}
 use Rattle.ticklab_explain.specs.Settings.{Setting, about, shortened}
-use Rattle.ticklab_explain.specs.declared.refusal.Refusal.{Refusal}
-use Rattle.ticklab_explain.specs.declared.refusal.Refusal.TheVariants.{Text, Kinds, Code, Schedule}
+use Rattle.ticketc_refusals.specs.declared.refusal.Refusal.{Refusal}
+use Rattle.ticketc_refusals.specs.declared.refusal.Refusal.TheVariants.{Text, Kinds, Code, Schedule}
 use Rattle.ticklab_explain.specs.declared.wanted.Wanted.{Wanted}
 
 -- the character at fault is quoted where the text is UTF-8
@@ -40,12 +40,16 @@ kind_word K.Variable = codes "variable"
 kind_word K.Scan = codes "scan"
 kind_word K.Register = codes "register"
 
+-- a name of one kind where another is wanted
+abbrev pub wrong_kind : List ℕ → Kind → Kind → List ℕ
+wrong_kind name wanted found =
+    joined (codes "`" ∷ name ∷ codes "` is a " ∷ kind_word found ∷ codes ", and a " ∷ kind_word wanted ∷ codes " is wanted here" ∷ [])
+
 abbrev pub kinds_message : Setting → KindFault → List ℕ
 kinds_message s (N.Processes span) = codes "the number of processes is out of range"
 kinds_message s (N.Twice span) = joined (codes "`" ∷ about s ∷ codes "` is declared twice" ∷ [])
 kinds_message s (N.Unknown span) = joined (codes "`" ∷ about s ∷ codes "` is not declared" ∷ [])
-kinds_message s (N.WrongKind span wanted found) =
-    joined (codes "`" ∷ about s ∷ codes "` is a " ∷ kind_word found ∷ codes ", and a " ∷ kind_word wanted ∷ codes " is wanted here" ∷ [])
+kinds_message s (N.WrongKind span wanted found) = wrong_kind (about s) wanted found
 kinds_message s (N.TooMany span) = codes "one name more than there may be of its kind"
 kinds_message s N.NoMemory = []
 

@@ -11,13 +11,13 @@ use Rattle.ticklab_explain.specs.Hints.{hint_span, hint_text}
 use Rattle.ticklab_explain.specs.Messages.{message_of}
 use Rattle.ticklab_explain.specs.Pictures.{IsPicture}
 use Rattle.ticklab_explain.specs.Places.{IsPlace}
-use Rattle.ticklab_explain.specs.RefusalLine.{refusal_line}
+use Rattle.ticketc_refusals.specs.RefusalLine.{refusal_line}
 use Rattle.ticklab_explain.specs.Settings.{IsSetting, Setting, before}
 use Rattle.ticklab_explain.specs.Spots.{IsSpanAt, spot_of}
 use Rattle.ticklab_explain.specs.declared.hint.Hint.{Hint}
 use Rattle.ticklab_explain.specs.declared.place.Place.{Place}
-use Rattle.ticklab_explain.specs.declared.refusal.Refusal.{Refusal}
-use Rattle.ticklab_explain.specs.declared.refusal.Refusal.TheVariants.{Text, Kinds, Code, Schedule}
+use Rattle.ticketc_refusals.specs.declared.refusal.Refusal.{Refusal}
+use Rattle.ticketc_refusals.specs.declared.refusal.Refusal.TheVariants.{Text, Kinds, Code, Schedule}
 use Rattle.ticklab_explain.specs.declared.wanted.Wanted.{Wanted}
 
 -- `NAME:LINE:COLUMN`

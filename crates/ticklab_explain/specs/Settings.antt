@@ -10,9 +10,9 @@ use Rattle.tick_syntax.specs.Spelling.{Spells}
 use Rattle.tick_syntax.specs.declared.token.Sort.{Sort}
 use Rattle.tick_syntax.specs.declared.token.Sort.TheVariants as K
 use Rattle.tick_syntax.specs.declared.token.Token.{Token}
-use Rattle.ticklab_explain.specs.Refusals.{IsText}
+use Rattle.ticketc_refusals.specs.Refusals.{IsText}
 use Rattle.ticklab_explain.specs.Spots.{IsSpanAt, spot_of}
-use Rattle.ticklab_explain.specs.declared.refusal.Refusal.{Refusal}
+use Rattle.ticketc_refusals.specs.declared.refusal.Refusal.{Refusal}
 use Rattle.ticklab_explain.specs.declared.scene.Scene.{Scene}
 
 -- bytes that are a text; for others nothing

@@ -12,8 +12,8 @@ use Rattle.tick_syntax.specs.declared.fault.TextFault.{TextFault}
 use Rattle.tick_syntax.specs.declared.fault.TextFault.TheVariants as T
 use Rattle.base.specs.declared.span.Span.{Span}
 use Rattle.ticklab_explain.specs.Places.{IsLineStart, IsLineEnd, is_line_feed, begins_character}
-use Rattle.ticklab_explain.specs.declared.refusal.Refusal.{Refusal}
-use Rattle.ticklab_explain.specs.declared.refusal.Refusal.TheVariants.{Text, Kinds, Code, Schedule}
+use Rattle.ticketc_refusals.specs.declared.refusal.Refusal.{Refusal}
+use Rattle.ticketc_refusals.specs.declared.refusal.Refusal.TheVariants.{Text, Kinds, Code, Schedule}
 use Rattle.ticklab_explain.specs.declared.spot.Spot.{Spot}
 use Rattle.ticklab_explain.specs.declared.spot.Spot.TheVariants.{Nowhere, Stretch, Character, Line, Item}
 

@@ -9,13 +9,13 @@ use crate::grammar_slips::slip;
 use crate::hint::{Hint, first_that_fits};
 use crate::name_hint::NameHint;
 use crate::pointer::Pointer;
-use crate::refusal::Refusal;
 use crate::scene::{Scene, shortened};
 use crate::wanted::Wanted;
 use code_core::CodeFault;
 use language_schedules::ScheduleFault;
 use tick_kinds::{Kind, KindFault};
 use tick_syntax::TextFault;
+use ticketc_refusals::Refusal;
 
 /// What may help.
 pub fn hint_of(scene: &Scene, wanted: &[Wanted], refusal: Refusal) -> Option<Hint>

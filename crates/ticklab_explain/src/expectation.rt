@@ -1,11 +1,14 @@
 // The words for a token at which no program goes on.
 ghost use Rattle.std.specs.Prelude.{◌≡◌, ◌<◌, ◌++◌, OnOk, length, string_bytes};
+ghost use Rattle.std.specs.List.{flat_map};
+ghost use Rattle.ticklab_explain.specs.Hints.{piece_text};
 ghost use Rattle.ticklab_explain.specs.Following.{expectation, found, joint, listed, opening};
-ghost use Rattle.ticklab_explain.specs.Settings.{here, setting, sort_here};
+ghost use Rattle.ticklab_explain.specs.Settings.{Setting, here, setting, sort_here};
 
+use crate::piece::Piece::{Here, Words};
+use crate::piece::{Piece, push_pieces};
 use crate::scene::Scene;
 use crate::wanted::Wanted;
-use crate::writing::push_all;
 use std::alloc::AllocError;
 use tick_syntax::token::Sort;
 
@@ -60,12 +63,27 @@ fn joint(index: usize, count: usize) -> &'static str
 fn push_found(text: &mut String, scene: &Scene) -> Result<(), AllocError>
     ensures { OnOk result (string_bytes text.new ≡ string_bytes text.old ++ found (sort_here (setting scene.now)) (here (setting scene.now))) }
 {
-    let here = scene.here();
-    match scene.sort() {
-        None => text.push_str("the end of the text"),
-        Some(Sort::Name) => push_all(text, &["the name `", here, "`"]),
-        Some(Sort::Num(_)) => push_all(text, &["the number `", here, "`"]),
-        Some(Sort::Keyword) => push_all(text, &["the keyword `", here, "`"]),
-        Some(Sort::Sign) => push_all(text, &["`", here, "`"]),
+    push_pieces(text, scene, found(scene.sort()))
+}
+
+fn found(sort: Option<Sort>) -> &'static [Piece]
+    ensures { (s : Setting) → flat_map (piece_text s) result.now ≡ found sort (here s) }
+{
+    match sort {
+        None => &TEXT_END,
+        Some(Sort::Name) => &NAME,
+        Some(Sort::Num(_)) => &NUMBER,
+        Some(Sort::Keyword) => &KEYWORD,
+        Some(Sort::Sign) => &SIGN,
     }
 }
+
+static TEXT_END: [Piece; 1] = [Words("the end of the text")];
+
+static NAME: [Piece; 3] = [Words("the name `"), Here, Words("`")];
+
+static NUMBER: [Piece; 3] = [Words("the number `"), Here, Words("`")];
+
+static KEYWORD: [Piece; 3] = [Words("the keyword `"), Here, Words("`")];
+
+static SIGN: [Piece; 3] = [Words("`"), Here, Words("`")];

@@ -1,14 +1,13 @@
 // The public calls.
 ghost use Rattle.std.specs.Prelude.{◌≡◌, ◌<◌, ℕ, List, IfOk, MatchOption};
 ghost use Rattle.language_schedules.specs.Schedule.{schedule_of};
-ghost use Rattle.ticklab_explain.specs.Refusals.{IsCode, IsCodeRefused, IsInputRefused, IsProgram, IsProgramRefused, IsScheduleRefused, IsTakenInput};
+ghost use Rattle.ticketc_refusals.specs.Refusals.{IsCode, IsCodeRefused, IsInputRefused, IsProgram, IsProgramRefused, IsScheduleRefused, IsTakenInput};
 ghost use Rattle.ticklab_explain.specs.Reports.{Tells, TellsFor};
 
-use crate::judgement::{begins_code, code_refusal, program_refusal, schedule_refusal};
-use crate::refusal::Refusal;
 use crate::report::report;
 use base::NoMemory;
 use std::alloc::Global;
+use ticketc_refusals::{Refusal, begins_code, code_refusal, program_refusal, schedule_refusal};
 
 /// What is wrong with an input, as a report for people; `name` is that of its file. What begins with
 /// the nine bytes `tickcode ` is taken for a code, and all else for a program. What is accepted has no

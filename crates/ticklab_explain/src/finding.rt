@@ -4,7 +4,6 @@ ghost use Rattle.ticklab_explain.specs.Reports.{AreWanted, TextWanted};
 ghost use Rattle.ticklab_explain.specs.Settings.{AreTokens, setting};
 
 use crate::expected::fitting_at;
-use crate::refusal::Refusal;
 use crate::scene::Scene;
 use crate::wanted::{Wanted, choices};
 use base::NoMemory;
@@ -12,6 +11,7 @@ use std::alloc::Global;
 use std::str;
 use tick_syntax::token::Token;
 use tick_syntax::{TextFault, tokens};
+use ticketc_refusals::Refusal;
 
 /// The tokens of an input; none where none spell it.
 pub fn tokens_of(alloc: Global, input: &[u8]) -> Result<Vec<Token>, NoMemory>

@@ -1,9 +1,10 @@
 //! `ticklab_explain` tells people what is wrong with a program, a code or a schedule.
 //!
 //! The report says where the fault is, what was expected and what stands there. It shows the line with a
-//! caret under it, a hint if the slip is a common one, and the line that `ticketc` tells. `judgement` finds
-//! the refusal of an input, `spot` finds its place, and `report` writes the report. `messages` has the words,
-//! `expected` finds what may stand there, and `choosing` picks the hint.
+//! caret under it, a hint if the slip is a common one, and the line that `ticketc` tells. `ticketc_refusals`
+//! finds the refusal of an input, and `spot` its place.
+//! `report` writes the report. `messages` has the words, `expected` finds what may stand there, and
+//! `choosing` picks the hint.
 //! Start with `explain`.
 #![tactic(auto)]
 
@@ -17,14 +18,12 @@ mod explaining;
 mod finding;
 mod grammar_slips;
 mod hint;
-mod judgement;
 mod messages;
 mod name_hint;
 mod picture;
+mod piece;
 pub mod place;
 mod pointer;
-pub mod refusal;
-mod refusal_line;
 mod report;
 mod scene;
 mod setting;
@@ -36,6 +35,3 @@ mod word_hint;
 mod writing;
 
 pub use explaining::{explain, explain_code, explain_program, explain_refusal, explain_schedule};
-pub use judgement::{
-    begins_code, code_in, code_refusal, program_in, program_refusal, schedule_refusal,
-};

@@ -1,10 +1,11 @@
 // What is wrong, in words.
 ghost use Rattle.std.specs.Prelude.{◌≡◌, ◌++◌, OnOk, string_bytes};
-ghost use Rattle.ticklab_explain.specs.Messages.{character_message, code_message, instruction, kind_word, kinds_message, message_of, schedule_message, text_message};
-ghost use Rattle.ticklab_explain.specs.Settings.{setting};
+ghost use Rattle.ticklab_explain.specs.Messages.{character_message, code_message, instruction, kind_word, kinds_message, message_of, schedule_message, text_message, wrong_kind};
+ghost use Rattle.ticklab_explain.specs.Settings.{about, setting};
 
 use crate::expectation::push_expectation;
-use crate::refusal::Refusal;
+use crate::piece::Piece::{About, Words};
+use crate::piece::{Piece, push_pieces};
 use crate::scene::{Scene, is_text, shortened};
 use crate::wanted::Wanted;
 use crate::writing::{push_all, push_number};
@@ -13,6 +14,7 @@ use language_schedules::ScheduleFault;
 use std::alloc::AllocError;
 use tick_kinds::{Kind, KindFault};
 use tick_syntax::TextFault;
+use ticketc_refusals::Refusal;
 
 /// Adds what is wrong.
 pub fn push_message(
@@ -65,34 +67,51 @@ fn push_character(text: &mut String, scene: &Scene) -> Result<(), AllocError>
     ensures { OnOk result (string_bytes text.new ≡ string_bytes text.old ++ character_message (setting scene.now)) }
 {
     if is_text(scene.text) {
-        push_all(text, &["no token begins with `", scene.about(), "`"])
+        push_pieces(text, scene, &NO_TOKEN)
     } else {
         text.push_str("these bytes are no UTF-8")
     }
 }
+
+static NO_TOKEN: [Piece; 3] = [Words("no token begins with `"), About, Words("`")];
 
 fn push_kinds(text: &mut String, scene: &Scene, fault: KindFault) -> Result<(), AllocError>
     ensures { OnOk result (string_bytes text.new ≡ string_bytes text.old ++ kinds_message (setting scene.now) fault) }
 {
     match fault {
         KindFault::Processes(_) => text.push_str("the number of processes is out of range"),
-        KindFault::Twice(_) => push_all(text, &["`", scene.about(), "` is declared twice"]),
-        KindFault::Unknown(_) => push_all(text, &["`", scene.about(), "` is not declared"]),
-        KindFault::WrongKind { wanted, found, .. } => push_all(
-            text,
-            &[
-                "`",
-                scene.about(),
-                "` is a ",
-                kind_word(found),
-                ", and a ",
-                kind_word(wanted),
-                " is wanted here",
-            ],
-        ),
+        KindFault::Twice(_) => push_pieces(text, scene, &TWICE),
+        KindFault::Unknown(_) => push_pieces(text, scene, &UNKNOWN),
+        KindFault::WrongKind { wanted, found, .. } => push_wrong_kind(text, scene, wanted, found),
         KindFault::TooMany(_) => text.push_str("one name more than there may be of its kind"),
         KindFault::NoMemory => Ok(()),
     }
+}
+
+static TWICE: [Piece; 3] = [Words("`"), About, Words("` is declared twice")];
+
+static UNKNOWN: [Piece; 3] = [Words("`"), About, Words("` is not declared")];
+
+fn push_wrong_kind(
+    text: &mut String,
+    scene: &Scene,
+    wanted: Kind,
+    found: Kind,
+) -> Result<(), AllocError>
+    ensures { OnOk result (string_bytes text.new ≡ string_bytes text.old ++ wrong_kind (about (setting scene.now)) wanted found) }
+{
+    push_all(
+        text,
+        &[
+            "`",
+            scene.about(),
+            "` is a ",
+            kind_word(found),
+            ", and a ",
+            kind_word(wanted),
+            " is wanted here",
+        ],
+    )
 }
 
 #[tactic(auto, unfolding(crate::specs::Messages::kind_word))]

@@ -4,8 +4,10 @@ ghost use Rattle.ticklab_explain.specs.Hints.{name_hint_text};
 ghost use Rattle.ticklab_explain.specs.Settings.{setting};
 
 use crate::declared::push_declared_names;
+use crate::piece::Piece::{About, After, Words};
+use crate::piece::{Piece, push_pieces};
 use crate::scene::Scene;
-use crate::writing::{push_all, push_number};
+use crate::writing::push_number;
 use std::alloc::AllocError;
 
 /// What may help, in words that quote names.
@@ -30,20 +32,18 @@ impl NameHint {
                 "",
             ),
             NameHint::Declared => push_declared_names(text, scene),
-            NameHint::WrittenByPut => push_all(
-                text,
-                &[
-                    "a register is written by `put ",
-                    scene.about(),
-                    " ",
-                    scene.after(2),
-                    ";`",
-                ],
-            ),
-            NameHint::ReadByGet => push_all(
-                text,
-                &["read it first: `x = get ", scene.about(), " me;`"],
-            ),
+            NameHint::WrittenByPut => push_pieces(text, scene, &WRITTEN_BY_PUT),
+            NameHint::ReadByGet => push_pieces(text, scene, &READ_BY_GET),
         }
     }
 }
+
+static WRITTEN_BY_PUT: [Piece; 5] = [
+    Words("a register is written by `put "),
+    About,
+    Words(" "),
+    After(2),
+    Words(";`"),
+];
+
+static READ_BY_GET: [Piece; 3] = [Words("read it first: `x = get "), About, Words(" me;`")];

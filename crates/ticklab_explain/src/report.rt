@@ -15,8 +15,6 @@ use crate::hint::Hint;
 use crate::messages::push_message;
 use crate::picture::push_picture;
 use crate::place::{Place, place_of};
-use crate::refusal::Refusal;
-use crate::refusal_line::push_refusal_line;
 use crate::scene::Scene;
 use crate::setting::scene_of;
 use crate::spot::{span_at, spot_of};
@@ -25,6 +23,7 @@ use crate::writing::{push, push_decimal};
 use base::NoMemory;
 use base::span::Span;
 use std::alloc::{AllocError, Global};
+use ticketc_refusals::{Refusal, line_of};
 
 /// The report of a refusal, of a schedule of so many processes: its place, what is wrong, the line with
 /// a caret, what may help, and the line that `ticketc` tells.
@@ -57,7 +56,7 @@ fn told(
     let mut out = Vec::new(alloc);
     push_head(alloc, &mut out, name, scene.text, refusal, &message)?;
     push_hint(alloc, &mut out, name, scene, hint)?;
-    push_last(&mut out, refusal)?;
+    push_last(alloc, &mut out, refusal)?;
     Ok(out)
 }
 
@@ -188,15 +187,22 @@ fn push_other(
     ensures { OnOk result ((place : Place) × (drawn : List ℕ) × IsPlace text.now (min span.start (length text.now)) place × IsPicture text.now span place.line drawn × (out.new.items ≡ out.old.items ++ (codes " --> " ++ place_text name.now place ++ line_end ++ drawn))) }
 {
     let place = place_of(text, span.start.min(text.len()));
-    push(out, " --> ")?;
-    push_place(out, name, place)?;
-    push(out, "\n")?;
+    push_seen_place(out, name, place)?;
     push_picture(alloc, out, text, span, place.line)
 }
 
-fn push_last(out: &mut Vec<u8>, refusal: Refusal) -> Result<(), AllocError>
+fn push_seen_place(out: &mut Vec<u8>, name: &str, place: Place) -> Result<(), AllocError>
+    ensures { OnOk result (out.new.items ≡ out.old.items ++ (codes " --> " ++ place_text name.now place ++ line_end)) }
+{
+    push(out, " --> ")?;
+    push_place(out, name, place)?;
+    push(out, "\n")
+}
+
+fn push_last(alloc: Global, out: &mut Vec<u8>, refusal: Refusal) -> Result<(), AllocError>
     ensures { OnOk result (out.new.items ≡ out.old.items ++ last_line refusal) }
 {
+    let line = line_of(alloc, refusal)?;
     push(out, "ticketc: ")?;
-    push_refusal_line(out, refusal)
+    push(out, &line)
 }

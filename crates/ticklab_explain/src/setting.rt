@@ -2,11 +2,11 @@
 ghost use Rattle.std.specs.Prelude.{◌≡◌, ◌≤◌, length};
 ghost use Rattle.ticklab_explain.specs.Settings.{AreBlanksAfter, AreBlanksBefore, AreTokens, IsSetting, IsWordAfter, IsWordBefore, IsWordEnd, IsWordStart, behind, index_from, is_doubled, is_compared, is_word_byte, setting};
 
-use crate::refusal::Refusal;
 use crate::scene::{Scene, as_text, byte_at, text_at};
 use crate::spot::{span_at, spot_of};
 use base::span::Span;
 use tick_syntax::token::Token;
+use ticketc_refusals::Refusal;
 
 /// The scene of a refusal in a text of these tokens.
 pub fn scene_of<'a>(

@@ -3,13 +3,13 @@ ghost use Rattle.std.specs.Prelude.{◌≡◌, ◌≤◌, length};
 ghost use Rattle.ticklab_explain.specs.Spots.{IsCharacterEnd, IsItemEnd, IsNumberedLine, IsSpanAt, code_spot, kinds_spot, schedule_spot, spot_of, text_spot};
 
 use crate::place::line_end;
-use crate::refusal::Refusal;
 use base::is_blank;
 use base::span::Span;
 use code_core::CodeFault;
 use language_schedules::ScheduleFault;
 use tick_kinds::KindFault;
 use tick_syntax::TextFault;
+use ticketc_refusals::Refusal;
 
 /// Where a refusal is.
 #[derive(Clone, Copy)]

@@ -58,7 +58,7 @@ fn add<'a>(
     match statement {
         Stmt::If(_, then, otherwise) => {
             let between = add_block(spans, then, past(rest, 1))?;
-            let end = add_block(spans, otherwise, past(between, 3))?;
+            let end = add_block(spans, otherwise, past_else(between))?;
             Ok(past(end, 1))
         }
         Stmt::While(_, body) => {
@@ -148,6 +148,13 @@ fn past_expression<'a>(tokens: &'a [Token], e: &Expr) -> &'a [Token]
         }
         _ => past(tokens, 1),
     }
+}
+
+// What follows the end of a block, `else` and the begin of the next block.
+fn past_else(between: &[Token]) -> &[Token]
+    ensures { result.now ≡ drop 3 between.now }
+{
+    past(between, 3)
 }
 
 // What follows so many tokens.

@@ -14,7 +14,7 @@ use tick_kinds::Program;
 use tick_syntax::{TextFault, tokens};
 
 /// A statement as it stands in a text.
-#[derive(Clone, Copy, PartialEq, Eq, Debug)]
+#[derive(Clone, Copy)]
 pub struct Spot<'a> {
     /// Its line, from 1.
     pub line: usize,

@@ -1,21 +1,12 @@
-//! The labels and the order of each frame by hand, and whole pictures.
+//! The labels and the order of each frame by hand.
 
 use crate::of_labels::asking::{drawn, picture_of, told};
-use crate::of_labels::pictures::PICTURES;
 use language_schedules::Move;
 use std::alloc::Global;
 use std::test::Fail;
 use tests_shared::{holds, is_same};
 use ticklab_draw::Frame;
 use word_core::LabelWord;
-
-#[test]
-fn whole_pictures(rt: HostRuntime) -> Result<(), Fail> {
-    for (n, moves, wanted) in &PICTURES {
-        is_same(&drawn(rt.alloc(), *n, moves)?.as_str(), wanted)?;
-    }
-    Ok(())
-}
 
 // The moves, and of each frame what it is told that stands under it.
 type Told = (u8, &'static str, &'static [&'static str]);

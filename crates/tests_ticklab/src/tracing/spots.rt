@@ -60,13 +60,8 @@ static COMMENTED_SPOTS: [(usize, usize, &str); 8] = [
 
 fn are(spots: &[Spot<'_>], wanted: &[(usize, usize, &str)]) -> Result<(), Fail> {
     is_same(&spots.len(), &wanted.len())?;
-    for (spot, (line, column, words)) in spots.iter().zip(wanted) {
-        let wanted = Spot {
-            line: *line,
-            column: *column,
-            words: *words,
-        };
-        is_same(spot, &wanted)?;
+    for (spot, wanted) in spots.iter().zip(wanted) {
+        is_same(&(spot.line, spot.column, spot.words), wanted)?;
     }
     Ok(())
 }

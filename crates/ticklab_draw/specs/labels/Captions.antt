@@ -1,24 +1,18 @@
 -- The words at a frame: the move above it; the labels and the order under it.
 use Rattle.std.specs.Prelude.{ℕ, zero, suc, ◌+◌, ◌-◌, ◌==◌, Bool, true, false, Option, None, Some, List, [], ◌∷◌, ◌++◌, codes, length, map, if◌then◌else◌}
-use Rattle.std.specs.Fmt.{decimal}
-use Rattle.std.specs.List.{flat_map}
 use Rattle.base.specs.Lines.{spaced}
 use Rattle.ticket_core.specs.declared.moves.Move.{Move}
 use Rattle.ticket_core.specs.declared.moves.Move.TheVariants.{Stamp, Clear}
 use Rattle.word_core.specs.Order.{label_ranks}
 use Rattle.word_core.specs.Stamps.{Labels}
 use Rattle.ticklab_draw.specs.labels.Layout.{is_nested, frame_height}
+use Rattle.ticklab_draw.specs.Words.{label_text}
 use Rattle.ticklab_draw.specs.Writing.{one_number, two_numbers}
 
 unfoldable pub heading_text : ℕ → Option Move → List ℕ
 heading_text at None = codes "<text class='move' x='8' y='18'>start</text>\n"
 heading_text at (Some (Stamp p)) = two_numbers (codes "<text class='move' x='8' y='18'>") at (codes ": stamp ") p (codes "</text>\n")
 heading_text at (Some (Clear p)) = two_numbers (codes "<text class='move' x='8' y='18'>") at (codes ": clear ") p (codes "</text>\n")
-
--- the digits of a label, a dash where it has none, and a dot for an absent process
-abbrev pub label_text : Option (List ℕ) → List ℕ
-label_text None = codes "."
-label_text (Some label) = if length label == 0 then codes "-" else flat_map decimal label
 
 unfoldable pub labels_told : Labels → List ℕ
 labels_told labels =

@@ -1,13 +1,12 @@
 // What stands under a frame: the labels, and the processes from the oldest on.
-ghost use Rattle.std.specs.Prelude.{◌≡◌, ◌++◌, ◌≤◌, OnOk, length, map, true};
-ghost use Rattle.base.specs.Lines.{spaced};
-ghost use Rattle.ticklab_draw.specs.labels.Captions.{label_text, labels_line, labels_told, mark_before, order_line, order_of, order_text, ranked_text};
+ghost use Rattle.std.specs.Prelude.{◌≡◌, ◌++◌, ◌≤◌, OnOk, length, true};
+ghost use Rattle.ticklab_draw.specs.labels.Captions.{labels_line, labels_told, mark_before, order_line, order_of, order_text, ranked_text};
 
 use crate::labels::layout::{frame_height, is_nested};
-use crate::writing::{push, push_number, push_one};
-use label_core::Label;
+use crate::words::push_labels;
+use crate::writing::{push, push_one};
 use std::alloc::AllocError;
-use word_core::{ABSENT_LABEL, EMPTY_LABEL, LabelWord};
+use word_core::LabelWord;
 
 /// Adds the labels, as `ticketc order` writes them. A table has them above.
 pub fn push_labels_line(out: &mut Vec<u8>, labels: &LabelWord) -> Result<(), AllocError>
@@ -33,37 +32,6 @@ fn push_labels_told(out: &mut Vec<u8>, labels: &LabelWord) -> Result<(), AllocEr
     )?;
     push_labels(out, labels)?;
     push(out, "</text>\n")
-}
-
-fn push_labels(out: &mut Vec<u8>, labels: &LabelWord) -> Result<(), AllocError>
-    ensures { OnOk result (out.new.items ≡ out.old.items ++ spaced (map label_text labels.now)) }
-{
-    for process in 0..labels.n() {
-        push(out, " ")?;
-        push_label(out, &labels.label(process))?;
-    }
-    Ok(())
-}
-
-fn push_label(out: &mut Vec<u8>, label: &Option<Label>) -> Result<(), AllocError>
-    ensures { OnOk result (out.new.items ≡ out.old.items ++ label_text label.now) }
-{
-    match label {
-        Some(label) => push_digits(out, label),
-        None => push(out, ABSENT_LABEL),
-    }
-}
-
-fn push_digits(out: &mut Vec<u8>, label: &Label) -> Result<(), AllocError>
-    ensures { OnOk result (out.new.items ≡ out.old.items ++ label_text (Some label.now)) }
-{
-    if label.is_empty() {
-        return push(out, EMPTY_LABEL);
-    }
-    for place in 0..label.len() {
-        push_number(out, u64::from(label.digit(place)))?;
-    }
-    Ok(())
 }
 
 /// Adds the processes from the oldest on.

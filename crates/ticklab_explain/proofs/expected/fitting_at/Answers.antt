@@ -1,7 +1,5 @@
-use Rattle.std.proofs.Common.{ℕ, List, subst, sym, take}
+use Rattle.std.proofs.Common.{take}
 use Rattle.std.specs.Str.{IsUtf8}
-use Rattle.ticklab_explain.specs.Following.{AreFitting}
-use Rattle.ticklab_explain.specs.declared.wanted.Wanted.{Wanted}
 use Rattle.ticklab_explain.proofs.Fitting.{none_fits}
 use Rattle.ticklab_explain.proofs.expected.fitting_at.Goals as goal
 

@@ -1,4 +1,4 @@
-use Rattle.ticklab_explain.specs.Refusals.{code_taken, program_taken, code_refused, program_refused}
+use Rattle.ticketc_refusals.specs.Refusals.{code_taken, program_taken, code_refused, program_refused}
 use Rattle.ticklab_explain.proofs.Weakening.{weakened}
 use Rattle.ticklab_explain.proofs.explaining.explain.Goals as goal
 

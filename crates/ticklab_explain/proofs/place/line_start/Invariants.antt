@@ -1,4 +1,4 @@
-use Rattle.std.proofs.Common.{◌≡◌, ◌≢◌, ℕ, ◌<◌, ◌≤◌, get_or}
+use Rattle.std.proofs.Common.{◌≢◌, ℕ, ◌<◌, ◌≤◌, get_or}
 use Rattle.ticklab_explain.proofs.place.line_start.Given as goal
 
 abbrev pub invariant-loop-start : goal.invariant-loop-start

@@ -1,6 +1,6 @@
-use Rattle.std.proofs.Common.{◌≡◌, ◌++◌, Some, None, refl, subst, Option}
+use Rattle.std.proofs.Common.{◌++◌, Some, None, refl, subst}
 use Rattle.ticklab_explain.specs.Reports.{placed, unplaced, place_text, error_text}
-use Rattle.ticklab_explain.specs.Spots.{IsSpanAt, spot_of}
+use Rattle.ticklab_explain.specs.Spots.{IsSpanAt}
 use Rattle.ticklab_explain.specs.declared.spot.Spot.{Spot}
 use Rattle.ticklab_explain.proofs.report.push_head.Goals as goal
 

@@ -1,4 +1,4 @@
-use Rattle.std.proofs.Common.{◌≡◌, ◌∙◌, ◌++◌, ℕ, List, Option, ap, append_assoc, codes, refl, subst}
+use Rattle.std.proofs.Common.{◌∙◌, ◌++◌, ℕ, List, Option, ap, append_assoc, codes, refl, subst}
 use Rattle.base.specs.Lines.{line_end}
 use Rattle.base.specs.declared.span.Span.{Span}
 use Rattle.ticklab_explain.specs.Hints.{hint_text}

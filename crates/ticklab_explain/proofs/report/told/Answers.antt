@@ -1,4 +1,4 @@
-use Rattle.std.proofs.Common.{◌≡◌, ◌∙◌, ◌++◌, ℕ, List, Option, ap, subst}
+use Rattle.std.proofs.Common.{◌∙◌, ◌++◌, ℕ, List, Option, ap, subst}
 use Rattle.ticklab_explain.specs.Reports.{AreHintLines, IsHead, last_line}
 use Rattle.ticklab_explain.specs.Settings.{setting}
 use Rattle.ticklab_explain.specs.declared.hint.Hint.{Hint}

@@ -1,4 +1,4 @@
-use Rattle.std.proofs.Common.{◌≡◌, ◌≤◌, ◌-◌, ◌+◌, length, reverse, take}
+use Rattle.std.proofs.Common.{◌≡◌, ◌≤◌, ◌+◌, length, reverse, take}
 use Rattle.ticklab_explain.specs.Settings.{unclosed}
 use Rattle.ticklab_explain.proofs.scene.unclosed.Given as goal
 

@@ -1,4 +1,3 @@
-use Rattle.std.proofs.Common.{refl}
 use Rattle.ticklab_explain.proofs.setting.word_before.Goals as goal
 
 pub returns : goal.returns

@@ -17,14 +17,14 @@ pub add-returns-in_ok-end-in-If-clause-after : goal.add-returns-in_ok-end-in-If-
 add-returns-in_ok-end-in-If-clause-after t c =
     branch_past (statement_of c.args.statement.now) _ _ _ c.args.tokens.now _ _ _ _ _ _
     (branch_lent c.args.statement.now c.in-If.field-0 c.in-If.then c.in-If.otherwise _ _ c.in-If.is c.deref.ensures.value c.deref-in-If.ensures.value)
-    c.past_head-rest.ensures c.past.ensures c.in_ok-between-in-If.ensures.after c.past-in-If.ensures c.in_ok-end-in-If.ensures.after c.past-in-If-2.ensures
+    c.past_head-rest.ensures c.past.ensures c.in_ok-between-in-If.ensures.after c.past_else.ensures c.in_ok-end-in-If.ensures.after c.past-in-If.ensures
 
 pub add-returns-in_ok-end-in-If-clause-spans : goal.add-returns-in_ok-end-in-If-clause-spans
 add-returns-in_ok-end-in-If-clause-spans t c =
     let s = statement_of c.args.statement.now in
     branch_heads s _ _ _ c.args.tokens.now _ _ _ _ c.args.spans.now.items _ _ _
     (branch_lent c.args.statement.now c.in-If.field-0 c.in-If.then c.in-If.otherwise _ _ c.in-If.is c.deref.ensures.value c.deref-in-If.ensures.value)
-    c.past_head-rest.ensures c.past.ensures c.in_ok-between-in-If.ensures.after c.past-in-If.ensures
+    c.past_head-rest.ensures c.past.ensures c.in_ok-between-in-If.ensures.after c.past_else.ensures
     (head_pushed s c.args.tokens.now _ _ _ _ c.past_head-rest.ensures c.extent.ensures c.in_ok-push.ensures.items)
     c.in_ok-between-in-If.ensures.spans c.in_ok-end-in-If.ensures.spans
 
