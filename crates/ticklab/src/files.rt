@@ -5,7 +5,7 @@ use std::alloc::Global;
 use std::fs::File;
 use std::io;
 use std::io::Read;
-use ticklab_serving::Files;
+use ticklab_answers::Files;
 
 /// Files by their names, as the host has them.
 #[derive(Drop)]

@@ -1,8 +1,8 @@
 //! `ticklab` shows what a ticket program does: under every schedule, under random ones, and step by step.
 //!
 //! There is only `main`, with the files of the host and the line that tells how far a search is. `main` calls
-//! `ended` of `ticklab_serving`, which does everything else.
-//! Start with `ended` of `ticklab_serving`.
+//! `ended` of `ticklab_answers`, which does everything else.
+//! Start with `ended` of `ticklab_answers`.
 #![tactic(auto)]
 
 mod files;
@@ -13,7 +13,7 @@ use crate::progress::HostProgress;
 use std::env::args;
 use std::process::ExitCode;
 use tick_run::OnThreads;
-use ticklab_serving::{Host, ended};
+use ticklab_answers::{Host, ended};
 
 fn main(rt: HostRuntime) -> ExitCode {
     ended(

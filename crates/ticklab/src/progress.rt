@@ -3,7 +3,7 @@ ghost use Rattle.std.specs.Prelude.{◌≡◌, false};
 
 use searches_explore::Watch;
 use std::io::IsTerminal;
-use ticklab_serving::Progress;
+use ticklab_answers::Progress;
 
 /// A line that is written over while the search goes on.
 #[derive(Drop)]

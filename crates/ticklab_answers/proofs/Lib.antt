@@ -1,6 +1,9 @@
+pub mod Carried
 pub mod Pictured
 pub mod Ran
 pub mod Refusals
+pub mod Responded
 pub mod Searched
 pub mod Settled
+pub mod Threaded
 pub mod Uncoded

@@ -2,7 +2,7 @@
 use Rattle.std.proofs.Common.{◌≡◌, ℕ, Bool, List, Ok, subst, sym}
 use Rattle.base.specs.Plain.{Name, WholeProgram}
 use Rattle.language_schedules.specs.Schedule.{schedule_of}
-use Rattle.ticklab_explain.specs.Refusals.{IsProgram, IsScheduleRefused}
+use Rattle.ticketc_refusals.specs.Refusals.{IsProgram, IsScheduleRefused}
 use Rattle.ticklab_explain.specs.Reports.{TellsFor}
 use Rattle.ticklab_answers.specs.Codes.{IsCodeless}
 use Rattle.ticklab_answers.specs.Runs.{IsRun, IsUnrun, code_refused, schedule_refused}

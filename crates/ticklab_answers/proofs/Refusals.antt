@@ -1,7 +1,7 @@
 -- The report of a refusal that an input has.
 use Rattle.std.proofs.Common.{◌≡◌, ℕ, List, subst, sym}
 use Rattle.ticklab_explain.specs.Reports.{Tells}
-use Rattle.ticklab_explain.specs.declared.refusal.Refusal.{Refusal}
+use Rattle.ticketc_refusals.specs.declared.refusal.Refusal.{Refusal}
 
 pub tells_had : (P : Refusal → Type 0) (name text report : List ℕ) (refusal : Refusal) → P refusal
     → Tells (λ told. told ≡ refusal) name text report → Tells P name text report

@@ -6,18 +6,16 @@ use Rattle.ticklab_answers.specs.declared.response.Response.{Response}
 use Rattle.ticklab_answers.specs.declared.stop.Stop.{Stop}
 use Rattle.ticklab_answers.specs.declared.stop.Stop.TheVariants.{Refused, Fault}
 
-refuses_by : {Q : List ℕ → Type 0} (x : Response) (report : List ℕ) → TellsReport x report → Q report → Refuses Q x
+refuses_by : {Q : List ℕ → Type 0} (x : Response) (report : List ℕ) → TellsReport x report → Q report → Refuses 1 Q x
 refuses_by {Q} x report t told = record { status = t.status; nothing = t.nothing; told = subst Q (sym t.told) told }
 
-pub settled_by : {P R : Response → Type 0} {Q : List ℕ → Type 0} {E : Type 0} (answered : Result Response Stop) (r : Result Response E)
-    → ((x : Response) → P x → R x) → ((x : Response) → Refuses Q x → R x)
+pub settled_with : {P R : Response → Type 0} {Q : List ℕ → Type 0} (answered : Result Response Stop) (x : Response)
+    → ((x : Response) → P x → R x) → ((x : Response) → Refuses 1 Q x → R x)
     → IfOk answered P → IfErr answered (λ stop. IfRefused stop Q)
-    → IfOk r (λ x. MatchResult answered (λ given. x ≡ given) (IsRefusal x)) → IfOk r R
-settled_by {P} (Ok given) (Ok x) f g ok err same = f x (subst P (sym same) ok)
-settled_by (Err (Refused report)) (Ok x) f g ok err told = g x (refuses_by x report.items told err)
-settled_by (Err (Fault fault)) (Ok x) f g ok err told = absurd told
-settled_by (Ok given) (Err e) f g ok err same = tt
-settled_by (Err stop) (Err e) f g ok err same = tt
+    → MatchResult answered (λ given. x ≡ given) (IsRefusal x) → R x
+settled_with {P} (Ok given) x f g ok err same = f x (subst P (sym same) ok)
+settled_with (Err (Refused report)) x f g ok err told = g x (refuses_by x report.items told err)
+settled_with (Err (Fault fault)) x f g ok err told = absurd told
 
 -- the report of a refusal, told for another reason
 pub refused_as : {P Q : List ℕ → Type 0} (stop : Stop) → ((report : List ℕ) → P report → Q report) → IfRefused stop P → IfRefused stop Q

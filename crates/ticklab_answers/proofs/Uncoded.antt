@@ -2,10 +2,10 @@
 use Rattle.std.proofs.Common.{◌≡◌, ◌∙◌, ℕ, List, length, ap, subst}
 use Rattle.base.specs.Observables.{RunObservables}
 use Rattle.code_core.specs.Instructions.{StepCode}
-use Rattle.searches_tally.specs.Tallies.{AreCounted, AreRuns}
+use Rattle.searches_hunt.specs.Tallies.{AreCounted, AreRuns}
 use Rattle.base.specs.Plain.{Name, WholeProgram}
-use Rattle.searches_tally.specs.declared.counting.Counted.{Counted}
-use Rattle.ticklab_explain.specs.Refusals.{IsProgram, IsProgramRefused}
+use Rattle.searches_hunt.specs.declared.tallying.counting.Counted.{Counted}
+use Rattle.ticketc_refusals.specs.Refusals.{IsProgram, IsProgramRefused}
 use Rattle.ticklab_explain.specs.Reports.{Tells}
 use Rattle.ticklab_answers.specs.Codes.{HasCode, HasNoCode, program_code}
 use Rattle.ticklab_answers.specs.Lines.{count_texts}

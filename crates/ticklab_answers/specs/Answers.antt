@@ -1,65 +1,89 @@
--- What the answers of `explore` and `hunt` say.
-use Rattle.std.specs.Prelude.{◌≡◌, ◌≤◌, ℕ, List, [], length}
-use Rattle.tick_kinds.specs.Resolution.{resolved}
-use Rattle.ticklab_explain.specs.Refusals.{IsProgram, IsProgramRefused}
-use Rattle.ticklab_explain.specs.Reports.{Tells}
-use Rattle.base.specs.Plain.{WholeProgram}
-use Rattle.searches_states.specs.Watching.{Told, AreTold}
-use Rattle.searches_explore.specs.Searching.{IsLimit, IsSafe, IsShortestTrap}
-use Rattle.searches_explore.specs.Merging.{IsMergedLimit, IsMergedSafe}
-use Rattle.searches_explore.specs.Trap.{IsTrap}
-use Rattle.searches_hunt.specs.Draws.{random_schedule}
-use Rattle.searches_hunt.specs.Hunts.{IsFirstTrap, IsMinimalTrap, IsPartOf, NoRunTraps}
-use Rattle.searches_hunt.specs.declared.plan.Plan.{Plan}
-use Rattle.ticklab_answers.specs.Lines.{minimal_line, shortest_line, some_line}
-use Rattle.ticklab_answers.specs.Responses.{Refuses}
-use Rattle.ticklab_answers.specs.Shown.{ShowsLimit, ShowsNothing, ShowsSafe, ShowsTrap}
+-- The answer to the words of a command line: each command, with what it reads, runs and tells.
+use Rattle.std.specs.Prelude.{◌≡◌, ⊤, ℕ, List, Result, Ok, Err, String, Vec, map, string_bytes}
+use Rattle.std.specs.Global.{Global}
+use Rattle.std.specs.Vec.Iter.{into_iter_items}
+use Rattle.std.specs.declared.io.Error.{Error}
+use Rattle.std.specs.declared.vec.IntoIter.{IntoIter}
+use Rattle.ticklab_line.specs.Commands.{plain_request}
+use Rattle.ticklab_line.specs.Lines.{Answers}
+use Rattle.ticklab_line.specs.declared.asking.Line.{Line}
+use Rattle.ticklab_line.specs.declared.asking.Line.TheVariants as line
+use Rattle.ticklab_line.specs.declared.commands.Request.{Request}
+use Rattle.ticklab_line.specs.declared.commands.Request.TheVariants.{Explore, Hunt, Runs, Trace, Draw, Explain, Labels}
+use Rattle.ticklab_answers.specs.Explanations.{Explains}
+use Rattle.ticklab_answers.specs.Exploring.{Explores, HearsOf}
+use Rattle.ticklab_answers.specs.Faults.{IsEither, IsOneOf}
+use Rattle.ticklab_answers.specs.Hunting.{Hunts, plan_of}
+use Rattle.ticklab_answers.specs.Labels.{DrawsLabels}
+use Rattle.ticklab_answers.specs.Reading.{ReadsOf, ReadsInputOf}
+use Rattle.ticklab_answers.specs.Responses.{Gives, Refuses}
+use Rattle.ticklab_answers.specs.Runs.{Draws, Traces}
+use Rattle.ticklab_answers.specs.Tallies.{RunsOf, Tallies}
+use Rattle.ticklab_answers.specs.declared.fault.LabFault.{LabFault}
+use Rattle.ticklab_answers.specs.declared.fault.LabFault.TheVariants.{Words, Unread, Host, Answer}
 use Rattle.ticklab_answers.specs.declared.response.Response.{Response}
 
--- an input that is no accepted program
-abbrev pub IsRefused : List ℕ → List ℕ → Response → Type 0
-IsRefused name input = Refuses (Tells (IsProgramRefused input) name input)
+-- the words that the host gave
+abbrev pub GivenWords : Type 0
+GivenWords = IntoIter (String Global) Global
 
--- All schedules of an accepted program, as far as it has at most `limit` states: where a process traps under one,
--- this has P; where none does, the limit and how many states there are have S; where there are more, the limit and
--- the number that is told have L.
-pub data IsSearched (P : WholeProgram ℕ → List ℕ → Type 0) (S L : WholeProgram ℕ → ℕ → ℕ → Type 0) (found : List ℕ) (limit : ℕ) (input : List ℕ) (response : Response) : Type 0 where
-  safe : (is : IsProgram input) (states : ℕ) → S (resolved is.program) limit states
-      → ShowsSafe states response → IsSearched P S L found limit input response
-  trapped : (is : IsProgram input) (schedule : List ℕ) → P (resolved is.program) schedule
-      → ShowsTrap found input is.program schedule response → IsSearched P S L found limit input response
-  unknown : (is : IsProgram input) (states : ℕ) → L (resolved is.program) limit states
-      → ShowsLimit states response → IsSearched P S L found limit input response
+abbrev pub GivesWords : Result GivenWords Error → Vec (String Global) Global → Type 0
+GivesWords (Ok given) words = words.items ≡ into_iter_items given
+GivesWords (Err error) words = ⊥
 
-abbrev pub IsExplored : ℕ → List ℕ → Response → Type 0
-IsExplored = IsSearched IsShortestTrap IsSafe IsLimit shortest_line
+-- Files, a runner and a watch are as they are before and after. Nothing is read that the words don't name, the runner
+-- makes the runs of `hunt --threads` and no other, and the watch hears of the search of an `explore` and of nothing else.
+module _ {F M W : Type 0} (Reads : ReadsOf F) (ReadsInput : ReadsInputOf F) (Ran : RunsOf M) (hears : HearsOf W)
+    (before after : F) (rested ran : M) (quiet heard : W) where
+  abbrev pub Responds : Request (List ℕ) → Response → Type 0
+  Responds (Explore file limit is_merged) response =
+      (ran ≡ rested) × Explores Reads ReadsInput hears before after quiet heard file limit is_merged response
+  Responds (Hunt file seed runs steps is_uniform) response =
+      (ran ≡ rested) × (heard ≡ quiet) × Hunts Reads ReadsInput before after file (plan_of seed runs steps is_uniform) response
+  Responds (Runs file times turns) response = (heard ≡ quiet) × Tallies Reads ReadsInput Ran before after rested ran file times turns response
+  Responds (Trace file schedule is_code) response =
+      (ran ≡ rested) × (heard ≡ quiet) × Traces Reads ReadsInput before after file schedule is_code response
+  Responds (Draw file schedule is_code) response =
+      (ran ≡ rested) × (heard ≡ quiet) × Draws Reads ReadsInput before after file schedule is_code response
+  Responds (Explain file schedule) response = (ran ≡ rested) × (heard ≡ quiet) × Explains Reads ReadsInput before after file schedule response
+  Responds (Labels processes moves) response = (ran ≡ rested) × (heard ≡ quiet) × (after ≡ before) × DrawsLabels processes moves response
 
--- the same of the states between merged steps
-abbrev pub IsMerged : ℕ → List ℕ → Response → Type 0
-IsMerged = IsSearched IsTrap IsMergedSafe IsMergedLimit some_line
+  -- help goes out, and a line that is refused is told
+  abbrev pub RespondsTo : Line → Response → Type 0
+  RespondsTo (line.Request request) response = Responds (plain_request request) response
+  RespondsTo (line.Help text) response =
+      (ran ≡ rested) × (heard ≡ quiet) × (after ≡ before) × Gives 0 (λ out. out ≡ string_bytes text) response
+  RespondsTo (line.Refused text) response =
+      (ran ≡ rested) × (heard ≡ quiet) × (after ≡ before) × Refuses 2 (λ told. told ≡ string_bytes text) response
 
-pub data Explores (name : List ℕ) (limit : ℕ) (input : List ℕ) (response : Response) : Type 0 where
-  explored : IsExplored limit input response → Explores name limit input response
-  unexplored : IsRefused name input response → Explores name limit input response
+  -- the words ask for something, and this is its answer
+  abbrev pub RespondsToWords : Result GivenWords Error → Response → Type 0
+  RespondsToWords (Ok given) response = (l : Line) × Answers (map string_bytes (into_iter_items given)) l × RespondsTo l response
+  RespondsToWords (Err error) response = ⊥
 
-pub data Merges (name : List ℕ) (limit : ℕ) (input : List ℕ) (response : Response) : Type 0 where
-  merged : IsMerged limit input response → Merges name limit input response
-  unmerged : IsRefused name input response → Merges name limit input response
+-- the names of files that a request has
+abbrev pub NamesOf : Request (List ℕ) → List ℕ → Type 0
+NamesOf (Explore file limit is_merged) name = name ≡ file
+NamesOf (Hunt file seed runs steps is_uniform) name = name ≡ file
+NamesOf (Runs file times turns) name = name ≡ file
+NamesOf (Trace file schedule is_code) name = IsEither file schedule name
+NamesOf (Draw file schedule is_code) name = IsEither file schedule name
+NamesOf (Explain file schedule) name = IsOneOf file schedule name
+NamesOf (Labels processes moves) name = ⊥
 
--- What a watch is told on the way to this response, where P says of a program how many states were seen when so many
--- of them were gone. Of a program that is told safe all its states are gone; of an input that is refused nothing is told.
-pub data AreToldAnswering (P : WholeProgram ℕ → ℕ → ℕ → Type 0) (input : List ℕ) (response : Response) (told : List Told) : Type 0 where
-  of_all : (is : IsProgram input) (states : ℕ) → ShowsSafe states response → AreTold (P (resolved is.program)) states told → AreToldAnswering P input response told
-  of_some : (is : IsProgram input) (gone : ℕ) → (response.status ≡ 0 → ⊥) → AreTold (P (resolved is.program)) gone told → AreToldAnswering P input response told
-  of_none : response.status ≡ 1 → told ≡ [] → AreToldAnswering P input response told
+abbrev pub NamesOfLine : Line → List ℕ → Type 0
+NamesOfLine (line.Request request) name = NamesOf (plain_request request) name
+NamesOfLine (line.Help text) name = ⊥
+NamesOfLine (line.Refused text) name = ⊥
 
--- The random schedules of a plan. The schedule that is shown is a part of the first one under which a process traps.
-pub data IsHunted (plan : Plan) (input : List ℕ) (response : Response) : Type 0 where
-  none_traps : (is : IsProgram input) → NoRunTraps (resolved is.program) plan → ShowsNothing plan response → IsHunted plan input response
-  one_traps : (is : IsProgram input) (run : ℕ) (schedule : List ℕ) → IsFirstTrap (resolved is.program) plan run
-      → IsPartOf schedule (random_schedule plan (resolved is.program).processes run) → length schedule ≤ plan.steps
-      → IsMinimalTrap (resolved is.program) schedule → ShowsTrap minimal_line input is.program schedule response → IsHunted plan input response
+-- the words ask for something that has this file
+abbrev pub IsNamed : Result GivenWords Error → List ℕ → Type 0
+IsNamed (Ok given) name = (l : Line) × Answers (map string_bytes (into_iter_items given)) l × NamesOfLine l name
+IsNamed (Err error) name = ⊥
 
-pub data Hunts (name : List ℕ) (plan : Plan) (input : List ℕ) (response : Response) : Type 0 where
-  hunted : IsHunted plan input response → Hunts name plan input response
-  unhunted : IsRefused name input response → Hunts name plan input response
+-- memory or a thread was refused, the words can't be had, or a file can't be read that they name
+abbrev pub IsOfWordsOrFile : Result GivenWords Error → LabFault → Type 0
+IsOfWordsOrFile given (Words cause) = ⊤
+IsOfWordsOrFile given (Unread name cause) = IsNamed given (string_bytes name)
+IsOfWordsOrFile given (Host cause) = ⊥
+IsOfWordsOrFile given (Answer fault) = ⊤

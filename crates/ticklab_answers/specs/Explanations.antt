@@ -1,15 +1,16 @@
 -- What `explain` answers on an input, and on a schedule of it: the report goes to standard output.
-use Rattle.std.specs.Prelude.{◌≡◌, ℕ, List, Ok}
+use Rattle.std.specs.Prelude.{◌≡◌, ℕ, List, Ok, Option, Some, None}
 use Rattle.language_schedules.specs.Schedule.{schedule_of}
-use Rattle.ticklab_explain.specs.Refusals.{BeginsCode, IsCode, IsInputRefused, IsProgram, IsScheduleRefused, IsTakenInput}
+use Rattle.ticketc_refusals.specs.Refusals.{BeginsCode, IsCode, IsInputRefused, IsProgram, IsScheduleRefused, IsTakenInput}
 use Rattle.ticklab_explain.specs.Reports.{Tells, TellsFor}
 use Rattle.ticklab_answers.specs.Lines.{both_taken_line, taken_line}
+use Rattle.ticklab_answers.specs.Reading.{AfterBoth, AfterFile, ReadsOf, ReadsInputOf}
 use Rattle.ticklab_answers.specs.Responses.{Gives}
 use Rattle.ticklab_answers.specs.declared.response.Response.{Response}
 
-pub data Explains (name input : List ℕ) (response : Response) : Type 0 where
-  taken : IsTakenInput input → Gives 0 (λ out. out ≡ taken_line name) response → Explains name input response
-  explained : Gives 1 (Tells (IsInputRefused input) name input) response → Explains name input response
+pub data ExplainsInput (name input : List ℕ) (response : Response) : Type 0 where
+  taken : IsTakenInput input → Gives 0 (λ out. out ≡ taken_line name) response → ExplainsInput name input response
+  explained : Gives 1 (Tells (IsInputRefused input) name input) response → ExplainsInput name input response
 
 -- the input is a code or a program of so many processes
 pub data HasProcesses (input : List ℕ) (n : ℕ) : Type 0 where
@@ -26,3 +27,9 @@ pub data ExplainsSchedule (n : ℕ) (name from text : List ℕ) (response : Resp
 pub data ExplainsBoth (name input from text : List ℕ) (response : Response) : Type 0 where
   input_taken : (n : ℕ) → HasProcesses input n → ExplainsSchedule n name from text response → ExplainsBoth name input from text response
   input_explained : Gives 1 (Tells (IsInputRefused input) name input) response → ExplainsBoth name input from text response
+
+abbrev pub Explains : {F : Type 0} → ReadsOf F → ReadsInputOf F → F → F → List ℕ → Option (List ℕ) → Response → Type 0
+Explains Reads ReadsInput before after file None response =
+    AfterFile Reads ReadsInput before after file (λ input. ExplainsInput file input response)
+Explains Reads ReadsInput before after file (Some schedule) response =
+    AfterBoth Reads ReadsInput before after file schedule (λ input from text. ExplainsBoth file input from text response)

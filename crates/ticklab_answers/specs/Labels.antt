@@ -27,4 +27,4 @@ pub data AreUndrawn (n : ℕ) (text report : List ℕ) : Type 0 where
 
 pub data DrawsLabels (n : ℕ) (text : List ℕ) (response : Response) : Type 0 where
   drawn : Gives 0 (AreDrawn n text) response → DrawsLabels n text response
-  undrawn : Refuses (AreUndrawn n text) response → DrawsLabels n text response
+  undrawn : Refuses 1 (AreUndrawn n text) response → DrawsLabels n text response

@@ -1,10 +1,16 @@
 pub mod Answers
 pub mod Codes
 pub mod Explanations
+pub mod Exploring
+pub mod Faults
+pub mod Hunting
 pub mod Labels
+pub mod Laws
 pub mod Lines
+pub mod Reading
 pub mod Responses
 pub mod Runs
+pub mod Serving
 pub mod Shown
 pub mod Stops
 pub mod Tallies

@@ -6,7 +6,7 @@ use Rattle.language_schedules.specs.Written.{schedule_text}
 use Rattle.language_schedules.specs.declared.schedule.ScheduleFault.{ScheduleFault}
 use Rattle.language_schedules.specs.declared.schedule.ScheduleFault.TheVariants.{BadItem, NoSuchProcess, TooLong, NoMemory}
 use Rattle.searches_hunt.specs.declared.plan.Plan.{Plan}
-use Rattle.searches_tally.specs.declared.counting.Counted.{Counted}
+use Rattle.searches_hunt.specs.declared.tallying.counting.Counted.{Counted}
 
 -- The first lines where a trap was found: how it was found, and the schedule.
 

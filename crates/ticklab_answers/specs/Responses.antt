@@ -1,4 +1,4 @@
--- An answer goes to standard output, or a refusal goes to standard error; never both.
+-- An answer goes to standard output, or something is told on standard error instead; never both.
 use Rattle.std.specs.Prelude.{◌≡◌, ℕ, List, []}
 use Rattle.ticklab_answers.specs.declared.response.Response.{Response}
 
@@ -9,7 +9,7 @@ pub record Gives (number : ℕ) (P : List ℕ → Type 0) (response : Response) 
   pub out : P response.out.items
 
 -- nothing goes out, and what is told has P
-pub record Refuses (P : List ℕ → Type 0) (response : Response) : Type 0 where
-  pub status : response.status ≡ 1
+pub record Refuses (number : ℕ) (P : List ℕ → Type 0) (response : Response) : Type 0 where
+  pub status : response.status ≡ number
   pub nothing : response.out.items ≡ []
   pub told : P response.told.items

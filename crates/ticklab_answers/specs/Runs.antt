@@ -6,7 +6,7 @@ use Rattle.tick_syntax.specs.Spelling.{Spells}
 use Rattle.tick_syntax.specs.declared.token.Token.{Token}
 use Rattle.tick_kinds.specs.Resolution.{resolved}
 use Rattle.language_schedules.specs.Schedule.{schedule_of}
-use Rattle.ticklab_explain.specs.Refusals.{IsProgram, IsProgramRefused, IsScheduleRefused}
+use Rattle.ticketc_refusals.specs.Refusals.{IsProgram, IsProgramRefused, IsScheduleRefused}
 use Rattle.ticklab_explain.specs.Reports.{Tells, TellsFor}
 use Rattle.ticklab_trace.specs.declared.steps.InstructionStep.{InstructionStep}
 use Rattle.ticklab_trace.specs.declared.steps.StatementStep.{StatementStep}
@@ -17,6 +17,7 @@ use Rattle.ticklab_trace.specs.TraceText.{instruction_lines, statement_lines}
 use Rattle.ticklab_draw.specs.Marks.{marks_of_code, program_marks}
 use Rattle.ticklab_draw.specs.Pictures.{picture}
 use Rattle.ticklab_answers.specs.Codes.{HasCode, IsCodeless, program_code}
+use Rattle.ticklab_answers.specs.Reading.{AfterBoth, ReadsOf, ReadsInputOf}
 use Rattle.ticklab_answers.specs.Responses.{Gives, Refuses}
 use Rattle.ticklab_answers.specs.declared.response.Response.{Response}
 
@@ -41,7 +42,7 @@ pub record IsRun (P : WholeProgram Name → List ℕ → List ℕ → Type 0) (i
 
 pub data AnswersRun (P : WholeProgram Name → List ℕ → List ℕ → Type 0) (name input from text : List ℕ) (is_code : Bool) (response : Response) : Type 0 where
   run : Gives 0 (IsRun P input text) response → AnswersRun P name input from text is_code response
-  unrun : Refuses (IsUnrun name input from text is_code) response → AnswersRun P name input from text is_code response
+  unrun : Refuses 1 (IsUnrun name input from text is_code) response → AnswersRun P name input from text is_code response
 
 -- The lines of the steps of the program that the input is, with its statements where they stand there.
 pub record IsStatementTrace (input : List ℕ) (a : WholeProgram Name) (schedule out : List ℕ) : Type 0 where
@@ -62,8 +63,9 @@ abbrev pub IsTrace : Bool → List ℕ → WholeProgram Name → List ℕ → Li
 IsTrace true input a schedule out = IsInstructionTrace a schedule out
 IsTrace false input a schedule out = IsStatementTrace input a schedule out
 
-abbrev pub Traces : List ℕ → List ℕ → List ℕ → List ℕ → Bool → Response → Type 0
-Traces name input from text is_code = AnswersRun (IsTrace is_code input) name input from text is_code
+abbrev pub Traces : {F : Type 0} → ReadsOf F → ReadsInputOf F → F → F → List ℕ → List ℕ → Bool → Response → Type 0
+Traces Reads ReadsInput before after file schedule is_code response =
+    AfterBoth Reads ReadsInput before after file schedule (λ input from text. AnswersRun (IsTrace is_code input) file input from text is_code response)
 
 abbrev pub row_names : WholeProgram Name → List (List ℕ)
 row_names a = map (λ row. row.letters) a.registers
@@ -74,5 +76,6 @@ IsRunPicture true name a schedule out =
     HasCode a × (out ≡ picture name a.processes (row_names a) (marks_of_code (program_code a) schedule))
 IsRunPicture false name a schedule out = out ≡ picture name a.processes (row_names a) (program_marks (resolved a) schedule)
 
-abbrev pub Draws : List ℕ → List ℕ → List ℕ → List ℕ → Bool → Response → Type 0
-Draws name input from text is_code = AnswersRun (IsRunPicture is_code name) name input from text is_code
+abbrev pub Draws : {F : Type 0} → ReadsOf F → ReadsInputOf F → F → F → List ℕ → List ℕ → Bool → Response → Type 0
+Draws Reads ReadsInput before after file schedule is_code response =
+    AfterBoth Reads ReadsInput before after file schedule (λ input from text. AnswersRun (IsRunPicture is_code file) file input from text is_code response)

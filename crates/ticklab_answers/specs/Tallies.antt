@@ -2,12 +2,13 @@
 use Rattle.std.specs.Prelude.{◌≡◌, ℕ, List, length}
 use Rattle.base.specs.Observables.{RunObservables}
 use Rattle.code_core.specs.Instructions.{StepCode}
-use Rattle.searches_tally.specs.Tallies.{AreCounted, AreRuns}
-use Rattle.searches_tally.specs.declared.counting.Counted.{Counted}
-use Rattle.ticklab_explain.specs.Refusals.{IsProgram, IsProgramRefused}
+use Rattle.searches_hunt.specs.Tallies.{AreCounted, AreRuns}
+use Rattle.searches_hunt.specs.declared.tallying.counting.Counted.{Counted}
+use Rattle.ticketc_refusals.specs.Refusals.{IsProgram, IsProgramRefused}
 use Rattle.ticklab_explain.specs.Reports.{Tells}
 use Rattle.ticklab_answers.specs.Codes.{HasCode, HasNoCode, program_code}
 use Rattle.ticklab_answers.specs.Lines.{count_texts}
+use Rattle.ticklab_answers.specs.Reading.{AfterFile, ReadsOf, ReadsInputOf}
 use Rattle.ticklab_answers.specs.Responses.{Gives, Refuses}
 use Rattle.ticklab_answers.specs.declared.response.Response.{Response}
 
@@ -34,6 +35,11 @@ pub data IsUncoded (name input report : List ℕ) : Type 0 where
   no_code : (is : IsProgram input) → HasNoCode name is.program report → IsUncoded name input report
 
 -- An input without a code is never run.
-pub data Tallies {M : Type 0} (Ran : RunsOf M) (before after : M) (name input : List ℕ) (times turns : ℕ) (response : Response) : Type 0 where
-  tallied : Gives 0 (IsTally Ran before after times turns input) response → Tallies Ran before after name input times turns response
-  untallied : Refuses (IsUncoded name input) response → after ≡ before → Tallies Ran before after name input times turns response
+pub data IsTallied {M : Type 0} (Ran : RunsOf M) (before after : M) (name : List ℕ) (times turns : ℕ) (input : List ℕ) (response : Response) : Type 0 where
+  tallied : Gives 0 (IsTally Ran before after times turns input) response → IsTallied Ran before after name times turns input response
+  untallied : Refuses 1 (IsUncoded name input) response → after ≡ before → IsTallied Ran before after name times turns input response
+
+-- the file is read, and the runs are those of the runner, which is `rested` before them and `ran` after them
+abbrev pub Tallies : {F M : Type 0} → ReadsOf F → ReadsInputOf F → RunsOf M → F → F → M → M → List ℕ → ℕ → ℕ → Response → Type 0
+Tallies Reads ReadsInput Ran before after rested ran file times turns response =
+    AfterFile Reads ReadsInput before after file (λ input. IsTallied Ran rested ran file times turns input response)

@@ -1,31 +1,31 @@
-//! `ticklab_answers` makes the answer to each command of `ticklab` from the texts that were read.
+//! `ticklab_answers` is the whole program `ticklab`, over any files, outputs and threads.
 //!
-//! An answer is a `Response`: what goes to standard output, what goes to standard error, and the exit status.
-//! Each command has a file in `src`. `specs/Answers.antt` says what `explore` and `hunt` answer; the files
-//! beside it say what the other commands answer. Nothing here reads a file or writes an output.
-//! Start with `explored`.
+//! `ticklab_line` says what the words of the command line ask for. Each command has a file in `src/commands`, which
+//! reads its files, makes its answer and says what that is. An answer is a `Response`: what goes to standard output, what
+//! goes to standard error, and the exit status. Files come from a `Files`, a `Runner` makes the runs on threads, and a
+//! `Progress` is told how far a search is. `ended` has the words answered, and then writes.
+//! `specs/Answers.antt` has a case for each command. `laws` says what `explore` says of the code.
+//! Start with `ended`.
 #![tactic(auto)]
 
+mod commands;
 mod counts;
-mod drawing;
-mod explaining;
-mod exploring;
+mod ending;
 mod fault;
-mod hunting;
-mod labels;
+mod files;
+mod host;
+pub mod laws;
+mod progress;
 mod reading;
 mod response;
 mod stop;
-mod tallying;
-mod tracing;
 mod trapping;
+mod writing;
 
-pub use drawing::drawn;
-pub use explaining::{explained, schedule_explained};
-pub use exploring::{explored, explored_merged};
-pub use fault::AnswerFault;
-pub use hunting::hunted;
-pub use labels::labelled;
+pub use commands::{drawn, explained, explored, hunted, labelled, tallied, traced};
+pub use ending::ended;
+pub use fault::{AnswerFault, LabFault};
+pub use files::MOST_BYTES;
+pub use host::{Files, Host};
+pub use progress::Progress;
 pub use response::Response;
-pub use tallying::tallied;
-pub use tracing::traced;

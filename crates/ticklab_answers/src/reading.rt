@@ -2,7 +2,7 @@
 ghost use Rattle.std.specs.Prelude.{◌≡◌, ◌<◌, All, Err, IfErr, IfOk, Ok, string_bytes};
 ghost use Rattle.language_schedules.specs.Moves.{moves_of as moves_spelled, mover};
 ghost use Rattle.language_schedules.specs.Schedule.{schedule_of as schedule_spelled};
-ghost use Rattle.ticklab_explain.specs.Refusals.{IsProgram, IsProgramRefused, IsScheduleRefused};
+ghost use Rattle.ticketc_refusals.specs.Refusals.{IsProgram, IsProgramRefused, IsScheduleRefused};
 ghost use Rattle.ticklab_explain.specs.Reports.{Tells, TellsFor};
 ghost use Rattle.ticklab_answers.specs.Codes.{HasCode, HasNoCode, program_code};
 ghost use Rattle.ticklab_answers.specs.Lines.{spelling_line};
@@ -15,7 +15,8 @@ use language_schedules::{Move, ScheduleFault, read_moves, read_schedule};
 use std::alloc::{AllocError, Global};
 use tick_kinds::Program;
 use tick_lower::{LowerFault, lower};
-use ticklab_explain::{explain_refusal, explain_schedule, program_in};
+use ticketc_refusals::program_in;
+use ticklab_explain::{explain_refusal, explain_schedule};
 
 /// The accepted program that an input is; `name` is that of its file.
 pub fn program_of(alloc: Global, name: &str, input: &[u8]) -> Result<Program, Stop>

@@ -1,4 +1,5 @@
 ghost use Rattle.std.specs.Prelude.{◌≡◌, IfOk, MatchResult, [], string_bytes};
+ghost use Rattle.ticklab_answers.specs.Responses.{Gives, Refuses};
 ghost use Rattle.ticklab_answers.specs.Stops.{IsRefusal};
 
 use crate::fault::AnswerFault;
@@ -20,6 +21,8 @@ pub struct Response {
 pub const DONE: u8 = 0;
 /// An input is refused.
 pub const REFUSED: u8 = 1;
+/// The command line is refused.
+const REFUSED_LINE: u8 = 2;
 /// A schedule was found under which a process traps.
 pub const TRAPPED: u8 = 5;
 /// There are more states than were to be seen.
@@ -47,25 +50,40 @@ pub fn output(alloc: Global, status: u8, out: Vec<u8>) -> Response
     }
 }
 
-fn refused(alloc: Global, report: Vec<u8>) -> Response
-    ensures status { result.status ≡ 1 }
+/// A report on standard error, with nothing on standard output.
+pub fn refused(alloc: Global, status: u8, report: Vec<u8>) -> Response
+    ensures status { result.status ≡ status }
     ensures out { result.out.items ≡ [] }
     ensures told { result.told ≡ report }
 {
     Response {
-        status: REFUSED,
+        status,
         out: Vec::new(alloc),
         told: report,
     }
 }
 
-/// A refusal is told on standard error, with nothing on standard output.
+/// The help that was asked for.
+pub fn help(alloc: Global, text: String) -> Response
+    ensures { Gives 0 (λ out. out ≡ string_bytes text) result }
+{
+    answer(alloc, DONE, text)
+}
+
+/// The words are no command, and why.
+pub fn no_command(alloc: Global, text: String) -> Response
+    ensures { Refuses 2 (λ told. told ≡ string_bytes text) result }
+{
+    refused(alloc, REFUSED_LINE, text.into_bytes())
+}
+
+/// The answer of a command, or the report of what it refuses.
 pub fn settled(alloc: Global, answered: Result<Response, Stop>) -> Result<Response, AnswerFault>
     ensures { IfOk result (λ response. MatchResult answered (λ given. response ≡ given) (IsRefusal response)) }
 {
     match answered {
         Ok(response) => Ok(response),
-        Err(Stop::Refused(report)) => Ok(refused(alloc, report)),
+        Err(Stop::Refused(report)) => Ok(refused(alloc, REFUSED, report)),
         Err(Stop::Fault(fault)) => Err(fault),
     }
 }

@@ -4,7 +4,7 @@ ghost use Rattle.tick_kinds.specs.Resolution.{resolved};
 ghost use Rattle.ticklab_answers.specs.Runs.{IsOf};
 ghost use Rattle.ticklab_answers.specs.Shown.{IsTrapText};
 
-use crate::tracing::source_text;
+use crate::commands::source_text;
 use base::NoMemory;
 use language_schedules::write_schedule;
 use std::alloc::Global;

@@ -11,7 +11,7 @@ use Rattle.clap.specs.declared.error.kind.ErrorKind.{ErrorKind}
 use Rattle.clap.specs.declared.error.kind.ErrorKind.TheVariants as kind
 use Rattle.clap.specs.declared.parser.matches.ArgMatches.{ArgMatches}
 use Rattle.clap.proofs.OnLiterals.{clap_on_literals}
-use Rattle.ticklab_line.specs.CommandLine.{ticklab}
+use Rattle.ticklab_line.specs.Commands.{ticklab}
 use Rattle.ticklab_line.specs.Lines.{Answers, AnswersBy, IsFound, IsToldBy, command_in, faults}
 use Rattle.ticklab_line.specs.declared.asking.Line.{Line}
 use Rattle.ticklab_line.specs.declared.asking.Line.TheVariants as line
@@ -50,7 +50,6 @@ one_told (first ∷ kinds) k found (line.Help text) among told =
     subst (λ (a : ErrorKind). IsAmong a (first ∷ kinds)) told among
 one_told (first ∷ kinds) k found (line.Refused text) among told = (k, told, among)
 one_told (first ∷ kinds) k found (line.Request request) among told = absurd told
-one_told (first ∷ kinds) k found (line.Runs runs) among told = absurd told
 
 pub told_answers : (app : App) (words : List Text) (error : Error) (l : Line)
     → app ≡ ticklab

@@ -1,7 +1,7 @@
--- The command line of `ticklab`, as it is described to `clap`.
+-- Parts of the command line of `ticklab`, as they are described to `clap`.
 use Rattle.std.specs.Prelude.{◌≡◌, ℕ, IfOk, Result, Some, true, false, codes, pos}
 use Rattle.clap.specs.Walk.{Rule, Text, rule_of}
-use Rattle.clap.specs.Simple.{App, app_of, new_app, new_rule, on_top, with_rule, with_subcommand}
+use Rattle.clap.specs.Simple.{App, app_of, new_app, new_rule, with_rule, with_subcommand}
 use Rattle.clap.specs.declared.builder.action.ArgAction.TheVariants.{SetTrue}
 use Rattle.clap.specs.declared.builder.arg.Arg.{Arg}
 use Rattle.clap.specs.declared.builder.command.Command.{Command}
@@ -43,40 +43,8 @@ threads_rule = record (new_rule (codes "threads")) {
 abbrev pub with_file : Text → App
 with_file name = with_rule (new_app name) (word_rule (codes "file"))
 
-abbrev pub explore_app : App
-explore_app = with_rule (with_rule (with_file (codes "explore"))
-    (number_rule (codes "limit") (up_to 4294967295)))
-    (flag_rule (codes "merged"))
-
-abbrev pub hunt_app : App
-hunt_app = with_rule (with_rule (with_rule (with_rule (with_rule (with_file (codes "hunt"))
-    (number_rule (codes "seed") (Unsigned 0 18446744073709551615)))
-    (number_rule (codes "runs") (up_to 4294967295)))
-    (number_rule (codes "steps") (up_to 10000000)))
-    (flag_rule (codes "uniform")))
-    threads_rule
-
--- `trace` and `draw`
-abbrev pub run_app : Text → App
-run_app name = with_rule (with_rule (with_file name) (word_rule (codes "schedule"))) (flag_rule (codes "code"))
-
-abbrev pub explain_app : App
-explain_app = with_rule (with_file (codes "explain")) (further_rule (codes "schedule"))
-
-abbrev pub labels_app : App
-labels_app = with_rule (with_rule (new_app (codes "labels")) processes_rule) (word_rule (codes "moves"))
-
 abbrev pub with_app : App → App → App
 with_app above app = with_subcommand above app.top
-
--- a command has to come first
-abbrev pub command_wanted : App
-command_wanted =
-    on_top (λ s. record s { subcommand_required = true; arg_required_else_help = true }) (new_app (codes "ticklab"))
-
-abbrev pub ticklab : App
-ticklab = with_app (with_app (with_app (with_app (with_app (with_app command_wanted
-    explore_app) hunt_app) (run_app (codes "trace"))) (run_app (codes "draw"))) explain_app) labels_app
 
 -- memory aside, what is told to `clap` is this command line, this command of it, and this word of a command
 abbrev pub IsLine : {E : Type 0} → App → Result Command E → Type 0

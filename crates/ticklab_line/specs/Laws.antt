@@ -1,13 +1,13 @@
 -- What command lines ask for, computed from the description of the command line alone.
-use Rattle.std.specs.Prelude.{◌≡◌, true, false, List, [], ◌∷◌, Option, Some, None, codes}
+use Rattle.std.specs.Prelude.{◌≡◌, true, false, List, [], ◌∷◌, Option, Some, None, codes, map}
 use Rattle.clap.specs.Walk.{Text}
 use Rattle.clap.specs.Kinds.{Kinds}
 use Rattle.clap.specs.declared.error.kind.ErrorKind.TheVariants as kind
-use Rattle.ticklab_line.specs.Lines.{IsAsked, command_in, faults}
+use Rattle.ticklab_line.specs.Commands.{request_in, rows}
+use Rattle.ticklab_line.specs.Lines.{command_in, faults}
 use Rattle.ticklab_line.specs.Conflicts.{conflict_in}
-use Rattle.ticklab_line.specs.Found.{runs_in}
-use Rattle.ticklab_line.specs.declared.request.Request.{Request}
-use Rattle.ticklab_line.specs.declared.request.Request.TheVariants.{Explore, Hunt, Trace, Draw, Explain, Labels}
+use Rattle.ticklab_line.specs.declared.commands.Request.{Request}
+use Rattle.ticklab_line.specs.declared.commands.Request.TheVariants.{Explore, Hunt, Runs}
 
 abbrev pub line : List Text → List Text
 line words = codes "ticklab" ∷ words
@@ -18,25 +18,21 @@ IsTaken words conflict = (faults (line words) ≡ []) × (conflict_in (command_i
 
 -- the words ask for this
 abbrev pub Asks : List Text → Request Text → Type 0
-Asks words request = IsTaken words None × IsAsked (command_in (line words)) (Some request) None
+Asks words request = IsTaken words None × (request_in (command_in (line words)) ≡ Some request)
 
 -- one of these kinds is told of the words
 abbrev pub Tells : List Text → Kinds → Type 0
 Tells words kinds = faults (line words) ≡ kinds
 
+-- what is told of the words, their options that do not go together, and what they ask for
+abbrev pub read : List Text → Kinds × Option (Text × Text) × Option (Request Text)
+read words = (faults (line words), conflict_in (command_in (line words)), request_in (command_in (line words)))
+
 pub record CommandsLaw : Type 0 where
   pub explore : (rest : Text) → Asks (codes "explore" ∷ (97 ∷ rest) ∷ []) (Explore (97 ∷ rest) 1000000 false)
-  pub explore_limit : Asks (codes "explore" ∷ codes "a" ∷ codes "--limit" ∷ codes "7" ∷ []) (Explore (codes "a") 7 false)
-  pub explore_merged : Asks (codes "explore" ∷ codes "--merged" ∷ codes "a" ∷ []) (Explore (codes "a") 1000000 true)
-  pub trace : Asks (codes "trace" ∷ codes "a" ∷ codes "0 1*3" ∷ []) (Trace (codes "a") (codes "0 1*3") false)
-  pub trace_code : Asks (codes "trace" ∷ codes "-" ∷ codes "@b" ∷ codes "--code" ∷ []) (Trace (codes "-") (codes "@b") true)
-  pub draw : Asks (codes "draw" ∷ codes "a" ∷ [] ∷ []) (Draw (codes "a") [] false)
-  pub draw_code : Asks (codes "draw" ∷ codes "--code" ∷ codes "a" ∷ codes "0" ∷ []) (Draw (codes "a") (codes "0") true)
-  pub explain : Asks (codes "explain" ∷ codes "a" ∷ []) (Explain (codes "a") None)
-  pub explain_schedule : Asks (codes "explain" ∷ codes "a" ∷ codes "0" ∷ []) (Explain (codes "a") (Some (codes "0")))
-  pub labels : Asks (codes "labels" ∷ codes "3" ∷ codes "0 c1" ∷ []) (Labels 3 (codes "0 c1"))
+  pub all : map (λ row. read row.0) rows ≡ map (λ row. ([], None, Some row.1)) rows
 
--- the words after `hunt` and a program ask for this plan
+-- the words after `hunt` and a program ask for this
 abbrev pub HuntsBy : List Text → Request Text → Type 0
 HuntsBy words = Asks (codes "hunt" ∷ codes "a" ∷ words)
 
@@ -57,9 +53,7 @@ pub record HuntsLaw : Type 0 where
   pub runs : HuntsBy (codes "--runs" ∷ codes "2" ∷ []) (Hunt (codes "a") 0 2 300 false)
   pub steps : HuntsBy (codes "--steps" ∷ codes "2" ∷ []) (Hunt (codes "a") 0 10000 2 false)
   pub uniform : HuntsBy (codes "--uniform" ∷ []) (Hunt (codes "a") 0 10000 300 true)
-  pub threads_alone : IsTaken (codes "hunt" ∷ codes "a" ∷ threads []) None
-  pub threads_runs : runs_in (command_in (line (codes "hunt" ∷ codes "a" ∷ threads [])))
-      ≡ Some (record { file = codes "a"; times = 5; turns = 9 })
+  pub threads_alone : HuntsBy (threads []) (Runs (codes "a") 5 9)
   pub threads_seed : Conflicts (threads (codes "--seed" ∷ codes "0" ∷ [])) shown_threads (codes "--seed <N>")
   pub threads_runs_given : Conflicts (threads (codes "--runs=10000" ∷ [])) shown_threads (codes "--runs <N>")
   pub threads_steps : Conflicts (threads (codes "--steps" ∷ codes "5" ∷ [])) shown_threads (codes "--steps <N>")

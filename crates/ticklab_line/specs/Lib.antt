@@ -1,5 +1,6 @@
 pub mod CommandLine
 pub mod Found
+pub mod Commands
 pub mod Conflicts
 pub mod Lines
 pub mod Laws

@@ -6,11 +6,8 @@ use Rattle.clap.specs.Faults.{fault_of}
 use Rattle.clap.specs.Kinds.{IsAmong, Kinds}
 use Rattle.clap.specs.declared.error.kind.ErrorKind.{ErrorKind}
 use Rattle.clap.specs.declared.error.kind.ErrorKind.TheVariants as kind
-use Rattle.ticklab_line.specs.CommandLine.{ticklab}
 use Rattle.ticklab_line.specs.Conflicts.{conflict_in, conflict_text}
-use Rattle.ticklab_line.specs.Found.{plain_request, plain_runs, request_in, runs_in}
-use Rattle.ticklab_line.specs.declared.request.Request.{Request}
-use Rattle.ticklab_line.specs.declared.request.Runs.{Runs}
+use Rattle.ticklab_line.specs.Commands.{plain_request, request_in, ticklab}
 use Rattle.ticklab_line.specs.declared.asking.Line.{Line}
 use Rattle.ticklab_line.specs.declared.asking.Line.TheVariants as line
 
@@ -23,20 +20,15 @@ command_in words = subcommand_of ticklab words
 unfoldable pub faults : List Text → Kinds
 faults words = fault_of ticklab words
 
--- what was found asks for this, and for nothing where it is nothing
-abbrev pub IsAsked : Option (Text × List Row) → Option (Request Text) → Option (Runs Text) → Type 0
-IsAsked found request runs = (request_in found ≡ request) × (runs_in found ≡ runs)
-
 -- what is told where a number is out of its range
 abbrev pub number_text : Text
 number_text = codes "error: a number is out of its range\n"
 
 -- what is answered to words that have no conflict
 abbrev pub IsMeant : Option (Text × List Row) → Line → Type 0
-IsMeant found (line.Request request) = IsAsked found (Some (plain_request request)) None
-IsMeant found (line.Runs runs) = runs_in found ≡ Some (plain_runs runs)
+IsMeant found (line.Request request) = request_in found ≡ Some (plain_request request)
 IsMeant found (line.Help text) = ⊥
-IsMeant found (line.Refused text) = IsAsked found None None × (string_bytes text ≡ number_text)
+IsMeant found (line.Refused text) = (request_in found ≡ None) × (string_bytes text ≡ number_text)
 
 abbrev pub IsRefused : Text → Line → Type 0
 IsRefused wanted (line.Refused text) = string_bytes text ≡ wanted

@@ -45,7 +45,7 @@ pub fn flag<'a>(alloc: Global, name: &'a str, help: &'a str) -> Arg<'a>
 }
 
 /// An option with a number. What stands for it where it is left out is for the help alone.
-pub fn number<'a>(
+pub fn option<'a>(
     alloc: Global,
     name: &'a str,
     value: &'a str,

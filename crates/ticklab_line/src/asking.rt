@@ -3,10 +3,8 @@ ghost use Rattle.clap.specs.Simple.{subcommand_rows_of};
 ghost use Rattle.clap.specs.Values.{kind_of};
 ghost use Rattle.ticklab_line.specs.Lines.{Answers, IsFound, IsMeant, IsToldBy, number_text};
 
-use crate::commands::command_line;
+use crate::commands::{Request, command_line, request_in};
 use crate::conflicts::{conflict_in, conflict_text};
-use crate::reading::{request_in, runs_in};
-use crate::request::{Request, Runs};
 use clap::error::ErrorKind;
 use clap::{ArgMatches, Error};
 use std::alloc::{AllocError, Global};
@@ -15,7 +13,6 @@ use std::alloc::{AllocError, Global};
 #[derive(Drop)]
 pub enum Line<'a> {
     Request(Request<&'a str>),
-    Runs(Runs<&'a str>),
     /// The help that was asked for.
     Help(String),
     /// The words are no command, and why.
@@ -45,9 +42,6 @@ fn found<'a>(alloc: Global, matches: &ArgMatches<'a>) -> Result<Line<'a>, AllocE
 fn meant<'a>(alloc: Global, matches: &ArgMatches<'a>) -> Result<Line<'a>, AllocError>
     ensures { IfOk result (IsMeant (subcommand_rows_of matches.now)) }
 {
-    if let Some(runs) = runs_in(matches) {
-        return Ok(Line::Runs(runs));
-    }
     match request_in(matches) {
         Some(request) => Ok(Line::Request(request)),
         None => Ok(Line::Refused(number_refused(alloc)?)),

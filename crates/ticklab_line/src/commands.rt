@@ -1,22 +1,69 @@
-//! The command line, as it is described to `clap`.
-ghost use Rattle.std.specs.Prelude.{◌≡◌, IfOk, Ok, codes};
-ghost use Rattle.clap.specs.Walk.{Rule};
-ghost use Rattle.clap.specs.Simple.{App, app_of, new_app, with_rule};
-ghost use Rattle.ticklab_line.specs.CommandLine.{IsCommand, IsLine, IsWord, command_wanted, explain_app, explore_app, hunt_app, labels_app, run_app, ticklab, with_app, with_file};
+//! The commands: what each asks for, how it is described to `clap`, and how it is read from what `clap` found.
+ghost use Rattle.std.specs.Prelude.{◌≡◌, IfOk, Ok, codes, map, option_map};
+ghost use Rattle.clap.specs.Matches.{found_of};
+ghost use Rattle.clap.specs.Walk.{rows_of};
+ghost use Rattle.clap.specs.Simple.{app_of, subcommand_rows_of};
+ghost use Rattle.ticklab_line.specs.CommandLine.{IsCommand, IsLine};
+ghost use Rattle.ticklab_line.specs.Commands.{command_wanted, explain_app, explain_in, explore_app, explore_in, hunt_app, hunt_in, labels_app, labels_in, named, plain_request, plan_in, run_app, run_in, runs_in, ticklab};
+ghost use Rattle.ticklab_line.specs.Commands.{request_in as found_request};
+ghost use Rattle.ticklab_line.specs.declared.commands.Request.TheVariants.{Trace, Draw};
 
-use crate::arguments::{flag, further, length, number, processes, threads, word};
-use clap::{Arg, Command, value_parser};
+use crate::arguments::{flag, further, length, option, processes, threads, word};
+use crate::parts::{STATUSES, filed, named, taking, with};
+use crate::values::{
+    byte_in, is_set, large_number, large_number_or, number, number_or, text_in, texts_in,
+};
+use clap::{ArgMatches, Command, value_parser};
 use std::alloc::{AllocError, Global};
 
-const STATUSES: &str = "Exit status: \
-0 it is done: what was asked for is printed, and explore and hunt found no trap; \
-1 the program, code or schedule is refused; \
-2 the command line is; \
-3 a file could not be read, or the answer not be written; \
-4 memory or a thread was refused; \
-5 explore or hunt found a schedule under which a process traps; \
-6 explore met its limit. \
-All but the answer is told on standard error.";
+/// A command with what goes with it, its texts in whatever form they are held. A file is a name, and `-` is
+/// standard input; a schedule is its text, or `@` and the name of the file that has it. Neither is read yet.
+#[derive(Debug, Drop)]
+pub enum Request<T> {
+    /// All schedules of a program, as far as it has at most so many states; merged, private steps go with
+    /// the shared one before them.
+    Explore {
+        file: T,
+        limit: u32,
+        is_merged: bool,
+    },
+    /// Random schedules of a program.
+    Hunt {
+        file: T,
+        seed: u64,
+        runs: u32,
+        steps: u32,
+        is_uniform: bool,
+    },
+    /// Runs on threads of a program's code: how many, and the turns of each process.
+    Runs {
+        file: T,
+        times: u32,
+        turns: u64,
+    },
+    /// A run step by step.
+    Trace {
+        file: T,
+        schedule: T,
+        is_code: bool,
+    },
+    /// A run as a picture.
+    Draw {
+        file: T,
+        schedule: T,
+        is_code: bool,
+    },
+    /// What is wrong with a program or a code, or with a schedule of it.
+    Explain {
+        file: T,
+        schedule: Option<T>,
+    },
+    /// The labels of so many processes under stamps and clears, as a picture.
+    Labels {
+        processes: u8,
+        moves: T,
+    },
+}
 
 const PROGRAM: &str = "The program; - for standard input";
 
@@ -41,38 +88,6 @@ pub fn command_line<'a>(alloc: Global) -> Result<Command<'a>, AllocError>
     with(line, labels(alloc))
 }
 
-// The line with one more command.
-fn with<'a>(
-    line: Result<Command<'a>, AllocError>,
-    more: Result<Command<'a>, AllocError>,
-) -> Result<Command<'a>, AllocError>
-    ensures { (above app : App) → IsLine above line.entry → IsCommand app more.entry → IsLine (with_app above app) result }
-{
-    let (line, more) = both(line, more)?;
-    line.subcommand(more)
-}
-
-// Both, where both are there. (Whatever may fail where it owns a `Command` takes long to prove: this may, and owns
-// none.)
-fn both<A: Drop, B: Drop>(
-    first: Result<A, AllocError>,
-    second: Result<B, AllocError>,
-) -> Result<(A, B), AllocError>
-    ensures { IfOk result (λ pair. (first ≡ Ok pair.0) × (second ≡ Ok pair.1)) }
-{
-    Ok((first?, second?))
-}
-
-// The command with one more word.
-fn taking<'a>(
-    command: Result<Command<'a>, AllocError>,
-    word: Arg<'a>,
-) -> Result<Command<'a>, AllocError>
-    ensures { (app : App) (rule : Rule) → IsCommand app command.entry → IsWord rule word.entry → IsCommand (with_rule app rule) result }
-{
-    command?.arg(word)
-}
-
 fn ticklab<'a>(alloc: Global) -> Command<'a>
     ensures { app_of result ≡ command_wanted }
 {
@@ -83,22 +98,26 @@ fn ticklab<'a>(alloc: Global) -> Command<'a>
         .arg_required_else_help(true)
 }
 
-fn named<'a>(alloc: Global, name: &'a str, about: &'a str) -> Result<Command<'a>, AllocError>
-    ensures { IsCommand (new_app name.entry.now) result }
+/// The request, where the line has one: `clap` has seen to it that it does.
+pub fn request_in<'a>(matches: &ArgMatches<'a>) -> Option<Request<&'a str>>
+    ensures { option_map plain_request result ≡ found_request (subcommand_rows_of matches.now) }
 {
-    Ok(Command::new(alloc, name).about(about).after_help(STATUSES))
+    let (name, given) = matches.subcommand()?;
+    request_named(name, given)
 }
 
-// A command that takes a file.
-fn filed<'a>(
-    alloc: Global,
-    name: &'a str,
-    about: &'a str,
-    file: &'a str,
-) -> Result<Command<'a>, AllocError>
-    ensures { IsCommand (with_file name.entry.now) result }
+fn request_named<'a>(name: &str, given: &ArgMatches<'a>) -> Option<Request<&'a str>>
+    ensures { option_map plain_request result ≡ named name.now (rows_of (found_of given.now)) }
 {
-    taking(named(alloc, name, about), word(alloc, "file", "FILE", file))
+    match name {
+        "explore" => explore_in(given),
+        "hunt" => hunt_in(given),
+        "trace" => trace_in(given),
+        "draw" => draw_in(given),
+        "explain" => explain_in(given),
+        "labels" => labels_in(given),
+        _ => None,
+    }
 }
 
 fn explore<'a>(alloc: Global) -> Result<Command<'a>, AllocError>
@@ -112,7 +131,7 @@ fn explore<'a>(alloc: Global) -> Result<Command<'a>, AllocError>
     );
     let explore = taking(
         explore,
-        number(
+        option(
             alloc,
             "limit",
             "STATES",
@@ -130,6 +149,16 @@ fn explore<'a>(alloc: Global) -> Result<Command<'a>, AllocError>
     )
 }
 
+fn explore_in<'a>(given: &ArgMatches<'a>) -> Option<Request<&'a str>>
+    ensures { option_map plain_request result ≡ explore_in (rows_of (found_of given.now)) }
+{
+    Some(Request::Explore {
+        file: text_in(given, "file")?,
+        limit: number_or(given, "limit", 1_000_000)?,
+        is_merged: is_set(given, "merged"),
+    })
+}
+
 fn hunt<'a>(alloc: Global) -> Result<Command<'a>, AllocError>
     ensures { IsCommand hunt_app result }
 {
@@ -141,7 +170,7 @@ fn hunt<'a>(alloc: Global) -> Result<Command<'a>, AllocError>
     );
     let hunt = taking(
         hunt,
-        number(
+        option(
             alloc,
             "seed",
             "N",
@@ -151,7 +180,7 @@ fn hunt<'a>(alloc: Global) -> Result<Command<'a>, AllocError>
     );
     let hunt = taking(
         hunt,
-        number(
+        option(
             alloc,
             "runs",
             "N",
@@ -161,7 +190,7 @@ fn hunt<'a>(alloc: Global) -> Result<Command<'a>, AllocError>
     );
     let hunt = taking(
         hunt,
-        number(
+        option(
             alloc,
             "steps",
             "N",
@@ -178,6 +207,40 @@ fn hunt<'a>(alloc: Global) -> Result<Command<'a>, AllocError>
         ),
     );
     taking(hunt, threads(alloc))
+}
+
+fn hunt_in<'a>(given: &ArgMatches<'a>) -> Option<Request<&'a str>>
+    ensures { option_map plain_request result ≡ hunt_in (rows_of (found_of given.now)) }
+{
+    match texts_in(given, "threads") {
+        Some(texts) => runs_in(given, texts),
+        None => plan_in(given),
+    }
+}
+
+fn runs_in<'a>(given: &ArgMatches<'a>, texts: &[&'a str]) -> Option<Request<&'a str>>
+    ensures { option_map plain_request result ≡ runs_in (rows_of (found_of given.now)) (map (λ text. text.now) texts.now) }
+{
+    match texts {
+        [times, turns] => Some(Request::Runs {
+            file: text_in(given, "file")?,
+            times: number(times)?,
+            turns: large_number(turns)?,
+        }),
+        _ => None,
+    }
+}
+
+fn plan_in<'a>(given: &ArgMatches<'a>) -> Option<Request<&'a str>>
+    ensures { option_map plain_request result ≡ plan_in (rows_of (found_of given.now)) }
+{
+    Some(Request::Hunt {
+        file: text_in(given, "file")?,
+        seed: large_number_or(given, "seed", 0)?,
+        runs: number_or(given, "runs", 10_000)?,
+        steps: number_or(given, "steps", 300)?,
+        is_uniform: is_set(given, "uniform"),
+    })
 }
 
 // A command that takes a program and a schedule.
@@ -203,6 +266,26 @@ fn run<'a>(alloc: Global, name: &'a str, about: &'a str) -> Result<Command<'a>, 
     )
 }
 
+fn trace_in<'a>(given: &ArgMatches<'a>) -> Option<Request<&'a str>>
+    ensures { option_map plain_request result ≡ run_in Trace (rows_of (found_of given.now)) }
+{
+    Some(Request::Trace {
+        file: text_in(given, "file")?,
+        schedule: text_in(given, "schedule")?,
+        is_code: is_set(given, "code"),
+    })
+}
+
+fn draw_in<'a>(given: &ArgMatches<'a>) -> Option<Request<&'a str>>
+    ensures { option_map plain_request result ≡ run_in Draw (rows_of (found_of given.now)) }
+{
+    Some(Request::Draw {
+        file: text_in(given, "file")?,
+        schedule: text_in(given, "schedule")?,
+        is_code: is_set(given, "code"),
+    })
+}
+
 fn explain<'a>(alloc: Global) -> Result<Command<'a>, AllocError>
     ensures { IsCommand explain_app result }
 {
@@ -223,6 +306,15 @@ fn explain<'a>(alloc: Global) -> Result<Command<'a>, AllocError>
     )
 }
 
+fn explain_in<'a>(given: &ArgMatches<'a>) -> Option<Request<&'a str>>
+    ensures { option_map plain_request result ≡ explain_in (rows_of (found_of given.now)) }
+{
+    Some(Request::Explain {
+        file: text_in(given, "file")?,
+        schedule: text_in(given, "schedule"),
+    })
+}
+
 fn labels<'a>(alloc: Global) -> Result<Command<'a>, AllocError>
     ensures { IsCommand labels_app result }
 {
@@ -240,4 +332,13 @@ fn labels<'a>(alloc: Global) -> Result<Command<'a>, AllocError>
             "Who stamps, as \"0 1*2 0\"; c0 gives the label of process 0 up",
         ),
     )
+}
+
+fn labels_in<'a>(given: &ArgMatches<'a>) -> Option<Request<&'a str>>
+    ensures { option_map plain_request result ≡ labels_in (rows_of (found_of given.now)) }
+{
+    Some(Request::Labels {
+        processes: byte_in(given, "processes")?,
+        moves: text_in(given, "moves")?,
+    })
 }

@@ -2,7 +2,7 @@
 //!
 //! `clap` parses the words by the command line that `specs/CommandLine.antt` describes. Only this crate and
 //! `ticketc_line` call `clap`. Checking a crate that calls it takes long, so nothing else stands here.
-//! `specs/Lines.antt` says what `asked` answers.
+//! `src/commands.rt` and `specs/Commands.antt` have each command. `specs/Lines.antt` says what `asked` answers.
 //! Start with `asked`.
 #![tactic(auto)]
 
@@ -11,10 +11,9 @@ mod asking;
 mod commands;
 mod conflicts;
 mod laws;
-mod reading;
-mod request;
+mod parts;
 mod values;
 
 pub use asking::{Line, asked};
+pub use commands::Request;
 pub use laws::{law_commands, law_hunts, law_no_commands};
-pub use request::{Request, Runs};

@@ -5,10 +5,10 @@ use Rattle.ticklab_line.proofs.commands.hunt.Goals as goal
 pub returns : goal.returns
 returns c =
     let seed = c.taking-hunt.ensures _ _ c.filed-hunt.ensures
-    (c.number.ensures.0 ∙ ap (number_rule _) c.value_parser.ensures, c.number.ensures.1) in
+    (c.option.ensures.0 ∙ ap (number_rule _) c.value_parser.ensures, c.option.ensures.1) in
     let runs = c.taking-hunt-2.ensures _ _ seed
-    (c.number-2.ensures.0 ∙ ap (number_rule _) c.value_parser-2.ensures, c.number-2.ensures.1) in
+    (c.option-2.ensures.0 ∙ ap (number_rule _) c.value_parser-2.ensures, c.option-2.ensures.1) in
     let steps = c.taking-hunt-3.ensures _ _ runs
-    (c.number-3.ensures.0 ∙ ap (number_rule _) c.length.ensures, c.number-3.ensures.1) in
+    (c.option-3.ensures.0 ∙ ap (number_rule _) c.length.ensures, c.option-3.ensures.1) in
     let uniform = c.taking-hunt-4.ensures _ _ steps c.flag.ensures in
     c.taking.ensures _ _ uniform c.threads.ensures

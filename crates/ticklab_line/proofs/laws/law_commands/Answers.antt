@@ -6,14 +6,6 @@ use Rattle.ticklab_line.proofs.laws.law_commands.Goals as goal
 pub returns : goal.returns
 unfolding clap_on_literals faults command_in
 returns c = record {
-  explore = λ rest. ((refl, refl), (refl, refl));
-  explore_limit = ((refl, refl), (refl, refl));
-  explore_merged = ((refl, refl), (refl, refl));
-  trace = ((refl, refl), (refl, refl));
-  trace_code = ((refl, refl), (refl, refl));
-  draw = ((refl, refl), (refl, refl));
-  draw_code = ((refl, refl), (refl, refl));
-  explain = ((refl, refl), (refl, refl));
-  explain_schedule = ((refl, refl), (refl, refl));
-  labels = ((refl, refl), (refl, refl));
+  explore = λ rest. ((refl, refl), refl);
+  all = refl;
 }

@@ -6,13 +6,12 @@ use Rattle.ticklab_line.proofs.laws.law_hunts.Goals as goal
 pub returns : goal.returns
 unfolding clap_on_literals faults command_in
 returns c = record {
-  plain = ((refl, refl), (refl, refl));
-  seed = ((refl, refl), (refl, refl));
-  runs = ((refl, refl), (refl, refl));
-  steps = ((refl, refl), (refl, refl));
-  uniform = ((refl, refl), (refl, refl));
-  threads_alone = (refl, refl);
-  threads_runs = refl;
+  plain = ((refl, refl), refl);
+  seed = ((refl, refl), refl);
+  runs = ((refl, refl), refl);
+  steps = ((refl, refl), refl);
+  uniform = ((refl, refl), refl);
+  threads_alone = ((refl, refl), refl);
   threads_seed = (refl, refl);
   threads_runs_given = (refl, refl);
   threads_steps = (refl, refl);

@@ -1,0 +1,12 @@
+use Rattle.std.proofs.Common.{◌∙◌}
+use Rattle.ticklab_answers.specs.Explanations.{schedule_taken}
+use Rattle.ticklab_answers.proofs.commands.explaining.explained_for.Goals as goal
+
+pub returns-in_ok-text-in-None : goal.returns-in_ok-text-in-None
+returns-in_ok-text-in-None c =
+    let spelled = rw c.in-None.is at c.in_ok-report.ensures in
+    schedule_taken spelled.0 spelled.1 (record {
+      status = c.answer.ensures.status;
+      quiet = c.answer.ensures.told;
+      out = c.answer.ensures.out ∙ c.in_ok-text-in-None.ensures.ok;
+    })

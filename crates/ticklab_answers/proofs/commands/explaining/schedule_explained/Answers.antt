@@ -1,0 +1,10 @@
+use Rattle.std.proofs.lemmas.Result.{IfOk-weaker}
+use Rattle.ticklab_answers.specs.Explanations.{ExplainsBoth, ExplainsSchedule, input_taken}
+use Rattle.ticklab_answers.proofs.commands.explaining.schedule_explained.Goals as goal
+
+pub returns-in-Ok : goal.returns-in-Ok
+returns-in-Ok c =
+    let n = c.in-Ok.n in
+    let processes = rw c.in-Ok.is at c.in_ok-n.ensures in
+    IfOk-weaker c.explained_for.result (ExplainsSchedule n c.args.name.now c.args.from.now c.args.schedule.now)
+    (ExplainsBoth c.args.name.now c.args.input.now c.args.from.now c.args.schedule.now) (λ x h. input_taken n processes h) c.explained_for.ensures

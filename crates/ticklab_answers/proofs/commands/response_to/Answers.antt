@@ -1,0 +1,35 @@
+use Rattle.std.proofs.Common.{◌≡◌, ◌∙◌, ap, refl}
+use Rattle.ticklab_line.specs.declared.asking.Line.TheVariants as line
+use Rattle.ticklab_line.specs.declared.commands.Request.TheVariants as request
+use Rattle.ticklab_answers.proofs.Responded.{failed, responded}
+use Rattle.ticklab_answers.proofs.commands.response_to.Goals as goal
+
+pub returns-in-Request-Hunt-clause-err : goal.returns-in-Request-Hunt-clause-err
+returns-in-Request-Hunt-clause-err g c =
+    failed c.args.given c.in_ok-words.words c.as_slice.result.now c.in_ok-file.field-0 (line.Request (request.Hunt c.in-Request-Hunt.file c.in-Request-Hunt.seed c.in-Request-Hunt.runs c.in-Request-Hunt.steps c.in-Request-Hunt.is_uniform))
+    c.in_ok-words.ensures.ok c.as_slice.ensures.value c.in_ok-file.ensures (c.in-Request-Hunt.is ∙ ap line.Request c.in-Request-Hunt.field-0-is)
+    (λ name. name ≡ c.in-Request-Hunt.file.now) c.hunted.result c.hunted.ensures.err (λ name same. same)
+
+pub returns-in-Request-Runs-clause-err : goal.returns-in-Request-Runs-clause-err
+returns-in-Request-Runs-clause-err g c =
+    failed c.args.given c.in_ok-words.words c.as_slice.result.now c.in_ok-file.field-0 (line.Request (request.Runs c.in-Request-Runs.file c.in-Request-Runs.times c.in-Request-Runs.turns))
+    c.in_ok-words.ensures.ok c.as_slice.ensures.value c.in_ok-file.ensures (c.in-Request-Runs.is ∙ ap line.Request c.in-Request-Runs.field-0-is)
+    (λ name. name ≡ c.in-Request-Runs.file.now) c.tallied.result c.tallied.ensures.err (λ name same. same)
+
+pub returns-in-Request-Trace-clause-ok : goal.returns-in-Request-Trace-clause-ok
+returns-in-Request-Trace-clause-ok g c =
+    responded c.args.given c.in_ok-words.words c.as_slice.result.now c.in_ok-file.field-0 (line.Request (request.Trace c.in-Request-Trace.file c.in-Request-Trace.schedule c.in-Request-Trace.is_code))
+    c.in_ok-words.ensures.ok c.as_slice.ensures.value c.in_ok-file.ensures (c.in-Request-Trace.is ∙ ap line.Request c.in-Request-Trace.field-0-is)
+    g.F.Files.Reads g.F.Files.ReadsInput g.M.Runner.Ran g.W.Watch.hears _ _ _ _ _ _ c.traced.result c.traced.ensures.ok (λ x h. (refl, refl, h))
+
+pub returns-in-Request-Draw-clause-ok : goal.returns-in-Request-Draw-clause-ok
+returns-in-Request-Draw-clause-ok g c =
+    responded c.args.given c.in_ok-words.words c.as_slice.result.now c.in_ok-file.field-0 (line.Request (request.Draw c.in-Request-Draw.file c.in-Request-Draw.schedule c.in-Request-Draw.is_code))
+    c.in_ok-words.ensures.ok c.as_slice.ensures.value c.in_ok-file.ensures (c.in-Request-Draw.is ∙ ap line.Request c.in-Request-Draw.field-0-is)
+    g.F.Files.Reads g.F.Files.ReadsInput g.M.Runner.Ran g.W.Watch.hears _ _ _ _ _ _ c.drawn.result c.drawn.ensures.ok (λ x h. (refl, refl, h))
+
+pub returns-in-Request-Labels-clause-ok : goal.returns-in-Request-Labels-clause-ok
+returns-in-Request-Labels-clause-ok g c =
+    responded c.args.given c.in_ok-words.words c.as_slice.result.now c.in_ok-file.field-0 (line.Request (request.Labels c.in-Request-Labels.processes c.in-Request-Labels.moves))
+    c.in_ok-words.ensures.ok c.as_slice.ensures.value c.in_ok-file.ensures (c.in-Request-Labels.is ∙ ap line.Request c.in-Request-Labels.field-0-is)
+    g.F.Files.Reads g.F.Files.ReadsInput g.M.Runner.Ran g.W.Watch.hears _ _ _ _ _ _ c.labelled.result c.labelled.ensures.ok (λ x h. (refl, refl, refl, h))

@@ -1,0 +1,29 @@
+use Rattle.std.proofs.Common.{string_bytes}
+use Rattle.ticklab_answers.specs.Runs.{IsTrace, IsUnrun}
+use Rattle.ticklab_answers.proofs.Ran.{code_unrun, run_by, schedule_unrun}
+use Rattle.ticklab_answers.proofs.Settled.{stopped_by}
+use Rattle.ticklab_answers.proofs.commands.tracing.steps_told.Goals as goal
+
+pub returns-in_err-steps-clause-refused : goal.returns-in_err-steps-clause-refused
+returns-in_err-steps-clause-refused c =
+    stopped_by (IsUnrun c.args.name.now c.args.input.now c.args.from.now c.args.schedule.now c.args.is_code) _
+    c.from_residual-in_err-steps.result c.from_residual-in_err-steps.ensures.1
+    (schedule_unrun c.args.name.now c.args.input.now c.args.from.now c.args.schedule.now c.args.is_code c.in_ok-program.program
+    c.in_ok-program.ensures.ok c.processes.result c.processes.ensures.count _ c.in_err-steps.ensures.refused)
+
+pub returns-in_err-text-clause-refused : goal.returns-in_err-text-clause-refused
+returns-in_err-text-clause-refused c =
+    stopped_by (IsUnrun c.args.name.now c.args.input.now c.args.from.now c.args.schedule.now c.args.is_code) _
+    c.from_residual-in_err-text.result c.from_residual-in_err-text.ensures.1
+    (code_unrun c.args.name.now c.args.input.now c.args.from.now c.args.schedule.now c.args.is_code c.in_ok-program.program
+    c.in_ok-program.ensures.ok c.processes.result c.processes.ensures.count c.in_ok-steps.steps.items c.in_ok-steps.ensures.ok _
+    c.in_err-text.ensures.refused)
+
+pub returns-clause-ok : goal.returns-clause-ok
+returns-clause-ok c = record {
+  status = c.answer.ensures.status;
+  quiet = c.answer.ensures.told;
+  out = run_by (IsTrace c.args.is_code c.args.input.now) c.args.input.now c.args.schedule.now c.in_ok-program.program c.in_ok-program.ensures.ok
+      c.processes.result c.processes.ensures.count c.in_ok-steps.steps.items c.as_slice.result.now c.in_ok-steps.ensures.ok
+      c.as_slice.ensures.value (string_bytes c.in_ok-text.text) _ c.answer.ensures.out c.in_ok-text.ensures.ok;
+}

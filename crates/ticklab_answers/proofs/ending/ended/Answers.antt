@@ -1,0 +1,18 @@
+use Rattle.std.proofs.Common.{Err, Ok}
+use Rattle.ticklab_answers.proofs.ending.ended.Goals as goal
+
+pub returns-in-Ok-told : goal.returns-in-Ok-told
+returns-in-Ok-told g c = (
+  Ok c.in-Ok-told.status,
+  record {
+    response = c.in-Ok.response;
+    answer = c.in-Ok.ensures.ok;
+    same = c.in-Ok-told.ensures.status;
+    out = c.in-Ok-told.ensures.out;
+    err = c.in-Ok-told.ensures.told;
+  },
+  c.from.ensures,
+)
+
+pub returns : goal.returns
+returns g c = (Err c.in-Err.fault, tt, c.failed-in-Err.ensures)

@@ -1,0 +1,47 @@
+-- What the whole program does: what it reads, runs and writes, and its exit status.
+use Rattle.std.specs.Prelude.{◌≡◌, ℕ, IfOk, List, [], Option, Result, Ok, Err}
+use Rattle.std.specs.Io.KnownBytes.{Appends}
+use Rattle.std.specs.declared.io.Error.{Error}
+use Rattle.ticklab_answers.specs.Answers.{GivenWords, RespondsToWords}
+use Rattle.ticklab_answers.specs.Exploring.{HearsOf}
+use Rattle.ticklab_answers.specs.Faults.{status_of}
+use Rattle.ticklab_answers.specs.Reading.{ReadsOf, ReadsInputOf}
+use Rattle.ticklab_answers.specs.Tallies.{RunsOf}
+use Rattle.ticklab_answers.specs.declared.fault.LabFault.{LabFault}
+use Rattle.ticklab_answers.specs.declared.response.Response.{Response}
+
+-- what an output holds, where that is known
+abbrev pub Known : Type 0
+Known = Option (List ℕ)
+
+-- what both outputs hold
+pub record Outputs : Type 0 where
+  pub out : Known
+  pub err : Known
+
+-- an output grows by these bytes, and is left alone where there are none
+pub record Grows (old new : Known) (bytes : List ℕ) : Type 0 where
+  pub appended : Appends old new bytes
+  pub untouched : bytes ≡ [] → new ≡ old
+
+-- the status is that of a response, of which all is written
+pub record IsShown (old new : Outputs) (P : Response → Type 0) (status : ℕ) : Type 0 where
+  pub response : Response
+  pub answer : P response
+  pub same : status ≡ response.status
+  pub out : Grows old.out new.out response.out.items
+  pub err : Grows old.err new.err response.told.items
+
+-- What the words come to, over files, a runner, a watch and outputs as they are before and after.
+abbrev pub Ends : {F M W : Type 0} → ReadsOf F → ReadsInputOf F → RunsOf M → HearsOf W → F → F → M → M → W → W → Outputs → Outputs
+    → Result GivenWords Error → ℕ → Type 0
+Ends Reads ReadsInput Ran hears files read rested ran quiet heard old new given status =
+    IsShown old new (RespondsToWords Reads ReadsInput Ran hears files read rested ran quiet heard given) status
+
+abbrev pub exit_of : Result ℕ LabFault → ℕ
+exit_of (Ok status) = status
+exit_of (Err fault) = status_of fault
+
+-- the status is that of what came of it
+abbrev pub Exits : (ℕ → Type 0) → ℕ → Type 0
+Exits P status = (outcome : Result ℕ LabFault) × IfOk outcome P × (status ≡ exit_of outcome)

@@ -1,0 +1,107 @@
+//! The answer to the words of a command line: each command reads its files and makes its answer.
+ghost use Rattle.std.specs.Prelude.{◌≡◌, IfErr, IfOk};
+ghost use Rattle.std.specs.Vec.Iter.{into_iter_items};
+ghost use Rattle.ticklab_answers.specs.Answers.{GivesWords, IsOfWordsOrFile, RespondsToWords};
+ghost use Rattle.ticklab_answers.specs.Faults.{IsOfWords};
+
+mod drawing;
+mod explaining;
+mod exploring;
+mod hunting;
+mod labels;
+mod tallying;
+mod tracing;
+
+use crate::fault::LabFault;
+use crate::host::Files;
+use crate::progress::Progress;
+use crate::response::{Response, help, no_command};
+pub use drawing::drawn;
+pub use explaining::explained;
+pub use exploring::explored;
+pub use hunting::{hunted, plan_of};
+pub use labels::labelled;
+use std::alloc::Global;
+use std::env::Args;
+use std::io;
+pub use tallying::tallied;
+use tick_merge::Runner;
+use ticklab_line::{Line, Request, asked};
+pub use tracing::{source_text, traced};
+
+/// The answer to the words of the command line. Runs of a code are made by the runner alone.
+pub fn response_to<F: Files, M: Runner, W: Progress>(
+    alloc: Global,
+    files: &mut F,
+    runner: &mut M,
+    progress: &mut W,
+    given: io::Result<Args>,
+) -> Result<Response, LabFault>
+    ensures ok { IfOk result (RespondsToWords F.Reads F.ReadsInput M.Ran W.hears files.old files.new runner.old runner.new progress.old progress.new given) }
+    ensures err { IfErr result (IsOfWordsOrFile given) }
+{
+    let words = words_of(alloc, given)?;
+    match asked(alloc, words.as_slice())? {
+        Line::Request(
+            Request::Explore {
+                file,
+                limit,
+                is_merged,
+            },
+        ) => explored(alloc, files, progress, file, limit, is_merged),
+        Line::Request(
+            Request::Hunt {
+                file,
+                seed,
+                runs,
+                steps,
+                is_uniform,
+            },
+        ) => hunted(alloc, files, file, plan_of(seed, runs, steps, is_uniform)),
+        Line::Request(Request::Runs { file, times, turns }) => {
+            tallied(alloc, files, runner, file, times, turns)
+        }
+        Line::Request(
+            Request::Trace {
+                file,
+                schedule,
+                is_code,
+            },
+        ) => traced(alloc, files, file, schedule, is_code),
+        Line::Request(
+            Request::Draw {
+                file,
+                schedule,
+                is_code,
+            },
+        ) => drawn(alloc, files, file, schedule, is_code),
+        Line::Request(Request::Explain { file, schedule }) => {
+            explained(alloc, files, file, schedule)
+        }
+        Line::Request(Request::Labels { processes, moves }) => labelled(alloc, processes, moves),
+        Line::Help(text) => Ok(help(alloc, text)),
+        Line::Refused(text) => Ok(no_command(alloc, text)),
+    }
+}
+
+fn words_of(alloc: Global, given: io::Result<Args>) -> Result<Vec<String>, LabFault>
+    ensures ok { IfOk result (GivesWords given) }
+    ensures err { IfErr result IsOfWords }
+{
+    match given {
+        Ok(given) => words_in(alloc, given),
+        Err(error) => Err(LabFault::of_words(error)),
+    }
+}
+
+fn words_in(alloc: Global, given: Args) -> Result<Vec<String>, LabFault>
+    ensures ok { IfOk result (λ words. words.items ≡ into_iter_items given) }
+    ensures err { IfErr result IsOfWords }
+{
+    let mut words = Vec::new(alloc);
+    for word in given {
+        words.reserve(1)?;
+        words.push_reserved(word);
+    }
+    Ok(words)
+}

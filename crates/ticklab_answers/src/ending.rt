@@ -1,0 +1,45 @@
+//! The whole program, from the words that the host gave to the exit status. `main` only calls it.
+ghost use Rattle.std.specs.Prelude.{◌≡◌};
+ghost use Rattle.std.specs.Process.{exit_status};
+ghost use Rattle.ticklab_answers.specs.Faults.{status_of};
+ghost use Rattle.ticklab_answers.specs.Serving.{Ends, Exits};
+
+use crate::commands::response_to;
+use crate::fault::LabFault;
+use crate::host::{Files, Host};
+use crate::progress::Progress;
+use crate::writing::told;
+use std::alloc::Global;
+use std::env::Args;
+use std::io;
+use std::io::Write;
+use std::process::ExitCode;
+use tick_merge::Runner;
+
+/// Answers the words of the command line, as `std::env::args` gave them. Why there is no answer is told on
+/// standard error. Runs of a code are made by the runner alone.
+pub fn ended<F: Files, O: Write, T: Write, M: Runner, W: Progress>(
+    alloc: Global,
+    host: &mut Host<F, O, T>,
+    runner: &mut M,
+    progress: &mut W,
+    given: io::Result<Args>,
+) -> ExitCode
+    ensures { Exits (Ends F.Reads F.ReadsInput M.Ran W.hears host.old.files host.new.files runner.old runner.new progress.old progress.new (record { out = O.contents host.old.out; err = T.contents host.old.err }) (record { out = O.contents host.new.out; err = T.contents host.new.err }) given) (exit_status result) }
+{
+    match response_to(alloc, &mut host.files, runner, progress, given) {
+        Ok(response) => match told(&mut host.out, &mut host.err, &response) {
+            Ok(status) => ExitCode::from(status),
+            Err(fault) => failed(&mut host.err, &fault),
+        },
+        Err(fault) => failed(&mut host.err, &fault),
+    }
+}
+
+// Tells why there is no answer. Where standard error can't be written the status alone tells it.
+fn failed<T: Write>(err: &mut T, fault: &LabFault) -> ExitCode
+    ensures { exit_status result ≡ status_of fault.now }
+{
+    let _written = writeln!(err, "ticklab: {fault}");
+    ExitCode::from(fault.status())
+}

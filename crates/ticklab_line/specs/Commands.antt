@@ -1,0 +1,111 @@
+-- Each command: what it takes, and what its words ask for.
+use Rattle.std.specs.Prelude.{Bool, true, false, List, [], ◌∷◌, Option, Some, None, codes, bytes_eq}
+use Rattle.std.specs.Prelude.{if◌then◌else◌, option_and_then, option_map}
+use Rattle.std.specs.Borrow.{Bor}
+use Rattle.std.specs.Option.{option_map_or}
+use Rattle.clap.specs.Walk.{Row, Text, all_of, first_of}
+use Rattle.clap.specs.Simple.{App, new_app, on_top, with_rule}
+use Rattle.clap.specs.declared.builder.value_parser.ValueParser.TheVariants.{Unsigned}
+use Rattle.ticklab_line.specs.CommandLine.{flag_rule, further_rule, number_rule, processes_rule, threads_rule, up_to, with_app, with_file, word_rule}
+use Rattle.ticklab_line.specs.Found.{for_file, for_number, for_number_or, is_set, number_of}
+use Rattle.ticklab_line.specs.declared.commands.Request.{Request}
+use Rattle.ticklab_line.specs.declared.commands.Request.TheVariants.{Explore, Hunt, Runs, Trace, Draw, Explain, Labels}
+
+abbrev pub explore_app : App
+explore_app = with_rule (with_rule (with_file (codes "explore"))
+    (number_rule (codes "limit") (up_to 4294967295)))
+    (flag_rule (codes "merged"))
+
+abbrev pub hunt_app : App
+hunt_app = with_rule (with_rule (with_rule (with_rule (with_rule (with_file (codes "hunt"))
+    (number_rule (codes "seed") (Unsigned 0 18446744073709551615)))
+    (number_rule (codes "runs") (up_to 4294967295)))
+    (number_rule (codes "steps") (up_to 10000000)))
+    (flag_rule (codes "uniform")))
+    threads_rule
+
+-- `trace` and `draw`
+abbrev pub run_app : Text → App
+run_app name = with_rule (with_rule (with_file name) (word_rule (codes "schedule"))) (flag_rule (codes "code"))
+
+abbrev pub explain_app : App
+explain_app = with_rule (with_file (codes "explain")) (further_rule (codes "schedule"))
+
+abbrev pub labels_app : App
+labels_app = with_rule (with_rule (new_app (codes "labels")) processes_rule) (word_rule (codes "moves"))
+
+-- a command has to come first
+abbrev pub command_wanted : App
+command_wanted =
+    on_top (λ s. record s { subcommand_required = true; arg_required_else_help = true }) (new_app (codes "ticklab"))
+
+abbrev pub ticklab : App
+ticklab = with_app (with_app (with_app (with_app (with_app (with_app command_wanted
+    explore_app) hunt_app) (run_app (codes "trace"))) (run_app (codes "draw"))) explain_app) labels_app
+
+abbrev pub explore_in : List Row → Option (Request Text)
+explore_in rows = for_file rows (λ file. for_number_or 32 (codes "limit") 1000000 rows (λ limit.
+    Some (Explore file limit (is_set (codes "merged") rows))))
+
+-- random schedules
+abbrev pub plan_in : List Row → Option (Request Text)
+plan_in rows = for_file rows (λ file. for_number_or 64 (codes "seed") 0 rows (λ seed.
+    for_number_or 32 (codes "runs") 10000 rows (λ runs. for_number_or 32 (codes "steps") 300 rows (λ steps.
+    Some (Hunt file seed runs steps (is_set (codes "uniform") rows))))))
+
+-- two texts after `--threads`
+abbrev pub runs_in : List Row → List Text → Option (Request Text)
+runs_in rows (times ∷ turns ∷ []) = for_file rows (λ file. option_and_then (λ times.
+    option_map (λ turns. Runs file times turns) (number_of 64 turns)) (number_of 32 times))
+runs_in rows texts = None
+
+abbrev pub hunt_in : List Row → Option (Request Text)
+hunt_in rows = option_map_or (runs_in rows) (all_of (codes "threads") rows) (plan_in rows)
+
+abbrev pub run_in : (Text → Text → Bool → Request Text) → List Row → Option (Request Text)
+run_in asking rows = for_file rows (λ file. option_map
+    (λ schedule. asking file schedule (is_set (codes "code") rows)) (first_of (codes "schedule") rows))
+
+abbrev pub explain_in : List Row → Option (Request Text)
+explain_in rows = for_file rows (λ file. Some (Explain file (first_of (codes "schedule") rows)))
+
+abbrev pub labels_in : List Row → Option (Request Text)
+labels_in rows = for_number 8 (codes "processes") rows (λ processes.
+    option_map (Labels processes) (first_of (codes "moves") rows))
+
+-- what a command of this name asks for
+abbrev pub named : Text → List Row → Option (Request Text)
+named name rows =
+    if bytes_eq name (codes "explore") then explore_in rows
+    else if bytes_eq name (codes "hunt") then hunt_in rows
+    else if bytes_eq name (codes "trace") then run_in Trace rows
+    else if bytes_eq name (codes "draw") then run_in Draw rows
+    else if bytes_eq name (codes "explain") then explain_in rows
+    else if bytes_eq name (codes "labels") then labels_in rows
+    else None
+
+abbrev pub request_in : Option (Text × List Row) → Option (Request Text)
+request_in = option_and_then (λ p. named p.0 p.1)
+
+-- texts that are lent, as the texts themselves
+abbrev pub plain_request : Request (Bor Text) → Request Text
+plain_request (Explore file limit is_merged) = Explore file.now limit is_merged
+plain_request (Hunt file seed runs steps is_uniform) = Hunt file.now seed runs steps is_uniform
+plain_request (Runs file times turns) = Runs file.now times turns
+plain_request (Trace file schedule is_code) = Trace file.now schedule.now is_code
+plain_request (Draw file schedule is_code) = Draw file.now schedule.now is_code
+plain_request (Explain file schedule) = Explain file.now (option_map (λ text. text.now) schedule)
+plain_request (Labels processes moves) = Labels processes moves.now
+
+-- words, and what they ask for: each command but `hunt`, with its options and without
+abbrev pub rows : List (List Text × Request Text)
+rows = (codes "explore" ∷ codes "a" ∷ codes "--limit" ∷ codes "7" ∷ [], Explore (codes "a") 7 false)
+    ∷ (codes "explore" ∷ codes "--merged" ∷ codes "a" ∷ [], Explore (codes "a") 1000000 true)
+    ∷ (codes "trace" ∷ codes "a" ∷ codes "0 1*3" ∷ [], Trace (codes "a") (codes "0 1*3") false)
+    ∷ (codes "trace" ∷ codes "-" ∷ codes "@b" ∷ codes "--code" ∷ [], Trace (codes "-") (codes "@b") true)
+    ∷ (codes "draw" ∷ codes "a" ∷ [] ∷ [], Draw (codes "a") [] false)
+    ∷ (codes "draw" ∷ codes "--code" ∷ codes "a" ∷ codes "0" ∷ [], Draw (codes "a") (codes "0") true)
+    ∷ (codes "explain" ∷ codes "a" ∷ [], Explain (codes "a") None)
+    ∷ (codes "explain" ∷ codes "a" ∷ codes "0" ∷ [], Explain (codes "a") (Some (codes "0")))
+    ∷ (codes "labels" ∷ codes "3" ∷ codes "0 c1" ∷ [], Labels 3 (codes "0 c1"))
+    ∷ []

@@ -1,4 +1,0 @@
-pub mod Reading
-pub mod Responses
-pub mod Faults
-pub mod Serving
