@@ -1,10 +1,10 @@
 //! Tests of the machine of step code and of one process by itself.
 //!
-//! Start with `machine` and `process`; `codes` and `answers` have what they share.
+//! Start with `machine` and `process`; `turns`, `codes` and `answers` have what they share.
 
 mod answers;
 mod codes;
 mod large;
 mod machine;
-mod outcomes;
 mod process;
+mod turns;

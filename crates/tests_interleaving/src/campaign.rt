@@ -4,6 +4,7 @@ use crate::every::{every_outcome, is_among};
 use crate::programs::{PROGRAMS, Small, code_of};
 use crate::random::Random;
 use code_machine::{Ask, Code};
+use std::alloc::{AllocError, Global};
 use std::hint::spin_loop;
 use std::sync::Wait;
 use std::sync::atomic::AtomicU64;
@@ -17,14 +18,20 @@ const SEED: u64 = 20_260_731;
 
 const RUNS: u64 = 50;
 
+// How many gates were called, of how many.
+#[derive(Drop)]
+struct Start {
+    arrived: AtomicU64,
+    polls: Polls,
+    all: u8,
+}
+
 // Waits at its first call until all gates were called, so that no process is done before another starts.
 // From then on it waits a random while before each step.
 #[derive(Drop)]
 struct Delayed<'a> {
     random: Random,
-    arrived: &'a AtomicU64,
-    polls: &'a Polls,
-    all: u64,
+    start: &'a Start,
     has_arrived: bool,
 }
 
@@ -32,8 +39,9 @@ impl Gate for Delayed<'_> {
     fn before(&mut self, _p: u8, _ask: Ask) {
         if !self.has_arrived {
             self.has_arrived = true;
-            self.arrived.fetch_add(1, SeqCst);
-            self.polls.wait(self.arrived, self.all);
+            self.start.arrived.fetch_add(1, SeqCst);
+            let all = u64::from(self.start.all);
+            self.start.polls.wait(&self.start.arrived, all);
         }
         // Mostly short, and now and then long.
         let most = 1u64 << self.random.below(12);
@@ -46,29 +54,48 @@ impl Gate for Delayed<'_> {
     }
 }
 
+fn gates(alloc: Global, start: &Start, seed: u64) -> Result<Vec<Delayed<'_>>, AllocError> {
+    let mut gates = Vec::new(alloc);
+    for p in 0..start.all {
+        gates.push(Delayed {
+            random: Random::new(seed.wrapping_mul(8).wrapping_add(u64::from(p))),
+            start,
+            has_arrived: false,
+        })?;
+    }
+    Ok(gates)
+}
+
 fn run_delayed<R: AllocGlobal + Threads + Wait>(
     rt: &R,
     code: &Code,
     small: &Small,
     seed: u64,
 ) -> Result<RunOutcome, Fail> {
-    let arrived = AtomicU64::new(0);
-    let polls = Polls::new();
-    let n = code.sizes().processes();
-    let mut gates = Vec::new(rt.alloc());
-    for p in 0..n {
-        gates.push(Delayed {
-            random: Random::new(seed.wrapping_mul(8).wrapping_add(u64::from(p))),
-            arrived: &arrived,
-            polls: &polls,
-            all: u64::from(n),
-            has_arrived: false,
-        })?;
-    }
-    if gates.len() != n as usize {
+    let start = Start {
+        arrived: AtomicU64::new(0),
+        polls: Polls::new(),
+        all: code.sizes().processes(),
+    };
+    let gates = gates(rt.alloc(), &start, seed)?;
+    if gates.len() != code.sizes().processes() as usize {
         return Err(Fail::from("a gate for each process"));
     }
     Ok(run(rt, rt.alloc(), code, gates, small.1, small.2)?)
+}
+
+fn are_among<R: AllocGlobal + Threads + Wait>(
+    rt: &R,
+    code: &Code,
+    small: &Small,
+    seed: u64,
+    all: &[RunOutcome],
+) -> Result<(), Fail> {
+    for number in 0..RUNS {
+        let outcome = run_delayed(rt, code, small, seed.wrapping_add(number))?;
+        holds(is_among(&outcome, all), small.0)?;
+    }
+    Ok(())
 }
 
 fn comes_to_one_of_all<R: AllocGlobal + Threads + Wait>(
@@ -77,13 +104,9 @@ fn comes_to_one_of_all<R: AllocGlobal + Threads + Wait>(
     seed: u64,
 ) -> Result<(), Fail> {
     let code = code_of(rt.alloc(), small)?;
-    let all = every_outcome(rt.alloc(), &code, small.1, small.2)?;
+    let all = every_outcome(rt.alloc(), &code, small)?;
     is_same(&all.len(), &small.3)?;
-    for number in 0..RUNS {
-        let outcome = run_delayed(rt, &code, small, seed.wrapping_add(number))?;
-        holds(is_among(&outcome, &all), small.0)?;
-    }
-    Ok(())
+    are_among(rt, &code, small, seed, &all)
 }
 
 #[test]

@@ -20,20 +20,29 @@ fn keeps_order<R: AllocGlobal + Threads + Wait>(
     small: &Small,
     seed: u64,
 ) -> Result<(), Fail> {
-    let (order, played) = any_order(rt.alloc(), code, small, seed)?;
-    let (found, _notes) = run_in_order(rt, code, small, &order)?;
-    is_same(&found, &played.outcome(rt.alloc())?)
+    let ordered = any_order(rt.alloc(), code, small, seed)?;
+    let (found, _history) = run_in_order(rt, code, small, &ordered.order)?;
+    is_same(&found, &ordered.outcome)
+}
+
+fn keeps_orders<R: AllocGlobal + Threads + Wait>(
+    rt: &R,
+    code: &Code,
+    small: &Small,
+    seed: u64,
+) -> Result<(), Fail> {
+    for number in 0..ORDERS {
+        keeps_order(rt, code, small, seed.wrapping_add(number))?;
+    }
+    Ok(())
 }
 
 #[test]
 fn each_order_has_its_outcome(rt: HostRuntime) -> Result<(), Fail> {
     let mut seed = SEED;
     for small in &PROGRAMS {
-        let code = code_of(rt.alloc(), small)?;
-        for _ in 0..ORDERS {
-            keeps_order(&rt, &code, small, seed)?;
-            seed = seed.wrapping_add(1);
-        }
+        keeps_orders(&rt, &code_of(rt.alloc(), small)?, small, seed)?;
+        seed = seed.wrapping_add(ORDERS);
     }
     Ok(())
 }

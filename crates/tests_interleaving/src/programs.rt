@@ -1,7 +1,7 @@
 use code_machine::Code;
 use std::alloc::Global;
 use std::test::Fail;
-use tests_shared::accepted;
+use tests_shared::Checked;
 use tick_lower::lower;
 
 /// A program, how many instructions each process may make, how many values it may give out, and how many
@@ -11,7 +11,7 @@ pub type Small = (&'static str, u64, u32, usize);
 
 /// The code of the program.
 pub fn code_of(alloc: Global, small: &Small) -> Result<Code, Fail> {
-    Ok(lower(alloc, &accepted(alloc, small.0)?)?)
+    Ok(lower(alloc, &Checked::new(alloc, small.0)?.program)?)
 }
 
 pub static PROGRAMS: [Small; 15] = [

@@ -1,10 +1,11 @@
 //! The steps of runs on threads are noted, and merged to a schedule of the code. Under this schedule the code
-//! has the same outcome, to the byte. Its report is that of the program under the schedule that `project`
+//! has the same outcome. Its report is that of the program under the schedule that `project`
 //! makes.
 
-ghost use Rattle.std.specs.Prelude.{◌≡◌, length};
+ghost use Rattle.std.specs.Prelude.{◌≡◌, ◌<◌, length, All};
+ghost use Rattle.tick_kinds.specs.Resolution.{resolved};
+ghost use Rattle.tick_lower.specs.Lowered.{lowered, lowered_sizes};
 
-use crate::history::history_of;
 use crate::in_order::run_in_order;
 use crate::orders::any_order;
 use crate::played::Played;
@@ -14,11 +15,11 @@ use std::alloc::Global;
 use std::sync::Wait;
 use std::test::Fail;
 use std::thread::Threads;
-use tests_shared::{accepted, is_same};
+use tests_shared::{Checked, is_same};
 use tick_kinds::Program;
 use tick_lower::lower;
 use tick_merge::{Shared, merge};
-use tick_play::{outcome_text, play_code, play_source, read_schedule, write_schedule};
+use tick_play::{play_code, play_source, read_schedule, write_schedule};
 use tick_run::RunOutcome;
 use tick_sim::project;
 
@@ -27,67 +28,73 @@ const SEED: u64 = 20_261_123;
 const ORDERS: u64 = 20;
 
 // The schedule of the code, as a text.
-fn merged(alloc: Global, code: &Code, history: &[Shared], played: &Played) -> Result<String, Fail> {
-    let turns = played.turns_made(alloc)?;
+fn merged(alloc: Global, code: &Code, history: &[Shared], turns: &[u64]) -> Result<String, Fail> {
     if turns.len() != usize::from(code.sizes().processes()) {
         return Err(Fail::from("a number of instructions for each process"));
     }
-    let schedule = merge(alloc, code, history, &turns)?;
+    let schedule = merge(alloc, code, history, turns)?;
     Ok(write_schedule(alloc, &schedule)?)
 }
 
-// The machine comes to the outcome along the schedule.
-fn has_outcome(
-    alloc: Global,
+// What a run on threads comes to, and its schedule.
+fn recorded_run<R: AllocGlobal + Threads + Wait>(
+    rt: &R,
     code: &Code,
     small: &Small,
-    steps: &[u8],
-    outcome: &RunOutcome,
-) -> Result<(), Fail> {
-    let played = Played::along(alloc, code, small.1, small.2, steps)?;
-    let by_code = outcome_text(alloc, &played.outcome(alloc)?)?;
-    is_same(&outcome_text(alloc, outcome)?, &by_code)
+    seed: u64,
+) -> Result<(RunOutcome, String), Fail> {
+    let ordered = any_order(rt.alloc(), code, small, seed)?;
+    let (outcome, history) = run_in_order(rt, code, small, &ordered.order)?;
+    let schedule = merged(rt.alloc(), code, &history, &ordered.turns)?;
+    Ok((outcome, schedule))
 }
 
-fn is_run_of_all(
-    alloc: Global,
-    program: &Program,
-    small: &Small,
-    schedule: &str,
-    outcome: &RunOutcome,
-) -> Result<(), Fail> {
-    let code = lower(alloc, program)?;
-    let steps = read_schedule(alloc, schedule, program.processes())?;
-    has_outcome(alloc, &code, small, &steps, outcome)?;
-    let kept = project(alloc, program, &code, &steps)?;
-    let of_code = play_code(alloc, &code, &steps)?;
+// The code's report along the schedule is the program's along the projected one.
+fn has_report(alloc: Global, program: &Program, code: &Code, steps: &[u8]) -> Result<(), Fail>
+    requires code { code.now ≡ record { sizes = lowered_sizes (resolved program.now); instructions = lowered (resolved program.now) } }
+    requires processes { All (λ p. p < (resolved program.now).processes) steps.now }
+{
+    let kept = project(alloc, program, code, steps)?;
+    let of_code = play_code(alloc, code, steps)?;
     is_same(&of_code, &play_source(alloc, program, &kept)?)
 }
 
 fn is_one_run<R: AllocGlobal + Threads + Wait>(
     rt: &R,
     program: &Program,
+    code: &Code,
+    small: &Small,
+    seed: u64,
+) -> Result<(), Fail>
+    requires { code.now ≡ record { sizes = lowered_sizes (resolved program.now); instructions = lowered (resolved program.now) } }
+{
+    let alloc = rt.alloc();
+    let (outcome, schedule) = recorded_run(rt, code, small, seed)?;
+    let steps = read_schedule(alloc, &schedule, program.processes())?;
+    is_same(&outcome, &Played::outcome_of(alloc, code, small, &steps)?)?;
+    has_report(alloc, program, code, &steps)
+}
+
+fn are_runs<R: AllocGlobal + Threads + Wait>(
+    rt: &R,
+    program: &Program,
     small: &Small,
     seed: u64,
 ) -> Result<(), Fail> {
-    let alloc = rt.alloc();
-    let code = lower(alloc, program)?;
-    let (order, played) = any_order(alloc, &code, small, seed)?;
-    let (outcome, notes) = run_in_order(rt, &code, small, &order)?;
-    let history = history_of(alloc, &order, &notes)?;
-    let schedule = merged(alloc, &code, &history, &played)?;
-    is_run_of_all(alloc, program, small, &schedule, &outcome)
+    let code = lower(rt.alloc(), program)?;
+    for number in 0..ORDERS {
+        is_one_run(rt, program, &code, small, seed.wrapping_add(number))?;
+    }
+    Ok(())
 }
 
 #[test]
 fn each_recorded_run_is_one_of_code_and_program(rt: HostRuntime) -> Result<(), Fail> {
     let mut seed = SEED;
     for small in &PROGRAMS {
-        let program = accepted(rt.alloc(), small.0)?;
-        for _ in 0..ORDERS {
-            is_one_run(&rt, &program, small, seed)?;
-            seed = seed.wrapping_add(1);
-        }
+        let checked = Checked::new(rt.alloc(), small.0)?;
+        are_runs(&rt, &checked.program, small, seed)?;
+        seed = seed.wrapping_add(ORDERS);
     }
     Ok(())
 }

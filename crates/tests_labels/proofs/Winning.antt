@@ -31,6 +31,13 @@ wins_more old new p act holds step =
     ap wins (extends_own old.table.n old.table.rows old.held old.seen new.seen (by p act) holds step.extends)
     ∙ wins-append (mine p old.seen) (by p act ∷ [])
 
+-- so do two steps
+pub wins_twice : (old middle new : PassView) (p : ℕ) (first second : SharedAct) → Holds old.held p → Appends old (by p first) middle
+    → Appends middle (by p second) new → wins (mine p new.seen) ≡ wins (mine p old.seen) + wins_by first 0 + wins_by second 0
+wins_twice old middle new p first second holds one two =
+    let held : Holds middle.held p = subst (λ h. Holds h p) (sym one.held) holds in
+    wins_more middle new p second held two ∙ ap (λ k. k + wins_by second 0) (wins_more old middle p first holds one)
+
 -- what each thread came back with
 abbrev pub AllRan : TableView → ℕ → List Tried → Type 0
 AllRan t n tried = (p : ℕ) (d : Tried) → p < n → ((get_or tried p d).pass.table ≡ t) × Ran (get_or tried p d).pass p (get_or tried p d).won

@@ -9,7 +9,7 @@ mod threads;
 mod together;
 mod working;
 
-pub use lock::{counts, enters, four_count};
+pub use lock::{counts, enters};
 pub use queue::first_come;
 pub use threads::{Work, all_work, holds_all, meet_in_pairs};
 pub use working::{Worked, rounds, stamps, tries};

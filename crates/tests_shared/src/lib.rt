@@ -12,7 +12,7 @@ mod texts;
 mod threads;
 
 pub use polls::Polls;
-pub use programs::accepted;
+pub use programs::{Checked, Refused, accepted};
 pub use rows::{holds, is_same};
 pub use texts::repeated;
 pub use threads::on_threads;

@@ -5,6 +5,7 @@ mod alone;
 mod before_steps;
 mod coming_back;
 mod gates;
+mod held;
 mod overlap;
 mod refused;
 mod running;

@@ -1,21 +1,4 @@
-use code_machine::{Code, Instr, Sizes, verify};
-use std::alloc::Global;
-use std::test::Fail;
-
-/// The code of these instructions and numbers of processes, variables, scans and register rows.
-pub fn code_of(
-    alloc: Global,
-    sizes: (u8, u8, u8, u8),
-    instructions: &[Instr],
-) -> Result<Code, Fail> {
-    let Some(sizes) = Sizes::new(sizes.0, sizes.1, sizes.2, sizes.3) else {
-        return Err(Fail::new("no sizes of a code"));
-    };
-    match verify(alloc, Vec::from_slice(alloc, instructions)?, sizes) {
-        Ok(code) => Ok(code),
-        Err((_instructions, fault)) => Err(fault)?,
-    }
-}
+use code_machine::Instr;
 
 pub const GIVES_SEVEN: [Instr; 3] = [Instr::Push(7), Instr::Out, Instr::Halt];
 

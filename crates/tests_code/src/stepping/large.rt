@@ -1,23 +1,25 @@
 //! The longest code, whose stack is as high as half of it.
 ghost use Rattle.code_machine.specs.Process.{IsOf};
 
-use crate::stepping::answers::{machine_of, process_of, step_often};
-use crate::stepping::codes::code_of;
+use crate::codes::code_of;
+use crate::stepping::answers::process_of;
+use crate::stepping::turns::{Run, Turn, comes_along};
 use code_machine::{Act, Advance, Code, Event, Instr, Op, Proc, Status};
 use std::alloc::{AllocError, Global};
 use std::test::Fail;
-use tests_shared::{holds, is_same};
+use tests_shared::is_same;
 
-const DID: [Event; 2] = [
-    Event {
-        process: 0,
-        act: Act::Out(32767),
-    },
-    Event {
-        process: 0,
-        act: Act::End,
-    },
-];
+const GAVE: Event = Event {
+    process: 0,
+    act: Act::Out(32767),
+};
+
+const ENDED: Event = Event {
+    process: 0,
+    act: Act::End,
+};
+
+const DID: [Event; 2] = [GAVE, ENDED];
 
 // Adds 1 so many times, once all of them stand on the stack: 65,535 instructions.
 fn adding(alloc: Global) -> Result<Vec<Instr>, AllocError> {
@@ -33,18 +35,16 @@ fn adding(alloc: Global) -> Result<Vec<Instr>, AllocError> {
     Ok(instructions)
 }
 
+static ENDS: Run<'static> = Run {
+    numbers: (1, 0, 0, 0),
+    turns: &[(0, Turn::Steps(65535), (2, 65534, Status::Ended))],
+    events: &DID,
+    word: 0,
+};
+
 #[test]
 fn steps(rt: HostRuntime) -> Result<(), Fail> {
-    let code = code_of(rt.alloc(), (1, 0, 0, 0), &adding(rt.alloc())?)?;
-    is_same(&code.sizes().processes(), &1)?;
-    is_same(&code.len(), &65535)?;
-    let mut machine = machine_of(rt.alloc(), &code)?;
-    step_often(&mut machine, 0, 65535)?;
-    holds(machine.events() == DID.as_slice(), "the events")?;
-    is_same(
-        &(machine.place(0), machine.status(0)),
-        &(65534, Status::Ended),
-    )
+    comes_along(rt.alloc(), &adding(rt.alloc())?, &ENDS)
 }
 
 // How many of so many steps are silent.
@@ -61,22 +61,27 @@ fn silent_steps(process: &mut Proc, code: &Code, count: u32) -> u32
     silent
 }
 
+const LAST: [Advance; 3] = [Advance::Did(GAVE), Advance::Did(ENDED), Advance::Stopped];
+
+fn gives_out(process: &mut Proc, code: &Code) -> Result<(), Fail>
+    requires { IsOf code.now process.old }
+{
+    let silent = silent_steps(process, code, 65533);
+    let is_next = process.will_out(code);
+    let last = [
+        process.advance(code),
+        process.advance(code),
+        process.advance(code),
+    ];
+    is_same(
+        &(code.height(), silent, is_next, last),
+        &(32767, 65533, true, LAST),
+    )
+}
+
 #[test]
 fn advances(rt: HostRuntime) -> Result<(), Fail> {
-    let code = code_of(rt.alloc(), (1, 0, 0, 0), &adding(rt.alloc())?)?;
-    is_same(&code.sizes().processes(), &1)?;
-    is_same(&code.height(), &32767)?;
-    let mut process = process_of(rt.alloc(), &code, 0)?;
-    let silent = silent_steps(&mut process, &code, 65533);
-    let is_next = process.will_out(&code);
-    let found = [
-        process.advance(&code),
-        process.advance(&code),
-        process.advance(&code),
-    ];
-    is_same(&(silent, is_next), &(65533, true))?;
-    is_same(
-        &found,
-        &[Advance::Did(DID[0]), Advance::Did(DID[1]), Advance::Stopped],
-    )
+    let instructions = adding(rt.alloc())?;
+    let code = code_of(rt.alloc(), (1, 0, 0, 0), &instructions)?;
+    gives_out(&mut process_of(rt.alloc(), &code, 0)?, &code)
 }

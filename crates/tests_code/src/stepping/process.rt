@@ -1,97 +1,25 @@
+ghost use Rattle.std.specs.Prelude.{◌<◌};
 ghost use Rattle.code_machine.specs.Process.{IsOf};
 
+use crate::codes::{Numbers, code_of};
 use crate::stepping::answers::process_of;
-use crate::stepping::codes::{GIVES_SEVEN, code_of};
+use crate::stepping::codes::GIVES_SEVEN;
 use code_machine::{Act, Advance, Ask, Code, Event, Instr, Proc, Reply};
+use std::alloc::Global;
 use std::test::Fail;
 use tests_shared::is_same;
 
-const PUTS_ITS_NUMBER: [Instr; 3] = [Instr::Me, Instr::Put(0), Instr::Halt];
-
-// Whether an output is next, and what the next step comes to.
-fn advanced(process: &mut Proc, code: &Code) -> (bool, Advance)
-    requires { IsOf code.now process.old }
-    ensures { IsOf code.now process.new }
-{
-    (process.will_out(code), process.advance(code))
+// What a process is asked for: to go on, to take the answer that a value is written, or to make the
+// instruction that it tells.
+#[derive(Clone, Copy)]
+enum Call {
+    Advance,
+    Answer,
+    Make,
 }
 
-const SEVEN: [(bool, Advance); 4] = [
-    (false, Advance::Silent),
-    (
-        true,
-        Advance::Did(Event {
-            process: 0,
-            act: Act::Out(7),
-        }),
-    ),
-    (
-        false,
-        Advance::Did(Event {
-            process: 0,
-            act: Act::End,
-        }),
-    ),
-    (false, Advance::Stopped),
-];
-
-#[test]
-fn gives_seven(rt: HostRuntime) -> Result<(), Fail> {
-    let code = code_of(rt.alloc(), (1, 0, 0, 0), &GIVES_SEVEN)?;
-    is_same(&code.sizes().processes(), &1)?;
-    let mut process = process_of(rt.alloc(), &code, 0)?;
-    let found = [
-        advanced(&mut process, &code),
-        advanced(&mut process, &code),
-        advanced(&mut process, &code),
-        advanced(&mut process, &code),
-    ];
-    is_same(&found, &SEVEN)
-}
-
-// Process 2 asks for its write until it is answered, once.
-const ASKED: [Advance; 3] = [
-    Advance::Silent,
-    Advance::Ask(Ask::Put(0, 2)),
-    Advance::Ask(Ask::Put(0, 2)),
-];
-
-const ANSWERED: [Option<Event>; 2] = [
-    Some(Event {
-        process: 2,
-        act: Act::Put(0, 2),
-    }),
-    None,
-];
-
-#[test]
-fn asks_until_it_is_answered(rt: HostRuntime) -> Result<(), Fail> {
-    let code = code_of(rt.alloc(), (3, 0, 0, 1), &PUTS_ITS_NUMBER)?;
-    is_same(&code.sizes().processes(), &3)?;
-    let mut process = process_of(rt.alloc(), &code, 2)?;
-    let asked = [
-        process.advance(&code),
-        process.advance(&code),
-        process.advance(&code),
-    ];
-    let answered = [
-        process.answer(&code, Reply::Written),
-        process.answer(&code, Reply::Written),
-    ];
-    is_same(&asked, &ASKED)?;
-    is_same(&answered, &ANSWERED)
-}
-
-// What process 2 makes of `PUTS_ITS_NUMBER`, one instruction after the other.
-const MADE: [Option<Advance>; 4] = [
-    Some(Advance::Silent),
-    Some(Advance::Ask(Ask::Put(0, 2))),
-    Some(Advance::Did(Event {
-        process: 2,
-        act: Act::End,
-    })),
-    None,
-];
+// The next instruction, whether it is an output that comes now, and what the call comes to.
+type Told = (Option<Instr>, bool, Option<Advance>);
 
 // Makes the next instruction, and finishes it where it asked for a write.
 fn made(process: &mut Proc, code: &Code) -> Option<Advance>
@@ -106,18 +34,147 @@ fn made(process: &mut Proc, code: &Code) -> Option<Advance>
     Some(advance)
 }
 
+fn called(process: &mut Proc, code: &Code, call: Call) -> Option<Advance>
+    requires { IsOf code.now process.old }
+    ensures { IsOf code.now process.new }
+{
+    match call {
+        Call::Advance => Some(process.advance(code)),
+        Call::Answer => match process.answer(code, Reply::Written) {
+            Some(event) => Some(Advance::Did(event)),
+            None => None,
+        },
+        Call::Make => made(process, code),
+    }
+}
+
+fn goes(process: &mut Proc, code: &Code, rows: &[(Call, Told)]) -> Result<(), Fail>
+    requires { IsOf code.now process.old }
+{
+    for (call, told) in rows {
+        let (next, is_output) = (process.instruction(code), process.will_out(code));
+        is_same(&(next, is_output, called(process, code, *call)), told)?;
+    }
+    Ok(())
+}
+
+fn comes_along(
+    alloc: Global,
+    numbers: Numbers,
+    instructions: &[Instr],
+    p: u8,
+    rows: &[(Call, Told)],
+) -> Result<(), Fail>
+    requires { p < numbers.0 }
+{
+    let code = code_of(alloc, numbers, instructions)?;
+    goes(&mut process_of(alloc, &code, p)?, &code, rows)
+}
+
+const SEVEN: [(Call, Told); 4] = [
+    (
+        Call::Advance,
+        (Some(Instr::Push(7)), false, Some(Advance::Silent)),
+    ),
+    (
+        Call::Advance,
+        (
+            Some(Instr::Out),
+            true,
+            Some(Advance::Did(Event {
+                process: 0,
+                act: Act::Out(7),
+            })),
+        ),
+    ),
+    (
+        Call::Advance,
+        (
+            Some(Instr::Halt),
+            false,
+            Some(Advance::Did(Event {
+                process: 0,
+                act: Act::End,
+            })),
+        ),
+    ),
+    (Call::Advance, (None, false, Some(Advance::Stopped))),
+];
+
+#[test]
+fn gives_seven(rt: HostRuntime) -> Result<(), Fail> {
+    comes_along(rt.alloc(), (1, 0, 0, 0), &GIVES_SEVEN, 0, &SEVEN)
+}
+
+const PUTS_ITS_NUMBER: [Instr; 3] = [Instr::Me, Instr::Put(0), Instr::Halt];
+
+// Process 2 asks for its write until it is answered, once.
+const ASKED: [(Call, Told); 5] = [
+    (
+        Call::Advance,
+        (Some(Instr::Me), false, Some(Advance::Silent)),
+    ),
+    (
+        Call::Advance,
+        (
+            Some(Instr::Put(0)),
+            false,
+            Some(Advance::Ask(Ask::Put(0, 2))),
+        ),
+    ),
+    (
+        Call::Advance,
+        (
+            Some(Instr::Put(0)),
+            false,
+            Some(Advance::Ask(Ask::Put(0, 2))),
+        ),
+    ),
+    (
+        Call::Answer,
+        (
+            Some(Instr::Put(0)),
+            false,
+            Some(Advance::Did(Event {
+                process: 2,
+                act: Act::Put(0, 2),
+            })),
+        ),
+    ),
+    (Call::Answer, (Some(Instr::Halt), false, None)),
+];
+
+#[test]
+fn asks_until_it_is_answered(rt: HostRuntime) -> Result<(), Fail> {
+    comes_along(rt.alloc(), (3, 0, 0, 1), &PUTS_ITS_NUMBER, 2, &ASKED)
+}
+
+// What process 2 makes of `PUTS_ITS_NUMBER`, one instruction after the other.
+const MADE: [(Call, Told); 4] = [
+    (Call::Make, (Some(Instr::Me), false, Some(Advance::Silent))),
+    (
+        Call::Make,
+        (
+            Some(Instr::Put(0)),
+            false,
+            Some(Advance::Ask(Ask::Put(0, 2))),
+        ),
+    ),
+    (
+        Call::Make,
+        (
+            Some(Instr::Halt),
+            false,
+            Some(Advance::Did(Event {
+                process: 2,
+                act: Act::End,
+            })),
+        ),
+    ),
+    (Call::Make, (None, false, None)),
+];
+
 #[test]
 fn makes_the_instruction_that_it_tells(rt: HostRuntime) -> Result<(), Fail> {
-    let code = code_of(rt.alloc(), (3, 0, 0, 1), &PUTS_ITS_NUMBER)?;
-    is_same(&code.sizes().processes(), &3)?;
-    let mut process = process_of(rt.alloc(), &code, 2)?;
-    let first = process.instruction(&code);
-    let found = [
-        made(&mut process, &code),
-        made(&mut process, &code),
-        made(&mut process, &code),
-        made(&mut process, &code),
-    ];
-    is_same(&first, &Some(Instr::Me))?;
-    is_same(&found, &MADE)
+    comes_along(rt.alloc(), (3, 0, 0, 1), &PUTS_ITS_NUMBER, 2, &MADE)
 }

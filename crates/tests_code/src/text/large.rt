@@ -1,7 +1,9 @@
-use crate::text::answers::{read, sizes_of, verified, written};
+use crate::codes::{sizes_of, verified};
+use crate::text::answers::read_and_written;
 use code_core::CodeFault::{BadJump, BadLine, FallsOff, TooLong};
 use code_core::Instr::{Halt, Jump, Push};
-use code_core::{CodeFault, Instr};
+use code_core::{CodeFault, Instr, Sizes};
+use std::alloc::{AllocError, Global};
 use std::test::Fail;
 use tests_shared::{holds, is_same, repeated};
 
@@ -17,26 +19,37 @@ static REPEATED: [(Instr, usize, Result<u16, CodeFault>); 6] = [
     (Jump(65535), 65535, Err(BadJump(0))),
 ];
 
+// What is answered of so many of an instruction, and how many of them are in the code or come back.
+fn answered(
+    alloc: Global,
+    instruction: Instr,
+    count: usize,
+    sizes: Sizes,
+) -> Result<(usize, Result<u16, CodeFault>), AllocError> {
+    let given = vec![in alloc; instruction; count]?;
+    match verified(alloc, given, sizes) {
+        Ok(code) => Ok((code.len(), Ok(code.height()))),
+        Err((back, fault)) => Ok((back.len(), Err(fault))),
+    }
+}
+
 #[test]
 fn longest_codes(rt: HostRuntime) -> Result<(), Fail> {
     let sizes = sizes_of((1, 0, 0, 0))?;
     for &(instruction, count, answer) in &REPEATED {
-        let given = vec![in rt.alloc(); instruction; count]?;
-        let (length, found) = match verified(rt.alloc(), given, sizes) {
-            Ok(code) => (code.len(), Ok(code.height())),
-            Err((back, fault)) => (back.len(), Err(fault)),
-        };
-        holds((length, found) == (count, answer), (count, instruction))?;
+        let found = answered(rt.alloc(), instruction, count, sizes)?;
+        holds(found == (count, answer), (count, instruction))?;
     }
     Ok(())
 }
 
-// A line, how often it stands in the text, what follows, and the length of the code or its fault.
-static TEXTS: [(&str, usize, &str, Result<usize, CodeFault>); 6] = [
-    ("Push 4294967295\n", 62000, "Halt\n", Ok(62001)),
+// A line, how often it stands in the text, and what follows. Then the length of the code, which is written as
+// this text, or its fault.
+static TEXTS: [(&str, usize, &str, Result<(usize, bool), CodeFault>); 6] = [
+    ("Push 4294967295\n", 62000, "Halt\n", Ok((62001, true))),
     ("Push 4294967295\n", 62000, "Halt", Err(BadLine(62002))),
     ("Push 4294967295\n", 62000, "", Err(FallsOff(61999))),
-    ("Halt\n", 65534, "Halt\n", Ok(65535)),
+    ("Halt\n", 65534, "Halt\n", Ok((65535, true))),
     ("Halt\n", 65535, "Halt\n", Err(TooLong)),
     ("Halt\n", 65536, "halt\n", Err(BadLine(65538))),
 ];
@@ -45,14 +58,7 @@ static TEXTS: [(&str, usize, &str, Result<usize, CodeFault>); 6] = [
 fn longest_texts(rt: HostRuntime) -> Result<(), Fail> {
     for &(line, count, back, answer) in &TEXTS {
         let text = repeated(rt.alloc(), SIZES, line, count, back)?;
-        match read(rt.alloc(), text.as_str()) {
-            Ok(code) => {
-                is_same(&Ok(code.len()), &answer)?;
-                let is_text = written(rt.alloc(), &code)?.as_str() == text.as_str();
-                holds(is_text, (line, count))?;
-            }
-            Err(fault) => is_same(&Err(fault), &answer)?,
-        }
+        is_same(&read_and_written(rt.alloc(), text.as_str()), &answer)?;
     }
     Ok(())
 }

@@ -1,4 +1,5 @@
-use crate::text::answers::{read, told, written};
+use crate::codes::keeps;
+use crate::text::answers::{read, read_and_written};
 use base::Op;
 use code_core::CodeFault::BadLine;
 use code_core::Instr;
@@ -8,7 +9,7 @@ use code_core::Instr::{
 };
 use std::str;
 use std::test::Fail;
-use tests_shared::{holds, is_same};
+use tests_shared::holds;
 
 // Each instruction and each operator, with numbers of one digit and more.
 const EVERY: &str = "tickcode 2 6 64 16 8
@@ -109,21 +110,14 @@ static TEXTS: [&str; 5] = [
 
 #[test]
 fn each_instruction(rt: HostRuntime) -> Result<(), Fail> {
-    let code = read(rt.alloc(), EVERY)?;
-    is_same(&(code.len(), code.height()), &(41, 10))?;
-    for (place, instruction) in INSTRUCTIONS.iter().enumerate() {
-        if place < code.len() {
-            is_same(&(place, code.instr(place as u16)), &(place, *instruction))?;
-        }
-    }
-    is_same(&told(code.sizes()), &[6, 64, 16, 8])
+    keeps(&read(rt.alloc(), EVERY)?, &INSTRUCTIONS, 10)
 }
 
 #[test]
 fn writes_what_was_read(rt: HostRuntime) -> Result<(), Fail> {
     for &text in &TEXTS {
-        let code = read(rt.alloc(), text)?;
-        is_same(&written(rt.alloc(), &code)?.as_str(), &text)?;
+        let (_length, is_text) = read_and_written(rt.alloc(), text)?;
+        holds(is_text, text)?;
     }
     Ok(())
 }

@@ -1,4 +1,4 @@
-use crate::text::answers::{sizes_of, told, verified};
+use crate::codes::{GREATEST, code_of, keeps, sizes_of, told, verified};
 use base::Op;
 use code_core::CodeFault::{
     BadJump, BadSlot, BadStamp, Empty, FallsOff, HeightsDiffer, StackShort,
@@ -8,6 +8,7 @@ use code_core::Instr::{
     Push, Put, Scan, Store,
 };
 use code_core::{CodeFault, Instr, Sizes};
+use std::alloc::Global;
 use std::test::Fail;
 use tests_shared::{holds, is_same};
 
@@ -150,39 +151,36 @@ fn sizes(rt: HostRuntime) -> Result<(), Fail> {
         let found = Sizes::new(processes, variables, scans, rows).is_some();
         holds(found == can, (processes, variables, scans, rows))?;
     }
-    is_same(&told(sizes_of((2, 3, 4, 5))?), &[2, 3, 4, 5])
+    is_same(&told(sizes_of((2, 3, 4, 5))?), &(2, 3, 4, 5))
 }
 
-// The instructions come back with their first fault.
+// The instructions come back with this fault.
+fn is_refused(
+    alloc: Global,
+    instructions: &[Instr],
+    sizes: Sizes,
+    fault: CodeFault,
+) -> Result<(), Fail> {
+    match verified(alloc, Vec::from_slice(alloc, instructions)?, sizes) {
+        Ok(_code) => Err(Fail::new("accepted")),
+        Err((back, found)) => is_same(&(back.as_slice(), found), &(instructions, fault)),
+    }
+}
+
 #[test]
 fn refuses(rt: HostRuntime) -> Result<(), Fail> {
-    let sizes = sizes_of((6, 64, 16, 8))?;
+    let sizes = sizes_of(GREATEST)?;
     for &(instructions, fault) in &REFUSED {
-        let given = Vec::from_slice(rt.alloc(), instructions)?;
-        let Err((back, found)) = verified(rt.alloc(), given, sizes) else {
-            return Err(Fail::new("accepted"));
-        };
-        is_same(&(back.as_slice(), found), &(instructions, fault))?;
+        is_refused(rt.alloc(), instructions, sizes, fault)?;
     }
     Ok(())
 }
 
 #[test]
 fn accepts(rt: HostRuntime) -> Result<(), Fail> {
-    let sizes = sizes_of((6, 64, 16, 8))?;
     for &(instructions, height) in &ACCEPTED {
-        let given = Vec::from_slice(rt.alloc(), instructions)?;
-        let Ok(code) = verified(rt.alloc(), given, sizes) else {
-            return Err(Fail::new("refused"));
-        };
-        is_same(
-            &(code.len(), code.height(), code.sizes()),
-            &(instructions.len(), height, sizes),
-        )?;
-        for place in 0..code.len() as u16 {
-            let given = instructions.get(usize::from(place));
-            is_same(&Some(&code.instr(place)), &given)?;
-        }
+        let code = code_of(rt.alloc(), GREATEST, instructions)?;
+        keeps(&code, instructions, height)?;
     }
     Ok(())
 }

@@ -1,10 +1,11 @@
 //! The words that keep a code, and the instructions that they stand for.
-use crate::text::answers::{sizes_of, verified};
+use crate::codes::{GREATEST, code_of};
 use base::Op;
-use code_core::Instr;
 use code_core::Instr::{
     Bin, Copy, Get, Halt, Jump, JumpZero, Load, Me, Older, Out, Push, Put, Scan, Store,
 };
+use code_core::{Code, Instr};
+use std::alloc::{AllocError, Global};
 use std::test::Fail;
 use tests_shared::is_same;
 
@@ -74,31 +75,29 @@ static KEPT: [(&[Instr], &[u32], &[u32]); 2] = [
 
 #[test]
 fn instructions_in_words(rt: HostRuntime) -> Result<(), Fail> {
-    let sizes = sizes_of((6, 64, 16, 8))?;
     for &(instructions, words, constants) in &KEPT {
-        let given = Vec::from_slice(rt.alloc(), instructions)?;
-        let Ok(code) = verified(rt.alloc(), given, sizes) else {
-            return Err(Fail::new("refused"));
-        };
+        let code = code_of(rt.alloc(), GREATEST, instructions)?;
         is_same(&(code.words(), code.constants()), &(words, constants))?;
     }
     Ok(())
 }
 
-// More constants than a byte can count, each above sixteen bits but the first.
-#[test]
-fn many_constants(rt: HostRuntime) -> Result<(), Fail> {
-    let mut given = Vec::new(rt.alloc());
+// Gives out more constants than a byte can count, each above sixteen bits but the first.
+fn many(alloc: Global) -> Result<Vec<Instr>, AllocError> {
+    let mut given = Vec::new(alloc);
     for value in 0..300u32 {
         given.push(Push(value * 65537))?;
         given.push(Out)?;
     }
     given.push(Halt)?;
-    let Ok(code) = verified(rt.alloc(), given, sizes_of((1, 0, 0, 0))?) else {
-        return Err(Fail::new("refused"));
-    };
-    is_same(&code.constants().len(), &300)?;
-    is_same(&code.words().get(598), &Some(&299))?;
+    Ok(given)
+}
+
+fn has_many(code: &Code) -> Result<(), Fail> {
+    is_same(
+        &(code.constants().len(), code.words().get(598)),
+        &(300, Some(&299)),
+    )?;
     for value in 0..300u16 {
         if usize::from(value * 2) < code.len() {
             let pushed = u32::from(value) * 65537;
@@ -106,4 +105,10 @@ fn many_constants(rt: HostRuntime) -> Result<(), Fail> {
         }
     }
     Ok(())
+}
+
+#[test]
+fn many_constants(rt: HostRuntime) -> Result<(), Fail> {
+    let given = many(rt.alloc())?;
+    has_many(&code_of(rt.alloc(), (1, 0, 0, 0), &given)?)
 }

@@ -2,12 +2,11 @@ ghost use Rattle.std.specs.Prelude.{◌≡◌, ◌<◌, length};
 ghost use Rattle.stamp_table.specs.Passes.{Holds};
 
 use stamp_calls::{Caller, Order, clear, scan, stamp};
-use stamp_table::{OpenFault, Pass, StampTable, open};
-use std::alloc::Global;
+use stamp_table::{Pass, StampTable};
 use std::sync::Wait;
 use std::sync::atomic::AtomicU64;
 use std::sync::atomic::Ordering::SeqCst;
-use std::thread::{Threads, join, yield_now};
+use std::thread::yield_now;
 
 // Whether no process older than `p` holds a ticket.
 fn is_first(order: &Order, p: u8) -> bool
@@ -57,49 +56,4 @@ pub fn counts<R: Wait>(
         counter.store(count.wrapping_add(1), SeqCst);
         clear(table, &mut caller);
     }
-}
-
-// Two threads, each with a pass of its own.
-fn both<R: Threads + Wait + Sync>(
-    rt: &R,
-    table: &StampTable,
-    first: Pass,
-    p: u8,
-    second: Pass,
-    q: u8,
-    times: u32,
-    counter: &AtomicU64,
-)
-    requires first { (first.table ≡ table.now) × Holds first.held p }
-    requires second { (second.table ≡ table.now) × Holds second.held q }
-{
-    join(
-        rt,
-        || counts(rt, table, first, p, times, counter),
-        || counts(rt, table, second, q, times, counter),
-    );
-}
-
-/// Four threads count so many times each: what they came to.
-pub fn four_count<R: Threads + Wait + Sync>(
-    rt: &R,
-    alloc: Global,
-    times: u32,
-) -> Result<u64, OpenFault> {
-    let (table, all) = open(alloc, 4, 0)?;
-    let (all, three) = table.split(all, 3);
-    let (all, two) = table.split(all, 2);
-    let (zero, one) = table.split(all, 1);
-    let counter = AtomicU64::new(0);
-    let (shared, counted) = (&table, &counter);
-    join(
-        rt,
-        || -> ()
-            requires { (zero.table ≡ shared.now) × Holds zero.held 0 × (one.table ≡ shared.now) × Holds one.held 1 }
-        { both(rt, shared, zero, 0, one, 1, times, counted) },
-        || -> ()
-            requires { (two.table ≡ shared.now) × Holds two.held 2 × (three.table ≡ shared.now) × Holds three.held 3 }
-        { both(rt, shared, two, 2, three, 3, times, counted) },
-    );
-    Ok(counter.load(SeqCst))
 }

@@ -1,7 +1,7 @@
 ghost use Rattle.std.specs.Prelude.{◌≡◌, ◌≤◌};
 ghost use Rattle.stamp_table.specs.Passes.{Holds};
 
-use crate::calls::lock::{counts, four_count};
+use crate::calls::lock::counts;
 use stamp_table::{Pass, open};
 use std::sync::Wait;
 use std::sync::atomic::AtomicU64;
@@ -10,12 +10,7 @@ use std::test::Fail;
 use std::thread::Threads;
 use tests_shared::{is_same, on_threads};
 
-// A count that a process read is lost where another comes in between.
-#[test]
-fn four_come_and_go(rt: HostRuntime) -> Result<(), Fail> {
-    is_same(&four_count(&rt, rt.alloc(), 1_000)?, &4_000)
-}
-
+// Each of `n` threads counts so many times. A count that one has read is lost where another comes in between.
 fn are_counted<R: AllocGlobal + Threads + Wait + Sync>(
     rt: &R,
     n: u8,
@@ -35,6 +30,11 @@ fn are_counted<R: AllocGlobal + Threads + Wait + Sync>(
         &counter.load(SeqCst),
         &u64::from(times).wrapping_mul(u64::from(n)),
     )
+}
+
+#[test]
+fn four_come_and_go(rt: HostRuntime) -> Result<(), Fail> {
+    are_counted(&rt, 4, 1_000)
 }
 
 #[test]

@@ -89,6 +89,15 @@ fn comes_back<R: Wait>(
     )
 }
 
+const COME_BACK: ([(u64, [u8; 3]); 3], [bool; 5]) = (
+    [
+        (0, [0, 0, 0]),
+        (1_970_324_837_172_224, [0, 2, 1]),
+        (1_970_324_837_172_230, [2, 1, 0]),
+    ],
+    [true, false, false, true, true],
+);
+
 #[test]
 fn the_word_comes_back(rt: HostRuntime) -> Result<(), Fail> {
     let (table, pass) = open(rt.alloc(), 3, 0)?;
@@ -97,16 +106,7 @@ fn the_word_comes_back(rt: HostRuntime) -> Result<(), Fail> {
     let zero = Caller::new(zero, 0);
     let one = Caller::new(one, 1);
     let two = Caller::new(two, 2);
-    let (words, facts) = comes_back(&rt, &table, zero, one, two);
-    is_same(
-        &words,
-        &[
-            (0, [0, 0, 0]),
-            (1_970_324_837_172_224, [0, 2, 1]),
-            (1_970_324_837_172_230, [2, 1, 0]),
-        ],
-    )?;
-    is_same(&facts, &[true, false, false, true, true])
+    is_same(&comes_back(&rt, &table, zero, one, two), &COME_BACK)
 }
 
 // Who holds a ticket, and the ranks, of two processes.
@@ -150,26 +150,24 @@ fn gives_up<R: Wait>(
     )
 }
 
+const GIVEN_UP: ([u64; 2], [([bool; 2], [u8; 2]); 3], [bool; 2], u32) = (
+    [281_474_976_710_656, 562_949_953_421_568],
+    [
+        ([true, true], [0, 1]),
+        ([false, true], [0, 1]),
+        ([true, true], [1, 0]),
+    ],
+    [true, true],
+    7,
+);
+
 #[test]
 fn a_ticket_given_up(rt: HostRuntime) -> Result<(), Fail> {
     let (table, pass) = open(rt.alloc(), 2, 1)?;
     let (zero, one) = table.split(pass, 1);
-    let (words, orders, facts, read) = gives_up(
-        &rt,
-        &table,
-        Caller::new(zero, 0),
-        Caller::new(one, 1),
-    );
-    is_same(&words, &[281_474_976_710_656, 562_949_953_421_568])?;
-    is_same(
-        &orders,
-        &[
-            ([true, true], [0, 1]),
-            ([false, true], [0, 1]),
-            ([true, true], [1, 0]),
-        ],
-    )?;
-    is_same(&(facts, read), &([true, true], 7))
+    let zero = Caller::new(zero, 0);
+    let one = Caller::new(one, 1);
+    is_same(&gives_up(&rt, &table, zero, one), &GIVEN_UP)
 }
 
 #[test]

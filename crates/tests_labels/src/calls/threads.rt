@@ -9,7 +9,7 @@ use std::thread::Threads;
 use tests_shared::on_threads;
 
 /// What a process does, over and over.
-#[derive(Clone, Copy, PartialEq, Eq, Debug)]
+#[derive(Clone, Copy)]
 pub enum Work {
     /// It stamps.
     Stamps,

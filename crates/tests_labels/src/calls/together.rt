@@ -1,24 +1,28 @@
 //! Threads on one table, one for each process.
-ghost use Rattle.std.specs.Prelude.{◌≡◌, ◌≤◌, ◌<◌, IfOk, length};
+ghost use Rattle.std.specs.Prelude.{◌≡◌, ◌≤◌, ◌<◌, All, IfOk, length};
 
 use crate::calls::threads::{Work, all_work, holds_all, meet_in_pairs};
 use crate::calls::working::Worked;
 use stamp_calls::{Caller, scan};
 use stamp_table::{Final, Pass, StampTable};
+use std::alloc::Global;
 use std::sync::Wait;
 use std::test::Fail;
 use std::thread::Threads;
 use tests_shared::{holds, is_same};
 
-// How often each process won. After each stamp nobody else held a newer ticket.
+// How often each process won. After each stamp nobody else held a newer ticket. Each try that is lost is lost
+// to another process, so none has lost more than the others won.
 fn wins(done: &[Worked], n: u8, count: u32) -> Result<[u32; 6], Fail> {
-    holds(done.len() == n as usize, "a count for each process")?;
     let mut wins = [0; 6];
+    let mut all = 0u32;
+    let mut is_so = done.len() == n as usize;
     for (won, worked) in wins.iter_mut().zip(done) {
-        holds(worked.newest == worked.won, "the newest after a stamp")?;
-        holds(worked.won <= count, "no more stamps than tries")?;
+        is_so = is_so && worked.newest == worked.won && worked.won <= count;
+        all = all.wrapping_add(worked.won);
         *won = worked.won;
     }
+    holds(is_so && all >= count, (n, count, wins))?;
     Ok(wins)
 }
 
@@ -40,7 +44,32 @@ fn ends(table: StampTable, pass: Pass, n: u8) -> Result<Final, Fail>
     Ok(end)
 }
 
-// Each try that is lost is lost to another process, so none has lost more than the others won.
+// All meet, and the table is closed.
+fn closed(alloc: Global, table: StampTable, done: Vec<Worked>, n: u8) -> Result<Final, Fail>
+    requires here { All (λ worked. worked.pass.table ≡ table) done.items }
+    requires processes { table.n ≡ n }
+    requires at_least_one { 1 ≤ n }
+    ensures processes { IfOk result (λ end. length end.labels ≡ n) }
+    ensures rows { IfOk result (λ end. length end.rows ≡ table.rows) }
+{
+    let Some(pass) = meet_in_pairs(alloc, &table, done)? else {
+        return Err(Fail::from("no passes"));
+    };
+    ends(table, pass, n)
+}
+
+// Each process has written how often it won.
+fn are_written(end: &Final, n: u8, wins: &[u32; 6]) -> Result<(), Fail>
+    requires processes { length end.now.labels ≡ n }
+    requires at_most_six { n ≤ 6 }
+    requires row { length end.now.rows ≡ 1 }
+{
+    for p in 0..n {
+        is_same(&end.register(0, p), &wins[p as usize])?;
+    }
+    Ok(())
+}
+
 fn are_worked<R: AllocGlobal + Threads + Wait + Sync>(
     rt: &R,
     n: u8,
@@ -52,19 +81,8 @@ fn are_worked<R: AllocGlobal + Threads + Wait + Sync>(
 {
     let (table, done) = all_work(rt, rt.alloc(), n, work, count)?;
     let wins = wins(&done, n, count)?;
-    let mut all = 0u32;
-    for won in wins {
-        all = all.wrapping_add(won);
-    }
-    holds(all >= count, "as many stamps as one process has tries")?;
-    let Some(pass) = meet_in_pairs(rt.alloc(), &table, done)? else {
-        return Err(Fail::from("no passes"));
-    };
-    let end = ends(table, pass, n)?;
-    for p in 0..n {
-        is_same(&end.register(0, p), &wins[p as usize])?;
-    }
-    Ok(())
+    let end = closed(rt.alloc(), table, done, n)?;
+    are_written(&end, n, &wins)
 }
 
 #[test]
@@ -72,12 +90,18 @@ fn six_callers(rt: HostRuntime) -> Result<(), Fail> {
     are_worked(&rt, 6, Work::Rounds, 100)
 }
 
+static WORKS: [(Work, u32); 3] = [
+    (Work::Tries, 1_000),
+    (Work::Stamps, 100),
+    (Work::Rounds, 100),
+];
+
 #[test]
 fn each_number_of_callers(rt: HostRuntime) -> Result<(), Fail> {
     for n in 1..7u8 {
-        are_worked(&rt, n, Work::Tries, 1_000)?;
-        are_worked(&rt, n, Work::Stamps, 100)?;
-        are_worked(&rt, n, Work::Rounds, 100)?;
+        for (work, count) in &WORKS {
+            are_worked(&rt, n, *work, *count)?;
+        }
     }
     Ok(())
 }

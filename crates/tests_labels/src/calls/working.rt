@@ -21,6 +21,21 @@ fn is_newest(order: &Order, p: u8) -> bool
     order.rank(p) == order.word().n() - 1
 }
 
+// Writes into the register of the caller how often it won.
+fn written(table: &StampTable, mut caller: Caller, won: u32, newest: u32) -> Worked
+    requires here { caller.pass.table ≡ table.now }
+    requires row { 0 < table.now.rows }
+    ensures table { result.pass.table ≡ table.now }
+    ensures held { result.pass.held ≡ caller.pass.held }
+{
+    write(table, &mut caller, 0, won);
+    Worked {
+        pass: caller.into_pass(),
+        won,
+        newest,
+    }
+}
+
 /// Stamps this many times. Like the two below it writes into its register how often it won.
 pub fn stamps<R: Wait>(rt: &R, table: &StampTable, pass: Pass, p: u8, count: u32) -> Worked
     requires here { pass.table ≡ table.now }
@@ -37,12 +52,7 @@ pub fn stamps<R: Wait>(rt: &R, table: &StampTable, pass: Pass, p: u8, count: u32
             newest += 1;
         }
     }
-    write(table, &mut caller, 0, count);
-    Worked {
-        pass: caller.into_pass(),
-        won: count,
-        newest,
-    }
+    written(table, caller, count, newest)
 }
 
 /// Tries to stamp this many times, each time where the order is the one that was told last.
@@ -69,12 +79,7 @@ pub fn tries(table: &StampTable, pass: Pass, p: u8, count: u32) -> Worked
             Tried::Lost(found) => order = found,
         }
     }
-    write(table, &mut caller, 0, won);
-    Worked {
-        pass: caller.into_pass(),
-        won,
-        newest,
-    }
+    written(table, caller, won, newest)
 }
 
 /// A scan, one try to stamp and a scan, this many times over.
@@ -98,10 +103,5 @@ pub fn rounds(table: &StampTable, pass: Pass, p: u8, count: u32) -> Worked
         }
         scan(table, &mut caller);
     }
-    write(table, &mut caller, 0, won);
-    Worked {
-        pass: caller.into_pass(),
-        won,
-        newest,
-    }
+    written(table, caller, won, newest)
 }

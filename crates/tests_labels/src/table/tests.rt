@@ -1,11 +1,11 @@
-ghost use Rattle.std.specs.Prelude.{◌≡◌, ◌≤◌};
+ghost use Rattle.std.specs.Prelude.{◌≡◌, ◌≤◌, ◌<◌, ℕ, All, IfOk};
 ghost use Rattle.stamp_table.specs.Passes.{Holds};
 
 use crate::table::threads::all_try;
 use crate::table::trying::try_once;
 use label_core::Label;
 use stamp_table::{Pass, StampTable, Swap, open};
-use std::alloc::Global;
+use std::alloc::{AllocError, Global};
 use std::test::Fail;
 use std::thread::Threads;
 use tests_shared::{holds, is_same};
@@ -26,40 +26,58 @@ static OF_TWO: [(u64, bool); 10] = [
     (9_223_372_036_854_775_808, false),
 ];
 
+fn reads(n: u8, bits: u64) -> bool
+    requires at_least_one { 1 ≤ n }
+    requires at_most_six { n ≤ 6 }
+{
+    LabelWord::read(n, bits).is_some()
+}
+
 // The words of two processes and of one, and the numbers of labels.
 #[test]
 fn words_and_labels(_rt: HostRuntime) -> Result<(), Fail> {
     for (bits, is_word) in &OF_TWO {
-        is_same(&LabelWord::read(2, *bits).is_some(), is_word)?;
+        holds(reads(2, *bits) == *is_word, *bits)?;
     }
-    holds(
-        LabelWord::read(1, 281_474_976_710_656).is_some(),
-        "one present",
-    )?;
-    holds(
-        LabelWord::read(1, 281_474_976_710_657).is_none(),
-        "the label of no digits",
-    )?;
-    holds(Label::of_number(6, 242).is_some(), "the last label of six")?;
-    holds(Label::of_number(6, 243).is_none(), "no label of six")?;
-    holds(
-        matches!(Label::of_number(3, 5), Some(label) if label.number() == 5 && label.digit(1) == 2),
-        "the digits of a label",
-    )
+    let one = [reads(1, 281_474_976_710_656), reads(1, 281_474_976_710_657)];
+    let six = [
+        Label::of_number(6, 242).is_some(),
+        Label::of_number(6, 243).is_some(),
+    ];
+    is_same(&(one, six, fifth()), &([true, false], [true, false], true))
+}
+
+// The digits of a label of three.
+fn fifth() -> bool {
+    match Label::of_number(3, 5) {
+        Some(label) => label.number() == 5 && label.digit(1) == 2,
+        None => false,
+    }
+}
+
+fn ranks_of(bits: u64) -> Option<[u8; 6]> {
+    Some(LabelWord::read(3, bits)?.ranks())
 }
 
 // The ranks in a word of three: with all present, and with one that is absent.
 #[test]
 fn ranks_in_words(_rt: HostRuntime) -> Result<(), Fail> {
-    holds(
-        matches!(LabelWord::read(3, 1_970_324_837_040_135), Some(word) if word.ranks() == [0, 1, 2, 0, 0, 0]),
-        "ranks of three",
-    )?;
-    holds(
-        matches!(LabelWord::read(3, 1_407_374_883_749_892), Some(word) if word.ranks() == [2, 0, 1, 0, 0, 0]),
-        "ranks of two beside an absent one",
+    is_same(
+        &[
+            ranks_of(1_970_324_837_040_135),
+            ranks_of(1_407_374_883_749_892),
+        ],
+        &[Some([0, 1, 2, 0, 0, 0]), Some([2, 0, 1, 0, 0, 0])],
     )
 }
+
+// The words after one stamp, after three, after the label is given up, and after that of a further one.
+const GIVEN_UP: [u64; 4] = [
+    281_474_976_710_656,
+    1_970_324_837_171_456,
+    1_407_374_883_749_888,
+    1_407_374_883_749_892,
+];
 
 // Three processes stamp, and one gives its label up: an exchange that looks for the word before that
 // is lost, and the next label is beside those that are left.
@@ -79,18 +97,12 @@ fn a_label_given_up(rt: HostRuntime) -> Result<(), Fail> {
     let met = table.meet(zero, one);
     let met = table.meet(met, two);
     let last = table.close(met);
-    is_same(&(zero_won, others_won), &(true, [true, true]))?;
+    let words = [alone.bits(), old.bits(), left.bits(), again.bits()];
+    let swaps = [lost == Swap::Lost(left), won == Swap::Won];
     is_same(
-        &[alone.bits(), old.bits(), left.bits(), again.bits()],
-        &[
-            281_474_976_710_656,
-            1_970_324_837_171_456,
-            1_407_374_883_749_888,
-            1_407_374_883_749_892,
-        ],
-    )?;
-    is_same(&[lost, won], &[Swap::Lost(left), Swap::Won])?;
-    is_same(&last.word(), &again)
+        &(zero_won, others_won, words, swaps, last.word() == again),
+        &(true, [true; 2], GIVEN_UP, [true; 2], true),
+    )
 }
 
 // The third process tries to stamp, and then the second: whether both won.
@@ -146,6 +158,9 @@ fn comes_back(
     )
 }
 
+// That word, and the one after it.
+const COME_BACK: [u64; 2] = [1_970_324_837_172_224, 1_970_324_837_172_230];
+
 // Then a register is written, read by another, and read at the end.
 #[test]
 fn the_word_comes_back(rt: HostRuntime) -> Result<(), Fail> {
@@ -158,31 +173,32 @@ fn the_word_comes_back(rt: HostRuntime) -> Result<(), Fail> {
     let met = table.meet(zero, one);
     let met = table.meet(met, two);
     let last = table.close(met);
-    is_same(&facts, &[true; 8])?;
-    is_same(&words, &[1_970_324_837_172_224, 1_970_324_837_172_230])?;
-    is_same(&last.word().bits(), &1_970_324_837_172_230)?;
-    is_same(&read, &[5, 0])?;
+    let registers = [
+        last.register(0, 0),
+        last.register(0, 1),
+        last.register(0, 2),
+    ];
     is_same(
-        &[
-            last.register(0, 0),
-            last.register(0, 1),
-            last.register(0, 2),
-        ],
-        &[5, 0, 0],
+        &(facts, words, last.word().bits(), read, registers),
+        &(
+            [true; 8],
+            COME_BACK,
+            1_970_324_837_172_230,
+            [5, 0],
+            [5, 0, 0],
+        ),
     )
 }
 
-// Which of the processes 0 to 6 a pass holds.
-fn held(pass: &Pass) -> [bool; 7] {
-    [
-        pass.holds(0),
-        pass.holds(1),
-        pass.holds(2),
-        pass.holds(3),
-        pass.holds(4),
-        pass.holds(5),
-        pass.holds(6),
-    ]
+// Which of the processes 0 to 7 a pass holds, as bits.
+fn held(pass: &Pass) -> u8 {
+    let mut held = 0u8;
+    for p in 0..8u8 {
+        if pass.holds(p) {
+            held |= 1u8 << p;
+        }
+    }
+    held
 }
 
 // Passes that parted and met.
@@ -193,54 +209,53 @@ fn passes_of_three(rt: HostRuntime) -> Result<(), Fail> {
     let (zero, one) = table.split(rest, 1);
     let apart = [held(&zero), held(&one), held(&two)];
     let met = table.meet(table.meet(zero, one), two);
-    is_same(
-        &[apart[0], apart[1], apart[2], held(&met)],
-        &[
-            [true, false, false, false, false, false, false],
-            [false, true, false, false, false, false, false],
-            [false, false, true, false, false, false, false],
-            [true, true, true, false, false, false, false],
-        ],
-    )
+    is_same(&(apart, held(&met)), &([0b1, 0b10, 0b100], 0b111))
 }
 
-// Whether the pass holds process `p` alone.
-fn holds_alone(pass: &Pass, p: u8) -> bool {
-    for other in 0..7u8 {
-        if pass.holds(other) != (other == p) {
+// Where memory is refused the pass comes back, and is split again.
+fn parted(alloc: Global, table: &StampTable, all: Pass) -> Result<Vec<Pass>, AllocError>
+    requires here { all.table ≡ table.now }
+    requires all { (p : ℕ) → p < table.now.n → Holds all.held p }
+    ensures { IfOk result (λ passes. All (λ pass. pass.table ≡ table.now) passes.items) }
+{
+    match table.split_all(alloc, all) {
+        Ok(passes) => Ok(passes),
+        Err((all, _refused)) => match table.split_all(alloc, all) {
+            Ok(passes) => Ok(passes),
+            Err((_all, refused)) => Err(refused),
+        },
+    }
+}
+
+// Whether each pass holds the process at its place alone.
+fn are_alone(passes: &[Pass]) -> bool {
+    let mut own = 1u8;
+    for pass in passes {
+        if held(pass) != own {
             return false;
         }
+        own = own.wrapping_mul(2);
     }
     true
 }
 
-// Each process has a pass, in order, and together they hold what the one did. Where memory is refused
-// the pass comes back, and is split again.
+// Each process has a pass, in order, and together they hold what the one did.
 fn parts_and_meets(alloc: Global, n: u8) -> Result<(), Fail>
     requires at_least_one { 1 ≤ n }
     requires at_most_six { n ≤ 6 }
 {
     let (table, all) = open(alloc, n, 8)?;
-    let passes = match table.split_all(alloc, all) {
-        Ok(passes) => passes,
-        Err((all, _refused)) => match table.split_all(alloc, all) {
-            Ok(passes) => passes,
-            Err((_all, refused)) => return Err(Fail::from(refused)),
-        },
+    let passes = parted(alloc, &table, all)?;
+    let apart = (passes.len(), are_alone(&passes));
+    let together = match table.meet_all(passes) {
+        Some(met) => held(&met),
+        None => 0,
     };
-    let mut p = 0u8;
-    for pass in &passes {
-        holds(holds_alone(pass, p), "a pass for one process")?;
-        p = p.wrapping_add(1);
-    }
-    holds(p == n, "a pass for each process")?;
-    let Some(met) = table.meet_all(passes) else {
-        return Err(Fail::from("no pass"));
-    };
-    for p in 0..8u8 {
-        holds(met.holds(p) == (p < n), "all processes")?;
-    }
-    holds(table.meet_all(Vec::new(alloc)).is_none(), "none of none")
+    let is_none = table.meet_all(Vec::new(alloc)).is_none();
+    is_same(
+        &(apart, together, is_none),
+        &((n as usize, true), (1u8 << n) - 1, true),
+    )
 }
 
 #[test]
@@ -259,15 +274,12 @@ fn have_counted<R: AllocGlobal + Threads + Sync>(rt: &R, n: u8, count: u32) -> R
 {
     let counted = all_try(rt, rt.alloc(), n, count)?;
     let mut all = 0u64;
+    let mut is_so = counted.won.len() == n as usize;
     for won in &counted.won {
-        holds(*won <= count, "no more wins than tries")?;
+        is_so = is_so && *won <= count;
         all = all.wrapping_add(u64::from(*won));
     }
-    holds(counted.won.len() == n as usize, "a count for each process")?;
-    holds(
-        all >= u64::from(count),
-        "as many wins as one thread has tries",
-    )
+    holds(is_so && all >= u64::from(count), (n, count, all))
 }
 
 #[test]

@@ -4,38 +4,50 @@ ghost use Rattle.std.specs.Prelude.{◌<◌, length};
 use crate::word::plain::{Digits, Plain};
 use label_core::Label;
 use std::test::Fail;
-use tests_shared::{holds, is_same};
+use tests_shared::holds;
 use ticket_core::Tickets;
 use word_core::LabelWord;
 
 /// What a word tells is what the plain labels and tickets tell.
 pub fn word_agrees(plain: &Plain, word: &LabelWord) -> Result<(), Fail> {
-    is_same(&word.bits(), &plain.word())?;
-    holds(word.is_ordered(), plain.word())?;
+    let bits = plain.word();
+    holds(word.is_ordered() && word.bits() == bits, bits)?;
     for i in 0..word.n() {
-        holds(
-            is_same_label(word.label(i), plain.label(i)),
-            (plain.word(), i),
-        )?;
-        is_same(&word.held(i), &(plain.ticket(i) > 0))?;
-        is_same(&word.rank(i), &plain.rank(i))?;
-        for j in 0..word.n() {
-            is_same(&word.older(i, j), &(plain.ticket(i) < plain.ticket(j)))?;
-        }
+        holds(is_told(plain, word, i), (bits, i))?;
     }
     Ok(())
+}
+
+fn is_told(plain: &Plain, word: &LabelWord, i: u8) -> bool
+    requires { i < length word.now }
+{
+    for j in 0..word.n() {
+        if word.older(i, j) != (plain.ticket(i) < plain.ticket(j)) {
+            return false;
+        }
+    }
+    is_same_label(word.label(i), plain.label(i))
+        && word.held(i) == (plain.ticket(i) > 0)
+        && word.rank(i) == plain.rank(i)
 }
 
 /// So is what tickets tell.
 pub fn tickets_agree(plain: &Plain, tickets: &Tickets) -> Result<(), Fail> {
     for i in 0..tickets.count() {
-        is_same(&tickets.held(i), &(plain.ticket(i) > 0))?;
-        is_same(&tickets.ranks()[usize::from(i)], &plain.rank(i))?;
-        for j in 0..tickets.count() {
-            is_same(&tickets.older(i, j), &(plain.ticket(i) < plain.ticket(j)))?;
-        }
+        holds(is_ticket(plain, tickets, i), (plain.n, i))?;
     }
     Ok(())
+}
+
+fn is_ticket(plain: &Plain, tickets: &Tickets, i: u8) -> bool
+    requires { i < length tickets.now }
+{
+    for j in 0..tickets.count() {
+        if tickets.older(i, j) != (plain.ticket(i) < plain.ticket(j)) {
+            return false;
+        }
+    }
+    tickets.held(i) == (plain.ticket(i) > 0) && tickets.ranks()[usize::from(i)] == plain.rank(i)
 }
 
 fn is_same_label(label: Option<Label>, wanted: Option<Digits>) -> bool {

@@ -9,7 +9,7 @@ const PROCESSES: usize = 6;
 pub type Digits = [u8; 5];
 
 /// What `n` processes hold: each a ticket, which is 0 where it holds none, and a label or none.
-#[derive(Clone, Copy, PartialEq, Eq, Debug)]
+#[derive(Clone, Copy, PartialEq)]
 pub struct Plain {
     pub n: u8,
     pub tickets: [u64; PROCESSES],

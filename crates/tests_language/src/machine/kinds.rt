@@ -1,54 +1,61 @@
 use base::span::Span;
-use base::tree::Tree;
 use std::test::Fail;
-use tests_shared::{accepted, holds, is_same};
+use tests_shared::{Checked, Refused, holds, is_same};
 use tick_kinds::resolved::Statement;
-use tick_kinds::{Kind, KindFault, Program, check};
-use tick_syntax::parse;
+use tick_kinds::{Kind, KindFault, Program};
 
-fn is_numbered(program: &Program) -> bool {
-    program.kind("y") == Some((Kind::Variable, 1))
-        && program.kind("s") == Some((Kind::Scan, 0))
-        && program.kind("r") == Some((Kind::Register, 0))
-        && program.kind("z") == None
+// Names, and what they are.
+static NAMES: [(&str, Option<(Kind, u8)>); 4] = [
+    ("y", Some((Kind::Variable, 1))),
+    ("s", Some((Kind::Scan, 0))),
+    ("r", Some((Kind::Register, 0))),
+    ("z", None),
+];
+
+fn are_numbered(program: &Program) -> Result<(), Fail> {
+    for (name, kind) in &NAMES {
+        holds(program.kind(name) == *kind, *name)?;
+    }
+    Ok(())
 }
 
-fn is_whole(program: &Program) -> bool {
-    program.body().len() == 3
-        && program.tree().body.len() == 3
-        && matches!(program.body().first(), Some(Statement::Scan(0)))
+// How many processes, variables, scans, registers and statements there are, and how many in the tree.
+fn counts(program: &Program) -> ([u8; 4], [usize; 2]) {
+    (
+        [
+            program.processes(),
+            program.variables(),
+            program.scans(),
+            program.registers(),
+        ],
+        [program.body().len(), program.tree().body.len()],
+    )
+}
+
+fn is_numbered(program: &Program) -> Result<(), Fail> {
+    is_same(&counts(program), &([2, 2, 1, 1], [3, 3]))?;
+    are_numbered(program)?;
+    let is_scan = matches!(program.body().first(), Some(Statement::Scan(0)));
+    holds(is_scan, "the first statement")
 }
 
 #[test]
 fn numbers_names_by_section(rt: HostRuntime) -> Result<(), Fail> {
     let text =
         "processes 2; var x, y; scan s; reg r; begin s = scan; y = older s 0 me; while y { out x; } end";
-    let program = accepted(rt.alloc(), text)?;
-    let found = [
-        program.processes(),
-        program.variables(),
-        program.scans(),
-        program.registers(),
-    ];
-    is_same(&found, &[2, 2, 1, 1])?;
-    holds(is_numbered(&program), "names")?;
-    holds(is_whole(&program), "statements")?;
-    Ok(())
-}
-
-fn is_given_back(tree: &Tree, fault: KindFault) -> bool {
-    fault == KindFault::Unknown(Span { start: 33, end: 34 })
-        && tree.variables.len() == 2
-        && tree.body.len() == 2
+    is_numbered(&Checked::new(rt.alloc(), text)?.program)
 }
 
 #[test]
 fn gives_the_tree_back(rt: HostRuntime) -> Result<(), Fail> {
-    let tree = parse(rt.alloc(), "processes 2; var x, y; begin out z; out x; end")?;
-    let (tree, fault) = check(rt.alloc(), tree).err().ok_or("accepted")?;
-    holds(is_given_back(&tree, fault), "the tree")?;
-    Ok(())
+    let refused = Refused::new(rt.alloc(), "processes 2; var x, y; begin out z; out x; end")?;
+    let counts = [refused.tree.variables.len(), refused.tree.body.len()];
+    let unknown = KindFault::Unknown(Span { start: 33, end: 34 });
+    is_same(&(refused.fault, counts), &(unknown, [2, 2]))
 }
+
+const WORDS: &str = "the name at bytes 3..5 is declared as register, and a variable stands here; \
+    the name at bytes 3..5 was declared before";
 
 #[test]
 fn says_faults_in_words(rt: HostRuntime) -> Result<(), Fail> {
@@ -59,8 +66,5 @@ fn says_faults_in_words(rt: HostRuntime) -> Result<(), Fail> {
         found: Kind::Register,
     };
     let text = format!(in rt.alloc(); "{wrong}; {}", KindFault::Twice(span))?;
-    is_same(
-        &text.as_str(),
-        &"the name at bytes 3..5 is declared as register, and a variable stands here; the name at bytes 3..5 was declared before",
-    )
+    is_same(&text.as_str(), &WORDS)
 }

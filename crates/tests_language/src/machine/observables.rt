@@ -7,11 +7,9 @@ fn holds_registers(rt: HostRuntime) -> Result<(), Fail> {
     let mut registers = Registers::new(rt.alloc(), 2, 3)?;
     registers.set(1, 2, 9);
     registers.set(2, 0, 8);
-    is_same(&registers.get(1, 2), &9)?;
-    is_same(&registers.get(2, 0), &0)?;
-    let rows = registers.into_rows();
-    is_same(&rows.len(), &2)?;
-    Ok(())
+    let found = [registers.get(1, 2), registers.get(2, 0)];
+    let rows = registers.into_rows().len();
+    is_same(&(found, rows), &([9, 0], 2))
 }
 
 #[test]

@@ -1,6 +1,6 @@
 use std::test::Fail;
-use tests_shared::is_same;
-use tick_syntax::{parse, print};
+use tests_shared::{Refused, is_same};
+use tick_syntax::print;
 
 // Texts with more processes than there may be, as they are printed.
 static PRINTED: [(&str, &str); 2] = [
@@ -17,8 +17,8 @@ static PRINTED: [(&str, &str); 2] = [
 #[test]
 fn prints_what_kinds_refuse(rt: HostRuntime) -> Result<(), Fail> {
     for &(text, printed) in &PRINTED {
-        let tree = parse(rt.alloc(), text)?;
-        is_same(&print(rt.alloc(), &tree)?.as_str(), &printed)?;
+        let refused = Refused::new(rt.alloc(), text)?;
+        is_same(&print(rt.alloc(), &refused.tree)?.as_str(), &printed)?;
     }
     Ok(())
 }

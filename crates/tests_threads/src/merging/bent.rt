@@ -1,73 +1,31 @@
 //! A history with every kind of step: what it is merged to, where each of its beginnings ends too soon, and
 //! that a changed step is told at its place.
 
-use crate::merging::merged::{BOTH_STAMPED, STAMPED, comes_to};
+use crate::merging::merged::{BOTH_STAMPED, STAMPED, Step, comes_to};
 use std::alloc::Global;
 use std::test::Fail;
 use tests_shared::holds;
-use tick_merge::{MergeFault, Shared, SharedAct};
+use tick_merge::{MergeFault, SharedAct};
 
 // Each process writes 5, stamps, scans, reads what process 0 wrote, and clears.
 const ALL_KINDS: &str =
     "tickcode 2 2 1 1 1\nPush 5\nPut 0\nLoadWord\nNext\nExchange 2\nScan 0\nPush 0\nGet 0 0\nClear\nHalt\n";
 
-static HISTORY: [Shared; 14] = [
-    Shared {
-        process: 0,
-        act: SharedAct::Write(0, 5),
-    },
-    Shared {
-        process: 0,
-        act: SharedAct::Load(0),
-    },
-    Shared {
-        process: 1,
-        act: SharedAct::Write(0, 5),
-    },
-    Shared {
-        process: 1,
-        act: SharedAct::Load(0),
-    },
-    Shared {
-        process: 0,
-        act: SharedAct::Won(0, STAMPED),
-    },
-    Shared {
-        process: 1,
-        act: SharedAct::Lost(0, STAMPED),
-    },
-    Shared {
-        process: 1,
-        act: SharedAct::Load(STAMPED),
-    },
-    Shared {
-        process: 1,
-        act: SharedAct::Won(STAMPED, BOTH_STAMPED),
-    },
-    Shared {
-        process: 0,
-        act: SharedAct::Load(BOTH_STAMPED),
-    },
-    Shared {
-        process: 1,
-        act: SharedAct::Load(BOTH_STAMPED),
-    },
-    Shared {
-        process: 1,
-        act: SharedAct::Read(0, 0, 5),
-    },
-    Shared {
-        process: 0,
-        act: SharedAct::Read(0, 0, 5),
-    },
-    Shared {
-        process: 1,
-        act: SharedAct::Clear(BOTH_STAMPED),
-    },
-    Shared {
-        process: 0,
-        act: SharedAct::Clear(STAMPED),
-    },
+const HISTORY: [Step; 14] = [
+    (0, SharedAct::Write(0, 5)),
+    (0, SharedAct::Load(0)),
+    (1, SharedAct::Write(0, 5)),
+    (1, SharedAct::Load(0)),
+    (0, SharedAct::Won(0, STAMPED)),
+    (1, SharedAct::Lost(0, STAMPED)),
+    (1, SharedAct::Load(STAMPED)),
+    (1, SharedAct::Won(STAMPED, BOTH_STAMPED)),
+    (0, SharedAct::Load(BOTH_STAMPED)),
+    (1, SharedAct::Load(BOTH_STAMPED)),
+    (1, SharedAct::Read(0, 0, 5)),
+    (0, SharedAct::Read(0, 0, 5)),
+    (1, SharedAct::Clear(BOTH_STAMPED)),
+    (0, SharedAct::Clear(STAMPED)),
 ];
 
 static TURNS: [u64; 2] = [10, 13];
@@ -112,25 +70,19 @@ fn bent(act: SharedAct) -> SharedAct {
 
 // That the history is told at this place where its step is another act there.
 fn is_told(alloc: Global, place: usize, act: SharedAct, wanted: MergeFault) -> Result<(), Fail> {
-    let mut history = Vec::from_slice(alloc, &HISTORY)?;
+    let mut history = HISTORY;
     if let Some(step) = history.get_mut(place) {
-        step.act = act;
+        step.1 = act;
     }
-    holds(
-        comes_to(alloc, ALL_KINDS, &history, &TURNS, Err(wanted))?,
-        place,
-    )
+    let is_so = comes_to(alloc, ALL_KINDS, &history, &TURNS, Err(wanted))?;
+    holds(is_so, place)
 }
 
 #[test]
 fn a_bent_step_is_told_at_its_place(rt: HostRuntime) -> Result<(), Fail> {
-    for (place, step) in HISTORY.iter().enumerate() {
-        is_told(
-            rt.alloc(),
-            place,
-            bent(step.act),
-            MergeFault::NotLegal(place),
-        )?;
+    for (place, (_process, act)) in HISTORY.iter().enumerate() {
+        let wanted = MergeFault::NotLegal(place);
+        is_told(rt.alloc(), place, bent(*act), wanted)?;
     }
     Ok(())
 }
@@ -138,8 +90,8 @@ fn a_bent_step_is_told_at_its_place(rt: HostRuntime) -> Result<(), Fail> {
 // A write of 6 could come at each place, and the code makes it at none.
 #[test]
 fn another_step_is_told_at_its_place(rt: HostRuntime) -> Result<(), Fail> {
-    for (place, step) in HISTORY.iter().enumerate() {
-        let wanted = MergeFault::NotThisCode(step.process, place);
+    for (place, (process, _act)) in HISTORY.iter().enumerate() {
+        let wanted = MergeFault::NotThisCode(*process, place);
         is_told(rt.alloc(), place, SharedAct::Write(0, 6), wanted)?;
     }
     Ok(())

@@ -1,94 +1,40 @@
 //! Two processes that stamp at the same time.
 
-use crate::merging::merged::{BOTH_STAMPED, Row, STAMPED, STAMPS, are_merged};
+use crate::merging::merged::{BOTH_STAMPED, Row, STAMPED, STAMPS, Step, are_merged};
 use std::test::Fail;
-use tick_merge::{MergeFault, Shared, SharedAct};
+use tick_merge::{MergeFault, SharedAct};
 
-const BOTH_STAMP: &[Shared] = &[
-    Shared {
-        process: 0,
-        act: SharedAct::Load(0),
-    },
-    Shared {
-        process: 1,
-        act: SharedAct::Load(0),
-    },
-    Shared {
-        process: 0,
-        act: SharedAct::Won(0, STAMPED),
-    },
-    Shared {
-        process: 1,
-        act: SharedAct::Lost(0, STAMPED),
-    },
+const BOTH_STAMP: &[Step] = &[
+    (0, SharedAct::Load(0)),
+    (1, SharedAct::Load(0)),
+    (0, SharedAct::Won(0, STAMPED)),
+    (1, SharedAct::Lost(0, STAMPED)),
 ];
 
 // Process 0 scans between the load and the exchange of process 1.
-const BOTH_SCAN: &[Shared] = &[
-    Shared {
-        process: 0,
-        act: SharedAct::Load(0),
-    },
-    Shared {
-        process: 0,
-        act: SharedAct::Won(0, STAMPED),
-    },
-    Shared {
-        process: 1,
-        act: SharedAct::Load(STAMPED),
-    },
-    Shared {
-        process: 0,
-        act: SharedAct::Load(STAMPED),
-    },
-    Shared {
-        process: 1,
-        act: SharedAct::Won(STAMPED, BOTH_STAMPED),
-    },
-    Shared {
-        process: 1,
-        act: SharedAct::Load(BOTH_STAMPED),
-    },
+const BOTH_SCAN: &[Step] = &[
+    (0, SharedAct::Load(0)),
+    (0, SharedAct::Won(0, STAMPED)),
+    (1, SharedAct::Load(STAMPED)),
+    (0, SharedAct::Load(STAMPED)),
+    (1, SharedAct::Won(STAMPED, BOTH_STAMPED)),
+    (1, SharedAct::Load(BOTH_STAMPED)),
 ];
 
 // An exchange that looks for what isn't there.
-const UNLOADED: &[Shared] = &[
-    Shared {
-        process: 0,
-        act: SharedAct::Load(0),
-    },
-    Shared {
-        process: 0,
-        act: SharedAct::Won(STAMPED, STAMPED),
-    },
+const UNLOADED: &[Step] = &[
+    (0, SharedAct::Load(0)),
+    (0, SharedAct::Won(STAMPED, STAMPED)),
 ];
 
 // What it found is no other than what it looked for.
-const NOT_LOST: &[Shared] = &[
-    Shared {
-        process: 0,
-        act: SharedAct::Load(0),
-    },
-    Shared {
-        process: 0,
-        act: SharedAct::Lost(0, 0),
-    },
-];
+const NOT_LOST: &[Step] = &[(0, SharedAct::Load(0)), (0, SharedAct::Lost(0, 0))];
 
-const ONE_LOAD: &[Shared] = &[Shared {
-    process: 1,
-    act: SharedAct::Load(0),
-}];
+const ONE_LOAD: &[Step] = &[(1, SharedAct::Load(0))];
 
-const NO_PROCESS: &[Shared] = &[Shared {
-    process: 2,
-    act: SharedAct::Load(0),
-}];
+const NO_PROCESS: &[Step] = &[(2, SharedAct::Load(0))];
 
-const NO_ROW: &[Shared] = &[Shared {
-    process: 0,
-    act: SharedAct::Read(0, 0, 0),
-}];
+const NO_ROW: &[Step] = &[(0, SharedAct::Read(0, 0, 0))];
 
 static ROWS: [Row; 13] = [
     (BOTH_STAMP, &[3, 3], Ok(&[0, 1, 0, 0, 1, 1])),

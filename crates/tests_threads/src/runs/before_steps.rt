@@ -1,14 +1,16 @@
 //! A gate is called before the step that it is told of, and for the process that it belongs to. The order of
 //! the steps is forced, so a gate called after its step would be noticed.
 
-use crate::runs::running::{is_outcome, run_of};
+use crate::runs::held::calls_of;
+use crate::runs::running::{Wanted, comes_to_one_of};
 use code_machine::Ask;
+use std::alloc::{AllocError, Global};
 use std::sync::Wait;
 use std::sync::atomic::AtomicU64;
 use std::sync::atomic::Ordering::SeqCst;
 use std::test::Fail;
 use std::thread::Threads;
-use tests_shared::{Polls, holds, is_same};
+use tests_shared::is_same;
 use tick_run::{Gate, RunEnd};
 
 // if me { x = get r me; put r 5; x = get r me; } else { x = get r 1; out x; }
@@ -27,83 +29,37 @@ const SCANS: &str =
 const STAMPS: &str =
     "tickcode 1 2 1 1 1\nMe\nJumpZero 10\nMe\nGet 0 0\nLoadWord\nNext\nExchange 4\nMe\nGet 0 0\nJump 13\nLoadWord\nNext\nExchange 10\nHalt\n";
 
-// How often each of two gates was called.
-#[derive(Drop)]
-struct Calls {
-    zero: AtomicU64,
-    one: AtomicU64,
-    polls: Polls,
-}
-
-// Before one of its calls it waits until the other gate was called so often.
-#[derive(Drop)]
-struct Held<'a> {
-    own: &'a AtomicU64,
-    other: &'a AtomicU64,
-    polls: &'a Polls,
-    at: u64,
-    until: u64,
-}
-
-impl Gate for Held<'_> {
-    fn before(&mut self, _p: u8, _ask: Ask) {
-        if self.own.fetch_add(1, SeqCst) == self.at {
-            self.polls.wait(self.other, self.until);
-        }
-    }
-}
-
-// A code, the call at which gate 0 waits, the calls of gate 1 for which it does, how often gate 0 is
-// called in all, and what each process gives out. Gate 1 waits at its first call until gate 0 waits:
-// so its process makes what comes next while process 0 is held before its step.
-type Row = (&'static str, u64, u64, u64, &'static [&'static [u32]]);
+// A code, the call at which gate 0 waits, the calls of gate 1 for which it does, and how often gate 0 is
+// called in all. Then what each process gives out, and the registers. Gate 1 waits at its first call until
+// gate 0 waits: so its process makes what comes next while process 0 is held before its step.
+type Row = (
+    &'static str,
+    u64,
+    u64,
+    u64,
+    &'static [&'static [u32]],
+    &'static [&'static [u32]],
+);
 
 static ROWS: [Row; 5] = [
-    (GETS, 0, 3, 1, &[&[5], &[]]),
-    (PUTS, 0, 3, 1, &[&[], &[0]]),
-    (SCANS, 0, 4, 1, &[&[1], &[]]),
+    (GETS, 0, 3, 1, &[&[5], &[]], &[&[0, 5]]),
+    (PUTS, 0, 3, 1, &[&[], &[0]], &[&[5, 0]]),
+    (SCANS, 0, 4, 1, &[&[1], &[]], &[&[0, 0]]),
     // before the load: the exchange is made
-    (STAMPS, 0, 4, 2, &[&[], &[]]),
+    (STAMPS, 0, 4, 2, &[&[], &[]], &[&[0, 0]]),
     // before the exchange: it is lost, and there are a load and an exchange more
-    (STAMPS, 1, 4, 4, &[&[], &[]]),
+    (STAMPS, 1, 4, 4, &[&[], &[]], &[&[0, 0]]),
 ];
 
-fn gates<'a>(calls: &'a Calls, row: &Row) -> (Held<'a>, Held<'a>) {
-    let (_, at, until, ..) = *row;
-    let (zero, one, polls) = (&calls.zero, &calls.one, &calls.polls);
-    let first = Held {
-        own: zero,
-        other: one,
-        polls,
-        at,
-        until,
-    };
-    let second = Held {
-        own: one,
-        other: zero,
-        polls,
-        at: 0,
-        until: at.wrapping_add(1),
-    };
-    (first, second)
-}
-
 fn is_held<R: AllocGlobal + Threads + Wait>(rt: &R, row: &Row) -> Result<(), Fail> {
-    let (text, _, _, zero, outputs) = *row;
-    let calls = Calls {
-        zero: AtomicU64::new(0),
-        one: AtomicU64::new(0),
-        polls: Polls::new(),
+    let (text, at, until, calls, outputs, registers) = *row;
+    let wanted = Wanted {
+        outputs,
+        ends: &[RunEnd::Ended; 2],
+        registers,
     };
-    let (first, second) = gates(&calls, row);
-    let mut gates = Vec::new(rt.alloc());
-    gates.push(first)?;
-    gates.push(second)?;
-    let outcome = run_of(rt, text, gates, 1_000, 4)?;
-    holds(calls.polls.all_came(), text)?;
-    is_same(&calls.zero.load(SeqCst), &zero)?;
-    let ends = [RunEnd::Ended, RunEnd::Ended];
-    holds(is_outcome(&outcome, outputs, &ends), text)
+    let [zero, _one] = calls_of(rt, text, (at, until), (0, at.wrapping_add(1)), &[wanted])?;
+    is_same(&zero, &calls)
 }
 
 #[test]
@@ -117,12 +73,26 @@ fn a_gate_comes_before_its_step(rt: HostRuntime) -> Result<(), Fail> {
 // put r (me + 7); x = get r me;
 const OWN: &str = "tickcode 1 6 1 0 1\nMe\nPush 7\nBin +\nPut 0\nMe\nGet 0 0\nHalt\n";
 
-// Knows for which process it is, and counts the calls for that one and for others.
+static OWN_WANTED: [Wanted<'static>; 1] = [Wanted {
+    outputs: &[&[], &[], &[], &[], &[], &[]],
+    ends: &[RunEnd::Ended; 6],
+    registers: &[&[7, 8, 9, 10, 11, 12]],
+}];
+
+// How often the gates were called for their own process, as a number with a digit for each; and how often for
+// another.
+#[derive(Drop)]
+struct Calls {
+    own: AtomicU64,
+    others: AtomicU64,
+}
+
+// Knows for which process it is. A call for that one is worth `digit`.
 #[derive(Drop)]
 struct Numbered<'a> {
     number: u8,
-    own: &'a AtomicU64,
-    others: &'a AtomicU64,
+    digit: u64,
+    calls: &'a Calls,
 }
 
 fn is_of(ask: Ask, p: u8) -> bool {
@@ -135,37 +105,36 @@ fn is_of(ask: Ask, p: u8) -> bool {
 
 impl Gate for Numbered<'_> {
     fn before(&mut self, p: u8, ask: Ask) {
-        let is_own = p == self.number && is_of(ask, p);
-        let count = if is_own { self.own } else { self.others };
-        count.fetch_add(1, SeqCst);
+        if p == self.number && is_of(ask, p) {
+            self.calls.own.fetch_add(self.digit, SeqCst);
+        } else {
+            self.calls.others.fetch_add(1, SeqCst);
+        }
     }
+}
+
+fn six_gates(alloc: Global, calls: &Calls) -> Result<Vec<Numbered<'_>>, AllocError> {
+    let mut gates = Vec::new(alloc);
+    let mut digit = 1u64;
+    for number in 0..6u8 {
+        gates.push(Numbered {
+            number,
+            digit,
+            calls,
+        })?;
+        digit = digit.wrapping_mul(10);
+    }
+    Ok(gates)
 }
 
 #[test]
 fn each_process_calls_its_own_gate(rt: HostRuntime) -> Result<(), Fail> {
-    let own = [
-        AtomicU64::new(0),
-        AtomicU64::new(0),
-        AtomicU64::new(0),
-        AtomicU64::new(0),
-        AtomicU64::new(0),
-        AtomicU64::new(0),
-    ];
-    let others = AtomicU64::new(0);
-    let mut gates = Vec::new(rt.alloc());
-    let mut number = 0u8;
-    for own in &own {
-        gates.push(Numbered {
-            number,
-            own,
-            others: &others,
-        })?;
-        number = number.wrapping_add(1);
-    }
-    run_of(&rt, OWN, gates, 1_000, 4)?;
-    holds(others.load(SeqCst) == 0, "no gate of another process")?;
-    for own in &own {
-        holds(own.load(SeqCst) == 2, "two calls of each gate")?;
-    }
-    Ok(())
+    let calls = Calls {
+        own: AtomicU64::new(0),
+        others: AtomicU64::new(0),
+    };
+    let gates = six_gates(rt.alloc(), &calls)?;
+    comes_to_one_of(&rt, OWN, gates, &OWN_WANTED)?;
+    let found = [calls.own.load(SeqCst), calls.others.load(SeqCst)];
+    is_same(&found, &[222_222, 0])
 }

@@ -1,11 +1,12 @@
 //! A word that comes back on threads: an exchange finds its old word again, and wins.
 
-use crate::runs::running::{is_outcome, run_of};
+use crate::runs::running::{Wanted, comes_to_one_of};
 use code_machine::Ask;
+use std::alloc::{AllocError, Global};
 use std::sync::atomic::AtomicU64;
 use std::sync::atomic::Ordering::SeqCst;
 use std::test::Fail;
-use tests_shared::{Polls, holds, is_same};
+use tests_shared::{Polls, is_same};
 use tick_run::{Gate, RunEnd};
 
 // if (me == 0) { stamp; stamp; s = scan; x = older s 1 0; out x; s = scan; }
@@ -31,31 +32,43 @@ static ORDER: [(u8, u64); 13] = [
     (0, 5),
 ];
 
+static WANTED: [Wanted<'static>; 1] = [Wanted {
+    outputs: &[&[1], &[], &[]],
+    ends: &[RunEnd::Ended; 3],
+    registers: &[],
+}];
+
+// How often each process called its gate, and whether the exchange was asked for.
+#[derive(Drop)]
+struct Seen {
+    called: [AtomicU64; 3],
+    comes_back: AtomicU64,
+    polls: Polls,
+}
+
 // At its j-th call its process has made j - 1 steps, which it tells, and waits until those that come
 // before its next were made.
 #[derive(Drop)]
 struct InOrder<'a> {
-    called: &'a [AtomicU64],
-    comes_back: &'a AtomicU64,
-    polls: &'a Polls,
+    seen: &'a Seen,
     calls: u64,
 }
 
 impl Gate for InOrder<'_> {
     fn before(&mut self, p: u8, ask: Ask) {
         self.calls = self.calls.wrapping_add(1);
-        if let Some(called) = self.called.get(p as usize) {
+        if let Some(called) = self.seen.called.get(p as usize) {
             called.store(self.calls, SeqCst);
         }
         if p == 0 && self.calls == 4 && is_from_the_old_word(ask) {
-            self.comes_back.store(1, SeqCst);
+            self.seen.comes_back.store(1, SeqCst);
         }
         for (process, step) in &ORDER {
             if *process == p && *step >= self.calls {
                 return;
             }
-            if let Some(called) = self.called.get(*process as usize) {
-                self.polls.wait(called, step.wrapping_add(1));
+            if let Some(called) = self.seen.called.get(*process as usize) {
+                self.seen.polls.wait(called, step.wrapping_add(1));
             }
         }
     }
@@ -69,28 +82,23 @@ fn is_from_the_old_word(ask: Ask) -> bool {
     }
 }
 
+fn three_gates(alloc: Global, seen: &Seen) -> Result<Vec<InOrder<'_>>, AllocError> {
+    let mut gates = Vec::new(alloc);
+    for _ in 0..3u8 {
+        gates.push(InOrder { seen, calls: 0 })?;
+    }
+    Ok(gates)
+}
+
 #[test]
 fn an_exchange_finds_its_word_again(rt: HostRuntime) -> Result<(), Fail> {
-    let called = [AtomicU64::new(0), AtomicU64::new(0), AtomicU64::new(0)];
-    let comes_back = AtomicU64::new(0);
-    let polls = Polls::new();
-    let mut gates = Vec::new(rt.alloc());
-    for _ in 0..3u8 {
-        gates.push(InOrder {
-            called: &called,
-            comes_back: &comes_back,
-            polls: &polls,
-            calls: 0,
-        })?;
-    }
-    let outcome = run_of(&rt, COMES_BACK, gates, 1_000, 4)?;
-    holds(polls.all_came(), "the order")?;
-    is_same(&comes_back.load(SeqCst), &1)?;
-    is_same(&called[0].load(SeqCst), &6)?;
-    let ends = [RunEnd::Ended; 3];
-    holds(
-        is_outcome(&outcome, &[&[1], &[], &[]], &ends),
-        "the outcome",
-    )?;
-    holds(outcome.registers.len() == 0, "no registers")
+    let seen = Seen {
+        called: [AtomicU64::new(0), AtomicU64::new(0), AtomicU64::new(0)],
+        comes_back: AtomicU64::new(0),
+        polls: Polls::new(),
+    };
+    let gates = three_gates(rt.alloc(), &seen)?;
+    comes_to_one_of(&rt, COMES_BACK, gates, &WANTED)?;
+    let counts = [seen.comes_back.load(SeqCst), seen.called[0].load(SeqCst)];
+    is_same(&(seen.polls.all_came(), counts), &(true, [1, 6]))
 }

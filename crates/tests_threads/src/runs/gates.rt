@@ -1,28 +1,41 @@
 //! What the gates are told: one call before each step on what is shared, and none besides.
 
-use crate::runs::running::{is_outcome, run_of};
+use crate::runs::running::{Wanted, comes_to_one_of};
 use code_machine::Ask;
+use std::alloc::{AllocError, Global};
 use std::sync::atomic::AtomicU64;
 use std::sync::atomic::Ordering::SeqCst;
 use std::test::Fail;
-use tests_shared::{holds, is_same};
-use tick_run::{Gate, RunEnd, RunOutcome};
+use tests_shared::is_same;
+use tick_run::{Gate, RunEnd};
 
 // Process 0: put r 9; stamp; s = scan; x = get r me; clear; out x; and process 1 ends.
 const EACH_STEP: &str =
     "tickcode 2 2 1 1 1\nMe\nJumpZero 3\nHalt\nPush 9\nPut 0\nLoadWord\nNext\nExchange 5\nScan 0\nMe\nGet 0 0\nClear\nLoad 0\nOut\nHalt\n";
 
-// The asks so far as a number, with a digit for each.
+static AS_ASKED: [Wanted<'static>; 1] = [Wanted {
+    outputs: &[&[9], &[]],
+    ends: &[RunEnd::Ended; 2],
+    registers: &[&[9, 0]],
+}];
+
+// The asks so far as a number, with a digit for each, and how many gates were let go.
+#[derive(Drop)]
+struct Seen {
+    asks: AtomicU64,
+    dropped: AtomicU64,
+}
+
 struct Recorded<'a> {
-    asks: &'a AtomicU64,
-    dropped: &'a AtomicU64,
+    seen: &'a Seen,
 }
 
 impl Gate for Recorded<'_> {
     fn before(&mut self, p: u8, ask: Ask) {
         let digit = if p == 0 { digit_of(ask) } else { 9 };
-        let before = self.asks.load(SeqCst);
-        self.asks
+        let before = self.seen.asks.load(SeqCst);
+        self.seen
+            .asks
             .store(before.wrapping_mul(10).wrapping_add(digit), SeqCst);
     }
 }
@@ -49,33 +62,27 @@ fn exchange_digit(old: u64, new: u64) -> u64 {
 
 impl Drop for Recorded<'_> {
     fn drop(self) {
-        self.dropped.fetch_add(1, SeqCst);
-        let Self {
-            asks: _,
-            dropped: _,
-        } = self;
+        self.seen.dropped.fetch_add(1, SeqCst);
+        let Self { seen: _ } = self;
     }
 }
 
-fn is_as_asked(outcome: &RunOutcome) -> bool {
-    is_outcome(outcome, &[&[9], &[]], &[RunEnd::Ended, RunEnd::Ended])
-        && outcome.registers.len() == 1
-        && matches!(outcome.registers.first(), Some(row) if row.as_slice() == [9, 0].as_slice())
+fn two_gates(alloc: Global, seen: &Seen) -> Result<Vec<Recorded<'_>>, AllocError> {
+    let mut gates = Vec::new(alloc);
+    for _ in 0..2u8 {
+        gates.push(Recorded { seen })?;
+    }
+    Ok(gates)
 }
 
 #[test]
 fn each_shared_step_is_told_once(rt: HostRuntime) -> Result<(), Fail> {
-    let asks = AtomicU64::new(0);
-    let dropped = AtomicU64::new(0);
-    let mut gates = Vec::new(rt.alloc());
-    for _ in 0..2u8 {
-        gates.push(Recorded {
-            asks: &asks,
-            dropped: &dropped,
-        })?;
-    }
-    let outcome = run_of(&rt, EACH_STEP, gates, 1_000, 4)?;
-    is_same(&asks.load(SeqCst), &512_346)?;
-    is_same(&dropped.load(SeqCst), &2)?;
-    holds(is_as_asked(&outcome), "the outcome")
+    let seen = Seen {
+        asks: AtomicU64::new(0),
+        dropped: AtomicU64::new(0),
+    };
+    let gates = two_gates(rt.alloc(), &seen)?;
+    comes_to_one_of(&rt, EACH_STEP, gates, &AS_ASKED)?;
+    let found = [seen.asks.load(SeqCst), seen.dropped.load(SeqCst)];
+    is_same(&found, &[512_346, 2])
 }

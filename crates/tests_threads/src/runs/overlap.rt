@@ -1,13 +1,15 @@
 //! Workers run at the same time: gates hold them until others have gone on, and no gate waits up to its
 //! limit. If workers ran one after the other, or two at a time, a gate would reach its limit.
 
-use crate::runs::running::{gave, is_outcome, run_of};
+use crate::runs::held::calls_of;
+use crate::runs::running::{Wanted, comes_to_one_of};
 use code_machine::Ask;
+use std::alloc::{AllocError, Global};
 use std::sync::atomic::AtomicU64;
 use std::sync::atomic::Ordering::SeqCst;
 use std::test::Fail;
-use tests_shared::{Polls, holds};
-use tick_run::{Gate, RunEnd, RunOutcome};
+use tests_shared::{Polls, holds, is_same};
+use tick_run::{Gate, RunEnd};
 
 // stamp; s = scan; x = older s 0 1; out x;
 const COMPARES: &str =
@@ -17,114 +19,98 @@ const COMPARES: &str =
 const PASSES_ON: &str =
     "tickcode 1 6 1 0 1\nMe\nPush 7\nBin +\nPut 0\nMe\nPush 1\nBin +\nCount\nBin %\nGet 0 0\nLoad 0\nOut\nHalt\n";
 
-// Counts its calls, and holds one of them until the other gate was called twice, so that the other's
-// process has made a step.
-#[derive(Drop)]
-struct Crossed<'a> {
-    own: &'a AtomicU64,
-    other: &'a AtomicU64,
-    polls: &'a Polls,
-    held_at: u64,
-}
-
-impl Gate for Crossed<'_> {
-    fn before(&mut self, _p: u8, _ask: Ask) {
-        if self.own.fetch_add(1, SeqCst) == self.held_at {
-            self.polls.wait(self.other, 2);
-        }
-    }
-}
-
 // Each gives out 0 or 1: it isn't so that process 0 sees 1 and process 1 sees 0.
-fn is_crossed(outcome: &RunOutcome) -> bool {
-    let zero_gave = gave(outcome, 0, &[0]);
-    let one_gave = gave(outcome, 1, &[1]);
-    outcome.ends.as_slice() == [RunEnd::Ended, RunEnd::Ended].as_slice()
-        && outcome.outputs.len() == 2
-        && (zero_gave || gave(outcome, 0, &[1]))
-        && (one_gave || gave(outcome, 1, &[0]))
-        && (zero_gave || one_gave)
-}
+static CROSSED: [Wanted<'static>; 3] = [
+    Wanted {
+        outputs: &[&[0], &[0]],
+        ends: &[RunEnd::Ended; 2],
+        registers: &[],
+    },
+    Wanted {
+        outputs: &[&[0], &[1]],
+        ends: &[RunEnd::Ended; 2],
+        registers: &[],
+    },
+    Wanted {
+        outputs: &[&[1], &[1]],
+        ends: &[RunEnd::Ended; 2],
+        registers: &[],
+    },
+];
 
 // Process 0 waits before its first step for the first of process 1, which waits before its second for
 // the first of process 0. So both load the same word, and one of them has to stamp again.
 #[test]
 fn two_workers_cross(rt: HostRuntime) -> Result<(), Fail> {
-    let (zero, one, polls) = (AtomicU64::new(0), AtomicU64::new(0), Polls::new());
-    let mut gates = Vec::new(rt.alloc());
-    gates.push(Crossed {
-        own: &zero,
-        other: &one,
-        polls: &polls,
-        held_at: 0,
-    })?;
-    gates.push(Crossed {
-        own: &one,
-        other: &zero,
-        polls: &polls,
-        held_at: 1,
-    })?;
-    let outcome = run_of(&rt, COMPARES, gates, 1_000, 4)?;
-    holds(polls.all_came(), "no gate gives up")?;
-    let calls = (zero.load(SeqCst), one.load(SeqCst));
-    let is_one_again = calls == (3, 5) || calls == (5, 3);
-    holds(is_one_again, "one stamps again")?;
-    holds(is_crossed(&outcome), "the outcome")
+    let calls = calls_of(&rt, COMPARES, (0, 2), (1, 2), &CROSSED)?;
+    holds(calls == [3, 5] || calls == [5, 3], calls)
+}
+
+// How often each of six gates was called.
+#[derive(Drop)]
+struct Calls {
+    of: [AtomicU64; 6],
+    polls: Polls,
 }
 
 // Waits at each call until all six gates were called as often.
 #[derive(Drop)]
 struct Together<'a> {
-    calls: &'a [AtomicU64],
-    polls: &'a Polls,
+    calls: &'a Calls,
     made: u64,
 }
 
 impl Gate for Together<'_> {
     fn before(&mut self, p: u8, _ask: Ask) {
         self.made = self.made.wrapping_add(1);
-        if let Some(own) = self.calls.get(p as usize) {
+        if let Some(own) = self.calls.of.get(p as usize) {
             own.store(self.made, SeqCst);
         }
-        for other in self.calls {
-            self.polls.wait(other, self.made);
+        for other in &self.calls.of {
+            self.calls.polls.wait(other, self.made);
         }
     }
 }
 
-fn is_passed_on(outcome: &RunOutcome) -> bool {
-    let row = [7, 8, 9, 10, 11, 12];
-    is_outcome(
-        outcome,
-        &[&[8], &[9], &[10], &[11], &[12], &[7]],
-        &[RunEnd::Ended; 6],
-    ) && outcome.registers.len() == 1
-        && matches!(outcome.registers.first(), Some(found) if found.as_slice() == row.as_slice())
+fn six_gates(alloc: Global, calls: &Calls) -> Result<Vec<Together<'_>>, AllocError> {
+    let mut gates = Vec::new(alloc);
+    for _ in 0..6u8 {
+        gates.push(Together { calls, made: 0 })?;
+    }
+    Ok(gates)
+}
+
+static PASSED_ON: [Wanted<'static>; 1] = [Wanted {
+    outputs: &[&[8], &[9], &[10], &[11], &[12], &[7]],
+    ends: &[RunEnd::Ended; 6],
+    registers: &[&[7, 8, 9, 10, 11, 12]],
+}];
+
+// Whether no gate gave up, and how many were called just twice.
+fn called_twice(calls: &Calls) -> (bool, u32) {
+    let mut twice = 0u32;
+    for own in &calls.of {
+        if own.load(SeqCst) == 2 {
+            twice = twice.wrapping_add(1);
+        }
+    }
+    (calls.polls.all_came(), twice)
 }
 
 #[test]
 fn six_workers_go_together(rt: HostRuntime) -> Result<(), Fail> {
-    let calls = [
-        AtomicU64::new(0),
-        AtomicU64::new(0),
-        AtomicU64::new(0),
-        AtomicU64::new(0),
-        AtomicU64::new(0),
-        AtomicU64::new(0),
-    ];
-    let polls = Polls::new();
-    let mut gates = Vec::new(rt.alloc());
-    for _ in 0..6u8 {
-        gates.push(Together {
-            calls: &calls,
-            polls: &polls,
-            made: 0,
-        })?;
-    }
-    let outcome = run_of(&rt, PASSES_ON, gates, 1_000, 4)?;
-    holds(polls.all_came(), "no gate gives up")?;
-    for own in &calls {
-        holds(own.load(SeqCst) == 2, "two calls of each gate")?;
-    }
-    holds(is_passed_on(&outcome), "the outcome")
+    let calls = Calls {
+        of: [
+            AtomicU64::new(0),
+            AtomicU64::new(0),
+            AtomicU64::new(0),
+            AtomicU64::new(0),
+            AtomicU64::new(0),
+            AtomicU64::new(0),
+        ],
+        polls: Polls::new(),
+    };
+    let gates = six_gates(rt.alloc(), &calls)?;
+    comes_to_one_of(&rt, PASSES_ON, gates, &PASSED_ON)?;
+    is_same(&called_twice(&calls), &(true, 6))
 }

@@ -1,6 +1,8 @@
 //! A thread that is refused after others have started.
 
-use code_machine::Ask;
+ghost use Rattle.std.specs.Prelude.{◌≡◌, vec_len};
+
+use code_machine::{Ask, Code};
 use code_text::read_code;
 use std::alloc::{AllocError, Global};
 use std::sync::Wait;
@@ -8,7 +10,7 @@ use std::sync::atomic::AtomicU64;
 use std::sync::atomic::Ordering::SeqCst;
 use std::test::Fail;
 use std::thread::Threads;
-use tests_shared::{holds, is_same};
+use tests_shared::is_same;
 use tick_run::{Gate, RunFault, run};
 
 // while 1 { put r me; }
@@ -56,28 +58,61 @@ fn stacks(alloc: Global, count: usize) -> Result<Vec<Vec<u8>>, AllocError> {
     Ok(blocks)
 }
 
+// Takes all but room for the stacks of so many threads.
+fn all_but(alloc: Global, room: usize) -> Result<Vec<Vec<u8>>, AllocError> {
+    let stacks = stacks(alloc, room)?;
+    let blocks = all_space(alloc)?;
+    drop(stacks);
+    Ok(blocks)
+}
+
+fn counted_gates(
+    alloc: Global,
+    n: u8,
+    dropped: &AtomicU64,
+) -> Result<Vec<Counted<'_>>, AllocError> {
+    let mut gates = Vec::new(alloc);
+    for _ in 0..n {
+        gates.push(Counted { dropped })?;
+    }
+    Ok(gates)
+}
+
+// How a run ends that has room for the stacks of so many threads.
+fn fault_of<R: AllocGlobal + Threads + Wait>(
+    rt: &R,
+    code: &Code,
+    gates: Vec<Counted<'_>>,
+    room: usize,
+) -> Result<Option<RunFault>, AllocError>
+    requires { vec_len gates ≡ code.now.sizes.processes }
+{
+    let blocks = all_but(rt.alloc(), room)?;
+    let fault = run(rt, rt.alloc(), code, gates, 100_000, 4).err();
+    drop(blocks);
+    Ok(fault)
+}
+
+fn code_of(alloc: Global, n: u8) -> Result<Code, Fail> {
+    let text = format!(in alloc; "tickcode 1 {n} 0 0 1\n{WRITES}")?;
+    Ok(read_code(alloc, text.as_str())?)
+}
+
 // There is room for the stacks of so many threads. Where these are fewer than the processes the run is
 // refused, and every worker that had started has ended by then: all gates are gone. A worker on the
 // caller's own thread would want no stack, and the run would be made.
 fn is_refused<R: AllocGlobal + Threads + Wait>(rt: &R, n: u8, room: usize) -> Result<(), Fail> {
-    let alloc = rt.alloc();
     let dropped = AtomicU64::new(0);
-    let mut gates = Vec::new(alloc);
-    for _ in 0..n {
-        gates.push(Counted { dropped: &dropped })?;
-    }
-    let text = format!(in alloc; "tickcode 1 {n} 0 0 1\n{WRITES}")?;
-    let code = read_code(alloc, text.as_str())?;
+    let gates = counted_gates(rt.alloc(), n, &dropped)?;
+    let code = code_of(rt.alloc(), n)?;
     if gates.len() != code.sizes().processes() as usize {
         return Err(Fail::from("a gate for each process"));
     }
-    let stacks = stacks(alloc, room)?;
-    let blocks = all_space(alloc)?;
-    drop(stacks);
-    let fault = run(rt, alloc, &code, gates, 100_000, 4).err();
-    drop(blocks);
-    holds(fault == Some(RunFault::NoThread), "no thread")?;
-    is_same(&dropped.load(SeqCst), &u64::from(n))
+    let fault = fault_of(rt, &code, gates, room)?;
+    is_same(
+        &(fault, dropped.load(SeqCst)),
+        &(Some(RunFault::NoThread), u64::from(n)),
+    )
 }
 
 #[test]

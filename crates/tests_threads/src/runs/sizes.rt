@@ -1,7 +1,7 @@
 //! Runs with each number of processes and of register rows, also with a limit of more than 1,000,000,000
 //! turns.
 
-use crate::runs::running::{gave, open_gates, run_of};
+use crate::runs::running::{open_gates, run_of};
 use std::alloc::{AllocError, Global};
 use std::fmt::Write;
 use std::sync::Wait;
@@ -41,22 +41,33 @@ fn are_rows(outcome: &RunOutcome, n: u8, rows: u8) -> bool {
     number == u32::from(rows)
 }
 
+// Process `p` gave out `p`, and ended.
 fn are_ends(outcome: &RunOutcome, n: u8) -> bool {
-    for p in 0..n {
-        if !gave(outcome, p as usize, &[u32::from(p)]) {
+    let mut p = 0u32;
+    for (outputs, end) in outcome.outputs.iter().zip(&outcome.ends) {
+        if outputs.as_slice() != [p].as_slice() || *end != RunEnd::Ended {
             return false;
         }
+        p = p.wrapping_add(1);
     }
-    let ends = [RunEnd::Ended; 6];
-    outcome.outputs.len() == n as usize && outcome.ends.as_slice() == &ends[..(n as usize).min(6)]
+    [outcome.outputs.len(), outcome.ends.len()] == [n as usize; 2]
+}
+
+fn outcome_of<R: AllocGlobal + Threads + Wait>(
+    rt: &R,
+    n: u8,
+    rows: u8,
+    turns: u64,
+) -> Result<RunOutcome, Fail> {
+    let gates = open_gates(rt.alloc(), n)?;
+    let text = writing(rt.alloc(), n, rows)?;
+    run_of(rt, text.as_str(), gates, turns, 4)
 }
 
 fn runs<R: AllocGlobal + Threads + Wait>(rt: &R, n: u8, rows: u8, turns: u64) -> Result<(), Fail> {
-    let text = writing(rt.alloc(), n, rows)?;
-    let gates = open_gates(rt.alloc(), n)?;
-    let outcome = run_of(rt, text.as_str(), gates, turns, 4)?;
+    let outcome = outcome_of(rt, n, rows, turns)?;
     let is_so = are_rows(&outcome, n, rows) && are_ends(&outcome, n);
-    holds(is_so, text.as_str())
+    holds(is_so, (n, rows, turns))
 }
 
 static TURNS: [u64; 3] = [100, 1_000_000_001, u64::MAX];

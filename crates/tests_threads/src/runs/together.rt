@@ -1,9 +1,8 @@
 //! If some processes stop early, the others go on.
 
-use crate::runs::running::{Row, come_to, is_outcome, open_gates, run_of};
+use crate::runs::running::{Row, Wanted, come_to, comes_to_one_of, open_gates};
 use code_machine::Trap;
 use std::test::Fail;
-use tests_shared::holds;
 use tick_run::RunEnd;
 
 // if (me == 1) { x = (0 - 1); } else { out 5; }
@@ -57,20 +56,20 @@ fn the_others_go_on(rt: HostRuntime) -> Result<(), Fail> {
     come_to(&rt, &STOPPED)
 }
 
-// Whoever stops gives back what it has seen, so that the run has an outcome, with all registers.
-#[test]
-fn each_stops_in_its_way(rt: HostRuntime) -> Result<(), Fail> {
-    let gates = open_gates(rt.alloc(), 4)?;
-    let outcome = run_of(&rt, EACH_ITS_WAY, gates, 1_000, 4)?;
-    let ends = [
+static ITS_WAY: [Wanted<'static>; 1] = [Wanted {
+    outputs: &[&[5, 6], &[], &[], &[3, 3, 3, 3]],
+    ends: &[
         RunEnd::Ended,
         RunEnd::Trapped(Trap::Below),
         RunEnd::TurnsSpent,
         RunEnd::OutputsFull,
-    ];
-    let outputs: [&[u32]; 4] = [&[5, 6], &[], &[], &[3, 3, 3, 3]];
-    holds(is_outcome(&outcome, &outputs, &ends), "outputs and ends")?;
-    let row = outcome.registers.first();
-    let is_row = matches!(row, Some(row) if row.as_slice() == [1, 2, 3, 4].as_slice());
-    holds(is_row && outcome.registers.len() == 1, "the registers")
+    ],
+    registers: &[&[1, 2, 3, 4]],
+}];
+
+// Whoever stops gives back what it has seen, so that the run has an outcome, with all registers.
+#[test]
+fn each_stops_in_its_way(rt: HostRuntime) -> Result<(), Fail> {
+    let gates = open_gates(rt.alloc(), 4)?;
+    comes_to_one_of(&rt, EACH_ITS_WAY, gates, &ITS_WAY)
 }

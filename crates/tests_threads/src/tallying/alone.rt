@@ -1,8 +1,8 @@
 //! One process by itself: each run has the same outcome.
 
-use crate::tallying::tallies::{always_ends_with, tallied};
+use crate::tallying::tallies::{always_ends_with, are_counted, tallied};
 use std::test::Fail;
-use tests_shared::{is_same, repeated};
+use tests_shared::repeated;
 
 const TURNS: u64 = 1_000_000;
 
@@ -13,14 +13,15 @@ const COUNTED: &str = "outputs 0 2\nreg 0 7\nstatus 0 ended\n";
 
 #[test]
 fn one_outcome(rt: HostRuntime) -> Result<(), Fail> {
-    always_ends_with(&rt, COUNTS, 1, TURNS, COUNTED)?;
-    always_ends_with(&rt, COUNTS, 7, TURNS, COUNTED)?;
-    always_ends_with(&rt, COUNTS, 300, TURNS, COUNTED)
+    for times in [1, 7, 300] {
+        always_ends_with(&rt, COUNTS, times, TURNS, COUNTED)?;
+    }
+    Ok(())
 }
 
 #[test]
 fn no_run(rt: HostRuntime) -> Result<(), Fail> {
-    is_same(&tallied(&rt, COUNTS, 0, TURNS)?, &Vec::new(rt.alloc()))
+    are_counted(&tallied(&rt, COUNTS, 0, TURNS)?, &[])
 }
 
 // It stops before one more than 10,000 values.

@@ -1,7 +1,7 @@
 //! Two processes that race: the outcomes differ from run to run, and each is a possible one.
 
 use crate::tallying::tallies::tallied;
-use searches_tally::Counted;
+use searches_hunt::Counted;
 use std::cmp::Ordering;
 use std::test::Fail;
 use tests_shared::{holds, is_same};
@@ -19,15 +19,6 @@ static ALLOWED: [&str; 3] = [
     "outputs 0 0\noutputs 1 1\nstatus 0 ended\nstatus 1 ended\n",
     "outputs 0 1\noutputs 1 1\nstatus 0 ended\nstatus 1 ended\n",
 ];
-
-fn is_allowed(outcome: &str) -> bool {
-    for text in ALLOWED {
-        if text == outcome {
-            return true;
-        }
-    }
-    false
-}
 
 // How many runs there were.
 fn runs(all: &[Counted]) -> u64 {
@@ -47,13 +38,19 @@ fn comes_before(first: &Counted, second: &Counted) -> bool {
     }
 }
 
+// What came at a place of the tally may come, and stands before what follows.
+fn is_in_place(counted: &Counted, next: Option<&Counted>) -> bool {
+    let comes_first = match next {
+        Some(next) => comes_before(counted, next),
+        None => true,
+    };
+    counted.times > 0 && comes_first && ALLOWED.contains(&counted.outcome.as_str())
+}
+
 fn is_tally(all: &[Counted]) -> Result<(), Fail> {
     for (place, counted) in all.iter().enumerate() {
-        holds(counted.times > 0, place)?;
-        holds(is_allowed(counted.outcome.as_str()), place)?;
-        if let Some(next) = all.get(place.saturating_add(1)) {
-            holds(comes_before(counted, next), place)?;
-        }
+        let next = all.get(place.saturating_add(1));
+        holds(is_in_place(counted, next), place)?;
     }
     is_same(&runs(all), &u64::from(RUNS))
 }

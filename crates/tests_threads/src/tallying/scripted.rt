@@ -1,12 +1,12 @@
 //! A scripted runner, of which one run in a given number traps: each call counts once.
 
+use crate::tallying::tallies::{are_counted, code_of};
 use base::{RunEnd, RunOutcome, Trap};
 use code_core::Code;
-use searches_tally::{Counted, tally};
+use searches_hunt::tally;
 use std::alloc::{AllocError, Global};
 use std::test::Fail;
-use tests_shared::{accepted, is_same};
-use tick_lower::lower;
+use tests_shared::is_same;
 use tick_run::{RunFault, Runner};
 
 /// Each run whose number can be divided by `every` traps.
@@ -45,13 +45,6 @@ fn alone(alloc: Global, end: RunEnd) -> Result<RunOutcome, AllocError> {
     })
 }
 
-fn counted(alloc: Global, times: u32, outcome: &str) -> Result<Counted, AllocError> {
-    Ok(Counted {
-        times,
-        outcome: String::from_str(alloc, outcome)?,
-    })
-}
-
 const ENDED: &str = "outputs 0\nstatus 0 ended\n";
 
 const TRAPPED: &str = "outputs 0\nstatus 0 trapped Zero\n";
@@ -63,18 +56,15 @@ fn traps_so_often(
     times: u32,
     wanted: &[(u32, &str)],
 ) -> Result<(), Fail> {
-    let code = lower(alloc, &accepted(alloc, "processes 1; begin end")?)?;
     let mut script = Script {
         alloc,
         calls: 0,
         every,
     };
+    let code = code_of(alloc, "processes 1; begin end")?;
     let all = tally(alloc, &mut script, &code, times, 1)?;
-    let mut counts = Vec::new(alloc);
-    for (often, outcome) in wanted {
-        counts.push(counted(alloc, *often, outcome)?)?;
-    }
-    is_same(&(all, script.calls), &(counts, u64::from(times)))
+    is_same(&script.calls, &u64::from(times))?;
+    are_counted(&all, wanted)
 }
 
 #[test]
