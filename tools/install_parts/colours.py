@@ -94,7 +94,8 @@ class TextMate:
         """The first match from each place on counts, of several the first rule."""
         letters, at = "", 0
         while True:
-            found = [(it.start(), letter, it.end()) for letter, form in self.rules for it in [form.search(line, at)] if it]
+            searched = [(letter, form.search(line, at)) for letter, form in self.rules]
+            found = [(it.start(), letter, it.end()) for letter, it in searched if it]
             if not found:
                 return letters + " " * (len(line) - at)
             start, letter, end = min(found, key=lambda it: it[0])
@@ -131,7 +132,7 @@ def by_vim(folder, lines):
                 file.write(text)
         environment = {**os.environ, "FOLDER": folder, "TEXT": f"{own}/text.tick", "TOLD": f"{own}/told", "TERM": "dumb"}
         subprocess.run(["vim", "-u", "NONE", "-i", "NONE", "-n", "-es", "-S", f"{own}/script.vim"], env=environment,
-                       stdin=subprocess.DEVNULL, stdout=subprocess.PIPE, stderr=subprocess.STDOUT, timeout=60)
+                       stdin=subprocess.DEVNULL, stdout=subprocess.PIPE, stderr=subprocess.STDOUT, timeout=600)
         with open(f"{own}/told", encoding="latin-1") as file:
             told = file.read().split("\n")
     if told[0] != "tick":

@@ -71,10 +71,10 @@ printf '\\036'
 
 def in_bash(path, name, asked):
     """The command that asks bash."""
-    lines = [
-        BASH.format(words=shlex.join(words), last=len(words) - 1, word=shlex.quote(words[-1]), name=name) for words in asked
-    ]
-    return ["bash", "--norc", "-c", f". {shlex.quote(path)}\n{''.join(lines)}"]
+    def of_row(words):
+        return BASH.format(words=shlex.join(words), last=len(words) - 1, word=shlex.quote(words[-1]), name=name)
+
+    return ["bash", "--norc", "-c", f". {shlex.quote(path)}\n{''.join(map(of_row, asked))}"]
 
 
 def in_fish(path, _name, asked):
@@ -95,7 +95,7 @@ def answers(command):
             with open(f"{own}/{name}", "wb"):
                 pass
         ran = subprocess.run(command, cwd=own, stdin=subprocess.DEVNULL, stdout=subprocess.PIPE,
-                             stderr=subprocess.STDOUT, timeout=60, env={**os.environ, "HOME": own})
+                             stderr=subprocess.STDOUT, timeout=600, env={**os.environ, "HOME": own})
     return [it.split() for it in ran.stdout.decode(errors="replace").split("\x1e")]
 
 

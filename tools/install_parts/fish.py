@@ -6,7 +6,10 @@ complete -c {name} -f
 """
 
 # The files after an `@`, as they stand in place of a schedule.
-SCHEDULE = "(set -l word (commandline -ct); string match -q '@*' -- $word; and string replace -r '^' @ -- (__fish_complete_path (string sub -s 2 -- $word)))"
+SCHEDULE = (
+    "(set -l word (commandline -ct); string match -q '@*' -- $word; "
+    "and string replace -r '^' @ -- (__fish_complete_path (string sub -s 2 -- $word)))"
+)
 
 
 def quoted(text):

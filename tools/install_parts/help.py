@@ -61,6 +61,8 @@ def sections(text):
             lines = found.setdefault(line[:-1], [])
         elif not line.startswith(" "):
             lines = []
+        elif line.startswith(" " * 8) and lines:
+            lines[-1] += f"  {line.strip()}"
         elif line.strip():
             lines.append(line)
     return found

@@ -29,7 +29,8 @@ class Record:
 
     def joined(self, other):
         """This record and another in one."""
-        files = {path: self.files.get(path, set()) | other.files.get(path, set()) for path in {**self.files, **other.files}}
+        paths = {**self.files, **other.files}
+        files = {path: self.files.get(path, set()) | other.files.get(path, set()) for path in paths}
         return Record(files, list(dict.fromkeys([*self.folders, *other.folders])))
 
 

@@ -84,5 +84,5 @@ def package(files):
         needed = debian.glibc_of([files[f"bin/{name}"].content for name in PROGRAMS])
         wrong += trials.is_so("the package depends on libc6", about == f"libc6 (>= {needed})", about)
         told = told_version()
-        wrong += trials.is_so("README.md and tools/program.sh tell the C library", told == {needed}, f"{told}, not {needed}")
+        wrong += trials.is_so("README.md and tools/program.sh tell this glibc", told == {needed}, f"{told}, not {needed}")
         return wrong + by_dpkg(path, own)

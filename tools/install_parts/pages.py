@@ -104,13 +104,19 @@ def help_says(program):
     said = {f"EXIT STATUS: {it}" for it in program.statuses} | {f"an option {name}" for name in own}
     for command in program.commands:
         said.add(f"SYNOPSIS: {' '.join([command.name, *map(argument, command.arguments)])}")
-        said |= {f"COMMANDS: {command.name}", f"COMMANDS: an example of {command.name}", f"a command {command.name}"}
+        said |= {f"COMMANDS: {command.name}", f"COMMANDS: an example of {command.name}"}
         for option in command.options:
             if not own.issuperset(option.names):
                 said.add(f"SYNOPSIS: {command.name} [{' '.join([option.names[-1], *option.values])}]")
                 said.add(f"COMMANDS: {command.name} {' '.join([*option.names, *option.values])}")
-                said |= {f"an option {name}" for name in option.names}
     return said
+
+
+def names_of(program):
+    """The commands and options that a page may name anywhere."""
+    options = [option for command in program.commands for option in command.options]
+    names = {f"an option {name}" for option in options for name in option.names}
+    return names | {f"a command {command.name}" for command in program.commands}
 
 
 def section(text, heading):
@@ -168,7 +174,7 @@ def differences(top, texts, programs):
         wanted |= set() if program.statuses else documents_say(top)
         said = page_says(texts[program.name])
         wrong += [f"{path}: lacks {it}" for it in sorted(wanted - said)]
-        wrong += [f"{path}: has {it}, which {program.name} has not" for it in sorted(said - wanted)]
+        wrong += [f"{path}: has {it}, which {program.name} has not" for it in sorted(said - wanted - names_of(program))]
     if lacks_grammar(texts["tick"], top):
         wrong.append(f"{path_of('tick')}: GRAMMAR: not that of docs/LANGUAGE.md")
     return wrong
@@ -194,7 +200,7 @@ def run_examples(text, path, folder, programs):
     environment = {**os.environ, "PATH": f"{programs}:{os.environ['PATH']}"}
     for command, printed in shown:
         ran = subprocess.run(["bash", "-c", command], cwd=folder, env=environment, stdin=subprocess.DEVNULL,
-                             stdout=subprocess.PIPE, stderr=subprocess.STDOUT, timeout=60)
+                             stdout=subprocess.PIPE, stderr=subprocess.STDOUT, timeout=600)
         answered = ran.stdout.decode(errors="replace")
         if answered != printed:
             wrong.append(f"{path}: {command}\nprinted:\n{printed}answered:\n{answered}")

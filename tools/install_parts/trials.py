@@ -1,4 +1,4 @@
-"""Installs into folders of its own, and takes away again; each trial answers what is told of what isn't as it has to be."""
+"""Installs into folders of its own, and takes away again; each trial answers what isn't as it has to be."""
 import contextlib
 import hashlib
 import os
@@ -81,8 +81,9 @@ def all_of_it(files):
         wrong = [f"not installed: {path}" for path in sorted({*WANTED, *examples} - listed)]
         wrong += [f"installed too: {path}" for path in sorted(listed - {*WANTED, *examples})]
         modes = {path for path in listed if stat.S_IMODE(os.stat(f"{prefix}/{path}").st_mode) == 0o755}
-        wrong += is_so("programs alone may be run", modes == {path for path in listed if path.startswith("bin/")})
-        wrong += [f"{path} has symbols" for path in listed if path.startswith("bin/") and b".symtab" in files[path].content]
+        programs = {path for path in listed if path.startswith("bin/")}
+        wrong += is_so("the programs alone may be run", modes == programs)
+        wrong += [f"{path} has symbols" for path in programs if b".symtab" in files[path].content]
         installing.uninstall(prefix)
         return wrong + unlike({}, seen(own))
 
@@ -105,7 +106,8 @@ def once_more(files):
     with folder() as own:
         installing.install(own, older)
         left = installing.install(own, files)
-        wrong = is_so("nothing of an older install stays", not left and not os.path.exists(f"{own}/share/older/page"))
+        is_gone = not os.path.exists(f"{own}/share/older/page")
+        wrong = is_so("nothing of an older install stays", not left and is_gone)
         with open(f"{own}/bin/ticketc", "rb") as file:
             wrong += is_so("a second install replaces bin/ticketc", file.read() == files["bin/ticketc"].content)
         installing.uninstall(own)
@@ -119,7 +121,7 @@ def changed_since(files):
         installing.install(own, files)
         write(f"{own}/{path}")
         told = refusal(installing.install, own, files) or ""
-        wrong = is_so("a changed file is replaced", path in told, told)
+        wrong = is_so("a changed file is not replaced", path in told, told)
         removed, changed = installing.uninstall(own)
         wrong += is_so("a changed file is told", changed == [path] and removed == len(files) - 1)
         wanted = {os.path.dirname(path), os.path.dirname(os.path.dirname(path)), "share", path}
@@ -132,9 +134,10 @@ def of_others(files):
         write(f"{own}/bin/ticklab")
         before = seen(own)
         told = refusal(installing.install, own, files) or ""
-        wrong = is_so("a file of another owner is replaced", "bin/ticklab: is there" in told, told) + unlike(before, seen(own))
+        wrong = is_so("a file of another owner is kept", "bin/ticklab: is there" in told, told)
         told = refusal(installing.uninstall, own) or ""
-        return wrong + is_so("where nothing was installed", "nothing was installed here" in told, told)
+        wrong += is_so("where nothing was installed", "nothing was installed here" in told, told)
+        return wrong + unlike(before, seen(own))
 
 
 def not_ours_to_name(files):
@@ -145,7 +148,8 @@ def not_ours_to_name(files):
         with open(f"{own}/prefix/{installing.RECORD}", "a", encoding="utf-8") as file:
             file.write(f"file {installing.sum_of(OTHER)} ../elsewhere\n")
         told = refusal(installing.uninstall, f"{own}/prefix") or ""
-        return is_so("a list that names a file elsewhere", "no list of what" in told and os.path.exists(f"{own}/elsewhere"), told)
+        is_kept = "no list of what" in told and os.path.exists(f"{own}/elsewhere")
+        return is_so("a list that names a file elsewhere is refused", is_kept, told)
 
 
 def cut_off(files):
@@ -197,9 +201,11 @@ def refused_lines():
         wrong = []
         for tool in ("install", "uninstall", "deb"):
             for words in ([], ["--help"]):
-                wrong += is_so(f"{tool} {words}", ran(tool, *words) == (2, f"usage: tools/{tool} {'FOLDER' if tool == 'deb' else 'PREFIX'}\n"))
-        status, told = ran("install", f"{own}/file/below")
-        wrong += is_so("a PREFIX that can't be written", status == 1 and told == f"install: {own}/file/below: Not a directory\n", told)
+                usage = f"usage: tools/{tool} {'FOLDER' if tool == 'deb' else 'PREFIX'}\n"
+                wrong += is_so(f"{tool} {words}", ran(tool, *words) == (2, usage))
+        answer = ran("install", f"{own}/file/below")
+        wanted = (1, f"install: {own}/file/below: Not a directory\n")
+        wrong += is_so("a PREFIX that can't be written", answer == wanted, answer[1])
         return wrong + unlike({"file": seen(own)["file"]}, seen(own))
 
 
