@@ -8,15 +8,16 @@ ready=$top/dist/x86_64-linux
 start() {
     name=$1
     shift
-    program=$top/crates/$name/out/$name
-    if [ ! -x "$program" ]; then
-        if is_ready "$name"; then
-            program=$ready/$name
-        else
-            "$top/tools/build" "$name" </dev/null
-        fi
-    fi
+    find_program "$name" || "$top/tools/build" "$name" </dev/null
     exec "$program" "$@"
+}
+
+# Sets `program` to the path of a program. Where it fails, the program has to be built there first.
+find_program() {
+    program=$top/crates/$1/out/$1
+    [ ! -x "$program" ] || return 0
+    is_ready "$1" || return 1
+    program=$ready/$1
 }
 
 # Whether the program in dist/ can stand for the one that would be built here. What was found is noted in a file, and

@@ -1,0 +1,20 @@
+# Builds, installs and packs ticketc and ticklab; the scripts in tools/ do it. `bash .ci/run` tests them.
+
+PREFIX = /usr/local
+DESTDIR =
+
+# Proves and builds each program that lies neither built nor ready here.
+all:
+	@top=$$PWD; . tools/program.sh; for name in ticketc ticklab; do find_program $$name || tools/build $$name || exit; done
+
+install:
+	tools/install "$(DESTDIR)$(PREFIX)"
+
+uninstall:
+	tools/uninstall "$(DESTDIR)$(PREFIX)"
+
+# A Debian package, in out/.
+deb:
+	tools/deb out
+
+.PHONY: all install uninstall deb

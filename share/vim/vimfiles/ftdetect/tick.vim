@@ -1,0 +1,2 @@
+" Programs over tickets.
+autocmd BufNewFile,BufRead *.tick setfiletype tick

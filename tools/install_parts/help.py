@@ -1,0 +1,118 @@
+"""What a program says of itself in its help: its commands, what each takes, and the statuses that it ends with.
+
+ticklab has a help of several sections, and one for each command. ticketc has a line: `usage: ticketc order N | check`.
+"""
+import re
+import subprocess
+
+USAGE = re.compile(r"usage: (\S+) (.*)\n")
+COMMAND = re.compile(r"  (\S+)  +(\S.*)")
+ARGUMENT = re.compile(r"  ([<\[])([^>\]]+)[>\]](\.\.\.)?(?:  +(\S.*))?")
+OPTION = re.compile(r"  (?:(-\w)(?:, )?|    )(--[\w-]+)?((?: <[^>]+>)*)(?:  +(\S.*))?")
+STATUS = re.compile(r"(?:: |; )(\d+) ")
+
+
+class BadHelp(Exception):
+    """A line of a help that is none of these."""
+
+
+class Argument:
+    """A word that a command takes, by the name that stands for it."""
+
+    def __init__(self, name, about="", is_optional=False, is_repeated=False):
+        self.name, self.about, self.is_optional, self.is_repeated = name, about, is_optional, is_repeated
+
+
+class Option:
+    """An option by its names, `--limit` or both `-h` and `--help`, with the names of its values."""
+
+    def __init__(self, names, values, about):
+        self.names, self.values, self.about = names, values, about
+
+
+class Command:
+    """A command with its arguments in their order and its options."""
+
+    def __init__(self, name, about="", arguments=(), options=()):
+        self.name, self.about, self.arguments, self.options = name, about, list(arguments), list(options)
+
+
+class Program:
+    """A program with its commands in the order of the help, its own options, and its statuses where the help has them."""
+
+    def __init__(self, name, commands, options, statuses):
+        self.name, self.commands, self.options, self.statuses = name, commands, options, statuses
+
+    def command(self, name):
+        return next((it for it in self.commands if it.name == name), None)
+
+
+def said(path, *words):
+    """What a program says on both outputs."""
+    ran = subprocess.run([path, *words], stdin=subprocess.DEVNULL, stdout=subprocess.PIPE, stderr=subprocess.STDOUT)
+    return ran.stdout.decode(errors="replace")
+
+
+def sections(text):
+    """The lines below each heading of a help, as `Options:`."""
+    found, lines = {}, []
+    for line in text.split("\n"):
+        if line.endswith(":") and not line.startswith(" "):
+            lines = found.setdefault(line[:-1], [])
+        elif not line.startswith(" "):
+            lines = []
+        elif line.startswith(" " * 8) and lines:
+            lines[-1] += f"  {line.strip()}"
+        elif line.strip():
+            lines.append(line)
+    return found
+
+
+def matched(form, lines):
+    """What a form finds in each of these lines."""
+    for line in lines:
+        found = form.fullmatch(line)
+        if not found:
+            raise BadHelp(f"a line of --help that tools/install_parts/help.py doesn't know: {line.strip()}")
+        yield found
+
+
+def options_of(found):
+    return [
+        Option([it for it in (short, long) if it], re.findall(r"<([^>]+)>", values), about or "")
+        for short, long, values, about in (it.groups() for it in matched(OPTION, found.get("Options", [])))
+    ]
+
+
+def arguments_of(found):
+    return [
+        Argument(name, about or "", bracket == "[", bool(dots))
+        for bracket, name, dots, about in (it.groups() for it in matched(ARGUMENT, found.get("Arguments", [])))
+    ]
+
+
+def of_usage(name, line):
+    """The program whose help is one line."""
+    commands = []
+    for form in line.split(" | "):
+        words = form.split()
+        commands.append(Command(words[0], "", map(Argument, words[1:])))
+    return Program(name, commands, [], [])
+
+
+def of_sections(name, text, of_command):
+    """The program whose help has sections; `of_command` gives the help of a command."""
+    found, commands = sections(text), []
+    for command, about in (it.groups() for it in matched(COMMAND, found.get("Commands", []))):
+        own = sections(of_command(command))
+        commands.append(Command(command, about, arguments_of(own), options_of(own)))
+    return Program(name, commands, options_of(found), STATUS.findall(text.partition("Exit status")[2]))
+
+
+def program(name, path):
+    """What the program at this path says of itself."""
+    text = said(path, "--help")
+    usage = USAGE.fullmatch(text)
+    if usage:
+        return of_usage(name, usage[2])
+    return of_sections(name, text, lambda command: said(path, "help", command))

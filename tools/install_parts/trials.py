@@ -1,0 +1,260 @@
+"""Installs into folders of its own, and takes away again; each trial answers what isn't as it has to be."""
+import contextlib
+import hashlib
+import os
+import shutil
+import stat
+import subprocess
+import tempfile
+
+from install_parts import installing, tree
+from install_parts.tree import TOP, File
+from parts import stripping
+
+# All that is installed, beside the examples.
+WANTED = """
+bin/ticketc bin/ticklab
+share/man/man1/ticketc.1 share/man/man1/ticklab.1 share/man/man5/tick.5
+share/bash-completion/completions/ticketc share/bash-completion/completions/ticklab
+share/zsh/site-functions/_ticketc share/zsh/site-functions/_ticklab
+share/fish/vendor_completions.d/ticketc.fish share/fish/vendor_completions.d/ticklab.fish
+share/vim/vimfiles/ftdetect/tick.vim share/vim/vimfiles/syntax/tick.vim
+share/ticketc/tick.tmLanguage.json share/ticketc/installed
+""".split()
+
+# A file of another owner.
+OTHER = b"of another owner\n"
+
+
+@contextlib.contextmanager
+def folder():
+    with tempfile.TemporaryDirectory() as own:
+        yield own
+
+
+def write(path, content=OTHER):
+    os.makedirs(os.path.dirname(path), exist_ok=True)
+    with open(path, "wb") as file:
+        file.write(content)
+
+
+def seen(top):
+    """All that is below a folder: of each path what it is, and what is in it."""
+    found = {}
+    for at, folders, names in os.walk(top):
+        for name in folders:
+            found[os.path.relpath(f"{at}/{name}", top)] = "a folder"
+        for name in names:
+            mode = stat.S_IMODE(os.stat(f"{at}/{name}").st_mode)
+            with open(f"{at}/{name}", "rb") as file:
+                found[os.path.relpath(f"{at}/{name}", top)] = f"{mode:o} {hashlib.sha256(file.read()).hexdigest()}"
+    return found
+
+
+def unlike(wanted, found):
+    """What is told of two looks at a folder that aren't the same."""
+    wrong = [f"left behind: {path}" for path in sorted(found.keys() - wanted.keys())]
+    wrong += [f"gone: {path}" for path in sorted(wanted.keys() - found.keys())]
+    return wrong + [f"changed: {path}" for path in sorted(found.keys() & wanted.keys()) if found[path] != wanted[path]]
+
+
+def is_so(what, condition, told=""):
+    return [] if condition else [f"{what}{f': {told}' if told else ''}"]
+
+
+def refusal(call, *words):
+    """What a call refuses with, or None."""
+    try:
+        call(*words)
+    except installing.Refused as why:
+        return str(why)
+    return None
+
+
+def all_of_it(files):
+    """What is put where nothing is, and that nothing of it stays."""
+    examples = {f"{tree.EXAMPLES}/{name}" for name in os.listdir(f"{TOP}/examples")}
+    with folder() as own:
+        prefix = f"{own}/some/where"
+        installing.install(prefix, files)
+        listed = {path for path, what in seen(prefix).items() if what != "a folder"}
+        wrong = [f"not installed: {path}" for path in sorted({*WANTED, *examples} - listed)]
+        wrong += [f"installed too: {path}" for path in sorted(listed - {*WANTED, *examples})]
+        modes = {path for path in listed if stat.S_IMODE(os.stat(f"{prefix}/{path}").st_mode) == 0o755}
+        programs = {path for path in listed if path.startswith("bin/")}
+        wrong += is_so("the programs alone may be run", modes == programs)
+        wrong += [f"{path} has symbols" for path in programs if b".symtab" in files[path].content]
+        installing.uninstall(prefix)
+        return wrong + unlike({}, seen(own))
+
+
+def beside_others(files, uninstall=installing.uninstall):
+    """That what was there before stays as it was, folders that were empty too."""
+    with folder() as own:
+        for path in ("bin/another", "share/man/man1/another.1", "share/ticketc/examples/another.tick", "lib/another"):
+            write(f"{own}/{path}")
+        os.makedirs(f"{own}/share/vim")
+        before = seen(own)
+        installing.install(own, files)
+        uninstall(own)
+        return unlike(before, seen(own))
+
+
+def once_more(files):
+    """That a second install replaces the first, and takes away what the first alone had."""
+    older = {**files, "share/older/page": File(OTHER), "bin/ticketc": File(OTHER, 0o755)}
+    with folder() as own:
+        installing.install(own, older)
+        left = installing.install(own, files)
+        is_gone = not os.path.exists(f"{own}/share/older/page")
+        wrong = is_so("nothing of an older install stays", not left and is_gone)
+        with open(f"{own}/bin/ticketc", "rb") as file:
+            wrong += is_so("a second install replaces bin/ticketc", file.read() == files["bin/ticketc"].content)
+        installing.uninstall(own)
+        return wrong + unlike({}, seen(own))
+
+
+def changed_since(files):
+    """That a file that was changed stays and is told, with its folders, and that no install replaces it."""
+    path = f"{tree.EXAMPLES}/two_tickets.tick"
+    with folder() as own:
+        installing.install(own, files)
+        write(f"{own}/{path}")
+        told = refusal(installing.install, own, files) or ""
+        wrong = is_so("a changed file is not replaced", path in told, told)
+        removed, changed = installing.uninstall(own)
+        wrong += is_so("a changed file is told", changed == [path] and removed == len(files) - 1)
+        wanted = {os.path.dirname(path), os.path.dirname(os.path.dirname(path)), "share", path}
+        return wrong + is_so("a changed file stays", set(seen(own)) == wanted, ", ".join(seen(own)))
+
+
+def of_others(files):
+    """That a file that no install put there is not replaced, and nothing is done then."""
+    with folder() as own:
+        write(f"{own}/bin/ticklab")
+        before = seen(own)
+        told = refusal(installing.install, own, files) or ""
+        wrong = is_so("a file of another owner is kept", "bin/ticklab: is there" in told, told)
+        told = refusal(installing.uninstall, own) or ""
+        wrong += is_so("where nothing was installed", "nothing was installed here" in told, told)
+        return wrong + unlike(before, seen(own))
+
+
+def not_ours_to_name(files):
+    """That a list that names a file elsewhere is refused."""
+    with folder() as own:
+        write(f"{own}/elsewhere")
+        installing.install(f"{own}/prefix", files)
+        with open(f"{own}/prefix/{installing.RECORD}", "a", encoding="utf-8") as file:
+            file.write(f"file {installing.sum_of(OTHER)} ../elsewhere\n")
+        told = refusal(installing.uninstall, f"{own}/prefix") or ""
+        is_kept = "no list of what" in told and os.path.exists(f"{own}/elsewhere")
+        return is_so("a list that names a file elsewhere is refused", is_kept, told)
+
+
+def cut_off(files):
+    """That what was put by an install that was cut off is taken away, be it the first or a second one."""
+    wrong = []
+    for older in (None, {**files, "share/older/page": File(OTHER), "bin/ticketc": File(OTHER, 0o755)}):
+        for stop in (0, 1, 2, 40):
+            with folder() as own:
+                if older:
+                    installing.install(own, older)
+                interrupted(installing.install, stop, own, files)
+                if os.path.exists(f"{own}/{installing.RECORD}"):
+                    installing.uninstall(own)
+                wrong += [f"cut off after {stop} files: {it}" for it in unlike({}, seen(own))]
+    return wrong
+
+
+def interrupted(call, stop, *words):
+    """A call that can't put more than so many files."""
+    put, count = installing.put, 0
+
+    def putting(path, content, mode):
+        nonlocal count
+        count += 1
+        if count > stop:
+            raise OSError(28, "No space left on device", path)
+        put(path, content, mode)
+
+    installing.put = putting
+    try:
+        with contextlib.suppress(OSError, installing.Refused):
+            call(*words)
+    finally:
+        installing.put = put
+
+
+def ran(*words, top=TOP, path=""):
+    """The status of a tool, and all that it says."""
+    environment = {**os.environ, "PATH": f"{path}:{os.environ['PATH']}" if path else os.environ["PATH"]}
+    run = subprocess.run([f"{top}/tools/{words[0]}", *words[1:]], stdin=subprocess.DEVNULL, stdout=subprocess.PIPE,
+                         stderr=subprocess.STDOUT, text=True, env=environment)
+    return run.returncode, run.stdout
+
+
+def refused_lines():
+    """Command lines that are refused, with their statuses."""
+    with folder() as own:
+        write(f"{own}/file")
+        wrong = []
+        for tool in ("install", "uninstall", "deb"):
+            for words in ([], ["--help"]):
+                usage = f"usage: tools/{tool} {'FOLDER' if tool == 'deb' else 'PREFIX'}\n"
+                wrong += is_so(f"{tool} {words}", ran(tool, *words) == (2, usage))
+        answer = ran("install", f"{own}/file/below")
+        wanted = (1, f"install: {own}/file/below: Not a directory\n")
+        wrong += is_so("a PREFIX that can't be written", answer == wanted, answer[1])
+        return wrong + unlike({"file": seen(own)["file"]}, seen(own))
+
+
+def by_make():
+    """That `make install` and `make uninstall` do it below DESTDIR."""
+    with folder() as own:
+        words = [f"DESTDIR={own}/stage", "PREFIX=/usr"]
+        wrong = []
+        for target in ("install", "uninstall"):
+            run = subprocess.run(["make", "-C", TOP, target, *words], stdin=subprocess.DEVNULL, stdout=subprocess.PIPE,
+                                 stderr=subprocess.STDOUT, text=True)
+            wrong += is_so(f"make {target}", run.returncode == 0, run.stdout)
+            there = os.path.exists(f"{own}/stage/usr/bin/ticketc")
+            wrong += is_so(f"make {target} below DESTDIR", there == (target == "install"))
+        return wrong + unlike({}, seen(own))
+
+
+def small_repository(own):
+    """A repository with no sources to speak of, whose dist/ is of these."""
+    for path in ("tools", "share", "dist/x86_64-linux"):
+        shutil.copytree(f"{TOP}/{path}", f"{own}/{path}")
+    write(f"{own}/examples/small.tick")
+    write(f"{own}/HANDLES")
+    write(f"{own}/crates.txt", b"ticketc:\nticklab:\n")
+    for name in tree.PROGRAMS:
+        write(f"{own}/crates/{name}/src/main.rt")
+    sources = subprocess.run([f"{own}/tools/sources", own], stdout=subprocess.PIPE, check=True).stdout
+    write(f"{own}/dist/SOURCES", sources + b"toolchain none\n")
+
+
+def which_program():
+    """Which program is installed: that of dist/, or what was built; and where there is none."""
+    with folder() as own:
+        top, prefix = f"{own}/top", f"{own}/prefix"
+        small_repository(top)
+        with open(f"{top}/dist/x86_64-linux/ticketc", "rb") as file:
+            ready = file.read()
+        write(f"{own}/uname/uname", b"#!/bin/sh\necho Linux riscv64\n")
+        os.chmod(f"{own}/uname/uname", 0o755)
+        status, told = ran("install", prefix, top=top, path=f"{own}/uname")
+        wrong = is_so("another machine", status == 1 and "it needs Linux on x86_64" in told, told)
+        status, told = ran("install", prefix, top=top)
+        wrong += is_so("the program of dist/", status == 0 and installing.read(f"{prefix}/bin/ticketc") == ready, told)
+        write(f"{top}/crates/ticklab/src/main.rt", b"another text\n")
+        status, told = ran("install", prefix, top=top)
+        wrong += is_so("a dist/ of other sources", status == 1 and "`tools/build ticketc` proves and builds" in told, told)
+        for name in tree.PROGRAMS:
+            write(f"{top}/crates/{name}/out/{name}", installing.read(shutil.which("true")))
+            os.chmod(f"{top}/crates/{name}/out/{name}", 0o755)
+        status, told = ran("install", prefix, top=top)
+        built = stripping.stripped(shutil.which("true"))
+        return wrong + is_so("what was built", status == 0 and installing.read(f"{prefix}/bin/ticketc") == built, told)
