@@ -5,7 +5,6 @@ completed, and what that may become. It is asked in a folder with the files FILE
 """
 import os
 import shlex
-import shutil
 import subprocess
 import tempfile
 
@@ -17,7 +16,7 @@ FILES = ("there.tick", "two.tick")
 def completed(name, word, commands):
     """What a word may become that stands for something of this name."""
     if name == "FILE":
-        return [f"{it}" for it in FILES if it.startswith(word)]
+        return [it for it in FILES if it.startswith(word)]
     if name == "SCHEDULE" and word.startswith("@"):
         return [f"@{it}" for it in FILES if f"@{it}".startswith(word)]
     return [it for it in commands if it.startswith(word)] if name == "COMMAND" else []
@@ -122,8 +121,3 @@ def unread(shell, top, program):
     ran = subprocess.run([shell, READ[shell], f"{top}/{path}"], stdin=subprocess.DEVNULL, stdout=subprocess.PIPE,
                          stderr=subprocess.STDOUT, text=True)
     return [f"{path}: {ran.stdout.strip()}"] if ran.returncode or ran.stdout else []
-
-
-def there():
-    """Of the shells those that are installed."""
-    return [shell for shell in READ if shutil.which(shell)]
