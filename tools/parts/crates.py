@@ -9,6 +9,7 @@ class Crate:
         head, _, libraries = line.partition(":")
         self.line = line
         self.name = head.split()[0]
+        self.is_archive = "staticlib" in head.split()
         self.libraries = libraries.split()
 
 

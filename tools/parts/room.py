@@ -36,6 +36,9 @@ def stand(top, names, crates):
     built = {}
     for name in below_all(names, crates):
         folder = f"{top}/crates/{name}"
+        if crates[name].is_archive:
+            # No crate stands on it, and `rt ci` leaves nothing of it.
+            continue
         files = [f"{top}/crates.txt", f"{top}/HANDLES", *(f"{folder}/{path}" for path in files_of(folder))]
         below = [built[it] for it in crates[name].libraries if it in crates]
         is_program = os.path.isfile(f"{folder}/src/main.rt")
