@@ -1,4 +1,5 @@
-/* What a call costs, and what a turn of a lock costs beside other locks: nanoseconds, the least of five rounds. */
+/* What a call costs, and what a turn of a lock costs beside other locks: nanoseconds. Of one
+ * thread the least of forty short rounds, which others disturb least; of two the median of nine. */
 #define _POSIX_C_SOURCE 200809L
 #include "ticket_word.h"
 #include <pthread.h>
@@ -7,7 +8,7 @@
 #include <stdlib.h>
 #include <time.h>
 
-enum { ROUNDS = 5, CALLS = 200000, TURNS = 100000, MOST_THREADS = 2 };
+enum { ROUNDS = 40, CALLS = 5000, TURNS = 5000, ROUNDS_OF_TWO = 9, TURNS_OF_TWO = 20000, MOST_THREADS = 2 };
 
 static double now(void) {
     struct timespec time;
@@ -159,38 +160,54 @@ typedef struct lock {
 } lock;
 
 static const lock *tried;
+static unsigned turns_each;
 static volatile unsigned long counter;
 static pthread_barrier_t gate;
+static double begun[MOST_THREADS], ended[MOST_THREADS];
 
 static void *turns(void *process) {
     unsigned p = *(unsigned *)process;
     pthread_barrier_wait(&gate);
-    for (unsigned k = 0; k < TURNS; k++) {
+    begun[p] = now();
+    for (unsigned k = 0; k < turns_each; k++) {
         tried->in(p);
         counter = counter + 1;
         tried->out(p);
     }
+    ended[p] = now();
     return NULL;
 }
 
-/* A turn of the lock on so many threads, or -1 where it lost a count. */
-static double a_turn(unsigned threads) {
-    double least = 1e18;
-    for (unsigned round = 0; round < ROUNDS; round++) {
-        pthread_t started[MOST_THREADS];
-        unsigned processes[MOST_THREADS] = {0, 1};
-        counter = 0;
-        pthread_barrier_init(&gate, NULL, threads + 1);
-        for (unsigned p = 0; p < threads; p++) pthread_create(&started[p], NULL, turns, &processes[p]);
-        pthread_barrier_wait(&gate);
-        double start = now();
-        for (unsigned p = 0; p < threads; p++) pthread_join(started[p], NULL);
-        double took = (now() - start) / ((double)threads * TURNS);
-        pthread_barrier_destroy(&gate);
-        if (counter != (unsigned long)threads * TURNS) return -1;
-        if (took < least) least = took;
+static int compare(const void *one, const void *other) {
+    double a = *(const double *)one, b = *(const double *)other;
+    return (a > b) - (a < b);
+}
+
+/* What a turn takes in one round, on so many threads; -1 where the lock lost a count. */
+static double a_round(unsigned threads) {
+    pthread_t started[MOST_THREADS];
+    unsigned processes[MOST_THREADS] = {0, 1};
+    counter = 0;
+    pthread_barrier_init(&gate, NULL, threads);
+    for (unsigned p = 0; p < threads; p++) pthread_create(&started[p], NULL, turns, &processes[p]);
+    for (unsigned p = 0; p < threads; p++) pthread_join(started[p], NULL);
+    pthread_barrier_destroy(&gate);
+    double first = begun[0], last = ended[0];
+    for (unsigned p = 1; p < threads; p++) {
+        if (begun[p] < first) first = begun[p];
+        if (ended[p] > last) last = ended[p];
     }
-    return least;
+    if (counter != (unsigned long)threads * turns_each) return -1;
+    return (last - first) / ((double)threads * turns_each);
+}
+
+static double a_turn(unsigned threads) {
+    double took[ROUNDS];
+    unsigned rounds = threads == 1 ? ROUNDS : ROUNDS_OF_TWO;
+    turns_each = threads == 1 ? TURNS : TURNS_OF_TWO;
+    for (unsigned round = 0; round < rounds; round++) took[round] = a_round(threads);
+    qsort(took, rounds, sizeof took[0], compare);
+    return took[0] < 0 ? -1 : took[threads == 1 ? 0 : rounds / 2];
 }
 
 int main(void) {
@@ -201,6 +218,7 @@ int main(void) {
         {"MCS", mcs_in, mcs_out},
         {"bakery, n = 6", bakery_in, bakery_out},
     };
+    setvbuf(stdout, NULL, _IOLBF, 0);
     calls();
     printf("\n%-22s %8s %8s\n", "a turn of a lock", "1 thread", "2");
     for (unsigned k = 0; k < sizeof locks / sizeof locks[0]; k++) {

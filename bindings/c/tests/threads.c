@@ -25,15 +25,22 @@ static unsigned moves_freely(unsigned p) {
     return wrong;
 }
 
+/* Waits its turn: 1, or what else is told; 0 where its ticket is lost. */
+static int enters(unsigned p) {
+    int first = ticket_stamp(&table, p, NULL);
+    while (first == 0) {
+        ticket_order order = ticket_scan(&table);
+        first = ticket_is_first(order, p);
+        if (first == 0 && ticket_held(order, p) != 1) return 0;
+        if (first == 0) sched_yield();
+    }
+    return first;
+}
+
 static unsigned counts(unsigned p) {
     unsigned wrong = 0;
     for (unsigned k = 0; k < turns; k++) {
-        int first = ticket_stamp(&table, p, NULL);
-        while (first == 0) {
-            first = ticket_is_first(ticket_scan(&table), p);
-            if (first == 0) sched_yield();
-        }
-        wrong += first != 1;
+        wrong += enters(p) != 1;
         counter++;
         wrong += ticket_clear(&table, p, NULL) != 0;
     }

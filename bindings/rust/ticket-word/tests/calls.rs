@@ -59,16 +59,17 @@ fn a_process_that_is_none_is_told() {
 
 fn counted<const N: usize>(times: u32) -> u32 {
     let counter = FairMutex::<u32, N>::new(0);
+    let seats: Vec<_> = (0..N).filter_map(|_| counter.seat()).collect();
+    assert_eq!(seats.len(), N);
+    assert!(counter.seat().is_none());
     scope(|threads| {
-        for _ in 0..N {
-            let mut seat = counter.seat().expect("a seat for each");
+        for mut seat in seats {
             threads.spawn(move || {
                 for _ in 0..times {
                     *seat.lock_with(yield_now) += 1;
                 }
             });
         }
-        assert!(counter.seat().is_none());
     });
     assert!(counter.seat().is_some());
     counter.into_inner()
