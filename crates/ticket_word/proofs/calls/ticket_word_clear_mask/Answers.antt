@@ -1,0 +1,19 @@
+use Rattle.std.proofs.Common.{[], ◌∷◌, sym, subst, arith}
+use Rattle.ticket_core.specs.Tickets.{start_tickets}
+use Rattle.ticket_word.specs.Faults.{Tells}
+use Rattle.ticket_word.proofs.Telling.{tells_nothing}
+use Rattle.ticket_word.proofs.Changing.{start_stands}
+use Rattle.ticket_word.proofs.Answering.{mask_makes}
+use Rattle.ticket_word.proofs.calls.ticket_word_clear_mask.Goals as goal
+
+pub returns-in-Ok-clause-makes : goal.returns-in-Ok-clause-makes
+returns-in-Ok-clause-makes c =
+    λ _ word known. mask_makes c.args.n word c.args.p c.clear_mask.result c.clear_mask.ensures (c.in-Ok.ensures.ok.1 0 0 (omega arith)) known
+
+pub returns-in-Ok-clause-fault : goal.returns-in-Ok-clause-fault
+returns-in-Ok-clause-fault c =
+    let n = c.args.n in
+    tells_nothing n 0 (c.args.p ∷ []) c.in-Ok.ensures.ok.1 (record { tickets = start_tickets n; stands = start_stands n c.in-Ok.ensures.ok.0 })
+
+pub returns-in-Err-clause-fault : goal.returns-in-Err-clause-fault
+returns-in-Err-clause-fault c = subst (Tells c.args.n 0 (c.args.p ∷ [])) (sym c.number.ensures) (c.in-Err.ensures.err 0)

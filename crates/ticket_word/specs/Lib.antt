@@ -1,0 +1,5 @@
+pub mod Standing
+pub mod Faults
+pub mod Changes
+pub mod Laws
+pub mod prover
