@@ -12,11 +12,11 @@ use Rattle.std.proofs.Common.{◌≡◌, ◌==◌, ◌∙◌, ◌+◌, ◌-◌, 
 use Rattle.std.specs.List.{All, slice_split}
 use Rattle.std.proofs.Math.ListN.{length-drop, length-take}
 use Rattle.std.proofs.lemmas.Bool.{le-leb, le-ltb, lt-leb, lt-ltb, ltb-false}
-use Rattle.std.proofs.lemmas.List.{drop-drop, drop_more, get_or-drop, get_or-replicate, length-append, length-replicate, replicate_more, take-append-drop, take_rest}
+use Rattle.std.proofs.lemmas.List.{drop-drop, drop_more, get_or-drop, length-append, length-replicate, replicate_more, take-append-drop, take_rest}
 use Rattle.std.proofs.lemmas.List.Elements.{All-append, All-more, All-nil, All-replicate}
 use Rattle.std.proofs.lemmas.List.Splits.{slice_split_at, slice_split_none}
 use Rattle.base.specs.Blanks.{is_blank}
-use Rattle.language_schedules.specs.Schedule.{item_of, schedule_of, with_item, with_piece, with_pieces}
+use Rattle.language_schedules.specs.Schedule.{Adds, all_pieces, item_of, schedule_of, with_item, with_piece, with_pieces}
 use Rattle.ticket_core.specs.declared.moves.Move.{Move}
 use Rattle.ticket_core.specs.declared.moves.Move.TheVariants.{Stamp, Clear}
 use Rattle.language_schedules.specs.Moves.{moves_of, mover, with_moves}
@@ -24,14 +24,6 @@ use Rattle.language_schedules.specs.declared.schedule.Item.{Item}
 use Rattle.language_schedules.specs.declared.schedule.ScheduleFault.{ScheduleFault}
 use Rattle.language_schedules.specs.declared.schedule.ScheduleFault.TheVariants.{BadItem, NoSuchProcess, TooLong, NoMemory}
 use Rattle.language_schedules.specs.prover.Misfits.{IsMisfit}
-
--- what a piece of text adds to the steps before it
-abbrev pub Adds : Type 0 → Type 0
-Adds S = ℕ → List S → List ℕ → Result (List S) ScheduleFault
-
--- what a whole text spells
-abbrev all_pieces : {S : Type 0} → Adds S → List ℕ → Result (List S) ScheduleFault
-all_pieces add text = with_pieces add 0 (Ok []) (slice_split is_blank text)
 
 -- the steps so far and the pieces from `start` on make the whole, and no blank stands between
 -- `start` and `place`

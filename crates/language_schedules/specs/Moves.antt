@@ -1,11 +1,9 @@
 -- Stamps and clears as texts. The items are those of a schedule: an item stands for stamps, and with a `c`
 -- before it for clears.
-use Rattle.std.specs.Prelude.{ℕ, ◌==◌, List, [], ◌∷◌, Result, Ok, Err, if◌then◌else◌}
-use Rattle.std.specs.List.{slice_split}
-use Rattle.base.specs.Blanks.{is_blank}
+use Rattle.std.specs.Prelude.{ℕ, ◌==◌, List, [], ◌∷◌, Result, Ok, if◌then◌else◌}
 use Rattle.ticket_core.specs.declared.moves.Move.{Move}
 use Rattle.ticket_core.specs.declared.moves.Move.TheVariants.{Stamp, Clear}
-use Rattle.language_schedules.specs.Schedule.{item_of, with_item, with_pieces}
+use Rattle.language_schedules.specs.Schedule.{all_pieces, item_of, with_item}
 use Rattle.language_schedules.specs.declared.schedule.ScheduleFault.{ScheduleFault}
 
 -- the process that moves
@@ -22,4 +20,4 @@ with_moves n place moves (byte ∷ bytes) =
 
 -- the moves of `n` processes that a text spells, or the fault of its first faulty item
 abbrev pub moves_of : ℕ → List ℕ → Result (List Move) ScheduleFault
-moves_of n text = with_pieces (with_moves n) 0 (Ok []) (slice_split is_blank text)
+moves_of n text = all_pieces (with_moves n) text

@@ -44,13 +44,20 @@ abbrev pub with_piece : ℕ → ℕ → List ℕ → List ℕ → Result (List �
 with_piece n place steps [] = Ok steps
 with_piece n place steps (byte ∷ bytes) = with_item (λ process. process) n place steps (item_of (byte ∷ bytes))
 
+-- what a piece of text at a place adds to what was read before it
+abbrev pub Adds : Type 0 → Type 0
+Adds S = ℕ → List S → List ℕ → Result (List S) ScheduleFault
+
 -- the same for pieces in order, with a blank between each two, where `add` adds those of one piece
-abbrev pub with_pieces : {S : Type 0} → (ℕ → List S → List ℕ → Result (List S) ScheduleFault) → ℕ → Result (List S) ScheduleFault → List (List ℕ)
-    → Result (List S) ScheduleFault
+abbrev pub with_pieces : {S : Type 0} → Adds S → ℕ → Result (List S) ScheduleFault → List (List ℕ) → Result (List S) ScheduleFault
 with_pieces add place steps [] = steps
 with_pieces add place (Err fault) (piece ∷ pieces) = Err fault
 with_pieces add place (Ok steps) (piece ∷ pieces) = with_pieces add (place + length piece + 1) (add place steps piece) pieces
 
+-- all that a text spells
+abbrev pub all_pieces : {S : Type 0} → Adds S → List ℕ → Result (List S) ScheduleFault
+all_pieces add text = with_pieces add 0 (Ok []) (slice_split is_blank text)
+
 -- the steps of `n` processes that a text spells, or the fault of its first faulty item
 abbrev pub schedule_of : ℕ → List ℕ → Result (List ℕ) ScheduleFault
-schedule_of n text = with_pieces (with_piece n) 0 (Ok []) (slice_split is_blank text)
+schedule_of n text = all_pieces (with_piece n) text

@@ -7,6 +7,7 @@
 
 pub mod laws;
 mod moves;
+mod pieces;
 mod schedule;
 mod writing;
 

@@ -4,8 +4,8 @@ ghost use Rattle.language_schedules.specs.Moves.{moves_of, mover, with_moves};
 ghost use Rattle.language_schedules.specs.Schedule.{item_of, with_item};
 ghost use Rattle.language_schedules.specs.declared.schedule.ScheduleFault.TheVariants.{NoMemory};
 
+use crate::pieces::{Spelled, read_pieces};
 use crate::schedule::{Item, ScheduleFault, process_of, read_item};
-use base::is_blank;
 use std::alloc::Global;
 use ticket_core::Move;
 
@@ -19,28 +19,23 @@ pub fn read_moves(alloc: Global, text: &str, n: u8) -> Result<Vec<Move>, Schedul
     ensures err { IfErr result (λ fault. fault ≢ NoMemory → moves_of n text.now ≡ Err fault) }
     ensures in_range { IfOk result (λ moves. All (λ move. mover move < n) moves.items) }
 {
-    let bytes = text.as_bytes();
-    let mut moves = Vec::new(alloc);
-    let mut start = 0;
-    for (place, byte) in bytes.iter().enumerate() {
-        if is_blank(*byte) {
-            push_piece(&mut moves, start, &bytes[start..place], n)?;
-            start = place + 1;
-        }
-    }
-    push_piece(&mut moves, start, &bytes[start..], n)?;
-    Ok(moves)
+    read_pieces(alloc, text, n)
 }
 
-// Adds the moves of what stands between two blanks.
-fn push_piece(moves: &mut Vec<Move>, place: usize, piece: &[u8], n: u8) -> Result<(), ScheduleFault>
-    ensures ok { OnOk result (with_moves n place moves.old.items piece.now ≡ Ok moves.new.items) }
-    ensures err { IfErr result (λ fault. fault ≢ NoMemory → with_moves n place moves.old.items piece.now ≡ Err fault) }
-{
-    match piece.split_first() {
-        None => Ok(()),
-        Some((&CLEAR, item)) => push_spelled(moves, place, item, true, n),
-        Some(_) => push_spelled(moves, place, piece, false, n),
+impl Spelled for Move {
+    ghost with = { with_moves };
+
+    fn push_piece(
+        moves: &mut Vec<Move>,
+        place: usize,
+        piece: &[u8],
+        n: u8,
+    ) -> Result<(), ScheduleFault> {
+        match piece.split_first() {
+            None => Ok(()),
+            Some((&CLEAR, item)) => push_spelled(moves, place, item, true, n),
+            Some(_) => push_spelled(moves, place, piece, false, n),
+        }
     }
 }
 

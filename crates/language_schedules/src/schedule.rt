@@ -4,7 +4,8 @@ ghost use Rattle.language_schedules.specs.Schedule.{capped_item, is_star, item_o
 ghost use Rattle.language_schedules.specs.prover.Misfits.{IsMisfit};
 ghost use Rattle.language_schedules.specs.declared.schedule.ScheduleFault.TheVariants.{NoMemory};
 
-use base::{is_blank, number};
+use crate::pieces::{Spelled, read_pieces};
+use base::number;
 use std::alloc::{AllocFailed, Global};
 use std::fmt;
 use thiserror::Error;
@@ -64,30 +65,25 @@ pub fn read_schedule(alloc: Global, text: &str, n: u8) -> Result<Vec<u8>, Schedu
     ensures err { IfErr result (λ fault. fault ≢ NoMemory → schedule_of n text.now ≡ Err fault) }
     ensures in_range { IfOk result (λ steps. All (λ p. p < n) steps.items) }
 {
-    let bytes = text.as_bytes();
-    let mut steps = Vec::new(alloc);
-    let mut start = 0;
-    for (place, byte) in bytes.iter().enumerate() {
-        if is_blank(*byte) {
-            push_piece(&mut steps, start, &bytes[start..place], n)?;
-            start = place + 1;
-        }
-    }
-    push_piece(&mut steps, start, &bytes[start..], n)?;
-    Ok(steps)
+    read_pieces(alloc, text, n)
 }
 
-// Adds the steps of what stands between two blanks.
-fn push_piece(steps: &mut Vec<u8>, place: usize, piece: &[u8], n: u8) -> Result<(), ScheduleFault>
-    ensures ok { OnOk result (with_piece n place steps.old.items piece.now ≡ Ok steps.new.items) }
-    ensures err { IfErr result (λ fault. fault ≢ NoMemory → with_piece n place steps.old.items piece.now ≡ Err fault) }
-{
-    if piece.is_empty() {
-        return Ok(());
-    }
-    match read_item(piece) {
-        Some(item) => push_item(steps, place, item, n),
-        None => Err(ScheduleFault::BadItem(place)),
+impl Spelled for u8 {
+    ghost with = { with_piece };
+
+    fn push_piece(
+        steps: &mut Vec<u8>,
+        place: usize,
+        piece: &[u8],
+        n: u8,
+    ) -> Result<(), ScheduleFault> {
+        if piece.is_empty() {
+            return Ok(());
+        }
+        match read_item(piece) {
+            Some(item) => push_item(steps, place, item, n),
+            None => Err(ScheduleFault::BadItem(place)),
+        }
     }
 }
 
