@@ -18,11 +18,9 @@ use Rattle.ticklab_explain.specs.Hints.{first_declaration, is_section}
 use Rattle.ticklab_explain.specs.Settings.{Setting, about, after, before, has_begun, here, is_name, is_keyword, open_brace, shortened, sort_here, touches}
 use Rattle.ticklab_explain.specs.declared.advice.Advice.TheVariants as A
 use Rattle.ticklab_explain.specs.declared.hint.Hint.{Hint}
-use Rattle.ticklab_explain.specs.declared.hint.Hint.TheVariants.{Fixed, Naming, Signs, Words, Pointing}
+use Rattle.ticklab_explain.specs.declared.hint.Hint.TheVariants.{Fixed, Naming, Quoting}
 use Rattle.ticklab_explain.specs.declared.name_hint.NameHint.TheVariants as H
-use Rattle.ticklab_explain.specs.declared.sign_hint.SignHint.TheVariants as I
-use Rattle.ticklab_explain.specs.declared.word_hint.WordHint.TheVariants as W
-use Rattle.ticklab_explain.specs.declared.pointer.Pointer.TheVariants as P
+use Rattle.ticklab_explain.specs.declared.quote.Quote.TheVariants as W
 use Rattle.ticketc_refusals.specs.declared.refusal.Refusal.{Refusal}
 use Rattle.ticketc_refusals.specs.declared.refusal.Refusal.TheVariants.{Text, Kinds, Code, Schedule}
 use Rattle.ticklab_explain.specs.declared.wanted.Wanted.{Wanted}
@@ -58,7 +56,7 @@ whole_slip s wanted = first_that_fits (
 -- of blocks
 unfoldable pub block_slip : Setting → List Wanted → Option Hint
 block_slip s wanted = first_that_fits (
-    (is_some (open_brace s) && ((is_none (sort_here s) || is (here s) (codes "end")) && wants wanted (codes "}")), Pointing P.BraceIsOpen)
+    (is_some (open_brace s) && ((is_none (sort_here s) || is (here s) (codes "end")) && wants wanted (codes "}")), Quoting W.BraceIsOpen)
     ∷ (is (here s) (codes "if") && is (before s 1) (codes "else"), Fixed A.NoElseIf)
     ∷ (wants wanted (codes "else"), Fixed A.ElseIsMissing)
     ∷ [])
@@ -66,8 +64,8 @@ block_slip s wanted = first_that_fits (
 -- of words that other languages have
 unfoldable pub foreign_slip : Setting → Option Hint
 foreign_slip s = first_that_fits (
-    (is (before s 1) (codes "not"), Words W.NotWord)
-    ∷ (is (before s 1) (codes "await"), Words W.Await)
+    (is (before s 1) (codes "not"), Quoting W.NotWord)
+    ∷ (is (before s 1) (codes "await"), Quoting W.Await)
     ∷ (is (before s 1) (codes "and"), Fixed A.NoAnd)
     ∷ (is (here s) (codes "const"), Fixed A.NoConstants)
     ∷ (is (here s) (codes "and"), Fixed A.NoAnd)
@@ -81,9 +79,9 @@ givers = codes "older" ∷ codes "held" ∷ codes "get" ∷ codes "scan" ∷ cod
 -- of keywords at places of names and values
 unfoldable pub keyword_slip : Setting → List Wanted → Option Hint
 keyword_slip s wanted = first_that_fits (
-    (is_keyword_here s && wants wanted (codes "x"), Words W.Keyword)
-    ∷ (is_one_of (here s) (codes "stamp" ∷ codes "clear" ∷ []) && (wants wanted (codes "me") || wants wanted (codes "get")), Words W.NoValue)
-    ∷ (is_one_of (here s) givers && wants wanted (codes "me"), Words W.OwnStatement)
+    (is_keyword_here s && wants wanted (codes "x"), Quoting W.Keyword)
+    ∷ (is_one_of (here s) (codes "stamp" ∷ codes "clear" ∷ []) && (wants wanted (codes "me") || wants wanted (codes "get")), Quoting W.NoValue)
+    ∷ (is_one_of (here s) givers && wants wanted (codes "me"), Quoting W.OwnStatement)
     ∷ [])
 
 -- of what the place wants first
@@ -91,7 +89,7 @@ unfoldable pub place_slip : Setting → List Wanted → Option Hint
 place_slip s wanted = first_that_fits (
     (wants wanted (codes "x") && is (before s 1) (codes "older"), Fixed A.OlderWantsScan)
     ∷ (wants wanted (codes "x") && is (before s 1) (codes "held"), Fixed A.HeldWantsScan)
-    ∷ (wants wanted (codes "me") && is (before s 2) (codes "get"), Words W.GetWantsProcess)
+    ∷ (wants wanted (codes "me") && is (before s 2) (codes "get"), Quoting W.GetWantsProcess)
     ∷ (wants wanted (codes "begin") && is_section (here s), Fixed A.SectionOrder)
     ∷ (wants wanted (codes "begin"), Fixed A.BeginIsMissing)
     ∷ [])
@@ -115,10 +113,10 @@ operator_slip s wanted = first_that_fits (
     (begins_comment s, Fixed A.CommentSign)
     ∷ (is (here s) (codes "==") && wants wanted (codes "="), Fixed A.OneEqualsAssigns)
     ∷ (is (here s) (codes "=") && wants wanted (codes "+"), Fixed A.TwoEqualsCompare)
-    ∷ (is_one_of (here s) arithmetic && (wants wanted (codes "=") && is (after s 1) (codes "=")), Words W.AssignedInPlace)
+    ∷ (is_one_of (here s) arithmetic && (wants wanted (codes "=") && is (after s 1) (codes "=")), Quoting W.AssignedInPlace)
     ∷ (is (here s) (codes "-") && (wants wanted (codes "get") || wants wanted (codes "me")), Fixed A.NoNegatives)
-    ∷ (is_one_of (here s) operators && wants wanted (codes ")"), Words W.OneOperator)
-    ∷ (is_one_of (here s) operators && (wants wanted (codes ";") || wants wanted (codes "{")), Words W.OwnBrackets)
+    ∷ (is_one_of (here s) operators && wants wanted (codes ")"), Quoting W.OneOperator)
+    ∷ (is_one_of (here s) operators && (wants wanted (codes ";") || wants wanted (codes "{")), Quoting W.OwnBrackets)
     ∷ [])
 
 -- of other signs, and of an operand more than the statement has
@@ -128,13 +126,13 @@ sign_slip s wanted = first_that_fits (
     ∷ (is (here s) (codes ";") && wants wanted (codes "stamp"), Fixed A.NoEmptyStatement)
     ∷ (is (here s) (codes ";") && (wants wanted (codes "x") && not (has_begun s)), Fixed A.NoEmptySection)
     ∷ (is (here s) (codes ",") && wants wanted (codes ";"), Fixed A.SemicolonForComma)
-    ∷ (wants wanted (codes ";") && (is (before s 3) (codes "put") && is (after s 1) (codes ";")), Words W.OwnRegister)
+    ∷ (wants wanted (codes ";") && (is (before s 3) (codes "put") && is (after s 1) (codes ";")), Quoting W.OwnRegister)
     ∷ [])
 
 -- of a `;` that was left out
 unfoldable pub missing_slip : Setting → List Wanted → Option Hint
 missing_slip s wanted = first_that_fits (
-    (wants wanted (codes ";") && (is_none (sort_here s) || (is_name_here s || (is_keyword_here s || is (here s) (codes "}")))), Pointing P.SemicolonIsMissing)
+    (wants wanted (codes ";") && (is_none (sort_here s) || (is_name_here s || (is_keyword_here s || is (here s) (codes "}")))), Quoting W.SemicolonIsMissing)
     ∷ [])
 
 -- where no program goes on: of the text as a whole, of words, of signs, of a semicolon
@@ -147,13 +145,13 @@ slip s wanted =
 -- signs between two operands, before one, and of a register
 unfoldable pub compared_slip : Setting → Option Hint
 compared_slip s = first_that_fits (
-    (is (about s) (codes ">") && (slice_index s.text s.span.end == 61), Signs I.AtLeast)
-    ∷ (is (about s) (codes ">"), Signs I.Greater)
-    ∷ (is (about s) ((226 ∷ 137 ∷ 165 ∷ [])), Signs I.AtLeastSign)
-    ∷ (is (about s) (codes "&"), Signs I.Both)
-    ∷ (is (about s) (codes "|"), Signs I.Either)
-    ∷ (is (about s) (codes "!"), Signs I.NotSign)
-    ∷ (is (about s) (codes "["), Signs I.Indexed)
+    (is (about s) (codes ">") && (slice_index s.text s.span.end == 61), Quoting W.AtLeast)
+    ∷ (is (about s) (codes ">"), Quoting W.Greater)
+    ∷ (is (about s) ((226 ∷ 137 ∷ 165 ∷ [])), Quoting W.AtLeastSign)
+    ∷ (is (about s) (codes "&"), Quoting W.Both)
+    ∷ (is (about s) (codes "|"), Quoting W.Either)
+    ∷ (is (about s) (codes "!"), Quoting W.NotSign)
+    ∷ (is (about s) (codes "["), Quoting W.Indexed)
     ∷ [])
 
 -- the text begins with these two bytes
@@ -209,7 +207,7 @@ kind_slip s K.Scan found = Some (Fixed A.ScanFirst)
 kind_slip s K.Register found = Some (Fixed A.GetAndPut)
 
 unfoldable pub twice_slip : Setting → Option Hint
-twice_slip s = first_that_fits ((is_some (first_declaration s), Pointing P.DeclaredFirst) ∷ [])
+twice_slip s = first_that_fits ((is_some (first_declaration s), Quoting W.DeclaredFirst) ∷ [])
 
 abbrev pub kinds_hint : Setting → KindFault → Option Hint
 kinds_hint s (N.Processes span) = Some (Fixed A.ProcessRange)

@@ -10,14 +10,10 @@ use Rattle.ticklab_explain.specs.declared.advice.Advice.{Advice}
 use Rattle.ticklab_explain.specs.declared.advice.Advice.TheVariants as A
 use Rattle.ticklab_explain.specs.declared.name_hint.NameHint.{NameHint}
 use Rattle.ticklab_explain.specs.declared.name_hint.NameHint.TheVariants as N
-use Rattle.ticklab_explain.specs.declared.sign_hint.SignHint.{SignHint}
-use Rattle.ticklab_explain.specs.declared.sign_hint.SignHint.TheVariants as S
-use Rattle.ticklab_explain.specs.declared.word_hint.WordHint.{WordHint}
-use Rattle.ticklab_explain.specs.declared.word_hint.WordHint.TheVariants as W
 use Rattle.ticklab_explain.specs.declared.hint.Hint.{Hint}
-use Rattle.ticklab_explain.specs.declared.hint.Hint.TheVariants.{Fixed, Naming, Signs, Words, Pointing}
-use Rattle.ticklab_explain.specs.declared.pointer.Pointer.{Pointer}
-use Rattle.ticklab_explain.specs.declared.pointer.Pointer.TheVariants as P
+use Rattle.ticklab_explain.specs.declared.hint.Hint.TheVariants.{Fixed, Naming, Quoting}
+use Rattle.ticklab_explain.specs.declared.quote.Quote.{Quote}
+use Rattle.ticklab_explain.specs.declared.quote.Quote.TheVariants as W
 use Rattle.ticklab_explain.specs.declared.piece.Piece.{Piece}
 use Rattle.ticklab_explain.specs.declared.piece.Piece.TheVariants as Q
 
@@ -155,63 +151,55 @@ name_hint_text s N.Declared = declared_names s
 name_hint_text s N.WrittenByPut = joined (codes "a register is written by `put " ∷ about s ∷ codes " " ∷ after s 2 ∷ codes ";`" ∷ [])
 name_hint_text s N.ReadByGet = joined (codes "read it first: `x = get " ∷ about s ∷ codes " me;`" ∷ [])
 
--- those that quote what stands beside a sign
-abbrev pub sign_hint_text : Setting → SignHint → List ℕ
-sign_hint_text s S.Greater =
+-- those that quote the text about the place
+abbrev pub quote_text : Setting → Quote → List ℕ
+quote_text s W.Greater =
     joined (codes "there is no `>`: write `(" ∷ or_else s.right (codes "y") ∷ codes " < " ∷ or_else s.left (codes "x") ∷ codes ")`" ∷ [])
-sign_hint_text s S.AtLeast =
+quote_text s W.AtLeast =
     joined (codes "there is no `>=`: write `(" ∷ or_else s.right (codes "y") ∷ codes " <= " ∷ or_else s.left (codes "x") ∷ codes ")`" ∷ [])
-sign_hint_text s S.AtLeastSign =
+quote_text s W.AtLeastSign =
     joined ((codes "there is no `" ++ at_least_sign ++ codes "`: write `(") ∷ or_else s.right (codes "y") ∷ codes " <= " ∷ or_else s.left (codes "x") ∷ codes ")`" ∷ [])
-sign_hint_text s S.Both =
+quote_text s W.Both =
     joined (codes "there is no `&&`: of values that are 0 or 1 write `(" ∷ or_else s.left (codes "x") ∷ codes " * " ∷ or_else s.right (codes "y") ∷ codes ")`" ∷ [])
-sign_hint_text s S.Either =
+quote_text s W.Either =
     joined (codes "there is no `||`: of values that are 0 or 1 write `((" ∷ or_else s.left (codes "x") ∷ codes " + " ∷ or_else s.right (codes "y") ∷ codes ") != 0)`" ∷ [])
-sign_hint_text s S.NotSign = joined (codes "there is no `!`: write `(" ∷ or_else s.right (codes "x") ∷ codes " == 0)`" ∷ [])
-sign_hint_text s S.Indexed =
+quote_text s W.NotSign = joined (codes "there is no `!`: write `(" ∷ or_else s.right (codes "x") ∷ codes " == 0)`" ∷ [])
+quote_text s W.Indexed =
     joined (codes "a register is read by a statement of its own: `x = get " ∷ or_else s.left (codes "r") ∷ codes " " ∷ or_else s.right (codes "me") ∷ codes ";`" ∷ [])
-
--- those that quote words about the place
-abbrev pub word_hint_text : Setting → WordHint → List ℕ
-word_hint_text s W.NotWord = joined (codes "there is no `not`: write `(" ∷ here s ∷ codes " == 0)`" ∷ [])
-word_hint_text s W.Await =
+quote_text s W.NotWord = joined (codes "there is no `not`: write `(" ∷ here s ∷ codes " == 0)`" ∷ [])
+quote_text s W.Await =
     joined (codes "there is no `await`: wait in a loop, `while (" ∷ here s ∷ codes " == 0) { " ∷ here s ∷ codes " = get r e; }`" ∷ [])
-word_hint_text s W.Keyword = joined (codes "`" ∷ here s ∷ codes "` is a keyword" ∷ meaning (here s) ∷ codes ": choose another name" ∷ [])
-word_hint_text s W.NoValue = joined (codes "`" ∷ here s ∷ codes "` gives no value: write `" ∷ here s ∷ codes ";`" ∷ [])
-word_hint_text s W.OwnStatement =
+quote_text s W.Keyword = joined (codes "`" ∷ here s ∷ codes "` is a keyword" ∷ meaning (here s) ∷ codes ": choose another name" ∷ [])
+quote_text s W.NoValue = joined (codes "`" ∷ here s ∷ codes "` gives no value: write `" ∷ here s ∷ codes ";`" ∷ [])
+quote_text s W.OwnStatement =
     joined (codes "`" ∷ here s ∷ codes "` is a statement of its own: `" ∷ statement_of (here s) ∷ codes "`" ∷ [])
-word_hint_text s W.GetWantsProcess =
+quote_text s W.GetWantsProcess =
     joined (codes "`get " ∷ before s 1 ∷ codes "` wants the process whose register is read: `get " ∷ before s 1 ∷ codes " me`" ∷ [])
-word_hint_text s W.AssignedInPlace =
+quote_text s W.AssignedInPlace =
     joined (codes "write `" ∷ before s 1 ∷ codes " = (" ∷ before s 1 ∷ codes " " ∷ here s ∷ codes " " ∷ after s 2 ∷ codes ");`" ∷ [])
-word_hint_text s W.OneOperator =
+quote_text s W.OneOperator =
     joined (codes "one operator in a pair of brackets: `((" ∷ before s 3 ∷ codes " " ∷ before s 2 ∷ codes " " ∷ before s 1 ∷ codes ") " ∷ here s ∷ codes " " ∷ after s 1 ∷ codes ")`" ∷ [])
-word_hint_text s W.OwnBrackets =
+quote_text s W.OwnBrackets =
     joined (codes "an operation has brackets of its own: `(" ∷ before s 1 ∷ codes " " ∷ here s ∷ codes " " ∷ after s 1 ∷ codes ")`" ∷ [])
-word_hint_text s W.OwnRegister = joined (codes "a process writes its own register only: `put " ∷ before s 2 ∷ codes " " ∷ here s ∷ codes ";`" ∷ [])
+quote_text s W.OwnRegister = joined (codes "a process writes its own register only: `put " ∷ before s 2 ∷ codes " " ∷ here s ∷ codes ";`" ∷ [])
+quote_text s W.DeclaredFirst = joined (codes "`" ∷ about s ∷ codes "` was declared here first" ∷ [])
+quote_text s W.BraceIsOpen = codes "this `{` is not closed"
+quote_text s W.SemicolonIsMissing = joined (codes "a `;` is missing after `" ∷ before s 1 ∷ codes "`" ∷ [])
 
--- those that speak of another place
-abbrev pub pointer_text : Setting → Pointer → List ℕ
-pointer_text s P.DeclaredFirst = joined (codes "`" ∷ about s ∷ codes "` was declared here first" ∷ [])
-pointer_text s P.BraceIsOpen = codes "this `{` is not closed"
-pointer_text s P.SemicolonIsMissing = joined (codes "a `;` is missing after `" ∷ before s 1 ∷ codes "`" ∷ [])
-
-abbrev pub pointer_span : Setting → Pointer → Option Span
-pointer_span s P.DeclaredFirst = first_declaration s
-pointer_span s P.BraceIsOpen = open_brace s
-pointer_span s P.SemicolonIsMissing = Some (record { start = front_end s; end = front_end s })
+-- the last three speak of another place
+abbrev pub quote_span : Setting → Quote → Option Span
+quote_span s W.DeclaredFirst = first_declaration s
+quote_span s W.BraceIsOpen = open_brace s
+quote_span s W.SemicolonIsMissing = Some (record { start = front_end s; end = front_end s })
+quote_span s _ = None
 
 abbrev pub hint_text : Setting → Hint → List ℕ
 hint_text s (Fixed advice) = advice_text advice
 hint_text s (Naming hint) = name_hint_text s hint
-hint_text s (Signs hint) = sign_hint_text s hint
-hint_text s (Words hint) = word_hint_text s hint
-hint_text s (Pointing pointer) = pointer_text s pointer
+hint_text s (Quoting quote) = quote_text s quote
 
 -- the other place that a hint speaks of
 abbrev pub hint_span : Setting → Hint → Option Span
 hint_span s (Fixed advice) = None
 hint_span s (Naming hint) = None
-hint_span s (Signs hint) = None
-hint_span s (Words hint) = None
-hint_span s (Pointing pointer) = pointer_span s pointer
+hint_span s (Quoting quote) = quote_span s quote

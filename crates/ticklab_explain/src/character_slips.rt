@@ -5,8 +5,8 @@ ghost use Rattle.ticklab_explain.specs.Settings.{setting};
 
 use crate::advice::Advice;
 use crate::hint::{Hint, first_that_fits};
+use crate::quote::Quote;
 use crate::scene::{Scene, byte_at};
-use crate::sign_hint::SignHint;
 use crate::wanted::is_one_of;
 
 /// What may help at a character that begins no token.
@@ -26,14 +26,14 @@ fn compared_slip(scene: &Scene) -> Option<Hint>
     first_that_fits(&[
         (
             scene.is_about(">") & is_or_equal,
-            Hint::Signs(SignHint::AtLeast),
+            Hint::Quoting(Quote::AtLeast),
         ),
-        (scene.is_about(">"), Hint::Signs(SignHint::Greater)),
-        (scene.is_about("≥"), Hint::Signs(SignHint::AtLeastSign)),
-        (scene.is_about("&"), Hint::Signs(SignHint::Both)),
-        (scene.is_about("|"), Hint::Signs(SignHint::Either)),
-        (scene.is_about("!"), Hint::Signs(SignHint::NotSign)),
-        (scene.is_about("["), Hint::Signs(SignHint::Indexed)),
+        (scene.is_about(">"), Hint::Quoting(Quote::Greater)),
+        (scene.is_about("≥"), Hint::Quoting(Quote::AtLeastSign)),
+        (scene.is_about("&"), Hint::Quoting(Quote::Both)),
+        (scene.is_about("|"), Hint::Quoting(Quote::Either)),
+        (scene.is_about("!"), Hint::Quoting(Quote::NotSign)),
+        (scene.is_about("["), Hint::Quoting(Quote::Indexed)),
     ])
 }
 

@@ -8,7 +8,7 @@ use crate::character_slips::character_slip;
 use crate::grammar_slips::slip;
 use crate::hint::{Hint, first_that_fits};
 use crate::name_hint::NameHint;
-use crate::pointer::Pointer;
+use crate::quote::Quote;
 use crate::scene::{Scene, shortened};
 use crate::wanted::Wanted;
 use code_core::CodeFault;
@@ -60,7 +60,7 @@ fn twice_slip(scene: &Scene) -> Option<Hint>
     ensures { result ≡ twice_slip (setting scene.now) }
 {
     let is_declared = scene.first_declaration().is_some();
-    first_that_fits(&[(is_declared, Hint::Pointing(Pointer::DeclaredFirst))])
+    first_that_fits(&[(is_declared, Hint::Quoting(Quote::DeclaredFirst))])
 }
 
 #[tactic(auto, unfolding(crate::specs::Choosing::unknown_slip))]

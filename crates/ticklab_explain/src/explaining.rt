@@ -1,5 +1,5 @@
 // The public calls.
-ghost use Rattle.std.specs.Prelude.{◌≡◌, ◌<◌, ℕ, List, IfOk, MatchOption};
+ghost use Rattle.std.specs.Prelude.{◌≡◌, ◌<◌, ℕ, List, IfOk, MatchOption, None, Some};
 ghost use Rattle.language_schedules.specs.Schedule.{schedule_of};
 ghost use Rattle.ticketc_refusals.specs.Refusals.{IsCode, IsCodeRefused, IsInputRefused, IsProgram, IsProgramRefused, IsScheduleRefused, IsTakenInput};
 ghost use Rattle.ticklab_explain.specs.Reports.{Tells, TellsFor};
@@ -26,7 +26,20 @@ pub fn explain(alloc: Global, name: &str, input: &[u8]) -> Result<Option<Vec<u8>
 pub fn explain_program(alloc: Global, name: &str, input: &[u8]) -> Result<Option<Vec<u8>>, NoMemory>
     ensures { IfOk result (λ told. MatchOption told (IsProgram input.now) (λ text. Tells (IsProgramRefused input.now) name.now input.now text.items)) }
 {
-    match program_refusal(alloc, input)? {
+    let refusal = program_refusal(alloc, input)?;
+    told(alloc, name, input, refusal)
+}
+
+// The report of the refusal that an input has, where it has one.
+fn told(
+    alloc: Global,
+    name: &str,
+    input: &[u8],
+    refusal: Option<Refusal>,
+) -> Result<Option<Vec<u8>>, NoMemory>
+    ensures { IfOk result (λ told. MatchOption told (refusal ≡ None) (λ text. Tells (λ one. refusal ≡ Some one) name.now input.now text.items)) }
+{
+    match refusal {
         Some(refusal) => {
             let text = explain_refusal(alloc, name, input, refusal)?;
             Ok(Some(text))
@@ -51,13 +64,8 @@ pub fn explain_refusal(
 pub fn explain_code(alloc: Global, name: &str, input: &[u8]) -> Result<Option<Vec<u8>>, NoMemory>
     ensures { IfOk result (λ told. MatchOption told (IsCode input.now) (λ text. Tells (IsCodeRefused input.now) name.now input.now text.items)) }
 {
-    match code_refusal(alloc, input)? {
-        Some(refusal) => {
-            let text = explain_refusal(alloc, name, input, refusal)?;
-            Ok(Some(text))
-        }
-        None => Ok(None),
-    }
+    let refusal = code_refusal(alloc, input)?;
+    told(alloc, name, input, refusal)
 }
 
 /// The same of a schedule of so many processes.

@@ -6,11 +6,10 @@ ghost use Rattle.ticklab_explain.specs.Settings.{setting};
 
 use crate::advice::Advice;
 use crate::hint::{Hint, first_that_fits};
-use crate::pointer::Pointer;
+use crate::quote::Quote;
 use crate::scene::Scene;
 use crate::sign_slips::{operator_slip, sign_slip};
 use crate::wanted::{Wanted, is_one_of};
-use crate::word_hint::WordHint;
 
 /// Whether a token is wanted that is told by this sample.
 pub fn wants(wanted: &[Wanted], sample: &str) -> bool
@@ -62,7 +61,7 @@ fn block_slip(scene: &Scene, wanted: &[Wanted]) -> Option<Hint>
     first_that_fits(&[
         (
             scene.open_brace().is_some() & (ends & wants(wanted, "}")),
-            Hint::Pointing(Pointer::BraceIsOpen),
+            Hint::Quoting(Quote::BraceIsOpen),
         ),
         (
             scene.is_here("if") & scene.is_before(1, "else"),
@@ -78,8 +77,8 @@ fn foreign_slip(scene: &Scene) -> Option<Hint>
     ensures { result ≡ foreign_slip (setting scene.now) }
 {
     first_that_fits(&[
-        (scene.is_before(1, "not"), Hint::Words(WordHint::NotWord)),
-        (scene.is_before(1, "await"), Hint::Words(WordHint::Await)),
+        (scene.is_before(1, "not"), Hint::Quoting(Quote::NotWord)),
+        (scene.is_before(1, "await"), Hint::Quoting(Quote::Await)),
         (scene.is_before(1, "and"), Hint::Fixed(Advice::NoAnd)),
         (scene.is_here("const"), Hint::Fixed(Advice::NoConstants)),
         (scene.is_here("and"), Hint::Fixed(Advice::NoAnd)),
@@ -97,15 +96,15 @@ fn keyword_slip(scene: &Scene, wanted: &[Wanted]) -> Option<Hint>
     first_that_fits(&[
         (
             scene.is_keyword() & wants(wanted, "x"),
-            Hint::Words(WordHint::Keyword),
+            Hint::Quoting(Quote::Keyword),
         ),
         (
             is_one_of(here, &["stamp", "clear"]) & is_value,
-            Hint::Words(WordHint::NoValue),
+            Hint::Quoting(Quote::NoValue),
         ),
         (
             is_one_of(here, &["older", "held", "get", "scan", "copy"]) & wants(wanted, "me"),
-            Hint::Words(WordHint::OwnStatement),
+            Hint::Quoting(Quote::OwnStatement),
         ),
     ])
 }
@@ -126,7 +125,7 @@ fn place_slip(scene: &Scene, wanted: &[Wanted]) -> Option<Hint>
         ),
         (
             wants(wanted, "me") & scene.is_before(2, "get"),
-            Hint::Words(WordHint::GetWantsProcess),
+            Hint::Quoting(Quote::GetWantsProcess),
         ),
         (
             wants(wanted, "begin") & is_section(scene.here()),
@@ -152,6 +151,6 @@ fn missing_slip(scene: &Scene, wanted: &[Wanted]) -> Option<Hint>
     let is_word = scene.is_name() | (scene.is_keyword() | scene.is_here("}"));
     first_that_fits(&[(
         wants(wanted, ";") & (scene.is_at_end() | is_word),
-        Hint::Pointing(Pointer::SemicolonIsMissing),
+        Hint::Quoting(Quote::SemicolonIsMissing),
     )])
 }

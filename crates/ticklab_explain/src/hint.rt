@@ -6,10 +6,8 @@ ghost use Rattle.ticklab_explain.specs.Settings.{setting};
 
 use crate::advice::Advice;
 use crate::name_hint::NameHint;
-use crate::pointer::Pointer;
+use crate::quote::Quote;
 use crate::scene::Scene;
-use crate::sign_hint::SignHint;
-use crate::word_hint::WordHint;
 use base::span::Span;
 use std::alloc::AllocError;
 
@@ -20,12 +18,8 @@ pub enum Hint {
     Fixed(Advice),
     /// In words that quote names.
     Naming(NameHint),
-    /// In words that quote what stands beside a sign.
-    Signs(SignHint),
-    /// In words that quote those about the place.
-    Words(WordHint),
-    /// What speaks of another place.
-    Pointing(Pointer),
+    /// In words that quote the text about the place.
+    Quoting(Quote),
 }
 
 impl Hint {
@@ -36,9 +30,7 @@ impl Hint {
         match self {
             Hint::Fixed(advice) => text.push_str(advice.text()),
             Hint::Naming(hint) => hint.push(text, scene),
-            Hint::Signs(hint) => hint.push(text, scene),
-            Hint::Words(hint) => hint.push(text, scene),
-            Hint::Pointing(pointer) => pointer.push(text, scene),
+            Hint::Quoting(quote) => quote.push(text, scene),
         }
     }
 
@@ -47,8 +39,8 @@ impl Hint {
         ensures { result ≡ hint_span (setting scene.now) self }
     {
         match self {
-            Hint::Fixed(_) | Hint::Naming(_) | Hint::Signs(_) | Hint::Words(_) => None,
-            Hint::Pointing(pointer) => pointer.span(scene),
+            Hint::Fixed(_) | Hint::Naming(_) => None,
+            Hint::Quoting(quote) => quote.span(scene),
         }
     }
 }

@@ -23,15 +23,13 @@ mod name_hint;
 mod picture;
 mod piece;
 pub mod place;
-mod pointer;
+mod quote;
 mod report;
 mod scene;
 mod setting;
-mod sign_hint;
 mod sign_slips;
 mod spot;
 mod wanted;
-mod word_hint;
 mod writing;
 
 pub use explaining::{explain, explain_code, explain_program, explain_refusal, explain_schedule};

@@ -14,6 +14,15 @@ const BEFORE_LIMIT: usize = 120;
 
 const AFTER_LIMIT: usize = 240;
 
+// A line by its number, as it is shown before a part, in it and after it.
+#[derive(Clone, Copy)]
+struct Line<'a> {
+    number: usize,
+    before: &'a [u8],
+    part: &'a [u8],
+    after: &'a [u8],
+}
+
 /// Adds the line where a span begins, under its number, with a caret under the span.
 pub fn push_picture(
     alloc: Global,
@@ -38,7 +47,13 @@ pub fn push_picture(
     let mut after = Vec::new(alloc);
     push_shown(alloc, &mut after, &text[end..to])?;
     push_cut(&mut after, stop - to)?;
-    push_lines(out, number, &before, &part, &after)
+    let line = Line {
+        number,
+        before: &before,
+        part: &part,
+        after: &after,
+    };
+    push_lines(out, line)
 }
 
 fn push_cut(out: &mut Vec<u8>, rest: usize) -> Result<(), AllocError>
@@ -47,35 +62,28 @@ fn push_cut(out: &mut Vec<u8>, rest: usize) -> Result<(), AllocError>
     if rest == 0 { Ok(()) } else { push(out, "..") }
 }
 
-fn push_lines(
-    out: &mut Vec<u8>,
-    number: usize,
-    before: &[u8],
-    part: &[u8],
-    after: &[u8],
-) -> Result<(), AllocError>
-    ensures { OnOk result (out.new.items ≡ out.old.items ++ picture number before.now part.now after.now) }
+fn push_lines(out: &mut Vec<u8>, line: Line<'_>) -> Result<(), AllocError>
+    ensures { OnOk result (out.new.items ≡ out.old.items ++ picture line.entry.number line.entry.before.now line.entry.part.now line.entry.after.now) }
 {
-    push_margin(out, number)?;
+    push_margin(out, line.number)?;
     push(out, "\n")?;
-    push_source(out, number, before, part, after)?;
-    push_caret(out, number, characters(before), characters(part))
+    push_source(out, line)?;
+    push_caret(
+        out,
+        line.number,
+        characters(line.before),
+        characters(line.part),
+    )
 }
 
-fn push_source(
-    out: &mut Vec<u8>,
-    number: usize,
-    before: &[u8],
-    part: &[u8],
-    after: &[u8],
-) -> Result<(), AllocError>
-    ensures { OnOk result (out.new.items ≡ out.old.items ++ source_line number before.now part.now after.now) }
+fn push_source(out: &mut Vec<u8>, line: Line<'_>) -> Result<(), AllocError>
+    ensures { OnOk result (out.new.items ≡ out.old.items ++ source_line line.entry.number line.entry.before.now line.entry.part.now line.entry.after.now) }
 {
-    push_decimal(out, number)?;
+    push_decimal(out, line.number)?;
     push(out, " | ")?;
-    out.extend_from_slice(before)?;
-    out.extend_from_slice(part)?;
-    out.extend_from_slice(after)?;
+    out.extend_from_slice(line.before)?;
+    out.extend_from_slice(line.part)?;
+    out.extend_from_slice(line.after)?;
     push(out, "\n")
 }
 

@@ -6,9 +6,9 @@ ghost use Rattle.ticklab_explain.specs.Settings.{setting};
 use crate::advice::Advice;
 use crate::grammar_slips::wants;
 use crate::hint::{Hint, first_that_fits};
+use crate::quote::Quote;
 use crate::scene::Scene;
 use crate::wanted::{Wanted, is_one_of};
-use crate::word_hint::WordHint;
 
 /// What may help at an equals sign or an operator that no program has there.
 #[tactic(auto, unfolding(crate::specs::Choosing::operator_slip))]
@@ -30,7 +30,7 @@ pub fn operator_slip(scene: &Scene, wanted: &[Wanted]) -> Option<Hint>
         ),
         (
             is_arithmetic & (wants(wanted, "=") & scene.is_after(1, "=")),
-            Hint::Words(WordHint::AssignedInPlace),
+            Hint::Quoting(Quote::AssignedInPlace),
         ),
         (
             scene.is_here("-") & (wants(wanted, "get") | wants(wanted, "me")),
@@ -38,11 +38,11 @@ pub fn operator_slip(scene: &Scene, wanted: &[Wanted]) -> Option<Hint>
         ),
         (
             is_operator & wants(wanted, ")"),
-            Hint::Words(WordHint::OneOperator),
+            Hint::Quoting(Quote::OneOperator),
         ),
         (
             is_operator & (wants(wanted, ";") | wants(wanted, "{")),
-            Hint::Words(WordHint::OwnBrackets),
+            Hint::Quoting(Quote::OwnBrackets),
         ),
     ])
 }
@@ -82,7 +82,7 @@ pub fn sign_slip(scene: &Scene, wanted: &[Wanted]) -> Option<Hint>
         ),
         (
             wants(wanted, ";") & (scene.is_before(3, "put") & scene.is_after(1, ";")),
-            Hint::Words(WordHint::OwnRegister),
+            Hint::Quoting(Quote::OwnRegister),
         ),
     ])
 }
