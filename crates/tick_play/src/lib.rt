@@ -15,6 +15,7 @@ pub use base::{NoMemory, Outcome, RunEnd, RunOutcome};
 pub use language_schedules::{
     Move, ScheduleFault, laws, read_moves, read_schedule, write_schedule,
 };
+pub use lines::trap_name;
 pub use outcome::outcome_text;
 pub use play::{play_code, play_source};
 pub use report::report_of;

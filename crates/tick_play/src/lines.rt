@@ -74,6 +74,7 @@ fn status_name(status: Status) -> &'static str
     }
 }
 
+/// The name of a trap.
 pub fn trap_name(trap: Trap) -> &'static str
     ensures { result.now ≡ trap_text trap }
 {

@@ -4,12 +4,12 @@ use Rattle.base.specs.declared.event.Act.{Act}
 use Rattle.base.specs.declared.event.Act.TheVariants as A
 use Rattle.base.specs.declared.status.Status.{Status}
 use Rattle.base.specs.declared.status.Status.TheVariants as T
+use Rattle.tick_play.specs.Lines.{trap_text}
 use Rattle.ticklab_draw.specs.declared.mark.Mark.{Mark}
 use Rattle.ticklab_draw.specs.declared.mark.Sight.{Sight}
 use Rattle.ticklab_draw.specs.declared.mark.Sight.TheVariants as S
 use Rattle.ticklab_draw.specs.Colours.{colour, stroke}
 use Rattle.ticklab_draw.specs.Layout.{band_foot, lane_y}
-use Rattle.ticklab_draw.specs.Words.{trap_text}
 use Rattle.ticklab_draw.specs.Writing.{one_number}
 
 -- the line of a process at this height, in its colour

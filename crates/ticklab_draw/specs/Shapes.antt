@@ -13,8 +13,9 @@ use Rattle.ticklab_draw.specs.declared.mark.Holdings.TheVariants as H
 use Rattle.ticklab_draw.specs.declared.shapes.Shape.{Shape}
 use Rattle.ticklab_draw.specs.declared.shapes.Shape.TheVariants.{Put, Get, Stamp, Clear, Scan, Yes, No, Out, Trap, End, Lost}
 use Rattle.ticklab_draw.specs.Layout.{field_half, flag_middle, flag_width, is_far}
-use Rattle.ticklab_draw.specs.Words.{answer_text, label_text, row_text, trap_text}
+use Rattle.ticklab_draw.specs.Words.{answer_text, label_text, row_text}
 use Rattle.ticklab_draw.specs.Writing.{one_number}
+use Rattle.tick_play.specs.Lines.{trap_text}
 
 -- the shape of an answer, of an act, and of what a mark shows
 abbrev pub answer_shape : ℕ → Shape

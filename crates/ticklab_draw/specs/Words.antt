@@ -3,8 +3,6 @@ use Rattle.std.specs.Prelude.{ℕ, ◌+◌, ◌==◌, if◌then◌else◌, List,
 use Rattle.std.specs.Fmt.{decimal}
 use Rattle.std.specs.List.{flat_map}
 use Rattle.base.specs.Lines.{spaced}
-use Rattle.base.specs.declared.status.Trap.{Trap}
-use Rattle.base.specs.declared.status.Trap.TheVariants as T
 use Rattle.base.specs.declared.event.Act.{Act}
 use Rattle.base.specs.declared.event.Act.TheVariants as A
 use Rattle.base.specs.declared.tree.Named.{Named}
@@ -14,6 +12,7 @@ use Rattle.ticklab_draw.specs.declared.mark.Sight.TheVariants as S
 use Rattle.ticklab_draw.specs.declared.mark.Holdings.{Holdings}
 use Rattle.ticklab_draw.specs.declared.mark.Holdings.TheVariants as H
 use Rattle.ticklab_draw.specs.Escapes.{escaped}
+use Rattle.tick_play.specs.Lines.{trap_text}
 
 abbrev pub names : List Named → List (List ℕ)
 names registers = map (λ x. string_bytes x.name) registers
@@ -28,12 +27,6 @@ row_text rows row = row_as row (slice_get rows row)
 
 abbrev pub answer_text : ℕ → List ℕ
 answer_text answer = if answer == 0 then codes "no" else codes "yes"
-
-abbrev pub trap_text : Trap → List ℕ
-trap_text T.Overflow = codes "Overflow"
-trap_text T.Below = codes "Below"
-trap_text T.Zero = codes "Zero"
-trap_text T.Index = codes "Index"
 
 -- the digits of a label, a dash where it has none, and a dot for an absent process
 abbrev pub label_text : Option (List ℕ) → List ℕ

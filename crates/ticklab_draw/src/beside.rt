@@ -6,10 +6,11 @@ ghost use Rattle.ticklab_draw.specs.Shapes.{beside, beside_act, own_label, own_t
 
 use crate::mark::{Holdings, Mark, Sight};
 use crate::orders::ticket_of;
-use crate::words::{Cast, push_answer, push_label, push_ranks, push_read, push_written, trap_name};
+use crate::words::{Cast, push_answer, push_label, push_ranks, push_read, push_written};
 use crate::writing::{push, push_number};
 use base::Act;
 use std::alloc::{AllocError, Global};
+use tick_play::trap_name;
 use word_core::LabelWord;
 
 /// The words beside a mark.

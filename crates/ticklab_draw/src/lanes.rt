@@ -5,10 +5,10 @@ ghost use Rattle.ticklab_draw.specs.Lanes.{band_text, bands_text, caption, end_o
 use crate::colours::{push_colour, push_stroke};
 use crate::layout::{band_foot, lane_y};
 use crate::mark::{Mark, Sight};
-use crate::words::trap_name;
 use crate::writing::{push, push_one};
 use base::{Act, Status};
 use std::alloc::AllocError;
+use tick_play::trap_name;
 
 /// Adds so many bands.
 pub fn push_bands(out: &mut Vec<u8>, n: u8, bands: usize) -> Result<(), AllocError>

@@ -4,7 +4,8 @@ ghost use Rattle.std.specs.Fmt.{decimal};
 ghost use Rattle.std.specs.List.{flat_map};
 ghost use Rattle.base.specs.Lines.{spaced};
 ghost use Rattle.word_core.specs.Stamps.{label_at};
-ghost use Rattle.ticklab_draw.specs.Words.{act_text, answer_text, held_text, label_text, origin_text, row_text, sentence, sight_text, trap_text, names};
+ghost use Rattle.ticklab_draw.specs.Words.{act_text, answer_text, held_text, label_text, origin_text, row_text, sentence, sight_text, names};
+ghost use Rattle.tick_play.specs.Lines.{trap_text};
 
 use crate::mark::{Holdings, Mark, Sight};
 use crate::writing::{push, push_escaped, push_number, push_wide};
@@ -12,6 +13,7 @@ use base::tree::Named;
 use base::{Act, Trap};
 use label_core::Label;
 use std::alloc::AllocError;
+use tick_play::trap_name;
 use word_core::LabelWord;
 
 /// What is known besides the marks: how many processes there are, and the names of the rows.
@@ -283,16 +285,4 @@ fn push_digits(out: &mut Vec<u8>, label: &Label) -> Result<(), AllocError>
         push_number(out, u64::from(label.digit(i)))?;
     }
     Ok(())
-}
-
-/// The name of a trap.
-pub fn trap_name(trap: Trap) -> &'static str
-    ensures { result.now ≡ trap_text trap }
-{
-    match trap {
-        Trap::Overflow => "Overflow",
-        Trap::Below => "Below",
-        Trap::Zero => "Zero",
-        Trap::Index => "Index",
-    }
 }

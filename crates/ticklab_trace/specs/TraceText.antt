@@ -3,8 +3,6 @@ use Rattle.std.specs.Prelude.{ℕ, zero, suc, ◌+◌, ◌-◌, List, [], ◌∷
 use Rattle.std.specs.Fmt.{decimal}
 use Rattle.base.specs.Lines.{line_end}
 use Rattle.ticket_core.specs.Tickets.{ticket_ranks, holds_ticket}
-use Rattle.base.specs.declared.status.Trap.{Trap}
-use Rattle.base.specs.declared.status.Trap.TheVariants as T
 use Rattle.base.specs.declared.event.Act.{Act}
 use Rattle.base.specs.declared.event.Act.TheVariants as A
 use Rattle.word_core.specs.Stamps.{Labels, label_at, is_present}
@@ -12,6 +10,7 @@ use Rattle.word_core.specs.Order.{label_ranks}
 use Rattle.code_core.specs.declared.instr.Instr.{Instr}
 use Rattle.code_text.specs.CodeText.{instr_text}
 use Rattle.base.specs.Plain.{Name, WholeProgram}
+use Rattle.tick_play.specs.Lines.{trap_text}
 use Rattle.ticklab_trace.specs.Places.{Standing}
 use Rattle.ticklab_trace.specs.declared.steps.Written.{Written}
 use Rattle.ticklab_trace.specs.declared.steps.StatementStep.{StatementStep}
@@ -41,12 +40,6 @@ words_end count = replicate (32 - count) 32 ++ codes " | "
 -- words before what the step did
 abbrev pub words_text : List ℕ → List ℕ
 words_text words = words ++ words_end (length words)
-
-abbrev pub trap_text : Trap → List ℕ
-trap_text T.Overflow = codes "Overflow"
-trap_text T.Below = codes "Below"
-trap_text T.Zero = codes "Zero"
-trap_text T.Index = codes "Index"
 
 abbrev pub letters_of : Option Name → List ℕ
 letters_of None = []

@@ -2,13 +2,15 @@
 
 ghost use Rattle.std.specs.Prelude.{◌≡◌, ◌++◌, OnOk, Some, map, string_bytes, take};
 ghost use Rattle.base.specs.View.{name_of};
-ghost use Rattle.ticklab_trace.specs.TraceText.{act_text, name_at, rank_text, ranks_text, register_text, trap_text, variable_text};
+ghost use Rattle.ticklab_trace.specs.TraceText.{act_text, name_at, rank_text, ranks_text, register_text, variable_text};
+ghost use Rattle.tick_play.specs.Lines.{trap_text};
 
 use base::tree::Named;
-use base::{Act, Trap, push_number};
+use base::{Act, push_number};
 use std::alloc::AllocError;
 use std::fmt::Write;
 use tick_kinds::Program;
+use tick_play::trap_name;
 
 /// What others see of a step of process `p`.
 pub fn push_act(text: &mut String, program: &Program, p: u8, act: Act) -> Result<(), AllocError>
@@ -98,16 +100,5 @@ fn name_in(section: &[Named], number: u8) -> &str
     match section.get(usize::from(number)) {
         Some(named) => named.name.as_str(),
         None => "",
-    }
-}
-
-fn trap_name(trap: Trap) -> &'static str
-    ensures { result.now ≡ trap_text trap }
-{
-    match trap {
-        Trap::Overflow => "Overflow",
-        Trap::Below => "Below",
-        Trap::Zero => "Zero",
-        Trap::Index => "Index",
     }
 }
