@@ -14,10 +14,12 @@ heading_text at None = codes "<text class='move' x='8' y='18'>start</text>\n"
 heading_text at (Some (Stamp p)) = two_numbers (codes "<text class='move' x='8' y='18'>") at (codes ": stamp ") p (codes "</text>\n")
 heading_text at (Some (Clear p)) = two_numbers (codes "<text class='move' x='8' y='18'>") at (codes ": clear ") p (codes "</text>\n")
 
+-- the beginning of a line of words, so far above the lower end of the frame
+abbrev pub line_begin : ℕ → ℕ → List ℕ → List ℕ
+line_begin n above words = one_number (codes "<text class='told' x='8' y='") (frame_height n - above) words
+
 unfoldable pub labels_told : Labels → List ℕ
-labels_told labels =
-    one_number (codes "<text class='told' x='8' y='") (frame_height (length labels) - 38) (codes "'>labels")
-    ++ spaced (map label_text labels) ++ codes "</text>\n"
+labels_told labels = line_begin (length labels) 38 (codes "'>labels") ++ spaced (map label_text labels) ++ codes "</text>\n"
 
 -- a table shows them above
 abbrev pub labels_line : Labels → List ℕ
@@ -43,6 +45,4 @@ abbrev pub order_of : Labels → List ℕ
 order_of labels = order_text (label_ranks labels) (length (label_ranks labels))
 
 unfoldable pub order_line : Labels → List ℕ
-order_line labels =
-    one_number (codes "<text class='told' x='8' y='") (frame_height (length labels) - 20) (codes "'>order ")
-    ++ order_of labels ++ codes "</text>\n"
+order_line labels = line_begin (length labels) 20 (codes "'>order ") ++ order_of labels ++ codes "</text>\n"

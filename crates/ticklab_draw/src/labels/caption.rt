@@ -1,8 +1,8 @@
 // What stands under a frame: the labels, and the processes from the oldest on.
 ghost use Rattle.std.specs.Prelude.{◌≡◌, ◌++◌, ◌≤◌, OnOk, length, true};
-ghost use Rattle.ticklab_draw.specs.labels.Captions.{labels_line, labels_told, mark_before, order_line, order_of, order_text, ranked_text};
+ghost use Rattle.ticklab_draw.specs.labels.Captions.{labels_line, labels_told, line_begin, mark_before, order_line, order_of, order_text, ranked_text};
 
-use crate::labels::layout::{frame_height, is_nested};
+use crate::labels::layout::{frames_of, is_nested};
 use crate::words::push_labels;
 use crate::writing::{push, push_one};
 use std::alloc::AllocError;
@@ -23,15 +23,18 @@ pub fn push_labels_line(out: &mut Vec<u8>, labels: &LabelWord) -> Result<(), All
 fn push_labels_told(out: &mut Vec<u8>, labels: &LabelWord) -> Result<(), AllocError>
     ensures { OnOk result (out.new.items ≡ out.old.items ++ labels_told labels.now) }
 {
-    let height = frame_height(labels.n()) - 38;
-    push_one(
-        out,
-        "<text class='told' x='8' y='",
-        u128::from(height),
-        "'>labels",
-    )?;
+    push_begin(out, labels.n(), 38, "'>labels")?;
     push_labels(out, labels)?;
     push(out, "</text>\n")
+}
+
+// Adds the beginning of a line of words, so far above the lower end of the frame.
+fn push_begin(out: &mut Vec<u8>, n: u8, above: u64, words: &str) -> Result<(), AllocError>
+    requires { above ≤ 38 }
+    ensures { OnOk result (out.new.items ≡ out.old.items ++ line_begin n above words.now) }
+{
+    let height = u128::from(frames_of(n).height - above);
+    push_one(out, "<text class='told' x='8' y='", height, words)
 }
 
 /// Adds the processes from the oldest on.
@@ -39,13 +42,7 @@ fn push_labels_told(out: &mut Vec<u8>, labels: &LabelWord) -> Result<(), AllocEr
 pub fn push_order_line(out: &mut Vec<u8>, labels: &LabelWord) -> Result<(), AllocError>
     ensures { OnOk result (out.new.items ≡ out.old.items ++ order_line labels.now) }
 {
-    let height = frame_height(labels.n()) - 20;
-    push_one(
-        out,
-        "<text class='told' x='8' y='",
-        u128::from(height),
-        "'>order ",
-    )?;
+    push_begin(out, labels.n(), 20, "'>order ")?;
     push_order_of(out, labels)?;
     push(out, "</text>\n")
 }

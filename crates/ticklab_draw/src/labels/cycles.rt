@@ -2,7 +2,7 @@
 ghost use Rattle.std.specs.Prelude.{◌≡◌, ◌++◌, ◌<◌, ◌≤◌, OnOk};
 ghost use Rattle.ticklab_draw.specs.labels.Figures.{absent_text, corner_text, is_mover, mark_text, place_text, present_text, process_text, spot_text, step_text};
 
-use crate::labels::layout::{below, left_most, right, seat, top_most};
+use crate::labels::layout::{below, frames_of, right, seat};
 use crate::writing::{push, push_one, push_two};
 use label_core::Label;
 use std::alloc::AllocError;
@@ -39,14 +39,8 @@ fn push_present(out: &mut Vec<u8>, n: u8, process: u8, label: &Label) -> Result<
 fn push_corner(out: &mut Vec<u8>, n: u8) -> Result<(), AllocError>
     ensures { OnOk result (out.new.items ≡ out.old.items ++ corner_text n) }
 {
-    push_two(
-        out,
-        "<g transform='translate(",
-        left_most(n),
-        " ",
-        u128::from(top_most(n)),
-        ")",
-    )
+    let (begin, frames) = ("<g transform='translate(", frames_of(n));
+    push_two(out, begin, frames.left, " ", u128::from(frames.top), ")")
 }
 
 #[tactic(auto, unfolding(crate::specs::labels::Figures::present_text))]

@@ -9,44 +9,51 @@ pub fn is_nested(n: u8) -> bool
     n < 5
 }
 
-/// How many frames stand in a row.
-pub fn row_frames(n: u8) -> u64
-    ensures is { result ≡ row_frames n }
-    ensures some { 1 ≤ result }
-    ensures few { result ≤ 6 }
+/// The sizes of frames, and where the places of the cycles begin in one.
+#[derive(Clone, Copy)]
+pub struct Frames {
+    /// How many stand in a row.
+    pub in_row: u64,
+    pub width: u64,
+    pub height: u64,
+    /// The left end of the cycles' places, from the frame's own.
+    pub left: u64,
+    /// The upper end of the cycles' places, from the frame's own.
+    pub top: u64,
+}
+
+/// The frames of so many processes.
+pub fn frames_of(n: u8) -> Frames
+    ensures in_row { result.in_row ≡ row_frames n }
+    ensures some { 1 ≤ result.in_row }
+    ensures few { result.in_row ≤ 6 }
+    ensures width { result.width ≡ frame_width n }
+    ensures wide { 160 ≤ result.width }
+    ensures narrow { result.width ≤ 336 }
+    ensures height { result.height ≡ frame_height n }
+    ensures high { 128 ≤ result.height }
+    ensures low { result.height ≤ 428 }
+    ensures left { result.left ≡ left_most n }
+    ensures top { result.top ≡ top_most n }
 {
     match n {
-        0..=2 => 5,
-        3 => 4,
-        4 => 3,
-        _ => 6,
+        0..=1 => sized(5, 192, 128, 96, 56),
+        2 => sized(5, 192, 212, 56, 46),
+        3 => sized(4, 240, 328, 37, 62),
+        4 => sized(3, 336, 428, 44, 64),
+        _ => sized(6, 160, 220, 44, 64),
     }
 }
 
-pub fn frame_width(n: u8) -> u64
-    ensures is { result ≡ frame_width n }
-    ensures some { 160 ≤ result }
-    ensures small { result ≤ 336 }
+fn sized(in_row: u64, width: u64, height: u64, left: u64, top: u64) -> Frames
+    ensures { result ≡ record { in_row = in_row; width = width; height = height; left = left; top = top } }
 {
-    match n {
-        0..=2 => 192,
-        3 => 240,
-        4 => 336,
-        _ => 160,
-    }
-}
-
-pub fn frame_height(n: u8) -> u64
-    ensures is { result ≡ frame_height n }
-    ensures some { 128 ≤ result }
-    ensures small { result ≤ 428 }
-{
-    match n {
-        0..=1 => 128,
-        2 => 212,
-        3 => 328,
-        4 => 428,
-        _ => 220,
+    Frames {
+        in_row,
+        width,
+        height,
+        left,
+        top,
     }
 }
 
@@ -54,7 +61,8 @@ pub fn frame_height(n: u8) -> u64
 pub fn frame_left(n: u8, at: u64) -> u64
     ensures { result ≡ frame_left n at }
 {
-    frame_width(n) * (at % row_frames(n))
+    let frames = frames_of(n);
+    frames.width * (at % frames.in_row)
 }
 
 /// The upper end of the frame at this place of the list, on the page.
@@ -62,13 +70,15 @@ pub fn frame_top(n: u8, at: u64) -> u64
     requires { at ≤ 400 }
     ensures { result ≡ frame_top n at }
 {
-    40 + frame_height(n) * (at / row_frames(n))
+    let frames = frames_of(n);
+    40 + frames.height * (at / frames.in_row)
 }
 
 pub fn page_width(n: u8) -> u64
     ensures { result ≡ page_width n }
 {
-    frame_width(n) * row_frames(n)
+    let frames = frames_of(n);
+    frames.width * frames.in_row
 }
 
 /// The height of a page of so many frames.
@@ -76,61 +86,25 @@ pub fn page_height(n: u8, count: u64) -> u64
     requires { count ≤ 401 }
     ensures { result ≡ page_height n count }
 {
-    40 + frame_height(n) * count.div_ceil(row_frames(n))
+    let frames = frames_of(n);
+    40 + frames.height * count.div_ceil(frames.in_row)
 }
 
-/// The left end of the cycles' places, from the frame's own.
-pub fn left_most(n: u8) -> u64
-    ensures { result ≡ left_most n }
-{
-    match n {
-        0..=1 => 96,
-        2 => 56,
-        3 => 37,
-        _ => 44,
-    }
-}
-
-/// The upper end of the cycles' places, from the frame's own.
-pub fn top_most(n: u8) -> u64
-    ensures { result ≡ top_most n }
-{
-    match n {
-        0..=1 => 56,
-        2 => 46,
-        3 => 62,
-        _ => 64,
-    }
-}
-
-// How far the upper place of a cycle of this level lies to the right of the left one, and the right
-// place to the right of the upper one. Level 0 is the outermost.
-fn across(n: u8, level: usize) -> u64
-    ensures is { result ≡ across n level }
-    ensures small { result ≤ 80 }
+// Of a cycle of this level: how far its upper place lies to the right of the left one, and the right place to
+// the right of the upper one; and how far its upper place lies above the two others. Level 0 is the outermost.
+fn reach(n: u8, level: usize) -> (u64, u64)
+    ensures across { result.0 ≡ across n level }
+    ensures narrow { result.0 ≤ 80 }
+    ensures down { result.1 ≡ down n level }
+    ensures low { result.1 ≤ 138 }
 {
     match (n, level) {
-        (2, _) => 40,
-        (3, 0) => 60,
-        (3, _) => 23,
-        (_, 0) => 80,
-        (_, 1) => 32,
-        _ => 12,
-    }
-}
-
-// How far the upper place of a cycle of this level lies above the two others.
-fn down(n: u8, level: usize) -> u64
-    ensures is { result ≡ down n level }
-    ensures small { result ≤ 138 }
-{
-    match (n, level) {
-        (2, _) => 69,
-        (3, 0) => 104,
-        (3, _) => 40,
-        (_, 0) => 138,
-        (_, 1) => 55,
-        _ => 21,
+        (2, _) => (40, 69),
+        (3, 0) => (60, 104),
+        (3, _) => (23, 40),
+        (_, 0) => (80, 138),
+        (_, 1) => (32, 55),
+        _ => (12, 21),
     }
 }
 
@@ -140,7 +114,8 @@ pub fn right(n: u8, level: usize, digit: u8) -> u64
     requires { digit < 3 }
     ensures { result ≡ right n level digit }
 {
-    across(n, level) * u64::from((digit + 1) % 3)
+    let (across, _down) = reach(n, level);
+    across * u64::from((digit + 1) % 3)
 }
 
 /// How far the place of a digit lies below the upper place of its cycle.
@@ -148,7 +123,8 @@ pub fn below(n: u8, level: usize, digit: u8) -> u64
     requires { digit < 3 }
     ensures { result ≡ below n level digit }
 {
-    down(n, level) * u64::from(digit.min(1))
+    let (_across, down) = reach(n, level);
+    down * u64::from(digit.min(1))
 }
 
 /// Where process `p` of `n` stands above the cycles where it has no label, the last at the right.
@@ -157,7 +133,7 @@ pub fn seat(n: u8, p: u8) -> u64
     requires in_range { p < n }
     ensures { result ≡ seat n p }
 {
-    frame_width(n) + 26 * u64::from(p) + 10 - 26 * u64::from(n)
+    frames_of(n).width + 26 * u64::from(p) + 10 - 26 * u64::from(n)
 }
 
 /// The upper end of a process's row of the table.
