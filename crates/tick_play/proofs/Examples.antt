@@ -27,15 +27,20 @@ program n variables scans registers body = record {
   body = body;
 }
 
+-- process 1 stamps after process 0 has ended
+abbrev one_after_the_other : List ℕ
+one_after_the_other =
+    lines
+    (codes "0 stamp" ∷ codes "0 scan 1 0" ∷ codes "0 older 0 1 0" ∷ codes "0 out 0" ∷ codes "0 end"
+    ∷ codes "1 stamp" ∷ codes "1 scan 0 1" ∷ codes "1 older 0 1 1" ∷ codes "1 out 1" ∷ codes "1 end"
+    ∷ codes "status 0 ended" ∷ codes "status 1 ended" ∷ [])
+
 -- processes 2; var x; scan s; begin stamp; s = scan; x = older s 0 1; out x; end
 in_turn : source_report
     (program 2 (0 ∷ []) (0 ∷ []) []
     (cons stamp (cons (scan 0) (cons (older 0 0 (number 0) (number 1)) (cons (out (named 0)) nil)))))
     (0 ∷ 0 ∷ 0 ∷ 0 ∷ 0 ∷ 1 ∷ 1 ∷ 1 ∷ 1 ∷ 1 ∷ [])
-    ≡ lines
-    (codes "0 stamp" ∷ codes "0 scan 1 0" ∷ codes "0 older 0 1 0" ∷ codes "0 out 0" ∷ codes "0 end"
-    ∷ codes "1 stamp" ∷ codes "1 scan 0 1" ∷ codes "1 older 0 1 1" ∷ codes "1 out 1" ∷ codes "1 end"
-    ∷ codes "status 0 ended" ∷ codes "status 1 ended" ∷ [])
+    ≡ one_after_the_other
 unfolding digits
 in_turn = refl
 
@@ -64,10 +69,7 @@ in_turn_code = record {
 }
 
 code_in_turn : code_report in_turn_code (replicate 10 0 ++ replicate 10 1)
-    ≡ lines
-    (codes "0 stamp" ∷ codes "0 scan 1 0" ∷ codes "0 older 0 1 0" ∷ codes "0 out 0" ∷ codes "0 end"
-    ∷ codes "1 stamp" ∷ codes "1 scan 0 1" ∷ codes "1 older 0 1 1" ∷ codes "1 out 1" ∷ codes "1 end"
-    ∷ codes "status 0 ended" ∷ codes "status 1 ended" ∷ [])
+    ≡ one_after_the_other
 unfolding digits
 code_in_turn = refl
 

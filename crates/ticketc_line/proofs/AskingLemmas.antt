@@ -1,5 +1,6 @@
 -- From what `clap` says of a command and its matches to the command line that is described.
-use Rattle.std.proofs.Common.{◌≡◌, ◌∙◌, ◌&&◌, ◌<◌, ◌+◌, ℕ, Bool, ◌∷◌, List, get_or, length, map, sym, take, [], Option, Some, None, Err, true, false, ap, ap₂, codes, option_map, Box, refl, subst, inl, inr}
+use Rattle.std.proofs.Common.{◌≡◌, ◌∙◌, ◌<◌, ◌+◌, ℕ, Bool, ◌∷◌, List, get_or, length, map, sym, take, [], Option, Some, None, Err, true, false, ap, ap₂, codes, option_map, Box, refl, subst, inl, inr}
+use Rattle.std.proofs.lemmas.Bool.{and_parts}
 use Rattle.std.proofs.lemmas.List.{map_more}
 use Rattle.std.proofs.lemmas.List.Sums.{fold-append}
 use Rattle.std.specs.Borrow.{Bor}
@@ -56,12 +57,8 @@ ticketc_is_free : is_simple_and_free ticketc ≡ true
 unfolding clap_on_literals
 ticketc_is_free = refl
 
-first_of_both : (a b : Bool) → (a && b) ≡ true → a ≡ true
-first_of_both true b both = refl
-first_of_both false b both = both
-
 ticketc_is_simple : is_simple ticketc ≡ true
-ticketc_is_simple = first_of_both _ _ ticketc_is_free
+ticketc_is_simple = (and_parts _ _ ticketc_is_free).0
 
 pub asked_in-taken : (app : App) (words : List Text) (matches : ArgMatches)
     → app ≡ ticketc
