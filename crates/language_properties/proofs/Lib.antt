@@ -1,0 +1,3 @@
+pub mod Counting
+mod Examples
+pub mod ValueLaws

@@ -1,0 +1,3 @@
+pub mod Properties
+pub mod Values
+pub mod Laws

@@ -1,0 +1,149 @@
+ghost use Rattle.std.specs.Prelude.{◌≡◌, ◌<◌, length, map, replicate, slice_set};
+ghost use Rattle.std.specs.List.{range_with_len};
+ghost use Rattle.language_properties.specs.Properties.{formula_of};
+ghost use Rattle.language_properties.specs.Values.{answer, value, values, some_of, all_of, sum_from};
+
+use crate::property::{Asked, Junction, Property, Quantifier};
+use crate::seen::Seen;
+use base::{Op, Status, Trap, set_at};
+
+/// How many quantifiers may stand in one another.
+const MOST_BOUND: usize = 8;
+
+impl Property {
+    /// The value in a state, or why it has none.
+    pub fn value<S: Seen>(&self, state: &S) -> Result<u32, Trap>
+        ensures { result ≡ value (S.seen state.now) (replicate 8 0) (formula_of self.now) }
+    {
+        value_in(state, [0; MOST_BOUND], self)
+    }
+}
+
+// What is asked of a process that there is.
+fn answer<S: Seen>(state: &S, asked: Asked, process: u8) -> u32
+    requires { process < length (S.seen state.now).statuses }
+    ensures { result ≡ answer (S.seen state.now) asked process }
+{
+    match asked {
+        Asked::Row(row) => state.register(row, process),
+        Asked::Held => u32::from(state.holds(process)),
+        Asked::Ended => u32::from(matches!(state.status(process), Status::Ended)),
+        Asked::Trapped => u32::from(matches!(state.status(process), Status::Trapped(_))),
+    }
+}
+
+// What the processes are that quantifiers go through, where the one of this number goes through another.
+fn with(bound: [u8; MOST_BOUND], number: usize, process: u8) -> [u8; MOST_BOUND]
+    ensures { result ≡ slice_set bound number process }
+{
+    let mut inner = bound;
+    set_at(&mut inner, number, process);
+    inner
+}
+
+// The value where quantifiers go through these processes.
+#[cycle(value)]
+fn value_in<S: Seen>(state: &S, bound: [u8; MOST_BOUND], property: &Property) -> Result<u32, Trap>
+    ensures { result ≡ value (S.seen state.now) bound (formula_of property.now) }
+{
+    match property {
+        Property::Number(number) => Ok(*number),
+        Property::Count => Ok(u32::from(state.processes())),
+        Property::Bound(number) => Ok(u32::from(bound.get(*number).copied().unwrap_or(0))),
+        Property::Of(asked, process) => {
+            let process = value_in(state, bound, process)?;
+            if process < u32::from(state.processes()) {
+                Ok(answer(state, *asked, process as u8))
+            } else {
+                Err(Trap::Index)
+            }
+        }
+        Property::Older(first, second) => {
+            let first = value_in(state, bound, first)?;
+            let second = value_in(state, bound, second)?;
+            let n = u32::from(state.processes());
+            if first < n && second < n {
+                Ok(u32::from(state.is_older(first as u8, second as u8)))
+            } else {
+                Err(Trap::Index)
+            }
+        }
+        Property::Binary(left, op, right) => {
+            let left = value_in(state, bound, left)?;
+            let right = value_in(state, bound, right)?;
+            op.apply(left, right)
+        }
+        Property::Joined(left, Junction::And, right) => {
+            let left = value_in(state, bound, left)?;
+            if left == 0 {
+                return Ok(0);
+            }
+            Ok(u32::from(value_in(state, bound, right)? != 0))
+        }
+        Property::Joined(left, Junction::Or, right) => {
+            let left = value_in(state, bound, left)?;
+            if left != 0 {
+                return Ok(1);
+            }
+            Ok(u32::from(value_in(state, bound, right)? != 0))
+        }
+        Property::Not(body) => Ok(u32::from(value_in(state, bound, body)? == 0)),
+        Property::Over(Quantifier::Some, number, body) => some_of(state, bound, *number, body),
+        Property::Over(Quantifier::All, number, body) => all_of(state, bound, *number, body),
+        Property::Over(Quantifier::Sum, number, body) => sum_of(state, bound, *number, body),
+    }
+}
+
+// Whether the property isn't 0 for some process.
+#[cycle(value)]
+fn some_of<S: Seen>(
+    state: &S,
+    bound: [u8; MOST_BOUND],
+    number: usize,
+    body: &Property,
+) -> Result<u32, Trap>
+    ensures { result ≡ some_of (values (S.seen state.now) bound number (formula_of body.now)) }
+{
+    for process in 0..state.processes() {
+        if value_in(state, with(bound, number, process), body)? != 0 {
+            return Ok(1);
+        }
+    }
+    Ok(0)
+}
+
+// Whether the property is 0 for no process.
+#[cycle(value)]
+fn all_of<S: Seen>(
+    state: &S,
+    bound: [u8; MOST_BOUND],
+    number: usize,
+    body: &Property,
+) -> Result<u32, Trap>
+    ensures { result ≡ all_of (values (S.seen state.now) bound number (formula_of body.now)) }
+{
+    for process in 0..state.processes() {
+        if value_in(state, with(bound, number, process), body)? == 0 {
+            return Ok(0);
+        }
+    }
+    Ok(1)
+}
+
+// The sum of the values that the property has for each process.
+#[cycle(value)]
+fn sum_of<S: Seen>(
+    state: &S,
+    bound: [u8; MOST_BOUND],
+    number: usize,
+    body: &Property,
+) -> Result<u32, Trap>
+    ensures { result ≡ sum_from 0 (values (S.seen state.now) bound number (formula_of body.now)) }
+{
+    let mut total = 0;
+    for process in 0..state.processes() {
+        let more = value_in(state, with(bound, number, process), body)?;
+        total = Op::Add.apply(total, more)?;
+    }
+    Ok(total)
+}
