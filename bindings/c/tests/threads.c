@@ -41,7 +41,10 @@ static unsigned counts(unsigned p) {
     unsigned wrong = 0;
     for (unsigned k = 0; k < turns; k++) {
         wrong += enters(p) != 1;
-        counter++;
+        unsigned long found = counter;
+        /* So that others come meanwhile. */
+        if (k % 16 == 0) sched_yield();
+        counter = found + 1;
         wrong += ticket_clear(&table, p, NULL) != 0;
     }
     return wrong;
