@@ -1,7 +1,7 @@
 //! Two jugs that hold three and five: to measure four takes six steps and no fewer. Two jugs that hold even
 //! numbers never measure five.
-ghost use Rattle.std.specs.Prelude.{◌≡◌, ◌<◌, ◌≤◌, ◌==◌, ◌&&◌, ◌||◌, ℕ, Bool, nat_lt, if◌then◌else◌};
-ghost use Rattle.tests_searches.specs.Machines.{poured, nobody_else, same_jugs};
+ghost use Rattle.std.specs.Prelude.{◌≡◌, ◌<◌, ◌≤◌, ◌==◌, ◌&&◌, ◌||◌, ℕ, Bool, false, nat_lt, if◌then◌else◌};
+ghost use Rattle.tests_searches.specs.Machines.{poured, nobody_else, none_stops, same_jugs};
 
 use searches_states::{Machine, NoMemory, Searched, Unwatched, search};
 use std::alloc::Global;
@@ -30,9 +30,15 @@ impl Machine for Jugs {
 
     ghost bad = { λ machine jugs. (jugs.0 == machine.measured) || (jugs.1 == machine.measured) };
 
+    ghost stopped = { λ machine p value. false };
+
     ghost same = { λ machine x y e. same_jugs x y e };
 
     ghost others_idle = { λ machine p jugs idle. nobody_else 6 p (poured machine.left machine.right p jugs) jugs idle };
+
+    ghost stays_stopped = { λ machine p q value stopped. stopped };
+
+    ghost stopped_idle = { λ machine p state fits stopped. none_stops stopped };
 
     fn processes(&self) -> u8 {
         6
@@ -54,6 +60,10 @@ impl Machine for Jugs {
 
     fn is_bad(&self, jugs: &(u8, u8)) -> bool {
         jugs.0 == self.measured || jugs.1 == self.measured
+    }
+
+    fn has_stopped(&self, _state: &(u8, u8), _process: u8) -> bool {
+        false
     }
 }
 

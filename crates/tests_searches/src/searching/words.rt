@@ -1,6 +1,6 @@
 //! A machine whose states have many words.
 ghost use Rattle.std.specs.Prelude.{◌≡◌, ◌<◌, ◌≤◌, ℕ, Bool, true, false, List, length, nat_lt, if◌then◌else◌};
-ghost use Rattle.tests_searches.specs.Machines.{counted_up, nobody_else};
+ghost use Rattle.tests_searches.specs.Machines.{counted_up, nobody_else, none_stops};
 ghost use Rattle.std.proofs.lemmas.Slice.Eq.{bytes_eq-Decides};
 
 use searches_states::{Machine, NoMemory, Searched, Unwatched, search};
@@ -29,9 +29,15 @@ impl Machine for Counting {
 
     ghost bad = { λ machine values. false };
 
+    ghost stopped = { λ machine p value. false };
+
     ghost same = { λ machine x y e. (bytes_eq-Decides x.items y.items).0 e };
 
     ghost others_idle = { λ machine p values idle. nobody_else 3 p (counted_up machine.top p values) values idle };
+
+    ghost stays_stopped = { λ machine p q value stopped. stopped };
+
+    ghost stopped_idle = { λ machine p state fits stopped. none_stops stopped };
 
     fn processes(&self) -> u8 {
         3
@@ -46,6 +52,10 @@ impl Machine for Counting {
     }
 
     fn is_bad(&self, _state: &Vec<u32>) -> bool {
+        false
+    }
+
+    fn has_stopped(&self, _state: &Vec<u32>, _process: u8) -> bool {
         false
     }
 }

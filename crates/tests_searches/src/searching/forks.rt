@@ -1,0 +1,97 @@
+//! Two processes at a fork: one way leads to an end, the other to a place from which nobody leads on.
+ghost use Rattle.std.specs.Prelude.{◌≡◌, ◌<◌, ◌==◌, ℕ, nat_lt, if◌then◌else◌};
+ghost use Rattle.std.proofs.lemmas.Bool.{eqb-true};
+ghost use Rattle.tests_searches.specs.Machines.{forked, idle_within, nobody_else, stays_within};
+
+use searches_states::{Asked, EndSearched, Machine, NoMemory, Unwatched, search_ends};
+use std::alloc::Global;
+use std::test::Fail;
+use tests_shared::is_same;
+
+#[derive(Clone, Copy, Debug)]
+struct Forks {
+    bad: u32,
+}
+
+impl Machine for Forks {
+    type State = u32;
+
+    ghost Value = { ℕ };
+
+    ghost view = { λ forks place. place };
+
+    ghost fits = { λ forks place. place < 4 };
+
+    ghost processes = { λ forks. 2 };
+
+    ghost next = { λ forks p place. if nat_lt p 2 then forked p place else place };
+
+    ghost bad = { λ forks place. place == forks.bad };
+
+    ghost stopped = { λ forks p place. place == 2 };
+
+    ghost same = { λ forks x y e. eqb-true x y e };
+
+    ghost others_idle = { λ forks p place idle. nobody_else 2 p (forked p place) place idle };
+
+    ghost stays_stopped = { λ forks p q place stopped. stays_within q place stopped };
+
+    ghost stopped_idle = { λ forks p place fits stopped. idle_within p place stopped };
+
+    fn processes(&self) -> u8 {
+        2
+    }
+
+    fn step(&self, _alloc: Global, place: &u32, process: u8) -> Result<u32, NoMemory> {
+        Ok(match (process, *place) {
+            (0, 0) => 1,
+            (_, 0) => 3,
+            (0, 1) => 2,
+            (_, same) => same,
+        })
+    }
+
+    fn is_bad(&self, place: &u32) -> bool {
+        *place == self.bad
+    }
+
+    fn has_stopped(&self, place: &u32, _process: u8) -> bool {
+        *place == 2
+    }
+}
+
+// Where a growth was refused, it is asked once more.
+fn searched(alloc: Global, forks: &Forks, start: u32, limit: u32) -> Result<EndSearched, NoMemory>
+    requires { start < 4 }
+{
+    match search_ends(alloc, forks, Asked::All, start, limit, &mut Unwatched) {
+        Err(NoMemory) => search_ends(alloc, forks, Asked::One(1), start, limit, &mut Unwatched),
+        found => found,
+    }
+}
+
+#[test]
+fn one_way_leads_to_no_end(rt: HostRuntime) -> Result<(), Fail> {
+    let alloc = rt.alloc();
+    let forks = Forks { bad: 9 };
+    let stuck = EndSearched::Stuck {
+        schedule: vec![in alloc; 1; 1]?,
+        states: 4,
+    };
+    is_same(&searched(alloc, &forks, 0, 9)?, &stuck)?;
+    is_same(
+        &searched(alloc, &forks, 1, 9)?,
+        &EndSearched::Ends { states: 2 },
+    )?;
+    is_same(
+        &searched(alloc, &forks, 0, 3)?,
+        &EndSearched::Limit { states: 3 },
+    )
+}
+
+#[test]
+fn a_bad_state_is_told_first(rt: HostRuntime) -> Result<(), Fail> {
+    let alloc = rt.alloc();
+    let found = EndSearched::Found(vec![in alloc; 0; 2]?);
+    is_same(&searched(alloc, &Forks { bad: 2 }, 0, 9)?, &found)
+}
