@@ -1,3 +1,4 @@
+pub mod Alike
 pub mod Counting
 mod Examples
 pub mod ValueLaws

@@ -1,5 +1,6 @@
 -- What holds of the values of all properties, also where something traps.
 use Rattle.std.specs.Prelude.{◌≡◌, ℕ, List}
+use Rattle.ticket_core.specs.Tickets.{holds_ticket, older_ticket}
 use Rattle.base.specs.Refusing.{◌>>=◌}
 use Rattle.language_properties.specs.declared.property.Junction.TheVariants as J
 use Rattle.language_properties.specs.declared.property.Quantifier.TheVariants as Q
@@ -14,3 +15,14 @@ pub record ValuesLaw : Type 0 where
       → value s processes (joined e J.Or f) ≡ value s processes (negated (joined (negated e) J.And (negated f)))
   pub some : (s : SeenState) (processes : List ℕ) (i : ℕ) (e : Formula)
       → value s processes (over Q.Some i e) ≡ value s processes (negated (over Q.All i (negated e)))
+
+-- Two states that all see alike: who holds a ticket, which of two tickets is older, and all else but the tickets.
+pub record IsSeenAlike (s t : SeenState) : Type 0 where
+  pub held : (p : ℕ) → holds_ticket s.tickets p ≡ holds_ticket t.tickets p
+  pub older : (p q : ℕ) → older_ticket s.tickets p q ≡ older_ticket t.tickets p q
+  pub rows : s.rows ≡ t.rows
+  pub statuses : s.statuses ≡ t.statuses
+
+-- a property has the same value in both
+abbrev pub AlikeLaw : Type 0
+AlikeLaw = (s t : SeenState) → IsSeenAlike s t → (processes : List ℕ) (e : Formula) → value s processes e ≡ value t processes e

@@ -1,8 +1,14 @@
 // What holds of all properties.
-ghost use Rattle.language_properties.specs.Laws.{ValuesLaw};
+ghost use Rattle.language_properties.specs.Laws.{AlikeLaw, ValuesLaw};
 
 /// `not (not e)` is 1 where `e` isn't 0; `e or f` is `not ((not e) and (not f))`; `some p: e` is
 /// `not (all p: not e)`.
 pub fn law_values()
     ensures { ValuesLaw }
+{}
+
+/// A property sees of tickets only who holds one and which of two is older: two states in which these are the
+/// same, and all else, give it the same value.
+pub fn law_alike()
+    ensures { AlikeLaw }
 {}
