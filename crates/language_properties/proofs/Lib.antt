@@ -2,3 +2,4 @@ pub mod Alike
 pub mod Counting
 mod Examples
 pub mod ValueLaws
+pub mod WithoutStatuses

@@ -1,3 +1,4 @@
 pub mod Properties
 pub mod Values
 pub mod Laws
+pub mod WithoutStatuses

@@ -1,5 +1,6 @@
 // What holds of all properties.
 ghost use Rattle.language_properties.specs.Laws.{AlikeLaw, ValuesLaw};
+ghost use Rattle.language_properties.specs.WithoutStatuses.{StatuslessLaw};
 
 /// `not (not e)` is 1 where `e` isn't 0; `e or f` is `not ((not e) and (not f))`; `some p: e` is
 /// `not (all p: not e)`.
@@ -11,4 +12,9 @@ pub fn law_values()
 /// same, and all else, give it the same value.
 pub fn law_alike()
     ensures { AlikeLaw }
+{}
+
+/// A property that doesn't ask who has ended or trapped has the same value whoever has.
+pub fn law_statusless()
+    ensures { StatuslessLaw }
 {}

@@ -9,6 +9,7 @@
 pub mod laws;
 mod property;
 mod seen;
+mod statusless;
 mod value;
 
 pub use base::{Op, Status, Trap};
