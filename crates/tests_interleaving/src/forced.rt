@@ -14,17 +14,6 @@ const SEED: u64 = 20_260_801;
 
 const ORDERS: u64 = 100;
 
-fn keeps_order<R: AllocGlobal + Threads + Wait>(
-    rt: &R,
-    code: &Code,
-    small: &Small,
-    seed: u64,
-) -> Result<(), Fail> {
-    let ordered = any_order(rt.alloc(), code, small, seed)?;
-    let (found, _history) = run_in_order(rt, code, small, &ordered.order)?;
-    is_same(&found, &ordered.outcome)
-}
-
 fn keeps_orders<R: AllocGlobal + Threads + Wait>(
     rt: &R,
     code: &Code,
@@ -32,7 +21,9 @@ fn keeps_orders<R: AllocGlobal + Threads + Wait>(
     seed: u64,
 ) -> Result<(), Fail> {
     for number in 0..ORDERS {
-        keeps_order(rt, code, small, seed.wrapping_add(number))?;
+        let ordered = any_order(rt.alloc(), code, small, seed.wrapping_add(number))?;
+        let (found, _history) = run_in_order(rt, code, small, &ordered.order)?;
+        is_same(&found, &ordered.outcome)?;
     }
     Ok(())
 }
