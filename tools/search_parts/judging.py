@@ -2,6 +2,7 @@
 from typing import NamedTuple
 
 from . import steps, told, tree
+from .ending import Graph
 from .replay import replayed
 from .searching import search
 
@@ -13,6 +14,9 @@ class Kind(NamedTuple):
     words: tuple
     head: str
 
+
+# Of how many states it is asked whether processes can still end.
+MOST_STATES_OF_ENDS = 20000
 
 KINDS = (Kind("single", (), told.SHORTEST), Kind("merged", ("--merged",), told.TRAPS))
 
@@ -33,7 +37,36 @@ class Judge:
                 wrong += asked.trap(found[-1], found[0].steps, lambda schedule: replayed(program, schedule, step))
             else:
                 wrong += asked.no_trap(found[-1].states)
+        if not found[0].traps and found[0].states <= min(limits[0], MOST_STATES_OF_ENDS):
+            wrong += self.ends(program, text)
         return found, wrong
+
+    def ends(self, program, text):
+        """What is answered otherwise of whether all processes can still end, and the first, and the last."""
+        graph, every = Graph(program), range(program.processes)
+        wrong = []
+        for who, asked, words in (
+            ("all processes", every, ("--ends",)),
+            ("process 0", every[:1], ("--ends", "0")),
+            (f"process {every[-1]}", every[-1:], (f"--ends={every[-1]}",)),
+        ):
+            status, output = self.ask(words, text)
+            if not is_ending(graph, graph.stuck(asked), who, status, output):
+                wrong.append(f"whether {who} can still end: found {shown(status, output)}")
+        return wrong
+
+
+def is_ending(graph, stuck, who, status, output):
+    """That an answer is right: nobody is stuck anywhere, or the schedule is a shortest one to where somebody is."""
+    if not stuck:
+        return (status, output) == told.can_end(who, len(graph.depth))
+    schedule, _ = told.trapped(told.STUCK_HEAD.format(who), output)
+    return (
+        status == told.STUCK
+        and output.startswith(told.STUCK_HEAD.format(who) + "\n")
+        and graph.led(schedule) in stuck
+        and len(schedule) == min(graph.depth[state] for state in stuck)
+    )
 
 
 class Asked:

@@ -1,15 +1,20 @@
 """What `ticklab explore` writes, with its status (docs/EXPLORING.md)."""
 import re
 
-SAFE, TRAPPED, MORE = 0, 5, 6
+SAFE, TRAPPED, MORE, STUCK = 0, 5, 6, 7
 SHORTEST = "a process traps under this schedule, and under no shorter one:"
 TRAPS = "a process traps under this schedule:"
+STUCK_HEAD = "after this schedule no further steps end {}, and after each shorter one some do:"
 ITEM = re.compile(r"([0-5])(?:\*([1-9][0-9]*))?")
 LINE = re.compile(r" *([1-9][0-9]*)  P([0-5]) .*?(?:\| trap ([A-Z][a-z]+))?")
 
 
 def safe(states):
     return SAFE, f"no process traps under any schedule ({states} states)\n"
+
+
+def can_end(who, states):
+    return SAFE, f"{who} can still end after every schedule ({states} states)\n"
 
 
 def more(limit):
@@ -22,7 +27,7 @@ def trapped(head, output):
     There is none where the steps that are told aren't those of the schedule, or one before the last is told to trap.
     """
     first, written, *lines = [*output.split("\n"), ""]
-    items, steps = [ITEM.fullmatch(item) for item in written.split(" ")], [LINE.fullmatch(line) for line in lines[:-2]]
+    items, steps = [ITEM.fullmatch(item) for item in written.split()], [LINE.fullmatch(line) for line in lines[:-2]]
     if first != head or None in items or None in steps:
         return [], None
     schedule = [int(item[1]) for item in items for _ in range(int(item[2] or 1))]

@@ -1,4 +1,5 @@
 pub mod Carried
+pub mod EndsSearched
 pub mod Pictured
 pub mod Ran
 pub mod Refusals

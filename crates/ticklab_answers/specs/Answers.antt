@@ -9,7 +9,8 @@ use Rattle.ticklab_line.specs.Lines.{Answers}
 use Rattle.ticklab_line.specs.declared.asking.Line.{Line}
 use Rattle.ticklab_line.specs.declared.asking.Line.TheVariants as line
 use Rattle.ticklab_line.specs.declared.commands.Request.{Request}
-use Rattle.ticklab_line.specs.declared.commands.Request.TheVariants.{Explore, Hunt, Runs, Trace, Draw, Explain, Labels}
+use Rattle.ticklab_line.specs.declared.commands.Request.TheVariants.{Explore, Ends, Hunt, Runs, Trace, Draw, Explain, Labels}
+use Rattle.ticklab_answers.specs.Ends.{ExploresEnds}
 use Rattle.ticklab_answers.specs.Explanations.{Explains}
 use Rattle.ticklab_answers.specs.Exploring.{Explores, HearsOf}
 use Rattle.ticklab_answers.specs.Faults.{IsEither, IsOneOf}
@@ -38,6 +39,8 @@ module _ {F M W : Type 0} (Reads : ReadsOf F) (ReadsInput : ReadsInputOf F) (Ran
   abbrev pub Responds : Request (List ℕ) → Response → Type 0
   Responds (Explore file limit is_merged) response =
       (ran ≡ rested) × Explores Reads ReadsInput hears before after quiet heard file limit is_merged response
+  Responds (Ends file process limit) response =
+      (ran ≡ rested) × ExploresEnds Reads ReadsInput hears before after quiet heard file process limit response
   Responds (Hunt file seed runs steps is_uniform) response =
       (ran ≡ rested) × (heard ≡ quiet) × Hunts Reads ReadsInput before after file (plan_of seed runs steps is_uniform) response
   Responds (Runs file times turns) response = (heard ≡ quiet) × Tallies Reads ReadsInput Ran before after rested ran file times turns response
@@ -64,6 +67,7 @@ module _ {F M W : Type 0} (Reads : ReadsOf F) (ReadsInput : ReadsInputOf F) (Ran
 -- the names of files that a request has
 abbrev pub NamesOf : Request (List ℕ) → List ℕ → Type 0
 NamesOf (Explore file limit is_merged) name = name ≡ file
+NamesOf (Ends file process limit) name = name ≡ file
 NamesOf (Hunt file seed runs steps is_uniform) name = name ≡ file
 NamesOf (Runs file times turns) name = name ≡ file
 NamesOf (Trace file schedule is_code) name = IsEither file schedule name

@@ -1,5 +1,6 @@
 pub mod Answers
 pub mod Codes
+pub mod Ends
 pub mod Explanations
 pub mod Exploring
 pub mod Faults

@@ -5,6 +5,7 @@ ghost use Rattle.ticklab_answers.specs.Answers.{GivesWords, IsOfWordsOrFile, Res
 ghost use Rattle.ticklab_answers.specs.Faults.{IsOfWords};
 
 mod drawing;
+mod ends;
 mod explaining;
 mod exploring;
 mod hunting;
@@ -17,6 +18,7 @@ use crate::host::Files;
 use crate::progress::Progress;
 use crate::response::{Response, help, no_command};
 pub use drawing::drawn;
+pub use ends::explored_ends;
 pub use explaining::explained;
 pub use exploring::explored;
 pub use hunting::{hunted, plan_of};
@@ -49,6 +51,13 @@ pub fn response_to<F: Files, M: Runner, W: Progress>(
                 is_merged,
             },
         ) => explored(alloc, files, progress, file, limit, is_merged),
+        Line::Request(
+            Request::Ends {
+                file,
+                process,
+                limit,
+            },
+        ) => explored_ends(alloc, files, progress, file, process, limit),
         Line::Request(
             Request::Hunt {
                 file,

@@ -27,6 +27,8 @@ const REFUSED_LINE: u8 = 2;
 pub const TRAPPED: u8 = 5;
 /// There are more states than were to be seen.
 pub const LIMIT: u8 = 6;
+/// A schedule was found after which the processes asked for can't end any more.
+pub const STUCK: u8 = 7;
 
 /// An answer on standard output.
 pub fn answer(alloc: Global, status: u8, text: String) -> Response

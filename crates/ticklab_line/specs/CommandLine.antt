@@ -31,6 +31,10 @@ up_to most = Signed (pos 0) (pos most)
 abbrev pub processes_rule : Rule
 processes_rule = record (word_rule (codes "processes")) { parser = Some (Signed (pos 1) (pos 6)) }
 
+-- `--ends`, and `--ends P`
+abbrev pub ends_rule : Rule
+ends_rule = record (number_rule (codes "ends") (up_to 5)) { range = Some (record { start_inclusive = 0; end_inclusive = 1 }) }
+
 -- `--threads TIMES TURNS`
 abbrev pub threads_rule : Rule
 threads_rule = record (new_rule (codes "threads")) {

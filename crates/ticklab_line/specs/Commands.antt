@@ -1,20 +1,21 @@
 -- Each command: what it takes, and what its words ask for.
-use Rattle.std.specs.Prelude.{Bool, true, false, List, [], ◌∷◌, Option, Some, None, codes, bytes_eq}
+use Rattle.std.specs.Prelude.{ℕ, Bool, true, false, List, [], ◌∷◌, Option, Some, None, codes, bytes_eq}
 use Rattle.std.specs.Prelude.{if◌then◌else◌, option_and_then, option_map}
 use Rattle.std.specs.Borrow.{Bor}
 use Rattle.std.specs.Option.{option_map_or}
 use Rattle.clap.specs.Walk.{Row, Text, all_of, first_of}
 use Rattle.clap.specs.Simple.{App, new_app, on_top, with_rule}
 use Rattle.clap.specs.declared.builder.value_parser.ValueParser.TheVariants.{Unsigned}
-use Rattle.ticklab_line.specs.CommandLine.{flag_rule, further_rule, number_rule, processes_rule, threads_rule, up_to, with_app, with_file, word_rule}
-use Rattle.ticklab_line.specs.Found.{for_file, for_number, for_number_or, is_set, number_of}
+use Rattle.ticklab_line.specs.CommandLine.{ends_rule, flag_rule, further_rule, number_rule, processes_rule, threads_rule, up_to, with_app, with_file, word_rule}
+use Rattle.ticklab_line.specs.Found.{for_file, for_number, for_number_or, is_set, number_of, number_or}
 use Rattle.ticklab_line.specs.declared.commands.Request.{Request}
-use Rattle.ticklab_line.specs.declared.commands.Request.TheVariants.{Explore, Hunt, Runs, Trace, Draw, Explain, Labels}
+use Rattle.ticklab_line.specs.declared.commands.Request.TheVariants.{Explore, Ends, Hunt, Runs, Trace, Draw, Explain, Labels}
 
 abbrev pub explore_app : App
-explore_app = with_rule (with_rule (with_file (codes "explore"))
+explore_app = with_rule (with_rule (with_rule (with_file (codes "explore"))
     (number_rule (codes "limit") (up_to 4294967295)))
-    (flag_rule (codes "merged"))
+    (flag_rule (codes "merged")))
+    ends_rule
 
 abbrev pub hunt_app : App
 hunt_app = with_rule (with_rule (with_rule (with_rule (with_rule (with_file (codes "hunt"))
@@ -43,9 +44,25 @@ abbrev pub ticklab : App
 ticklab = with_app (with_app (with_app (with_app (with_app (with_app command_wanted
     explore_app) hunt_app) (run_app (codes "trace"))) (run_app (codes "draw"))) explain_app) labels_app
 
-abbrev pub explore_in : List Row → Option (Request Text)
-explore_in rows = for_file rows (λ file. for_number_or 32 (codes "limit") 1000000 rows (λ limit.
+abbrev pub limit_in : List Row → Option ℕ
+limit_in = number_or 32 (codes "limit") 1000000
+
+abbrev pub schedules_in : List Row → Option (Request Text)
+schedules_in rows = for_file rows (λ file. for_number_or 32 (codes "limit") 1000000 rows (λ limit.
     Some (Explore file limit (is_set (codes "merged") rows))))
+
+abbrev pub ends_of : Option ℕ → List Row → Option (Request Text)
+ends_of process rows = for_file rows (λ file. for_number_or 32 (codes "limit") 1000000 rows (λ limit.
+    Some (Ends file process limit)))
+
+-- no text after `--ends`, or one
+abbrev pub ends_in : List Row → List Text → Option (Request Text)
+ends_in rows [] = ends_of None rows
+ends_in rows (process ∷ []) = option_and_then (λ process. ends_of (Some process) rows) (number_of 8 process)
+ends_in rows texts = None
+
+abbrev pub explore_in : List Row → Option (Request Text)
+explore_in rows = option_map_or (ends_in rows) (all_of (codes "ends") rows) (schedules_in rows)
 
 -- random schedules
 abbrev pub plan_in : List Row → Option (Request Text)
@@ -90,6 +107,7 @@ request_in = option_and_then (λ p. named p.0 p.1)
 -- texts that are lent, as the texts themselves
 abbrev pub plain_request : Request (Bor Text) → Request Text
 plain_request (Explore file limit is_merged) = Explore file.now limit is_merged
+plain_request (Ends file process limit) = Ends file.now process limit
 plain_request (Hunt file seed runs steps is_uniform) = Hunt file.now seed runs steps is_uniform
 plain_request (Runs file times turns) = Runs file.now times turns
 plain_request (Trace file schedule is_code) = Trace file.now schedule.now is_code
@@ -101,6 +119,9 @@ plain_request (Labels processes moves) = Labels processes moves.now
 abbrev pub rows : List (List Text × Request Text)
 rows = (codes "explore" ∷ codes "a" ∷ codes "--limit" ∷ codes "7" ∷ [], Explore (codes "a") 7 false)
     ∷ (codes "explore" ∷ codes "--merged" ∷ codes "a" ∷ [], Explore (codes "a") 1000000 true)
+    ∷ (codes "explore" ∷ codes "a" ∷ codes "--ends" ∷ [], Ends (codes "a") None 1000000)
+    ∷ (codes "explore" ∷ codes "a" ∷ codes "--ends" ∷ codes "2" ∷ [], Ends (codes "a") (Some 2) 1000000)
+    ∷ (codes "explore" ∷ codes "--ends=5" ∷ codes "a" ∷ codes "--limit" ∷ codes "7" ∷ [], Ends (codes "a") (Some 5) 7)
     ∷ (codes "trace" ∷ codes "a" ∷ codes "0 1*3" ∷ [], Trace (codes "a") (codes "0 1*3") false)
     ∷ (codes "trace" ∷ codes "-" ∷ codes "@b" ∷ codes "--code" ∷ [], Trace (codes "-") (codes "@b") true)
     ∷ (codes "draw" ∷ codes "a" ∷ [] ∷ [], Draw (codes "a") [] false)

@@ -1,10 +1,17 @@
--- Which options do not go together: `--threads`, and each option that says how a hunt draws its schedules.
-use Rattle.std.specs.Prelude.{Bool, true, false, List, ◌++◌, ◌||◌, Option, Some, None, codes, bytes_eq, map}
+-- Which options do not go together: `--threads`, and each option that says how a hunt draws its schedules; and of
+-- `explore`, `--ends` and `--merged`.
+use Rattle.std.specs.Prelude.{Bool, true, false, List, ◌++◌, ◌&&◌, ◌||◌, Option, Some, None, codes, bytes_eq, map}
 use Rattle.std.specs.Prelude.{if◌then◌else◌, find, is_some, option_and_then, option_map}
 use Rattle.std.specs.Option.{option_map_or}
 use Rattle.clap.specs.Walk.{Row, Text, all_of}
 use Rattle.ticklab_line.specs.Found.{is_given, is_set}
 use Rattle.ticklab_line.specs.declared.conflicts.Conflict.{Conflict}
+
+-- two options that do not go together, and the command that they are of
+pub record Shown : Type 0 where
+  pub command : Text
+  pub first : Text
+  pub second : Text
 
 abbrev pub is_of_plan : Text → Bool
 is_of_plan id = bytes_eq id (codes "seed") || (bytes_eq id (codes "runs")
@@ -27,24 +34,34 @@ abbrev pub threads_lead : List Text → Bool
 threads_lead ids = option_map_or (bytes_eq (codes "threads")) (find may_conflict ids) false
 
 -- two options, in the order in which they were given
-abbrev pub in_order : Bool → Text → Text × Text
-in_order true option = (codes "--threads <TIMES> <TURNS>", option)
-in_order false option = (option, codes "--threads <TIMES> <TURNS>")
+abbrev pub in_order : Bool → Text → Shown
+in_order true option = record { command = codes "hunt"; first = codes "--threads <TIMES> <TURNS>"; second = option }
+in_order false option = record { command = codes "hunt"; first = option; second = codes "--threads <TIMES> <TURNS>" }
 
 -- the texts of a conflict
-abbrev pub shown : Conflict → Text × Text
-shown conflict = (conflict.first.now, conflict.second.now)
+abbrev pub shown : Conflict → Shown
+shown conflict = record { command = conflict.command.now; first = conflict.first.now; second = conflict.second.now }
 
--- two options that do not go together
-abbrev pub conflict_of : List Row → Option (Text × Text)
-conflict_of rows = if is_some (all_of (codes "threads") rows)
+abbrev pub threads_conflict : List Row → Option Shown
+threads_conflict rows = if is_some (all_of (codes "threads") rows)
     then option_map (in_order (threads_lead (map (λ r. r.id) rows))) (plan_option rows) else None
 
-abbrev pub conflict_in : Option (Text × List Row) → Option (Text × Text)
+abbrev pub ends_and_merged : Shown
+ends_and_merged = record { command = codes "explore"; first = codes "--ends [<P>]"; second = codes "--merged" }
+
+abbrev pub ends_conflict : List Row → Option Shown
+ends_conflict rows = if is_some (all_of (codes "ends") rows) && is_set (codes "merged") rows then Some ends_and_merged else None
+
+-- two options that do not go together
+abbrev pub conflict_of : List Row → Option Shown
+conflict_of rows = if is_some (threads_conflict rows) then threads_conflict rows else ends_conflict rows
+
+abbrev pub conflict_in : Option (Text × List Row) → Option Shown
 conflict_in = option_and_then (λ p. conflict_of p.1)
 
 -- what is told of them
-abbrev pub conflict_text : Text × Text → Text
+abbrev pub conflict_text : Shown → Text
 conflict_text options =
-    codes "error: the argument '" ++ options.0 ++ codes "' cannot be used with '" ++ options.1
-    ++ codes "'\n\nUsage: ticklab hunt " ++ options.0 ++ codes " <FILE>\n\nFor more information, try '--help'.\n"
+    codes "error: the argument '" ++ options.first ++ codes "' cannot be used with '" ++ options.second
+    ++ codes "'\n\nUsage: ticklab " ++ options.command ++ codes " " ++ options.first
+    ++ codes " <FILE>\n\nFor more information, try '--help'.\n"

@@ -5,7 +5,7 @@ use Rattle.clap.specs.Kinds.{Kinds}
 use Rattle.clap.specs.declared.error.kind.ErrorKind.TheVariants as kind
 use Rattle.ticklab_line.specs.Commands.{request_in, rows}
 use Rattle.ticklab_line.specs.Lines.{command_in, faults}
-use Rattle.ticklab_line.specs.Conflicts.{conflict_in}
+use Rattle.ticklab_line.specs.Conflicts.{Shown, conflict_in, ends_and_merged}
 use Rattle.ticklab_line.specs.declared.commands.Request.{Request}
 use Rattle.ticklab_line.specs.declared.commands.Request.TheVariants.{Explore, Hunt, Runs}
 
@@ -13,7 +13,7 @@ abbrev pub line : List Text → List Text
 line words = codes "ticklab" ∷ words
 
 -- `clap` takes the words after the program's name, and these two options of them, if any, do not go together
-abbrev pub IsTaken : List Text → Option (Text × Text) → Type 0
+abbrev pub IsTaken : List Text → Option Shown → Type 0
 IsTaken words conflict = (faults (line words) ≡ []) × (conflict_in (command_in (line words)) ≡ conflict)
 
 -- the words ask for this
@@ -25,11 +25,13 @@ abbrev pub Tells : List Text → Kinds → Type 0
 Tells words kinds = faults (line words) ≡ kinds
 
 -- what is told of the words, their options that do not go together, and what they ask for
-abbrev pub read : List Text → Kinds × Option (Text × Text) × Option (Request Text)
+abbrev pub read : List Text → Kinds × Option Shown × Option (Request Text)
 read words = (faults (line words), conflict_in (command_in (line words)), request_in (command_in (line words)))
 
 pub record CommandsLaw : Type 0 where
   pub explore : (rest : Text) → Asks (codes "explore" ∷ (97 ∷ rest) ∷ []) (Explore (97 ∷ rest) 1000000 false)
+  pub ends_merged : IsTaken (codes "explore" ∷ codes "a" ∷ codes "--merged" ∷ codes "--ends" ∷ []) (Some ends_and_merged)
+  pub one_end_merged : IsTaken (codes "explore" ∷ codes "a" ∷ codes "--ends" ∷ codes "0" ∷ codes "--merged" ∷ []) (Some ends_and_merged)
   pub all : map (λ row. read row.0) rows ≡ map (λ row. ([], None, Some row.1)) rows
 
 -- the words after `hunt` and a program ask for this
@@ -38,7 +40,7 @@ HuntsBy words = Asks (codes "hunt" ∷ codes "a" ∷ words)
 
 -- they have two options that do not go together, shown so
 abbrev pub Conflicts : List Text → Text → Text → Type 0
-Conflicts words first second = IsTaken (codes "hunt" ∷ codes "a" ∷ words) (Some (first, second))
+Conflicts words first second = IsTaken (codes "hunt" ∷ codes "a" ∷ words) (Some (record { command = codes "hunt"; first = first; second = second }))
 
 -- `--threads 5 9` and more words
 abbrev pub threads : List Text → List Text
@@ -76,4 +78,5 @@ pub record NoCommandsLaw : Type 0 where
   pub no_moves : Tells (codes "labels" ∷ codes "2" ∷ []) (kind.MissingRequiredArgument ∷ [])
   pub no_number : Tells (codes "explore" ∷ codes "a" ∷ codes "--limit" ∷ codes "x" ∷ []) (kind.ValueValidation ∷ [])
   pub large_number : Tells (codes "explore" ∷ codes "a" ∷ codes "--limit" ∷ codes "4294967296" ∷ []) (kind.ValueValidation ∷ [])
+  pub no_process : Tells (codes "explore" ∷ codes "a" ∷ codes "--ends" ∷ codes "6" ∷ []) (kind.ValueValidation ∷ [])
   pub one_number : Tells (codes "hunt" ∷ codes "a" ∷ codes "--threads" ∷ codes "5" ∷ []) (kind.WrongNumberOfValues ∷ [])

@@ -1,7 +1,7 @@
 //! The arguments of commands, as they are described to `clap`.
 ghost use Rattle.std.specs.Prelude.{◌≡◌, codes, pos};
 ghost use Rattle.clap.specs.declared.builder.value_parser.ValueParser.TheVariants.{Signed, Unsigned};
-ghost use Rattle.ticklab_line.specs.CommandLine.{IsWord, flag_rule, further_rule, number_rule, processes_rule, threads_rule, up_to, word_rule};
+ghost use Rattle.ticklab_line.specs.CommandLine.{IsWord, ends_rule, flag_rule, further_rule, number_rule, processes_rule, threads_rule, up_to, word_rule};
 
 use clap::builder::ValueParser;
 use clap::{Arg, ArgAction, value_parser};
@@ -64,6 +64,26 @@ pub fn length<'a>() -> ValueParser<'a>
     ensures { result ≡ up_to 10000000 }
 {
     value_parser!(u32).range(0..=10_000_000)
+}
+
+/// Alone, or with a process.
+pub fn ends<'a>(alloc: Global) -> Arg<'a>
+    ensures { IsWord ends_rule result }
+{
+    Arg::new(alloc, "ends")
+        .long("ends")
+        .value_name("P")
+        .num_args(0..=1)
+        .value_parser(zero_to_five())
+        .help(
+            "Asks too whether all processes can still end after every schedule, or process P; not with --merged",
+        )
+}
+
+fn zero_to_five<'a>() -> ValueParser<'a>
+    ensures { result ≡ up_to 5 }
+{
+    value_parser!(u8).range(0..=5)
 }
 
 fn one_to_six<'a>() -> ValueParser<'a>

@@ -4,14 +4,14 @@ ghost use Rattle.clap.specs.Matches.{found_of};
 ghost use Rattle.clap.specs.Walk.{rows_of};
 ghost use Rattle.clap.specs.Simple.{app_of, subcommand_rows_of};
 ghost use Rattle.ticklab_line.specs.CommandLine.{IsCommand, IsLine};
-ghost use Rattle.ticklab_line.specs.Commands.{command_wanted, explain_app, explain_in, explore_app, explore_in, hunt_app, hunt_in, labels_app, labels_in, named, plain_request, plan_in, run_app, run_in, runs_in, ticklab};
+ghost use Rattle.ticklab_line.specs.Commands.{command_wanted, ends_in, ends_of, explain_app, explain_in, explore_app, explore_in, hunt_app, hunt_in, labels_app, labels_in, limit_in, named, plain_request, plan_in, run_app, run_in, runs_in, schedules_in, ticklab};
 ghost use Rattle.ticklab_line.specs.Commands.{request_in as found_request};
 ghost use Rattle.ticklab_line.specs.declared.commands.Request.TheVariants.{Trace, Draw};
 
-use crate::arguments::{flag, further, length, option, processes, threads, word};
+use crate::arguments::{ends, flag, further, length, option, processes, threads, word};
 use crate::parts::{STATUSES, filed, named, taking, with};
 use crate::values::{
-    byte_in, is_set, large_number, large_number_or, number, number_or, text_in, texts_in,
+    byte, byte_in, is_set, large_number, large_number_or, number, number_or, text_in, texts_in,
 };
 use clap::{ArgMatches, Command, value_parser};
 use std::alloc::{AllocError, Global};
@@ -26,6 +26,12 @@ pub enum Request<T> {
         file: T,
         limit: u32,
         is_merged: bool,
+    },
+    /// The same by single steps, and whether all processes can still end after each schedule, or one of them.
+    Ends {
+        file: T,
+        process: Option<u8>,
+        limit: u32,
     },
     /// Random schedules of a program.
     Hunt {
@@ -139,24 +145,60 @@ fn explore<'a>(alloc: Global) -> Result<Command<'a>, AllocError>
             "Gives up where there are more states than this [default: 1000000]",
         ),
     );
-    taking(
+    let explore = taking(
         explore,
         flag(
             alloc,
             "merged",
             "Takes the private steps of a process with the step before them: far fewer states, and a schedule that need not be a shortest one",
         ),
-    )
+    );
+    taking(explore, ends(alloc))
 }
 
 fn explore_in<'a>(given: &ArgMatches<'a>) -> Option<Request<&'a str>>
     ensures { option_map plain_request result ≡ explore_in (rows_of (found_of given.now)) }
 {
+    match texts_in(given, "ends") {
+        Some(texts) => ends_in(given, texts),
+        None => schedules_in(given),
+    }
+}
+
+fn schedules_in<'a>(given: &ArgMatches<'a>) -> Option<Request<&'a str>>
+    ensures { option_map plain_request result ≡ schedules_in (rows_of (found_of given.now)) }
+{
     Some(Request::Explore {
         file: text_in(given, "file")?,
-        limit: number_or(given, "limit", 1_000_000)?,
+        limit: limit_in(given)?,
         is_merged: is_set(given, "merged"),
     })
+}
+
+fn ends_in<'a>(given: &ArgMatches<'a>, texts: &[&'a str]) -> Option<Request<&'a str>>
+    ensures { option_map plain_request result ≡ ends_in (rows_of (found_of given.now)) (map (λ text. text.now) texts.now) }
+{
+    match texts {
+        [] => ends_of(given, None),
+        [process] => ends_of(given, Some(byte(process)?)),
+        _ => None,
+    }
+}
+
+fn ends_of<'a>(given: &ArgMatches<'a>, process: Option<u8>) -> Option<Request<&'a str>>
+    ensures { option_map plain_request result ≡ ends_of process (rows_of (found_of given.now)) }
+{
+    Some(Request::Ends {
+        file: text_in(given, "file")?,
+        process,
+        limit: limit_in(given)?,
+    })
+}
+
+fn limit_in(given: &ArgMatches<'_>) -> Option<u32>
+    ensures { result ≡ limit_in (rows_of (found_of given.now)) }
+{
+    number_or(given, "limit", 1_000_000)
 }
 
 fn hunt<'a>(alloc: Global) -> Result<Command<'a>, AllocError>

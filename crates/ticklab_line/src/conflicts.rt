@@ -3,7 +3,7 @@ ghost use Rattle.std.specs.Prelude.{◌≡◌, IfOk, map, option_map, string_byt
 ghost use Rattle.clap.specs.Matches.{found_of};
 ghost use Rattle.clap.specs.Walk.{rows_of};
 ghost use Rattle.clap.specs.Simple.{subcommand_rows_of};
-ghost use Rattle.ticklab_line.specs.Conflicts.{conflict_in as conflict_found, conflict_of, conflict_text, in_order, may_conflict, plan_option, shown, threads_lead};
+ghost use Rattle.ticklab_line.specs.Conflicts.{conflict_in as conflict_found, conflict_of, conflict_text, ends_conflict, in_order, may_conflict, plan_option, shown, threads_conflict, threads_lead};
 
 use crate::values::{is_set, text_in, texts_in};
 use clap::ArgMatches;
@@ -11,9 +11,10 @@ use std::alloc::{AllocError, Global};
 
 const THREADS: &str = "--threads <TIMES> <TURNS>";
 
-/// Two options that do not go together, as they are shown, in the order in which they were given.
+/// Two options that do not go together, as they are shown, and the command that they are of.
 #[derive(Drop)]
 pub struct Conflict<'a> {
+    command: &'a str,
     first: &'a str,
     second: &'a str,
 }
@@ -29,6 +30,30 @@ pub fn conflict_in(matches: &ArgMatches<'_>) -> Option<Conflict<'static>>
 fn conflict_of(given: &ArgMatches<'_>) -> Option<Conflict<'static>>
     ensures { option_map shown result ≡ conflict_of (rows_of (found_of given.now)) }
 {
+    match threads_conflict(given) {
+        Some(conflict) => Some(conflict),
+        None => ends_conflict(given),
+    }
+}
+
+fn ends_conflict(given: &ArgMatches<'_>) -> Option<Conflict<'static>>
+    ensures { option_map shown result ≡ ends_conflict (rows_of (found_of given.now)) }
+{
+    let _texts = texts_in(given, "ends")?;
+    if !is_set(given, "merged") {
+        return None;
+    }
+    Some(Conflict {
+        command: "explore",
+        first: "--ends [<P>]",
+        second: "--merged",
+    })
+}
+
+// `--threads` and an option of a plan, in the order in which they were given.
+fn threads_conflict(given: &ArgMatches<'_>) -> Option<Conflict<'static>>
+    ensures { option_map shown result ≡ threads_conflict (rows_of (found_of given.now)) }
+{
     let _threads = texts_in(given, "threads")?;
     let option = plan_option(given)?;
     Some(in_order(threads_lead(given), option))
@@ -39,11 +64,13 @@ fn in_order(threads_lead: bool, option: &str) -> Conflict<'_>
 {
     if threads_lead {
         return Conflict {
+            command: "hunt",
             first: THREADS,
             second: option,
         };
     }
     Conflict {
+        command: "hunt",
         first: option,
         second: THREADS,
     }
@@ -94,7 +121,9 @@ pub fn conflict_text(alloc: Global, options: Conflict<'_>) -> Result<String, All
     text.push_str(options.first)?;
     text.push_str("' cannot be used with '")?;
     text.push_str(options.second)?;
-    text.push_str("'\n\nUsage: ticklab hunt ")?;
+    text.push_str("'\n\nUsage: ticklab ")?;
+    text.push_str(options.command)?;
+    text.push_str(" ")?;
     text.push_str(options.first)?;
     text.push_str(" <FILE>\n\nFor more information, try '--help'.\n")?;
     Ok(text)

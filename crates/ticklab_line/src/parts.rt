@@ -15,7 +15,8 @@ pub const STATUSES: &str = "Exit status: \
 3 a file could not be read, or the answer not be written; \
 4 memory or a thread was refused; \
 5 explore or hunt found a schedule under which a process traps; \
-6 explore met its limit. \
+6 explore met its limit; \
+7 explore --ends found a schedule after which what was asked for can't end. \
 All but the answer is told on standard error.";
 
 // The line with one more command.

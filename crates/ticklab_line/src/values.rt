@@ -56,6 +56,12 @@ pub fn large_number_or(given: &ArgMatches<'_>, id: &str, other: u64) -> Option<u
     }
 }
 
+pub fn byte(text: &str) -> Option<u8>
+    ensures { result ≡ number_of 8 text.now }
+{
+    text.parse::<u8>().ok()
+}
+
 pub fn number(text: &str) -> Option<u32>
     ensures { result ≡ number_of 32 text.now }
 {

@@ -26,7 +26,7 @@ use searches_explore::{Explored, Watch, explore, explore_merged};
 use std::alloc::{AllocError, Global};
 use tick_kinds::Program;
 
-const SHORTEST: &str = "a process traps under this schedule, and under no shorter one:";
+pub const SHORTEST: &str = "a process traps under this schedule, and under no shorter one:";
 
 const SOME: &str = "a process traps under this schedule:";
 
@@ -102,7 +102,7 @@ fn safe_line(alloc: Global, states: u32) -> Result<String, AllocError>
     Ok(line)
 }
 
-fn limit_line(alloc: Global, states: u32) -> Result<String, AllocError>
+pub fn limit_line(alloc: Global, states: u32) -> Result<String, AllocError>
     ensures { IfOk result (λ line. string_bytes line ≡ limit_line states) }
 {
     let mut line = String::from_str(alloc, "there are more than ")?;

@@ -33,3 +33,9 @@ returns-in-Request-Labels-clause-ok g c =
     responded c.args.given c.in_ok-words.words c.as_slice.result.now c.in_ok-file.field-0 (line.Request (request.Labels c.in-Request-Labels.processes c.in-Request-Labels.moves))
     c.in_ok-words.ensures.ok c.as_slice.ensures.value c.in_ok-file.ensures (c.in-Request-Labels.is ∙ ap line.Request c.in-Request-Labels.field-0-is)
     g.F.Files.Reads g.F.Files.ReadsInput g.M.Runner.Ran g.W.Watch.hears _ _ _ _ _ _ c.labelled.result c.labelled.ensures.ok (λ x h. (refl, refl, refl, h))
+
+pub returns-in-Request-Ends-clause-err : goal.returns-in-Request-Ends-clause-err
+returns-in-Request-Ends-clause-err g c =
+    failed c.args.given c.in_ok-words.words c.as_slice.result.now c.in_ok-file.field-0 (line.Request (request.Ends c.in-Request-Ends.file c.in-Request-Ends.process c.in-Request-Ends.limit))
+    c.in_ok-words.ensures.ok c.as_slice.ensures.value c.in_ok-file.ensures (c.in-Request-Ends.is ∙ ap line.Request c.in-Request-Ends.field-0-is)
+    (λ name. name ≡ c.in-Request-Ends.file.now) c.explored_ends.result c.explored_ends.ensures.err (λ name same. same)

@@ -7,5 +7,7 @@ pub returns : goal.returns
 unfolding clap_on_literals faults command_in
 returns c = record {
   explore = λ rest. ((refl, refl), refl);
+  ends_merged = (refl, refl);
+  one_end_merged = (refl, refl);
   all = refl;
 }

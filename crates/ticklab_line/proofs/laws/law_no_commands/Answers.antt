@@ -19,5 +19,6 @@ returns c = record {
   no_moves = refl;
   no_number = refl;
   large_number = refl;
+  no_process = refl;
   one_number = refl;
 }
