@@ -8,7 +8,8 @@ import subprocess
 USAGE = re.compile(r"usage: (\S+) (.*)\n")
 COMMAND = re.compile(r"  (\S+)  +(\S.*)")
 ARGUMENT = re.compile(r"  ([<\[])([^>\]]+)[>\]](\.\.\.)?(?:  +(\S.*))?")
-OPTION = re.compile(r"  (?:(-\w)(?:, )?|    )(--[\w-]+)?((?: <[^>]+>)*)(?:  +(\S.*))?")
+# (a value in `[` and `]` may be left out; a word behind the option that begins with no `-` is taken for it all the same)
+OPTION = re.compile(r"  (?:(-\w)(?:, )?|    )(--[\w-]+)?((?: \[?<[^>]+>\]?)*)(?:  +(\S.*))?")
 STATUS = re.compile(r"(?:: |; )(\d+) ")
 
 

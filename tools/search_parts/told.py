@@ -34,4 +34,4 @@ def trapped(head, output):
     traps = [step[3] for step in steps]
     if [(int(step[1]), int(step[2])) for step in steps] != list(enumerate(schedule, 1)) or any(traps[:-1]):
         return [], None
-    return schedule, traps[-1]
+    return schedule, traps[-1] if traps else None

@@ -17,6 +17,18 @@ def with_schedule(change):
     return changed
 
 
+def with_way(change):
+    """Tells another schedule to where processes can't end any more."""
+    def changed(status, output):
+        if status != told.STUCK:
+            return status, output
+        head, _, *lines = output.split("\n")
+        schedule = change(told.trapped(head, output)[0])
+        return status, "\n".join([head, " ".join(map(str, schedule)), *lines[:len(schedule)], ""])
+
+    return changed
+
+
 def with_output(pattern, new):
     return lambda status, output: (status, re.sub(pattern, new, output))
 
@@ -62,4 +74,9 @@ CASES = (
     ("a step is told of another process", with_output("  P0 ", "  P1 ")),
     ("each step is told to trap", with_output(r"(?m)^( .*?)(?: [|] trap .*)?$", r"\1 | trap Zero")),
     ("something stands behind the answer", with_output(r"\Z", "\n")),
+    ("those who can end are told not to", with_output("can still end", "can't end")),
+    ("those who can't end are told to", with_status(told.STUCK, told.SAFE)),
+    ("another is told than was asked for", with_output("process 0", "process 1")),
+    ("a way to where none ends lacks its last step", with_way(lambda schedule: schedule[:-1])),
+    ("a way to where none ends is of other processes", with_way(lambda schedule: [it ^ 1 for it in schedule])),
 )

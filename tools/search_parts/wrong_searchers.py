@@ -1,10 +1,11 @@
 """Searches that are wrong in one part."""
-from . import judging, searching, states, statements, steps, tree, values
+from . import ending, judging, searching, states, statements, steps, tree, values
 
 RIGHT_SECTION, RIGHT_BEGUN = tree.Reader.section, states.begun
 RIGHT_DONE, RIGHT_BLOCK = statements.done, statements.block_after
 RIGHT_SETTLED, RIGHT_FURTHER = steps.settled, searching.further
 RIGHT_SINGLE, RIGHT_MERGED, RIGHT_PRIVATE = steps.single, steps.merged, steps.is_private
+RIGHT_FOLLOWING = ending.Graph.following
 
 
 def operator(sign, meaning):
@@ -150,6 +151,15 @@ def single_without_trap(program, own, shared):
     return step._replace(own=own._replace(way=states.ENDED), trap=None) if step.trap else step
 
 
+def one_has_ended(graph, state, asked):
+    return any(graph.moves.parts[state[process + 1]].way == states.ENDED for process in asked)
+
+
+def following_without_last(graph, state):
+    """The last process makes no step."""
+    return [*list(RIGHT_FOLLOWING(graph, state))[:-1], state]
+
+
 def is_private_statement(program, own):
     return own.way != states.NOTHING_LEFT and RIGHT_PRIVATE(program, own)
 
@@ -237,4 +247,7 @@ CASES = (
     ("tickets aren't renumbered", states, "ranks", lambda tickets: tickets),
     ("the search goes on from the state that it saw last", judging, "search", deep_first),
     ("states that differ in the last process alone are one", searching, "further", further_without_last),
+    ("all have ended where one has", ending.Graph, "has_ended", one_has_ended),
+    ("nobody has ended", ending.Graph, "has_ended", lambda graph, state, asked: False),
+    ("no step of the last process leads to an end", ending.Graph, "following", following_without_last),
 )
