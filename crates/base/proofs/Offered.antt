@@ -1,11 +1,11 @@
 -- The lemmas that other crates may cite: digits spell the number that their value is, and the digits of
--- a number spell it; and what rows of a fixed length hold.
-use Rattle.std.proofs.Common.{◌≡◌, ℕ, suc, ◌+◌, ◌-◌, ◌<◌, ◌≤◌, List, [], ◌∷◌, ◌++◌, length, get_or, ap, ◌∙◌, sym, arith, take, drop, set, replicate, append_assoc, take-append-drop, length-take-le}
+-- a number spell it; what rows of a fixed length hold; and what holds of both ways holds of either.
+use Rattle.std.proofs.Common.{◌≡◌, ℕ, Bool, true, false, if◌then◌else◌, suc, ◌+◌, ◌-◌, ◌<◌, ◌≤◌, List, [], ◌∷◌, ◌++◌, length, get_or, ap, ◌∙◌, sym, arith, take, drop, set, replicate, append_assoc, take-append-drop, length-take-le}
 use Rattle.std.proofs.lemmas.List.{set-append_right, take-replicate, drop-replicate, take_more, take_all}
 use Rattle.std.proofs.Math.Seq.{take-append-add, drop-append-add}
 use Rattle.base.specs.Rows.{padded}
 pub use Rattle.base.proofs.RowLemmas.{made_more, rows_set, fails_on, fails_with}
-pub use Rattle.base.proofs.Blocks.{statement_of_branch, statement_of_repeat}
+pub use Rattle.base.proofs.Blocks.{statement_of_branch, statement_of_repeat, next_statement, no_statement}
 pub use Rattle.base.proofs.DigitValues.{number_of-digits, Spells, decimal_spells}
 
 -- the row is what counts of it, padded again
@@ -56,3 +56,8 @@ padded_drop m c i z front here past within =
     ∙ drop-append-add front (replicate (m - i) z) (c - i)
     ∙ drop-replicate (c - i) (m - i) z
     ∙ ap (λ k. replicate k z) left
+
+-- what holds of both holds of whichever a test takes
+pub one_of_two : {X : Type 0} (P : X → Type 0) (b : Bool) (x y : X) → P x → P y → P (if b then x else y)
+one_of_two P true x y p q = p
+one_of_two P false x y p q = q

@@ -1,12 +1,14 @@
 -- The values that a quantifier goes through, process by process.
-use Rattle.std.proofs.Common.{◌≡◌, ◌≢◌, ℕ, zero, suc, ◌+◌, ◌<◌, ◌≤◌, List, [], ◌∷◌, length, drop, map, Ok, Err, ap, ◌∙◌, refl, subst, arith, add-one}
+use Rattle.std.proofs.Common.{◌≡◌, ℕ, zero, suc, ◌+◌, ◌<◌, ◌≤◌, Bool, true, false, if◌then◌else◌, true≢false, not, List, [], ◌∷◌, length, drop, map, Ok, Err, ap, ◌∙◌, refl, sym, subst, arith, add-one}
+use Rattle.std.specs.Prelude.{◌==◌, slice_set}
 use Rattle.std.specs.List.{range_with_len}
-use Rattle.std.proofs.lemmas.Bool.{ne_eqb}
 use Rattle.std.proofs.lemmas.List.FromFn.{length-map-range_with_len}
 use Rattle.std.proofs.Math.ListN.{drop_of_length-le}
 use Rattle.base.specs.declared.status.Trap.{Trap}
-use Rattle.base.specs.Operators.{fitting}
-use Rattle.language_properties.specs.Values.{Valued, some_of, all_of, sum_from}
+use Rattle.base.specs.Operators.{truth_value, fitting}
+use Rattle.language_properties.specs.Properties.{Formula}
+use Rattle.language_properties.specs.Values.{SeenState, Valued, value, some_of, all_of, sum_from}
+use Rattle.language_properties.specs.prover.Deciding.{decides, decided}
 
 -- those from process `p` on are that of `p`, and those after it
 from_next : {X : Type 0} (f : ℕ → X) (a n p : ℕ) → p < n
@@ -17,6 +19,20 @@ from_next f a (suc n) (suc p) below =
     let same : (a + 1) + p ≡ a + suc p = omega arith in
     subst (λ k. drop p (map f (range_with_len (a + 1) n)) ≡ f k ∷ drop (suc p) (map f (range_with_len (a + 1) n))) same
     (from_next f (a + 1) n p (omega arith))
+
+-- a value that isn't 0 decides that some isn't
+passed : (none : Bool) (more : Valued) → (if none then false else true) ≡ false → (if none then more else Ok 1) ≡ more
+passed true more h = refl
+passed false more h = absurd (true≢false h)
+
+found : (none : Bool) (more : Valued) → (if none then false else true) ≡ true → (if none then more else Ok 1) ≡ Ok 1
+found true more h = absurd (true≢false (sym h))
+found false more h = refl
+
+-- the value for a process, where it was asked of those that quantifiers go through then
+pub is_at : (s : SeenState) (inner bound : List ℕ) (number p : ℕ) (e : Formula) (v : Valued) → inner ≡ slice_set bound number p → v ≡ value s inner e
+    → value s (slice_set bound number p) e ≡ v
+is_at s inner bound number p e v is gives = ap (λ b. value s b e) (sym is) ∙ sym gives
 
 module _ (f : ℕ → Valued) (n : ℕ) where
   -- the values from process `p` on
@@ -32,31 +48,22 @@ module _ (f : ℕ → Valued) (n : ℕ) where
   no_value p past =
       let all : length (map f (range_with_len 0 n)) ≤ p = rw (length-map-range_with_len f 0 n) past in drop_of_length-le (map f (range_with_len 0 n)) all
 
-  -- `some` goes on past a value that is 0, and ends with any other
-  pub some_on : (p v : ℕ) → p < n → f p ≡ Ok v → v ≡ 0 → some_of (from p) ≡ some_of (from (p + 1))
-  some_on p v below is none = ap some_of (next_value p below) ∙ rw (is, none) refl
+  -- a value that doesn't decide is passed, and one that does ends it
+  pub decided_on : (by : Bool) (p v : ℕ) → p < n → f p ≡ Ok v → decides by v ≡ false → decided by (from p) ≡ decided by (from (p + 1))
+  decided_on true p v below is open_ = ap some_of (next_value p below) ∙ rw is (passed (v == 0) (some_of (from (p + 1))) open_)
+  decided_on false p v below is open_ = ap all_of (next_value p below) ∙ rw (is, open_) refl
 
-  pub some_found : (p v : ℕ) → p < n → f p ≡ Ok v → v ≢ 0 → some_of (from p) ≡ Ok 1
-  some_found p v below is differs = ap some_of (next_value p below) ∙ rw (is, ne_eqb v 0 differs) refl
+  pub decided_found : (by : Bool) (p v : ℕ) → p < n → f p ≡ Ok v → decides by v ≡ true → decided by (from p) ≡ Ok (truth_value by)
+  decided_found true p v below is ends = ap some_of (next_value p below) ∙ rw is (found (v == 0) (some_of (from (p + 1))) ends)
+  decided_found false p v below is ends = ap all_of (next_value p below) ∙ rw (is, ends) refl
 
-  pub some_trap : (p : ℕ) (t : Trap) → p < n → f p ≡ Err t → some_of (from p) ≡ Err t
-  some_trap p t below is = ap some_of (next_value p below) ∙ rw is refl
+  pub decided_trap : (by : Bool) (p : ℕ) (t : Trap) → p < n → f p ≡ Err t → decided by (from p) ≡ Err t
+  decided_trap true p t below is = ap some_of (next_value p below) ∙ rw is refl
+  decided_trap false p t below is = ap all_of (next_value p below) ∙ rw is refl
 
-  pub some_none : (p : ℕ) → n ≤ p → some_of (from p) ≡ Ok 0
-  some_none p past = ap some_of (no_value p past)
-
-  -- `all` goes on past a value that isn't 0, and ends with 0
-  pub all_on : (p v : ℕ) → p < n → f p ≡ Ok v → v ≢ 0 → all_of (from p) ≡ all_of (from (p + 1))
-  all_on p v below is differs = ap all_of (next_value p below) ∙ rw (is, ne_eqb v 0 differs) refl
-
-  pub all_found : (p v : ℕ) → p < n → f p ≡ Ok v → v ≡ 0 → all_of (from p) ≡ Ok 0
-  all_found p v below is none = ap all_of (next_value p below) ∙ rw (is, none) refl
-
-  pub all_trap : (p : ℕ) (t : Trap) → p < n → f p ≡ Err t → all_of (from p) ≡ Err t
-  all_trap p t below is = ap all_of (next_value p below) ∙ rw is refl
-
-  pub all_none : (p : ℕ) → n ≤ p → all_of (from p) ≡ Ok 1
-  all_none p past = ap all_of (no_value p past)
+  pub decided_none : (by : Bool) (p : ℕ) → n ≤ p → decided by (from p) ≡ Ok (truth_value (not by))
+  decided_none true p past = ap some_of (no_value p past)
+  decided_none false p past = ap all_of (no_value p past)
 
   -- a sum
   pub sum_on : (p v total sum : ℕ) → p < n → f p ≡ Ok v → fitting (total + v) ≡ Ok sum → sum_from total (from p) ≡ sum_from sum (from (p + 1))

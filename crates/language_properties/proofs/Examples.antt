@@ -3,7 +3,7 @@ use Rattle.std.proofs.Common.{◌≡◌, [], ◌∷◌, Ok, Err, refl, replicate
 use Rattle.base.specs.declared.operator.Op.TheVariants as O
 use Rattle.base.specs.declared.status.Status.TheVariants.{Running, Ended, Trapped}
 use Rattle.base.specs.declared.status.Trap.TheVariants as T
-use Rattle.language_properties.specs.declared.property.Asked.TheVariants as A
+use Rattle.language_properties.specs.declared.property.Question.TheVariants as A
 use Rattle.language_properties.specs.declared.property.Junction.TheVariants as J
 use Rattle.language_properties.specs.declared.property.Quantifier.TheVariants as Q
 use Rattle.language_properties.specs.Properties.{Formula, number, count, bound, asked, older, binary, joined, negated, over}

@@ -8,14 +8,14 @@ use Rattle.base.specs.declared.status.Trap.TheVariants as T
 use Rattle.base.specs.Operators.{truth_value, operation}
 use Rattle.base.specs.Refusing.{◌>>=◌}
 use Rattle.base.specs.RegisterRows.{register_at}
-use Rattle.language_properties.specs.declared.property.Asked.{Asked}
-use Rattle.language_properties.specs.declared.property.Asked.TheVariants as A
+use Rattle.language_properties.specs.declared.property.Question.{Question}
+use Rattle.language_properties.specs.declared.property.Question.TheVariants as A
 use Rattle.language_properties.specs.Properties.{Formula, number, count, bound, asked, older, binary, joined, negated, over}
 use Rattle.language_properties.specs.Values.{SeenState, Valued, answer, of_process, value, junction, quantified}
 use Rattle.language_properties.specs.WithoutStatuses.{IsSharedAlike, StatuslessLaw, is_statusless, is_statusless_question}
 
 module _ (s t : SeenState) (alike : IsSharedAlike s t) where
-  same_answer : (question : Asked) (p : ℕ) → is_statusless_question question ≡ true → answer s question p ≡ answer t question p
+  same_answer : (question : Question) (p : ℕ) → is_statusless_question question ≡ true → answer s question p ≡ answer t question p
   same_answer (A.Row r) p none = ap (λ rows. register_at rows r p) alike.rows
   same_answer A.Held p none = ap truth_value (alike.held p)
   same_answer A.Ended p none = absurd (cc)

@@ -2,3 +2,4 @@ pub mod Properties
 pub mod Values
 pub mod Laws
 pub mod WithoutStatuses
+pub mod prover

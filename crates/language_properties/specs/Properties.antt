@@ -1,7 +1,7 @@
 -- Properties of a state as plain trees.
 use Rattle.std.specs.Prelude.{ℕ}
 use Rattle.base.specs.declared.operator.Op.{Op}
-use Rattle.language_properties.specs.declared.property.Asked.{Asked}
+use Rattle.language_properties.specs.declared.property.Question.{Question}
 use Rattle.language_properties.specs.declared.property.Junction.{Junction}
 use Rattle.language_properties.specs.declared.property.Quantifier.{Quantifier}
 use Rattle.language_properties.specs.declared.property.Property.{Property}
@@ -13,7 +13,7 @@ pub data Formula : Type 0 where
   number : ℕ → Formula
   count : Formula
   bound : ℕ → Formula
-  asked : Asked → Formula → Formula
+  asked : Question → Formula → Formula
   older : Formula → Formula → Formula
   binary : Formula → Op → Formula → Formula
   joined : Formula → Junction → Formula → Formula

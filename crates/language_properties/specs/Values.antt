@@ -9,8 +9,8 @@ use Rattle.base.specs.declared.status.Status.TheVariants.{Running, Ended, Trappe
 use Rattle.base.specs.Operators.{truth_value, fitting, operation}
 use Rattle.base.specs.Refusing.{◌>>=◌}
 use Rattle.base.specs.RegisterRows.{register_at}
-use Rattle.language_properties.specs.declared.property.Asked.{Asked}
-use Rattle.language_properties.specs.declared.property.Asked.TheVariants as A
+use Rattle.language_properties.specs.declared.property.Question.{Question}
+use Rattle.language_properties.specs.declared.property.Question.TheVariants as A
 use Rattle.language_properties.specs.declared.property.Junction.{Junction}
 use Rattle.language_properties.specs.declared.property.Junction.TheVariants as J
 use Rattle.language_properties.specs.declared.property.Quantifier.{Quantifier}
@@ -68,7 +68,7 @@ module _ (s : SeenState) where
   status_at p = slice_index_or s.statuses p Running
 
   -- what is asked of process `p`
-  abbrev pub answer : Asked → ℕ → ℕ
+  abbrev pub answer : Question → ℕ → ℕ
   answer (A.Row r) p = register_at s.rows r p
   answer A.Held p = truth_value (holds_ticket s.tickets p)
   answer A.Ended p = truth_value (is_end (status_at p))

@@ -1,12 +1,12 @@
 -- Properties that don't ask who has ended or trapped.
 use Rattle.std.specs.Prelude.{◌≡◌, ℕ, Bool, true, false, ◌&&◌, List, length}
 use Rattle.ticket_core.specs.Tickets.{holds_ticket, older_ticket}
-use Rattle.language_properties.specs.declared.property.Asked.{Asked}
-use Rattle.language_properties.specs.declared.property.Asked.TheVariants as A
+use Rattle.language_properties.specs.declared.property.Question.{Question}
+use Rattle.language_properties.specs.declared.property.Question.TheVariants as A
 use Rattle.language_properties.specs.Properties.{Formula, number, count, bound, asked, older, binary, joined, negated, over}
 use Rattle.language_properties.specs.Values.{SeenState, value}
 
-abbrev pub is_statusless_question : Asked → Bool
+abbrev pub is_statusless_question : Question → Bool
 is_statusless_question A.Ended = false
 is_statusless_question A.Trapped = false
 is_statusless_question _ = true

@@ -4,17 +4,20 @@ ghost use Rattle.language_properties.specs.WithoutStatuses.{StatuslessLaw};
 
 /// `not (not e)` is 1 where `e` isn't 0; `e or f` is `not ((not e) and (not f))`; `some p: e` is
 /// `not (all p: not e)`.
+#[tactic(auto, using(crate::proofs::ValueLaws::values_law))]
 pub fn law_values()
     ensures { ValuesLaw }
 {}
 
 /// A property sees of tickets only who holds one and which of two is older: two states in which these are the
 /// same, and all else, give it the same value.
+#[tactic(auto, using(crate::proofs::Alike::alike_law))]
 pub fn law_alike()
     ensures { AlikeLaw }
 {}
 
 /// A property that doesn't ask who has ended or trapped has the same value whoever has.
+#[tactic(auto, using(crate::proofs::WithoutStatuses::statusless_law))]
 pub fn law_statusless()
     ensures { StatuslessLaw }
 {}

@@ -1,7 +1,7 @@
 //! `language_properties` has what may be asked of a state of a program: properties, as texts and as trees.
 //!
 //! A `Property` is an expression over what all can see: register rows, tickets, and which processes have
-//! ended or trapped. `Property::value` gives its value in a state that is `Seen`. `specs/Values.antt` says what
+//! ended or trapped. `Property::value` gives its value in a state that is `Visible`. `specs/Values.antt` says what
 //! a property means.
 //! Start with `Property`.
 #![tactic(auto)]
@@ -13,5 +13,5 @@ mod statusless;
 mod value;
 
 pub use base::{Op, Status, Trap};
-pub use property::{Asked, Junction, Property, Quantifier};
-pub use seen::Seen;
+pub use property::{Junction, Property, Quantifier, Question};
+pub use seen::Visible;

@@ -2,7 +2,7 @@ use base::Op;
 
 /// What is asked of one process.
 #[derive(Clone, Copy)]
-pub enum Asked {
+pub enum Question {
     /// The value of its register in this row, counted from 0.
     Row(usize),
     /// Whether it holds a ticket.
@@ -40,7 +40,7 @@ pub enum Property {
     /// The process that a quantifier of this number goes through, of 8 numbers from 0.
     Bound(usize),
     /// What is asked of the process of this number.
-    Of(Asked, Box<Property>),
+    Of(Question, Box<Property>),
     /// Whether the ticket of the first process is older than that of the second.
     Older(Box<Property>, Box<Property>),
     Binary(Box<Property>, Op, Box<Property>),

@@ -6,7 +6,7 @@ ghost use Rattle.language_properties.specs.Values.{SeenState};
 use base::Status;
 
 /// A state as all can see it.
-pub trait Seen {
+pub trait Visible {
     ghost seen: { Self → SeenState };
 
     /// How many processes there are.

@@ -2,7 +2,7 @@ ghost use Rattle.std.specs.Prelude.{◌≡◌};
 ghost use Rattle.language_properties.specs.Properties.{formula_of};
 ghost use Rattle.language_properties.specs.WithoutStatuses.{is_statusless};
 
-use crate::property::{Asked, Property};
+use crate::property::{Property, Question};
 
 impl Property {
     /// Whether it doesn't ask who has ended or trapped.
@@ -11,7 +11,7 @@ impl Property {
     {
         match self {
             Property::Number(_) | Property::Count | Property::Bound(_) => true,
-            Property::Of(Asked::Ended | Asked::Trapped, _) => false,
+            Property::Of(Question::Ended | Question::Trapped, _) => false,
             Property::Of(_, process) => process.is_statusless(),
             Property::Older(left, right)
             | Property::Binary(left, _, right)

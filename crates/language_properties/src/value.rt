@@ -1,10 +1,11 @@
 ghost use Rattle.std.specs.Prelude.{◌≡◌, ◌<◌, length, map, replicate, slice_set};
 ghost use Rattle.std.specs.List.{range_with_len};
 ghost use Rattle.language_properties.specs.Properties.{formula_of};
-ghost use Rattle.language_properties.specs.Values.{answer, value, values, some_of, all_of, sum_from};
+ghost use Rattle.language_properties.specs.Values.{answer, value, values, sum_from};
+ghost use Rattle.language_properties.specs.prover.Deciding.{decides, decided};
 
-use crate::property::{Asked, Junction, Property, Quantifier};
-use crate::seen::Seen;
+use crate::property::{Junction, Property, Quantifier, Question};
+use crate::seen::Visible;
 use base::{Op, Status, Trap, set_at};
 
 /// How many quantifiers may stand in one another.
@@ -12,7 +13,7 @@ const MOST_BOUND: usize = 8;
 
 impl Property {
     /// The value in a state, or why it has none.
-    pub fn value<S: Seen>(&self, state: &S) -> Result<u32, Trap>
+    pub fn value<S: Visible>(&self, state: &S) -> Result<u32, Trap>
         ensures { result ≡ value (S.seen state.now) (replicate 8 0) (formula_of self.now) }
     {
         value_in(state, [0; MOST_BOUND], self)
@@ -20,15 +21,15 @@ impl Property {
 }
 
 // What is asked of a process that there is.
-fn answer<S: Seen>(state: &S, asked: Asked, process: u8) -> u32
+fn answer<S: Visible>(state: &S, asked: Question, process: u8) -> u32
     requires { process < length (S.seen state.now).statuses }
     ensures { result ≡ answer (S.seen state.now) asked process }
 {
     match asked {
-        Asked::Row(row) => state.register(row, process),
-        Asked::Held => u32::from(state.holds(process)),
-        Asked::Ended => u32::from(matches!(state.status(process), Status::Ended)),
-        Asked::Trapped => u32::from(matches!(state.status(process), Status::Trapped(_))),
+        Question::Row(row) => state.register(row, process),
+        Question::Held => u32::from(state.holds(process)),
+        Question::Ended => u32::from(matches!(state.status(process), Status::Ended)),
+        Question::Trapped => u32::from(matches!(state.status(process), Status::Trapped(_))),
     }
 }
 
@@ -43,7 +44,11 @@ fn with(bound: [u8; MOST_BOUND], number: usize, process: u8) -> [u8; MOST_BOUND]
 
 // The value where quantifiers go through these processes.
 #[cycle(value)]
-fn value_in<S: Seen>(state: &S, bound: [u8; MOST_BOUND], property: &Property) -> Result<u32, Trap>
+fn value_in<S: Visible>(
+    state: &S,
+    bound: [u8; MOST_BOUND],
+    property: &Property,
+) -> Result<u32, Trap>
     ensures { result ≡ value (S.seen state.now) bound (formula_of property.now) }
 {
     match property {
@@ -88,51 +93,42 @@ fn value_in<S: Seen>(state: &S, bound: [u8; MOST_BOUND], property: &Property) ->
             Ok(u32::from(value_in(state, bound, right)? != 0))
         }
         Property::Not(body) => Ok(u32::from(value_in(state, bound, body)? == 0)),
-        Property::Over(Quantifier::Some, number, body) => some_of(state, bound, *number, body),
-        Property::Over(Quantifier::All, number, body) => all_of(state, bound, *number, body),
+        Property::Over(Quantifier::Some, number, body) => decide(state, true, bound, *number, body),
+        Property::Over(Quantifier::All, number, body) => decide(state, false, bound, *number, body),
         Property::Over(Quantifier::Sum, number, body) => sum_of(state, bound, *number, body),
     }
 }
 
-// Whether the property isn't 0 for some process.
-#[cycle(value)]
-fn some_of<S: Seen>(
-    state: &S,
-    bound: [u8; MOST_BOUND],
-    number: usize,
-    body: &Property,
-) -> Result<u32, Trap>
-    ensures { result ≡ some_of (values (S.seen state.now) bound number (formula_of body.now)) }
+// Whether one value decides: one that isn't 0 that some isn't, one that is 0 that not all are others.
+fn decides(wants_some: bool, value: u32) -> bool
+    ensures { result ≡ decides wants_some value }
 {
-    for process in 0..state.processes() {
-        if value_in(state, with(bound, number, process), body)? != 0 {
-            return Ok(1);
-        }
-    }
-    Ok(0)
+    if wants_some { value != 0 } else { value == 0 }
 }
 
-// Whether the property is 0 for no process.
+// Whether the property isn't 0 for some process, or for all.
 #[cycle(value)]
-fn all_of<S: Seen>(
+fn decide<S: Visible>(
     state: &S,
+    wants_some: bool,
     bound: [u8; MOST_BOUND],
     number: usize,
     body: &Property,
 ) -> Result<u32, Trap>
-    ensures { result ≡ all_of (values (S.seen state.now) bound number (formula_of body.now)) }
+    ensures { result ≡ decided wants_some (values (S.seen state.now) bound number (formula_of body.now)) }
 {
     for process in 0..state.processes() {
-        if value_in(state, with(bound, number, process), body)? == 0 {
-            return Ok(0);
+        let value = value_in(state, with(bound, number, process), body)?;
+        if decides(wants_some, value) {
+            return Ok(u32::from(wants_some));
         }
     }
-    Ok(1)
+    Ok(u32::from(!wants_some))
 }
 
 // The sum of the values that the property has for each process.
 #[cycle(value)]
-fn sum_of<S: Seen>(
+fn sum_of<S: Visible>(
     state: &S,
     bound: [u8; MOST_BOUND],
     number: usize,

@@ -25,34 +25,20 @@ blanks_around = refl
 leading_zeros : schedule_of 2 (codes "01*02") ≡ Ok (1 ∷ 1 ∷ [])
 leading_zeros = refl
 
-no_such_process : schedule_of 2 (codes "0 2") ≡ Err (NoSuchProcess 2)
-no_such_process = refl
-
-no_turns : schedule_of 2 (codes "0*0") ≡ Err (BadItem 0)
-no_turns = refl
-
-too_long : schedule_of 2 (codes "0*10000001") ≡ Err TooLong
-too_long = refl
-
--- a `c` begins no item of a schedule
-no_clears : schedule_of 2 (codes "0 c0") ≡ Err (BadItem 2)
-no_clears = refl
+-- the last: a `c` begins no item of a schedule
+refused :
+    (schedule_of 2 (codes "0 2") ≡ Err (NoSuchProcess 2)) × (schedule_of 2 (codes "0*0") ≡ Err (BadItem 0))
+    × (schedule_of 2 (codes "0*10000001") ≡ Err TooLong) × (schedule_of 2 (codes "0 c0") ≡ Err (BadItem 2))
+refused = (refl, refl, refl, refl)
 
 stamps_and_clears : moves_of 2 (codes "0 c0*2 01 c1") ≡ Ok (Stamp 0 ∷ Clear 0 ∷ Clear 0 ∷ Stamp 1 ∷ Clear 1 ∷ [])
 stamps_and_clears = refl
 
 -- after the `c` stands an item of a schedule
-clear_alone : moves_of 2 (codes "0 c") ≡ Err (BadItem 2)
-clear_alone = refl
-
-clear_apart : moves_of 2 (codes "c 0") ≡ Err (BadItem 0)
-clear_apart = refl
-
-clear_twice : moves_of 2 (codes "cc0") ≡ Err (BadItem 0)
-clear_twice = refl
-
-clear_nobody : moves_of 2 (codes "c*2") ≡ Err (BadItem 0)
-clear_nobody = refl
+no_item_after :
+    (moves_of 2 (codes "0 c") ≡ Err (BadItem 2)) × (moves_of 2 (codes "c 0") ≡ Err (BadItem 0))
+    × (moves_of 2 (codes "cc0") ≡ Err (BadItem 0)) × (moves_of 2 (codes "c*2") ≡ Err (BadItem 0))
+no_item_after = (refl, refl, refl, refl)
 
 clear_stranger : moves_of 2 (codes "0 c2") ≡ Err (NoSuchProcess 2)
 clear_stranger = refl

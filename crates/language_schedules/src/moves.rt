@@ -5,7 +5,7 @@ ghost use Rattle.language_schedules.specs.Schedule.{item_of, with_item};
 ghost use Rattle.language_schedules.specs.declared.schedule.ScheduleFault.TheVariants.{NoMemory};
 
 use crate::pieces::{Spelled, read_pieces};
-use crate::schedule::{Item, ScheduleFault, process_of, read_item};
+use crate::schedule::{Added, Item, ScheduleFault, process_of, read_item};
 use std::alloc::Global;
 use ticket_core::Move;
 
@@ -25,12 +25,7 @@ pub fn read_moves(alloc: Global, text: &str, n: u8) -> Result<Vec<Move>, Schedul
 impl Spelled for Move {
     ghost with = { with_moves };
 
-    fn push_piece(
-        moves: &mut Vec<Move>,
-        place: usize,
-        piece: &[u8],
-        n: u8,
-    ) -> Result<(), ScheduleFault> {
+    fn push_piece(moves: &mut Vec<Move>, place: usize, piece: &[u8], n: u8) -> Added {
         match piece.split_first() {
             None => Ok(()),
             Some((&CLEAR, item)) => push_spelled(moves, place, item, true, n),
@@ -40,13 +35,7 @@ impl Spelled for Move {
 }
 
 // Adds the moves of the item that a text spells.
-fn push_spelled(
-    moves: &mut Vec<Move>,
-    place: usize,
-    text: &[u8],
-    clears: bool,
-    n: u8,
-) -> Result<(), ScheduleFault>
+fn push_spelled(moves: &mut Vec<Move>, place: usize, text: &[u8], clears: bool, n: u8) -> Added
     ensures ok { OnOk result (with_item (if clears then Clear else Stamp) n place moves.old.items (item_of text.now) ≡ Ok moves.new.items) }
     ensures err { IfErr result (λ fault. fault ≢ NoMemory → with_item (if clears then Clear else Stamp) n place moves.old.items (item_of text.now) ≡ Err fault) }
 {
@@ -56,13 +45,7 @@ fn push_spelled(
     }
 }
 
-fn push_item(
-    moves: &mut Vec<Move>,
-    place: usize,
-    item: Item,
-    clears: bool,
-    n: u8,
-) -> Result<(), ScheduleFault>
+fn push_item(moves: &mut Vec<Move>, place: usize, item: Item, clears: bool, n: u8) -> Added
     ensures ok { OnOk result (with_item (if clears then Clear else Stamp) n place moves.old.items (Some item) ≡ Ok moves.new.items) }
     ensures err { IfErr result (λ fault. fault ≢ NoMemory → with_item (if clears then Clear else Stamp) n place moves.old.items (Some item) ≡ Err fault) }
 {

@@ -3,7 +3,7 @@ ghost use Rattle.std.specs.Prelude.{◌≡◌, ◌≢◌, ℕ, IfErr, IfOk, OnOk
 ghost use Rattle.language_schedules.specs.Schedule.{Adds, all_pieces};
 ghost use Rattle.language_schedules.specs.declared.schedule.ScheduleFault.TheVariants.{NoMemory};
 
-use crate::schedule::ScheduleFault;
+use crate::schedule::{Added, ScheduleFault};
 use base::is_blank;
 use std::alloc::Global;
 
@@ -12,12 +12,7 @@ pub trait Spelled: Drop {
     ghost with: { ℕ → Adds Self };
 
     /// Adds what the piece at this place spells, of `n` processes. An empty piece spells nothing.
-    fn push_piece(
-        read: &mut Vec<Self>,
-        place: usize,
-        piece: &[u8],
-        n: u8,
-    ) -> Result<(), ScheduleFault>
+    fn push_piece(read: &mut Vec<Self>, place: usize, piece: &[u8], n: u8) -> Added
         ensures ok { OnOk result (with n place read.old.items piece.now ≡ Ok read.new.items) }
         ensures err { IfErr result (λ fault. fault ≢ NoMemory → with n place read.old.items piece.now ≡ Err fault) };
 }

@@ -52,6 +52,9 @@ impl<T: Drop> From<AllocFailed<T>> for ScheduleFault {
     }
 }
 
+/// What adding steps to others answers.
+pub type Added = Result<(), ScheduleFault>;
+
 /// So many steps of one process.
 #[derive(Clone, Copy, Debug, PartialEq, Eq)]
 pub struct Item {
@@ -71,12 +74,7 @@ pub fn read_schedule(alloc: Global, text: &str, n: u8) -> Result<Vec<u8>, Schedu
 impl Spelled for u8 {
     ghost with = { with_piece };
 
-    fn push_piece(
-        steps: &mut Vec<u8>,
-        place: usize,
-        piece: &[u8],
-        n: u8,
-    ) -> Result<(), ScheduleFault> {
+    fn push_piece(steps: &mut Vec<u8>, place: usize, piece: &[u8], n: u8) -> Added {
         if piece.is_empty() {
             return Ok(());
         }
@@ -87,7 +85,7 @@ impl Spelled for u8 {
     }
 }
 
-fn push_item(steps: &mut Vec<u8>, place: usize, item: Item, n: u8) -> Result<(), ScheduleFault>
+fn push_item(steps: &mut Vec<u8>, place: usize, item: Item, n: u8) -> Added
     ensures ok { OnOk result (with_item (λ process. process) n place steps.old.items (Some item) ≡ Ok steps.new.items) }
     ensures err { IfErr result (λ fault. fault ≢ NoMemory → with_item (λ process. process) n place steps.old.items (Some item) ≡ Err fault) }
 {

@@ -2,30 +2,51 @@
 -- (`accepted_unless_refused`), the first refusal is told unless memory was refused (`refused`), and every
 -- number in a resolved body is within its section (`body_within`).
 --
--- The idea. `program_told` (`Telling.antt`) says what checking answers: the first of `refusals p`, or the
--- resolved body where that list is empty. So the question is when it is. `accepted_from` takes the empty
--- list apart and reads the fields of `IsAccepted` off its parts; `clear_from` goes back. The numbers are an
--- induction on the tree (`block_within`): where a list of uses has no refusal, no part of it has one. The
--- difficulty is in the limits: a refusal looks at the number of one declaration, `IsAccepted` at the length
--- of a section (`section_limit`). Read `accepted_from` first.
-use Rattle.std.proofs.Common.{◌≡◌, ◌≢◌, ◌<◌, ◌≤◌, ◌+◌, ◌↔◌, ℕ, Bool, true, false, if◌then◌else◌, ◌&&◌, nat_le, List, [], ◌∷◌, ◌++◌, length, map, Some, None, Ok, Err, refl, sym, ap, ◌∙◌, subst, arith, true≢false}
+-- The idea. `program_told` says what checking answers: the first of `refusals p`, or the resolved body where that
+-- list is empty; it puts together what is told of declarations (`Telling`) and of the body (`Statements`). So the
+-- question is when the list is empty. `accepted_from` takes the empty list apart and reads the fields of `IsAccepted`
+-- off its parts; `clear_from` goes back. The numbers of the body are within their sections by `block_within` of
+-- `Statements`. The difficulty is in the limits: a refusal looks at the number of one declaration, `IsAccepted` at
+-- the length of a section (`section_limit`). Read `accepted_from` first.
+use Rattle.std.proofs.Common.{◌≡◌, ◌≢◌, ◌≤◌, ◌+◌, ◌↔◌, ℕ, Bool, true, false, if◌then◌else◌, ◌&&◌, nat_le, List, [], ◌∷◌, ◌++◌, length, map, Some, None, Ok, Err, refl, sym, ap, ◌∙◌, subst, arith, true≢false}
 use Rattle.std.proofs.lemmas.Bool.{leb-true, le-leb}
-use Rattle.std.proofs.lemmas.Grind.{flat_map-append}
 use Rattle.std.specs.List.{flat_map, AllByRecursion}
 use Rattle.tick_kinds.specs.declared.fault.KindFault.{KindFault}
 use Rattle.tick_kinds.specs.declared.fault.KindFault.TheVariants as F
 use Rattle.tick_kinds.specs.declared.kind.Kind.TheVariants as K
 use Rattle.tick_kinds.specs.Accepted.{IsAccepted}
-use Rattle.tick_kinds.specs.prover.Checked.{Fails, checked_program}
-use Rattle.tick_kinds.specs.Declarations.{declarations, numbered, slot_in, section}
+use Rattle.base.specs.Refusing.{◌>>=◌}
+use Rattle.tick_kinds.specs.prover.Checked.{Fails, checked_block, checked_declarations, checked_program}
+use Rattle.tick_kinds.specs.Declarations.{declarations, numbered, slot_in}
 use Rattle.tick_kinds.specs.Refusals.{use_refusals, declarations_refusals, processes_refusals, refusals, first, first_refusal}
-use Rattle.tick_kinds.specs.Resolution.{number_by, slot_number, resolved}
-use Rattle.tick_kinds.specs.Uses.{Use, a_variable, a_scan, a_register, expression_uses, statement_uses, block_uses}
-use Rattle.tick_kinds.specs.Within.{IsExpressionWithin, IsStatementWithin, IsWithin}
+use Rattle.tick_kinds.specs.Resolution.{resolved}
+use Rattle.tick_kinds.specs.Uses.{block_uses}
 use Rattle.tick_kinds.proofs.Accepting.{IsOnce, IsSmall, front_empty, back_empty, both_empty, kept_empty, pairs_from, once_from, declarations_fine, declarations_clear, smalls, fresh_first, all_left, all_right, all_both, within_limit, numbers_small}
-use Rattle.tick_kinds.proofs.Telling.{told, program_told}
-use Rattle.tick_kinds.proofs.Using.{letters-declarations, use_within, uses_declared, uses_clear}
-use Rattle.base.specs.Plain.{Name, Expression, number, named, me, count, binary, Statement, assign, get, put, stamp, clear, scan, copy, older, held, out, branch, repeat, Block, nil, cons, map_expression, map_statement, map_block, WholeProgram}
+use Rattle.tick_kinds.proofs.Telling.{told, told-then, declarations_told}
+use Rattle.tick_kinds.proofs.Statements.{block_told, InBlock, block_within}
+use Rattle.tick_kinds.proofs.Using.{letters-declarations, uses_declared, uses_clear}
+use Rattle.base.specs.Plain.{Name, Block, WholeProgram}
+
+pub program_told : (p : WholeProgram Name) → checked_program p ≡ told (refusals p) (resolved p).body
+unfolding checked_program
+program_told p = by (nat_le 1 p.processes && nat_le p.processes 6)
+  where
+    rest :
+        (checked_declarations (declarations p) (λ _. None) >>= λ look. checked_block look p.body)
+        ≡ told
+        (declarations_refusals (declarations p) [] ++ flat_map (use_refusals (slot_in (declarations p))) (block_uses p.body))
+        (resolved p).body
+    rest = told-then _ _ _ _ _ _ (declarations_told (declarations p) []) (block_told (slot_in (declarations p)) p.body)
+
+    by :
+        (b : Bool)
+        → (if b then (checked_declarations (declarations p) (λ _. None) >>= λ look. checked_block look p.body) else Err (F.Processes p.span))
+        ≡ told
+        ((if b then [] else F.Processes p.span ∷ [])
+        ++ (declarations_refusals (declarations p) [] ++ flat_map (use_refusals (slot_in (declarations p))) (block_uses p.body)))
+        (resolved p).body
+    by true = rest
+    by false = refl
 
 and_left : (a b : Bool) → (a && b) ≡ true → a ≡ true
 and_left true b h = refl
@@ -128,90 +149,14 @@ module _ (p : WholeProgram Name) where
   memory_alone (F.WrongKind s w k) h a = let g : checked_program p ≡ Ok (resolved p).body = accepted_ok a in absurd (cc)
   memory_alone (F.TooMany s) h a = let g : checked_program p ≡ Ok (resolved p).body = accepted_ok a in absurd (cc)
 
-  -- Numbers within their sections.
-
-  abbrev number_at : Name → ℕ
-  number_at x = slot_number (slot_in (declarations p)) x
-
-  abbrev faults : List Use → List KindFault
-  faults us = flat_map (use_refusals (slot_in (declarations p))) us
-
-  first_within : (u : Use) (fs : List KindFault) → use_refusals (slot_in (declarations p)) u ++ fs ≡ [] → number_at u.name < length (section p u.wanted)
-  first_within u fs h =
-      let w = use_within p u (front_empty _ fs h) in
-      subst (λ o. number_by o < length (section p u.wanted)) (sym w.1) w.2
-
-  rest_of : (u : Use) (fs : List KindFault) → use_refusals (slot_in (declarations p)) u ++ fs ≡ [] → fs ≡ []
-  rest_of u fs h = back_empty (use_refusals (slot_in (declarations p)) u) fs h
-
-  front_of : (us vs : List Use) → faults (us ++ vs) ≡ [] → faults us ≡ []
-  front_of us vs h = front_empty _ (faults vs) (sym (flat_map-append _ us vs) ∙ h)
-
-  back_of : (us vs : List Use) → faults (us ++ vs) ≡ [] → faults vs ≡ []
-  back_of us vs h = back_empty (faults us) _ (sym (flat_map-append _ us vs) ∙ h)
-
-  abbrev InExpression : Expression ℕ → Type 0
-  InExpression e = IsExpressionWithin (length p.variables) (length p.scans) (length p.registers) e
-
-  abbrev InStatement : Statement ℕ → Type 0
-  InStatement s = IsStatementWithin (length p.variables) (length p.scans) (length p.registers) s
-
-  abbrev InBlock : Block ℕ → Type 0
-  InBlock b = IsWithin (length p.variables) (length p.scans) (length p.registers) b
-
-  expression_within : (e : Expression Name) → faults (expression_uses e) ≡ [] → InExpression (map_expression number_at e)
-  expression_within (number v) h = tt
-  expression_within (named x) h = first_within (a_variable x) _ h
-  expression_within me h = tt
-  expression_within count h = tt
-  expression_within (binary a op b) h =
-      (expression_within a (front_of (expression_uses a) _ h), expression_within b (back_of (expression_uses a) _ h))
-
-  mutual
-    statement_within : (s : Statement Name) → faults (statement_uses s) ≡ [] → InStatement (map_statement number_at s)
-    statement_within (assign x e) h = (first_within (a_variable x) _ h, expression_within e (rest_of (a_variable x) _ h))
-    statement_within (get x r e) h =
-        let h1 = rest_of (a_variable x) _ h in
-        (first_within (a_variable x) _ h, first_within (a_register r) _ h1, expression_within e (rest_of (a_register r) _ h1))
-    statement_within (put r e) h = (first_within (a_register r) _ h, expression_within e (rest_of (a_register r) _ h))
-    statement_within stamp h = tt
-    statement_within clear h = tt
-    statement_within (scan s) h = first_within (a_scan s) _ h
-    statement_within (copy t s) h = (first_within (a_scan t) _ h, first_within (a_scan s) _ (rest_of (a_scan t) _ h))
-    statement_within (older x s a b) h =
-        let h1 = rest_of (a_variable x) _ h in
-        let h2 = rest_of (a_scan s) _ h1 in (
-          first_within (a_variable x) _ h,
-          first_within (a_scan s) _ h1,
-          expression_within a (front_of (expression_uses a) _ h2),
-          expression_within b (back_of (expression_uses a) _ h2),
-        )
-    statement_within (held x s e) h =
-        let h1 = rest_of (a_variable x) _ h in
-        (first_within (a_variable x) _ h, first_within (a_scan s) _ h1, expression_within e (rest_of (a_scan s) _ h1))
-    statement_within (out e) h = expression_within e h
-    statement_within (branch e a b) h =
-        let h1 = back_of (expression_uses e) _ h in (
-          expression_within e (front_of (expression_uses e) _ h),
-          block_within a (front_of (block_uses a) _ h1),
-          block_within b (back_of (block_uses a) _ h1),
-        )
-    statement_within (repeat e a) h =
-        (expression_within e (front_of (expression_uses e) _ h), block_within a (back_of (expression_uses e) _ h))
-
-    block_within : (b : Block Name) → faults (block_uses b) ≡ [] → InBlock (map_block number_at b)
-    block_within nil h = tt
-    block_within (cons s b) h =
-        (statement_within s (front_of (statement_uses s) _ h), block_within b (back_of (statement_uses s) _ h))
-
-  pub body_within : (b : Block ℕ) → checked_program p ≡ Ok b → InBlock b
+  pub body_within : (b : Block ℕ) → checked_program p ≡ Ok b → InBlock p b
   body_within b h =
       let none : refusals p ≡ [] = not_refused b h in
       let uses : uses_refusals ≡ [] =
       back_empty (declarations_refusals (declarations p) []) _ (back_empty (processes_refusals p) _ none) in
-      subst InBlock (sym (resolved_so b h)) (block_within p.body uses)
+      subst (InBlock p) (sym (resolved_so b h)) (block_within p p.body uses)
 
-  pub accepted_within : IsAccepted p → InBlock (resolved p).body
+  pub accepted_within : IsAccepted p → InBlock p (resolved p).body
   accepted_within a = body_within (resolved p).body (accepted_ok a)
 
   pub accepted : (b : Block ℕ) → checked_program p ≡ Ok b → IsAccepted p

@@ -12,8 +12,7 @@ use Rattle.tick_kinds.proofs.Telling.{flips, or_else}
 use Rattle.tick_kinds.proofs.Using.{three}
 use Rattle.base.specs.declared.tree.Named.{Named}
 use Rattle.base.specs.declared.tree.Tree.{Tree}
-use Rattle.base.specs.Plain.{Block, Name, WholeProgram}
-use Rattle.base.specs.View.{name_of, tree_of}
+use Rattle.base.specs.Plain.{Block, Name, WholeProgram, name_of, tree_of}
 
 module _ (t : Tree) (b : Block ℕ) (h : checked_program (tree_of t) ≡ Ok b) where
   pub some_process : 1 ≤ t.processes

@@ -16,7 +16,7 @@ use Rattle.base.specs.declared.tree.Tree.{Tree}
 use Rattle.base.specs.Refusing.{◌>>=◌}
 use Rattle.base.proofs.Offered.{fails_on}
 use Rattle.base.specs.declared.tree.Named.{Named}
-use Rattle.base.specs.View.{name_of, tree_of}
+use Rattle.base.specs.Plain.{name_of, tree_of}
 
 -- a name that was not declared, within the limit of its kind
 pub declares :
@@ -81,11 +81,11 @@ checked_declarations-append (d ∷ ds) es look =
     by (Err e) rest = refl
 
 -- what an empty map says of letters
-pub nothing_declared : {S : Type 0} (m : IndexMap (Bor (List ℕ)) Slot S) → IsEmpty m → slot_at m ≡ (λ _. None)
+nothing_declared : {S : Type 0} (m : IndexMap (Bor (List ℕ)) Slot S) → IsEmpty m → slot_at m ≡ (λ _. None)
 nothing_declared m h = ap (λ es q. lookup (λ (k : Bor (List ℕ)). bytes_eq q k.now) es) h
 
 -- a tree declares the names of these three lists
-pub declarations-tree :
+declarations-tree :
     (tree : Tree) (vs ss rs : List Named)
     → vs ≡ tree.variables.items → ss ≡ tree.scans.items → rs ≡ tree.registers.items
     → declarations (tree_of tree)
@@ -94,6 +94,16 @@ declarations-tree tree vs ss rs hv hs hr =
     sym
     (λ i. numbered K.Variable (map name_of (hv i)) 0
     ++ (numbered K.Scan (map name_of (hs i)) 0 ++ numbered K.Register (map name_of (hr i)) 0))
+
+-- what a tree declares, from an empty map on
+pub declared_from :
+    {S : Type 0} (m : IndexMap (Bor (List ℕ)) Slot S) → IsEmpty m → (tree : Tree) (vs ss rs : List Named)
+    → vs ≡ tree.variables.items → ss ≡ tree.scans.items → rs ≡ tree.registers.items
+    → checked_declarations (declarations (tree_of tree)) (λ _. None)
+    ≡ checked_declarations
+    (numbered K.Variable (map name_of vs) 0 ++ (numbered K.Scan (map name_of ss) 0 ++ numbered K.Register (map name_of rs) 0)) (slot_at m)
+declared_from m empty tree vs ss rs hv hs hr =
+    λ i. checked_declarations (declarations-tree tree vs ss rs hv hs hr i) (sym (nothing_declared m empty) i)
 
 module _ (a b c : List Declaration) (t0 : Table) where
   pub first_section_fails :

@@ -4,5 +4,6 @@ pub mod Declaring
 pub mod Telling
 pub mod Accepting
 pub mod Using
+pub mod Statements
 pub mod Acceptance
 pub mod Counting

@@ -1,6 +1,5 @@
 -- One step of checking after another.
-use Rattle.std.proofs.Common.{◌≡◌, ◌<◌, ◌≤◌, ℕ, suc, List, [], ◌∷◌, ◌++◌, ◌+◌, drop, drop-cons, get_or, length, add-one, Option, Ok, Err, refl, sym, ap, ◌∙◌, Vec, Global}
-use Rattle.std.proofs.Math.ListN.{drop_of_length-le}
+use Rattle.std.proofs.Common.{◌≡◌, ℕ, List, [], ◌∷◌, ◌++◌, Option, Ok, Err, refl, sym, ap, ◌∙◌, Vec, Global}
 use Rattle.tick_kinds.specs.declared.fault.KindFault.{KindFault}
 use Rattle.tick_kinds.specs.declared.resolved.Expression as R
 use Rattle.tick_kinds.specs.declared.resolved.Statement as T
@@ -15,8 +14,7 @@ use Rattle.base.proofs.Offered.{statement_of_branch, statement_of_repeat}
 use Rattle.base.specs.declared.tree.Expr.{Expr}
 use Rattle.base.specs.declared.tree.Stmt.{Stmt}
 use Rattle.base.specs.declared.tree.Stmt.TheVariants as S
-use Rattle.base.specs.Plain.{Name, Expression, Statement, Block, branch, repeat, nil, cons, onto}
-use Rattle.base.specs.View.{expression_of, statement_of, block_of}
+use Rattle.base.specs.Plain.{Name, Expression, Statement, Block, branch, repeat, nil, cons, onto, expression_of, statement_of, block_of}
 
 -- the two statements that hold statements
 abbrev branching : Checked (Expression ℕ) → Checked (Block ℕ) → Checked (Block ℕ) → Checked (Statement ℕ)
@@ -31,14 +29,12 @@ module _ (look : List ℕ → Option Slot) where
       → checked_statement look (statement_of s)
       ≡ branching (checked_expression look (expression_of x)) (checked_block look (block_of a.items))
       (checked_block look (block_of b.items))
-  unfolding checked_statement
   checked_branch s x a b is = ap (checked_statement look) (ap statement_of is ∙ statement_of_branch x a b)
 
   checked_repeat :
       (s : Stmt) (x : Expr) (a : Vec Stmt Global) → s ≡ S.While x a
       → checked_statement look (statement_of s)
       ≡ repeating (checked_expression look (expression_of x)) (checked_block look (block_of a.items))
-  unfolding checked_statement
   checked_repeat s x a is = ap (checked_statement look) (ap statement_of is ∙ statement_of_repeat x a)
 
   pub first_fails :
@@ -115,27 +111,13 @@ module _ (look : List ℕ → Option Slot) where
       (xs : List T.Statement) (s : Statement Name) (b : Block Name) (q : T.Statement)
       → checked_statement look s ≡ Ok (resolved_statement q)
       → checked_after look (resolved_block xs) (cons s b) ≡ checked_after look (resolved_block (xs ++ q ∷ [])) b
-  unfolding checked_block
   goes_on xs s b q h =
       rw (h, resolved_block-push xs q) (after_one (resolved_block xs) (resolved_statement q) (checked_block look b))
 
   pub stops :
       (before : Block ℕ) (s : Statement Name) (b : Block Name) (e : KindFault)
       → Fails e (checked_statement look s) → Fails e (checked_after look before (cons s b))
-  unfolding checked_block
   stops before s b e h = fails_on is_memory e _ _ (fails_on is_memory e (checked_statement look s) _ h)
 
   pub ends : (before : Block ℕ) → checked_after look before nil ≡ Ok before
-  unfolding checked_block
   ends before = ap Ok (onto-nil before)
-
-pub next_item :
-    (xs : List Stmt) (i : ℕ) (x : Stmt) → i < length xs → x ≡ get_or xs i x
-    → block_of (drop i xs) ≡ cons (statement_of x) (block_of (drop (i + 1) xs))
-next_item xs i x h is =
-    ap block_of (drop-cons xs i x h)
-    ∙ ap (λ y. cons (statement_of y) (block_of (drop (suc i) xs))) (sym is)
-    ∙ ap (λ k. cons (statement_of x) (block_of (drop k xs))) (sym (add-one i))
-
-pub no_item : (xs : List Stmt) (i : ℕ) → length xs ≤ i → block_of (drop i xs) ≡ nil
-no_item xs i h = ap block_of (drop_of_length-le xs h)

@@ -4,7 +4,7 @@ use Rattle.base.specs.Plain.{Name, WholeProgram}
 use Rattle.tick_kinds.specs.Accepted.{IsAccepted}
 use Rattle.tick_kinds.specs.Refusals.{first_refusal}
 use Rattle.tick_kinds.specs.Resolution.{resolved}
-use Rattle.tick_kinds.specs.Within.{IsWithin}
+use Rattle.tick_kinds.specs.Uses.{IsWithin}
 
 -- a program is accepted exactly where nothing refuses it
 abbrev pub AcceptanceLaw : Type 0

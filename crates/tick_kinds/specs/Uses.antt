@@ -1,5 +1,6 @@
--- The names that a program uses, in order of the text, each with the kind that its place wants.
-use Rattle.std.specs.Prelude.{List, [], ◌∷◌, ◌++◌}
+-- The names that a program uses, in order of the text, each with the kind that its place wants; and that every
+-- number of a resolved block names something that is declared.
+use Rattle.std.specs.Prelude.{ℕ, ◌<◌, List, [], ◌∷◌, ◌++◌}
 use Rattle.tick_kinds.specs.declared.kind.Kind.{Kind}
 use Rattle.tick_kinds.specs.declared.kind.Kind.TheVariants as K
 use Rattle.base.specs.Plain.{Name, Expression, number, named, me, count, binary, Statement, assign, get, put, stamp, clear, scan, copy, older, held, out, branch, repeat, Block, nil, cons}
@@ -42,3 +43,32 @@ abbrev mutual
   pub block_uses : Block Name → List Use
   block_uses nil = []
   block_uses (cons s b) = statement_uses s ++ block_uses b
+
+-- the number of a variable is below the number of variables, and so for scans and register rows
+module _ (variables scans registers : ℕ) where
+  abbrev pub IsExpressionWithin : Expression ℕ → Type 0
+  IsExpressionWithin (number _) = Unit {0}
+  IsExpressionWithin (named x) = x < variables
+  IsExpressionWithin me = Unit {0}
+  IsExpressionWithin count = Unit {0}
+  IsExpressionWithin (binary a _ b) = IsExpressionWithin a × IsExpressionWithin b
+
+  abbrev mutual
+    pub IsStatementWithin : Statement ℕ → Type 0
+    IsStatementWithin (assign x e) = (x < variables) × IsExpressionWithin e
+    IsStatementWithin (get x r e) = (x < variables) × (r < registers) × IsExpressionWithin e
+    IsStatementWithin (put r e) = (r < registers) × IsExpressionWithin e
+    IsStatementWithin stamp = Unit {0}
+    IsStatementWithin clear = Unit {0}
+    IsStatementWithin (scan s) = s < scans
+    IsStatementWithin (copy t s) = (t < scans) × (s < scans)
+    IsStatementWithin (older x s a b) =
+        (x < variables) × (s < scans) × IsExpressionWithin a × IsExpressionWithin b
+    IsStatementWithin (held x s e) = (x < variables) × (s < scans) × IsExpressionWithin e
+    IsStatementWithin (out e) = IsExpressionWithin e
+    IsStatementWithin (branch e a b) = IsExpressionWithin e × IsWithin a × IsWithin b
+    IsStatementWithin (repeat e a) = IsExpressionWithin e × IsWithin a
+
+    pub IsWithin : Block ℕ → Type 0
+    IsWithin nil = Unit {0}
+    IsWithin (cons s b) = IsStatementWithin s × IsWithin b

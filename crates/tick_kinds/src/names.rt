@@ -1,7 +1,7 @@
-ghost use Rattle.base.specs.View.{tree_of, name_of, expression_of, statement_of, block_of};
+ghost use Rattle.base.specs.Plain.{tree_of, name_of, expression_of, statement_of, block_of};
 ghost use Rattle.tick_kinds.specs.Resolved.{resolved_expression, resolved_statement, resolved_block};
 ghost use Rattle.tick_kinds.specs.prover.Table.{slot_at};
-ghost use Rattle.tick_kinds.specs.prover.Checked.{Gives, checked_name, checked_expression, checked_assign, checked_get, checked_put, checked_copy, checked_older, checked_held, checked_statement, checked_block, checked_declaration, checked_declarations};
+ghost use Rattle.tick_kinds.specs.prover.Checked.{Gives, checked_name, checked_expression, checked_valued, checked_asked, checked_copy, checked_older, checked_statement, checked_block, checked_declaration, checked_declarations};
 ghost use Rattle.tick_kinds.specs.Declarations.{limit, numbered, declarations};
 ghost use Rattle.std.specs.Prelude.{◌≡◌, None, map};
 
@@ -101,29 +101,34 @@ impl<'a> Names<'a> {
         }
     }
 
-    #[tactic(auto, unfolding(crate::specs::prover::Checked::checked_assign))]
-    fn assign(&self, target: &Named, value: &Expr) -> Result<Statement, KindFault>
-        ensures { Gives resolved_statement result (checked_assign (slot_at self.now.slots) (name_of target.now) (expression_of value.now)) }
+    // A name of this kind, and an expression.
+    #[tactic(auto, unfolding(crate::specs::prover::Checked::checked_valued))]
+    fn valued(
+        &self,
+        wanted: Kind,
+        named: &Named,
+        value: &Expr,
+    ) -> Result<(u8, Expression), KindFault>
+        ensures { Gives (λ r. (r.0, resolved_expression r.1)) result (checked_valued (slot_at self.now.slots) wanted (name_of named.now) (expression_of value.now)) }
     {
-        let target = self.number(Kind::Variable, target)?;
-        Ok(Statement::Assign(target, self.expression(value)?))
+        let number = self.number(wanted, named)?;
+        Ok((number, self.expression(value)?))
     }
 
-    #[tactic(auto, unfolding(crate::specs::prover::Checked::checked_get))]
-    fn get(&self, target: &Named, register: &Named, process: &Expr) -> Result<Statement, KindFault>
-        ensures { Gives resolved_statement result (checked_get (slot_at self.now.slots) (name_of target.now) (name_of register.now) (expression_of process.now)) }
+    // A variable, a name of this kind, and an expression.
+    #[tactic(auto, unfolding(crate::specs::prover::Checked::checked_asked))]
+    fn asked(
+        &self,
+        wanted: Kind,
+        target: &Named,
+        named: &Named,
+        process: &Expr,
+    ) -> Result<(u8, u8, Expression), KindFault>
+        ensures { Gives (λ r. (r.0, r.1, resolved_expression r.2)) result (checked_asked (slot_at self.now.slots) wanted (name_of target.now) (name_of named.now) (expression_of process.now)) }
     {
         let target = self.number(Kind::Variable, target)?;
-        let register = self.number(Kind::Register, register)?;
-        Ok(Statement::Get(target, register, self.expression(process)?))
-    }
-
-    #[tactic(auto, unfolding(crate::specs::prover::Checked::checked_put))]
-    fn put(&self, register: &Named, value: &Expr) -> Result<Statement, KindFault>
-        ensures { Gives resolved_statement result (checked_put (slot_at self.now.slots) (name_of register.now) (expression_of value.now)) }
-    {
-        let register = self.number(Kind::Register, register)?;
-        Ok(Statement::Put(register, self.expression(value)?))
+        let number = self.number(wanted, named)?;
+        Ok((target, number, self.expression(process)?))
     }
 
     #[tactic(auto, unfolding(crate::specs::prover::Checked::checked_copy))]
@@ -151,30 +156,32 @@ impl<'a> Names<'a> {
         Ok(Statement::Older(target, scan, first, second))
     }
 
-    #[tactic(auto, unfolding(crate::specs::prover::Checked::checked_held))]
-    fn held(&self, target: &Named, scan: &Named, process: &Expr) -> Result<Statement, KindFault>
-        ensures { Gives resolved_statement result (checked_held (slot_at self.now.slots) (name_of target.now) (name_of scan.now) (expression_of process.now)) }
-    {
-        let target = self.number(Kind::Variable, target)?;
-        let scan = self.number(Kind::Scan, scan)?;
-        Ok(Statement::Held(target, scan, self.expression(process)?))
-    }
-
     #[cycle(statement)]
-    #[tactic(auto, unfolding(crate::specs::prover::Checked::checked_statement))]
     fn statement(&self, statement: &Stmt) -> Result<Statement, KindFault>
         ensures { Gives resolved_statement result (checked_statement (slot_at self.now.slots) (statement_of statement.now)) }
     {
         match statement {
-            Stmt::Assign(target, value) => self.assign(target, value),
-            Stmt::Get(target, register, process) => self.get(target, register, process),
-            Stmt::Put(register, value) => self.put(register, value),
+            Stmt::Assign(target, value) => {
+                let (target, value) = self.valued(Kind::Variable, target, value)?;
+                Ok(Statement::Assign(target, value))
+            }
+            Stmt::Get(target, row, process) => {
+                let (target, row, process) = self.asked(Kind::Register, target, row, process)?;
+                Ok(Statement::Get(target, row, process))
+            }
+            Stmt::Put(row, value) => {
+                let (row, value) = self.valued(Kind::Register, row, value)?;
+                Ok(Statement::Put(row, value))
+            }
             Stmt::Stamp => Ok(Statement::Stamp),
             Stmt::Clear => Ok(Statement::Clear),
             Stmt::Scan(target) => Ok(Statement::Scan(self.number(Kind::Scan, target)?)),
             Stmt::Copy(target, source) => self.copy(target, source),
             Stmt::Older(target, scan, first, second) => self.older(target, scan, first, second),
-            Stmt::Held(target, scan, process) => self.held(target, scan, process),
+            Stmt::Held(target, scan, process) => {
+                let (target, scan, process) = self.asked(Kind::Scan, target, scan, process)?;
+                Ok(Statement::Held(target, scan, process))
+            }
             Stmt::Out(value) => Ok(Statement::Out(self.expression(value)?)),
             Stmt::If(test, first, second) => {
                 let test = self.expression(test)?;
@@ -189,7 +196,6 @@ impl<'a> Names<'a> {
     }
 
     #[cycle(statement)]
-    #[tactic(auto, unfolding(crate::specs::prover::Checked::checked_block))]
     pub fn block(&self, statements: &[Stmt]) -> Result<Vec<Statement>, KindFault>
         ensures { Gives (λ b. resolved_block b.items) result (checked_block (slot_at self.now.slots) (block_of statements.now)) }
     {

@@ -1,12 +1,12 @@
 ghost use Rattle.std.specs.Prelude.{◌≡◌, ◌≢◌, ◌≤◌, Some, length, map, IfOk, OnOk, IfErr};
-ghost use Rattle.base.specs.View.{tree_of, name_of};
+ghost use Rattle.base.specs.Plain.{tree_of, name_of};
 ghost use Rattle.tick_kinds.specs.Accepted.{IsAccepted};
 ghost use Rattle.tick_kinds.specs.prover.Checked.{Gives, checked_program};
 ghost use Rattle.tick_kinds.specs.Declarations.{declarations, numbered, slot_in};
 ghost use Rattle.tick_kinds.specs.Refusals.{first_refusal};
 ghost use Rattle.tick_kinds.specs.Resolution.{resolved};
 ghost use Rattle.tick_kinds.specs.Resolved.{resolved_block};
-ghost use Rattle.tick_kinds.specs.Within.{IsWithin};
+ghost use Rattle.tick_kinds.specs.Uses.{IsWithin};
 
 use crate::fault::KindFault;
 use crate::kind::Kind;
@@ -26,8 +26,7 @@ pub struct Program {
 impl Model for Program {
     ghost use Rattle.std.specs.Prelude.{◌≡◌, Ok};
     ghost use Rattle.std.specs.Coded.{codes};
-    ghost use Rattle.base.specs.Plain.{Name, WholeProgram};
-    ghost use Rattle.base.specs.View.{tree_of};
+    ghost use Rattle.base.specs.Plain.{Name, WholeProgram, tree_of};
     ghost use Rattle.tick_kinds.specs.prover.Checked.{checked_program};
     ghost use Rattle.base.specs.prover.Coding.{written_blocks};
     ghost use Rattle.tick_kinds.specs.Resolved.{resolved_block};

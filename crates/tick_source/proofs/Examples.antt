@@ -11,14 +11,8 @@ use Rattle.tick_source.specs.Values.{value}
 use Rattle.tick_source.specs.Source.{source, observables}
 
 abbrev program : ℕ → List ℕ → List ℕ → List ℕ → Block ℕ → WholeProgram ℕ
-program n variables scans registers body = record {
-  processes = n;
-  span = record { start = 0; end = 0 };
-  variables = variables;
-  scans = scans;
-  registers = registers;
-  body = body;
-}
+program n variables scans registers body =
+    record { processes = n; span = record { start = 0; end = 0 }; variables = variables; scans = scans; registers = registers; body = body }
 
 abbrev by : ℕ → Act → Event
 by p act = record { process = p; act = act }

@@ -3,3 +3,4 @@ pub mod Steps
 pub mod Counted
 pub mod Open
 pub mod StandsFor
+pub mod Makes

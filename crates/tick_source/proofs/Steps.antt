@@ -1,5 +1,5 @@
 -- What the definitions say of every step and run.
-use Rattle.std.proofs.Common.{◌≡◌, ℕ, zero, suc, ◌+◌, ◌<◌, Bool, true, false, if◌then◌else◌, List, [], ◌∷◌, refl, ap, ◌∙◌, sym, length, drop, get_or, arith, Result, Ok, Err, Option, None, Some}
+use Rattle.std.proofs.Common.{◌≡◌, ℕ, zero, suc, ◌+◌, ◌<◌, List, [], ◌∷◌, refl, ap, ◌∙◌, sym, length, drop, get_or, arith, Result, Ok, Err, Option, None, Some}
 use Rattle.std.specs.Prelude.{nat_lt, slice_get}
 use Rattle.std.proofs.lemmas.List.{length-set, length-replicate}
 use Rattle.std.proofs.lemmas.List.Elements.{All-set}
@@ -10,6 +10,7 @@ use Rattle.base.specs.Plain.{Statement, assign, get, put, stamp, clear, scan, co
 use Rattle.base.specs.declared.status.Trap.{Trap}
 use Rattle.base.specs.declared.status.Status.{Status}
 use Rattle.base.specs.declared.status.Status.TheVariants.{Running, Ended, Trapped}
+use Rattle.base.proofs.Offered.{one_of_two}
 use Rattle.tick_source.specs.Values.{value}
 use Rattle.tick_source.specs.Source.{SourceProcess, SourceState, SourceStep, scan_at, with_value, with_index, does, did, step_of, step_as, source_step, source_run}
 use Rattle.tick_source.specs.prover.Machine.{AreScans}
@@ -29,17 +30,13 @@ module _ (n p : ℕ) (tickets : List ℕ) (rows : List (List ℕ)) (variables : 
   abbrev IsFit : SourceStep → Type 0
   IsFit d = Fits n tickets rows scans d
 
-  either_fits : (b : Bool) (d e : SourceStep) → IsFit d → IsFit e → IsFit (if b then d else e)
-  either_fits true d e x y = x
-  either_fits false d e x y = y
-
   value_fits : (rest : Block ℕ) (v : Result ℕ Trap) (then_this : ℕ → SourceStep) → ((k : ℕ) → IsFit (then_this k))
       → IsFit (with_value n p tickets rows variables scans rest v then_this)
   value_fits rest (Ok v) then_this fit = fit v
   value_fits rest (Err t) then_this fit = record { tickets = refl; rows = refl; scans = λ long are. are }
 
   index_fits : (rest : Block ℕ) (i : ℕ) (d : SourceStep) → IsFit d → IsFit (with_index n p tickets rows variables scans rest i d)
-  index_fits rest i d fit = either_fits (nat_lt i n) d _ fit (record { tickets = refl; rows = refl; scans = λ long are. are })
+  index_fits rest i d fit = one_of_two IsFit (nat_lt i n) d _ fit (record { tickets = refl; rows = refl; scans = λ long are. are })
 
   scan_fits : (s : ℕ) → AreScans n scans → length (scan_at n scans s) ≡ n
   scan_fits s are = held_or (λ x. length x ≡ n) scans s (start_tickets n) (length-replicate n 0) are

@@ -22,7 +22,7 @@
 --
 -- The inductions are on the list of tokens, for any stack. A whole program is looked at by the reader alone; that
 -- is why each half needs no induction on trees, which `Sound` and `Complete` have done.
-use Rattle.std.proofs.Common.{map, append_assoc, ◌≡◌, ◌≢◌, ℕ, suc, ◌+◌, ◌<◌, ◌≤◌, Bool, true, false, List, [], ◌∷◌, ◌++◌, length, Option, Some, None, Result, Ok, Err, refl, sym, ◌∙◌, ap, subst, arith, max}
+use Rattle.std.proofs.Common.{map, ◌≡◌, ◌≢◌, ℕ, suc, ◌+◌, ◌<◌, ◌≤◌, Bool, true, false, List, [], ◌∷◌, ◌++◌, length, Option, Some, None, Result, Ok, Err, refl, sym, ◌∙◌, ap, subst, arith, max}
 use Rattle.std.proofs.lemmas.Bool.{ne_eqb, eqb-true, eqb-false}
 use Rattle.base.specs.declared.span.Span.{Span}
 use Rattle.tick_syntax.specs.declared.fault.TextFault.{TextFault}
@@ -39,40 +39,10 @@ use Rattle.tick_syntax.specs.Nesting.{nesting, IsOpening, open_by}
 use Rattle.tick_syntax.specs.prover.Reading.{program_at}
 use Rattle.tick_syntax.specs.Refusal.{CanStand, AllCanStand, GoesOn}
 use Rattle.tick_syntax.specs.prover.ValuedTokens.{plain}
-use Rattle.tick_syntax.proofs.Symbols.{said, says, Symbol, s_program, s_number, s_semicolon, s_variables, s_scans, s_registers, s_begin, s_names, s_more, s_name, s_becomes, s_else, s_close, s_operator, s_expression, s_right, s_block, s_statement, s_until, after, expression_step, statement_step, begin_step, registers_step, scans_step, step, opened, is_full, on_stack, run_by, run, fault_by, fault}
+use Rattle.tick_syntax.proofs.Symbols.{said, says, Symbol, s_program, s_number, s_semicolon, s_variables, s_scans, s_registers, s_begin, s_names, s_more, s_name, s_becomes, s_else, s_close, s_operator, s_expression, s_right, s_block, s_statement, s_until, statement_step, begin_step, registers_step, scans_step, step, opened, is_full, on_stack, run_by, run, fault_by, fault}
+use Rattle.tick_syntax.proofs.Statements.{Opens, expression_opens, statement_opens, opens_after, right_opens}
 use Rattle.tick_syntax.proofs.SoundPrograms.{program_ok, program_err}
 use Rattle.tick_syntax.proofs.Complete.{program_takes}
-
--- what a symbol turns into closes the brackets that are open then
-abbrev Opens : Symbol → Lexeme → Option (List Symbol) → Type 0
-Opens s x None = Unit {0}
-Opens s x (Some new) = (st : List Symbol) → opened (new ++ st) ≡ open_by x (opened (s ∷ st))
-
-expression_opens : (x : Lexeme) → Opens s_expression x (expression_step x)
-expression_opens (a_number v) = λ st. refl
-expression_opens (a_name n) = λ st. refl
-expression_opens (a_terminal T.Me) = λ st. refl
-expression_opens (a_terminal T.Count) = λ st. refl
-expression_opens (a_terminal T.Open) = λ st. refl
-expression_opens x = tt
-
-statement_opens : (x : Lexeme) → Opens s_statement x (statement_step x)
-statement_opens (a_name n) = λ st. refl
-statement_opens (a_terminal T.Put) = λ st. refl
-statement_opens (a_terminal T.Stamp) = λ st. refl
-statement_opens (a_terminal T.Clear) = λ st. refl
-statement_opens (a_terminal T.Out) = λ st. refl
-statement_opens (a_terminal T.If) = λ st. refl
-statement_opens (a_terminal T.While) = λ st. refl
-statement_opens x = tt
-
--- the same with a symbol after it, of one that closes nothing
-opens_after : (s u : Symbol) (x : Lexeme) (o : Option (List Symbol))
-    → ((st : List Symbol) → opened (s ∷ st) ≡ opened st)
-    → Opens s x o → Opens u x (after o u)
-opens_after s u x None closes h = tt
-opens_after s u x (Some new) closes h = λ st. ap opened (append_assoc new (u ∷ []) st) ∙ h (u ∷ st)
-    ∙ ap (open_by x) (closes (u ∷ st))
 
 begin_opens : (x : Lexeme) → Opens s_begin x (begin_step x)
 begin_opens (a_terminal T.Begin) = λ st. refl
@@ -87,41 +57,13 @@ scans_opens (a_terminal T.Scan) = λ st. refl
 scans_opens x = registers_opens x
 
 opens : (s : Symbol) (x : Lexeme) → Opens s x (step s x)
-opens s_program (a_terminal T.Processes) = λ st. refl
-opens s_program x = tt
-opens s_number (a_number v) = λ st. refl
-opens s_number x = tt
-opens s_semicolon (a_terminal T.Semicolon) = λ st. refl
-opens s_semicolon x = tt
-opens s_names (a_name n) = λ st. refl
-opens s_names x = tt
-opens s_more (a_terminal T.Comma) = λ st. refl
-opens s_more (a_terminal T.Semicolon) = λ st. refl
-opens s_more x = tt
-opens s_name (a_name n) = λ st. refl
-opens s_name x = tt
-opens s_becomes (a_terminal T.Becomes) = λ st. refl
-opens s_becomes x = tt
-opens s_else (a_terminal T.Else) = λ st. refl
-opens s_else x = tt
-opens s_close (a_terminal T.Close) = λ st. omega arith
-opens s_close x = tt
-opens s_operator (a_terminal (T.Operator op)) = λ st. refl
-opens s_operator x = tt
-opens s_block (a_terminal T.OpenBrace) = λ st. refl
-opens s_block x = tt
 opens s_begin x = begin_opens x
 opens s_registers x = registers_opens x
 opens s_scans x = scans_opens x
 opens s_variables (a_terminal T.Var) = λ st. refl
 opens s_variables x = scans_opens x
 opens s_expression x = expression_opens x
-opens s_right (a_terminal T.Get) = λ st. refl
-opens s_right (a_terminal T.Scan) = λ st. refl
-opens s_right (a_terminal T.Copy) = λ st. refl
-opens s_right (a_terminal T.Older) = λ st. refl
-opens s_right (a_terminal T.Held) = λ st. refl
-opens s_right x = opens_after s_expression s_semicolon x (expression_step x) (λ st. refl) (expression_opens x)
+opens s_right x = right_opens x
 opens s_statement x = statement_opens x
 opens (s_until N.Program) (a_terminal T.End) = λ st. refl
 opens (s_until N.Program) x = opens_after s_statement (s_until N.Program) x (statement_step x) (λ st. refl)
@@ -129,6 +71,19 @@ opens (s_until N.Program) x = opens_after s_statement (s_until N.Program) x (sta
 opens (s_until N.Braces) (a_terminal T.CloseBrace) = λ st. omega arith
 opens (s_until N.Braces) x = opens_after s_statement (s_until N.Braces) x (statement_step x) (λ st. refl)
     (statement_opens x)
+opens s_close (a_terminal T.Close) = λ st. omega arith
+opens s_program (a_terminal T.Processes) = λ st. refl
+opens s_number (a_number v) = λ st. refl
+opens s_semicolon (a_terminal T.Semicolon) = λ st. refl
+opens s_names (a_name n) = λ st. refl
+opens s_more (a_terminal T.Comma) = λ st. refl
+opens s_more (a_terminal T.Semicolon) = λ st. refl
+opens s_name (a_name n) = λ st. refl
+opens s_becomes (a_terminal T.Becomes) = λ st. refl
+opens s_else (a_terminal T.Else) = λ st. refl
+opens s_operator (a_terminal (T.Operator op)) = λ st. refl
+opens s_block (a_terminal T.OpenBrace) = λ st. refl
+opens s x = tt
 
 pub opens_to : (s : Symbol) (x : Lexeme) (new : List Symbol) → step s x ≡ Some new → (st : List Symbol)
     → opened (new ++ st) ≡ open_by x (opened (s ∷ st))

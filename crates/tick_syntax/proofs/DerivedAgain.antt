@@ -9,40 +9,13 @@ use Rattle.tick_syntax.specs.Lexeme.{Lexeme, a_name, a_number, a_terminal, nothi
 use Rattle.tick_syntax.specs.Grammar.{program_tokens}
 use Rattle.tick_syntax.specs.Refusal.{AllCanStand}
 use Rattle.base.specs.declared.span.Span.{Span}
-use Rattle.base.specs.Plain.{Name, Expression, number, named, me, count, binary, map_expression, Statement, assign, get, put, stamp, clear, scan, copy, older, held, out, branch, repeat, map_statement, Block, nil, cons, map_block, WholeProgram, without_spans}
+use Rattle.base.specs.Plain.{Name, Block, map_block, WholeProgram, without_spans}
 use Rattle.tick_syntax.proofs.Symbols.{Symbol, s_program, s_until, step, on_stack, run_by, run}
 use Rattle.tick_syntax.proofs.Spanless.{letters_of, spanless, spanless_all}
-use Rattle.tick_syntax.proofs.SpansAside.{name_at_none, program_at_none, program_plain}
+use Rattle.tick_syntax.proofs.Statements.{name_at_none, block_twice}
+use Rattle.tick_syntax.proofs.SpansAside.{program_at_none, program_plain}
 use Rattle.tick_syntax.proofs.Continuations.{program_back, program_runs, one_of_tokens}
 use Rattle.tick_syntax.proofs.TokensThatStand.{all_spanless}
-
--- Names changed twice are changed once by both.
-module _ {A B C : Type 0} (f : A → B) (g : B → C) where
-  expression_twice : (e : Expression A) → map_expression g (map_expression f e) ≡ map_expression (λ x. g (f x)) e
-  expression_twice (number v) = refl
-  expression_twice (named x) = refl
-  expression_twice me = refl
-  expression_twice count = refl
-  expression_twice (binary a op b) = rw (expression_twice a, expression_twice b) refl
-
-  mutual
-    statement_twice : (s : Statement A) → map_statement g (map_statement f s) ≡ map_statement (λ x. g (f x)) s
-    statement_twice (assign x e) = rw (expression_twice e) refl
-    statement_twice (get x r e) = rw (expression_twice e) refl
-    statement_twice (put r e) = rw (expression_twice e) refl
-    statement_twice stamp = refl
-    statement_twice clear = refl
-    statement_twice (scan s) = refl
-    statement_twice (copy t s) = refl
-    statement_twice (older x s a b) = rw (expression_twice a, expression_twice b) refl
-    statement_twice (held x s e) = rw (expression_twice e) refl
-    statement_twice (out e) = rw (expression_twice e) refl
-    statement_twice (branch e a b) = rw (expression_twice e, block_twice a, block_twice b) refl
-    statement_twice (repeat e a) = rw (expression_twice e, block_twice a) refl
-
-    block_twice : (b : Block A) → map_block g (map_block f b) ≡ map_block (λ x. g (f x)) b
-    block_twice nil = refl
-    block_twice (cons s b) = rw (statement_twice s, block_twice b) refl
 
 letters_again : (xs : List Name) → map letters_of (map name_at_none (map letters_of xs)) ≡ map letters_of xs
 letters_again [] = refl

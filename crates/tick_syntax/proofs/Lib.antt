@@ -11,7 +11,8 @@ pub mod TokensTold
 mod GrammarExamples
 pub mod Symbols
 pub mod Sound
-pub mod SoundStatements
+pub mod Takes
+pub mod Statements
 pub mod Loops
 pub mod SoundPrograms
 pub mod Complete

@@ -19,13 +19,12 @@ use Rattle.tick_syntax.specs.declared.valued_token.Meaning.TheVariants as M
 use Rattle.tick_syntax.specs.declared.terminals.Terminal.{Terminal}
 use Rattle.tick_syntax.specs.declared.terminals.Terminal.TheVariants as T
 use Rattle.base.specs.declared.tree.Stmt.{Stmt}
-use Rattle.base.specs.Plain.{Name, Expression, Statement, branch, repeat, Block, nil, cons, onto}
-use Rattle.base.specs.View.{statement_of, block_of}
-use Rattle.tick_syntax.specs.prover.Reading.{Reading, Fails, is_memory, next_at, name_at, name_by, names_at, names_by, block_by, ends, statements_with, statements_at, statement_by, statement_with, statement_at, block_at, expression_at, terminal_at, branch_at, repeat_at}
+use Rattle.base.specs.Plain.{Name, Statement, Block, nil, cons, onto, statement_of, block_of}
+use Rattle.tick_syntax.specs.prover.Reading.{Reading, Fails, is_memory, next_at, name_at, name_by, names_at, names_by, block_by, ends, statements_with, statements_at, statement_at, terminal_at}
 use Rattle.base.specs.Refusing.{◌>>=◌}
 use Rattle.base.proofs.Offered.{fails_on, fails_with}
 use Rattle.tick_syntax.proofs.Sound.{name_reads}
-use Rattle.tick_syntax.proofs.SoundStatements.{statement_reads}
+use Rattle.tick_syntax.proofs.Statements.{statement_reads}
 
 abbrev pub after_names : List Name → Reading (List Name) → Reading (List Name)
 after_names front r = r >>= λ x. Ok (front ++ x.0, x.1)
@@ -39,14 +38,6 @@ module _ (end : ℕ) where
   unfolding terminal_at next_at
   terminal_none terminal [] h = refl
   terminal_none terminal (i ∷ is) h = absurd (cc)
-
-  -- a statement goes on as its first token says
-  pub statement_by_first :
-      (room : ℕ) (is rest : List ValuedToken) (token : ValuedToken) (m : Meaning)
-      → next_at end is ≡ Ok (token, rest) → token.meaning ≡ m
-      → statement_at end room is ≡ statement_by end m token.span (block_at end room) room rest
-  unfolding statement_at statement_with
-  statement_by_first room is rest token m h k = rw (h, k) refl
 
   names_front : (m : Meaning) (span : Span) (rest : List ValuedToken)
       → names_at end (record { meaning = m; span = span } ∷ rest)
@@ -157,10 +148,6 @@ module _ (end : ℕ) where
       ∙ ap (λ z. z >>= λ b. Ok (cons s b.0, b.1)) same)
       ∙ after_statement front s (statements_with end (statement_at end room) ending (suc (length r)) r)
 
-  -- a statement takes a token at least
-  pub statement_shorter : (room : ℕ) (is r : List ValuedToken) (s : Statement Name) → statement_at end room is ≡ Ok (s, r) → length r < length is
-  statement_shorter room is r s h = (statement_reads end 0 room is).shorter (s, r) h
-
   -- The loops' exits: whole is what the reading gives from where the loop began.
 
   pub names_fail : (front : List Name) (is : List ValuedToken) (whole : Reading (List Name)) (e : TextFault)
@@ -217,14 +204,3 @@ module _ (end : ℕ) where
       → ends ending y.0.meaning ≡ true → whole ≡ Ok (front, y.1)
   statements_last room ending front is y whole inv h t =
       sym inv ∙ ap (after_block front) (statements_end room ending is y h t) ∙ ap (λ z. Ok (z, y.1)) (onto_nil front)
-
-  pub branch_gives : (block : List ValuedToken → Reading (Block Name)) (room : ℕ) (is p q r s : List ValuedToken) (e : Expression Name) (a b : Block Name)
-      → expression_at end room is ≡ Ok (e, p) → block p ≡ Ok (a, q) → terminal_at end T.Else q ≡ Ok (tt, r) → block r ≡ Ok (b, s)
-      → branch_at end block room is ≡ Ok (branch e a b, s)
-  unfolding branch_at
-  branch_gives block room is p q r s e a b h k l m = rw (h, k, l, m) refl
-
-  pub repeat_gives : (block : List ValuedToken → Reading (Block Name)) (room : ℕ) (is p q : List ValuedToken) (e : Expression Name) (a : Block Name)
-      → expression_at end room is ≡ Ok (e, p) → block p ≡ Ok (a, q) → repeat_at end block room is ≡ Ok (repeat e a, q)
-  unfolding repeat_at
-  repeat_gives block room is p q e a h k = rw (h, k) refl

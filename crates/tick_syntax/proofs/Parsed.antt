@@ -8,13 +8,12 @@ use Rattle.base.specs.declared.tree.Tree.{Tree}
 use Rattle.tick_syntax.specs.Decided.{IsWithinLimits}
 use Rattle.tick_syntax.specs.Grammar.{Derives}
 use Rattle.tick_syntax.specs.Nesting.{nesting}
-use Rattle.base.specs.Plain.{Name, WholeProgram}
+use Rattle.base.specs.Plain.{Name, WholeProgram, tree_of}
 use Rattle.tick_syntax.specs.prover.Reading.{GivesWhole, program_at}
 use Rattle.tick_syntax.specs.prover.ValuedTokens.{plain, AreValues}
 use Rattle.tick_syntax.specs.Refusal.{IsTextRefused}
 use Rattle.tick_syntax.specs.RoundTrip.{IsTextOf}
 use Rattle.tick_syntax.specs.Spelling.{HasToken}
-use Rattle.base.specs.View.{tree_of}
 use Rattle.tick_syntax.proofs.Decided.{stand, read_program, program_read, fault_read, stop_refuses, one_program, one_refusal, never_both}
 use Rattle.tick_syntax.proofs.SoundPrograms.{program_err}
 use Rattle.tick_syntax.proofs.SpelledOnce.{spells_unique}

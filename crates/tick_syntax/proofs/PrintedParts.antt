@@ -7,11 +7,10 @@ use Rattle.base.specs.declared.tree.Stmt.TheVariants.{If, While}
 use Rattle.tick_syntax.specs.declared.terminals.Terminal.{Terminal}
 use Rattle.tick_syntax.specs.declared.terminals.Terminal.TheVariants as T
 use Rattle.tick_syntax.specs.Lexeme.{a_name, a_terminal}
-use Rattle.base.specs.Plain.{Name, Statement}
+use Rattle.base.specs.Plain.{Name, Statement, expression_of, statement_of, block_of}
 use Rattle.tick_syntax.specs.Grammar.{expression_tokens, in_braces, statement_tokens, block_tokens, names_tokens, section_tokens}
 use Rattle.tick_syntax.specs.Printed.{printed_token, printed_tokens}
 use Rattle.tick_syntax.specs.prover.Printing.{more_names}
-use Rattle.base.specs.View.{expression_of, statement_of, block_of}
 use Rattle.base.proofs.Blocks.{statement_of_branch, statement_of_repeat}
 
 -- the tokens of a statement with blocks

@@ -24,7 +24,7 @@
 --     by_next                  the next token, if there is one
 --
 -- The induction is on how many brackets may still be opened (`brackets_read`): what stands inside a bracket has
--- room for one less. Within one level the proof follows the rules. `SoundStatements` goes on with statements and
+-- room for one less. Within one level the proof follows the rules. `Statements` goes on with statements and
 -- blocks, `SoundPrograms` with whole programs.
 --
 -- It goes through because `goes` and `stops` hold whatever symbols `st` stand below: so two readings in a row are
@@ -151,20 +151,26 @@ module _ (end limit : ℕ) where
     ];
   }
 
+  -- A reading that refuses where the symbol does.
+  refuses : {V : Type 0} (s : Symbol) (P : V → List Lexeme → Type 0) (room : ℕ) (is : List ValuedToken) (d : TextFault)
+      → ((st : List Symbol) → opened (s ∷ st) + room ≡ limit → fault end limit is (s ∷ st) ≡ Some d)
+      → Reads (s ∷ []) P room is (refusal d)
+  refuses {V} s P room is d refused = record {
+    found = λ x h. absurd (not_ok h);
+    shorter = λ x h. absurd (not_ok h);
+    goes = λ x h. absurd (not_ok h);
+    stops = λ e h st o. refused st o ∙ ap Some (the_err {A = V × List ValuedToken} _ e h);
+  }
+
   -- A token that no symbol takes.
   pub refuse : {V : Type 0} (s : Symbol) (P : V → List Lexeme → Type 0) (room : ℕ) (m : Meaning) (span : Span)
       (rest : List ValuedToken)
       → step s (said_by m span) ≡ None
       → Reads (s ∷ []) P room (record { meaning = m; span = span } ∷ rest) (refusal (F.Unexpected span))
-  refuse {V} s P room m span rest none = record {
-    found = λ x h. absurd (not_ok h);
-    shorter = λ x h. absurd (not_ok h);
-    goes = λ x h. absurd (not_ok h);
-    stops = λ e h st o.
-        ap (λ z. fault_by (on_stack z st) (is_full limit (said_by m span) (opened (s ∷ st))) span
-        (fault end limit rest)) none
-        ∙ ap Some (the_err {A = V × List ValuedToken} _ e h);
-  }
+  refuse s P room m span rest none =
+      refuses s P room (record { meaning = m; span = span } ∷ rest) (F.Unexpected span) (λ st o.
+      ap (λ z. fault_by (on_stack z st) (is_full limit (said_by m span) (opened (s ∷ st))) span
+      (fault end limit rest)) none)
 
   -- A bracket that is one too many.
   pub refuse_deep : {V : Type 0} (s : Symbol) (P : V → List Lexeme → Type 0) (m : Meaning) (span : Span)
@@ -172,16 +178,11 @@ module _ (end limit : ℕ) where
       → step s (said_by m span) ≡ Some new
       → ((st : List Symbol) → opened (s ∷ st) + 0 ≡ limit → is_full limit (said_by m span) (opened (s ∷ st)) ≡ true)
       → Reads (s ∷ []) P 0 (record { meaning = m; span = span } ∷ rest) (refusal (F.TooDeep span))
-  refuse_deep {V} s P m span rest new is_some full = record {
-    found = λ x h. absurd (not_ok h);
-    shorter = λ x h. absurd (not_ok h);
-    goes = λ x h. absurd (not_ok h);
-    stops = λ e h st o.
-        ap (λ z. fault_by (on_stack z st) (is_full limit (said_by m span) (opened (s ∷ st))) span
-        (fault end limit rest)) is_some
-        ∙ ap (λ z. fault_by (Some (new ++ st)) z span (fault end limit rest)) (full st o)
-        ∙ ap Some (the_err {A = V × List ValuedToken} _ e h);
-  }
+  refuse_deep s P m span rest new is_some full =
+      refuses s P 0 (record { meaning = m; span = span } ∷ rest) (F.TooDeep span) (λ st o.
+      ap (λ z. fault_by (on_stack z st) (is_full limit (said_by m span) (opened (s ∷ st))) span
+      (fault end limit rest)) is_some
+      ∙ ap (λ z. fault_by (Some (new ++ st)) z span (fault end limit rest)) (full st o))
 
   -- A token that is all that the symbol stands for.
   pub accept : {V : Type 0} (s : Symbol) (P : V → List Lexeme → Type 0) (room : ℕ) (m : Meaning) (span : Span)
@@ -227,12 +228,7 @@ module _ (end limit : ℕ) where
   -- No token is left.
   pub nothing_left : {V : Type 0} (s : Symbol) (P : V → List Lexeme → Type 0) (room : ℕ)
       → Reads (s ∷ []) P room [] (refusal (F.Unexpected (record { start = end; end = end })))
-  nothing_left {V} s P room = record {
-    found = λ x h. absurd (not_ok h);
-    shorter = λ x h. absurd (not_ok h);
-    goes = λ x h. absurd (not_ok h);
-    stops = λ e h st o. ap Some (the_err {A = V × List ValuedToken} _ e h);
-  }
+  nothing_left s P room = refuses s P room [] (F.Unexpected (record { start = end; end = end })) (λ st o. refl)
 
   -- By the next token, if there is one, where the reading may go back to it.
   pub by_next_whole : {V : Type 0} (s : Symbol) (P : List ValuedToken → V → List Lexeme → Type 0) (room : ℕ)

@@ -1,7 +1,7 @@
 -- What the reader reads is what the grammar has: whole programs. Where it answers a program, the tokens say
 -- that program (`program_ok`); where it refuses, the symbols refuse with the same fault (`program_err`).
 --
--- The idea. As in `Sound` and `SoundStatements`, each part of a program is read as its symbols are (`Reads`):
+-- The idea. As in `Sound` and `Statements`, each part of a program is read as its symbols are (`Reads`):
 -- names, sections, the body. `processes_front` puts these in a row, and `whole_reads` is the program. The
 -- difficulty is a section that is left out: it takes no token, and `Reads` wants one taken. So
 -- `section_reads` takes what is read after the section as an argument. Where there is no section, its symbol
@@ -29,7 +29,7 @@ use Rattle.std.proofs.lemmas.List.{append-nil}
 use Rattle.tick_syntax.specs.prover.ValuedTokens.{plain}
 use Rattle.tick_syntax.proofs.Symbols.{said_by, said, says, Symbol, s_program, s_number, s_semicolon, s_variables, s_scans, s_registers, s_begin, s_names, s_more, s_until, fault}
 use Rattle.tick_syntax.proofs.Sound.{bind_ok, bind_err, Reads, reads_bind, reads_map, refuse, accept, enter, by_next, by_next_then, stand_in, weaken, nothing_left, semicolon_one, terminal_reads}
-use Rattle.tick_syntax.proofs.SoundStatements.{statements_reads}
+use Rattle.tick_syntax.proofs.Statements.{statements_reads}
 
 program_regroups : (v s r : List Lexeme) (x : Lexeme) (b : List Lexeme) (y : Lexeme) (rest : List Lexeme)
     → v ++ (s ++ (r ++ x ∷ (b ++ y ∷ rest))) ≡ (v ++ (s ++ (r ++ x ∷ (b ++ y ∷ [])))) ++ rest

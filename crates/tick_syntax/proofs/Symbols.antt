@@ -1,13 +1,15 @@
 -- What may still come, as a stack of symbols, and the first token at which nothing does (`fault`).
 --
 -- This page is definitions; its one lemma is `says_same`: the values of a text's tokens say what the tokens
--- say. The idea. `step s x` are the symbols that stand in the place of `s` once `x` was read, or none, where
--- `s` does not begin with `x`. `run` does so token by token and gives the symbols that are left. `fault` does
--- so with a limit on open brackets and gives the first refusal: a token without a place, tokens or symbols
--- left over, or a bracket too many. Two things need care. Brackets have no counter: as many are open as there
--- are symbols that close one (`opened`). And a section may be left out, so its step falls through to the next
--- part's (`variables_step`). `Sound.antt` ties the reader to `fault`, and `Continuations.antt` ties programs
--- to `run`. Read `step` first.
+-- say. Symbols, and those of expressions and statements, stand in `prover/Reading`, beside what the reader does.
+--
+-- The idea. `step s x` are the symbols that stand in the place of `s` once `x` was read, or none, where `s` does
+-- not begin with `x`. `run` does so token by token and gives the symbols that are left. `fault` does so with a
+-- limit on open brackets and gives the first refusal: a token without a place, tokens or symbols left over, or a
+-- bracket too many. Two things need care. Brackets have no counter: as many are open as there are symbols that
+-- close one (`opened`). And a section may be left out, so its step falls through to the next part's
+-- (`variables_step`). `Sound.antt` ties the reader to `fault`, and `Continuations.antt` ties programs to `run`.
+-- Read `step` first.
 use Rattle.std.proofs.Common.{◌≡◌, refl, ap, ◌∙◌, ℕ, suc, Bool, true, false, List, [], ◌∷◌, ◌++◌, Option, Some, None, nat_eq}
 use Rattle.base.specs.declared.span.Span.{Span}
 use Rattle.tick_syntax.specs.declared.fault.TextFault.{TextFault}
@@ -20,6 +22,7 @@ use Rattle.tick_syntax.specs.declared.token.Token.{Token}
 use Rattle.tick_syntax.specs.Lexeme.{Lexeme, a_name, a_number, a_terminal, lexeme_of, lexemes}
 use Rattle.tick_syntax.specs.prover.ValuedTokens.{SayAs}
 pub use Rattle.tick_syntax.specs.prover.ValuedTokens.{said_by, said}
+pub use Rattle.tick_syntax.specs.prover.Reading.{Symbol, s_program, s_number, s_semicolon, s_variables, s_scans, s_registers, s_begin, s_names, s_more, s_name, s_becomes, s_else, s_close, s_operator, s_expression, s_right, s_block, s_statement, s_until, after, expression_step, right_step, statement_step}
 
 abbrev pub says : List ValuedToken → List Lexeme
 says [] = []
@@ -31,57 +34,6 @@ says_same text [] (t ∷ ts) h = absurd h
 says_same text (i ∷ is) [] h = absurd h
 says_same text (i ∷ is) (t ∷ ts) h =
     ap (λ z. z ∷ says is) h.0.0 ∙ ap (λ z. lexeme_of text t ∷ z) (says_same text is ts h.1)
-
-pub data Symbol : Type 0 where
-  s_program : Symbol
-  s_number : Symbol
-  s_semicolon : Symbol
-  s_variables : Symbol
-  s_scans : Symbol
-  s_registers : Symbol
-  s_begin : Symbol
-  s_names : Symbol
-  s_more : Symbol
-  s_name : Symbol
-  s_becomes : Symbol
-  s_else : Symbol
-  s_close : Symbol
-  s_operator : Symbol
-  s_expression : Symbol
-  s_right : Symbol
-  s_block : Symbol
-  s_statement : Symbol
-  s_until : Ending → Symbol
-
-abbrev pub after : Option (List Symbol) → Symbol → Option (List Symbol)
-after None s = None
-after (Some ss) s = Some (ss ++ s ∷ [])
-
-abbrev pub expression_step : Lexeme → Option (List Symbol)
-expression_step (a_number v) = Some []
-expression_step (a_name x) = Some []
-expression_step (a_terminal T.Me) = Some []
-expression_step (a_terminal T.Count) = Some []
-expression_step (a_terminal T.Open) = Some (s_expression ∷ s_operator ∷ s_expression ∷ s_close ∷ [])
-expression_step _ = None
-
-abbrev pub right_step : Lexeme → Option (List Symbol)
-right_step (a_terminal T.Get) = Some (s_name ∷ s_expression ∷ s_semicolon ∷ [])
-right_step (a_terminal T.Scan) = Some (s_semicolon ∷ [])
-right_step (a_terminal T.Copy) = Some (s_name ∷ s_semicolon ∷ [])
-right_step (a_terminal T.Older) = Some (s_name ∷ s_expression ∷ s_expression ∷ s_semicolon ∷ [])
-right_step (a_terminal T.Held) = Some (s_name ∷ s_expression ∷ s_semicolon ∷ [])
-right_step x = after (expression_step x) s_semicolon
-
-abbrev pub statement_step : Lexeme → Option (List Symbol)
-statement_step (a_name x) = Some (s_becomes ∷ s_right ∷ [])
-statement_step (a_terminal T.Put) = Some (s_name ∷ s_expression ∷ s_semicolon ∷ [])
-statement_step (a_terminal T.Stamp) = Some (s_semicolon ∷ [])
-statement_step (a_terminal T.Clear) = Some (s_semicolon ∷ [])
-statement_step (a_terminal T.Out) = Some (s_expression ∷ s_semicolon ∷ [])
-statement_step (a_terminal T.If) = Some (s_expression ∷ s_block ∷ s_else ∷ s_block ∷ [])
-statement_step (a_terminal T.While) = Some (s_expression ∷ s_block ∷ [])
-statement_step _ = None
 
 abbrev pub until_step : Ending → Lexeme → Option (List Symbol)
 until_step N.Program (a_terminal T.End) = Some []

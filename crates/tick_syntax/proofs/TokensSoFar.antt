@@ -54,6 +54,20 @@ span_at bytes from end order within =
     let e : end ≡ from + length (slice_range bytes from end) = omega arith in
     ap (λ (n : ℕ). let span : Span = record { start = from; end = n } in span) e
 
+-- the bytes from a place to an end, of which two things hold
+piece_at : (P : List ℕ → List ℕ → Type 0) (Q : List ℕ → Type 0) (bytes : List ℕ) (from end : ℕ) → from < end → end ≤ length bytes
+    → P (slice_range bytes from end) (drop end bytes) → Q (slice_range bytes from end)
+    → (piece more : List ℕ) × (drop from bytes ≡ piece ++ more) × P piece more × Q piece
+    × ((let span : Span = record { start = from; end = end } in span) ≡ span_of from piece)
+piece_at P Q bytes from end order within p q = (
+  slice_range bytes from end,
+  drop end bytes,
+  drop_split bytes from end (omega arith),
+  p,
+  q,
+  span_at bytes from end (omega arith) within,
+)
+
 -- a token of this sort, with what its bytes say
 pub read_at : (bytes : List ℕ) (from end : ℕ) (meaning : Meaning) (sort : Sort) → sort_by meaning ≡ sort → from < end → end ≤ length bytes
     → IsToken (slice_range bytes from end) (drop end bytes) sort
@@ -72,43 +86,33 @@ read_at bytes from end meaning sort same order within kind said =
       within = within;
     }
 
--- a word, and one that is too long to be a name
-pub word_in : (bytes : List ℕ) (from end : ℕ) → from < length bytes → is_letter (get_or bytes from 0) ≡ true → end ≡ from + word_length (drop from bytes) → IsWord (slice_range bytes from end) (drop end bytes)
-word_in bytes from end within letter e =
-    shape_at IsWord bytes from end (word_length (drop from bytes)) e (word_of_text (drop from bytes) (starts_at is_letter true bytes from within letter))
+-- the longest front of a text from a place, which its first byte begins, and so it has a byte
+front_at : (P : List ℕ → List ℕ → Type 0) (test : ℕ → Bool) (bytes : List ℕ) (from end n : ℕ) → from < length bytes → test (get_or bytes from 0) ≡ true → end ≡ from + n
+    → (starts test (drop from bytes) ≡ true → P (take n (drop from bytes)) (drop n (drop from bytes)))
+    → (starts test (drop from bytes) ≡ true → 0 < n)
+    → P (slice_range bytes from end) (drop end bytes) × (from < end)
+front_at P test bytes from end n within begins e shape some =
+    let there : starts test (drop from bytes) ≡ true = starts_at test true bytes from within begins in
+    (shape_at P bytes from end n e (shape there), omega (arith, some there))
 
-pub word_after : (bytes : List ℕ) (from end : ℕ) → from < length bytes → is_letter (get_or bytes from 0) ≡ true → end ≡ from + word_length (drop from bytes) → from < end
-word_after bytes from end within letter e =
-    omega (arith, word_positive (drop from bytes) (starts_at is_letter true bytes from within letter))
+-- a word, and one that is too long to be a name
+pub word_in : (bytes : List ℕ) (from end : ℕ) → from < length bytes → is_letter (get_or bytes from 0) ≡ true → end ≡ from + word_length (drop from bytes) → IsWord (slice_range bytes from end) (drop end bytes) × (from < end)
+word_in bytes from end within letter e =
+    front_at IsWord is_letter bytes from end (word_length (drop from bytes)) within letter e (word_of_text (drop from bytes)) (word_positive (drop from bytes))
 
 pub long_name : (bytes : List ℕ) (from end : ℕ) → from < end → end ≤ length bytes → IsWord (slice_range bytes from end) (drop end bytes) → 64 < end - from → FaultAt from (drop from bytes) (NameTooLong (record { start = from; end = end }))
-long_name bytes from end order within word long = (
-  slice_range bytes from end,
-  drop end bytes,
-  drop_split bytes from end (omega arith),
-  word,
-  omega (arith, piece_size bytes from end (omega arith) within),
-  span_at bytes from end (omega arith) within,
-)
+long_name bytes from end order within word long =
+    piece_at IsWord (λ piece. 64 < length piece) bytes from end order within word
+    (omega (arith, piece_size bytes from end (omega arith) within, long))
 
 -- a number, and one that is too big
-pub number_in : (bytes : List ℕ) (from end : ℕ) → from < length bytes → is_digit (get_or bytes from 0) ≡ true → end ≡ from + number_length (drop from bytes) → IsNumber (slice_range bytes from end) (drop end bytes)
+pub number_in : (bytes : List ℕ) (from end : ℕ) → from < length bytes → is_digit (get_or bytes from 0) ≡ true → end ≡ from + number_length (drop from bytes) → IsNumber (slice_range bytes from end) (drop end bytes) × (from < end)
 number_in bytes from end within digit e =
-    shape_at IsNumber bytes from end (number_length (drop from bytes)) e (number_of_text (drop from bytes) (starts_at is_digit true bytes from within digit))
-
-pub number_after : (bytes : List ℕ) (from end : ℕ) → from < length bytes → is_digit (get_or bytes from 0) ≡ true → end ≡ from + number_length (drop from bytes) → from < end
-number_after bytes from end within digit e =
-    omega (arith, number_positive (drop from bytes) (starts_at is_digit true bytes from within digit))
+    front_at IsNumber is_digit bytes from end (number_length (drop from bytes)) within digit e (number_of_text (drop from bytes)) (number_positive (drop from bytes))
 
 pub big_number : (bytes : List ℕ) (from end : ℕ) → from < end → end ≤ length bytes → IsNumber (slice_range bytes from end) (drop end bytes) → 4294967295 < digits_value 10 (slice_range bytes from end) → FaultAt from (drop from bytes) (NumberTooBig (record { start = from; end = end }))
-big_number bytes from end order within number big = (
-  slice_range bytes from end,
-  drop end bytes,
-  drop_split bytes from end (omega arith),
-  number,
-  big,
-  span_at bytes from end (omega arith) within,
-)
+big_number bytes from end order within number big =
+    piece_at IsNumber (λ piece. 4294967295 < digits_value 10 piece) bytes from end order within number big
 
 sign_in : (bytes : List ℕ) (from end : ℕ) → from < end → end ≡ from + sign_length (drop from bytes) → IsSign (slice_range bytes from end) (drop end bytes)
 sign_in bytes from end order e =

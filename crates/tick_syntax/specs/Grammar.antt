@@ -1,6 +1,6 @@
--- The grammar: the tokens of a program, in their order. A list of tokens is a program if it says exactly
--- these.
-use Rattle.std.specs.Prelude.{◌≡◌, ℕ, List, [], ◌∷◌, ◌++◌}
+-- The grammar: the tokens of a program, in their order, and how deeply its brackets are nested. A list of tokens
+-- is a program if it says exactly these.
+use Rattle.std.specs.Prelude.{◌≡◌, ℕ, suc, List, [], ◌∷◌, ◌++◌, max}
 use Rattle.base.specs.declared.span.Span.{Span}
 use Rattle.tick_syntax.specs.declared.terminals.Terminal.{Terminal}
 use Rattle.tick_syntax.specs.declared.terminals.Terminal.TheVariants as T
@@ -43,6 +43,37 @@ abbrev mutual
   pub block_tokens : Block Name → List Lexeme
   block_tokens nil = []
   block_tokens (cons s b) = statement_tokens s ++ block_tokens b
+
+-- the deepest `(` and `{` of a tree: how many are open at once where most are
+module _ {A : Type 0} where
+  abbrev pub expression_nesting : Expression A → ℕ
+  expression_nesting (number v) = 0
+  expression_nesting (named x) = 0
+  expression_nesting me = 0
+  expression_nesting count = 0
+  expression_nesting (binary a op b) = suc (max (expression_nesting a) (expression_nesting b))
+
+  abbrev mutual
+    pub statement_nesting : Statement A → ℕ
+    statement_nesting (assign x e) = expression_nesting e
+    statement_nesting (get x r e) = expression_nesting e
+    statement_nesting (put r e) = expression_nesting e
+    statement_nesting stamp = 0
+    statement_nesting clear = 0
+    statement_nesting (scan s) = 0
+    statement_nesting (copy t s) = 0
+    statement_nesting (older x s a b) = max (expression_nesting a) (expression_nesting b)
+    statement_nesting (held x s e) = expression_nesting e
+    statement_nesting (out e) = expression_nesting e
+    statement_nesting (branch e a b) = max (expression_nesting e) (suc (max (block_nesting a) (block_nesting b)))
+    statement_nesting (repeat e a) = max (expression_nesting e) (suc (block_nesting a))
+
+    pub block_nesting : Block A → ℕ
+    block_nesting nil = 0
+    block_nesting (cons s b) = max (statement_nesting s) (block_nesting b)
+
+abbrev pub nesting : {A : Type 0} → WholeProgram A → ℕ
+nesting p = block_nesting p.body
 
 -- names with a comma between two
 abbrev pub names_tokens : Name → List Name → List Lexeme

@@ -1,39 +1,8 @@
--- How deeply brackets are nested.
-use Rattle.std.specs.Prelude.{ℕ, suc, ◌-◌, ◌≤◌, List, [], ◌∷◌, max}
+-- How deeply brackets are nested: those of a tree, which stand in `Grammar`, and those of a list of tokens.
+use Rattle.std.specs.Prelude.{ℕ, suc, ◌-◌, ◌≤◌, List, [], ◌∷◌}
 use Rattle.tick_syntax.specs.declared.terminals.Terminal.TheVariants as T
 use Rattle.tick_syntax.specs.Lexeme.{Lexeme, a_terminal}
-use Rattle.base.specs.Plain.{Expression, number, named, me, count, binary, Statement, assign, get, put, stamp, clear, scan, copy, older, held, out, branch, repeat, Block, nil, cons, WholeProgram}
-
--- the deepest `(` and `{` of a tree: how many are open at once where most are
-module _ {A : Type 0} where
-  abbrev pub expression_nesting : Expression A → ℕ
-  expression_nesting (number v) = 0
-  expression_nesting (named x) = 0
-  expression_nesting me = 0
-  expression_nesting count = 0
-  expression_nesting (binary a op b) = suc (max (expression_nesting a) (expression_nesting b))
-
-  abbrev mutual
-    pub statement_nesting : Statement A → ℕ
-    statement_nesting (assign x e) = expression_nesting e
-    statement_nesting (get x r e) = expression_nesting e
-    statement_nesting (put r e) = expression_nesting e
-    statement_nesting stamp = 0
-    statement_nesting clear = 0
-    statement_nesting (scan s) = 0
-    statement_nesting (copy t s) = 0
-    statement_nesting (older x s a b) = max (expression_nesting a) (expression_nesting b)
-    statement_nesting (held x s e) = expression_nesting e
-    statement_nesting (out e) = expression_nesting e
-    statement_nesting (branch e a b) = max (expression_nesting e) (suc (max (block_nesting a) (block_nesting b)))
-    statement_nesting (repeat e a) = max (expression_nesting e) (suc (block_nesting a))
-
-    pub block_nesting : Block A → ℕ
-    block_nesting nil = 0
-    block_nesting (cons s b) = max (statement_nesting s) (block_nesting b)
-
-abbrev pub nesting : {A : Type 0} → WholeProgram A → ℕ
-nesting p = block_nesting p.body
+pub use Rattle.tick_syntax.specs.Grammar.{expression_nesting, statement_nesting, block_nesting, nesting}
 
 -- an opening `(` or `{`
 abbrev pub IsOpening : Lexeme → Type 0

@@ -1,7 +1,7 @@
 // Where a gap, a word, a number and a sign of a text end. Places are byte offsets.
 ghost use Rattle.std.specs.Prelude.{◌≡◌, ◌+◌, ◌<◌, ◌≤◌, length, drop, MatchOption, true};
 ghost use Rattle.std.specs.Str.Parse.{digits_value};
-ghost use Rattle.tick_syntax.specs.prover.Extents.{word_length, number_length, sign_length};
+ghost use Rattle.tick_syntax.specs.prover.Extents.{takes, taken_length, word_length, number_length, sign_length};
 ghost use Rattle.tick_syntax.specs.Spelling.{gap_length, is_number};
 
 use crate::characters::{is_lone_sign, is_name_part, may_precede_equals};
@@ -31,17 +31,47 @@ pub fn gap_end(bytes: &[u8], from: usize) -> usize
     end
 }
 
+/// What a word and a number are made of.
+#[derive(Clone, Copy)]
+pub enum Extent {
+    /// Letters and digits.
+    Word,
+    /// Digits.
+    Number,
+}
+
+impl Extent {
+    // Whether the byte is part of it.
+    fn takes(self, byte: u8) -> bool
+        ensures { result ≡ takes self byte }
+    {
+        match self {
+            Extent::Word => is_name_part(byte),
+            Extent::Number => byte.is_ascii_digit(),
+        }
+    }
+
+    // The end of the bytes at a place that are part of it.
+    fn end(self, bytes: &[u8], from: usize) -> usize
+        requires { from ≤ length bytes.now }
+        ensures within { result ≤ length bytes.now }
+        ensures end { result ≡ from + taken_length self (drop from bytes.now) }
+    {
+        let mut end = from;
+        while end < bytes.len() && self.takes(bytes[end]) {
+            end += 1;
+        }
+        end
+    }
+}
+
 /// The end of the letters and digits at a place.
 pub fn word_end(bytes: &[u8], from: usize) -> usize
     requires { from ≤ length bytes.now }
     ensures within { result ≤ length bytes.now }
     ensures end { result ≡ from + word_length (drop from bytes.now) }
 {
-    let mut end = from;
-    while end < bytes.len() && is_name_part(bytes[end]) {
-        end += 1;
-    }
-    end
+    Extent::Word.end(bytes, from)
 }
 
 /// The end of the digits at a place.
@@ -50,11 +80,7 @@ pub fn number_end(bytes: &[u8], from: usize) -> usize
     ensures within { result ≤ length bytes.now }
     ensures end { result ≡ from + number_length (drop from bytes.now) }
 {
-    let mut end = from;
-    while end < bytes.len() && bytes[end].is_ascii_digit() {
-        end += 1;
-    }
-    end
+    Extent::Number.end(bytes, from)
 }
 
 /// The end of the longest sign at a place, which is the place itself where no sign begins there.

@@ -13,6 +13,7 @@ pub fn law_print()
 
 /// Reading. Each text is one program within the limits, or it has one refusal;
 /// it is never both, and never neither.
+#[tactic(auto, using(crate::proofs::Decided::one_refusal, crate::proofs::Decided::never_both))]
 pub fn law_reading()
     ensures one_program { OneProgram }
     ensures one_refusal { OneRefusal }

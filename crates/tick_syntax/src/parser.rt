@@ -1,15 +1,14 @@
 // From the tokens of a text to its tree: a descent by the grammar, one method for each of its rules.
 ghost use Rattle.std.specs.Prelude.{◌≡◌, ◌≢◌, ◌<◌, ◌≤◌, ◌⊎◌, ℕ, List, [], length, drop, map, IfOk, IfErr, IsOkUnless, MatchResult};
-ghost use Rattle.tick_syntax.specs.prover.Reading.{Gives, GivesAlways, GivesWhole, IsOkUnlessMemory, next_at, terminal_at, brace_at, operator_at, name_at, number_at, pair_at, brackets_at, expression_at, last_at, ended_at, named_last_at, copy_at, older_at, plain_at, right_at, assignment_at, out_at, branch_at, repeat_at, block_at, statement_at, statements_at, names_at, section_at, body_at, sections_at, headed_at, whole_at, program_at};
+ghost use Rattle.tick_syntax.specs.prover.Reading.{Gives, GivesAlways, GivesWhole, IsOkUnlessMemory, next_at, terminal_at, brace_at, operator_at, name_at, number_at, pair_at, brackets_at, expression_at, last_at, ended_at, named_last_at, copy_at, older_at, plain_at, right_at, assignment_at, out_at, branch_at, repeat_at, block_at, statement_by, statement_at, statements_at, names_at, section_at, body_at, sections_at, headed_at, whole_at, program_at};
 ghost use Rattle.tick_syntax.specs.Nesting.{nesting};
-ghost use Rattle.base.specs.Plain.{Name, WholeProgram, get, put, stamp, clear, scan, held};
+ghost use Rattle.base.specs.Plain.{Name, WholeProgram, get, put, held, name_of, expression_of, statement_of, block_of, tree_of};
 ghost use Rattle.tick_syntax.specs.declared.fault.TextFault.TheVariants.{NoMemory, TextTooLong, Unexpected, TooDeep};
 ghost use Rattle.tick_syntax.specs.Refusal.{IsTextRefused};
 ghost use Rattle.tick_syntax.specs.declared.fault.TextFault.{TextFault};
 ghost use Rattle.tick_syntax.specs.RoundTrip.{IsTextOf};
 ghost use Rattle.tick_syntax.specs.Spelling.{HasToken};
 ghost use Rattle.base.specs.declared.span.Span.{Span};
-ghost use Rattle.base.specs.View.{name_of, expression_of, statement_of, block_of, tree_of};
 
 use crate::fault::TextFault;
 use crate::lexer::valued_tokens;
@@ -201,29 +200,13 @@ impl Parser<'_> {
         Ok((value, at))
     }
 
-    // The `;` after a statement of which all else was read, here and in the next two.
+    // The `;` after a statement of which all else was read.
     #[tactic(auto, unfolding(crate::specs::prover::Reading::ended_at))]
-    fn stamp(&self, at: usize) -> Read<Stmt>
-        ensures { Gives statement_of self.now.tokens.now result (ended_at self.now.end stamp (drop at self.now.tokens.now)) }
+    fn ended(&self, statement: Stmt, at: usize) -> Read<Stmt>
+        ensures { Gives statement_of self.now.tokens.now result (ended_at self.now.end (statement_of statement) (drop at self.now.tokens.now)) }
     {
         let (_, at) = self.terminal(Terminal::Semicolon, at)?;
-        Ok((Stmt::Stamp, at))
-    }
-
-    #[tactic(auto, unfolding(crate::specs::prover::Reading::ended_at))]
-    fn clear(&self, at: usize) -> Read<Stmt>
-        ensures { Gives statement_of self.now.tokens.now result (ended_at self.now.end clear (drop at self.now.tokens.now)) }
-    {
-        let (_, at) = self.terminal(Terminal::Semicolon, at)?;
-        Ok((Stmt::Clear, at))
-    }
-
-    #[tactic(auto, unfolding(crate::specs::prover::Reading::ended_at))]
-    fn scan(&self, target: Named, at: usize) -> Read<Stmt>
-        ensures { Gives statement_of self.now.tokens.now result (ended_at self.now.end (scan (name_of target)) (drop at self.now.tokens.now)) }
-    {
-        let (_, at) = self.terminal(Terminal::Semicolon, at)?;
-        Ok((Stmt::Scan(target), at))
+        Ok((statement, at))
     }
 
     #[tactic(auto, unfolding(crate::specs::prover::Reading::named_last_at))]
@@ -280,7 +263,7 @@ impl Parser<'_> {
         match token.meaning {
             Meaning::Terminal(Terminal::Get) => self.get(room, target, after),
             Meaning::Terminal(Terminal::Held) => self.held(room, target, after),
-            Meaning::Terminal(Terminal::Scan) => self.scan(target, after),
+            Meaning::Terminal(Terminal::Scan) => self.ended(Stmt::Scan(target), after),
             Meaning::Terminal(Terminal::Copy) => self.copy(target, after),
             Meaning::Terminal(Terminal::Older) => self.older(room, target, after),
             _ => self.plain(room, target, at),
@@ -343,15 +326,23 @@ impl Parser<'_> {
         ensures { Gives statement_of self.now.tokens.now result (statement_at self.now.end room (drop at self.now.tokens.now)) }
     {
         let (token, at) = self.next(at)?;
-        match token.meaning {
-            Meaning::Name(letters) => self.assignment(room, self.named(letters, token.span)?, at),
+        self.statement_from(room, token, at)
+    }
+
+    // A statement from its first token on.
+    #[cycle(statement)]
+    fn statement_from(&self, room: usize, first: ValuedToken<'_>, at: usize) -> Read<Stmt>
+        ensures { Gives statement_of self.now.tokens.now result (statement_by self.now.end first.entry.meaning first.entry.span (block_at self.now.end room) room (drop at self.now.tokens.now)) }
+    {
+        match first.meaning {
+            Meaning::Name(letters) => self.assignment(room, self.named(letters, first.span)?, at),
             Meaning::Terminal(Terminal::Put) => self.put(room, at),
-            Meaning::Terminal(Terminal::Stamp) => self.stamp(at),
-            Meaning::Terminal(Terminal::Clear) => self.clear(at),
+            Meaning::Terminal(Terminal::Stamp) => self.ended(Stmt::Stamp, at),
+            Meaning::Terminal(Terminal::Clear) => self.ended(Stmt::Clear, at),
             Meaning::Terminal(Terminal::Out) => self.out(room, at),
             Meaning::Terminal(Terminal::If) => self.branch(room, at),
             Meaning::Terminal(Terminal::While) => self.repeat(room, at),
-            _ => Err(TextFault::Unexpected(token.span)),
+            _ => Err(TextFault::Unexpected(first.span)),
         }
     }
 

@@ -2,12 +2,11 @@
 // follows it, all written to the end of one buffer.
 ghost use Rattle.std.specs.Prelude.{◌≡◌, ℕ, List, ◌++◌, ◌∷◌, [], map, OnOk, IfOk, IfErr, string_bytes};
 ghost use Rattle.tick_syntax.specs.Lexeme.{a_name, a_number, a_terminal};
-ghost use Rattle.base.specs.Plain.{copy, older};
+ghost use Rattle.base.specs.Plain.{copy, older, name_of, expression_of, statement_of, block_of, tree_of};
 ghost use Rattle.tick_syntax.specs.Grammar.{expression_tokens, in_braces, statement_tokens, block_tokens, section_tokens};
 ghost use Rattle.tick_syntax.specs.Printed.{after_terminal, printed_token, printed_tokens, printed};
 ghost use Rattle.tick_syntax.specs.prover.Printing.{more_names, declaration_tokens};
 ghost use Rattle.tick_syntax.specs.RoundTrip.{IsTextOf, ReadsAs};
-ghost use Rattle.base.specs.View.{name_of, expression_of, statement_of, block_of, tree_of};
 
 use crate::fault::TextFault;
 use crate::terminals::Terminal;

@@ -1,38 +1,33 @@
 -- Blocks coded as trees of numbers, and read back. By this coding a proof tells apart the blocks that are the
 -- value of a model.
 use base.Stored.{Gv, gnil, gnum, gcons, Coded, num}
-use Rattle.std.specs.Prelude.{◌≡◌, ℕ, List, [], ◌∷◌, ◌==◌, if◌then◌else◌, refl}
+use Rattle.std.specs.Prelude.{◌≡◌, ℕ, List, [], ◌∷◌, ◌==◌, if◌then◌else◌, codes, refl}
+use Rattle.std.specs.Str.{bytes_eq}
 use Rattle.std.proofs.Common.{ap, sym, ◌∙◌}
 use Rattle.base.specs.declared.operator.Op.{Op}
 use Rattle.base.specs.declared.operator.Op.TheVariants as O
+use Rattle.base.specs.Operators.{sign}
 use Rattle.base.specs.Plain.{Name, Expression, number, named, me, count, binary, Statement, assign, get, put, stamp, clear, scan, copy, older, held, out, branch, repeat, Block, nil, cons}
 
-abbrev operator_number : Op → ℕ
-operator_number O.Add = 0
-operator_number O.Sub = 1
-operator_number O.Mul = 2
-operator_number O.Div = 3
-operator_number O.Rem = 4
-operator_number O.Less = 5
-operator_number O.AtMost = 6
-operator_number O.Equal = 7
-operator_number O.Differs = 8
+abbrev stored_letters : List ℕ → Gv
+stored_letters [] = gnil
+stored_letters (x ∷ xs) = gcons (gnum x) (stored_letters xs)
 
-abbrev operator_read : ℕ → Op
-operator_read k =
-    if k == 0 then O.Add else if k == 1 then O.Sub else if k == 2 then O.Mul else if k == 3 then O.Div
-    else if k == 4 then O.Rem else if k == 5 then O.Less else if k == 6 then O.AtMost else if k == 7 then O.Equal else O.Differs
+abbrev letters_read : Gv → List ℕ
+letters_read (gcons x xs) = num x ∷ letters_read xs
+letters_read _ = []
 
-operator_back : (op : Op) → operator_read (operator_number op) ≡ op
+-- an operator is stored as its sign
+abbrev operator_read : List ℕ → Op
+operator_read text =
+    if bytes_eq text (codes "+") then O.Add else if bytes_eq text (codes "-") then O.Sub
+    else if bytes_eq text (codes "*") then O.Mul else if bytes_eq text (codes "/") then O.Div
+    else if bytes_eq text (codes "%") then O.Rem else if bytes_eq text (codes "<") then O.Less
+    else if bytes_eq text (codes "<=") then O.AtMost else if bytes_eq text (codes "==") then O.Equal else O.Differs
+
+operator_back : (op : Op) → operator_read (letters_read (stored_letters (sign op))) ≡ op
 operator_back O.Add = refl
-operator_back O.Sub = refl
-operator_back O.Mul = refl
-operator_back O.Div = refl
-operator_back O.Rem = refl
-operator_back O.Less = refl
-operator_back O.AtMost = refl
-operator_back O.Equal = refl
-operator_back O.Differs = refl
+operator_back op = refl
 
 -- a number that says what it is, two names, two expressions or an operator, and two blocks
 abbrev node : ℕ → Gv → Gv → Gv → Gv → Gv → Gv
@@ -45,12 +40,12 @@ module _ {A : Type 0} (stored : A → Gv) (read : Gv → A) (back : (x : A) → 
   stored_expression (named x) = node 1 (stored x) gnil gnil gnil gnil
   stored_expression me = node 2 gnil gnil gnil gnil gnil
   stored_expression count = node 3 gnil gnil gnil gnil gnil
-  stored_expression (binary a op b) = node 4 (gnum (operator_number op)) gnil (stored_expression a) (stored_expression b) gnil
+  stored_expression (binary a op b) = node 4 (stored_letters (sign op)) gnil (stored_expression a) (stored_expression b) gnil
 
   abbrev expression_from : ℕ → Gv → Expression A → Expression A → Expression A
   expression_from k x a b =
       if k == 0 then number (num x) else if k == 1 then named (read x) else if k == 2 then me
-      else if k == 3 then count else binary a (operator_read (num x)) b
+      else if k == 3 then count else binary a (operator_read (letters_read x)) b
 
   abbrev expression_read : Gv → Expression A
   expression_read (gcons k (gcons x (gcons y (gcons a (gcons b c))))) = expression_from (num k) x (expression_read a) (expression_read b)
@@ -119,14 +114,6 @@ module _ {A : Type 0} (stored : A → Gv) (read : Gv → A) (back : (x : A) → 
 
   abbrev block_code : Coded (Block A)
   block_code = record { code = stored_block; inj = λ a b same. sym (block_back a) ∙ (ap block_read same ∙ block_back b) }
-
-abbrev stored_letters : List ℕ → Gv
-stored_letters [] = gnil
-stored_letters (x ∷ xs) = gcons (gnum x) (stored_letters xs)
-
-abbrev letters_read : Gv → List ℕ
-letters_read (gcons x xs) = num x ∷ letters_read xs
-letters_read _ = []
 
 letters_back : (xs : List ℕ) → letters_read (stored_letters xs) ≡ xs
 letters_back [] = refl

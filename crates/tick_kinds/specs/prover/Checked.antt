@@ -44,16 +44,14 @@ module _ (look : List ℕ → Option Slot) where
   checked_expression (binary a op b) =
       checked_expression a >>= λ a. checked_expression b >>= λ b. Ok (binary a op b)
 
-  unfoldable pub checked_assign : Name → Expression Name → Checked (Statement ℕ)
-  checked_assign x e = checked_name K.Variable x >>= λ x. checked_expression e >>= λ e. Ok (assign x e)
+  -- a name of this kind, and an expression
+  unfoldable pub checked_valued : Kind → Name → Expression Name → Checked (ℕ × Expression ℕ)
+  checked_valued wanted x e = checked_name wanted x >>= λ x. checked_expression e >>= λ e. Ok (x, e)
 
-  unfoldable pub checked_get : Name → Name → Expression Name → Checked (Statement ℕ)
-  checked_get x r e =
-      checked_name K.Variable x >>= λ x. checked_name K.Register r >>= λ r. checked_expression e >>= λ e.
-      Ok (get x r e)
-
-  unfoldable pub checked_put : Name → Expression Name → Checked (Statement ℕ)
-  checked_put r e = checked_name K.Register r >>= λ r. checked_expression e >>= λ e. Ok (put r e)
+  -- a variable, a name of this kind, and an expression
+  unfoldable pub checked_asked : Kind → Name → Name → Expression Name → Checked (ℕ × ℕ × Expression ℕ)
+  checked_asked wanted x s e =
+      checked_name K.Variable x >>= λ x. checked_name wanted s >>= λ s. checked_expression e >>= λ e. Ok (x, s, e)
 
   unfoldable pub checked_copy : Name → Name → Checked (Statement ℕ)
   checked_copy t s = checked_name K.Scan t >>= λ t. checked_name K.Scan s >>= λ s. Ok (copy t s)
@@ -63,22 +61,17 @@ module _ (look : List ℕ → Option Slot) where
       checked_name K.Variable x >>= λ x. checked_name K.Scan s >>= λ s.
       checked_expression a >>= λ a. checked_expression b >>= λ b. Ok (older x s a b)
 
-  unfoldable pub checked_held : Name → Name → Expression Name → Checked (Statement ℕ)
-  checked_held x s e =
-      checked_name K.Variable x >>= λ x. checked_name K.Scan s >>= λ s. checked_expression e >>= λ e.
-      Ok (held x s e)
-
-  unfoldable mutual
+  abbrev mutual
     pub checked_statement : Statement Name → Checked (Statement ℕ)
-    checked_statement (assign x e) = checked_assign x e
-    checked_statement (get x r e) = checked_get x r e
-    checked_statement (put r e) = checked_put r e
+    checked_statement (assign x e) = checked_valued K.Variable x e >>= λ r. Ok (assign r.0 r.1)
+    checked_statement (get x r e) = checked_asked K.Register x r e >>= λ r. Ok (get r.0 r.1 r.2)
+    checked_statement (put r e) = checked_valued K.Register r e >>= λ r. Ok (put r.0 r.1)
     checked_statement stamp = Ok stamp
     checked_statement clear = Ok clear
     checked_statement (scan s) = checked_name K.Scan s >>= λ s. Ok (scan s)
     checked_statement (copy t s) = checked_copy t s
     checked_statement (older x s a b) = checked_older x s a b
-    checked_statement (held x s e) = checked_held x s e
+    checked_statement (held x s e) = checked_asked K.Scan x s e >>= λ r. Ok (held r.0 r.1 r.2)
     checked_statement (out e) = checked_expression e >>= λ e. Ok (out e)
     checked_statement (branch e a b) =
         checked_expression e >>= λ e. checked_block a >>= λ a. checked_block b >>= λ b. Ok (branch e a b)

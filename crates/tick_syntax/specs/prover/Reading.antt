@@ -1,6 +1,6 @@
 -- What each function of the parser gives: a program is read from the front of a list of tokens, step by step.
 -- Proofs show that these definitions read the programs of the grammar.
-use Rattle.std.specs.Prelude.{◌≡◌, ℕ, zero, suc, Bool, true, false, List, [], ◌∷◌, drop, length, Result, Ok, Err}
+use Rattle.std.specs.Prelude.{◌≡◌, ℕ, zero, suc, Bool, true, false, List, [], ◌∷◌, ◌++◌, drop, length, Option, Some, None, Result, Ok, Err}
 use Rattle.base.specs.declared.span.Span.{Span}
 use Rattle.tick_syntax.specs.declared.fault.TextFault.{TextFault}
 use Rattle.tick_syntax.specs.declared.fault.TextFault.TheVariants as F
@@ -12,6 +12,7 @@ use Rattle.tick_syntax.specs.declared.valued_token.Section.TheVariants as C
 use Rattle.tick_syntax.specs.declared.valued_token.Meaning.{Meaning}
 use Rattle.tick_syntax.specs.declared.valued_token.Meaning.TheVariants as M
 use Rattle.base.specs.declared.operator.Op.{Op}
+use Rattle.tick_syntax.specs.Lexeme.{Lexeme, a_name, a_number, a_terminal}
 use Rattle.base.specs.Refusing.{◌>>=◌, FailsBut, GivesBut}
 use Rattle.tick_syntax.specs.declared.terminals.Terminal.{Terminal}
 use Rattle.tick_syntax.specs.declared.terminals.Terminal.TheVariants as T
@@ -310,3 +311,56 @@ module _ (end : ℕ) where
   -- a program and nothing after it
   unfoldable pub program_at : ℕ → List ValuedToken → Result (WholeProgram Name) TextFault
   program_at room is = whole_at room is >>= λ x. nothing_after x.0 x.1
+
+-- What may still come, as symbols: those that stand in the place of an expression, of the right-hand side of an
+-- assignment or of a statement once its first token was read. Proofs tie the reader to them.
+pub data Symbol : Type 0 where
+  s_program : Symbol
+  s_number : Symbol
+  s_semicolon : Symbol
+  s_variables : Symbol
+  s_scans : Symbol
+  s_registers : Symbol
+  s_begin : Symbol
+  s_names : Symbol
+  s_more : Symbol
+  s_name : Symbol
+  s_becomes : Symbol
+  s_else : Symbol
+  s_close : Symbol
+  s_operator : Symbol
+  s_expression : Symbol
+  s_right : Symbol
+  s_block : Symbol
+  s_statement : Symbol
+  s_until : Ending → Symbol
+
+abbrev pub after : Option (List Symbol) → Symbol → Option (List Symbol)
+after None s = None
+after (Some ss) s = Some (ss ++ s ∷ [])
+
+abbrev pub expression_step : Lexeme → Option (List Symbol)
+expression_step (a_number v) = Some []
+expression_step (a_name x) = Some []
+expression_step (a_terminal T.Me) = Some []
+expression_step (a_terminal T.Count) = Some []
+expression_step (a_terminal T.Open) = Some (s_expression ∷ s_operator ∷ s_expression ∷ s_close ∷ [])
+expression_step _ = None
+
+abbrev pub right_step : Lexeme → Option (List Symbol)
+right_step (a_terminal T.Get) = Some (s_name ∷ s_expression ∷ s_semicolon ∷ [])
+right_step (a_terminal T.Scan) = Some (s_semicolon ∷ [])
+right_step (a_terminal T.Copy) = Some (s_name ∷ s_semicolon ∷ [])
+right_step (a_terminal T.Older) = Some (s_name ∷ s_expression ∷ s_expression ∷ s_semicolon ∷ [])
+right_step (a_terminal T.Held) = Some (s_name ∷ s_expression ∷ s_semicolon ∷ [])
+right_step x = after (expression_step x) s_semicolon
+
+abbrev pub statement_step : Lexeme → Option (List Symbol)
+statement_step (a_name x) = Some (s_becomes ∷ s_right ∷ [])
+statement_step (a_terminal T.Put) = Some (s_name ∷ s_expression ∷ s_semicolon ∷ [])
+statement_step (a_terminal T.Stamp) = Some (s_semicolon ∷ [])
+statement_step (a_terminal T.Clear) = Some (s_semicolon ∷ [])
+statement_step (a_terminal T.Out) = Some (s_expression ∷ s_semicolon ∷ [])
+statement_step (a_terminal T.If) = Some (s_expression ∷ s_block ∷ s_else ∷ s_block ∷ [])
+statement_step (a_terminal T.While) = Some (s_expression ∷ s_block ∷ [])
+statement_step _ = None

@@ -1,103 +1,51 @@
-use Rattle.std.proofs.Common.{◌≡◌, ◌<◌, ◌≤◌, ◌∙◌, ℕ, ap, arith, length, slice_set, sym, Ok, Err}
+use Rattle.std.proofs.Common.{◌≡◌, ◌<◌, ◌≤◌, ◌∙◌, not, Ok, ap, arith, length, rules, sym}
 use Rattle.std.proofs.lemmas.Result.{err_from_is_err_and}
+use Rattle.base.specs.Operators.{truth_value}
 use Rattle.language_properties.specs.Properties.{formula_of}
-use Rattle.language_properties.specs.Values.{Valued, value}
-use Rattle.language_properties.proofs.Counting.{some_on, some_found, some_trap, some_none, all_on, all_found, all_trap, all_none, sum_on, sum_over, sum_trap, sum_none}
+use Rattle.language_properties.proofs.Counting.{is_at, decided_on, decided_found, decided_trap, decided_none, sum_on, sum_over, sum_trap, sum_none}
 use Rattle.language_properties.proofs.value.+value.Goals as goal
 
-pub all_of-returns-in_err-value_in : goal.all_of-returns-in_err-value_in
-all_of-returns-in_err-value_in g t c =
-    let f : ℕ → Valued = λ p. value (g.S.Seen.seen c.args.state.now) (slice_set c.args.bound c.args.number p) (formula_of c.args.body.now) in
-    let n : ℕ = length (g.S.Seen.seen c.args.state.now).statuses in
-    let below : c.loop-process.process < n = omega (arith, c.loop-process-test.true, c.processes-process-end.ensures) in
-    let is : f c.loop-process.process ≡ Err c.in_err-value_in.field-0.0 = ap (λ b. value (g.S.Seen.seen c.args.state.now) b (formula_of c.args.body.now)) (sym c.with.ensures) ∙ sym c.in_err-value_in.ensures in
+pub decide-returns-in_err-value : goal.decide-returns-in_err-value
+decide-returns-in_err-value g t c =
+    let below : c.loop-process.process < length (g.S.Visible.seen c.args.state.now).statuses = omega (arith, c.loop-process-test.true, c.processes-process-end.ensures) in
     let p = err_from_is_err_and c.from_residual.result c.from_residual.ensures.1 in
-    rw (p.1, p.2) (sym (c.loop-process.invariant ∙ all_trap f n c.loop-process.process _ below is))
+    rw (p.1, p.2) (sym (c.loop-process.invariant ∙ decided_trap _ _ c.args.wants_some c.loop-process.process _ below (is_at (g.S.Visible.seen c.args.state.now) c.with.result c.args.bound c.args.number c.loop-process.process (formula_of c.args.body.now) _ c.with.ensures c.in_err-value.ensures)))
 
-pub all_of-returns-then-branch-eq0 : goal.all_of-returns-then-branch-eq0
-all_of-returns-then-branch-eq0 g t c =
-    let f : ℕ → Valued = λ p. value (g.S.Seen.seen c.args.state.now) (slice_set c.args.bound c.args.number p) (formula_of c.args.body.now) in
-    let n : ℕ = length (g.S.Seen.seen c.args.state.now).statuses in
-    let below : c.loop-process.process < n = omega (arith, c.loop-process-test.true, c.processes-process-end.ensures) in
-    let is : f c.loop-process.process ≡ Ok c.in_ok-value_in.field-0 = ap (λ b. value (g.S.Seen.seen c.args.state.now) b (formula_of c.args.body.now)) (sym c.with.ensures) ∙ sym c.in_ok-value_in.ensures in
-    sym (c.loop-process.invariant ∙ all_found f n c.loop-process.process _ below is c.if-branch-eq0.true)
+pub decide-returns-then-decides : goal.decide-returns-then-decides
+decide-returns-then-decides g t c =
+    let below : c.loop-process.process < length (g.S.Visible.seen c.args.state.now).statuses = omega (arith, c.loop-process-test.true, c.processes-process-end.ensures) in
+    let is : c.from.result ≡ truth_value c.args.wants_some = search rules in
+    ap Ok is ∙ sym (c.loop-process.invariant ∙ decided_found _ _ c.args.wants_some c.loop-process.process _ below (is_at (g.S.Visible.seen c.args.state.now) c.with.result c.args.bound c.args.number c.loop-process.process (formula_of c.args.body.now) _ c.with.ensures c.in_ok-value.ensures) (sym c.decides.ensures ∙ c.if-decides.true))
 
-pub all_of-loop-process-preserved : goal.all_of-loop-process-preserved
-all_of-loop-process-preserved g t c =
-    let f : ℕ → Valued = λ p. value (g.S.Seen.seen c.args.state.now) (slice_set c.args.bound c.args.number p) (formula_of c.args.body.now) in
-    let n : ℕ = length (g.S.Seen.seen c.args.state.now).statuses in
-    let below : c.loop-process.process < n = omega (arith, c.loop-process-test.true, c.processes-process-end.ensures) in
-    let is : f c.loop-process.process ≡ Ok c.in_ok-value_in.field-0 = ap (λ b. value (g.S.Seen.seen c.args.state.now) b (formula_of c.args.body.now)) (sym c.with.ensures) ∙ sym c.in_ok-value_in.ensures in
-    c.loop-process.invariant ∙ all_on f n c.loop-process.process _ below is c.if-branch-eq0.false
+pub decide-loop-process-preserved : goal.decide-loop-process-preserved
+decide-loop-process-preserved g t c =
+    let below : c.loop-process.process < length (g.S.Visible.seen c.args.state.now).statuses = omega (arith, c.loop-process-test.true, c.processes-process-end.ensures) in
+    c.loop-process.invariant ∙ decided_on _ _ c.args.wants_some c.loop-process.process _ below (is_at (g.S.Visible.seen c.args.state.now) c.with.result c.args.bound c.args.number c.loop-process.process (formula_of c.args.body.now) _ c.with.ensures c.in_ok-value.ensures) (sym c.decides.ensures ∙ c.if-decides.false)
 
-pub all_of-returns : goal.all_of-returns
-all_of-returns g t c =
-    let f : ℕ → Valued = λ p. value (g.S.Seen.seen c.args.state.now) (slice_set c.args.bound c.args.number p) (formula_of c.args.body.now) in
-    let n : ℕ = length (g.S.Seen.seen c.args.state.now).statuses in
-    let past : n ≤ c.loop-process.process = omega (arith, c.loop-process-test.false, c.processes-process-end.ensures) in
-    sym (c.loop-process.invariant ∙ all_none f n c.loop-process.process past)
-
-pub some_of-returns-in_err-value_in : goal.some_of-returns-in_err-value_in
-some_of-returns-in_err-value_in g t c =
-    let f : ℕ → Valued = λ p. value (g.S.Seen.seen c.args.state.now) (slice_set c.args.bound c.args.number p) (formula_of c.args.body.now) in
-    let n : ℕ = length (g.S.Seen.seen c.args.state.now).statuses in
-    let below : c.loop-process.process < n = omega (arith, c.loop-process-test.true, c.processes-process-end.ensures) in
-    let is : f c.loop-process.process ≡ Err c.in_err-value_in.field-0.0 = ap (λ b. value (g.S.Seen.seen c.args.state.now) b (formula_of c.args.body.now)) (sym c.with.ensures) ∙ sym c.in_err-value_in.ensures in
-    let p = err_from_is_err_and c.from_residual.result c.from_residual.ensures.1 in
-    rw (p.1, p.2) (sym (c.loop-process.invariant ∙ some_trap f n c.loop-process.process _ below is))
-
-pub some_of-returns-then-branch-ne0 : goal.some_of-returns-then-branch-ne0
-some_of-returns-then-branch-ne0 g t c =
-    let f : ℕ → Valued = λ p. value (g.S.Seen.seen c.args.state.now) (slice_set c.args.bound c.args.number p) (formula_of c.args.body.now) in
-    let n : ℕ = length (g.S.Seen.seen c.args.state.now).statuses in
-    let below : c.loop-process.process < n = omega (arith, c.loop-process-test.true, c.processes-process-end.ensures) in
-    let is : f c.loop-process.process ≡ Ok c.in_ok-value_in.field-0 = ap (λ b. value (g.S.Seen.seen c.args.state.now) b (formula_of c.args.body.now)) (sym c.with.ensures) ∙ sym c.in_ok-value_in.ensures in
-    sym (c.loop-process.invariant ∙ some_found f n c.loop-process.process _ below is c.if-branch-ne0.true)
-
-pub some_of-loop-process-preserved : goal.some_of-loop-process-preserved
-some_of-loop-process-preserved g t c =
-    let f : ℕ → Valued = λ p. value (g.S.Seen.seen c.args.state.now) (slice_set c.args.bound c.args.number p) (formula_of c.args.body.now) in
-    let n : ℕ = length (g.S.Seen.seen c.args.state.now).statuses in
-    let below : c.loop-process.process < n = omega (arith, c.loop-process-test.true, c.processes-process-end.ensures) in
-    let is : f c.loop-process.process ≡ Ok c.in_ok-value_in.field-0 = ap (λ b. value (g.S.Seen.seen c.args.state.now) b (formula_of c.args.body.now)) (sym c.with.ensures) ∙ sym c.in_ok-value_in.ensures in
-    c.loop-process.invariant ∙ some_on f n c.loop-process.process _ below is c.if-branch-ne0.false
-
-pub some_of-returns : goal.some_of-returns
-some_of-returns g t c =
-    let f : ℕ → Valued = λ p. value (g.S.Seen.seen c.args.state.now) (slice_set c.args.bound c.args.number p) (formula_of c.args.body.now) in
-    let n : ℕ = length (g.S.Seen.seen c.args.state.now).statuses in
-    let past : n ≤ c.loop-process.process = omega (arith, c.loop-process-test.false, c.processes-process-end.ensures) in
-    sym (c.loop-process.invariant ∙ some_none f n c.loop-process.process past)
+pub decide-returns : goal.decide-returns
+decide-returns g t c =
+    let past : length (g.S.Visible.seen c.args.state.now).statuses ≤ c.loop-process.process = omega (arith, c.loop-process-test.false, c.processes-process-end.ensures) in
+    let is : c.from-2.result ≡ truth_value (not c.args.wants_some) = search rules in
+    ap Ok is ∙ sym (c.loop-process.invariant ∙ decided_none _ _ c.args.wants_some c.loop-process.process past)
 
 pub sum_of-returns-in_err-more : goal.sum_of-returns-in_err-more
 sum_of-returns-in_err-more g t c =
-    let f : ℕ → Valued = λ p. value (g.S.Seen.seen c.args.state.now) (slice_set c.args.bound c.args.number p) (formula_of c.args.body.now) in
-    let n : ℕ = length (g.S.Seen.seen c.args.state.now).statuses in
-    let below : c.loop-process.process < n = omega (arith, c.loop-process-test.true, c.processes-process-end.ensures) in
-    let is : f c.loop-process.process ≡ Err c.in_err-more.field-0.0 = ap (λ b. value (g.S.Seen.seen c.args.state.now) b (formula_of c.args.body.now)) (sym c.with.ensures) ∙ sym c.in_err-more.ensures in
+    let below : c.loop-process.process < length (g.S.Visible.seen c.args.state.now).statuses = omega (arith, c.loop-process-test.true, c.processes-process-end.ensures) in
     let p = err_from_is_err_and c.from_residual.result c.from_residual.ensures.1 in
-    rw (p.1, p.2) (sym (c.loop-process.invariant ∙ sum_trap f n c.loop-process.process c.loop-process.total _ below is))
+    rw (p.1, p.2) (sym (c.loop-process.invariant ∙ sum_trap _ _ c.loop-process.process c.loop-process.total _ below (is_at (g.S.Visible.seen c.args.state.now) c.with.result c.args.bound c.args.number c.loop-process.process (formula_of c.args.body.now) _ c.with.ensures c.in_err-more.ensures)))
 
 pub sum_of-returns-in_err-total : goal.sum_of-returns-in_err-total
 sum_of-returns-in_err-total g t c =
-    let f : ℕ → Valued = λ p. value (g.S.Seen.seen c.args.state.now) (slice_set c.args.bound c.args.number p) (formula_of c.args.body.now) in
-    let n : ℕ = length (g.S.Seen.seen c.args.state.now).statuses in
-    let below : c.loop-process.process < n = omega (arith, c.loop-process-test.true, c.processes-process-end.ensures) in
-    let is : f c.loop-process.process ≡ Ok c.in_ok-more.more = ap (λ b. value (g.S.Seen.seen c.args.state.now) b (formula_of c.args.body.now)) (sym c.with.ensures) ∙ sym c.in_ok-more.ensures in
+    let below : c.loop-process.process < length (g.S.Visible.seen c.args.state.now).statuses = omega (arith, c.loop-process-test.true, c.processes-process-end.ensures) in
     let p = err_from_is_err_and c.from_residual-in_err-total.result c.from_residual-in_err-total.ensures.1 in
-    rw (p.1, p.2) (sym (c.loop-process.invariant ∙ sum_over f n c.loop-process.process c.in_ok-more.more c.loop-process.total _ below is (sym c.in_err-total.ensures)))
+    rw (p.1, p.2) (sym (c.loop-process.invariant ∙ sum_over _ _ c.loop-process.process c.in_ok-more.more c.loop-process.total _ below (is_at (g.S.Visible.seen c.args.state.now) c.with.result c.args.bound c.args.number c.loop-process.process (formula_of c.args.body.now) _ c.with.ensures c.in_ok-more.ensures) (sym c.in_err-total.ensures)))
 
 pub sum_of-loop-process-preserved : goal.sum_of-loop-process-preserved
 sum_of-loop-process-preserved g t c =
-    let f : ℕ → Valued = λ p. value (g.S.Seen.seen c.args.state.now) (slice_set c.args.bound c.args.number p) (formula_of c.args.body.now) in
-    let n : ℕ = length (g.S.Seen.seen c.args.state.now).statuses in
-    let below : c.loop-process.process < n = omega (arith, c.loop-process-test.true, c.processes-process-end.ensures) in
-    let is : f c.loop-process.process ≡ Ok c.in_ok-more.more = ap (λ b. value (g.S.Seen.seen c.args.state.now) b (formula_of c.args.body.now)) (sym c.with.ensures) ∙ sym c.in_ok-more.ensures in
-    c.loop-process.invariant ∙ sum_on f n c.loop-process.process c.in_ok-more.more c.loop-process.total c.in_ok-total.total below is (sym c.in_ok-total.ensures)
+    let below : c.loop-process.process < length (g.S.Visible.seen c.args.state.now).statuses = omega (arith, c.loop-process-test.true, c.processes-process-end.ensures) in
+    c.loop-process.invariant ∙ sum_on _ _ c.loop-process.process c.in_ok-more.more c.loop-process.total c.in_ok-total.total below (is_at (g.S.Visible.seen c.args.state.now) c.with.result c.args.bound c.args.number c.loop-process.process (formula_of c.args.body.now) _ c.with.ensures c.in_ok-more.ensures) (sym c.in_ok-total.ensures)
 
 pub sum_of-returns : goal.sum_of-returns
 sum_of-returns g t c =
-    let f : ℕ → Valued = λ p. value (g.S.Seen.seen c.args.state.now) (slice_set c.args.bound c.args.number p) (formula_of c.args.body.now) in
-    let n : ℕ = length (g.S.Seen.seen c.args.state.now).statuses in
-    let past : n ≤ c.loop-process.process = omega (arith, c.loop-process-test.false, c.processes-process-end.ensures) in
-    sym (c.loop-process.invariant ∙ sum_none f n c.loop-process.process c.loop-process.total past)
+    let past : length (g.S.Visible.seen c.args.state.now).statuses ≤ c.loop-process.process = omega (arith, c.loop-process-test.false, c.processes-process-end.ensures) in
+    sym (c.loop-process.invariant ∙ sum_none _ _ c.loop-process.process c.loop-process.total past)

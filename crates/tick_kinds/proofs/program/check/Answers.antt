@@ -1,6 +1,6 @@
 use Rattle.tick_kinds.proofs.Acceptance.{accepted, refused, memory_alone}
 use Rattle.tick_kinds.proofs.program.check.Goals as goal
-use Rattle.base.specs.View.{tree_of}
+use Rattle.base.specs.Plain.{tree_of}
 
 pub returns-in-Ok-clause-accepted : goal.returns-in-Ok-clause-accepted
 returns-in-Ok-clause-accepted c = accepted (tree_of c.args.tree) _ c.in-Ok.ensures

@@ -1,7 +1,7 @@
 use Rattle.std.proofs.Common.{◌≡◌, ◌++◌, drop, string_bytes}
 use Rattle.tick_syntax.specs.Grammar.{block_tokens}
 use Rattle.tick_syntax.specs.Printed.{printed_tokens}
-use Rattle.base.specs.View.{block_of}
+use Rattle.base.specs.Plain.{block_of}
 use Rattle.tick_syntax.proofs.printer.+statement.Given as goal
 
 abbrev pub invariant-push_block-loop-statement : goal.invariant-push_block-loop-statement

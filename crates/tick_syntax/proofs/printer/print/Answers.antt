@@ -2,7 +2,7 @@ use Rattle.std.proofs.Common.{◌≡◌, ℕ, List, sym, subst, string_bytes, ar
 use Rattle.std.proofs.lemmas.Grind.{common_steps}
 use Rattle.tick_syntax.specs.Printed.{printed}
 use Rattle.tick_syntax.specs.RoundTrip.{ReadsAs}
-use Rattle.base.specs.View.{tree_of}
+use Rattle.base.specs.Plain.{tree_of}
 use Rattle.tick_syntax.proofs.RoundTrips.{reads_back}
 use Rattle.tick_syntax.proofs.printer.print.Goals as goal
 

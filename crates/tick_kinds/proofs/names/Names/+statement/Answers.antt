@@ -1,51 +1,12 @@
-use Rattle.std.proofs.Common.{◌≡◌, ◌∙◌, ◌+◌, Ok, ap, sym, drop, subst, refl}
+use Rattle.std.proofs.Common.{◌≡◌, ◌∙◌, ◌+◌, Ok, ap, sym, drop, subst}
 use Rattle.std.proofs.lemmas.Result.{err_from_is_err_and}
-use Rattle.tick_kinds.proofs.Steps.{first_fails, second_fails, body_fails, branch_checked, repeat_checked, goes_on, ends, next_item, no_item, checked_after}
-use Rattle.tick_kinds.specs.prover.Checked.{Fails, checked_block, checked_statement}
+use Rattle.tick_kinds.proofs.Steps.{first_fails, second_fails, body_fails, branch_checked, repeat_checked, goes_on, ends, checked_after}
+use Rattle.base.proofs.Offered.{next_statement, no_statement}
+use Rattle.tick_kinds.specs.prover.Checked.{Fails, checked_block}
 use Rattle.tick_kinds.specs.Resolved.{resolved_block}
 use Rattle.tick_kinds.specs.prover.Table.{slot_at}
-use Rattle.base.specs.View.{block_of}
+use Rattle.base.specs.Plain.{block_of}
 use Rattle.tick_kinds.proofs.names.Names.+statement.Goals as goal
-
-pub statement-returns-in-Assign : goal.statement-returns-in-Assign
-unfolding checked_statement
-statement-returns-in-Assign t c = rw c.in-Assign.is c.assign.ensures
-
-pub statement-returns-in-Get : goal.statement-returns-in-Get
-unfolding checked_statement
-statement-returns-in-Get t c = rw c.in-Get.is c.get.ensures
-
-pub statement-returns-in-Put : goal.statement-returns-in-Put
-unfolding checked_statement
-statement-returns-in-Put t c = rw c.in-Put.is c.put.ensures
-
-pub statement-returns-in-Stamp : goal.statement-returns-in-Stamp
-unfolding checked_statement
-statement-returns-in-Stamp t c = rw c.in-Stamp.is refl
-
-pub statement-returns-in-Clear : goal.statement-returns-in-Clear
-unfolding checked_statement
-statement-returns-in-Clear t c = rw c.in-Clear.is refl
-
-pub statement-returns-in_ok-number-in-Scan : goal.statement-returns-in_ok-number-in-Scan
-unfolding checked_statement
-statement-returns-in_ok-number-in-Scan t c = rw (c.in-Scan.is, c.in_ok-number-in-Scan.ensures) refl
-
-pub statement-returns-in-Copy : goal.statement-returns-in-Copy
-unfolding checked_statement
-statement-returns-in-Copy t c = rw c.in-Copy.is c.copy.ensures
-
-pub statement-returns-in-Older : goal.statement-returns-in-Older
-unfolding checked_statement
-statement-returns-in-Older t c = rw c.in-Older.is c.older.ensures
-
-pub statement-returns-in-Held : goal.statement-returns-in-Held
-unfolding checked_statement
-statement-returns-in-Held t c = rw c.in-Held.is c.held.ensures
-
-pub statement-returns-in_ok-expression-in-Out : goal.statement-returns-in_ok-expression-in-Out
-unfolding checked_statement
-statement-returns-in_ok-expression-in-Out t c = rw (c.in-Out.is, c.in_ok-expression-in-Out.ensures) refl
 
 pub statement-returns-in_err-first-in-If : goal.statement-returns-in_err-first-in-If
 statement-returns-in_err-first-in-If t c =
@@ -80,12 +41,12 @@ statement-returns-in_ok-block-in-While t c =
 pub block-loop-statement-preserved : goal.block-loop-statement-preserved
 block-loop-statement-preserved t c =
     c.loop-statement.invariant
-    ∙ ap (λ b. checked_after (slot_at c.args.self.now.slots) (resolved_block c.loop-statement.resolved.items) b) (next_item c.args.statements.now c.loop-statement.statement-index c.statement-item.result c.loop-statement-test.true c.statement-item.is)
-    ∙ goes_on (slot_at c.args.self.now.slots) _ _ _ _ c.in_ok-statement.ensures
+    ∙ ap (λ b. checked_after (slot_at c.args.self.now.slots) (resolved_block c.loop-statement.resolved.items) b) (next_statement c.args.statements.now c.loop-statement.statement-index c.statement-item.result c.loop-statement-test.true c.statement-item.is)
+    ∙ goes_on (slot_at c.args.self.now.slots) c.loop-statement.resolved.items _ (block_of (drop (c.loop-statement.statement-index + 1) c.args.statements.now)) _ c.in_ok-statement.ensures
     ∙ ap (λ xs. checked_after (slot_at c.args.self.now.slots) (resolved_block xs) (block_of (drop (c.loop-statement.statement-index + 1) c.args.statements.now))) (sym c.in_ok-push.ensures.items)
 
 pub block-returns : goal.block-returns
 block-returns t c =
     c.loop-statement.invariant
-    ∙ ap (λ b. checked_after (slot_at c.args.self.now.slots) (resolved_block c.loop-statement.resolved.items) b) (no_item _ _ c.loop-statement-test.false)
+    ∙ ap (λ b. checked_after (slot_at c.args.self.now.slots) (resolved_block c.loop-statement.resolved.items) b) (no_statement _ _ c.loop-statement-test.false)
     ∙ ends (slot_at c.args.self.now.slots) _

@@ -4,7 +4,7 @@ use Rattle.tick_kinds.proofs.names.Names.+statement.Given as goal
 use Rattle.tick_kinds.specs.prover.Checked.{checked_block}
 use Rattle.tick_kinds.specs.Resolved.{resolved_block}
 use Rattle.tick_kinds.specs.prover.Table.{slot_at}
-use Rattle.base.specs.View.{block_of}
+use Rattle.base.specs.Plain.{block_of}
 
 abbrev pub invariant-block-loop-statement : goal.invariant-block-loop-statement
 invariant-block-loop-statement l =

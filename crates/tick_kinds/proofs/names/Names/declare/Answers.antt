@@ -4,7 +4,7 @@ use Rattle.tick_kinds.proofs.Declaring.{declares}
 use Rattle.tick_kinds.proofs.names.Names.declare.Goals as goal
 use Rattle.tick_kinds.specs.Declarations.{limit}
 use Rattle.tick_kinds.specs.prover.Table.{slot_at}
-use Rattle.base.specs.View.{name_of}
+use Rattle.base.specs.Plain.{name_of}
 
 pub returns : goal.returns
 returns c =

@@ -4,7 +4,7 @@ use Rattle.tick_kinds.proofs.names.Names.declare_all.Given as goal
 use Rattle.tick_kinds.specs.prover.Checked.{checked_declarations}
 use Rattle.tick_kinds.specs.Declarations.{numbered}
 use Rattle.tick_kinds.specs.prover.Table.{slot_at}
-use Rattle.base.specs.View.{name_of}
+use Rattle.base.specs.Plain.{name_of}
 
 abbrev pub invariant-loop-number : goal.invariant-loop-number
 invariant-loop-number l =

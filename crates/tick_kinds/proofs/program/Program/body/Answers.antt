@@ -3,8 +3,8 @@ use Rattle.tick_kinds.proofs.Acceptance.{resolved_so, body_within}
 use Rattle.tick_kinds.proofs.program.Program.body.Goals as goal
 use Rattle.tick_kinds.specs.Resolution.{resolved}
 use Rattle.tick_kinds.specs.Resolved.{resolved_block}
-use Rattle.tick_kinds.specs.Within.{IsWithin}
-use Rattle.base.specs.View.{tree_of}
+use Rattle.tick_kinds.specs.Uses.{IsWithin}
+use Rattle.base.specs.Plain.{tree_of}
 
 pub returns-clause-resolved : goal.returns-clause-resolved
 returns-clause-resolved c =

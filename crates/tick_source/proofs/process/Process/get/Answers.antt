@@ -1,6 +1,7 @@
 use Rattle.std.proofs.Common.{rules, arith, ◌<◌, length}
 use Rattle.std.proofs.lemmas.Bool.{lt-ltb}
 use Rattle.std.proofs.lemmas.Grind.{common_steps}
+use Rattle.tick_source.proofs.Makes.{makes}
 use Rattle.tick_source.proofs.process.Process.get.Goals as goal
 
 pub returns-in_ok-tell-in-Ok-clause-ok : goal.returns-in_ok-tell-in-Ok-clause-ok
@@ -8,12 +9,5 @@ returns-in_ok-tell-in-Ok-clause-ok c =
     let n = length c.args.shared.now.tickets in
     let below : c.in-Ok.i < n = search rules in
     rw (← c.in-Ok.ensures, lt-ltb c.in-Ok.i n below)
-    (record {
-      tickets = search rules;
-      registers = search rules;
-      events = grind (arith, common_steps);
-      variables = grind (arith, common_steps);
-      scans = search rules;
-      rest = search rules;
-      status = search rules;
-    })
+    (makes _ _ _ _ _ (search rules) (search rules) (grind (arith, common_steps))
+    (grind (arith, common_steps)) (search rules) (search rules) (search rules))

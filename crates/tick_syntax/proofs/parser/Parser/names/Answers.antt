@@ -5,7 +5,7 @@ use Rattle.tick_syntax.specs.prover.Reading.{names_at, names_by}
 use Rattle.tick_syntax.specs.declared.fault.TextFault.TheVariants.{Unexpected}
 use Rattle.tick_syntax.specs.declared.valued_token.Meaning.TheVariants as M
 use Rattle.tick_syntax.specs.declared.terminals.Terminal.TheVariants as T
-use Rattle.base.specs.View.{name_of}
+use Rattle.base.specs.Plain.{name_of}
 use Rattle.tick_syntax.proofs.Loops.{names_fail, names_fail_next, names_last, names_wrong, names_on, next_shorter, name_shorter}
 use Rattle.tick_syntax.proofs.parser.Parser.names.Goals as goal
 

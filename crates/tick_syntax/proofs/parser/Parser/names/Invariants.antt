@@ -1,6 +1,6 @@
 use Rattle.std.proofs.Common.{◌≡◌, drop, map, length}
 use Rattle.tick_syntax.specs.prover.Reading.{names_at}
-use Rattle.base.specs.View.{name_of}
+use Rattle.base.specs.Plain.{name_of}
 use Rattle.tick_syntax.proofs.Loops.{after_names}
 use Rattle.tick_syntax.proofs.parser.Parser.names.Given as goal
 
