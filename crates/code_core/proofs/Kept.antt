@@ -26,13 +26,17 @@ use Rattle.code_core.proofs.Known.{either, jump_height-append, known_inside, kno
 abbrev pub GoesOn : List Placed → Option ℕ → ℕ → ℕ → Type 0
 GoesOn passed before j h = (height_of (slice_get passed (j + 1)) ≡ Some h) ⊎ ((j + 1 ≡ length passed) × (before ≡ Some h))
 
--- what is kept of one place
-pub record KeptAt (z : CodeSizes) (code : List Instr) (passed : List Placed) (before : Option ℕ) (j : ℕ) (e : Placed) : Type 0 where
+-- what is kept of one place by itself
+pub record KeptAlone (z : CodeSizes) (code : List Instr) (j : ℕ) (e : Placed) : Type 0 where
   pub slots : fits z e.0 ≡ true
   pub enough : pops e.0 ≤ e.1
   pub stamp : bad_stamp code j e.0 ≡ false
   pub inside : is_past (target e.0) (length code) ≡ false
   pub last : (goes_on e.0 && (j + 1 == length code)) ≡ false
+
+-- and beside the places to which it goes
+pub record KeptAt (z : CodeSizes) (code : List Instr) (passed : List Placed) (before : Option ℕ) (j : ℕ) (e : Placed) : Type 0 where
+  pub alone : KeptAlone z code j e
   pub on : goes_on e.0 ≡ true → GoesOn passed before j (left e.0 e.1)
   pub to : (l : ℕ) → target e.0 ≡ Some l → known passed l ≡ Some (left e.0 e.1)
 
@@ -124,11 +128,7 @@ module _ (z : CodeSizes) (code : List Instr) (passed : List Placed) (before : Op
         (λ old.
         let was : KeptAt z code passed before j e = kept j e old in
         record {
-          slots = was.slots;
-          enough = was.enough;
-          stamp = was.stamp;
-          inside = was.inside;
-          last = was.last;
+          alone = was.alone;
           on = λ goes. on_more j (left e.0 e.1) (was.on goes);
           to = λ l to. known_more l (left e.0 e.1) (was.to l to);
         })
@@ -136,11 +136,7 @@ module _ (z : CodeSizes) (code : List Instr) (passed : List Placed) (before : Op
         subst (λ p. KeptAt z code more (hands_on i h) j p) new.1
         (subst (λ q. KeptAt z code more (hands_on i h) q (i, h)) (sym new.0)
         record {
-          slots = clear.slots;
-          enough = ltb-false h (pops i) clear.enough;
-          stamp = clear.stamp;
-          inside = clear.inside;
-          last = clear.goes;
+          alone = record { slots = clear.slots; enough = ltb-false h (pops i) clear.enough; stamp = clear.stamp; inside = clear.inside; last = clear.goes };
           on = λ goes. inr (sym length_more, ap (λ b. if b then Some (left i h) else None) goes);
           to = known_target;
         }))

@@ -50,16 +50,16 @@ fine_at z code kept k i here =
     let at : KeptAt z code all kept.before k (i, height_at code k) =
     kept.each k (i, height_at code k) (with_height all k i (ap (λ is. slice_get is k) (placed_from_code code [] (Some 0)) ∙ here)) in
     record {
-      slots = at.slots;
-      enough = at.enough;
-      stamp = at.stamp;
+      slots = at.alone.slots;
+      enough = at.alone.enough;
+      stamp = at.alone.stamp;
       on = λ goes.
           ⊎_elim
           (λ next. let there = height_known all (k + 1) (left i (height_at code k)) next in (omega (arith, there.0, length_placed code), there.1))
-          (λ last. absurd (goes_past goes (last.0 ∙ length_placed code) at.last))
+          (λ last. absurd (goes_past goes (last.0 ∙ length_placed code) at.alone.last))
           (at.on goes);
       to = λ l to.
-          let within : l < length code = past_inside (target i) l (length code) to at.inside in
+          let within : l < length code = past_inside (target i) l (length code) to at.alone.inside in
           let there = height_known all l (left i (height_at code k)) (sym (known_inside all l (omega (arith, length_placed code))) ∙ at.to l to) in
           (within, there.1);
     }

@@ -1,5 +1,5 @@
 -- What an instruction finds in the process that makes it.
-use Rattle.std.proofs.Common.{◌≡◌, ℕ, ◌+◌, ◌<◌, ◌≤◌, true, length, subst, sym, arith, Some}
+use Rattle.std.proofs.Common.{◌≡◌, ℕ, ◌+◌, ◌<◌, ◌≤◌, true, length, ap, ◌∙◌, subst, sym, arith, Some}
 use Rattle.std.specs.Prelude.{nat_lt, slice_get}
 use Rattle.std.proofs.lemmas.Bool.{ltb-true, OnTrue_from}
 use Rattle.std.proofs.lemmas.List.Elements.{All-get_or}
@@ -49,6 +49,12 @@ pub found : {code : StepCode} {one : OneProcess} {instruction i : Instr} → IsO
 found {code} {one} {instruction} {i} of here is = subst (Finds one) is (finds code one of instruction here)
 
 -- the labels in a scan that there is
-pub scan_labels : (code : StepCode) (one : OneProcess) → IsOf code one → (s : ℕ) → s < length one.process.scans
+scan_labels : (code : StepCode) (one : OneProcess) → IsOf code one → (s : ℕ) → s < length one.process.scans
     → AreOrdered code.sizes.processes (scan_at one.process code.sizes.processes s)
 scan_labels code one of s there = All-get_or (AreOrdered code.sizes.processes) one.process.scans s _ there of.safe.filled
+
+-- and how many they are, where the number of processes is the code's
+pub scan_count : {code : StepCode} {one : OneProcess} → IsOf code one → (s n : ℕ) → s < length one.process.scans → n ≡ code.sizes.processes
+    → length (scan_at one.process n s) ≡ n
+scan_count {code} {one} of s n there many =
+    ap (λ n. length (scan_at one.process n s)) many ∙ (scan_labels code one of s there).are.count ∙ sym many

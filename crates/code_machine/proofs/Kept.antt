@@ -1,12 +1,11 @@
 -- A process goes on running its code, and asks for nothing else than it may.
-use Rattle.std.proofs.Common.{◌≡◌, ℕ, ◌<◌, ◌≤◌, refl, ap, ◌∙◌, sym, subst, Option, Some, None}
+use Rattle.std.proofs.Common.{◌≡◌, ℕ, ◌<◌, ◌≤◌, ap, sym, subst, Option, Some, None}
 use Rattle.base.specs.declared.event.Event.{Event}
 use Rattle.code_core.specs.Instructions.{StepCode, CodeSizes}
 use Rattle.code_core.specs.declared.instr.Instr.{Instr}
 use Rattle.code_core.specs.Heights.{greatest_height}
 use Rattle.std.specs.Prelude.{List, slice_get}
 use Rattle.code_machine.specs.declared.ask.Reply.{Reply}
-use Rattle.code_machine.specs.declared.ask.Advance.{Advance}
 use Rattle.code_machine.specs.Machine.{CodeProcess, CodeStep, alone, asks, does_at}
 use Rattle.code_machine.specs.Safety.{IsSafe, HasWord}
 use Rattle.code_machine.specs.Process.{OneProcess, IsOf, next_of, event_of, shown, after_advance, answered_by, advance_of, AsksLawfully}
@@ -71,25 +70,3 @@ module _ (code : StepCode) (old new : OneProcess) (of : IsOf code old) (instruct
       → Becomes old (answered_by old.process (does_of code old instruction) reply).process new → IsOf code new
   finish_kept reply has b =
       of_new _ b (finished code.sizes code.instructions old.me old.process of.safe (does_of code old instruction) reply has does_safe)
-
--- what is told of the instruction in one of its names is told of it in the other
-module _ (code : StepCode) (one : OneProcess) {i j : Instr} (is : i ≡ j) where
-  pub answered_as_told : {answer : Advance} → answer ≡ advance_of one.me (does_of code one j) → answer ≡ advance_of one.me (does_of code one i)
-  answered_as_told told = told ∙ ap (λ k. advance_of one.me (does_of code one k)) (sym is)
-
-  pub becomes_as_told : {new : OneProcess} → Becomes one (after_advance one.process (does_of code one j)) new
-      → Becomes one (after_advance one.process (does_of code one i)) new
-  becomes_as_told {new} told = subst (λ k. Becomes one (after_advance one.process (does_of code one k)) new) (sym is) told
-
-pub unchanged : (one : OneProcess) → Becomes one one.process one
-unchanged one = record {
-  me = refl;
-  room = refl;
-  place = refl;
-  stack = refl;
-  variables = refl;
-  scans = refl;
-  scratch = refl;
-  beside = refl;
-  status = refl;
-}

@@ -36,17 +36,17 @@ silent me d answer is =
     ⊎_elim (λ quiet. sym is ∙ quiet) (λ stopped. absurd (never_stopped me d (sym is ∙ stopped)))
 
 module _ (me p : ℕ) (labels : Labels) (rows : List (List ℕ)) (q : CodeProcess) where
-  -- it is made alone, and this is what others see
+  -- it is made alone, and this is what others see of process `p`
   pub record IsAlone (d : CodeStep) (event : Option Event) : Type 0 where
-    pub shows : event ≡ event_of me (made labels rows d).act
+    pub shows : event ≡ event_of p (made labels rows d).act
     pub left : after_advance q d ≡ (made labels rows d).process
     pub labels_are : labels ≡ labels_left p d labels
     pub rows_are : rows ≡ rows_left p d rows
 
-  pub made_alone : (d : CodeStep) (event : Option Event) → advance_of me d ≡ shown event → IsAlone d event
-  made_alone (alone m) event same =
-      record { shows = shown_same event (event_of me m.act) (sym same); left = refl; labels_are = refl; rows_are = refl }
-  made_alone (asks ask answered) event same = absurd (question_event ask event same)
+  pub made_alone : (d : CodeStep) (event : Option Event) → me ≡ p → advance_of me d ≡ shown event → IsAlone d event
+  made_alone (alone m) event own same =
+      record { shows = shown_same event (event_of me m.act) (sym same) ∙ ap (λ k. event_of k m.act) own; left = refl; labels_are = refl; rows_are = refl }
+  made_alone (asks ask answered) event own same = absurd (question_event ask event same)
 
   -- it asks, and is made by the reply
   pub record IsAsked (d : CodeStep) (ask : Ask) (reply : Reply) : Type 0 where

@@ -85,6 +85,7 @@ impl Proc {
         requires here { slice_get code.now.instructions self.old.process.place ≡ Some instruction }
         ensures { Becomes self.old (answered_by self.old.process (does_of code.now self.old instruction) reply).process self.new }
     {
+        self.finds(code, instruction);
         match instruction {
             Instr::LoadWord => self.finish_load(reply),
             Instr::Exchange(back) => self.finish_exchange(back, reply),

@@ -21,4 +21,5 @@ pub use ask::{Advance, Ask, Reply};
 pub use base::{Act, Event, NoMemory, Op, Outcome, Status, Trap};
 pub use code_core::{Code, CodeFault, Instr, Sizes, verify};
 pub use machine::{CodeMachine, Made, run};
+pub use memory::{CodeMemory, are_same};
 pub use proc::Proc;

@@ -224,6 +224,14 @@ impl Proc {
         Advance::Ask(Ask::Put(r, self.look(0)))
     }
 
+    // Does nothing. With it comes what the instruction at its place finds.
+    #[inline(always)]
+    pub(crate) fn finds(&self, _code: &Code, _instruction: Instr)
+        requires of { IsOf _code.now self.now }
+        requires here { slice_get _code.now.instructions self.now.process.place ≡ Some _instruction }
+        ensures { Finds self.now _instruction }
+    {}
+
     /// The instruction at its place: makes it, or asks.
     #[inline(always)]
     pub(crate) fn perform(&mut self, code: &Code, instruction: Instr) -> Advance
@@ -232,6 +240,7 @@ impl Proc {
         ensures answer { result ≡ advance_of self.old.me (does_of code.now self.old instruction) }
         ensures becomes { Becomes self.old (after_advance self.old.process (does_of code.now self.old instruction)) self.new }
     {
+        self.finds(code, instruction);
         match instruction {
             Instr::Push(value) => self.push(value),
             Instr::Load(x) => self.load(x),

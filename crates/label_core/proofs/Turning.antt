@@ -1,8 +1,10 @@
 -- The number of a label that keeps its first digits, turns one and has 0 from there on.
-use Rattle.std.proofs.Common.{◌≡◌, ℕ, zero, suc, ◌+◌, ◌-◌, ◌*◌, ◌/◌, ◌^◌, ◌<◌, ◌≤◌, List, ◌∷◌, ◌++◌, length, take, drop, replicate, get_or, refl, ap, sym, ◌∙◌, subst, arith, take-append-drop, length-append, length-take-le, length-drop}
-use Rattle.std.specs.Prelude.{All}
+use Rattle.std.proofs.Common.{◌≡◌, ℕ, suc, ◌+◌, ◌-◌, ◌*◌, ◌/◌, ◌^◌, ◌<◌, ◌≤◌, List, ◌∷◌, ◌++◌, length, take, drop, replicate, get_or, refl, ap, sym, ◌∙◌, subst, arith, take-append-drop, length-append, length-take-le, length-drop}
+use Rattle.std.specs.Prelude.{All, map}
+use Rattle.std.specs.List.{range_with_len}
 use Rattle.std.proofs.Math.Nat.{pow-suc}
 use Rattle.std.proofs.lemmas.List.{length-replicate, drop_more}
+use Rattle.std.proofs.lemmas.List.FromFn.{get_or-map-range_with_len}
 use Rattle.std.proofs.lemmas.List.Elements.{All-get_or, All-take, All-drop, All-cons, All-append, All-replicate}
 use Rattle.std.proofs.lemmas.Nat.{div-mul-add, mul-le}
 use Rattle.label_core.specs.Labels.{IsLabel, label_number, digits_in}
@@ -11,13 +13,9 @@ use Rattle.label_core.specs.declared.table.TheConstants.{COUNTS}
 use Rattle.label_core.proofs.Held.{length_held, number_held, small_held, number_in_table, zeros_number}
 
 pub counts_are : (digits : ℕ) → digits ≤ 5 → get_or COUNTS digits 0 ≡ 3 ^ digits
-counts_are zero few = refl
-counts_are (suc zero) few = refl
-counts_are (suc (suc zero)) few = refl
-counts_are (suc (suc (suc zero))) few = refl
-counts_are (suc (suc (suc (suc zero)))) few = refl
-counts_are (suc (suc (suc (suc (suc zero))))) few = refl
-counts_are (suc (suc (suc (suc (suc (suc digits)))))) few = absurd (omega (arith, few))
+counts_are digits few =
+    let powers : COUNTS ≡ map (λ k. 3 ^ k) (range_with_len 0 6) = refl in
+    ap (λ counts. get_or counts digits 0) powers ∙ get_or-map-range_with_len (λ k. 3 ^ k) 0 6 digits digits 0 (omega (arith, few)) (omega arith)
 
 -- a number is no more than its product with a count of labels
 pub below_product : (read digits : ℕ) → digits ≤ 5 → read ≤ read * get_or COUNTS digits 0

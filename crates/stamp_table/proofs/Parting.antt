@@ -23,7 +23,7 @@
 -- is that of each process that is held it has all steps: its own half had them all, and between that half and the
 -- whole history, where the longer one lies, there are none of that process (`mine-middle`). What the caller learns
 -- from it is `Learns`; that it is legal is said of any beginning of a legal history (`beginning`).
-use Rattle.std.proofs.Common.{◌≡◌, ◌≢◌, ◌⊎◌, ℕ, zero, suc, List, [], ◌∷◌, ◌++◌, length, set, refl, sym, ap, ◌∙◌, subst, inl, inr, ⊎_elim, arith}
+use Rattle.std.proofs.Common.{◌≡◌, ◌≢◌, ◌⊎◌, ℕ, zero, suc, Bool, true, false, List, [], ◌∷◌, ◌++◌, length, set, refl, sym, ap, ◌∙◌, subst, inl, inr, ⊎_elim, arith}
 use Rattle.std.specs.Prelude.{slice_index, slice_set}
 use Rattle.std.proofs.lemmas.List.{set-get_or}
 use Rattle.std.proofs.lemmas.Bool.{cases_eq}
@@ -33,8 +33,8 @@ use Rattle.atomic_table.proofs.Lists.{at_set, at_longer, set_else}
 use Rattle.word_core.specs.History.{IsLegal}
 use Rattle.word_core.specs.declared.history.Shared.{Shared}
 use Rattle.word_core.proofs.OfferedHistory.{beginning}
-use Rattle.stamp_table.specs.Passes.{Holds, StartsWith, longer}
-use Rattle.stamp_table.specs.Rule.{plain, HoldsOne, At, Knows, Apart, IsKept}
+use Rattle.stamp_table.specs.Passes.{Holds, none_held, StartsWith, longer}
+use Rattle.stamp_table.specs.Rule.{plain, HoldsOne, At, Knows, Apart, Newest, IsKept}
 use Rattle.stamp_table.specs.prover.Steps.{without, alone, joined, nobody, settled, Learns, Settles}
 use Rattle.stamp_table.specs.declared.rule.View.{View}
 use Rattle.stamp_table.proofs.Prefixes.{mine-middle, starts_whole, longer_starts, longer_first, longer_second, longer_whole}
@@ -63,27 +63,35 @@ plain_newest history v is starts one =
     starts_whole history v.seen starts (omega (arith, short)))
     one
 
+-- the view at a place has seen all, or the one that has stands elsewhere
+newest_at : (history : List Shared) (views : List View) (id : ℕ) (v : View) → At views id v → (newest : Newest history views)
+    → ((v.seen ≡ history) ⊎ (v.told ≡ history)) ⊎ (newest.0 ≢ id)
+newest_at history views id v at newest =
+    ⊎_elim
+    (λ same. inl
+    (subst (λ (z : View). (z.seen ≡ history) ⊎ (z.told ≡ history))
+    (at_one views id newest.1 v (subst (λ k. At views k newest.1) same newest.2) at) newest.3))
+    (λ other. inr other)
+    (cases_eq newest.0 id)
+
 module _ (n rows id p : ℕ) (v : View) (is : v ≡ plain v.held v.seen) (held : Holds v.held p) (s : State ℕ View)
     (kept : IsKept n rows s) (at : At s.views id v) where
-  knows_left : Knows kept.history (without p v)
-  knows_left =
+  -- a view that has seen the same, and holds nobody else
+  knows_part : (part : List Bool) → ((q : ℕ) → Holds part q → Holds v.held q) → Knows kept.history (plain part v.seen)
+  knows_part part less =
       let knows = kept.knows id v at in
       record {
         seen = knows.seen;
         told = (kept.history, refl);
-        own = λ q holds. knows.own q (holds_without v.held p q holds).1;
+        own = λ q holds. knows.own q (less q holds);
         others = λ q holds. absurd (none_holds q holds);
       }
 
+  knows_left : Knows kept.history (without p v)
+  knows_left = knows_part (slice_set v.held p false) (λ q holds. (holds_without v.held p q holds).1)
+
   knows_right : Knows kept.history (alone p v)
-  knows_right =
-      let knows = kept.knows id v at in
-      record {
-        seen = knows.seen;
-        told = (kept.history, refl);
-        own = λ q holds. knows.own q (subst (Holds v.held) (sym (holds_alone p q holds)) held);
-        others = λ q holds. absurd (none_holds q holds);
-      }
+  knows_right = knows_part (slice_set none_held p true) (λ q holds. subst (Holds v.held) (sym (holds_alone p q holds)) held)
 
   less_left : (q : ℕ) → HoldsOne (without p v) q → HoldsOne v q
   less_left q one = ⊎_elim (λ holds. inl (holds_without v.held p q holds).1) (λ none. absurd (none_holds q none)) one
@@ -132,25 +140,21 @@ module _ (n rows id p : ℕ) (v : View) (is : v ≡ plain v.held v.seen) (held :
             (λ last_y. last_x.1 ∙ sym last_y.1)
             (at_end rest (alone p v) y k at_y))
             (at_end rest (alone p v) x j at_x);
-        newest =
-            let j = kept.newest.0 in
-            let x = kept.newest.1 in
-            ⊎_elim
-            (λ same.
-            let here : x ≡ v = at_one s.views id x v (subst (λ k. At s.views k x) same kept.newest.2) at in (
+        newest = ⊎_elim
+            (λ here. (
               id,
               without p v,
               at_longer rest (alone p v ∷ []) id (without p v) (set_at s.views id v (without p v) at),
-              inl (plain_newest kept.history v is (kept.knows id v at).seen
-                  (subst (λ (z : View). (z.seen ≡ kept.history) ⊎ (z.told ≡ kept.history)) here kept.newest.3)),
+              inl (plain_newest kept.history v is (kept.knows id v at).seen here),
             ))
             (λ other. (
-              j,
-              x,
-              at_longer rest (alone p v ∷ []) j x (set_else s.views id j (without p v) other ∙ kept.newest.2),
+              kept.newest.0,
+              kept.newest.1,
+              at_longer rest (alone p v ∷ []) kept.newest.0 kept.newest.1
+                  (set_else s.views id kept.newest.0 (without p v) other ∙ kept.newest.2),
               kept.newest.3,
             ))
-            (cases_eq j id);
+            (newest_at kept.history s.views id v at kept.newest);
       }
 
 -- A process that is held can be cut off.
@@ -227,37 +231,19 @@ module _ (n rows id other : ℕ) (v w : View) (v_is : v ≡ plain v.held v.seen)
         (λ by_y. kept.apart j k q x y by_x.2 by_y.2 one_x one_y)
         (who k q y at_y one_y))
         (who j q x at_x one_x);
-    newest =
-        let j = kept.newest.0 in
-        let x = kept.newest.1 in
-        let IsNew : View → Type 0 = λ (z : View). (z.seen ≡ kept.history) ⊎ (z.told ≡ kept.history) in
-        ⊎_elim
-        (λ same.
-        let here : x ≡ v = at_one s.views id x v (subst (λ k. At s.views k x) same kept.newest.2) at_v in (
-          id,
-          joined v w,
-          joined_at,
-          inl
-              (plain_newest kept.history v v_is (kept.knows id v at_v).seen (subst IsNew here kept.newest.3)),
-        ))
+    newest = ⊎_elim
+        (λ first. (id, joined v w, joined_at, inl (plain_newest kept.history v v_is (kept.knows id v at_v).seen first)))
         (λ not_id. ⊎_elim
-        (λ same.
-        let here : x ≡ w = at_one s.views other x w (subst (λ k. At s.views k x) same kept.newest.2) at_w in (
-          id,
-          joined v w,
-          joined_at,
-          inr
-              (plain_newest kept.history w w_is (kept.knows other w at_w).seen (subst IsNew here kept.newest.3)),
-        ))
+        (λ second. (id, joined v w, joined_at, inr (plain_newest kept.history w w_is (kept.knows other w at_w).seen second)))
         (λ not_other. (
-          j,
-          x,
-          set_else (set s.views id (joined v w)) other j nobody not_other
-              ∙ (set_else s.views id j (joined v w) not_id ∙ kept.newest.2),
+          kept.newest.0,
+          kept.newest.1,
+          set_else (set s.views id (joined v w)) other kept.newest.0 nobody not_other
+              ∙ (set_else s.views id kept.newest.0 (joined v w) not_id ∙ kept.newest.2),
           kept.newest.3,
         ))
-        (cases_eq j other))
-        (cases_eq j id);
+        (newest_at kept.history s.views other w at_w kept.newest))
+        (newest_at kept.history s.views id v at_v kept.newest);
   }
 
 -- A pass can be taken in.
@@ -317,20 +303,15 @@ settled_kept n rows id v s kept at =
           (λ there. kept.knows j x there.1)
           (at_set s.views id j (settled v) x at_x);
       apart = apart_set s.views id v (settled v) at kept.apart (less_settled v);
-      newest =
-          let j = kept.newest.0 in
-          let x = kept.newest.1 in
-          ⊎_elim
-          (λ same.
-          let here : x ≡ v = at_one s.views id x v (subst (λ k. At s.views k x) same kept.newest.2) at in (
-            id,
-            settled v,
-            set_at s.views id v (settled v) at,
-            inl (longer_whole kept.history v.seen v.told knows.seen knows.told
-                (subst (λ (z : View). (z.seen ≡ kept.history) ⊎ (z.told ≡ kept.history)) here kept.newest.3)),
+      newest = ⊎_elim
+          (λ here. (id, settled v, set_at s.views id v (settled v) at, inl (longer_whole kept.history v.seen v.told knows.seen knows.told here)))
+          (λ other. (
+            kept.newest.0,
+            kept.newest.1,
+            set_else s.views id kept.newest.0 (settled v) other ∙ kept.newest.2,
+            kept.newest.3,
           ))
-          (λ other. (j, x, set_else s.views id j (settled v) other ∙ kept.newest.2, kept.newest.3))
-          (cases_eq j id);
+          (newest_at kept.history s.views id v at kept.newest);
     }
 
 -- A pass that has taken in another finds which of the two saw more.

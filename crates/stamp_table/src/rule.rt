@@ -78,13 +78,13 @@ impl<J: Doing> Play<u8, View> for Look<J> {
 }
 
 /// Which process is cut off.
-pub trait Named {
+pub trait OfProcess {
     ghost use Rattle.std.specs.Prelude.{ℕ};
 
     ghost who: { ℕ };
 }
 
-impl Named for Brand {
+impl OfProcess for Brand {
     ghost who = { 0 };
 }
 
@@ -93,7 +93,7 @@ pub struct Cut<J> {
     of: PhantomData<J>,
 }
 
-impl<J: Named> Split<View> for Cut<J> {
+impl<J: OfProcess> Split<View> for Cut<J> {
     ghost use Rattle.stamp_table.specs.prover.Steps.{without, alone};
 
     ghost left = { without J.who };

@@ -6,16 +6,16 @@ ghost use Rattle.stamp_table.specs.Rule.{plain};
 ghost use Rattle.stamp_table.specs.Passes.{Holds};
 ghost use Rattle.stamp_table.specs.prover.Steps.{Does, Goes, Settles, without, alone};
 
-use crate::rule::{Cut, Doing, Layout, Look, Named, OneHistory, OneStep, View};
+use crate::rule::{Cut, Doing, Layout, Look, OfProcess, OneHistory, OneStep, View};
 use atomic_table::{Seat, Shared};
 
-pub type Words = Shared<u8, View, Layout, OneHistory>;
+pub type TableWords = Shared<u8, View, Layout, OneHistory>;
 
-pub type Place = Seat<u8, View>;
+pub type TableSeat = Seat<u8, View>;
 
 /// Loads the label word.
 #[inline(always)]
-pub fn loaded<J: Doing>(words: &Words, seat: &mut Place, _process: u8) -> u64
+pub fn loaded<J: Doing>(words: &TableWords, seat: &mut TableSeat, _process: u8) -> u64
     requires fits { (seat.old.table_id ≡ words.now.table_id) × (0 < words.now.table_id.words) }
     requires plain { seat.old.me ≡ (plain seat.old.me.0.held seat.old.me.0.seen, []) }
     requires layout { (J.n ≡ words.now.key.n) × (J.rows ≡ words.now.key.rows) }
@@ -28,7 +28,13 @@ pub fn loaded<J: Doing>(words: &Words, seat: &mut Place, _process: u8) -> u64
 
 /// Exchanges the label word where it is `old`, and gives the word found.
 #[inline(always)]
-pub fn exchanged<J: Doing>(words: &Words, seat: &mut Place, _process: u8, old: u64, new: u64) -> u64
+pub fn exchanged<J: Doing>(
+    words: &TableWords,
+    seat: &mut TableSeat,
+    _process: u8,
+    old: u64,
+    new: u64,
+) -> u64
     requires fits { (seat.old.table_id ≡ words.now.table_id) × (0 < words.now.table_id.words) }
     requires plain { seat.old.me ≡ (plain seat.old.me.0.held seat.old.me.0.seen, []) }
     requires layout { (J.n ≡ words.now.key.n) × (J.rows ≡ words.now.key.rows) }
@@ -41,7 +47,7 @@ pub fn exchanged<J: Doing>(words: &Words, seat: &mut Place, _process: u8, old: u
 
 /// Leaves of the label word what the mask has, and gives the word found.
 #[inline(always)]
-pub fn masked<J: Doing>(words: &Words, seat: &mut Place, _process: u8, mask: u64) -> u64
+pub fn masked<J: Doing>(words: &TableWords, seat: &mut TableSeat, _process: u8, mask: u64) -> u64
     requires fits { (seat.old.table_id ≡ words.now.table_id) × (0 < words.now.table_id.words) }
     requires plain { seat.old.me ≡ (plain seat.old.me.0.held seat.old.me.0.seen, []) }
     requires layout { (J.n ≡ words.now.key.n) × (J.rows ≡ words.now.key.rows) }
@@ -55,8 +61,8 @@ pub fn masked<J: Doing>(words: &Words, seat: &mut Place, _process: u8, mask: u64
 /// Loads the register at this place.
 #[inline(always)]
 pub fn fetched<J: Doing>(
-    words: &Words,
-    seat: &mut Place,
+    words: &TableWords,
+    seat: &mut TableSeat,
     _process: u8,
     _row: u8,
     _index: u8,
@@ -76,8 +82,8 @@ pub fn fetched<J: Doing>(
 /// Stores a value in the register at this place.
 #[inline(always)]
 pub fn stored<J: Doing>(
-    words: &Words,
-    seat: &mut Place,
+    words: &TableWords,
+    seat: &mut TableSeat,
     _process: u8,
     _row: u8,
     place: usize,
@@ -95,7 +101,7 @@ pub fn stored<J: Doing>(
 }
 
 /// A seat for process `p` alone, which leaves this one.
-pub fn cut<J: Named>(words: &Words, seat: &mut Place, _p: u8) -> Place
+pub fn cut<J: OfProcess>(words: &TableWords, seat: &mut TableSeat, _p: u8) -> TableSeat
     requires fits { (seat.old.table_id ≡ words.now.table_id) × (0 < words.now.table_id.words) }
     requires plain { seat.old.me ≡ (plain seat.old.me.0.held seat.old.me.0.seen, []) }
     requires held { Holds seat.old.me.0.held J.who }
@@ -108,7 +114,7 @@ pub fn cut<J: Named>(words: &Words, seat: &mut Place, _p: u8) -> Place
 
 /// Looks at the table with a seat that has taken in another, to find which of the two saw more. It is
 /// no step of the history.
-pub fn looked<J: Doing>(words: &Words, seat: &mut Place)
+pub fn looked<J: Doing>(words: &TableWords, seat: &mut TableSeat)
     requires fits { (seat.old.table_id ≡ words.now.table_id) × (0 < words.now.table_id.words) }
     requires layout { (J.n ≡ words.now.key.n) × (J.rows ≡ words.now.key.rows) }
     ensures same { seat.new.table_id ≡ seat.old.table_id }

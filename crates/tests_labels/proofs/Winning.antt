@@ -10,7 +10,7 @@ use Rattle.word_core.specs.declared.history.SharedAct.TheVariants.{Load, Won, Lo
 use Rattle.stamp_table.specs.Passes.{Holds, by, mine, TableView, PassView, Appends, AllMeet, memory_seen}
 use Rattle.stamp_table.proofs.Offered.{extends_own, held_by_all}
 use Rattle.tests_labels.specs.Tries.{wins, wins_by, Ran, Served}
-use Rattle.tests_labels.specs.declared.table.tried.Tried.{Tried}
+use Rattle.tests_labels.specs.declared.table.tried.TriedWord.{TriedWord}
 
 wins_by-add : (act : SharedAct) (k m : ℕ) → wins_by act (k + m) ≡ wins_by act k + m
 wins_by-add (Load found) k m = refl
@@ -39,27 +39,27 @@ wins_twice old middle new p first second holds one two =
     wins_more middle new p second held two ∙ ap (λ k. k + wins_by second 0) (wins_more old middle p first holds one)
 
 -- what each thread came back with
-abbrev pub AllRan : TableView → ℕ → List Tried → Type 0
-AllRan t n tried = (p : ℕ) (d : Tried) → p < n → ((get_or tried p d).pass.table ≡ t) × Ran (get_or tried p d).pass p (get_or tried p d).won
+abbrev pub AllRan : TableView → ℕ → List TriedWord → Type 0
+AllRan t n tried = (p : ℕ) (d : TriedWord) → p < n → ((get_or tried p d).pass.table ≡ t) × Ran (get_or tried p d).pass p (get_or tried p d).won
 
-pub all_here : (t : TableView) (n : ℕ) (tried : List Tried) → length tried ≡ n → AllRan t n tried
-    → All (λ (pass : PassView). pass.table ≡ t) (map (λ (one : Tried). one.pass) tried)
+pub all_here : (t : TableView) (n : ℕ) (tried : List TriedWord) → length tried ≡ n → AllRan t n tried
+    → All (λ (pass : PassView). pass.table ≡ t) (map (λ (one : TriedWord). one.pass) tried)
 all_here t n tried count ran =
-    All-map (λ (pass : PassView). pass.table ≡ t) (λ (one : Tried). one.pass) tried (λ k d below. (ran k d (omega (arith, below, count))).0)
+    All-map (λ (pass : PassView). pass.table ≡ t) (λ (one : TriedWord). one.pass) tried (λ k d below. (ran k d (omega (arith, below, count))).0)
 
 -- what was seen of a process is seen once all have met
-all_ran : (t : TableView) (n : ℕ) (tried : List Tried) (met : PassView) → length tried ≡ n → AllRan t n tried
-    → AllMeet t (map (λ (one : Tried). one.pass) tried) met
-    → (p : ℕ) → p < n → Ran met p (slice_index (map (λ (one : Tried). one.won) tried) p)
+all_ran : (t : TableView) (n : ℕ) (tried : List TriedWord) (met : PassView) → length tried ≡ n → AllRan t n tried
+    → AllMeet t (map (λ (one : TriedWord). one.pass) tried) met
+    → (p : ℕ) → p < n → Ran met p (slice_index (map (λ (one : TriedWord). one.won) tried) p)
 all_ran t n [] met count ran meet p below = absurd (omega (arith, below, count))
 all_ran t n (first ∷ tried) met count ran meet p below =
-    let all : List Tried = first ∷ tried in
-    let passes : List PassView = map (λ (one : Tried). one.pass) all in
+    let all : List TriedWord = first ∷ tried in
+    let passes : List PassView = map (λ (one : TriedWord). one.pass) all in
     let inside : p < length all = omega (arith, below, count) in
-    let within : p < length passes = omega (arith, inside, length-map all (λ (one : Tried). one.pass)) in
-    let one : Tried = get_or all p first in
-    let pass : get_or passes p met ≡ one.pass = get_or-map (λ (one : Tried). one.pass) all p first met inside in
-    let won : slice_index (map (λ (one : Tried). one.won) all) p ≡ one.won = get_or-map (λ (one : Tried). one.won) all p first 0 inside in
+    let within : p < length passes = omega (arith, inside, length-map all (λ (one : TriedWord). one.pass)) in
+    let one : TriedWord = get_or all p first in
+    let pass : get_or passes p met ≡ one.pass = get_or-map (λ (one : TriedWord). one.pass) all p first met inside in
+    let won : slice_index (map (λ (one : TriedWord). one.won) all) p ≡ one.won = get_or-map (λ (one : TriedWord). one.won) all p first 0 inside in
     let did : Ran one.pass p one.won = (ran p first below).1 in
     let holds : Holds (get_or passes p met).held p = subst (λ (x : PassView). Holds x.held p) (sym pass) did.holds in
     record {
@@ -68,8 +68,8 @@ all_ran t n (first ∷ tried) met count ran meet p below =
           ap wins (meet.all_mine p met within p holds) ∙ ap (λ (x : PassView). wins (mine p x.seen)) pass ∙ did.counts ∙ sym won;
     }
 
-pub met_ran : (t : TableView) (n : ℕ) (tried : List Tried) (passes : List PassView) (won : List ℕ) (met : PassView) → length tried ≡ n → AllRan t n tried
-    → passes ≡ map (λ (one : Tried). one.pass) tried → won ≡ map (λ (one : Tried). one.won) tried → AllMeet t passes met
+pub met_ran : (t : TableView) (n : ℕ) (tried : List TriedWord) (passes : List PassView) (won : List ℕ) (met : PassView) → length tried ≡ n → AllRan t n tried
+    → passes ≡ map (λ (one : TriedWord). one.pass) tried → won ≡ map (λ (one : TriedWord). one.won) tried → AllMeet t passes met
     → (p : ℕ) → p < n → Ran met p (slice_index won p)
 met_ran t n tried passes won met count ran their_passes their_wins meet p below =
     subst (λ ws. Ran met p (slice_index ws p)) (sym their_wins)

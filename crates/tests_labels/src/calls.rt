@@ -11,5 +11,5 @@ mod working;
 
 pub use lock::{counts, enters};
 pub use queue::first_come;
-pub use threads::{Work, all_work, holds_all, meet_in_pairs};
-pub use working::{Worked, rounds, stamps, tries};
+pub use threads::{all_work, holds_all, meet_in_pairs};
+pub use working::{ThreadWork, Work, works};

@@ -10,4 +10,4 @@ mod tried;
 #[cfg(test)]
 mod trying;
 
-pub use tried::Tried;
+pub use tried::TriedWord;

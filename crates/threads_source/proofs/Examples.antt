@@ -5,6 +5,7 @@ use Rattle.base.specs.declared.run_outcome.RunEnd.{RunEnd}
 use Rattle.base.specs.declared.run_outcome.RunEnd.TheVariants.{Ended}
 use Rattle.base.specs.Observables.{RunObservables}
 use Rattle.base.specs.Plain.{number, out, nil, cons, WholeProgram}
+use Rattle.tick_lower.proofs.Offered.{program}
 use Rattle.tick_merge.specs.Local.{outputs_of}
 use Rattle.tick_merge.specs.Ran.{events_by}
 use Rattle.tick_sim.specs.Laws.{seen}
@@ -12,14 +13,7 @@ use Rattle.threads_source.specs.Shown.{status_of, ShowsOutcome}
 
 -- one process that gives out 7, and ends
 abbrev pub gives_seven : WholeProgram ℕ
-gives_seven = record {
-  processes = 1;
-  span = record { start = 0; end = 0 };
-  variables = [];
-  scans = [];
-  registers = [];
-  body = cons (out (number 7)) nil;
-}
+gives_seven = program 1 [] [] [] (cons (out (number 7)) nil)
 
 abbrev pub gave : ℕ → RunObservables
 gave value = record { outputs = (value ∷ []) ∷ []; ends = Ended ∷ []; rows = [] }

@@ -7,12 +7,12 @@ use Rattle.code_core.specs.Verified.{IsVerified}
 use Rattle.base.specs.Plain.{number, named, me, count, binary, assign, get, put, stamp, clear, scan, copy, older, held, out, branch, repeat, Block, nil, cons, WholeProgram}
 use Rattle.tick_lower.specs.Lowered.{block_code, lowered, lowered_length, lowered_sizes}
 
-abbrev program : ℕ → List ℕ → List ℕ → List ℕ → Block ℕ → WholeProgram ℕ
+abbrev pub program : ℕ → List ℕ → List ℕ → List ℕ → Block ℕ → WholeProgram ℕ
 program n variables scans registers body =
     record { processes = n; span = record { start = 0; end = 0 }; variables = variables; scans = scans; registers = registers; body = body }
 
 -- a stamp, a scan, a comparison and an output
-abbrev stamps_and_compares : WholeProgram ℕ
+abbrev pub stamps_and_compares : WholeProgram ℕ
 stamps_and_compares =
     program 2 (0 ∷ []) (0 ∷ []) [] (cons stamp (cons (scan 0) (cons (older 0 0 (number 0) (number 1)) (cons (out (named 0)) nil))))
 
@@ -24,7 +24,7 @@ its_sizes : lowered_sizes stamps_and_compares ≡ sizes 2 1 1 0
 its_sizes = refl
 
 -- a ticket that is given up
-abbrev gives_up : WholeProgram ℕ
+abbrev pub gives_up : WholeProgram ℕ
 gives_up =
     program 2 (0 ∷ []) (0 ∷ []) []
     (cons stamp (cons (scan 0) (cons (held 0 0 (number 1)) (cons (out (named 0))
@@ -39,7 +39,7 @@ given_up_verified : IsVerified (lowered_sizes gives_up) (lowered gives_up)
 given_up_verified = refl
 
 -- a loop that counts to two
-abbrev counts_to_two : WholeProgram ℕ
+abbrev pub counts_to_two : WholeProgram ℕ
 counts_to_two =
     program 1 (0 ∷ []) [] []
     (cons (repeat (binary (named 0) O.Less (number 2)) (cons (assign 0 (binary (named 0) O.Add (number 1))) nil)) (cons (out (named 0)) nil))

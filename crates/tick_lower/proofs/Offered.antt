@@ -1,11 +1,12 @@
 -- What the crates above may cite: how long codes are, and which instructions stand at the places of a
--- code.
+-- code; and small programs as examples.
 use Rattle.std.proofs.Common.{◌≡◌, ℕ, suc, ◌+◌, List, [], ◌∷◌, ◌++◌, refl, ap, ◌∙◌, subst, length, arith, Some}
 use Rattle.std.specs.Prelude.{slice_get}
 use Rattle.std.proofs.lemmas.List.{length-append, append_assoc}
 use Rattle.code_core.specs.declared.instr.Instr.{Instr}
 use Rattle.code_core.specs.declared.instr.Instr.TheVariants as I
 use Rattle.base.specs.Plain.{Expression, number, named, me, count, binary, Statement, assign, get, put, stamp, clear, scan, copy, older, held, out, branch, repeat, Block, nil, cons, WholeProgram}
+pub use Rattle.tick_lower.proofs.Examples.{program, stamps_and_compares, gives_up, counts_to_two}
 use Rattle.tick_lower.specs.Lowered.{expression_length, statement_length, block_length, expression_code, statement_code, block_code, lowered, lowered_length}
 
 pub expression_long : (e : Expression ℕ) → length (expression_code e) ≡ expression_length e

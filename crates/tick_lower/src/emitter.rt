@@ -57,6 +57,7 @@ fn emit_stamp(code: &mut Vec<Instr>) -> Result<(), AllocError>
     emit(code, Instr::Exchange(load))
 }
 
+#[tactic(auto, using(crate::proofs::Emitted::long_expression))]
 #[cycle(statement)]
 fn emit_branch(
     code: &mut Vec<Instr>,
@@ -81,6 +82,7 @@ fn emit_branch(
     Ok(())
 }
 
+#[tactic(auto, using(crate::proofs::Emitted::long_expression))]
 #[cycle(statement)]
 fn emit_repeat(
     code: &mut Vec<Instr>,

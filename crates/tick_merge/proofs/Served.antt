@@ -1,8 +1,6 @@
 -- What a process may ask for, and what a history answers it.
 use Rattle.std.proofs.Common.{◌≡◌, ℕ, ◌≤◌, Bool, true, false, if◌then◌else◌, List, refl, ap, sym, ◌∙◌, subst}
-use Rattle.std.specs.Prelude.{◌==◌, Option, Some, None, nat_lt, slice_get, slice_index}
-use Rattle.std.specs.Cmp.{both_ways}
-use Rattle.std.proofs.lemmas.Bool.{eqb-true, eq-eqb}
+use Rattle.std.specs.Prelude.{Option, Some, None, nat_lt, slice_get, slice_index}
 use Rattle.std.proofs.lemmas.Option.{same_Some}
 use Rattle.word_core.specs.Packed.{AreLabels, word}
 use Rattle.word_core.specs.Stamps.{Labels, stamped}
@@ -87,14 +85,6 @@ leaves n p m Q.Clear own = refl
 -- found others
 found_same : (n : ℕ) → n ≤ 6 → (labels old : Labels) → AreLabels n labels → AreLabels n old → word old ≡ word labels → same_labels labels old ≡ true
 found_same n few labels old are are_old same = ap (same_labels labels) (distinct_law n few old labels are_old are same) ∙ same_self labels
-
--- words tell whether labels are the same
-pub same_by_word : (n : ℕ) → n ≤ 6 → (labels others : Labels) → AreLabels n labels → AreLabels n others
-    → (word labels == word others) ≡ same_labels labels others
-same_by_word n few labels others are are_others =
-    both_ways (word labels == word others) (same_labels labels others)
-    (λ equal. found_same n few labels others are are_others (sym (eqb-true (word labels) (word others) equal)))
-    (λ same. eq-eqb (word labels) (word others) (ap word (equal_from_same labels others same)))
 
 found_other : (labels old : Labels) → (word labels ≡ word old → ⊥) → (b : Bool) → same_labels labels old ≡ b → b ≡ false
 found_other labels old apart true found = absurd (apart (ap word (equal_from_same labels old found)))

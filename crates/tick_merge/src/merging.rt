@@ -12,9 +12,9 @@ ghost use Rattle.tick_merge.specs.prover.Reached.{Reached, IsLed, StepTaken, Pro
 
 use crate::fault::MergeFault;
 use crate::process::{go_alone, makes_act};
-use crate::words::Words;
+use crate::words::may_follow;
 use code_core::Code;
-use code_machine::Proc;
+use code_machine::{CodeMemory, Proc};
 use std::alloc::Global;
 use word_core::Shared;
 
@@ -22,7 +22,7 @@ use word_core::Shared;
 // it, and the schedule.
 #[derive(Drop)]
 struct Merging {
-    words: Words,
+    words: CodeMemory,
     processes: Vec<Proc>,
     left: Vec<u64>,
     schedule: Vec<u8>,
@@ -37,7 +37,7 @@ impl Merging {
         ensures err { IfErr result (λ fault. fault ≡ NoMemory) }
     {
         let sizes = code.sizes();
-        let words = Words::new(alloc, sizes)?;
+        let words = CodeMemory::new(alloc, sizes)?;
         let mut processes = Vec::new(alloc);
         for p in 0..sizes.processes() {
             let process = Proc::at_start(alloc, code, p)?;
@@ -109,7 +109,7 @@ impl Merging {
     {
         let sizes = code.sizes();
         for (place, step) in history.iter().enumerate() {
-            if !self.words.may_follow(sizes, *step) {
+            if !may_follow(&self.words, sizes, *step) {
                 return Err(MergeFault::NotLegal(place));
             }
             if !self.take_step(code, *step)? {

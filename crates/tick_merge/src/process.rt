@@ -8,9 +8,9 @@ ghost use Rattle.code_machine.specs.Safety.{AreOrdered};
 ghost use Rattle.tick_merge.specs.Merged.{alone_for};
 ghost use Rattle.tick_merge.specs.prover.Held.{memory_held, after_alone, act_next};
 
-use crate::words::Words;
+use crate::words::act_for;
 use code_core::Code;
-use code_machine::{Advance, Proc};
+use code_machine::{Advance, CodeMemory, Proc};
 use std::alloc::AllocFailed;
 use word_core::SharedAct;
 
@@ -41,7 +41,13 @@ pub fn go_alone(
 }
 
 /// Makes the next instruction of process `p` where it is this act on what is shared.
-pub fn makes_act(code: &Code, words: &mut Words, proc: &mut Proc, p: u8, act: SharedAct) -> bool
+pub fn makes_act(
+    code: &Code,
+    words: &mut CodeMemory,
+    proc: &mut Proc,
+    p: u8,
+    act: SharedAct,
+) -> bool
     requires of { IsOf code.now proc.old }
     requires me { proc.old.me ≡ p }
     requires labels { AreOrdered code.now.sizes.processes words.old.labels }
@@ -56,7 +62,7 @@ pub fn makes_act(code: &Code, words: &mut Words, proc: &mut Proc, p: u8, act: Sh
         return false;
     };
     let asked = ask;
-    if !is_act(words.act(asked), act) {
+    if !is_act(act_for(words, asked), act) {
         return false;
     }
     let reply = words.serve(p, ask);

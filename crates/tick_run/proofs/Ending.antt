@@ -3,6 +3,7 @@ use Rattle.std.proofs.Common.{◌≡◌, ℕ, ◌<◌, ◌≤◌, true, List, []
 use Rattle.std.specs.Prelude.{slice_get}
 use Rattle.base.specs.declared.status.Status.{Status}
 use Rattle.base.specs.declared.status.Status.TheVariants.{Running, Ended, Trapped}
+use Rattle.base.specs.declared.run_outcome.RunEnd.{RunEnd}
 use Rattle.base.specs.declared.run_outcome.RunEnd.TheVariants as E
 use Rattle.word_core.specs.declared.history.Shared.{Shared}
 use Rattle.code_core.specs.Instructions.{StepCode}
@@ -30,29 +31,20 @@ ends_by c q count turns given outs Running is spent = (is, spent refl)
 ends_by c q count turns given outs Ended is spent = is
 ends_by c q count turns given outs (Trapped t) is spent = is
 
+ran : (c : StepCode) (p turns outs count : ℕ) (q : CodeProcess) (steps : List Shared) (given : List ℕ) (end : RunEnd) (at : IsAt c p count q steps given)
+    → count ≤ turns → length given ≤ outs → EndsAs end c at.local.process count turns (length given) outs → RanSo c p turns outs steps given end
+ran c p turns outs count q steps given end at few_turns few_outputs ends =
+    record { count = count; local = at.local; is_local = at.is_local; own = at.own; gave = at.gave; turns_kept = few_turns; outputs_kept = few_outputs; ends_as = ends }
+
 pub ran_out : (c : StepCode) (p turns outs count : ℕ) (q : CodeProcess) (steps : List Shared) (given : List ℕ) → IsAt c p count q steps given
     → count ≤ turns → length given ≤ outs → (q.status ≡ Running → count ≡ turns) → RanSo c p turns outs steps given (end_by q.status)
-ran_out c p turns outs count q steps given at turns_kept outputs_kept spent = record {
-  count = count;
-  local = at.local;
-  is_local = at.is_local;
-  own = at.own;
-  gave = at.gave;
-  turns_kept = turns_kept;
-  outputs_kept = outputs_kept;
-  ends_as = ends_by c at.local.process count turns (length given) outs q.status (ap (λ (x : CodeProcess). x.status) at.process) spent;
-}
+ran_out c p turns outs count q steps given at few_turns few_outputs spent =
+    ran c p turns outs count q steps given (end_by q.status) at few_turns few_outputs
+    (ends_by c at.local.process count turns (length given) outs q.status (ap (λ (x : CodeProcess). x.status) at.process) spent)
 
 pub ran_full : (c : StepCode) (p turns outs count : ℕ) (q : CodeProcess) (steps : List Shared) (given : List ℕ) → IsAt c p count q steps given
     → count < turns → length given ≤ outs → outs ≤ length given → gives_out q.status (slice_get c.instructions q.place) ≡ true
     → RanSo c p turns outs steps given E.OutputsFull
-ran_full c p turns outs count q steps given at more few full out = record {
-  count = count;
-  local = at.local;
-  is_local = at.is_local;
-  own = at.own;
-  gave = at.gave;
-  turns_kept = omega (arith, more);
-  outputs_kept = few;
-  ends_as = (more, omega (arith, few, full), ap (λ (x : CodeProcess). gives_out x.status (slice_get c.instructions x.place)) at.process ∙ out);
-}
+ran_full c p turns outs count q steps given at more few full out =
+    ran c p turns outs count q steps given E.OutputsFull at (omega (arith, more)) few
+    (more, omega (arith, few, full), ap (λ (x : CodeProcess). gives_out x.status (slice_get c.instructions x.place)) at.process ∙ out)

@@ -1,13 +1,13 @@
 -- The two maps item by item, as the code makes them: `down_more` and `up_more`, with `all_done` at the end.
 --
 -- Both loops keep the same invariant: what was made so far, with what the map makes of the rest, is the
--- whole. One item more unrolls the definition once. For `up` an inner loop makes the steps of one item:
--- `lead_more` is for a step that ends none of the program, `lead_end` for the one that does.
+-- whole. One item more unrolls the definition once (`next_item`); at the end the whole is made (`made`). For `up` an inner loop makes the steps of one item:
+-- `leads_on` says where each of them leads, one that ends none of the program (`goes_on`) and the one that does.
 -- The difficulty is that this inner loop has to come to such a step within the length of the code. It does
 -- where all processes stand between two steps of the program (`running_commits`). After each item they stand
 -- so again (`item_rests`).
 -- What holds of each item of a schedule holds of each that the maps make (`down_lawful`, `up_lawful`).
--- Read `down_more` first, then `lead_more`.
+-- Read `down_more` first, then `leads_on`.
 use Rattle.std.proofs.Common.{◌≡◌, ℕ, suc, ◌+◌, ◌-◌, ◌<◌, ◌≤◌, Bool, true, false, if◌then◌else◌, List, [], ◌∷◌, ◌++◌, All, length, drop, replicate, get_or, refl, ap, sym, ◌∙◌, subst, arith, append_assoc, Option, Some, None}
 use Rattle.std.specs.Prelude.{slice_get}
 use Rattle.std.proofs.Math.Seq.{drop-cons, drop-length}
@@ -17,13 +17,18 @@ use Rattle.std.proofs.lemmas.Option.{same_Some, none-some}
 use Rattle.base.specs.declared.status.Status.{Status}
 use Rattle.base.specs.declared.status.Status.TheVariants.{Running}
 use Rattle.code_core.specs.declared.instr.Instr.{Instr}
+use Rattle.code_core.specs.Instructions.{StepCode}
+use Rattle.base.specs.Plain.{WholeProgram}
 use Rattle.tick_source.specs.Source.{SourceState, source_step}
+use Rattle.tick_lower.specs.Lowered.{lowered, lowered_sizes}
 use Rattle.code_machine.specs.Machine as C
 use Rattle.code_machine.specs.Machine.{CodeState}
-use Rattle.tick_sim.specs.Maps.{is_commit, one_more, steps_to_commit, repeated, steps_of, down_from, up_from}
+use Rattle.tick_sim.specs.Maps.{is_commit, one_more, steps_to_commit, repeated, steps_of, down_from, down, up_from, up}
+use Rattle.tick_sim.specs.Laws.{seen, seen_of_code}
 use Rattle.tick_sim.proofs.Pairs.{first_at}
 use Rattle.tick_sim.proofs.States.{AllBetween}
-use Rattle.tick_sim.proofs.Up.{steps_by, never_commits, EndsWithin, running_ends, between_status, moves, stays, turn}
+use Rattle.tick_sim.proofs.Up.{steps_by, never_commits, EndsWithin, running_ends, between_status, moves, stays, turn, up_law}
+use Rattle.tick_sim.proofs.Down.{down_law}
 use Rattle.tick_sim.proofs.Reached.{told_part, ends_stopped}
 
 -- where the whole schedule is done nothing more is added
@@ -34,6 +39,54 @@ all_done f none i schedule steps last past within is =
     let done : length schedule ≡ i = omega arith in
     sym (append-nil steps) ∙ ap (λ t. steps ++ t) (sym none)
     ∙ ap (λ t. steps ++ f t) (sym (drop-length schedule) ∙ ap (λ j. drop j schedule) done) ∙ is
+
+-- What a map makes of the rest of a schedule, once one item more is done: what was made of that item comes
+-- before what the map makes of those behind it.
+next_item : (f : List ℕ → CodeState → List ℕ) (i : ℕ) (schedule steps steps' : List ℕ) (d d' after : CodeState) (last : List ℕ)
+    → i < length schedule → d' ≡ after
+    → steps' ++ f (drop (suc i) schedule) after ≡ steps ++ f (get_or schedule i 0 ∷ drop (suc i) schedule) d
+    → steps ++ f (drop i schedule) d ≡ last → steps' ++ f (drop (i + 1) schedule) d' ≡ last
+next_item f i schedule steps steps' d d' after last inside step item whole =
+    let next : i + 1 ≡ suc i = omega arith in
+    ap (λ j. steps' ++ f (drop j schedule) d') next
+    ∙ ap (λ d. steps' ++ f (drop (suc i) schedule) d) step
+    ∙ item
+    ∙ ap (λ t. steps ++ f t d) (sym (drop-cons schedule i 0 inside))
+    ∙ whole
+
+-- the code of a program, with its sizes
+abbrev pub low_code : WholeProgram ℕ → StepCode
+low_code a = record { sizes = lowered_sizes a; instructions = lowered a }
+
+-- what a map made of a whole schedule
+pub record IsMade {X : Type 0} (processes : ℕ) (whole steps : List ℕ) (show : List ℕ → X) (shown : X) : Type 0 where
+  pub is : steps ≡ whole
+  pub shows : show steps ≡ shown
+  pub lawful : All (λ p. p < processes) steps
+
+-- A map, by what it makes of a schedule where the code goes on from a state; and what a program and its code
+-- show under what it makes.
+module _ (from : ℕ → List Instr → List ℕ → CodeState → List ℕ) (none : (n : ℕ) (code : List Instr) (d : CodeState) → from n code [] d ≡ [])
+    (keeps : (n : ℕ) (code : List Instr) (processes : ℕ) (schedule : List ℕ) (d : CodeState) → All (λ p. p < processes) schedule
+    → All (λ p. p < processes) (from n code schedule d)) where
+  abbrev answer : StepCode → List ℕ → List ℕ
+  answer code schedule = from code.sizes.processes code.instructions schedule (C.code_start code.sizes)
+
+  pub made : {X : Type 0} (show : List ℕ → X) (shown : X) (low code : StepCode) (schedule : List ℕ) → show (answer low schedule) ≡ shown → code ≡ low
+      → (processes : ℕ) → All (λ p. p < processes) schedule
+      → (i : ℕ) (steps : List ℕ) (d : CodeState) → length schedule ≤ i → i ≤ length schedule
+      → steps ++ from code.sizes.processes code.instructions (drop i schedule) d ≡ answer code schedule
+      → IsMade processes (answer code schedule) steps show shown
+  made show shown low code schedule law same processes lawful i steps d past within so_far =
+      let is =
+      all_done (λ t. from code.sizes.processes code.instructions t d) (none code.sizes.processes code.instructions d) i schedule steps
+      (answer code schedule) past within so_far in
+      record {
+        is = is;
+        shows = ap show (is ∙ ap (λ c. answer c schedule) same) ∙ law;
+        lawful = subst (All (λ p. p < processes)) (sym is)
+            (keeps code.sizes.processes code.instructions processes schedule (C.code_start code.sizes) lawful);
+      }
 
 module _ (n : ℕ) (code : List Instr) where
   -- what is kept of a lawful schedule is lawful
@@ -57,14 +110,8 @@ module _ (n : ℕ) (code : List Instr) where
   down_more i schedule steps steps' d d' ends last inside told step grown whole =
       let p : ℕ = get_or schedule i 0 in
       let later : List ℕ = down_from n code (drop (suc i) schedule) (C.code_step n code p d) in
-      let next : i + 1 ≡ suc i = omega arith in
-      ap (λ j. steps' ++ down_from n code (drop j schedule) d') next
-      ∙ ap (λ d. steps' ++ down_from n code (drop (suc i) schedule) d) step
-      ∙ ap (λ s. s ++ later) grown
-      ∙ by p later ends
-      ∙ ap (λ b. steps ++ (if b then p ∷ later else later)) told
-      ∙ ap (λ t. steps ++ down_from n code t d) (sym (drop-cons schedule i 0 inside))
-      ∙ whole
+      next_item (down_from n code) i schedule steps steps' d d' (C.code_step n code p d) last inside step
+      (ap (λ s. s ++ later) grown ∙ by p later ends ∙ ap (λ b. steps ++ (if b then p ∷ later else later)) told) whole
     where
       by : (p : ℕ) (later : List ℕ) (b : Bool) → (if b then steps ++ p ∷ [] else steps) ++ later ≡ steps ++ (if b then p ∷ later else later)
       by p later true = append_assoc steps (p ∷ []) later
@@ -76,16 +123,10 @@ module _ (n : ℕ) (code : List Instr) where
       → steps' ≡ steps ++ steps_of n code (get_or schedule i 0) d
       → steps ++ up_from n code (drop i schedule) d ≡ last → steps' ++ up_from n code (drop (i + 1) schedule) d' ≡ last
   up_more i schedule steps steps' d d' last inside run grown whole =
-      let p : ℕ = get_or schedule i 0 in
-      let more : List ℕ = steps_of n code p d in
+      let more : List ℕ = steps_of n code (get_or schedule i 0) d in
       let later : List ℕ = up_from n code (drop (suc i) schedule) (C.code_run n code more d) in
-      let next : i + 1 ≡ suc i = omega arith in
-      ap (λ j. steps' ++ up_from n code (drop j schedule) d') next
-      ∙ ap (λ d. steps' ++ up_from n code (drop (suc i) schedule) d) run
-      ∙ ap (λ s. s ++ later) grown
-      ∙ append_assoc steps more later
-      ∙ ap (λ t. steps ++ up_from n code t d) (sym (drop-cons schedule i 0 inside))
-      ∙ whole
+      next_item (up_from n code) i schedule steps steps' d d' (C.code_run n code more d) last inside run
+      (ap (λ s. s ++ later) grown ∙ append_assoc steps more later) whole
 
   repeated_lawful : (P : ℕ → Type 0) (p : ℕ) (o : Option ℕ) → P p → All P (repeated p o)
   repeated_lawful P p None lawful = All-nil P
@@ -149,35 +190,47 @@ module _ (n : ℕ) (code : List Instr) where
       → steps_to_commit n code p (suc fuel) d ≡ Some k → k ≡ 1
   left_at p fuel k d ends is = sym (same_Some 1 k (sym (steps_by n code p fuel d true ends) ∙ is))
 
-  -- a step that ends none leaves one less
-  pub lead_more : (p k counter : ℕ) (steps steps' whole : List ℕ) (d d' last : CodeState) → counter < length code
-      → is_commit n code p d ≡ false → d' ≡ C.code_step n code p d
-      → steps' ≡ steps ++ p ∷ [] → steps_to_commit n code p (length code - counter) d ≡ Some k
-      → steps ++ replicate k p ≡ whole → C.code_run n code (replicate k p) d ≡ last
-      → (j : ℕ) × (steps_to_commit n code p (length code - (counter + 1)) d' ≡ Some j)
-      × (steps' ++ replicate j p ≡ whole) × (C.code_run n code (replicate j p) d' ≡ last)
-  lead_more p k counter steps steps' whole d d' last inside quiet step grown is all run =
-      let fuel : ℕ = length code - (counter + 1) in
-      let same : length code - counter ≡ suc fuel = omega arith in
-      let less = left_after p fuel k d quiet (ap (λ f. steps_to_commit n code p f d) (sym same) ∙ is) in
-      let j : ℕ = less.0 in (
-        j,
-        ap (steps_to_commit n code p fuel) step ∙ less.1,
-        ap (λ s. s ++ replicate j p) grown ∙ append_assoc steps (p ∷ []) (replicate j p)
-            ∙ ap (λ k. steps ++ replicate k p) (sym less.2) ∙ all,
-        ap (C.code_run n code (replicate j p)) step ∙ ap (λ k. C.code_run n code (replicate k p) d) (sym less.2) ∙ run,
-      )
+  -- A step of the inner loop, where so many steps were left until one that ends a step of the program: one that
+  -- ends none leaves one less, and the one that ends one is the last.
+  pub record LeadsOn (p counter : ℕ) (steps whole : List ℕ) (d d' last : CodeState) : Type 0 where
+    pub goes_on : is_commit n code p d ≡ false → (j : ℕ) × (steps_to_commit n code p (length code - (counter + 1)) d' ≡ Some j)
+        × (steps ++ replicate j p ≡ whole) × (C.code_run n code (replicate j p) d' ≡ last)
+    pub is_last : is_commit n code p d ≡ true → (steps ≡ whole) × (d' ≡ last)
 
-  -- and the one that ends one is the last
-  pub lead_end : (p k counter : ℕ) (steps steps' whole : List ℕ) (d d' last : CodeState) → counter < length code
-      → is_commit n code p d ≡ true → d' ≡ C.code_step n code p d
-      → steps' ≡ steps ++ p ∷ [] → steps_to_commit n code p (length code - counter) d ≡ Some k
-      → steps ++ replicate k p ≡ whole → C.code_run n code (replicate k p) d ≡ last
-      → (steps' ≡ whole) × (d' ≡ last)
-  lead_end p k counter steps steps' whole d d' last inside ends step grown is all run =
+  pub leads_on : (p k counter : ℕ) (steps steps' whole : List ℕ) (d d' last : CodeState) → counter < length code
+      → d' ≡ C.code_step n code p d → steps' ≡ steps ++ p ∷ [] → steps_to_commit n code p (length code - counter) d ≡ Some k
+      → steps ++ replicate k p ≡ whole → C.code_run n code (replicate k p) d ≡ last → LeadsOn p counter steps' whole d d' last
+  leads_on p k counter steps steps' whole d d' last inside step grown is all run =
       let fuel : ℕ = length code - (counter + 1) in
       let same : length code - counter ≡ suc fuel = omega arith in
-      let one : k ≡ 1 = left_at p fuel k d ends (ap (λ f. steps_to_commit n code p f d) (sym same) ∙ is) in (
-        grown ∙ ap (λ k. steps ++ replicate k p) (sym one) ∙ all,
-        step ∙ ap (λ k. C.code_run n code (replicate k p) d) (sym one) ∙ run,
-      )
+      let left : steps_to_commit n code p (suc fuel) d ≡ Some k = ap (λ f. steps_to_commit n code p f d) (sym same) ∙ is in
+      record {
+        goes_on = λ quiet.
+            let less = left_after p fuel k d quiet left in
+            let j : ℕ = less.0 in (
+              j,
+              ap (steps_to_commit n code p fuel) step ∙ less.1,
+              ap (λ s. s ++ replicate j p) grown ∙ append_assoc steps (p ∷ []) (replicate j p)
+                  ∙ ap (λ k. steps ++ replicate k p) (sym less.2) ∙ all,
+              ap (C.code_run n code (replicate j p)) step ∙ ap (λ k. C.code_run n code (replicate k p) d) (sym less.2) ∙ run,
+            );
+        is_last = λ ends.
+            let one : k ≡ 1 = left_at p fuel k d ends left in (
+              grown ∙ ap (λ k. steps ++ replicate k p) (sym one) ∙ all,
+              step ∙ ap (λ k. C.code_run n code (replicate k p) d) (sym one) ∙ run,
+            );
+      }
+
+-- what `expand` made of a whole schedule
+pub expanded : (a : WholeProgram ℕ) (code : StepCode) (schedule steps : List ℕ) (d : CodeState) (i : ℕ) → code ≡ low_code a → All (λ p. p < a.processes) schedule
+    → length schedule ≤ i → i ≤ length schedule → steps ++ up_from code.sizes.processes code.instructions (drop i schedule) d ≡ up code.sizes code.instructions schedule
+    → IsMade a.processes (up code.sizes code.instructions schedule) steps (seen_of_code a) (seen a schedule)
+expanded a code schedule steps d i same lawful =
+    made up_from (λ n code d. refl) (λ n code processes. up_lawful n code (λ p. p < processes)) (seen_of_code a) (seen a schedule) (low_code a) code schedule (sym (up_law a schedule)) same a.processes lawful i steps d
+
+-- and what `project` made
+pub projected : (a : WholeProgram ℕ) (code : StepCode) (schedule steps : List ℕ) (d : CodeState) (i : ℕ) → code ≡ low_code a → All (λ p. p < a.processes) schedule
+    → length schedule ≤ i → i ≤ length schedule → steps ++ down_from code.sizes.processes code.instructions (drop i schedule) d ≡ down code.sizes code.instructions schedule
+    → IsMade a.processes (down code.sizes code.instructions schedule) steps (seen a) (seen_of_code a schedule)
+projected a code schedule steps d i same lawful =
+    made down_from (λ n code d. refl) (λ n code processes. down_lawful n code (λ p. p < processes)) (seen a) (seen_of_code a schedule) (low_code a) code schedule (sym (down_law a schedule)) same a.processes lawful i steps d

@@ -46,6 +46,7 @@ use Rattle.word_core.specs.Agreement.{Agrees}
 use Rattle.word_core.proofs.Offered.{agreement_law}
 use Rattle.base.specs.Plain.{Expression, Statement, assign, get, put, stamp, clear, scan, copy, older, held, out, branch, repeat, Block, nil, cons, onto}
 use Rattle.tick_source.specs.Source as S
+use Rattle.tick_source.specs.Values.{value}
 use Rattle.code_machine.specs.Machine as C
 use Rattle.code_machine.specs.Machine.{CodeProcess, CodeStep, alone, asks}
 use Rattle.code_machine.specs.declared.ask.Ask.TheVariants as Q
@@ -98,6 +99,19 @@ module _ (n : ℕ) (code : List Instr) (p : ℕ) (q : CodeProcess) (scans : List
       (λ v tickets labels rows agrees.
       record { ends = refl; agrees = agrees; same_rows = refl; same_act = refl; between = goes_on agreed after })
 
+  -- A statement that is an expression and one instruction on the process that the expression tells.
+  index_leads : (s : Statement ℕ) (e : Expression ℕ) (i : Instr) (does : ℕ → List ℕ → List (List ℕ) → S.SourceStep) (k : ℕ) (rest : Block ℕ)
+      → HasAt code k (expression_code e ++ i ∷ [])
+      → ((tickets : List ℕ) (rows : List (List ℕ)) → S.did n p tickets rows q.variables scans (cons s rest)
+      ≡ S.with_value n p tickets rows q.variables scans rest (value n p q.variables e) (λ j. S.with_index n p tickets rows q.variables scans rest j (does j tickets rows)))
+      → ((j : ℕ) (tickets : List ℕ) (labels : Labels) (rows : List (List ℕ)) → Agrees n tickets labels
+      → SameStep labels rows (S.with_index n p tickets rows q.variables scans rest j (does j tickets rows))
+      (C.does (at q (k + expression_length e) (j ∷ [])) n p i) (Some i))
+      → Leads (cons s rest) (expression_length e + 1) k []
+  index_leads s e i does k rest has =
+      last_value n code p q scans (cons s rest) rest e i [] k []
+      (λ tickets rows j. S.with_index n p tickets rows q.variables scans rest j (does j tickets rows)) has
+
   abbrev source_gets : ℕ → ℕ → ℕ → Block ℕ → List ℕ → List (List ℕ) → S.SourceStep
   source_gets x r i rest tickets rows =
       let v = register_at rows r i in
@@ -119,12 +133,8 @@ module _ (n : ℕ) (code : List Instr) (p : ℕ) (q : CodeProcess) (scans : List
   get_leads : (x r : ℕ) (e : Expression ℕ) → StatementLeads (get x r e)
   get_leads x r e k rest m has few stands =
       let last : ℕ = k + expression_length e in
-      last_value n code p q scans (cons (get x r e) rest) rest e (I.Get r x) [] k []
-      (λ tickets rows i. S.with_index n p tickets rows q.variables scans rest i (source_gets x r i rest tickets rows))
-      has (λ tickets rows. refl)
-      (λ i tickets labels rows agrees.
-      get_same x r i last rest tickets labels rows agrees (stands_from _ (last + 1) m rest (omega arith) stands)
-      (nat_lt i n))
+      index_leads (get x r e) e (I.Get r x) (λ i. source_gets x r i rest) k rest has (λ tickets rows. refl)
+      (λ i tickets labels rows agrees. get_same x r i last rest tickets labels rows agrees (stands_from _ (last + 1) m rest (omega arith) stands) (nat_lt i n))
 
   put_leads : (r : ℕ) (e : Expression ℕ) → StatementLeads (put r e)
   put_leads r e k rest m has few stands =
@@ -261,12 +271,8 @@ module _ (n : ℕ) (code : List Instr) (p : ℕ) (q : CodeProcess) (scans : List
   held_leads : (x s : ℕ) (e : Expression ℕ) → StatementLeads (held x s e)
   held_leads x s e k rest m has few stands =
       let last : ℕ = k + expression_length e in
-      last_value n code p q scans (cons (held x s e) rest) rest e (I.Held s x) [] k []
-      (λ tickets rows i. S.with_index n p tickets rows q.variables scans rest i (source_holds x s i rest tickets rows))
-      has (λ tickets rows. refl)
-      (λ i tickets labels rows agrees.
-      held_same x s i last rest tickets labels rows agrees (stands_from _ (last + 1) m rest (omega arith) stands)
-      (nat_lt i n) refl)
+      index_leads (held x s e) e (I.Held s x) (λ i. source_holds x s i rest) k rest has (λ tickets rows. refl)
+      (λ i tickets labels rows agrees. held_same x s i last rest tickets labels rows agrees (stands_from _ (last + 1) m rest (omega arith) stands) (nat_lt i n) refl)
 
   -- one of two blocks
   test_same : (v k l : ℕ) (a b : Block ℕ) (tickets : List ℕ) (labels : Labels) (rows : List (List ℕ))

@@ -70,7 +70,7 @@ impl Tickets {
         requires room { greatest_ticket self.old + 1 < 2 ^ 64 }
         ensures { self.new ≡ stamp_ticket p self.old }
     {
-        let next = greatest_of(self.all()) + 1;
+        let next = self.greatest() + 1;
         self.tickets[p as usize] = next;
     }
 
@@ -116,6 +116,17 @@ impl Tickets {
         tickets[i as usize] < tickets[j as usize]
     }
 
+    fn greatest(&self) -> u64
+        ensures { result ≡ greatest_ticket self.now }
+    {
+        let tickets = self.all();
+        let mut greatest = 0;
+        for &ticket in tickets {
+            greatest = ticket.max(greatest);
+        }
+        greatest
+    }
+
     // The tickets of the processes that there are.
     fn all(&self) -> &[u64]
         ensures all { result.now ≡ self.now }
@@ -123,16 +134,6 @@ impl Tickets {
     {
         &self.tickets[..self.count as usize]
     }
-}
-
-fn greatest_of(tickets: &[u64]) -> u64
-    ensures { result ≡ greatest_ticket tickets.now }
-{
-    let mut greatest = 0;
-    for &ticket in tickets {
-        greatest = ticket.max(greatest);
-    }
-    greatest
 }
 
 fn count_below(tickets: &[u64], ticket: u64) -> u8

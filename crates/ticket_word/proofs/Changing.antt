@@ -35,6 +35,12 @@ made_stands n bits next move tickets made s =
       agrees = agrees;
     }
 
+-- so does the word of what it makes of the labels
+pub word_stands : (n bits next : ℕ) (move : Move) (labels : Labels) → IsWordOf n bits labels → next ≡ word (moved move labels)
+    → (tickets : List ℕ) → Stands n bits tickets → Stands n next (moved_ticket move tickets)
+word_stands n bits next move labels is makes tickets s =
+    made_stands n bits next move tickets (record { labels = labels; is = is; makes = sym makes }) s
+
 from_stands : (n bits last : ℕ) (moves : List Move) (tickets : List ℕ) → Stands n bits tickets → LeadsTo n bits moves last → Stands n last (tickets_moved tickets moves)
 from_stands n bits last [] tickets s leads = subst (λ w. Stands n w tickets) leads s
 from_stands n bits last (move ∷ moves) tickets s leads =

@@ -1,5 +1,5 @@
 -- Counts of what passes a test, and the item with the greatest number.
-use Rattle.std.proofs.Common.{◌≡◌, ℕ, suc, zero, ◌+◌, ◌<◌, ◌≤◌, Bool, true, false, cond, List, [], ◌∷◌, length, get_or, map, refl, sym, ◌∙◌, arith, ⊎_elim}
+use Rattle.std.proofs.Common.{◌≡◌, ℕ, suc, zero, ◌+◌, ◌<◌, ◌≤◌, Bool, true, false, cond, List, [], ◌∷◌, length, get_or, map, refl, ap, sym, ◌∙◌, arith, ⊎_elim}
 use Rattle.std.specs.Prelude.{count_by, Contains}
 use Rattle.std.specs.List.{AllByRecursion}
 use Rattle.std.proofs.lemmas.Bool.{cases_lt}
@@ -56,20 +56,8 @@ most_of f x (y ∷ ys) =
     })
     (cases_lt (f x) (f rest.item))
 
--- two lists of one length whose items pass two tests at the same places count the same
-pub count_same : {X Y : Type 0} (f : X → Bool) (g : Y → Bool) (xs : List X) (ys : List Y) (d : X) (e : Y) → length xs ≡ length ys
-    → ((k : ℕ) → k < length xs → f (get_or xs k d) ≡ g (get_or ys k e)) → count_by f xs ≡ count_by g ys
-count_same f g [] [] d e len same = refl
-count_same f g [] (y ∷ ys) d e len same = let bad : 0 ≡ suc (length ys) = len in absurd (omega arith)
-count_same f g (x ∷ xs) [] d e len same = let bad : suc (length xs) ≡ 0 = len in absurd (omega arith)
-count_same f g (x ∷ xs) (y ∷ ys) d e len same =
-    let len' : suc (length xs) ≡ suc (length ys) = len in
-    let here : f x ≡ g y = same 0 (omega arith) in
-    let rest : count_by f xs ≡ count_by g ys = count_same f g xs ys d e (omega arith) (λ k in_k. same (suc k) (omega arith)) in
-    sum_by-cons (λ z. cond (f z) 1 0) x xs ∙ rw (here, rest) (sym (sum_by-cons (λ z. cond (g z) 1 0) y ys))
-
--- and give the same list where what is made of the items at the same places is the same
-pub map_same : {X Y : Type 0} (f : X → ℕ) (g : Y → ℕ) (xs : List X) (ys : List Y) (d : X) (e : Y) → length xs ≡ length ys
+-- two lists of one length give the same list where what is made of the items at the same places is the same
+pub map_same : {X Y Z : Type 0} (f : X → Z) (g : Y → Z) (xs : List X) (ys : List Y) (d : X) (e : Y) → length xs ≡ length ys
     → ((k : ℕ) → k < length xs → f (get_or xs k d) ≡ g (get_or ys k e)) → map f xs ≡ map g ys
 map_same f g [] [] d e len same = refl
 map_same f g [] (y ∷ ys) d e len same = let bad : 0 ≡ suc (length ys) = len in absurd (omega arith)
@@ -79,3 +67,13 @@ map_same f g (x ∷ xs) (y ∷ ys) d e len same =
     let here : f x ≡ g y = same 0 (omega arith) in
     let rest : map f xs ≡ map g ys = map_same f g xs ys d e (omega arith) (λ k in_k. same (suc k) (omega arith)) in
     cc
+
+count-map : {X : Type 0} (p : X → Bool) (xs : List X) → count_by p xs ≡ count_by (λ b. b) (map p xs)
+count-map p [] = refl
+count-map p (x ∷ xs) = count-cons p x xs ∙ ap (λ n. cond (p x) 1 0 + n) (count-map p xs) ∙ sym (count-cons (λ b. b) (p x) (map p xs))
+
+-- and count the same where they pass two tests at the same places
+pub count_same : {X Y : Type 0} (f : X → Bool) (g : Y → Bool) (xs : List X) (ys : List Y) (d : X) (e : Y) → length xs ≡ length ys
+    → ((k : ℕ) → k < length xs → f (get_or xs k d) ≡ g (get_or ys k e)) → count_by f xs ≡ count_by g ys
+count_same f g xs ys d e len same =
+    count-map f xs ∙ ap (count_by (λ b. b)) (map_same f g xs ys d e len same) ∙ sym (count-map g ys)

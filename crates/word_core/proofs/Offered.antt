@@ -8,18 +8,9 @@ use Rattle.ticket_core.specs.declared.moves.Move.TheVariants.{Stamp, Clear}
 use Rattle.word_core.specs.Stamps.{Labels, start_labels, label_at, present, stamped, cleared, moved, labels_moved}
 use Rattle.word_core.specs.Packed.{AreLabels}
 use Rattle.word_core.specs.Order.{IsOrdered, labels_below, label_ranks}
-use Rattle.word_core.specs.Laws.{AgreementLaw, MovesLaw, DistinctLaw}
-use Rattle.word_core.proofs.Stamping
-use Rattle.word_core.proofs.Views
-
-pub agreement_law : AgreementLaw
-agreement_law = Stamping.agreement_law
-
-pub moves_law : MovesLaw
-moves_law = Stamping.moves_law
-
-pub distinct_law : DistinctLaw
-distinct_law = Views.distinct_law
+use Rattle.word_core.proofs.Stamping.{cleared_in_order}
+pub use Rattle.word_core.proofs.Stamping.{agreement_law, moves_law, stamped_are, stamped_ordered, cleared_are}
+pub use Rattle.word_core.proofs.Views.{distinct_law}
 
 pub length-start_labels : (n : ℕ) → length (start_labels n) ≡ n
 length-start_labels n = length-replicate n None
@@ -48,18 +39,9 @@ start_are n = (moves_law n []).are
 pub start_ordered : (n : ℕ) → IsOrdered (start_labels n)
 start_ordered n = (moves_law n []).ordered
 
--- a stamp and a clear keep them so
-pub stamped_are : (n p : ℕ) (labels : Labels) → AreLabels n labels → IsOrdered labels → p < length labels → AreLabels n (stamped p labels)
-stamped_are = Stamping.stamped_are
-
-pub stamped_ordered : (n p : ℕ) (labels : Labels) → AreLabels n labels → IsOrdered labels → p < length labels → IsOrdered (stamped p labels)
-stamped_ordered = Stamping.stamped_ordered
-
-pub cleared_are : (n p : ℕ) (labels : Labels) → AreLabels n labels → AreLabels n (cleared p labels)
-cleared_are = Stamping.cleared_are
-
+-- a stamp and a clear keep them so: `stamped_are`, `stamped_ordered`, `cleared_are`, and
 pub cleared_ordered : (p : ℕ) (labels : Labels) → IsOrdered labels → IsOrdered (cleared p labels)
-cleared_ordered = Stamping.cleared_in_order
+cleared_ordered = cleared_in_order
 
 -- the process that stamped has the next label, and no other label changed
 pub stamped_same : (p : ℕ) (labels : Labels) → p < length labels → label_at (stamped p labels) p ≡ Some (next (length labels) (present (cleared p labels)))

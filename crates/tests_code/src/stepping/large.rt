@@ -3,7 +3,7 @@ ghost use Rattle.code_machine.specs.Process.{IsOf};
 
 use crate::codes::code_of;
 use crate::stepping::answers::process_of;
-use crate::stepping::turns::{Run, Turn, comes_along};
+use crate::stepping::turns::{MadeTurn, Run, comes_along};
 use code_machine::{Act, Advance, Code, Event, Instr, Op, Proc, Status};
 use std::alloc::{AllocError, Global};
 use std::test::Fail;
@@ -37,7 +37,7 @@ fn adding(alloc: Global) -> Result<Vec<Instr>, AllocError> {
 
 static ENDS: Run<'static> = Run {
     numbers: (1, 0, 0, 0),
-    turns: &[(0, Turn::Steps(65535), (2, 65534, Status::Ended))],
+    turns: &[(0, MadeTurn::Steps(65535), (2, 65534, Status::Ended))],
     events: &DID,
     word: 0,
 };

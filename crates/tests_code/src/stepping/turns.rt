@@ -8,11 +8,13 @@ use std::alloc::Global;
 use std::test::Fail;
 use tests_shared::is_same;
 
-/// A turn of a process: so many steps, or one that tells what it made.
+/// A turn of a process: so many steps; one that makes this instruction, and tells whether others see it; or
+/// one of a process that has stopped.
 #[derive(Drop)]
-pub enum Turn {
+pub enum MadeTurn {
     Steps(u32),
-    Makes(Option<Made>),
+    Makes(Instr, bool),
+    Stopped,
 }
 
 /// How many events there are, at which place a process is, and its status.
@@ -22,18 +24,22 @@ pub type Seen = (usize, u16, Status);
 #[derive(Drop)]
 pub struct Run<'a> {
     pub numbers: Numbers,
-    pub turns: &'a [(u8, Turn, Seen)],
+    pub turns: &'a [(u8, MadeTurn, Seen)],
     pub events: &'a [Event],
     pub word: u64,
 }
 
-fn takes(machine: &mut CodeMachine<'_>, p: u8, turn: &Turn) -> Result<Seen, Fail>
+fn takes(machine: &mut CodeMachine<'_>, p: u8, turn: &MadeTurn) -> Result<Seen, Fail>
     requires { p < length machine.old.state.processes }
     ensures { length machine.new.state.processes ≡ length machine.old.state.processes }
 {
     match turn {
-        Turn::Steps(count) => step_often(machine, p, *count)?,
-        Turn::Makes(made) => is_same(&make_step(machine, p)?, made)?,
+        MadeTurn::Steps(count) => step_often(machine, p, *count)?,
+        MadeTurn::Makes(instruction, told) => {
+            let (instruction, told) = (*instruction, *told);
+            is_same(&make_step(machine, p)?, &Some(Made { instruction, told }))?;
+        }
+        MadeTurn::Stopped => is_same(&make_step(machine, p)?, &None)?,
     }
     Ok((machine.events().len(), machine.place(p), machine.status(p)))
 }

@@ -1,36 +1,12 @@
 ghost use Rattle.std.specs.Prelude.{◌≡◌, ◌≤◌, ◌<◌, ℕ, All, IfOk, IfSome, IsTrue};
 ghost use Rattle.stamp_table.specs.Passes.{Holds};
 
-use crate::calls::working::{Worked, rounds, stamps, tries};
+use crate::calls::working::{ThreadWork, Work, works};
 use stamp_table::{OpenFault, Pass, StampTable, open};
 use std::alloc::{AllocError, Global};
 use std::sync::Wait;
 use std::thread::Threads;
 use tests_shared::on_threads;
-
-/// What a process does, over and over.
-#[derive(Clone, Copy)]
-pub enum Work {
-    /// It stamps.
-    Stamps,
-    /// It tries to stamp.
-    Tries,
-    /// It scans, tries to stamp, and scans.
-    Rounds,
-}
-
-fn works<R: Wait>(rt: &R, table: &StampTable, pass: Pass, p: u8, work: Work, count: u32) -> Worked
-    requires here { pass.table ≡ table.now }
-    requires held { Holds pass.held p }
-    requires row { 0 < table.now.rows }
-    ensures { result.pass.table ≡ table.now }
-{
-    match work {
-        Work::Stamps => stamps(rt, table, pass, p, count),
-        Work::Tries => tries(table, pass, p, count),
-        Work::Rounds => rounds(table, pass, p, count),
-    }
-}
 
 /// A table of `n` processes with a row of registers, and what each process came to that did this work
 /// on a thread of its own.
@@ -40,7 +16,7 @@ pub fn all_work<R: Threads + Wait + Sync>(
     n: u8,
     work: Work,
     count: u32,
-) -> Result<(StampTable, Vec<Worked>), OpenFault>
+) -> Result<(StampTable, Vec<ThreadWork>), OpenFault>
     requires at_least_one { 1 ≤ n }
     requires at_most_six { n ≤ 6 }
     ensures layout { IfOk result (λ done. (done.0.n ≡ n) × (done.0.rows ≡ 1)) }
@@ -48,7 +24,7 @@ pub fn all_work<R: Threads + Wait + Sync>(
 {
     let (table, all) = open(alloc, n, 1)?;
     let shared = &table;
-    let one = |pass: Pass, p: u8| -> Worked
+    let one = |pass: Pass, p: u8| -> ThreadWork
         requires { (pass.table ≡ shared.now) × Holds pass.held p × (0 < shared.now.rows) }
         ensures { result.pass.table ≡ shared.entry.now }
     { works(rt, shared, pass, p, work, count) };
@@ -60,7 +36,7 @@ pub fn all_work<R: Threads + Wait + Sync>(
 pub fn meet_in_pairs(
     alloc: Global,
     table: &StampTable,
-    mut done: Vec<Worked>,
+    mut done: Vec<ThreadWork>,
 ) -> Result<Option<Pass>, AllocError>
     requires { All (λ worked. worked.pass.table ≡ table.now) done.items }
     ensures { IfOk result (λ met. IfSome met (λ pass. pass.table ≡ table.now)) }
@@ -72,7 +48,7 @@ pub fn meet_in_pairs(
     Ok(table.meet_all(pairs))
 }
 
-fn pair(table: &StampTable, first: Option<Worked>, second: Worked) -> Pass
+fn pair(table: &StampTable, first: Option<ThreadWork>, second: ThreadWork) -> Pass
     requires first { IfSome first (λ worked. worked.pass.table ≡ table.now) }
     requires second { second.pass.table ≡ table.now }
     ensures { result.table ≡ table.now }

@@ -1,8 +1,8 @@
 //! Threads on one table, one for each process.
 ghost use Rattle.std.specs.Prelude.{◌≡◌, ◌≤◌, ◌<◌, All, IfOk, length};
 
-use crate::calls::threads::{Work, all_work, holds_all, meet_in_pairs};
-use crate::calls::working::Worked;
+use crate::calls::threads::{all_work, holds_all, meet_in_pairs};
+use crate::calls::working::{ThreadWork, Work};
 use stamp_calls::{Caller, scan};
 use stamp_table::{Final, Pass, StampTable};
 use std::alloc::Global;
@@ -13,7 +13,7 @@ use tests_shared::{holds, is_same};
 
 // How often each process won. After each stamp nobody else held a newer ticket. Each try that is lost is lost
 // to another process, so none has lost more than the others won.
-fn wins(done: &[Worked], n: u8, count: u32) -> Result<[u32; 6], Fail> {
+fn wins(done: &[ThreadWork], n: u8, count: u32) -> Result<[u32; 6], Fail> {
     let mut wins = [0; 6];
     let mut all = 0u32;
     let mut is_so = done.len() == n as usize;
@@ -45,7 +45,7 @@ fn ends(table: StampTable, pass: Pass, n: u8) -> Result<Final, Fail>
 }
 
 // All meet, and the table is closed.
-fn closed(alloc: Global, table: StampTable, done: Vec<Worked>, n: u8) -> Result<Final, Fail>
+fn closed(alloc: Global, table: StampTable, done: Vec<ThreadWork>, n: u8) -> Result<Final, Fail>
     requires here { All (λ worked. worked.pass.table ≡ table) done.items }
     requires processes { table.n ≡ n }
     requires at_least_one { 1 ≤ n }

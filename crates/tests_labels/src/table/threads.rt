@@ -1,7 +1,7 @@
 ghost use Rattle.std.specs.Prelude.{◌≡◌, ◌≤◌, IfOk, map};
 ghost use Rattle.tests_labels.specs.Tries.{Ran, Served};
 
-use crate::table::tried::Tried;
+use crate::table::tried::TriedWord;
 use crate::table::trying::tries;
 use stamp_table::{Final, OpenFault, Pass, open};
 use std::alloc::{AllocError, Global};
@@ -28,7 +28,7 @@ pub fn all_try<R: Threads + Sync>(
 {
     let (table, all) = open(alloc, n, 0)?;
     let shared = &table;
-    let work = |pass: Pass, p: u8| -> Tried
+    let work = |pass: Pass, p: u8| -> TriedWord
         requires { (pass.table ≡ shared.now) × Ran pass p 0 }
         ensures { (result.pass.table ≡ shared.entry.now) × Ran result.pass p result.won }
     { tries(shared, pass, p, count) };
@@ -44,14 +44,14 @@ pub fn all_try<R: Threads + Sync>(
 }
 
 // The passes, and how many tries won.
-fn parted(alloc: Global, tried: Vec<Tried>) -> Result<(Vec<Pass>, Vec<u32>), AllocError>
+fn parted(alloc: Global, tried: Vec<TriedWord>) -> Result<(Vec<Pass>, Vec<u32>), AllocError>
     ensures passes { IfOk result (λ parts. parts.0.items ≡ map (λ one. one.pass) tried.items) }
     ensures won { IfOk result (λ parts. parts.1.items ≡ map (λ one. one.won) tried.items) }
 {
     let mut passes = Vec::with_capacity(alloc, tried.len())?;
     let mut all_won = Vec::with_capacity(alloc, tried.len())?;
     for one in tried {
-        let Tried { pass, won } = one;
+        let TriedWord { pass, won } = one;
         passes.push_reserved(pass);
         all_won.push_reserved(won);
     }

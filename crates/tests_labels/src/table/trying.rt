@@ -2,7 +2,7 @@ ghost use Rattle.std.specs.Prelude.{◌≡◌, ◌+◌, ◌≤◌, cond};
 ghost use Rattle.stamp_table.specs.Passes.{Holds, mine};
 ghost use Rattle.tests_labels.specs.Tries.{wins, Ran};
 
-use crate::table::tried::Tried;
+use crate::table::tried::TriedWord;
 use stamp_table::{Pass, StampTable, Swap};
 
 /// Tries to stamp once, and says whether it won.
@@ -21,7 +21,7 @@ pub fn try_once(table: &StampTable, pass: &mut Pass, p: u8) -> bool
 }
 
 /// Tries to stamp this many times.
-pub fn tries(table: &StampTable, mut pass: Pass, p: u8, count: u32) -> Tried
+pub fn tries(table: &StampTable, mut pass: Pass, p: u8, count: u32) -> TriedWord
     requires here { pass.table ≡ table.now }
     requires fresh { Ran pass p 0 }
     ensures table { result.pass.table ≡ table.now }
@@ -34,5 +34,5 @@ pub fn tries(table: &StampTable, mut pass: Pass, p: u8, count: u32) -> Tried
             won += 1;
         }
     }
-    Tried { pass, won }
+    TriedWord { pass, won }
 }

@@ -5,26 +5,38 @@ use tests_shared::{holds, is_same};
 use ticket_core::Move;
 use word_core::LabelWord;
 
-// A number of processes, bits, and whether they are a word.
-static ROWS: [(u8, u64, bool); 12] = [
-    (1, 0, true),
-    (1, 1, false),
-    (1, 281_474_976_710_656, true),
-    (1, 281_474_976_710_657, false),
-    (1, 562_949_953_421_312, false),
-    (2, 513, false),
-    (2, 844_424_930_132_481, true),
-    (2, 562_949_953_421_825, false),
-    (2, 844_424_930_131_971, false),
-    (2, 844_424_930_197_504, false),
-    (2, 1_125_899_906_842_624, false),
-    (6, 18_013_310_538_776_818, false),
+// Of so many processes: bits, and whether they are a word.
+static ROWS: [(u8, &[(u64, bool)]); 3] = [
+    (
+        1,
+        &[
+            (0, true),
+            (1, false),
+            (281_474_976_710_656, true),
+            (281_474_976_710_657, false),
+            (562_949_953_421_312, false),
+        ],
+    ),
+    (
+        2,
+        &[
+            (513, false),
+            (844_424_930_132_481, true),
+            (562_949_953_421_825, false),
+            (844_424_930_131_971, false),
+            (844_424_930_197_504, false),
+            (1_125_899_906_842_624, false),
+        ],
+    ),
+    (6, &[(18_013_310_538_776_818, false)]),
 ];
 
 #[test]
 fn rows(_rt: HostRuntime) -> Result<(), Fail> {
-    for (n, bits, is) in &ROWS {
-        holds(reads(*n, *bits) == *is, (*n, *bits))?;
+    for (n, row) in &ROWS {
+        for (bits, is) in *row {
+            holds(reads(*n, *bits) == *is, (*n, *bits))?;
+        }
     }
     Ok(())
 }

@@ -37,22 +37,7 @@ fn history_of(alloc: Global, steps: &[Step]) -> Result<Vec<Shared>, AllocError> 
     Ok(history)
 }
 
-// What the call answers; where memory is refused it is asked once more.
-fn answer(
-    alloc: Global,
-    code: &Code,
-    history: &[Shared],
-    turns: &[u64],
-) -> Result<Vec<u8>, MergeFault>
-    requires { length turns.now ≡ code.now.sizes.processes }
-{
-    match merge(alloc, code, history, turns) {
-        Err(MergeFault::NoMemory) => merge(alloc, code, history, turns),
-        answer => answer,
-    }
-}
-
-// Whether the history of the code comes to this.
+// Whether the history of the code comes to this. Where memory is refused it is asked once more.
 fn is_merged(
     alloc: Global,
     code: &Code,
@@ -63,7 +48,11 @@ fn is_merged(
     if turns.len() != usize::from(code.sizes().processes()) {
         return false;
     }
-    match answer(alloc, code, history, turns) {
+    let answer = match merge(alloc, code, history, turns) {
+        Err(MergeFault::NoMemory) => merge(alloc, code, history, turns),
+        answer => answer,
+    };
+    match answer {
         Ok(schedule) => wanted == Ok(schedule.as_slice()),
         Err(fault) => wanted == Err(fault),
     }

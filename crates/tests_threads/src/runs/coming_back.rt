@@ -2,7 +2,6 @@
 
 use crate::runs::running::{Wanted, comes_to_one_of};
 use code_machine::Ask;
-use std::alloc::{AllocError, Global};
 use std::sync::atomic::AtomicU64;
 use std::sync::atomic::Ordering::SeqCst;
 use std::test::Fail;
@@ -48,7 +47,7 @@ struct Seen {
 
 // At its j-th call its process has made j - 1 steps, which it tells, and waits until those that come
 // before its next were made.
-#[derive(Drop)]
+#[derive(Clone, Copy)]
 struct InOrder<'a> {
     seen: &'a Seen,
     calls: u64,
@@ -82,14 +81,6 @@ fn is_from_the_old_word(ask: Ask) -> bool {
     }
 }
 
-fn three_gates(alloc: Global, seen: &Seen) -> Result<Vec<InOrder<'_>>, AllocError> {
-    let mut gates = Vec::new(alloc);
-    for _ in 0..3u8 {
-        gates.push(InOrder { seen, calls: 0 })?;
-    }
-    Ok(gates)
-}
-
 #[test]
 fn an_exchange_finds_its_word_again(rt: HostRuntime) -> Result<(), Fail> {
     let seen = Seen {
@@ -97,7 +88,13 @@ fn an_exchange_finds_its_word_again(rt: HostRuntime) -> Result<(), Fail> {
         comes_back: AtomicU64::new(0),
         polls: Polls::new(),
     };
-    let gates = three_gates(rt.alloc(), &seen)?;
+    let gates = Vec::from_array(
+        rt.alloc(),
+        [InOrder {
+            seen: &seen,
+            calls: 0,
+        }; 3],
+    )?;
     comes_to_one_of(&rt, COMES_BACK, gates, &WANTED)?;
     let counts = [seen.comes_back.load(SeqCst), seen.called[0].load(SeqCst)];
     is_same(&(seen.polls.all_came(), counts), &(true, [1, 6]))

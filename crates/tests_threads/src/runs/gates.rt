@@ -2,7 +2,6 @@
 
 use crate::runs::running::{Wanted, comes_to_one_of};
 use code_machine::Ask;
-use std::alloc::{AllocError, Global};
 use std::sync::atomic::AtomicU64;
 use std::sync::atomic::Ordering::SeqCst;
 use std::test::Fail;
@@ -67,21 +66,13 @@ impl Drop for Recorded<'_> {
     }
 }
 
-fn two_gates(alloc: Global, seen: &Seen) -> Result<Vec<Recorded<'_>>, AllocError> {
-    let mut gates = Vec::new(alloc);
-    for _ in 0..2u8 {
-        gates.push(Recorded { seen })?;
-    }
-    Ok(gates)
-}
-
 #[test]
 fn each_shared_step_is_told_once(rt: HostRuntime) -> Result<(), Fail> {
     let seen = Seen {
         asks: AtomicU64::new(0),
         dropped: AtomicU64::new(0),
     };
-    let gates = two_gates(rt.alloc(), &seen)?;
+    let gates = vec![in rt.alloc(); Recorded { seen: &seen }, Recorded { seen: &seen }]?;
     comes_to_one_of(&rt, EACH_STEP, gates, &AS_ASKED)?;
     let found = [seen.asks.load(SeqCst), seen.dropped.load(SeqCst)];
     is_same(&found, &[512_346, 2])

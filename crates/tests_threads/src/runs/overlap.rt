@@ -4,7 +4,6 @@
 use crate::runs::held::calls_of;
 use crate::runs::running::{Wanted, comes_to_one_of};
 use code_machine::Ask;
-use std::alloc::{AllocError, Global};
 use std::sync::atomic::AtomicU64;
 use std::sync::atomic::Ordering::SeqCst;
 use std::test::Fail;
@@ -54,30 +53,21 @@ struct Calls {
 }
 
 // Waits at each call until all six gates were called as often.
-#[derive(Drop)]
+#[derive(Clone, Copy)]
 struct Together<'a> {
     calls: &'a Calls,
-    made: u64,
 }
 
 impl Gate for Together<'_> {
     fn before(&mut self, p: u8, _ask: Ask) {
-        self.made = self.made.wrapping_add(1);
-        if let Some(own) = self.calls.of.get(p as usize) {
-            own.store(self.made, SeqCst);
-        }
+        let Some(own) = self.calls.of.get(p as usize) else {
+            return;
+        };
+        let made = own.fetch_add(1, SeqCst).wrapping_add(1);
         for other in &self.calls.of {
-            self.calls.polls.wait(other, self.made);
+            self.calls.polls.wait(other, made);
         }
     }
-}
-
-fn six_gates(alloc: Global, calls: &Calls) -> Result<Vec<Together<'_>>, AllocError> {
-    let mut gates = Vec::new(alloc);
-    for _ in 0..6u8 {
-        gates.push(Together { calls, made: 0 })?;
-    }
-    Ok(gates)
 }
 
 static PASSED_ON: [Wanted<'static>; 1] = [Wanted {
@@ -110,7 +100,7 @@ fn six_workers_go_together(rt: HostRuntime) -> Result<(), Fail> {
         ],
         polls: Polls::new(),
     };
-    let gates = six_gates(rt.alloc(), &calls)?;
+    let gates = Vec::from_array(rt.alloc(), [Together { calls: &calls }; 6])?;
     comes_to_one_of(&rt, PASSES_ON, gates, &PASSED_ON)?;
     is_same(&called_twice(&calls), &(true, 6))
 }

@@ -5,44 +5,28 @@ use code_machine::Trap;
 use std::test::Fail;
 use tick_run::RunEnd;
 
-// if (me == 1) { x = (0 - 1); } else { out 5; }
-const ONE_TRAPS: &str =
-    "tickcode 1 2 1 0 0\nMe\nPush 1\nBin ==\nJumpZero 9\nPush 0\nPush 1\nBin -\nStore 0\nJump 11\nPush 5\nOut\nHalt\n";
-
-// if me { while 1 { stamp; } } else { out 1; }
-const ONE_STAMPS: &str =
-    "tickcode 1 3 0 0 0\nMe\nJumpZero 9\nPush 1\nJumpZero 8\nLoadWord\nNext\nExchange 4\nJump 2\nJump 11\nPush 1\nOut\nHalt\n";
-
-// if me { while 1 { out me; } } else { }
-const ONE_GIVES_OUT: &str =
-    "tickcode 1 2 0 0 0\nMe\nJumpZero 8\nPush 1\nJumpZero 7\nMe\nOut\nJump 2\nJump 8\nHalt\n";
-
-// put r (me + 1); if (me == 1) { x = (0 - 1); } else { if (me == 2) { while 1 { stamp; } } else {
-// if (me == 3) { while 1 { out me; } } else { out 5; out 6; } } }
-const EACH_ITS_WAY: &str =
-    "tickcode 1 4 1 0 1\nMe\nPush 1\nBin +\nPut 0\nMe\nPush 1\nBin ==\nJumpZero 13\nPush 0\nPush 1\nBin -\nStore 0\nJump 38\nMe\nPush 2\nBin ==\nJumpZero 24\nPush 1\nJumpZero 23\nLoadWord\nNext\nExchange 19\nJump 17\nJump 38\nMe\nPush 3\nBin ==\nJumpZero 34\nPush 1\nJumpZero 33\nMe\nOut\nJump 28\nJump 38\nPush 5\nOut\nPush 6\nOut\nHalt\n";
-
 static STOPPED: [Row; 3] = [
+    // if (me == 1) { x = (0 - 1); } else { out 5; }
     (
-        ONE_TRAPS,
+        "tickcode 1 2 1 0 0\nMe\nPush 1\nBin ==\nJumpZero 9\nPush 0\nPush 1\nBin -\nStore 0\nJump 11\nPush 5\nOut\nHalt\n",
         2,
         1_000,
         4,
         &[&[5], &[]],
         &[RunEnd::Ended, RunEnd::Trapped(Trap::Below)],
     ),
-    // two spend their turns on stamps
+    // if me { while 1 { stamp; } } else { out 1; } Two spend their turns on stamps.
     (
-        ONE_STAMPS,
+        "tickcode 1 3 0 0 0\nMe\nJumpZero 9\nPush 1\nJumpZero 8\nLoadWord\nNext\nExchange 4\nJump 2\nJump 11\nPush 1\nOut\nHalt\n",
         3,
         100_000,
         4,
         &[&[1], &[], &[]],
         &[RunEnd::Ended, RunEnd::TurnsSpent, RunEnd::TurnsSpent],
     ),
-    // one fills its outputs
+    // if me { while 1 { out me; } } else { } One fills its outputs.
     (
-        ONE_GIVES_OUT,
+        "tickcode 1 2 0 0 0\nMe\nJumpZero 8\nPush 1\nJumpZero 7\nMe\nOut\nJump 2\nJump 8\nHalt\n",
         2,
         1_000,
         4,
@@ -55,6 +39,11 @@ static STOPPED: [Row; 3] = [
 fn the_others_go_on(rt: HostRuntime) -> Result<(), Fail> {
     come_to(&rt, &STOPPED)
 }
+
+// put r (me + 1); if (me == 1) { x = (0 - 1); } else { if (me == 2) { while 1 { stamp; } } else {
+// if (me == 3) { while 1 { out me; } } else { out 5; out 6; } } }
+const EACH_ITS_WAY: &str =
+    "tickcode 1 4 1 0 1\nMe\nPush 1\nBin +\nPut 0\nMe\nPush 1\nBin ==\nJumpZero 13\nPush 0\nPush 1\nBin -\nStore 0\nJump 38\nMe\nPush 2\nBin ==\nJumpZero 24\nPush 1\nJumpZero 23\nLoadWord\nNext\nExchange 19\nJump 17\nJump 38\nMe\nPush 3\nBin ==\nJumpZero 34\nPush 1\nJumpZero 33\nMe\nOut\nJump 28\nJump 38\nPush 5\nOut\nPush 6\nOut\nHalt\n";
 
 static ITS_WAY: [Wanted<'static>; 1] = [Wanted {
     outputs: &[&[5, 6], &[], &[], &[3, 3, 3, 3]],

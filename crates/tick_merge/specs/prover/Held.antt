@@ -5,12 +5,12 @@ use Rattle.base.specs.declared.status.Status.TheVariants.{Running}
 use Rattle.word_core.specs.History.{Memory}
 use Rattle.word_core.specs.declared.history.SharedAct.{SharedAct}
 use Rattle.code_core.specs.declared.instr.Instr.{Instr}
+use Rattle.code_machine.specs.declared.memory.CodeMemory.{CodeMemory}
 use Rattle.code_machine.specs.Machine.{CodeProcess, CodeStep, alone, asks, did}
 use Rattle.tick_merge.specs.Ran.{act_by}
 use Rattle.tick_merge.specs.Merged.{alone_for}
-use Rattle.tick_merge.specs.declared.words.Words.{Words}
 
-abbrev pub memory_held : Words → Memory
+abbrev pub memory_held : CodeMemory → Memory
 memory_held words = record { labels = words.labels; rows = words.registers }
 
 abbrev pub further : Status → CodeStep → (CodeProcess → CodeProcess) → CodeProcess → CodeProcess

@@ -7,32 +7,16 @@ use Rattle.code_machine.proofs.machine.make.Goals as goal
 pub returns-in-Silent : goal.returns-in-Silent
 returns-in-Silent c =
     let one = c.args.process.now in
-    let shared = c.args.shared.now in
-    let d = next_of c.args.code.now one in
-    let all = made_alone one.me c.args.p shared.labels shared.registers one.process d None (silent one.me d c.make.result c.make.ensures.answer c.in-Silent.is) in
-    record {
-      event = all.shows ∙ ap (λ p. event_of p (made shared.labels shared.registers d).act) c.requires.me;
-      process = c.make.ensures.process ∙ all.left;
-      labels = all.labels_are;
-      rows = all.rows_are;
-      me = c.make.ensures.me ∙ c.requires.me;
-      of = c.make.ensures.of;
-    }
+    let quiet = silent one.me (next_of c.args.code.now one) c.make.result c.make.ensures.answer c.in-Silent.is in
+    let all = made_alone one.me c.args.p c.args.shared.now.labels c.args.shared.now.registers one.process (next_of c.args.code.now one) None c.requires.me quiet in
+    record { event = all.shows; process = c.make.ensures.process ∙ all.left; labels = all.labels_are; rows = all.rows_are; me = c.make.ensures.me ∙ c.requires.me; of = c.make.ensures.of }
 
 pub returns-in-Did : goal.returns-in-Did
 returns-in-Did c =
     let one = c.args.process.now in
-    let shared = c.args.shared.now in
-    let d = next_of c.args.code.now one in
-    let all = made_alone one.me c.args.p shared.labels shared.registers one.process d (Some c.in-Did.event) (sym c.make.ensures.answer ∙ c.in-Did.is) in
-    record {
-      event = all.shows ∙ ap (λ p. event_of p (made shared.labels shared.registers d).act) c.requires.me;
-      process = c.make.ensures.process ∙ all.left;
-      labels = all.labels_are;
-      rows = all.rows_are;
-      me = c.make.ensures.me ∙ c.requires.me;
-      of = c.make.ensures.of;
-    }
+    let told = sym c.make.ensures.answer ∙ c.in-Did.is in
+    let all = made_alone one.me c.args.p c.args.shared.now.labels c.args.shared.now.registers one.process (next_of c.args.code.now one) (Some c.in-Did.event) c.requires.me told in
+    record { event = all.shows; process = c.make.ensures.process ∙ all.left; labels = all.labels_are; rows = all.rows_are; me = c.make.ensures.me ∙ c.requires.me; of = c.make.ensures.of }
 
 pub returns-in-Ask : goal.returns-in-Ask
 returns-in-Ask c =

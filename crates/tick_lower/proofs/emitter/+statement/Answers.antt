@@ -4,12 +4,9 @@ use Rattle.code_core.specs.declared.instr.Instr.TheVariants as I
 use Rattle.tick_kinds.proofs.Offered.{branch_lent, repeat_lent}
 use Rattle.tick_kinds.specs.Resolved.{resolved_expression, resolved_statement, resolved_block}
 use Rattle.tick_lower.specs.Lowered.{expression_length, statement_length, block_length, statement_code}
-use Rattle.tick_lower.proofs.Emitted.{long_expression, long_block, long_tested, long_guarded, long_closed, patch_branch, patch_repeat, next_statement, no_statement, emitting_start, emitting_shorter, emitting_fits, emitting_more, emitting_end}
+use Rattle.tick_lower.proofs.Emitted.{long_block, long_tested, long_guarded, long_closed, patch_branch, patch_repeat, next_statement, no_statement, emitting_start, emitting_shorter, emitting_fits, emitting_more, emitting_end}
 use Rattle.tick_lower.proofs.emitter.+statement.Goals as goal
 use Rattle.tick_lower.proofs.emitter.+statement.Goals.{emit_branch-After-deref-3}
-
-pub emit_branch-next_place-to_second-requires : goal.emit_branch-next_place-to_second-requires
-emit_branch-next_place-to_second-requires t c = omega (arith, long_expression _ c.args.code.now.items (resolved_expression c.args.test.now) c.in_ok-emit_expression.ensures)
 
 pub emit_branch-emit_block-requires : goal.emit_branch-emit_block-requires
 emit_branch-emit_block-requires t c =
@@ -47,19 +44,17 @@ emit_branch-returns t c =
     c.in_ok-emit_expression.ensures (c.next_place-to_second.ensures ∙ ap length c.deref.ensures.value) c.in_ok-emit.ensures c.in_ok-emit_block.ensures (c.next_place-past_second.ensures ∙ ap length c.deref-2.ensures.value)
     c.in_ok-emit-2.ensures (c.next_place-second_place.ensures ∙ ap length c.deref-3.ensures.value) c.in_ok-emit_block-2.ensures (c.next_place-end.ensures ∙ ap length c.deref-4.ensures.value)
 
-pub emit_repeat-next_place-past_body-requires : goal.emit_repeat-next_place-past_body-requires
-emit_repeat-next_place-past_body-requires t c = omega (arith, long_expression _ c.args.code.now.items (resolved_expression c.args.test.now) c.in_ok-emit_expression.ensures)
-
 pub emit_repeat-emit_block-requires : goal.emit_repeat-emit_block-requires
 emit_repeat-emit_block-requires t c =
     (omega arith, omega (arith, long_tested (resolved_expression c.args.test.now) c.args.code.now.items _ _ _ c.in_ok-emit_expression.ensures c.in_ok-emit.ensures))
 
 pub emit_repeat-next_place-end-requires : goal.emit_repeat-next_place-end-requires
 emit_repeat-next_place-end-requires t c =
-    let long =
-    long_closed (resolved_expression c.args.test.now) (resolved_block c.args.body.now) c.args.code.now.items _ _ _ _ _ _
-    c.in_ok-emit_expression.ensures c.in_ok-emit.ensures c.in_ok-emit_block.ensures c.in_ok-emit-2.ensures in
-    omega (arith, long)
+    omega (
+      arith,
+      long_closed (resolved_expression c.args.test.now) (resolved_block c.args.body.now) c.args.code.now.items _ _ _ _ _ _
+          c.in_ok-emit_expression.ensures c.in_ok-emit.ensures c.in_ok-emit_block.ensures c.in_ok-emit-2.ensures,
+    )
 
 pub emit_repeat-returns : goal.emit_repeat-returns
 emit_repeat-returns t c =

@@ -11,22 +11,6 @@ loop-count-init c =
     let code = c.args.code.now in
     (c.requires.of, c.requires.me, sym (append-nil (vec_items c.args.schedule.now)), goes_start code.sizes.processes code.instructions c.args.p c.args.most c.args.proc.now.process)
 
-pub returns-in-Ask-clause-count : goal.returns-in-Ask-clause-count
-returns-in-Ask-clause-count c =
-    let code = c.args.code.now in let n = code.sizes.processes in let q = c.loop-count.proc.process in let me = c.loop-count.invariant.1 in
-    let told : went c.advance.result ≡ false = ⊎_elim (λ a. ap went a.1) (λ a. ap went a) c.in-Ask.is in
-    (goes_stop n code.instructions c.args.p c.args.most c.args.proc.now.process c.loop-count.count q c.advance.new.self.process c.loop-count.invariant.3
-    (ap went (ap (λ k. advance_as q.status k (did n k code.instructions q)) (sym me) ∙ sym c.advance.ensures.answer) ∙ told)
-    (c.advance.ensures.process ∙ ap (λ k. after_advance_as q.status q (did n k code.instructions q)) me)).0
-
-pub returns-in-Ask-clause-process : goal.returns-in-Ask-clause-process
-returns-in-Ask-clause-process c =
-    let code = c.args.code.now in let n = code.sizes.processes in let q = c.loop-count.proc.process in let me = c.loop-count.invariant.1 in
-    let told : went c.advance.result ≡ false = ⊎_elim (λ a. ap went a.1) (λ a. ap went a) c.in-Ask.is in
-    (goes_stop n code.instructions c.args.p c.args.most c.args.proc.now.process c.loop-count.count q c.advance.new.self.process c.loop-count.invariant.3
-    (ap went (ap (λ k. advance_as q.status k (did n k code.instructions q)) (sym me) ∙ sym c.advance.ensures.answer) ∙ told)
-    (c.advance.ensures.process ∙ ap (λ k. after_advance_as q.status q (did n k code.instructions q)) me)).1
-
 pub loop-count-preserved : goal.loop-count-preserved
 loop-count-preserved c =
     let code = c.args.code.now in let n = code.sizes.processes in let q = c.loop-count.proc.process in let me = c.loop-count.invariant.1 in
@@ -40,39 +24,35 @@ loop-count-preserved c =
           (c.advance.ensures.process ∙ ap (λ k. after_advance_as q.status q (did n k code.instructions q)) me),
     )
 
-pub returns-in-Ask-clause-few : goal.returns-in-Ask-clause-few
-returns-in-Ask-clause-few c = omega (arith, c.loop-count-test.true)
+pub returns-in-Ask : goal.returns-in-Ask
+returns-in-Ask c =
+    let code = c.args.code.now in let n = code.sizes.processes in let q = c.loop-count.proc.process in let me = c.loop-count.invariant.1 in
+    let told : went c.advance.result ≡ false = ⊎_elim (λ a. ap went a.1) (λ a. ap went a) c.in-Ask.is in
+    let stops =
+    goes_stop n code.instructions c.args.p c.args.most c.args.proc.now.process c.loop-count.count q c.advance.new.self.process c.loop-count.invariant.3
+    (ap went (ap (λ k. advance_as q.status k (did n k code.instructions q)) (sym me) ∙ sym c.advance.ensures.answer) ∙ told)
+    (c.advance.ensures.process ∙ ap (λ k. after_advance_as q.status q (did n k code.instructions q)) me) in
+    record {
+      count = stops.0;
+      few = omega (arith, c.loop-count-test.true);
+      process = stops.1;
+      schedule = c.loop-count.invariant.2;
+      of = c.advance.ensures.of;
+      me = c.advance.ensures.me ∙ me;
+    }
 
-pub returns-in-Ask-clause-schedule : goal.returns-in-Ask-clause-schedule
-returns-in-Ask-clause-schedule c = c.loop-count.invariant.2
-
-pub returns-in-Ask-clause-of : goal.returns-in-Ask-clause-of
-returns-in-Ask-clause-of c = c.advance.ensures.of
-
-pub returns-in-Ask-clause-me : goal.returns-in-Ask-clause-me
-returns-in-Ask-clause-me c = c.advance.ensures.me ∙ c.loop-count.invariant.1
-
-pub returns-clause-count : goal.returns-clause-count
-returns-clause-count c =
+pub returns : goal.returns
+returns c =
     let code = c.args.code.now in
-    (goes_end code.sizes.processes code.instructions c.args.p c.args.most c.args.proc.now.process c.loop-count.count c.loop-count.proc.process
-    c.loop-count.invariant.3 (omega (arith, c.loop-count-test.false, c.loop-count.auto.count-end))).0
-
-pub returns-clause-few : goal.returns-clause-few
-returns-clause-few c = omega arith
-
-pub returns-clause-process : goal.returns-clause-process
-returns-clause-process c =
-    let code = c.args.code.now in
-    (goes_end code.sizes.processes code.instructions c.args.p c.args.most c.args.proc.now.process c.loop-count.count c.loop-count.proc.process
-    c.loop-count.invariant.3 (omega (arith, c.loop-count-test.false, c.loop-count.auto.count-end))).1
-
-pub returns-clause-schedule : goal.returns-clause-schedule
-returns-clause-schedule c =
-    c.loop-count.invariant.2 ∙ ap (λ k. vec_items c.args.schedule.now ++ replicate k c.args.p) (sym (omega (arith, c.loop-count-test.false, c.loop-count.auto.count-end)))
-
-pub returns-clause-of : goal.returns-clause-of
-returns-clause-of c = c.loop-count.invariant.0
-
-pub returns-clause-me : goal.returns-clause-me
-returns-clause-me c = c.loop-count.invariant.1
+    let ends =
+    goes_end code.sizes.processes code.instructions c.args.p c.args.most c.args.proc.now.process c.loop-count.count c.loop-count.proc.process
+    c.loop-count.invariant.3 (omega (arith, c.loop-count-test.false, c.loop-count.auto.count-end)) in
+    record {
+      count = ends.0;
+      few = omega arith;
+      process = ends.1;
+      schedule = c.loop-count.invariant.2
+          ∙ ap (λ k. vec_items c.args.schedule.now ++ replicate k c.args.p) (sym (omega (arith, c.loop-count-test.false, c.loop-count.auto.count-end)));
+      of = c.loop-count.invariant.0;
+      me = c.loop-count.invariant.1;
+    }

@@ -1,7 +1,7 @@
 use Rattle.std.proofs.Common.{◌≡◌, ap, sym, subst, ◌∙◌, refl, Some, arith}
 use Rattle.std.proofs.lemmas.Bool.{false≢true}
 use Rattle.std.proofs.lemmas.Option.{same_Some}
-use Rattle.code_machine.specs.Safety.{HasWord}
+use Rattle.code_machine.specs.Safety.{HasWord, IsLawful}
 use Rattle.code_machine.specs.Machine.{did, reply_in}
 use Rattle.code_machine.specs.Process.{answered_as, next_of}
 use Rattle.tick_merge.specs.prover.Held.{memory_held}
@@ -13,7 +13,7 @@ returns-clause-made c =
     let one = c.args.proc.now in let code = c.args.code.now in (
       λ yes.
           (ask_next one.process.status one.me (memory_held c.args.words.now) (next_of code one) c.in-Ask.ask one.process c.in-Ask.ensures.answer).0
-          ∙ ap Some (sym c.act.ensures ∙ c.is_act.ensures.0 c.if-not-is_act.false),
+          ∙ ap Some (sym c.act_for.ensures ∙ c.is_act.ensures.0 c.if-not-is_act.false),
       λ next. refl,
     )
 
@@ -37,24 +37,26 @@ returns-in_default-clause-made c =
           c.advance.ensures.answer c.in_default.not-Ask next),
     )
 
-pub act-requires : goal.act-requires
-act-requires c = (c.args.code.now.sizes, c.args.proc.now.me, c.requires.labels, c.in-Ask.ensures.lawful)
+pub act_for-requires : goal.act_for-requires
+act_for-requires c = (c.args.code.now.sizes, c.args.proc.now.me, c.requires.labels, c.in-Ask.ensures.lawful)
 
 pub returns-then-not-is_act-clause-made : goal.returns-then-not-is_act-clause-made
 returns-then-not-is_act-clause-made c =
     let one = c.args.proc.now in (
       λ yes. absurd (false≢true yes),
       λ next.
-          c.if-not-is_act.ensures.1 (c.act.ensures ∙ same_Some _ _ (sym
+          c.if-not-is_act.ensures.1 (c.act_for.ensures ∙ same_Some _ _ (sym
           (ask_next one.process.status one.me (memory_held c.args.words.now) (next_of c.args.code.now one) c.in-Ask.ask one.process c.in-Ask.ensures.answer).0
           ∙ next)),
     )
 
-pub serve-reply-requires-clause-in_range : goal.serve-reply-requires-clause-in_range
-serve-reply-requires-clause-in_range c = omega (arith, c.requires.of.me, c.requires.me, c.requires.labels.are.count)
+pub serve-reply-requires-clause-process : goal.serve-reply-requires-clause-process
+serve-reply-requires-clause-process c = omega (arith, c.requires.of.me, c.requires.me, c.requires.labels.are.count)
 
-pub serve-reply-requires-clause-lawful : goal.serve-reply-requires-clause-lawful
-serve-reply-requires-clause-lawful c = (c.args.code.now.sizes, c.args.proc.now.me, c.requires.labels, c.in-Ask.ensures.lawful)
+pub serve-reply-requires-clause-labels : goal.serve-reply-requires-clause-labels
+serve-reply-requires-clause-labels c =
+    let sizes = c.args.code.now.sizes in
+    λ old new is. (sizes.processes, c.requires.labels.are, (subst (IsLawful sizes c.args.proc.now.me) is c.in-Ask.ensures.lawful).0.are)
 
 pub answer-requires-clause-word : goal.answer-requires-clause-word
 answer-requires-clause-word c =

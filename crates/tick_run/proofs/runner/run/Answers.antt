@@ -1,23 +1,27 @@
-use Rattle.std.proofs.Common.{ap, ◌∙◌, rules, map, vec_items}
+use Rattle.std.proofs.Common.{◌≡◌, ℕ, ap, ◌∙◌, rules, map, vec_items}
+use Rattle.code_core.specs.Instructions.{CodeSizes, StepCode}
+use Rattle.stamp_table.specs.Passes.{TableView}
+use Rattle.tick_run.specs.prover.Turns.{IsFor}
 use Rattle.tick_run.proofs.Together.{gathers_none}
 use Rattle.tick_run.proofs.runner.run.Goals as goal
 
+-- the table was made for the processes and the rows of the code
+opened_for : (t : TableView) (code : StepCode) (z : CodeSizes) (n rows : ℕ) → z ≡ code.sizes → t.n ≡ n → t.rows ≡ rows → n ≡ z.processes → rows ≡ z.rows → IsFor t code
+opened_for t code z n rows sizes many tall processes registers = record {
+  processes = many ∙ processes ∙ ap (λ z. z.processes) sizes;
+  rows = tall ∙ registers ∙ ap (λ z. z.rows) sizes;
+}
+
 pub jobs_for-requires-clause-fits : goal.jobs_for-requires-clause-fits
 jobs_for-requires-clause-fits g c =
-    let sizes = c.sizes-sizes.ensures.sizes in record {
-      processes = c.in_ok-table.ensures.layout.0 ∙ c.processes-2.ensures.count ∙ ap (λ z. z.processes) sizes;
-      rows = c.in_ok-table.ensures.layout.1 ∙ c.registers-2.ensures ∙ ap (λ z. z.rows) sizes;
-    }
+    opened_for _ _ _ _ _ c.sizes-sizes.ensures.sizes c.in_ok-table.ensures.layout.0 c.in_ok-table.ensures.layout.1 c.processes-2.ensures.count c.registers-2.ensures
 
 pub jobs_for-requires-clause-gates : goal.jobs_for-requires-clause-gates
 jobs_for-requires-clause-gates g c = c.requires
 
 pub run_all-requires-clause-fits : goal.run_all-requires-clause-fits
 run_all-requires-clause-fits g c κs within =
-    let sizes = c.sizes-sizes.ensures.sizes in record {
-      processes = c.in_ok-table.ensures.layout.0 ∙ c.processes-2.ensures.count ∙ ap (λ z. z.processes) sizes;
-      rows = c.in_ok-table.ensures.layout.1 ∙ c.registers-2.ensures ∙ ap (λ z. z.rows) sizes;
-    }
+    opened_for _ _ _ _ _ c.sizes-sizes.ensures.sizes c.in_ok-table.ensures.layout.0 c.in_ok-table.ensures.layout.1 c.processes-2.ensures.count c.registers-2.ensures
 
 pub run_all-requires-clause-ready : goal.run_all-requires-clause-ready
 run_all-requires-clause-ready g c κs within = c.in_ok-jobs.ensures.ready
@@ -29,10 +33,7 @@ run_all-requires-clause-none g c κs within =
 
 pub outcome_of-requires-clause-fits : goal.outcome_of-requires-clause-fits
 outcome_of-requires-clause-fits g c =
-    let sizes = c.sizes-sizes.ensures.sizes in record {
-      processes = c.in_ok-table.ensures.layout.0 ∙ c.processes-2.ensures.count ∙ ap (λ z. z.processes) sizes;
-      rows = c.in_ok-table.ensures.layout.1 ∙ c.registers-2.ensures ∙ ap (λ z. z.rows) sizes;
-    }
+    opened_for _ _ _ _ _ c.sizes-sizes.ensures.sizes c.in_ok-table.ensures.layout.0 c.in_ok-table.ensures.layout.1 c.processes-2.ensures.count c.registers-2.ensures
 
 pub outcome_of-requires-clause-all : goal.outcome_of-requires-clause-all
 outcome_of-requires-clause-all g c = search rules

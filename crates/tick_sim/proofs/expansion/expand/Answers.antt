@@ -1,14 +1,12 @@
-use Rattle.std.proofs.Common.{ℕ, ◌<◌, ◌++◌, ◌∙◌, ap, sym, refl, subst, get_or, All}
+use Rattle.std.proofs.Common.{◌++◌, ◌∙◌, ap, sym, refl, subst, get_or}
 use Rattle.tick_kinds.specs.Resolution.{resolved}
 use Rattle.tick_source.specs.Source.{SourceState, source_start}
 use Rattle.code_machine.specs.Machine.{code_start}
 use Rattle.tick_sim.specs.Maps.{up, up_from}
-use Rattle.tick_sim.specs.Laws.{seen_of_code}
-use Rattle.tick_sim.proofs.Maps.{all_done, up_more, up_lawful, running_commits, item_rests}
+use Rattle.tick_sim.proofs.Maps.{expanded, up_more, running_commits, item_rests}
 use Rattle.tick_sim.proofs.Reached.{reached_start}
 use Rattle.tick_sim.proofs.Start.{start_between}
 use Rattle.tick_sim.proofs.States.{AllBetween}
-use Rattle.tick_sim.proofs.Up.{up_law}
 use Rattle.tick_sim.proofs.expansion.expand.Goals as goal
 
 pub loop-p-init : goal.loop-p-init
@@ -57,25 +55,7 @@ loop-p-preserved c =
       between = rests.1;
     }
 
-pub returns-clause-seen : goal.returns-clause-seen
-returns-clause-seen c =
-    let a = resolved c.args.program.now in
-    let code = c.args.code.now in
-    let is =
-    all_done (λ t. up_from code.sizes.processes code.instructions t c.loop-p.machine.state) refl c.loop-p.p-index
-    c.args.schedule.now c.loop-p.steps.items (up code.sizes code.instructions c.args.schedule.now)
-    c.loop-p-test.false c.loop-p.auto.p-index-end c.loop-p.invariant.led in
-    ap (seen_of_code a) (is ∙ ap (λ code. up code.sizes code.instructions c.args.schedule.now) c.requires.code)
-    ∙ sym (up_law a c.args.schedule.now)
-
-pub returns-clause-lawful : goal.returns-clause-lawful
-returns-clause-lawful c =
-    let code = c.args.code.now in
-    let lawful : ℕ → Type 0 = λ p. p < (resolved c.args.program.now).processes in
-    let is =
-    all_done (λ t. up_from code.sizes.processes code.instructions t c.loop-p.machine.state) refl c.loop-p.p-index
-    c.args.schedule.now c.loop-p.steps.items (up code.sizes code.instructions c.args.schedule.now)
-    c.loop-p-test.false c.loop-p.auto.p-index-end c.loop-p.invariant.led in
-    subst (All lawful) (sym is)
-    (up_lawful code.sizes.processes code.instructions lawful c.args.schedule.now (code_start code.sizes)
-    c.requires.processes)
+pub returns : goal.returns
+returns c =
+    let all = expanded (resolved c.args.program.now) c.args.code.now _ _ _ _ c.requires.code c.requires.processes c.loop-p-test.false c.loop-p.auto.p-index-end c.loop-p.invariant.led in
+    record { up = all.is; seen = all.shows; lawful = all.lawful }

@@ -9,8 +9,7 @@ use Rattle.tick_sim.proofs.expansion.expand.Given as goal
 
 abbrev pub invariant-loop-p : goal.invariant-loop-p
 invariant-loop-p l = record {
-  led : l.steps.items ++ up_from l.code.sizes.processes l.code.instructions (drop l.p-index l.schedule) l.machine.state
-      ≡ up l.code.sizes l.code.instructions l.schedule;
+  led : l.steps.items ++ up_from l.code.sizes.processes l.code.instructions (drop l.p-index l.schedule) l.machine.state ≡ up l.code.sizes l.code.instructions l.schedule;
   reached : IsReached l.machine;
   same : l.machine.code ≡ l.code;
   beside : SourceState;

@@ -1,9 +1,11 @@
 use Rattle.std.proofs.Common.{◌∙◌, ◌++◌, ◌<◌, refl, ap, sym, subst, length, arith}
 use Rattle.std.proofs.lemmas.List.{append-nil}
 use Rattle.code_machine.specs.Machine.{code_run}
-use Rattle.tick_sim.proofs.Maps.{stopped_makes_none, lead_more, lead_end}
+use Rattle.tick_sim.specs.Maps.{steps_of}
+use Rattle.tick_sim.proofs.Maps.{LeadsOn, leads_on, stopped_makes_none}
 use Rattle.tick_sim.proofs.Reached.{in_range, step_is, commit_is}
 use Rattle.tick_sim.proofs.expansion.lead_through.Goals as goal
+use Rattle.tick_sim.proofs.expansion.lead_through.Goals.{In_ok-step_ends}
 
 pub status-requires : goal.status-requires
 status-requires c =
@@ -24,42 +26,40 @@ returns-in_default c =
       code = refl;
     }
 
-pub returns-then-branch-clause-steps : goal.returns-then-branch-clause-steps
-returns-then-branch-clause-steps c =
+-- where a step of the loop leads
+leads : (c : In_ok-step_ends) → LeadsOn c.args.code.now.sizes.processes c.args.code.now.instructions c.args.p c.loop.counter c.push.new.self.items
+    (c.args.steps.now.items ++ steps_of c.args.code.now.sizes.processes c.args.code.now.instructions c.args.p c.args.machine.now.state)
+    c.loop.machine.state c.step_ends.new.machine.state
+    (code_run c.args.code.now.sizes.processes c.args.code.now.instructions
+    (steps_of c.args.code.now.sizes.processes c.args.code.now.instructions c.args.p c.args.machine.now.state) c.args.machine.now.state)
+leads c =
     let code = c.args.code.now in
     let before = c.loop.invariant in
     let inside : c.loop.counter < length code.instructions = omega (arith, c.loop-test.true, c.len-end.ensures.count) in
-    (lead_end code.sizes.processes code.instructions c.args.p before.left c.loop.counter c.loop.steps.items
-    c.push.new.self.items _ c.loop.machine.state c.step_ends.new.machine.state _ inside
-    (commit_is code c.loop.machine before.same c.args.p _ c.in_ok-step_ends.ensures.ends ∙ c.if-branch.true)
-    (step_is code c.loop.machine before.same c.args.p _ c.in_ok-step_ends.ensures.state) c.in_ok-push.ensures.items
-    before.commits before.steps before.leads).0
+    leads_on code.sizes.processes code.instructions c.args.p before.left c.loop.counter c.loop.steps.items c.push.new.self.items _ c.loop.machine.state
+    c.step_ends.new.machine.state _ inside (step_is code c.loop.machine before.same c.args.p _ c.in_ok-step_ends.ensures.state)
+    c.in_ok-push.ensures.items before.commits before.steps before.leads
 
-pub returns-then-branch-clause-state : goal.returns-then-branch-clause-state
-returns-then-branch-clause-state c =
-    let code = c.args.code.now in
-    let before = c.loop.invariant in
-    let inside : c.loop.counter < length code.instructions = omega (arith, c.loop-test.true, c.len-end.ensures.count) in
-    (lead_end code.sizes.processes code.instructions c.args.p before.left c.loop.counter c.loop.steps.items
-    c.push.new.self.items _ c.loop.machine.state c.step_ends.new.machine.state _ inside
-    (commit_is code c.loop.machine before.same c.args.p _ c.in_ok-step_ends.ensures.ends ∙ c.if-branch.true)
-    (step_is code c.loop.machine before.same c.args.p _ c.in_ok-step_ends.ensures.state) c.in_ok-push.ensures.items
-    before.commits before.steps before.leads).1
+pub returns-then-branch : goal.returns-then-branch
+returns-then-branch c =
+    let ends =
+    (leads (goal.at.returns-then-branch c).In_ok-step_ends).is_last
+    (commit_is c.args.code.now c.loop.machine c.loop.invariant.same c.args.p _ c.in_ok-step_ends.ensures.ends ∙ c.if-branch.true) in
+    record {
+      steps = ends.0;
+      state = ends.1;
+      reached = c.step_ends.ensures.reached;
+      code = c.step_ends.ensures.code ∙ c.loop.invariant.same ∙ sym c.requires.code;
+    }
 
 pub loop-preserved : goal.loop-preserved
 loop-preserved c =
-    let code = c.args.code.now in
-    let before = c.loop.invariant in
-    let inside : c.loop.counter < length code.instructions = omega (arith, c.loop-test.true, c.len-end.ensures.count) in
     let more =
-    lead_more code.sizes.processes code.instructions c.args.p before.left c.loop.counter c.loop.steps.items
-    c.push.new.self.items _ c.loop.machine.state c.step_ends.new.machine.state _ inside
-    (commit_is code c.loop.machine before.same c.args.p _ c.in_ok-step_ends.ensures.ends ∙ c.if-branch.false)
-    (step_is code c.loop.machine before.same c.args.p _ c.in_ok-step_ends.ensures.state) c.in_ok-push.ensures.items
-    before.commits before.steps before.leads in
+    (leads (goal.at.loop-preserved c).In_ok-step_ends).goes_on
+    (commit_is c.args.code.now c.loop.machine c.loop.invariant.same c.args.p _ c.in_ok-step_ends.ensures.ends ∙ c.if-branch.false) in
     record {
       reached = c.step_ends.ensures.reached;
-      same = c.step_ends.ensures.code ∙ before.same;
+      same = c.step_ends.ensures.code ∙ c.loop.invariant.same;
       left = more.0;
       commits = more.1;
       steps = more.2;

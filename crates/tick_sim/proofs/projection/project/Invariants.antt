@@ -6,8 +6,7 @@ use Rattle.tick_sim.proofs.projection.project.Given as goal
 
 abbrev pub invariant-loop-p : goal.invariant-loop-p
 invariant-loop-p l = record {
-  kept : l.steps.items ++ down_from l.code.sizes.processes l.code.instructions (drop l.p-index l.schedule) l.machine.state
-      ≡ down l.code.sizes l.code.instructions l.schedule;
+  kept : l.steps.items ++ down_from l.code.sizes.processes l.code.instructions (drop l.p-index l.schedule) l.machine.state ≡ down l.code.sizes l.code.instructions l.schedule;
   reached : IsReached l.machine;
   same : l.machine.code ≡ l.code;
 }

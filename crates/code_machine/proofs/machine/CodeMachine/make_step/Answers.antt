@@ -1,4 +1,4 @@
-use Rattle.std.proofs.Common.{◌≡◌, refl}
+use Rattle.std.proofs.Common.{◌≡◌, refl, rules}
 use Rattle.std.specs.Vec.{with_item}
 use Rattle.code_machine.specs.declared.machine.CodeMachine.TheInside.{Inside}
 use Rattle.code_machine.specs.Process.{IsOf}
@@ -37,20 +37,7 @@ whole c =
 pub invariant_of-self : goal.invariant_of-self
 invariant_of-self c = (whole c).sound
 
-pub returns-clause-instruction : goal.returns-clause-instruction
-returns-clause-instruction c = (whole c).instruction
-
-pub returns-clause-told : goal.returns-clause-told
-returns-clause-told c = (whole c).told
-
-pub returns-clause-ok : goal.returns-clause-ok
-returns-clause-ok c = (whole c).ok
-
-pub returns-clause-err : goal.returns-clause-err
-returns-clause-err c = (whole c).err
-
-pub returns-clause-silent : goal.returns-clause-silent
-returns-clause-silent c = (whole c).silent
-
-pub returns-clause-rows : goal.returns-clause-rows
-returns-clause-rows c = (whole c).rows
+pub returns : goal.returns
+returns c =
+    let all = whole c in
+    record { instruction = all.instruction; told = all.told; ok = all.ok; err = all.err; silent = all.silent; code = search rules; processes = search rules; rows = all.rows }

@@ -1,35 +1,42 @@
-use Rattle.std.proofs.Common.{◌≡◌, ◌+◌, ◌-◌, ◌<◌, arith, ap, sym, ◌∙◌, length, get_or, set, true, None}
+use Rattle.std.proofs.Common.{◌≡◌, ℕ, ◌+◌, ◌-◌, ◌<◌, ◌≤◌, ◌++◌, Bool, List, arith, ap, sym, ◌∙◌, length, get_or, map, replicate, set, take, true, None}
 use Rattle.std.proofs.lemmas.List.{length-map, get_or-map}
 use Rattle.std.proofs.lemmas.List.Sums.{count_by-le-length}
 use Rattle.base.proofs.Offered.{padded_next}
-use Rattle.word_core.specs.Stamps.{label_at, is_present}
+use Rattle.label_core.specs.Labels.{dominated}
+use Rattle.word_core.specs.Stamps.{Labels, label_at, is_present, present}
 use Rattle.word_core.specs.Order.{above, labels_below, label_ranks}
 use Rattle.word_core.proofs.Gathering.{RankFound, rank_found, below_none, absent_label, present_none, zero_next}
 use Rattle.word_core.proofs.words.LabelWord.ranks_from.Goals as goal
 use Rattle.word_core.proofs.words.LabelWord.ranks_from.Goals.{then-held, else-held}
 
+-- where the process is present its rank is found at the place
+at_place : (labels : Labels) (row : List ℕ) (i place count n : ℕ) (held : Bool)
+    → row ≡ map (dominated (present labels)) (present labels) ++ replicate (6 - length (present labels)) 0 → count ≡ length (present labels) → count ≤ length labels
+    → n ≡ length labels → i < n → place ≡ length (present (take i labels)) → held ≡ is_present (label_at labels i) → held ≡ true
+    → RankFound labels row i place count
+at_place labels row i place count n held row_is count_is few many inside here tells present_i =
+    rank_found labels row i place count row_is count_is few (omega (arith, inside, many)) here (sym tells ∙ present_i)
+
 pub bounds-among-place : goal.bounds-among-place
 bounds-among-place c =
-    let labels = c.args.self.now in
-    let here : is_present (label_at labels c.loop-i.i) ≡ true = sym c.held.ensures ∙ c.if-held.true in
-    let found : RankFound labels c.args.among.now c.loop-i.i c.loop-i.place c.args.count =
-    rank_found labels c.args.among.now c.loop-i.i c.loop-i.place c.args.count c.requires.among c.requires.count c.requires.few (omega (arith, c.loop-i-test.true, c.n-n.ensures.count)) c.loop-i.invariant.place here in
+    let found =
+    at_place c.args.self.now c.args.among.now c.loop-i.i c.loop-i.place c.args.count c.n-n.result c.held.result c.requires.among c.requires.count c.requires.few
+    c.n-n.ensures.count c.loop-i-test.true c.loop-i.invariant.place c.held.ensures c.if-held.true in
     omega (arith, found.inside, c.requires.count, c.requires.few, c.n-n.ensures.count, c.n-n.ensures.at_most_six)
 
 pub overflow_add-ranks : goal.overflow_add-ranks
 overflow_add-ranks c =
     let labels = c.args.self.now in
-    let here : is_present (label_at labels c.loop-i.i) ≡ true = sym c.held.ensures ∙ c.if-held.true in
-    let found : RankFound labels c.args.among.now c.loop-i.i c.loop-i.place c.args.count =
-    rank_found labels c.args.among.now c.loop-i.i c.loop-i.place c.args.count c.requires.among c.requires.count c.requires.few (omega (arith, c.loop-i-test.true, c.n-n.ensures.count)) c.loop-i.invariant.place here in
+    let found =
+    at_place labels c.args.among.now c.loop-i.i c.loop-i.place c.args.count c.n-n.result c.held.result c.requires.among c.requires.count c.requires.few
+    c.n-n.ensures.count c.loop-i-test.true c.loop-i.invariant.place c.held.ensures c.if-held.true in
     omega (arith, found.rank, count_by-le-length (above (label_at labels c.loop-i.i)) labels, c.n-n.ensures.count, c.n-n.ensures.at_most_six)
 
 pub overflow_add-place : goal.overflow_add-place
 overflow_add-place c =
-    let labels = c.args.self.now in
-    let here : is_present (label_at labels c.loop-i.i) ≡ true = sym c.held.ensures ∙ c.if-held.true in
-    let found : RankFound labels c.args.among.now c.loop-i.i c.loop-i.place c.args.count =
-    rank_found labels c.args.among.now c.loop-i.i c.loop-i.place c.args.count c.requires.among c.requires.count c.requires.few (omega (arith, c.loop-i-test.true, c.n-n.ensures.count)) c.loop-i.invariant.place here in
+    let found =
+    at_place c.args.self.now c.args.among.now c.loop-i.i c.loop-i.place c.args.count c.n-n.result c.held.result c.requires.among c.requires.count c.requires.few
+    c.n-n.ensures.count c.loop-i-test.true c.loop-i.invariant.place c.held.ensures c.if-held.true in
     omega (arith, found.inside, c.requires.count, c.requires.few, c.n-n.ensures.count, c.n-n.ensures.at_most_six)
 
 pub loop-i-preserved : goal.loop-i-preserved
@@ -43,9 +50,8 @@ loop-i-preserved c =
     let item : get_or items at 0 ≡ labels_below labels (label_at labels at) = get_or-map (labels_below labels) labels at None 0 inside in
     elim c.if-held.branch [
       | then-held w ↦
-          let here : is_present (label_at labels at) ≡ true = sym c.held.ensures ∙ w.if-held.true in
           let found : RankFound labels c.args.among.now at c.loop-i.place c.args.count =
-          rank_found labels c.args.among.now at c.loop-i.place c.args.count c.requires.among c.requires.count c.requires.few inside c.loop-i.invariant.place here in
+          rank_found labels c.args.among.now at c.loop-i.place c.args.count c.requires.among c.requires.count c.requires.few inside c.loop-i.invariant.place (sym c.held.ensures ∙ w.if-held.true) in
           let rank : c.n-n.result - c.args.count + get_or c.args.among.now c.loop-i.place 0 ≡ get_or items at 0 =
           ap (λ n. n - c.args.count + get_or c.args.among.now c.loop-i.place 0) c.n-n.ensures.count ∙ found.rank ∙ sym item in
           record {

@@ -1,6 +1,6 @@
 use Rattle.std.proofs.Common.{◌≡◌, max, drop}
 use Rattle.ticket_core.specs.Tickets.{greatest_ticket}
-use Rattle.ticket_core.proofs.greatest_of.Given as goal
+use Rattle.ticket_core.proofs.Tickets.greatest.Given as goal
 
 -- the greatest so far and the greatest of what is left
 abbrev pub invariant-loop-ticket : goal.invariant-loop-ticket
