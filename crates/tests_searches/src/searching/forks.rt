@@ -3,7 +3,7 @@ ghost use Rattle.std.specs.Prelude.{◌≡◌, ◌<◌, ◌==◌, ℕ, nat_lt, i
 ghost use Rattle.std.proofs.lemmas.Bool.{eqb-true};
 ghost use Rattle.tests_searches.specs.Machines.{forked, idle_within, nobody_else, stays_within};
 
-use searches_states::{Asked, EndSearched, Machine, NoMemory, Unwatched, search_ends};
+use searches_states::{EndSearched, Machine, MustStop, NoMemory, Unwatched, search_ends};
 use std::alloc::Global;
 use std::test::Fail;
 use tests_shared::is_same;
@@ -64,8 +64,8 @@ impl Machine for Forks {
 fn searched(alloc: Global, forks: &Forks, start: u32, limit: u32) -> Result<EndSearched, NoMemory>
     requires { start < 4 }
 {
-    match search_ends(alloc, forks, Asked::All, start, limit, &mut Unwatched) {
-        Err(NoMemory) => search_ends(alloc, forks, Asked::One(1), start, limit, &mut Unwatched),
+    match search_ends(alloc, forks, MustStop::All, start, limit, &mut Unwatched) {
+        Err(NoMemory) => search_ends(alloc, forks, MustStop::One(1), start, limit, &mut Unwatched),
         found => found,
     }
 }

@@ -36,13 +36,10 @@ returns-in-Trapped c =
 pub returns-then-have_stopped : goal.returns-then-have_stopped
 returns-then-have_stopped c =
     let a = resolved c.args.program.now in
-    let plan = c.args.plan in
-    let d = c.loop-made.drawing in
     let s' = c.step.new.machine in
-    let drew = c.step-p.ensures.drawn ∙ ap (λ n. next_drawing plan.mode n d) c.processes-n.ensures.count in
-    stopped_whole a plan c.args.run (c.loop-made.made + 1) s' (omega (arith, c.loop-made-test.true))
-    (made_on a plan c.args.run c.loop-made.made c.step-p.result c.loop-made.machine s' d c.step-p.new.self
-    c.loop-made.invariant drew c.step-p.ensures.result c.in_ok-step.ensures.next)
+    stopped_whole a c.args.plan c.args.run (c.loop-made.made + 1) s' (omega (arith, c.loop-made-test.true))
+    (made_on a c.args.plan c.args.run c.loop-made.made c.step-p.result c.loop-made.machine s' c.loop-made.drawing c.step-p.new.self c.loop-made.invariant
+    (c.step-p.ensures.drawn ∙ ap (λ n. next_drawing c.args.plan.mode n c.loop-made.drawing) c.processes-n.ensures.count) c.step-p.ensures.result c.in_ok-step.ensures.next)
     (λ schedule. ap (λ n. source_run n schedule s') (sym c.processes-n.ensures.count) ∙ c.have_stopped.ensures c.if-have_stopped.true schedule)
     (c.in_ok-step.ensures.trapped ∙ ap is_trap c.in-Ended.is)
 
