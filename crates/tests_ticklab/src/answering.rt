@@ -14,7 +14,7 @@ pub type Answered = Result<Response, LabFault>;
 // The name of the file of each input.
 static NAME: &str = "a.tick";
 
-fn searched_once<W: Progress>(
+fn searched<W: Progress>(
     alloc: Global,
     input: &[u8],
     limit: u32,
@@ -25,18 +25,8 @@ fn searched_once<W: Progress>(
         name: NAME,
         bytes: input,
     };
-    explored(alloc, &mut files, watch, NAME, limit, is_merged)
-}
-
-fn searched<W: Progress>(
-    alloc: Global,
-    input: &[u8],
-    limit: u32,
-    is_merged: bool,
-    watch: &mut W,
-) -> Answered {
-    match searched_once(alloc, input, limit, is_merged, watch) {
-        Err(Answer(NoMemory)) => searched_once(alloc, input, limit, is_merged, watch),
+    match explored(alloc, &mut files, watch, NAME, limit, is_merged) {
+        Err(Answer(NoMemory)) => explored(alloc, &mut files, watch, NAME, limit, is_merged),
         answered => answered,
     }
 }

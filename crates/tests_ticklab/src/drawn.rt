@@ -1,22 +1,12 @@
 //! A picture of a file whose name would be markup.
 use crate::answering::Answered;
+use crate::of_runs::programs::DIVIDED;
 use crate::reading::OneFile;
 use std::alloc::{AllocError, Global};
 use std::str;
 use std::test::Fail;
 use tests_shared::{holds, is_same};
 use ticklab_answers::{Response, drawn};
-
-static BOTH_INSIDE: &str = "\
-processes 2;
-var other;
-reg inside;
-begin
-  put inside 1;
-  other = get inside (1 - me);
-  other = (1 / (other == 0));
-end
-";
 
 static SCHEDULE: &str = "1 0*4 1";
 
@@ -42,7 +32,7 @@ fn beside<'a>(alloc: Global, text: &'a str, name: &str) -> Result<Vec<&'a str>, 
 // A name of a file stands in the picture as it is, and is no part of its markup.
 #[test]
 fn hostile_name(rt: HostRuntime) -> Result<(), Fail> {
-    let (alloc, input) = (rt.alloc(), BOTH_INSIDE.as_bytes());
+    let (alloc, input) = (rt.alloc(), DIVIDED.as_bytes());
     let plain = drawn_of(alloc, "a.tick", input)?;
     let hostile = drawn_of(alloc, "a<b>&\"c\".tick", input)?;
     let wanted = beside(alloc, picture_in(&plain)?, "a.tick")?;

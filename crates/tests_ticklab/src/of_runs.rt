@@ -5,4 +5,4 @@
 mod drawing;
 mod markup;
 mod pictures;
-mod programs;
+pub mod programs;

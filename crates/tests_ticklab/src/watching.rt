@@ -70,6 +70,11 @@ fn is_safe(alloc: Global, states: u32) -> Result<String, Fail> {
     Ok(format!(in alloc; "no process traps under any schedule ({states} states)\n")?)
 }
 
+fn merged_is_safe(alloc: Global, input: &[u8], notes: &mut Notes, states: u32) -> Result<(), Fail> {
+    let answered = merged_of(alloc, input, 1_000_000, notes);
+    is_answer(answered, 0, &is_safe(alloc, states)?, "")
+}
+
 #[test]
 fn each_65536_states(rt: HostRuntime) -> Result<(), Fail> {
     let (alloc, input) = (rt.alloc(), COUNTING.as_bytes());
@@ -79,8 +84,7 @@ fn each_65536_states(rt: HostRuntime) -> Result<(), Fail> {
     is_same(&notes.told(132_651), &(2, 131_072, true))?;
     // all its steps are private
     let mut notes = Notes::new();
-    let answered = merged_of(alloc, input, 1_000_000, &mut notes);
-    is_answer(answered, 0, &is_safe(alloc, 8)?, "")?;
+    merged_is_safe(alloc, input, &mut notes, 8)?;
     is_same(&notes.told(0), &(0, 0, true))
 }
 
@@ -88,7 +92,6 @@ fn each_65536_states(rt: HostRuntime) -> Result<(), Fail> {
 fn each_65536_states_of_merged_steps(rt: HostRuntime) -> Result<(), Fail> {
     let (alloc, input) = (rt.alloc(), CLEARING.as_bytes());
     let mut notes = Notes::new();
-    let answered = merged_of(alloc, input, 1_000_000, &mut notes);
-    is_answer(answered, 0, &is_safe(alloc, 74_088)?, "")?;
+    merged_is_safe(alloc, input, &mut notes, 74_088)?;
     is_same(&notes.told(74_088), &(1, 65_536, true))
 }

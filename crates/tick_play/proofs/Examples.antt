@@ -3,7 +3,7 @@ use Rattle.std.proofs.Common.{◌≡◌, ℕ, List, [], ◌∷◌, ◌++◌, cod
 use Rattle.std.specs.Fmt.{digits}
 use Rattle.base.specs.Lines.{line_end}
 use Rattle.base.specs.declared.operator.Op.TheVariants as O
-use Rattle.base.specs.Plain.{number, named, me, binary, get, put, stamp, scan, older, out, Block, nil, cons, WholeProgram}
+use Rattle.base.specs.Plain.{number, named, me, binary, get, put, stamp, scan, older, out, Block, nil, cons, nowhere, WholeProgram}
 use Rattle.base.specs.declared.status.Trap.TheVariants as T
 use Rattle.base.specs.declared.status.Status.TheVariants as S
 use Rattle.base.specs.declared.event.Act.TheVariants as A
@@ -18,14 +18,8 @@ lines [] = []
 lines (text ∷ texts) = text ++ line_end ++ lines texts
 
 abbrev program : ℕ → List ℕ → List ℕ → List ℕ → Block ℕ → WholeProgram ℕ
-program n variables scans registers body = record {
-  processes = n;
-  span = record { start = 0; end = 0 };
-  variables = variables;
-  scans = scans;
-  registers = registers;
-  body = body;
-}
+program n variables scans registers body =
+    record { processes = n; span = nowhere; variables = variables; scans = scans; registers = registers; body = body }
 
 -- process 1 stamps after process 0 has ended
 abbrev one_after_the_other : List ℕ

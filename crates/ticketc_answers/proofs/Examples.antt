@@ -2,7 +2,7 @@
 use Rattle.std.proofs.Common.{ℕ, List, [], ◌++◌, codes, refl, ap, arith}
 use Rattle.std.specs.Fmt.{digits}
 use Rattle.base.specs.Lines.{line_end}
-use Rattle.base.specs.Plain.{Name, number, out, nil, cons, WholeProgram}
+use Rattle.base.specs.Plain.{Name, number, out, nil, cons, nowhere, WholeProgram}
 use Rattle.tick_merge.proofs.Offered.{seven_given, seven_run}
 use Rattle.threads_source.proofs.Offered.{threaded_source_law}
 use Rattle.tick_kinds.specs.Resolution.{resolved}
@@ -11,14 +11,7 @@ use Rattle.ticketc_answers.specs.Runs.{IsProgramOutcome}
 
 -- one process that gives out 7, and ends
 abbrev gives_seven : WholeProgram Name
-gives_seven = record {
-  processes = 1;
-  span = record { start = 0; end = 0 };
-  variables = [];
-  scans = [];
-  registers = [];
-  body = cons (out (number 7)) nil;
-}
+gives_seven = record { processes = 1; span = nowhere; variables = []; scans = []; registers = []; body = cons (out (number 7)) nil }
 
 abbrev seven_told : Answer
 seven_told = done (codes "outputs 0 7" ++ line_end ++ codes "status 0 ended" ++ line_end)

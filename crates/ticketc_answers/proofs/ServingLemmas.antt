@@ -26,7 +26,7 @@ use Rattle.ticketc_answers.specs.Serving.{Leaves, OnInput, Serves}
 use Rattle.ticketc_answers.specs.Stop.{IfTold}
 use Rattle.ticketc_answers.specs.declared.fault.EngineFault.{EngineFault}
 use Rattle.ticketc_answers.specs.declared.fault.EngineFault.TheVariants.{Read, Write, Memory, Thread}
-use Rattle.ticketc_answers.specs.declared.response.Response.{Response}
+use Rattle.ticketc_answers.specs.declared.response.StatusText.{StatusText}
 use Rattle.ticketc_answers.specs.declared.stop.Stop.{Stop}
 use Rattle.ticketc_answers.specs.declared.stop.Stop.TheVariants as stop
 use Rattle.ticketc_answers.specs.prover.Faults.{end_fault}
@@ -37,7 +37,7 @@ Consumes-nil : (a : Option (List ℕ)) → Consumes a a []
 Consumes-nil None = tt
 Consumes-nil (Some bytes) = refl
 
-module _ (command : PlainCommand) (response : Response) where
+module _ (command : PlainCommand) (response : StatusText) where
   abbrev By : List ℕ → Type 0
   By input = IsResponse (InputAnswers command input) response
 
@@ -64,7 +64,7 @@ module _ (command : PlainCommand) (response : Response) where
   }
 
 -- the response to a command, by the input
-pub answered_on_read : (command : PlainCommand) (known left : Option (List ℕ)) (read slice : List ℕ) (response : Response)
+pub answered_on_read : (command : PlainCommand) (known left : Option (List ℕ)) (read slice : List ℕ) (response : StatusText)
     → slice ≡ read → IsRead known left read → IsResponse (InputAnswers command slice) response
     → OnInput known (λ input. IsResponse (Answers (Ok command) input) response)
 answered_on_read command known left read slice response same reads answered =
@@ -79,7 +79,7 @@ pub takes_none : (known : Option (List ℕ)) → TakesFew known known
 takes_none known = record { bytes = []; taken = Consumes-nil known; few = omega arith }
 
 -- a response that was written is an answer that was
-left : {W : Type 0} (written : W → Option (List ℕ)) (before after : W) (run : Bool) (allowed : Answer → Type 0) (response : Response)
+left : {W : Type 0} (written : W → Option (List ℕ)) (before after : W) (run : Bool) (allowed : Answer → Type 0) (response : StatusText)
     (result : Result ℕ EngineFault)
     → IsResponse allowed response
     → IfOk result (λ status. status ≡ response.status)
@@ -120,14 +120,8 @@ module _ {R W : Type 0} (asked : Asked) (remaining : R → Option (List ℕ)) (r
       → OnInput (remaining old) (λ input. Leaves written before after (asks_run asked) result (Answers asked input))
       → CountsReads (end_fault_in result) (reads old) (reads new) → CountsWrites (end_fault_in result) (writes before) (writes after)
       → Serves asked remaining reads written writes old new before after result
-  served before after result answers reads_counted writes_counted = record {
-    answers = answers;
-    unread = unread;
-    few = few;
-    calls = calls;
-    reads_counted = reads_counted;
-    writes_counted = writes_counted;
-  }
+  served before after result answers reads_counted writes_counted =
+      record { answers = answers; unread = unread; few = few; calls = calls; reads_counted = reads_counted; writes_counted = writes_counted }
 
   -- where there is no response, nothing is written
   pub unanswered : (fault : EngineFault) → IsUnanswered (asks_run asked) fault → (writer : W) → (reads new).failures ≡ (reads old).failures
@@ -145,7 +139,7 @@ module _ {R W : Type 0} (asked : Asked) (remaining : R → Option (List ℕ)) (r
   gave_up_reading end.Write why writer counted = absurd (elim why [ inl read ↦ cc | inr memory ↦ cc ])
 
   -- a response that was written is an answer that was
-  pub gave_response : (response : Response) (before after : W) (result : Result ℕ EngineFault)
+  pub gave_response : (response : StatusText) (before after : W) (result : Result ℕ EngineFault)
       → OnInput (remaining old) (λ input. IsResponse (Answers asked input) response)
       → (reads new).failures ≡ (reads old).failures
       → IfOk result (λ status. status ≡ response.status)
@@ -163,7 +157,7 @@ module _ {R W : Type 0} (asked : Asked) (remaining : R → Option (List ℕ)) (r
       served before after result answers (read_all result fault (reads old) (reads new) none_failed) counted
 
 -- the response to words that are refused
-pub on_line : (fault : LineFault) (known : Option (List ℕ)) (response : Response) → Says response (line_answer fault)
+pub on_line : (fault : LineFault) (known : Option (List ℕ)) (response : StatusText) → Says response (line_answer fault)
     → OnInput known (λ input. IsResponse (Answers (Err fault) input) response)
 on_line fault known response told = on_any known _ (λ input. record { answer = line_answer fault; is_allowed = refl; says = told })
 
@@ -175,7 +169,7 @@ pub asking : {R W : Type 0} (asked other : Asked) (remaining : R → Option (Lis
 asking asked other remaining reads written writes old new before after result same served =
     subst (λ (these : Asked). Serves these remaining reads written writes old new before after result) same served
 
-stop_says : (is_run : Bool) (allowed : Answer → Type 0) (response : Response) (stop : Stop) → SaysStop response stop
+stop_says : (is_run : Bool) (allowed : Answer → Type 0) (response : StatusText) (stop : Stop) → SaysStop response stop
     → IfTold is_run allowed stop → IsResponse allowed response
 stop_says is_run allowed response (stop.Refused refusal) told held = record { answer = _; is_allowed = held; says = told }
 stop_says is_run allowed response stop.TooLong told held = record { answer = _; is_allowed = held; says = told }
@@ -190,7 +184,7 @@ fault_told is_run allowed stop Read is held = absurd is
 fault_told is_run allowed stop Write is held = absurd is
 
 -- the response to what stopped a command, or what keeps it away
-pub stop_answered : (command : PlainCommand) (input : List ℕ) (stop : Stop) (result : Result Response EngineFault)
+pub stop_answered : (command : PlainCommand) (input : List ℕ) (stop : Stop) (result : Result StatusText EngineFault)
     → IfOk result (λ response. SaysStop response stop) → IfErr result (IsFaultOf stop)
     → IfTold (asks_run (Ok command)) (InputAnswers command input) stop → IsAnswered command input result
 stop_answered command input stop (Ok response) told fault held = stop_says _ (InputAnswers command input) response stop told held

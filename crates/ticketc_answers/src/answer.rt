@@ -9,9 +9,9 @@ use crate::fault::EngineFault;
 use crate::maps::{Way, carried_text};
 use crate::order::order_text;
 use crate::program::{check_text, source_text};
-use crate::response::{Response, stop_response};
+use crate::response::{StatusText, stop_response};
 use crate::runs::run_text;
-use crate::stop::Stop;
+use crate::stop::Reply;
 use std::alloc::Global;
 use tick_merge::OneRun;
 use ticketc_line::Command;
@@ -22,23 +22,18 @@ pub fn response_to<O: OneRun>(
     one: O,
     command: Command<&str>,
     input: &[u8],
-) -> Result<Response, EngineFault>
+) -> Result<StatusText, EngineFault>
     requires fits { Fits (plain_command command) }
     ensures { IsAnswered (plain_command command.entry) input.now result }
 {
     match text_answer(alloc, one, command, input) {
-        Ok(text) => Ok(Response { status: 0, text }),
+        Ok(text) => Ok(StatusText { status: 0, text }),
         Err(stop) => stop_response(alloc, stop),
     }
 }
 
 // A run is made by `one`, and all else without it.
-fn text_answer<O: OneRun>(
-    alloc: Global,
-    one: O,
-    command: Command<&str>,
-    input: &[u8],
-) -> Result<String, Stop>
+fn text_answer<O: OneRun>(alloc: Global, one: O, command: Command<&str>, input: &[u8]) -> Reply
     requires fits { Fits (plain_command command) }
     ensures { Tells (is_run (plain_command command.entry)) (InputAnswers (plain_command command.entry) input.now) result }
 {

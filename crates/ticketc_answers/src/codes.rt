@@ -6,7 +6,7 @@ ghost use Rattle.ticketc_answers.specs.Inputs.{Is, Refuses};
 ghost use Rattle.ticketc_answers.specs.Stop.{IfTold, Tells};
 
 use crate::program::program_of;
-use crate::stop::Stop;
+use crate::stop::{Reply, Stop};
 use code_core::Code;
 use code_text::write_code;
 use language_schedules::read_schedule;
@@ -16,34 +16,34 @@ use tick_lower::lower;
 use tick_play::play_code;
 use ticketc_refusals::{begins_code, code_in};
 
-/// The text of the code that an accepted program becomes.
-pub fn emit_text(alloc: Global, input: &[u8]) -> Result<String, Stop>
-    ensures { Tells false (OnLowered (Is emit_answer) input.now) result }
-{
-    let code = lowered_code(alloc, input)?;
-    written(alloc, &code)
-}
-
-fn written(alloc: Global, code: &Code) -> Result<String, Stop>
-    ensures { Tells false (Is emit_answer code.now) result }
-{
-    let text = write_code(alloc, code)?;
-    Ok(text)
-}
-
 /// The report of the run of a code, or of the code of a program, under the schedule that a text spells.
-pub fn code_report(alloc: Global, input: &[u8], schedule: &str) -> Result<String, Stop>
+pub fn code_report(alloc: Global, input: &[u8], schedule: &str) -> Reply
     ensures { Tells false (OnCode (Is (code_answer schedule.now)) input.now) result }
 {
     let code = runnable_code(alloc, input)?;
     report_of_code(alloc, &code, schedule)
 }
 
-fn report_of_code(alloc: Global, code: &Code, schedule: &str) -> Result<String, Stop>
+fn report_of_code(alloc: Global, code: &Code, schedule: &str) -> Reply
     ensures { Tells false (Is (code_answer schedule.now) code.now) result }
 {
     let steps = read_schedule(alloc, schedule, code.sizes().processes())?;
     let text = play_code(alloc, code, steps.as_slice())?;
+    Ok(text)
+}
+
+/// The text of the code that an accepted program becomes.
+pub fn emit_text(alloc: Global, input: &[u8]) -> Reply
+    ensures { Tells false (OnLowered (Is emit_answer) input.now) result }
+{
+    let code = lowered_code(alloc, input)?;
+    written(alloc, &code)
+}
+
+fn written(alloc: Global, code: &Code) -> Reply
+    ensures { Tells false (Is emit_answer code.now) result }
+{
+    let text = write_code(alloc, code)?;
     Ok(text)
 }
 

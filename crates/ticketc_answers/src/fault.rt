@@ -2,7 +2,6 @@ ghost use Rattle.std.specs.Prelude.{◌≡◌};
 ghost use Rattle.ticketc_answers.specs.declared.fault.EngineFault.TheVariants.{Memory};
 ghost use Rattle.ticketc_answers.specs.prover.Faults.{end_fault};
 
-use language_schedules::NoMemory;
 use std::alloc::{AllocError, AllocFailed};
 use std::fmt;
 use thiserror::Error;
@@ -38,26 +37,10 @@ impl fmt::Display for EngineFault {
     }
 }
 
-impl From<AllocError> for EngineFault {
-    ghost from_gives = { λ _ fault. fault ≡ Memory };
-
-    fn from(_error: AllocError) -> EngineFault {
-        EngineFault::Memory
-    }
-}
-
 impl<T: Drop> From<AllocFailed<T>> for EngineFault {
     ghost from_gives = { λ _ fault. fault ≡ Memory };
 
     fn from(_error: AllocFailed<T>) -> EngineFault {
-        EngineFault::Memory
-    }
-}
-
-impl From<NoMemory> for EngineFault {
-    ghost from_gives = { λ _ fault. fault ≡ Memory };
-
-    fn from(_error: NoMemory) -> EngineFault {
         EngineFault::Memory
     }
 }
@@ -71,5 +54,13 @@ impl From<EndFault> for EngineFault {
             EndFault::Write => EngineFault::Write,
             EndFault::Memory => EngineFault::Memory,
         }
+    }
+}
+
+impl From<AllocError> for EngineFault {
+    ghost from_gives = { λ _ fault. fault ≡ Memory };
+
+    fn from(_error: AllocError) -> EngineFault {
+        EngineFault::Memory
     }
 }

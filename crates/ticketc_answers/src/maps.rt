@@ -7,7 +7,7 @@ ghost use Rattle.ticketc_answers.specs.Maps.{carried as carried_steps, carried_a
 ghost use Rattle.ticketc_answers.specs.Stop.{Tells};
 
 use crate::codes::lowering_of;
-use crate::stop::Stop;
+use crate::stop::Reply;
 use code_core::Code;
 use language_schedules::{NoMemory, read_schedule, write_schedule};
 use std::alloc::Global;
@@ -24,7 +24,7 @@ pub enum Way {
 }
 
 /// The schedule that the spelled one is on the other side, of the program that an input is and its code.
-pub fn carried_text(alloc: Global, way: Way, input: &[u8], schedule: &str) -> Result<String, Stop>
+pub fn carried_text(alloc: Global, way: Way, input: &[u8], schedule: &str) -> Reply
     ensures { Tells false (OnLowered (Is (carried_answer way schedule.now)) input.now) result }
 {
     let (program, code) = lowering_of(alloc, input)?;
@@ -37,7 +37,7 @@ fn carried_schedule(
     program: &Program,
     code: &Code,
     schedule: &str,
-) -> Result<String, Stop>
+) -> Reply
     requires { code.now ≡ code_of program.now }
     ensures { Tells false (Is (carried_answer way schedule.now) code.now) result }
 {

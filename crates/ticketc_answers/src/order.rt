@@ -10,7 +10,7 @@ ghost use Rattle.ticketc_answers.specs.Inputs.{Is, OnText};
 ghost use Rattle.ticketc_answers.specs.Order.{label_text, order_answer, move_line, move_lines, moves_text as moves_written, state_lines};
 ghost use Rattle.ticketc_answers.specs.Stop.{Tells};
 
-use crate::stop::Stop;
+use crate::stop::Reply;
 use base::push_number;
 use label_core::Label;
 use language_schedules::{Move, read_moves};
@@ -19,7 +19,7 @@ use ticketc_refusals::text_of;
 use word_core::{ABSENT_LABEL, EMPTY_LABEL, LAYOUT, LabelWord};
 
 /// The labels that `n` processes have after the stamps and clears that an input spells, and the way there.
-pub fn order_text(alloc: Global, n: u8, input: &[u8]) -> Result<String, Stop>
+pub fn order_text(alloc: Global, n: u8, input: &[u8]) -> Reply
     requires at_least_one { 1 ≤ n }
     requires at_most_six { n ≤ 6 }
     ensures { Tells false (OnText (Is (order_answer n)) input.now) result }
@@ -28,7 +28,7 @@ pub fn order_text(alloc: Global, n: u8, input: &[u8]) -> Result<String, Stop>
     ordered(alloc, n, text)
 }
 
-fn ordered(alloc: Global, n: u8, text: &str) -> Result<String, Stop>
+fn ordered(alloc: Global, n: u8, text: &str) -> Reply
     requires at_least_one { 1 ≤ n }
     requires at_most_six { n ≤ 6 }
     ensures { Tells false (Is (order_answer n) text.now) result }

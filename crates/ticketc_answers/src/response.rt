@@ -12,13 +12,13 @@ use ticketc_refusals::{Refusal, line_of};
 
 /// A text and a status, 0 to 2.
 #[derive(Drop)]
-pub struct Response {
+pub struct StatusText {
     pub status: u8,
     pub text: String,
 }
 
 /// The response to what stops a command. Want of memory or of a thread has none.
-pub fn stop_response(alloc: Global, stop: Stop) -> Result<Response, EngineFault>
+pub fn stop_response(alloc: Global, stop: Stop) -> Result<StatusText, EngineFault>
     ensures ok { IfOk result (λ response. SaysStop response stop) }
     ensures err { IfErr result (IsFaultOf stop) }
 {
@@ -30,22 +30,22 @@ pub fn stop_response(alloc: Global, stop: Stop) -> Result<Response, EngineFault>
     }
 }
 
-fn refusal_response(alloc: Global, refusal: Refusal) -> Result<Response, AllocError>
+fn refusal_response(alloc: Global, refusal: Refusal) -> Result<StatusText, AllocError>
     ensures { IfOk result (λ response. Says response (refused refusal)) }
 {
     let text = line_of(alloc, refusal)?;
-    Ok(Response { status: 1, text })
+    Ok(StatusText { status: 1, text })
 }
 
-fn too_long_response(alloc: Global) -> Result<Response, AllocError>
+fn too_long_response(alloc: Global) -> Result<StatusText, AllocError>
     ensures { IfOk result (λ response. Says response too_long) }
 {
     let text = String::from_str(alloc, "refused 31 TooLong\n")?;
-    Ok(Response { status: 1, text })
+    Ok(StatusText { status: 1, text })
 }
 
 /// The response to a command line that is refused.
-pub fn line_response(alloc: Global, fault: LineFault) -> Result<Response, AllocError>
+pub fn line_response(alloc: Global, fault: LineFault) -> Result<StatusText, AllocError>
     ensures { IfOk result (λ response. Says response (line_answer fault)) }
 {
     match fault {
@@ -54,19 +54,19 @@ pub fn line_response(alloc: Global, fault: LineFault) -> Result<Response, AllocE
     }
 }
 
-fn processes_response(alloc: Global) -> Result<Response, AllocError>
+fn processes_response(alloc: Global) -> Result<StatusText, AllocError>
     ensures { IfOk result (λ response. Says response no_processes) }
 {
     let text = String::from_str(alloc, "refused 11 Processes\n")?;
-    Ok(Response { status: 1, text })
+    Ok(StatusText { status: 1, text })
 }
 
-fn usage_response(alloc: Global) -> Result<Response, AllocError>
+fn usage_response(alloc: Global) -> Result<StatusText, AllocError>
     ensures { IfOk result (λ response. Says response usage) }
 {
     let text = String::from_str(
         alloc,
         "usage: ticketc order N | check | emit | source S | code S | lift S | drop S | run TURNS\n",
     )?;
-    Ok(Response { status: 2, text })
+    Ok(StatusText { status: 2, text })
 }

@@ -6,7 +6,7 @@ ghost use Rattle.ticketc_answers.specs.Runs.{IsOutcomeOf};
 ghost use Rattle.ticketc_answers.specs.Stop.{Tells};
 
 use crate::codes::runnable_code;
-use crate::stop::Stop;
+use crate::stop::Reply;
 use code_core::Code;
 use std::alloc::Global;
 use tick_merge::OneRun;
@@ -16,14 +16,14 @@ use tick_play::outcome_text;
 const OUTPUTS: u32 = 10_000;
 
 /// What a run of the code that an input is, or of the code of the program that it is, lets others see.
-pub fn run_text<O: OneRun>(alloc: Global, one: O, input: &[u8], turns: u64) -> Result<String, Stop>
+pub fn run_text<O: OneRun>(alloc: Global, one: O, input: &[u8], turns: u64) -> Reply
     ensures { Tells true (OnCode (IsOutcomeOf turns) input.now) result }
 {
     let code = runnable_code(alloc, input)?;
     told(alloc, one, &code, turns)
 }
 
-fn told<O: OneRun>(alloc: Global, one: O, code: &Code, turns: u64) -> Result<String, Stop>
+fn told<O: OneRun>(alloc: Global, one: O, code: &Code, turns: u64) -> Reply
     ensures { Tells true (IsOutcomeOf turns code.now) result }
 {
     let outcome = one.run_once(code, turns, OUTPUTS)?;

@@ -8,7 +8,7 @@ ghost use Rattle.ticketc_answers.specs.Serving.{Serves};
 
 use crate::answer::response_to;
 use crate::fault::EngineFault;
-use crate::response::{Response, line_response};
+use crate::response::{StatusText, line_response};
 use std::alloc::Global;
 use tick_merge::OneRun;
 use ticketc_io::{ByteSink, ByteSource, read_input, write_text};
@@ -39,7 +39,7 @@ pub fn engine<O: OneRun, R: ByteSource, W: ByteSink>(
     }
 }
 
-fn write_response<W: ByteSink>(writer: &mut W, response: &Response) -> Result<u8, EngineFault>
+fn write_response<W: ByteSink>(writer: &mut W, response: &StatusText) -> Result<u8, EngineFault>
     ensures status { IfOk result (λ status. status ≡ response.now.status) }
     ensures ok { OnOk result (Appends (W.written writer.old) (W.written writer.new) (string_bytes response.now.text)) }
     ensures err { OnErr result (WritesPrefix (W.written writer.old) (W.written writer.new) (string_bytes response.now.text)) }

@@ -1,5 +1,6 @@
 -- What reading keeps from call to call.
-use Rattle.std.proofs.Common.{◌≡◌, ◌≢◌, zero, suc, ap, refl, ◌++◌, ◌+◌, ◌-◌, ◌^◌, ◌≤◌, min, ℕ, List, length, Option, Some, None, append_assoc, sym}
+use Rattle.std.proofs.Common.{◌≡◌, ◌≢◌, zero, suc, ap, refl, ◌∙◌, ◌++◌, ◌+◌, ◌-◌, ◌^◌, ◌≤◌, min, ℕ, List, Vec, Global, length, take, Option, Some, None, append_assoc, sym}
+use Rattle.std.proofs.lemmas.List.{take-append-le}
 use Rattle.std.specs.Io.KnownBytes.{Consumes, Keeps}
 use Rattle.ticketc_io.specs.Calls.{after_read, counted}
 use Rattle.ticketc_io.specs.declared.counts.Counts.{Counts}
@@ -26,6 +27,12 @@ Consumes-keeps None b c xs first second = tt
 Consumes-keeps (Some held) None c xs first second = absurd first
 Consumes-keeps (Some held) (Some bs) None xs first second = absurd second
 Consumes-keeps (Some held) (Some bs) (Some cs) xs first second = rw second first
+
+-- the input with what was taken to the front of the buffer
+pub grown_by : (input pushed : Vec ℕ Global) (old buffer rest : List ℕ) (count : ℕ) → input ≡ pushed
+    → pushed.items ≡ old ++ take count (buffer ++ rest) → count ≤ length buffer → input.items ≡ old ++ take count buffer
+grown_by input pushed old buffer rest count is more within =
+    ap (λ (v : Vec ℕ Global). v.items) is ∙ more ∙ ap (λ (bytes : List ℕ). old ++ bytes) (take-append-le _ _ _ within)
 
 pub after_some : (count : ℕ) (old new : Counts) → count ≢ 0 → new ≡ after_read (Moved count) old
     → (new.failures ≡ old.failures) × (new.ends ≡ old.ends) × (new.calls ≡ counted old.calls)

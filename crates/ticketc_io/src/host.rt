@@ -4,8 +4,7 @@ ghost use Rattle.ticketc_io.specs.Calls.{ReadGives, WriteTakes, after_read, afte
 ghost use Rattle.ticketc_io.specs.Host.{IsReadOnce, IsTransferOf, IsWrittenOnce};
 
 use crate::counts::Counts;
-use crate::sink::ByteSink;
-use crate::source::ByteSource;
+use crate::ends::{ByteSink, ByteSource};
 use crate::transfer::Transfer;
 use std::io;
 use std::io::{ErrorKind, Read, Write};

@@ -7,19 +7,17 @@
 #![tactic(auto)]
 
 mod counts;
+mod ends;
 mod fault;
 mod host;
 mod reading;
-mod sink;
-mod source;
 mod transfer;
 mod writing;
 
 pub use counts::Counts;
+pub use ends::{ByteSink, ByteSource};
 pub use fault::EndFault;
 pub use host::{HostReader, HostWriter, transfer_of};
 pub use reading::{INPUT_LIMIT, read_input};
-pub use sink::ByteSink;
-pub use source::ByteSource;
 pub use transfer::Transfer;
 pub use writing::write_text;

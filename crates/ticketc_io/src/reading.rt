@@ -1,16 +1,26 @@
 ghost use Rattle.std.specs.Prelude.{◌≡◌, ◌⊎◌, ◌+◌, ◌≤◌, IfErr, IfOk, length};
 ghost use Rattle.ticketc_io.specs.Reading.{CountsReads, EndsLast, IsRead, TakesFew, fault_in};
+ghost use Rattle.ticketc_io.specs.declared.fault.EndFault.TheVariants.{Memory};
 
+use crate::ends::ByteSource;
 use crate::fault::EndFault;
-use crate::source::ByteSource;
 use crate::transfer::Transfer;
-use std::alloc::Global;
+use std::alloc::{AllocError, Global};
 
 /// The longest input that is answered, in bytes. One more is read, to tell a longer one.
 pub const INPUT_LIMIT: usize = 1_000_000;
 
 /// How often the input is asked for bytes at most, interruptions included.
 const READ_LIMIT: u64 = 2_000_000;
+
+// Reading alone takes memory.
+impl From<AllocError> for EndFault {
+    ghost from_gives = { λ _ fault. fault ≡ Memory };
+
+    fn from(_error: AllocError) -> EndFault {
+        EndFault::Memory
+    }
+}
 
 /// Reads an input to its end, or one byte past the limit.
 pub fn read_input<R: ByteSource>(alloc: Global, reader: &mut R) -> Result<Vec<u8>, EndFault>

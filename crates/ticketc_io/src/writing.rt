@@ -3,8 +3,8 @@ ghost use Rattle.std.specs.Io.KnownBytes.{Appends};
 ghost use Rattle.ticketc_io.specs.Reading.{fault_in};
 ghost use Rattle.ticketc_io.specs.Writing.{CountsWrites, WritesPrefix};
 
+use crate::ends::ByteSink;
 use crate::fault::EndFault;
-use crate::sink::ByteSink;
 use crate::transfer::Transfer;
 
 /// How many interruptions in a row a write is tried again after.

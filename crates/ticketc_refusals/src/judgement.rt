@@ -48,24 +48,6 @@ fn of_kinds(fault: KindFault) -> Result<Refusal, NoMemory>
     }
 }
 
-fn of_code(fault: CodeFault) -> Result<Refusal, NoMemory>
-    ensures { IfOk result (λ refusal. (fault ≢ CodeFault.NoMemory) × (refusal ≡ Refusal.Code fault)) }
-{
-    match fault {
-        CodeFault::NoMemory => Err(NoMemory),
-        fault => Ok(Refusal::Code(fault)),
-    }
-}
-
-fn of_schedule(fault: ScheduleFault) -> Result<Refusal, NoMemory>
-    ensures { IfOk result (λ refusal. (fault ≢ ScheduleFault.NoMemory) × (refusal ≡ Refusal.Schedule fault)) }
-{
-    match fault {
-        ScheduleFault::NoMemory => Err(NoMemory),
-        fault => Ok(Refusal::Schedule(fault)),
-    }
-}
-
 /// The accepted program that an input is, or why it is none.
 pub fn program_in(alloc: Global, input: &[u8]) -> Result<Result<Program, Refusal>, NoMemory>
     ensures { IfOk result (λ found. MatchResult found (ProgramIn input.now) (IsProgramRefused input.now)) }
@@ -105,6 +87,15 @@ pub fn code_in(alloc: Global, input: &[u8]) -> Result<Result<Code, Refusal>, NoM
     }
 }
 
+fn of_code(fault: CodeFault) -> Result<Refusal, NoMemory>
+    ensures { IfOk result (λ refusal. (fault ≢ CodeFault.NoMemory) × (refusal ≡ Refusal.Code fault)) }
+{
+    match fault {
+        CodeFault::NoMemory => Err(NoMemory),
+        fault => Ok(Refusal::Code(fault)),
+    }
+}
+
 /// Why an input is no verified code, where it is none.
 pub fn code_refusal(alloc: Global, input: &[u8]) -> Result<Option<Refusal>, NoMemory>
     ensures { IfOk result (λ found. MatchOption found (IsCode input.now) (IsCodeRefused input.now)) }
@@ -118,6 +109,15 @@ pub fn begins_code(input: &[u8]) -> bool
     ensures no { result ≡ false → BeginsCode input.now → ⊥ }
 {
     input.starts_with(b"tickcode ")
+}
+
+fn of_schedule(fault: ScheduleFault) -> Result<Refusal, NoMemory>
+    ensures { IfOk result (λ refusal. (fault ≢ ScheduleFault.NoMemory) × (refusal ≡ Refusal.Schedule fault)) }
+{
+    match fault {
+        ScheduleFault::NoMemory => Err(NoMemory),
+        fault => Ok(Refusal::Schedule(fault)),
+    }
 }
 
 /// Why a text is no schedule of so many processes, where it is none.

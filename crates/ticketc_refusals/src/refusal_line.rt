@@ -54,12 +54,12 @@ fn push_text(line: &mut String, fault: TextFault) -> Result<(), AllocError>
 {
     match fault {
         TextFault::TextTooLong => line.push_str("1 TextTooLong"),
+        TextFault::NoMemory => Ok(()),
         TextFault::BadCharacter(place) => push_with_number(line, "2 BadCharacter", place),
         TextFault::NumberTooBig(span) => push_with_span(line, "3 NumberTooBig", span),
         TextFault::NameTooLong(span) => push_with_span(line, "4 NameTooLong", span),
         TextFault::Unexpected(span) => push_with_span(line, "5 Unexpected", span),
         TextFault::TooDeep(span) => push_with_span(line, "6 TooDeep", span),
-        TextFault::NoMemory => Ok(()),
     }
 }
 

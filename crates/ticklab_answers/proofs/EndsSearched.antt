@@ -4,7 +4,7 @@ use Rattle.base.specs.Plain.{Name, WholeProgram}
 use Rattle.tick_kinds.specs.Resolution.{resolved}
 use Rattle.searches_states.specs.Ending.{IsAskedOf}
 use Rattle.searches_states.specs.Watching.{Told, AreTold, IsWatched}
-use Rattle.searches_states.specs.declared.ending.Asked.{Asked}
+use Rattle.searches_states.specs.declared.ending.MustStop.{MustStop}
 use Rattle.searches_explore.specs.Ending.{CanAlwaysEnd, IfEnds, IfStuck, IsShortestStuck, explore_answer}
 use Rattle.searches_explore.specs.Searching.{AreToldFor, IfLimit, IfSafe, IfTrapped, IsLimit, IsSafe, IsShortestTrap, Sees}
 use Rattle.searches_explore.specs.declared.ending.EndExplored.{EndExplored}
@@ -16,7 +16,7 @@ use Rattle.ticklab_answers.specs.Runs.{IsOf}
 use Rattle.ticklab_answers.specs.Shown.{ShowsEnds, ShowsStuck, ShowsTrap}
 use Rattle.ticklab_answers.specs.declared.response.Response.{Response}
 
-pub stuck_lawful : (a : WholeProgram ℕ) (asked : Asked) (e : EndExplored) → IfStuck e (IsShortestStuck a asked) → IfStuck e (All (λ p. p < a.processes))
+pub stuck_lawful : (a : WholeProgram ℕ) (asked : MustStop) (e : EndExplored) → IfStuck e (IsShortestStuck a asked) → IfStuck e (All (λ p. p < a.processes))
 stuck_lawful a asked (Trapped s) is = tt
 stuck_lawful a asked (Stuck s count) is = is.lawful
 stuck_lawful a asked (Ends count) is = tt

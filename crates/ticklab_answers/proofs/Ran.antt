@@ -7,7 +7,7 @@ use Rattle.ticklab_explain.specs.Reports.{TellsFor}
 use Rattle.ticklab_answers.specs.Codes.{IsCodeless}
 use Rattle.ticklab_answers.specs.Runs.{IsRun, IsUnrun, code_refused, schedule_refused}
 use Rattle.ticklab_answers.specs.Stops.{IfRefused}
-use Rattle.ticklab_answers.specs.declared.stop.Stop.{Stop}
+use Rattle.ticklab_answers.specs.declared.stop.NoAnswer.{NoAnswer}
 use Rattle.ticklab_answers.proofs.Settled.{refused_as}
 
 -- the text was read for as many processes as the program has
@@ -28,13 +28,13 @@ run_by P input text a is n count schedule given spelled same out told told_is he
 
 -- Each is a reason why it isn't made.
 module _ (name input from text : List ℕ) (is_code : Bool) (a : WholeProgram Name) (is : (is : IsProgram input) × (a ≡ is.program)) (n : ℕ) (count : n ≡ a.processes) where
-  pub schedule_unrun : (stop : Stop) → IfRefused stop (TellsFor n (IsScheduleRefused n text) from text)
+  pub schedule_unrun : (stop : NoAnswer) → IfRefused stop (TellsFor n (IsScheduleRefused n text) from text)
       → IfRefused stop (IsUnrun name input from text is_code)
   schedule_unrun stop =
       refused_as stop (λ report told. schedule_refused is.0 (subst (λ b. TellsFor b.processes (IsScheduleRefused b.processes text) from text report) is.1
       (subst (λ m. TellsFor m (IsScheduleRefused m text) from text report) count told)))
 
-  pub code_unrun : (schedule : List ℕ) → schedule_of n text ≡ Ok schedule → (stop : Stop) → IfRefused stop (IsCodeless is_code name a)
+  pub code_unrun : (schedule : List ℕ) → schedule_of n text ≡ Ok schedule → (stop : NoAnswer) → IfRefused stop (IsCodeless is_code name a)
       → IfRefused stop (IsUnrun name input from text is_code)
   code_unrun schedule spelled stop =
       refused_as stop (λ report none. code_refused is.0 schedule (as_read a is.0.program is.1 n count text schedule spelled)

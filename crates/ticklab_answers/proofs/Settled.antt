@@ -3,13 +3,13 @@ use Rattle.std.proofs.Common.{◌≡◌, ℕ, List, Result, Ok, Err, IfOk, IfErr
 use Rattle.ticklab_answers.specs.Responses.{Refuses}
 use Rattle.ticklab_answers.specs.Stops.{IfRefused, IsRefusal, TellsReport}
 use Rattle.ticklab_answers.specs.declared.response.Response.{Response}
-use Rattle.ticklab_answers.specs.declared.stop.Stop.{Stop}
-use Rattle.ticklab_answers.specs.declared.stop.Stop.TheVariants.{Refused, Fault}
+use Rattle.ticklab_answers.specs.declared.stop.NoAnswer.{NoAnswer}
+use Rattle.ticklab_answers.specs.declared.stop.NoAnswer.TheVariants.{Refused, Fault}
 
 refuses_by : {Q : List ℕ → Type 0} (x : Response) (report : List ℕ) → TellsReport x report → Q report → Refuses 1 Q x
 refuses_by {Q} x report t told = record { status = t.status; nothing = t.nothing; told = subst Q (sym t.told) told }
 
-pub settled_with : {P R : Response → Type 0} {Q : List ℕ → Type 0} (answered : Result Response Stop) (x : Response)
+pub settled_with : {P R : Response → Type 0} {Q : List ℕ → Type 0} (answered : Result Response NoAnswer) (x : Response)
     → ((x : Response) → P x → R x) → ((x : Response) → Refuses 1 Q x → R x)
     → IfOk answered P → IfErr answered (λ stop. IfRefused stop Q)
     → MatchResult answered (λ given. x ≡ given) (IsRefusal x) → R x
@@ -18,12 +18,12 @@ settled_with (Err (Refused report)) x f g ok err told = g x (refuses_by x report
 settled_with (Err (Fault fault)) x f g ok err told = absurd told
 
 -- the report of a refusal, told for another reason
-pub refused_as : {P Q : List ℕ → Type 0} (stop : Stop) → ((report : List ℕ) → P report → Q report) → IfRefused stop P → IfRefused stop Q
+pub refused_as : {P Q : List ℕ → Type 0} (stop : NoAnswer) → ((report : List ℕ) → P report → Q report) → IfRefused stop P → IfRefused stop Q
 refused_as (Refused report) f h = f report.items h
 refused_as (Fault fault) f h = tt
 
 -- a `?` hands a stop on
-pub stopped_by : {T : Type 0} (Q : List ℕ → Type 0) (stop : Stop) (r : Result T Stop) → IsErrAnd r (λ d. d ≡ stop) → IfRefused stop Q
+pub stopped_by : {T : Type 0} (Q : List ℕ → Type 0) (stop : NoAnswer) (r : Result T NoAnswer) → IsErrAnd r (λ d. d ≡ stop) → IfRefused stop Q
     → IfErr r (λ d. IfRefused d Q)
 stopped_by Q stop (Ok x) err held = tt
 stopped_by Q stop (Err d) err held = subst (λ s. IfRefused s Q) (sym err) held

@@ -11,7 +11,7 @@ use Rattle.ticklab_answers.specs.Codes.{HasCode, HasNoCode, program_code}
 use Rattle.ticklab_answers.specs.Lines.{count_texts}
 use Rattle.ticklab_answers.specs.Stops.{IfRefused}
 use Rattle.ticklab_answers.specs.Tallies.{IsTally, IsUncoded, RunsOf, no_code, no_program}
-use Rattle.ticklab_answers.specs.declared.stop.Stop.{Stop}
+use Rattle.ticklab_answers.specs.declared.stop.NoAnswer.{NoAnswer}
 use Rattle.ticklab_answers.proofs.Settled.{refused_as}
 
 pub tally_by : {M : Type 0} (Ran : RunsOf M) (before after : M) (times turns : ℕ) (input : List ℕ) (a : WholeProgram Name)
@@ -31,10 +31,10 @@ tally_by Ran before after times turns input a is has code made outcomes all runs
 }
 
 module _ {R : Type 0} (same : R) (name input : List ℕ) where
-  pub program_uncoded : (stop : Stop) → IfRefused stop (Tells (IsProgramRefused input) name input)
+  pub program_uncoded : (stop : NoAnswer) → IfRefused stop (Tells (IsProgramRefused input) name input)
       → IfRefused stop (λ report. IsUncoded name input report × R)
   program_uncoded stop = refused_as stop (λ report told. (no_program told, same))
 
-  pub code_uncoded : (a : WholeProgram Name) → ((is : IsProgram input) × (a ≡ is.program)) → (stop : Stop) → IfRefused stop (HasNoCode name a)
+  pub code_uncoded : (a : WholeProgram Name) → ((is : IsProgram input) × (a ≡ is.program)) → (stop : NoAnswer) → IfRefused stop (HasNoCode name a)
       → IfRefused stop (λ report. IsUncoded name input report × R)
   code_uncoded a is stop = refused_as stop (λ report none. (no_code is.0 (subst (λ b. HasNoCode name b report) is.1 none), same))

@@ -3,8 +3,8 @@ use Rattle.std.specs.Prelude.{◌≡◌, ◌≤◌, ℕ, List, [], Option, Some,
 use Rattle.tick_kinds.specs.Resolution.{resolved}
 use Rattle.searches_states.specs.Ending.{IsAskedOf}
 use Rattle.searches_states.specs.Watching.{Told, AreTold, IsWatched}
-use Rattle.searches_states.specs.declared.ending.Asked.{Asked}
-use Rattle.searches_states.specs.declared.ending.Asked.TheVariants.{All, One}
+use Rattle.searches_states.specs.declared.ending.MustStop.{MustStop}
+use Rattle.searches_states.specs.declared.ending.MustStop.TheVariants.{All, One}
 use Rattle.searches_explore.specs.Ending.{CanAlwaysEnd, IsShortestStuck}
 use Rattle.searches_explore.specs.Searching.{IsLimit, IsSafe, IsShortestTrap, Sees}
 use Rattle.ticketc_refusals.specs.Refusals.{IsProgram, IsProgramRefused}
@@ -17,7 +17,7 @@ use Rattle.ticklab_answers.specs.Shown.{ShowsCanEnd, ShowsLimit, ShowsStuck, Sho
 use Rattle.ticklab_answers.specs.declared.response.Response.{Response}
 
 -- who is asked for: all, where no process is named
-abbrev pub asked_by : Option ℕ → Asked
+abbrev pub asked_by : Option ℕ → MustStop
 asked_by None = All
 asked_by (Some p) = One p
 

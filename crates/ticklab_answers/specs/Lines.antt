@@ -5,8 +5,8 @@ use Rattle.base.specs.Lines.{line_end}
 use Rattle.language_schedules.specs.Written.{schedule_text}
 use Rattle.language_schedules.specs.declared.schedule.ScheduleFault.{ScheduleFault}
 use Rattle.language_schedules.specs.declared.schedule.ScheduleFault.TheVariants.{BadItem, NoSuchProcess, TooLong, NoMemory}
-use Rattle.searches_states.specs.declared.ending.Asked.{Asked}
-use Rattle.searches_states.specs.declared.ending.Asked.TheVariants.{All, One}
+use Rattle.searches_states.specs.declared.ending.MustStop.{MustStop}
+use Rattle.searches_states.specs.declared.ending.MustStop.TheVariants.{All, One}
 use Rattle.searches_hunt.specs.declared.plan.Plan.{Plan}
 use Rattle.searches_hunt.specs.declared.tallying.counting.Counted.{Counted}
 
@@ -45,14 +45,14 @@ abbrev pub limit_line : ℕ → List ℕ
 limit_line states = codes "there are more than " ++ states_text states ++ codes ": nothing is said of all schedules\n"
 
 -- who is asked for, that they can always end, that they can't any more, and that there is no such process
-abbrev pub asked_text : Asked → List ℕ
+abbrev pub asked_text : MustStop → List ℕ
 asked_text All = codes "all processes"
 asked_text (One p) = codes "process " ++ decimal p
 
-abbrev pub can_end_line : Asked → ℕ → List ℕ
+abbrev pub can_end_line : MustStop → ℕ → List ℕ
 can_end_line asked states = asked_text asked ++ codes " can still end after every schedule (" ++ states_text states ++ codes ")\n"
 
-abbrev pub stuck_line : Asked → List ℕ
+abbrev pub stuck_line : MustStop → List ℕ
 stuck_line asked = codes "after this schedule no further steps end " ++ asked_text asked ++ codes ", and after each shorter one some do:"
 
 abbrev pub no_process_line : ℕ → List ℕ

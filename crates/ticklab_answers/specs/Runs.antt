@@ -19,6 +19,8 @@ use Rattle.ticklab_draw.specs.Pictures.{picture}
 use Rattle.ticklab_answers.specs.Codes.{HasCode, IsCodeless, program_code}
 use Rattle.ticklab_answers.specs.Reading.{AfterBoth, ReadsOf, ReadsInputOf}
 use Rattle.ticklab_answers.specs.Responses.{Gives, Refuses}
+use Rattle.ticklab_answers.specs.declared.commands.told_run.Telling.{Telling}
+use Rattle.ticklab_answers.specs.declared.commands.told_run.Telling.TheVariants.{Trace, Picture}
 use Rattle.ticklab_answers.specs.declared.response.Response.{Response}
 
 -- the accepted program that the input is
@@ -63,10 +65,6 @@ abbrev pub IsTrace : Bool → List ℕ → WholeProgram Name → List ℕ → Li
 IsTrace true input a schedule out = IsInstructionTrace a schedule out
 IsTrace false input a schedule out = IsStatementTrace input a schedule out
 
-abbrev pub Traces : {F : Type 0} → ReadsOf F → ReadsInputOf F → F → F → List ℕ → List ℕ → Bool → Response → Type 0
-Traces Reads ReadsInput before after file schedule is_code response =
-    AfterBoth Reads ReadsInput before after file schedule (λ input from text. AnswersRun (IsTrace is_code input) file input from text is_code response)
-
 abbrev pub row_names : WholeProgram Name → List (List ℕ)
 row_names a = map (λ row. row.letters) a.registers
 
@@ -76,6 +74,17 @@ IsRunPicture true name a schedule out =
     HasCode a × (out ≡ picture name a.processes (row_names a) (marks_of_code (program_code a) schedule))
 IsRunPicture false name a schedule out = out ≡ picture name a.processes (row_names a) (program_marks (resolved a) schedule)
 
+-- a run is told as a trace or as a picture
+abbrev pub IsTold : Telling → Bool → List ℕ → List ℕ → WholeProgram Name → List ℕ → List ℕ → Type 0
+IsTold Trace is_code name input = IsTrace is_code input
+IsTold Picture is_code name input = IsRunPicture is_code name
+
+abbrev pub TellsRun : {F : Type 0} → Telling → ReadsOf F → ReadsInputOf F → F → F → List ℕ → List ℕ → Bool → Response → Type 0
+TellsRun telling Reads ReadsInput before after file schedule is_code response =
+    AfterBoth Reads ReadsInput before after file schedule (λ input from text. AnswersRun (IsTold telling is_code file input) file input from text is_code response)
+
+abbrev pub Traces : {F : Type 0} → ReadsOf F → ReadsInputOf F → F → F → List ℕ → List ℕ → Bool → Response → Type 0
+Traces Reads ReadsInput before after file schedule is_code response = TellsRun Trace Reads ReadsInput before after file schedule is_code response
+
 abbrev pub Draws : {F : Type 0} → ReadsOf F → ReadsInputOf F → F → F → List ℕ → List ℕ → Bool → Response → Type 0
-Draws Reads ReadsInput before after file schedule is_code response =
-    AfterBoth Reads ReadsInput before after file schedule (λ input from text. AnswersRun (IsRunPicture is_code file) file input from text is_code response)
+Draws Reads ReadsInput before after file schedule is_code response = TellsRun Picture Reads ReadsInput before after file schedule is_code response

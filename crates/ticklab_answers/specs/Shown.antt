@@ -5,7 +5,7 @@ use Rattle.searches_explore.specs.declared.answer.Explored.{Explored}
 use Rattle.searches_explore.specs.declared.answer.Explored.TheVariants.{Trapped, Safe, Limit}
 use Rattle.searches_explore.specs.declared.ending.EndExplored.{EndExplored}
 use Rattle.searches_explore.specs.declared.ending.EndExplored.TheVariants as E
-use Rattle.searches_states.specs.declared.ending.Asked.{Asked}
+use Rattle.searches_states.specs.declared.ending.MustStop.{MustStop}
 use Rattle.searches_hunt.specs.declared.answer.Hunted.{Hunted}
 use Rattle.searches_hunt.specs.declared.answer.Hunted.TheVariants.{Found, Nothing}
 use Rattle.searches_hunt.specs.declared.plan.Plan.{Plan}
@@ -29,10 +29,10 @@ ShowsSafe states = Gives 0 (λ out. out ≡ safe_line states)
 abbrev pub ShowsLimit : ℕ → Response → Type 0
 ShowsLimit states = Gives 6 (λ out. out ≡ limit_line states)
 
-abbrev pub ShowsCanEnd : Asked → ℕ → Response → Type 0
+abbrev pub ShowsCanEnd : MustStop → ℕ → Response → Type 0
 ShowsCanEnd asked states = Gives 0 (λ out. out ≡ can_end_line asked states)
 
-abbrev pub ShowsStuck : Asked → List ℕ → WholeProgram Name → List ℕ → Response → Type 0
+abbrev pub ShowsStuck : MustStop → List ℕ → WholeProgram Name → List ℕ → Response → Type 0
 ShowsStuck asked input a schedule = Gives 7 (IsTrapText (stuck_line asked) input a schedule)
 
 abbrev pub ShowsNothing : Plan → Response → Type 0
@@ -47,7 +47,7 @@ abbrev pub ShowsHunt : List ℕ → WholeProgram Name → Plan → Hunted → Re
 ShowsHunt input a plan (Found run schedule) response = ShowsTrap minimal_line input a schedule.items response
 ShowsHunt input a plan Nothing response = ShowsNothing plan response
 
-abbrev pub ShowsEnds : Asked → List ℕ → WholeProgram Name → EndExplored → Response → Type 0
+abbrev pub ShowsEnds : MustStop → List ℕ → WholeProgram Name → EndExplored → Response → Type 0
 ShowsEnds asked input a (E.Trapped schedule) response = ShowsTrap shortest_line input a schedule.items response
 ShowsEnds asked input a (E.Stuck schedule states) response = ShowsStuck asked input a schedule.items response
 ShowsEnds asked input a (E.Ends states) response = ShowsCanEnd asked states response

@@ -5,10 +5,10 @@ use Rattle.tick_merge.specs.declared.run_fault.RunFault.TheVariants as run
 use Rattle.ticklab_answers.specs.declared.fault.AnswerFault.{AnswerFault}
 use Rattle.ticklab_answers.specs.declared.fault.AnswerFault.TheVariants as answer
 use Rattle.ticklab_answers.specs.declared.response.Response.{Response}
-use Rattle.ticklab_answers.specs.declared.stop.Stop.{Stop}
-use Rattle.ticklab_answers.specs.declared.stop.Stop.TheVariants.{Refused, Fault}
+use Rattle.ticklab_answers.specs.declared.stop.NoAnswer.{NoAnswer}
+use Rattle.ticklab_answers.specs.declared.stop.NoAnswer.TheVariants.{Refused, Fault}
 
-abbrev pub IfRefused : Stop → (List ℕ → Type 0) → Type 0
+abbrev pub IfRefused : NoAnswer → (List ℕ → Type 0) → Type 0
 IfRefused (Refused report) P = P report.items
 IfRefused (Fault fault) P = Unit {0}
 
@@ -24,6 +24,6 @@ pub record TellsReport (response : Response) (report : List ℕ) : Type 0 where
   pub told : response.told.items ≡ report
 
 -- a fault has no answer
-abbrev pub IsRefusal : Response → Stop → Type 0
+abbrev pub IsRefusal : Response → NoAnswer → Type 0
 IsRefusal response (Refused report) = TellsReport response report.items
 IsRefusal response (Fault fault) = ⊥

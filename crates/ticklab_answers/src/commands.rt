@@ -11,6 +11,7 @@ mod exploring;
 mod hunting;
 mod labels;
 mod tallying;
+mod told_run;
 mod tracing;
 
 use crate::fault::LabFault;

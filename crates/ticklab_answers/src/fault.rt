@@ -23,6 +23,17 @@ pub enum AnswerFault {
     NoThread,
 }
 
+impl From<RunFault> for AnswerFault {
+    ghost from_gives = { λ run fault. fault ≡ fault_of run };
+
+    fn from(fault: RunFault) -> AnswerFault {
+        match fault {
+            RunFault::NoMemory => AnswerFault::from(NoMemory),
+            RunFault::NoThread => AnswerFault::NoThread,
+        }
+    }
+}
+
 impl From<NoMemory> for AnswerFault {
     ghost from_gives = { λ _ fault. fault ≡ answer.NoMemory };
 
@@ -44,17 +55,6 @@ impl<T: Drop> From<AllocFailed<T>> for AnswerFault {
 
     fn from(_error: AllocFailed<T>) -> AnswerFault {
         AnswerFault::NoMemory
-    }
-}
-
-impl From<RunFault> for AnswerFault {
-    ghost from_gives = { λ run fault. fault ≡ fault_of run };
-
-    fn from(fault: RunFault) -> AnswerFault {
-        match fault {
-            RunFault::NoMemory => AnswerFault::NoMemory,
-            RunFault::NoThread => AnswerFault::NoThread,
-        }
     }
 }
 

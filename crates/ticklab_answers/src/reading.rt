@@ -9,7 +9,7 @@ ghost use Rattle.ticklab_answers.specs.Lines.{spelling_line};
 ghost use Rattle.ticklab_answers.specs.Stops.{IfRefused};
 
 use crate::fault::AnswerFault;
-use crate::stop::Stop;
+use crate::stop::NoAnswer;
 use code_core::Code;
 use language_schedules::{Move, ScheduleFault, read_moves, read_schedule};
 use std::alloc::{AllocError, Global};
@@ -19,7 +19,7 @@ use ticketc_refusals::program_in;
 use ticklab_explain::{explain_refusal, explain_schedule};
 
 /// The accepted program that an input is; `name` is that of its file.
-pub fn program_of(alloc: Global, name: &str, input: &[u8]) -> Result<Program, Stop>
+pub fn program_of(alloc: Global, name: &str, input: &[u8]) -> Result<Program, NoAnswer>
     ensures ok { IfOk result (λ program. (is : IsProgram input.now) × (program ≡ is.program)) }
     ensures refused { IfErr result (λ stop. IfRefused stop (Tells (IsProgramRefused input.now) name.now input.now)) }
 {
@@ -27,57 +27,57 @@ pub fn program_of(alloc: Global, name: &str, input: &[u8]) -> Result<Program, St
         Ok(program) => Ok(program),
         Err(refusal) => {
             let report = explain_refusal(alloc, name, input, refusal)?;
-            Err(Stop::Refused(report))
+            Err(NoAnswer::Refused(report))
         }
     }
 }
 
 /// The schedule of so many processes that a text spells; `name` says where the text is from.
-pub fn schedule_of(alloc: Global, name: &str, text: &str, n: u8) -> Result<Vec<u8>, Stop>
+pub fn schedule_of(alloc: Global, name: &str, text: &str, n: u8) -> Result<Vec<u8>, NoAnswer>
     ensures ok { IfOk result (λ steps. schedule_spelled n text.now ≡ Ok steps.items) }
     ensures in_range { IfOk result (λ steps. All (λ p. p < n) steps.items) }
     ensures refused { IfErr result (λ stop. IfRefused stop (TellsFor n (IsScheduleRefused n text.now) name.now text.now)) }
 {
     match read_schedule(alloc, text, n) {
         Ok(steps) => Ok(steps),
-        Err(ScheduleFault::NoMemory) => Err(Stop::Fault(AnswerFault::NoMemory)),
+        Err(ScheduleFault::NoMemory) => Err(NoAnswer::Fault(AnswerFault::NoMemory)),
         Err(_) => match explain_schedule(alloc, name, text, n)? {
-            Some(report) => Err(Stop::Refused(report)),
+            Some(report) => Err(NoAnswer::Refused(report)),
             None => unreachable!(),
         },
     }
 }
 
 /// The code of a program; `name` is that of its file.
-pub fn code_of(alloc: Global, name: &str, program: &Program) -> Result<Code, Stop>
+pub fn code_of(alloc: Global, name: &str, program: &Program) -> Result<Code, NoAnswer>
     ensures code { IfOk result (λ code. code ≡ program_code program.now) }
     ensures has_code { IfOk result (λ code. HasCode program.now) }
     ensures refused { IfErr result (λ stop. IfRefused stop (HasNoCode name.now program.now)) }
 {
     match lower(alloc, program) {
         Ok(code) => Ok(code),
-        Err(LowerFault::NoMemory) => Err(Stop::Fault(AnswerFault::NoMemory)),
+        Err(LowerFault::NoMemory) => Err(NoAnswer::Fault(AnswerFault::NoMemory)),
         Err(LowerFault::TooLong) => {
             let text = format!(in alloc;
                 "{name}: error: its code would have more than 65535 instructions\n"
             )?;
-            Err(Stop::Refused(text.into_bytes()))
+            Err(NoAnswer::Refused(text.into_bytes()))
         }
     }
 }
 
 /// The stamps and clears of so many processes that a text spells.
-pub fn moves_of(alloc: Global, text: &str, n: u8) -> Result<Vec<Move>, Stop>
+pub fn moves_of(alloc: Global, text: &str, n: u8) -> Result<Vec<Move>, NoAnswer>
     ensures ok { IfOk result (λ moves. moves_spelled n text.now ≡ Ok moves.items) }
     ensures in_range { IfOk result (λ moves. All (λ move. mover move < n) moves.items) }
     ensures refused { IfErr result (λ stop. IfRefused stop (λ report. (fault : ScheduleFault) × (moves_spelled n text.now ≡ Err fault) × (report ≡ spelling_line fault))) }
 {
     match read_moves(alloc, text, n) {
         Ok(moves) => Ok(moves),
-        Err(ScheduleFault::NoMemory) => Err(Stop::Fault(AnswerFault::NoMemory)),
+        Err(ScheduleFault::NoMemory) => Err(NoAnswer::Fault(AnswerFault::NoMemory)),
         Err(fault) => {
             let line = spelling_line(alloc, fault)?;
-            Err(Stop::Refused(line.into_bytes()))
+            Err(NoAnswer::Refused(line.into_bytes()))
         }
     }
 }

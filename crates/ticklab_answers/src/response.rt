@@ -3,7 +3,7 @@ ghost use Rattle.ticklab_answers.specs.Responses.{Gives, Refuses};
 ghost use Rattle.ticklab_answers.specs.Stops.{IsRefusal};
 
 use crate::fault::AnswerFault;
-use crate::stop::Stop;
+use crate::stop::NoAnswer;
 use std::alloc::Global;
 
 /// The whole answer to a command.
@@ -80,12 +80,12 @@ pub fn no_command(alloc: Global, text: String) -> Response
 }
 
 /// The answer of a command, or the report of what it refuses.
-pub fn settled(alloc: Global, answered: Result<Response, Stop>) -> Result<Response, AnswerFault>
+pub fn settled(alloc: Global, answered: Result<Response, NoAnswer>) -> Result<Response, AnswerFault>
     ensures { IfOk result (λ response. MatchResult answered (λ given. response ≡ given) (IsRefusal response)) }
 {
     match answered {
         Ok(response) => Ok(response),
-        Err(Stop::Refused(report)) => Ok(refused(alloc, REFUSED, report)),
-        Err(Stop::Fault(fault)) => Err(fault),
+        Err(NoAnswer::Refused(report)) => Ok(refused(alloc, REFUSED, report)),
+        Err(NoAnswer::Fault(fault)) => Err(fault),
     }
 }

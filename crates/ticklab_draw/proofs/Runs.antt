@@ -1,7 +1,8 @@
 -- The marks of a run, step by step.
-use Rattle.std.proofs.Common.{◌≡◌, ℕ, zero, suc, ◌+◌, ◌<◌, ◌≤◌, List, [], ◌∷◌, refl, ap, subst, ◌∙◌, sym, length, drop, get_or, arith, Option, None, Some}
+use Rattle.std.proofs.Common.{◌≡◌, ℕ, suc, ◌+◌, ◌-◌, ◌<◌, ◌≤◌, List, [], ◌∷◌, ◌++◌, replicate, refl, ap, subst, ◌∙◌, sym, length, drop, get_or, arith, Option, None, Some}
 use Rattle.std.specs.Prelude.{IfSome}
 use Rattle.std.proofs.Math.Seq.{drop-cons, drop-length}
+use Rattle.std.proofs.lemmas.List.{length-replicate, replicate-append-replicate}
 use Rattle.base.specs.Rows.{padded}
 use Rattle.ticket_core.specs.Tickets.{greatest_ticket, start_tickets}
 use Rattle.base.specs.declared.event.Event.{Event}
@@ -16,14 +17,10 @@ use Rattle.ticklab_draw.proofs.Steps.{Tells, step_tells, step_event, event_by, e
 
 -- at the start nobody has a ticket
 pub zero_row : (n : ℕ) → n ≤ 6 → (0 ∷ 0 ∷ 0 ∷ 0 ∷ 0 ∷ 0 ∷ []) ≡ padded 6 0 (start_tickets n)
-zero_row zero low = refl
-zero_row (suc zero) low = refl
-zero_row (suc (suc zero)) low = refl
-zero_row (suc (suc (suc zero))) low = refl
-zero_row (suc (suc (suc (suc zero)))) low = refl
-zero_row (suc (suc (suc (suc (suc zero))))) low = refl
-zero_row (suc (suc (suc (suc (suc (suc zero)))))) low = refl
-zero_row (suc (suc (suc (suc (suc (suc (suc n))))))) low = absurd (omega (arith, low))
+zero_row n low =
+    let six : n + (6 - n) ≡ 6 = omega arith in
+    sym (ap (λ (k : ℕ). replicate n 0 ++ replicate (6 - k) 0) (length-replicate n 0) ∙ replicate-append-replicate n (6 - n) 0
+    ∙ ap (λ (k : ℕ). replicate k 0) six)
 
 -- A step of process `p` of `n` from `s` to `t`, and its event.
 module _ (n p : ℕ) (s t : SourceState) (event : Option Event) (step : t ≡ source_step n p s) (is : event ≡ told_after (length s.events) t.events) where

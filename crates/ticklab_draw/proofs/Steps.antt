@@ -62,14 +62,14 @@ module _ (n p : ℕ) (tickets : List ℕ) (rows : List (List ℕ)) (variables : 
   abbrev Moves : SourceStep → Type 0
   Moves d = MovesBy p tickets d
 
-  either_moves : (b : Bool) (d e : SourceStep) → Moves d → Moves e → Moves (if b then d else e)
-  either_moves true d e x y = x
-  either_moves false d e x y = y
-
   value_moves : (rest : Block ℕ) (v : Result ℕ Trap) (then_this : ℕ → SourceStep) → ((k : ℕ) → Moves (then_this k))
       → Moves (with_value n p tickets rows variables scans rest v then_this)
   value_moves rest (Ok v) then_this moves = moves v
   value_moves rest (Err t) then_this moves = record { moved = refl }
+
+  either_moves : (b : Bool) (d e : SourceStep) → Moves d → Moves e → Moves (if b then d else e)
+  either_moves true d e x y = x
+  either_moves false d e x y = y
 
   index_moves : (rest : Block ℕ) (i : ℕ) (d : SourceStep) → Moves d → Moves (with_index n p tickets rows variables scans rest i d)
   index_moves rest i d moves = either_moves (nat_lt i n) d (traps n p tickets rows variables scans rest T.Index) moves (record { moved = refl })

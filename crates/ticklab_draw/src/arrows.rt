@@ -5,17 +5,10 @@ ghost use Rattle.ticklab_draw.specs.Steps.{step_text};
 
 use crate::layout::{arrow_end, arrow_start, band_of, mark_x, mark_y, stub_y};
 use crate::mark::{Mark, Sight};
-use crate::writing::{push, push_one, push_two};
-use std::alloc::AllocError;
+use crate::writing::{Added, push, push_one, push_two};
 
 /// Adds the arrow to a mark, where it is a get of what one of these marks put.
-pub fn push_arrow(
-    out: &mut Vec<u8>,
-    n: u8,
-    at: usize,
-    mark: &Mark,
-    marks: &[Mark],
-) -> Result<(), AllocError>
+pub fn push_arrow(out: &mut Vec<u8>, n: u8, at: usize, mark: &Mark, marks: &[Mark]) -> Added
     ensures { OnOk result (out.new.items ≡ out.old.items ++ arrow_text n at mark.now marks.now) }
 {
     push_arrow_by(out, n, at, mark.process, marks, read_from(mark.sight))
@@ -38,7 +31,7 @@ fn push_arrow_by(
     p: u8,
     marks: &[Mark],
     place: Option<usize>,
-) -> Result<(), AllocError>
+) -> Added
     ensures { OnOk result (out.new.items ≡ out.old.items ++ arrow_by n at p marks.now place) }
 {
     match place {
@@ -54,7 +47,7 @@ fn push_arrow_of(
     p: u8,
     from: usize,
     found: Option<Mark>,
-) -> Result<(), AllocError>
+) -> Added
     ensures { OnOk result (out.new.items ≡ out.old.items ++ arrow_of n at p from found) }
 {
     match found {
@@ -65,14 +58,7 @@ fn push_arrow_of(
 
 // To the get of process `p` at its place from the put at another.
 #[tactic(auto, unfolding(crate::specs::Arrows::arrow_from))]
-fn push_arrow_from(
-    out: &mut Vec<u8>,
-    n: u8,
-    at: usize,
-    p: u8,
-    from: usize,
-    put: &Mark,
-) -> Result<(), AllocError>
+fn push_arrow_from(out: &mut Vec<u8>, n: u8, at: usize, p: u8, from: usize, put: &Mark) -> Added
     ensures { OnOk result (out.new.items ≡ out.old.items ++ arrow_from n at p from put.now) }
 {
     if band_of(from) == band_of(at) {
@@ -84,7 +70,7 @@ fn push_arrow_from(
 }
 
 #[tactic(auto, unfolding(crate::specs::Arrows::line_text))]
-fn push_line(out: &mut Vec<u8>, x: u64, start: u128, to: u64, end: u128) -> Result<(), AllocError>
+fn push_line(out: &mut Vec<u8>, x: u64, start: u128, to: u64, end: u128) -> Added
     requires left { x < 1000 }
     requires right { to < 1000 }
     requires start_high { 46 < start }
@@ -101,7 +87,7 @@ fn push_line(out: &mut Vec<u8>, x: u64, start: u128, to: u64, end: u128) -> Resu
 
 // Within a lane an arrow goes round the marks between its ends.
 #[tactic(auto, unfolding(crate::specs::Arrows::bend))]
-fn push_bend(out: &mut Vec<u8>, x: u64, start: u128, to: u64, end: u128) -> Result<(), AllocError>
+fn push_bend(out: &mut Vec<u8>, x: u64, start: u128, to: u64, end: u128) -> Added
     requires left { x < 1000 }
     requires right { to < 1000 }
     requires low { start < 2 ^ 90 }
@@ -116,7 +102,7 @@ fn push_bend(out: &mut Vec<u8>, x: u64, start: u128, to: u64, end: u128) -> Resu
 
 // To a get whose put stands in an earlier band, which is told by its step.
 #[tactic(auto, unfolding(crate::specs::Arrows::stub_text))]
-fn push_stub(out: &mut Vec<u8>, n: u8, at: usize, p: u8, step: usize) -> Result<(), AllocError>
+fn push_stub(out: &mut Vec<u8>, n: u8, at: usize, p: u8, step: usize) -> Added
     ensures { OnOk result (out.new.items ≡ out.old.items ++ stub_text n at p step) }
 {
     let y = stub_y(n, at, p);
@@ -125,7 +111,7 @@ fn push_stub(out: &mut Vec<u8>, n: u8, at: usize, p: u8, step: usize) -> Result<
 }
 
 #[tactic(auto, unfolding(crate::specs::Arrows::stub_line))]
-fn push_stub_line(out: &mut Vec<u8>, x: u64, y: u128, end: u128) -> Result<(), AllocError>
+fn push_stub_line(out: &mut Vec<u8>, x: u64, y: u128, end: u128) -> Added
     requires low { y < 2 ^ 90 }
     requires high { 46 < end }
     ensures { OnOk result (out.new.items ≡ out.old.items ++ stub_line x y end) }
@@ -136,13 +122,7 @@ fn push_stub_line(out: &mut Vec<u8>, x: u64, y: u128, end: u128) -> Result<(), A
 
 /// Adds the number of a step after these words.
 #[tactic(auto, unfolding(crate::specs::Steps::step_text))]
-pub fn push_step(
-    out: &mut Vec<u8>,
-    x: u64,
-    y: u128,
-    words: &str,
-    step: usize,
-) -> Result<(), AllocError>
+pub fn push_step(out: &mut Vec<u8>, x: u64, y: u128, words: &str, step: usize) -> Added
     ensures { OnOk result (out.new.items ≡ out.old.items ++ step_text x y words.now step) }
 {
     let begin = "<text class=\"step\" x=\"";

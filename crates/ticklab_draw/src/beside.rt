@@ -7,7 +7,7 @@ ghost use Rattle.ticklab_draw.specs.Shapes.{beside, beside_act, own_label, own_t
 use crate::mark::{Holdings, Mark, Sight};
 use crate::orders::ticket_of;
 use crate::words::{Cast, push_answer, push_label, push_ranks, push_read, push_written};
-use crate::writing::{push, push_number};
+use crate::writing::{Added, push, push_number};
 use base::Act;
 use std::alloc::{AllocError, Global};
 use tick_play::trap_name;
@@ -22,12 +22,7 @@ pub fn beside(alloc: Global, cast: Cast<'_>, mark: &Mark) -> Result<Vec<u8>, All
     Ok(words)
 }
 
-fn push_beside(
-    out: &mut Vec<u8>,
-    cast: Cast<'_>,
-    process: u8,
-    sight: Sight,
-) -> Result<(), AllocError>
+fn push_beside(out: &mut Vec<u8>, cast: Cast<'_>, process: u8, sight: Sight) -> Added
     ensures { OnOk result (out.new.items ≡ out.old.items ++ beside cast.entry.processes (names cast.entry.registers.now) process sight) }
 {
     match sight {
@@ -38,7 +33,7 @@ fn push_beside(
     }
 }
 
-fn push_beside_act(out: &mut Vec<u8>, cast: Cast<'_>, act: Act) -> Result<(), AllocError>
+fn push_beside_act(out: &mut Vec<u8>, cast: Cast<'_>, act: Act) -> Added
     ensures { OnOk result (out.new.items ≡ out.old.items ++ beside_act cast.entry.processes (names cast.entry.registers.now) act) }
 {
     match act {
@@ -53,7 +48,7 @@ fn push_beside_act(out: &mut Vec<u8>, cast: Cast<'_>, act: Act) -> Result<(), Al
     }
 }
 
-fn push_compared(out: &mut Vec<u8>, i: u8, j: u8, answer: u8) -> Result<(), AllocError>
+fn push_compared(out: &mut Vec<u8>, i: u8, j: u8, answer: u8) -> Added
     ensures { OnOk result (out.new.items ≡ out.old.items ++ (decimal i ++ codes " &lt; " ++ decimal j ++ codes "? " ++ answer_text answer)) }
 {
     push_number(out, u64::from(i))?;
@@ -63,7 +58,7 @@ fn push_compared(out: &mut Vec<u8>, i: u8, j: u8, answer: u8) -> Result<(), Allo
     push_answer(out, answer)
 }
 
-fn push_asked(out: &mut Vec<u8>, index: u8, answer: u8) -> Result<(), AllocError>
+fn push_asked(out: &mut Vec<u8>, index: u8, answer: u8) -> Added
     ensures { OnOk result (out.new.items ≡ out.old.items ++ (decimal index ++ codes " held? " ++ answer_text answer)) }
 {
     push_number(out, u64::from(index))?;
@@ -72,7 +67,7 @@ fn push_asked(out: &mut Vec<u8>, index: u8, answer: u8) -> Result<(), AllocError
 }
 
 // The ticket or the label of a process.
-fn push_own(out: &mut Vec<u8>, process: u8, held: Holdings) -> Result<(), AllocError>
+fn push_own(out: &mut Vec<u8>, process: u8, held: Holdings) -> Added
     ensures { OnOk result (out.new.items ≡ out.old.items ++ own_text process held) }
 {
     match held {
@@ -81,7 +76,7 @@ fn push_own(out: &mut Vec<u8>, process: u8, held: Holdings) -> Result<(), AllocE
     }
 }
 
-fn push_own_label(out: &mut Vec<u8>, word: &LabelWord, process: u8) -> Result<(), AllocError>
+fn push_own_label(out: &mut Vec<u8>, word: &LabelWord, process: u8) -> Added
     ensures { OnOk result (out.new.items ≡ out.old.items ++ own_label process word.now) }
 {
     if process < word.n() {

@@ -2,8 +2,7 @@
 ghost use Rattle.std.specs.Prelude.{◌≡◌, ◌++◌, OnOk};
 ghost use Rattle.ticklab_draw.specs.Colours.{colour, stroke};
 
-use crate::writing::push;
-use std::alloc::AllocError;
+use crate::writing::{Added, push};
 
 /// The colour of a lane: from dark to light in the order of the processes.
 #[tactic(auto, unfolding(crate::specs::Colours::colour))]
@@ -21,7 +20,7 @@ pub fn colour(p: u8) -> &'static str
 }
 
 /// Adds the colour of a lane.
-pub fn push_colour(out: &mut Vec<u8>, p: u8) -> Result<(), AllocError>
+pub fn push_colour(out: &mut Vec<u8>, p: u8) -> Added
     ensures { OnOk result (out.new.items ≡ out.old.items ++ colour p) }
 {
     push(out, colour(p))
@@ -29,7 +28,7 @@ pub fn push_colour(out: &mut Vec<u8>, p: u8) -> Result<(), AllocError>
 
 /// Begins a line in the colour of a process.
 #[tactic(auto, unfolding(crate::specs::Colours::stroke))]
-pub fn push_stroke(out: &mut Vec<u8>, line: &str, p: u8) -> Result<(), AllocError>
+pub fn push_stroke(out: &mut Vec<u8>, line: &str, p: u8) -> Added
     ensures { OnOk result (out.new.items ≡ out.old.items ++ stroke line.now p) }
 {
     push(out, line)?;

@@ -8,11 +8,11 @@ use crate::colours::{push_colour, push_stroke};
 use crate::layout::{band_foot, band_of, band_top, mark_x, order_y, step_y};
 use crate::mark::{Holdings, Mark, Sight};
 use crate::orders::{holders, push_order_words};
-use crate::writing::{push, push_one, push_two};
-use std::alloc::{AllocError, Global};
+use crate::writing::{Added, push, push_one, push_two};
+use std::alloc::Global;
 
 /// Adds what stands below the lanes for each of these marks.
-pub fn push_feet(alloc: Global, out: &mut Vec<u8>, n: u8, marks: &[Mark]) -> Result<(), AllocError>
+pub fn push_feet(alloc: Global, out: &mut Vec<u8>, n: u8, marks: &[Mark]) -> Added
     ensures { OnOk result (out.new.items ≡ out.old.items ++ feet_text n marks.now 0 marks.now) }
 {
     for (at, mark) in marks.iter().enumerate() {
@@ -29,7 +29,7 @@ fn push_foot(
     at: usize,
     mark: &Mark,
     marks: &[Mark],
-) -> Result<(), AllocError>
+) -> Added
     ensures { OnOk result (out.new.items ≡ out.old.items ++ foot_text n at mark.now marks.now) }
 {
     push_step(out, mark_x(at), step_y(n, at), "", mark.step)?;
@@ -37,14 +37,7 @@ fn push_foot(
     push_arrow(out, n, at, mark, marks)
 }
 
-fn push_change(
-    alloc: Global,
-    out: &mut Vec<u8>,
-    n: u8,
-    at: usize,
-    p: u8,
-    sight: Sight,
-) -> Result<(), AllocError>
+fn push_change(alloc: Global, out: &mut Vec<u8>, n: u8, at: usize, p: u8, sight: Sight) -> Added
     ensures { OnOk result (out.new.items ≡ out.old.items ++ change_text n at p sight) }
 {
     match sight {
@@ -55,14 +48,7 @@ fn push_change(
 }
 
 #[tactic(auto, unfolding(crate::specs::Feet::order_text))]
-fn push_order(
-    alloc: Global,
-    out: &mut Vec<u8>,
-    n: u8,
-    at: usize,
-    p: u8,
-    held: Holdings,
-) -> Result<(), AllocError>
+fn push_order(alloc: Global, out: &mut Vec<u8>, n: u8, at: usize, p: u8, held: Holdings) -> Added
     ensures { OnOk result (out.new.items ≡ out.old.items ++ order_text n at p held) }
 {
     let found = holders(alloc, &held)?;
@@ -73,7 +59,7 @@ fn push_order(
 
 // The line through all lanes where an order changed.
 #[tactic(auto, unfolding(crate::specs::Feet::when_line))]
-fn push_when(out: &mut Vec<u8>, x: u64, top: u128, foot: u128, p: u8) -> Result<(), AllocError>
+fn push_when(out: &mut Vec<u8>, x: u64, top: u128, foot: u128, p: u8) -> Added
     ensures { OnOk result (out.new.items ≡ out.old.items ++ when_line x top foot p) }
 {
     push_stroke(out, "<path class=\"when\"", p)?;
@@ -82,13 +68,7 @@ fn push_when(out: &mut Vec<u8>, x: u64, top: u128, foot: u128, p: u8) -> Result<
 }
 
 #[tactic(auto, unfolding(crate::specs::Feet::order_at))]
-fn push_order_at(
-    out: &mut Vec<u8>,
-    x: u64,
-    y: u128,
-    p: u8,
-    processes: &[u8],
-) -> Result<(), AllocError>
+fn push_order_at(out: &mut Vec<u8>, x: u64, y: u128, p: u8, processes: &[u8]) -> Added
     ensures { OnOk result (out.new.items ≡ out.old.items ++ order_at x y p processes.now) }
 {
     let begin = "<text class=\"order\" x=\"";

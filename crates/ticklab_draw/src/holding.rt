@@ -27,9 +27,9 @@ pub fn follow(tickets: &mut [u64; MOST_PROCESSES], event: Option<Event>)
 fn greatest_of(tickets: &[u64]) -> u64
     ensures { result ≡ greatest_ticket tickets.now }
 {
-    let mut greatest = 0;
-    for &ticket in tickets {
-        greatest = ticket.max(greatest);
+    let mut greatest: u64 = 0;
+    for ticket in tickets {
+        greatest = greatest.max(*ticket);
     }
     greatest
 }

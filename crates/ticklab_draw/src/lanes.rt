@@ -5,13 +5,12 @@ ghost use Rattle.ticklab_draw.specs.Lanes.{band_text, bands_text, caption, end_o
 use crate::colours::{push_colour, push_stroke};
 use crate::layout::{band_foot, lane_y};
 use crate::mark::{Mark, Sight};
-use crate::writing::{push, push_one};
+use crate::writing::{Added, push, push_one};
 use base::{Act, Status};
-use std::alloc::AllocError;
 use tick_play::trap_name;
 
 /// Adds so many bands.
-pub fn push_bands(out: &mut Vec<u8>, n: u8, bands: usize) -> Result<(), AllocError>
+pub fn push_bands(out: &mut Vec<u8>, n: u8, bands: usize) -> Added
     ensures { OnOk result (out.new.items ≡ out.old.items ++ bands_text n bands) }
 {
     for band in 0..bands {
@@ -21,7 +20,7 @@ pub fn push_bands(out: &mut Vec<u8>, n: u8, bands: usize) -> Result<(), AllocErr
 }
 
 #[tactic(auto, unfolding(crate::specs::Lanes::band_text))]
-fn push_band(out: &mut Vec<u8>, n: u8, band: usize) -> Result<(), AllocError>
+fn push_band(out: &mut Vec<u8>, n: u8, band: usize) -> Added
     ensures { OnOk result (out.new.items ≡ out.old.items ++ band_text n band) }
 {
     push_lanes(out, n, band)?;
@@ -29,7 +28,7 @@ fn push_band(out: &mut Vec<u8>, n: u8, band: usize) -> Result<(), AllocError>
     push_caption(out, band_foot(n, band) + 40, "step")
 }
 
-fn push_lanes(out: &mut Vec<u8>, n: u8, band: usize) -> Result<(), AllocError>
+fn push_lanes(out: &mut Vec<u8>, n: u8, band: usize) -> Added
     ensures { OnOk result (out.new.items ≡ out.old.items ++ lanes_text n band n) }
 {
     for p in 0..n {
@@ -39,7 +38,7 @@ fn push_lanes(out: &mut Vec<u8>, n: u8, band: usize) -> Result<(), AllocError>
 }
 
 #[tactic(auto, unfolding(crate::specs::Lanes::lane_text))]
-fn push_lane(out: &mut Vec<u8>, y: u128, p: u8) -> Result<(), AllocError>
+fn push_lane(out: &mut Vec<u8>, y: u128, p: u8) -> Added
     requires { y < 2 ^ 90 }
     ensures { OnOk result (out.new.items ≡ out.old.items ++ lane_text y p) }
 {
@@ -48,7 +47,7 @@ fn push_lane(out: &mut Vec<u8>, y: u128, p: u8) -> Result<(), AllocError>
 }
 
 #[tactic(auto, unfolding(crate::specs::Lanes::lane_line))]
-fn push_lane_line(out: &mut Vec<u8>, y: u128, p: u8) -> Result<(), AllocError>
+fn push_lane_line(out: &mut Vec<u8>, y: u128, p: u8) -> Added
     ensures { OnOk result (out.new.items ≡ out.old.items ++ lane_line y p) }
 {
     push_stroke(out, "<path class=\"lane\"", p)?;
@@ -56,7 +55,7 @@ fn push_lane_line(out: &mut Vec<u8>, y: u128, p: u8) -> Result<(), AllocError>
 }
 
 #[tactic(auto, unfolding(crate::specs::Lanes::lane_name))]
-fn push_lane_name(out: &mut Vec<u8>, y: u128, p: u8) -> Result<(), AllocError>
+fn push_lane_name(out: &mut Vec<u8>, y: u128, p: u8) -> Added
     ensures { OnOk result (out.new.items ≡ out.old.items ++ lane_name y p) }
 {
     push_one(out, "<text class=\"name\" x=\"16\" y=\"", y, "\" color=\"")?;
@@ -66,7 +65,7 @@ fn push_lane_name(out: &mut Vec<u8>, y: u128, p: u8) -> Result<(), AllocError>
 
 /// Adds words at the left edge.
 #[tactic(auto, unfolding(crate::specs::Lanes::caption))]
-pub fn push_caption(out: &mut Vec<u8>, y: u128, words: &str) -> Result<(), AllocError>
+pub fn push_caption(out: &mut Vec<u8>, y: u128, words: &str) -> Added
     ensures { OnOk result (out.new.items ≡ out.old.items ++ caption y words.now) }
 {
     push_one(out, "<text class=\"left\" x=\"16\" y=\"", y, "\">")?;
@@ -75,7 +74,7 @@ pub fn push_caption(out: &mut Vec<u8>, y: u128, words: &str) -> Result<(), Alloc
 }
 
 /// Adds how each process stands after these marks, beside its lane of a band.
-pub fn push_ends(out: &mut Vec<u8>, n: u8, band: usize, marks: &[Mark]) -> Result<(), AllocError>
+pub fn push_ends(out: &mut Vec<u8>, n: u8, band: usize, marks: &[Mark]) -> Added
     ensures { OnOk result (out.new.items ≡ out.old.items ++ ends_text n band marks.now n) }
 {
     for p in 0..n {
@@ -116,7 +115,7 @@ fn ended_by(status: Status, act: Act) -> Status
 }
 
 #[tactic(auto, unfolding(crate::specs::Lanes::end_text))]
-fn push_end(out: &mut Vec<u8>, y: u128, status: Status) -> Result<(), AllocError>
+fn push_end(out: &mut Vec<u8>, y: u128, status: Status) -> Added
     ensures { OnOk result (out.new.items ≡ out.old.items ++ end_text y status) }
 {
     push(out, end_style(status))?;
@@ -135,7 +134,7 @@ fn end_style(status: Status) -> &'static str
     }
 }
 
-fn push_end_words(out: &mut Vec<u8>, status: Status) -> Result<(), AllocError>
+fn push_end_words(out: &mut Vec<u8>, status: Status) -> Added
     ensures { OnOk result (out.new.items ≡ out.old.items ++ end_words status) }
 {
     match status {

@@ -4,12 +4,11 @@ ghost use Rattle.ticklab_draw.specs.Legend.{first_legend, legend_text, second_le
 
 use crate::lanes::push_caption;
 use crate::layout::page_height;
-use crate::writing::push;
-use std::alloc::AllocError;
+use crate::writing::{Added, push};
 
 /// Adds the legend of the page of so many marks, and the end of the picture.
 #[tactic(auto, unfolding(crate::specs::Legend::legend_text))]
-pub fn push_legend(out: &mut Vec<u8>, n: u8, count: usize) -> Result<(), AllocError>
+pub fn push_legend(out: &mut Vec<u8>, n: u8, count: usize) -> Added
     ensures { OnOk result (out.new.items ≡ out.old.items ++ legend_text n count) }
 {
     let y = page_height(n, count);

@@ -4,7 +4,7 @@ ghost use Rattle.ticket_core.specs.Tickets.{tickets_below};
 ghost use Rattle.ticklab_draw.specs.Orders.{has_label_rank, has_rank, has_ticket_rank, holders, holders_below, order_words, ranked, younger_text};
 
 use crate::mark::Holdings;
-use crate::writing::{push, push_number};
+use crate::writing::{Added, push, push_number};
 use std::alloc::{AllocError, Global};
 use word_core::LabelWord;
 
@@ -28,7 +28,7 @@ fn holders_below(alloc: Global, held: &Holdings, n: u8, ranks: usize) -> Result<
 }
 
 #[tactic(auto, unfolding(crate::specs::Orders::ranked))]
-fn add_ranked(found: &mut Vec<u8>, held: &Holdings, rank: usize, n: u8) -> Result<(), AllocError>
+fn add_ranked(found: &mut Vec<u8>, held: &Holdings, rank: usize, n: u8) -> Added
     ensures { OnOk result (found.new.items ≡ found.old.items ++ ranked held.now rank n) }
 {
     for i in 0..n {
@@ -75,7 +75,7 @@ fn has_label_rank(word: &LabelWord, rank: usize, i: u8) -> bool
 }
 
 /// Adds these processes, each after a sign that the one before it is older.
-pub fn push_order_words(out: &mut Vec<u8>, processes: &[u8]) -> Result<(), AllocError>
+pub fn push_order_words(out: &mut Vec<u8>, processes: &[u8]) -> Added
     ensures { OnOk result (out.new.items ≡ out.old.items ++ order_words processes.now) }
 {
     match processes {
@@ -87,7 +87,7 @@ pub fn push_order_words(out: &mut Vec<u8>, processes: &[u8]) -> Result<(), Alloc
     }
 }
 
-fn push_younger(out: &mut Vec<u8>, processes: &[u8]) -> Result<(), AllocError>
+fn push_younger(out: &mut Vec<u8>, processes: &[u8]) -> Added
     ensures { OnOk result (out.new.items ≡ out.old.items ++ younger_text processes.now) }
 {
     for &process in processes {

@@ -12,10 +12,10 @@ use crate::mark::Mark;
 use crate::shapes::push_drawn;
 use crate::style::{backdrop, sheet};
 use crate::words::{Cast, push_sentence};
-use crate::writing::{push, push_escaped, push_one, push_two};
+use crate::writing::{Added, push, push_escaped, push_one, push_two};
 use base::NoMemory;
 use base::tree::Named;
-use std::alloc::{AllocError, Global};
+use std::alloc::Global;
 
 /// The marks of a run of `processes` processes as SVG. Rows of registers have these names, and `r` with
 /// its number where there is none. The title is read out, and stands above the picture.
@@ -44,7 +44,7 @@ pub fn picture(
 
 // The page, its title and what it is of, for who sees it and for who has it read out.
 #[tactic(auto, unfolding(crate::specs::Pictures::page_head))]
-fn push_page(out: &mut Vec<u8>, title: &str, n: u8, count: usize) -> Result<(), AllocError>
+fn push_page(out: &mut Vec<u8>, title: &str, n: u8, count: usize) -> Added
     ensures { OnOk result (out.new.items ≡ out.old.items ++ page_head title.now n count) }
 {
     push_size(out, page_height(n, count))?;
@@ -53,7 +53,7 @@ fn push_page(out: &mut Vec<u8>, title: &str, n: u8, count: usize) -> Result<(), 
 }
 
 #[tactic(auto, unfolding(crate::specs::Pictures::page_size))]
-fn push_size(out: &mut Vec<u8>, height: u128) -> Result<(), AllocError>
+fn push_size(out: &mut Vec<u8>, height: u128) -> Added
     ensures { OnOk result (out.new.items ≡ out.old.items ++ page_size height) }
 {
     push_page_element(out, height)?;
@@ -61,7 +61,7 @@ fn push_size(out: &mut Vec<u8>, height: u128) -> Result<(), AllocError>
 }
 
 #[tactic(auto, unfolding(crate::specs::Pictures::page_element))]
-fn push_page_element(out: &mut Vec<u8>, height: u128) -> Result<(), AllocError>
+fn push_page_element(out: &mut Vec<u8>, height: u128) -> Added
     ensures { OnOk result (out.new.items ≡ out.old.items ++ page_element height) }
 {
     push_one(
@@ -73,14 +73,14 @@ fn push_page_element(out: &mut Vec<u8>, height: u128) -> Result<(), AllocError>
 }
 
 #[tactic(auto, unfolding(crate::specs::Pictures::page_view))]
-fn push_page_view(out: &mut Vec<u8>, height: u128) -> Result<(), AllocError>
+fn push_page_view(out: &mut Vec<u8>, height: u128) -> Added
     ensures { OnOk result (out.new.items ≡ out.old.items ++ page_view height) }
 {
     push_one(out, " viewBox=\"0 0 1000 ", height, "\">\n")
 }
 
 #[tactic(auto, unfolding(crate::specs::Pictures::title_element))]
-fn push_title(out: &mut Vec<u8>, title: &str) -> Result<(), AllocError>
+fn push_title(out: &mut Vec<u8>, title: &str) -> Added
     ensures { OnOk result (out.new.items ≡ out.old.items ++ title_element title.now) }
 {
     push_titled(out, "<title id=\"title\">", title, "</title>\n")
@@ -88,7 +88,7 @@ fn push_title(out: &mut Vec<u8>, title: &str) -> Result<(), AllocError>
 
 // The title between pieces of markup.
 #[tactic(auto, unfolding(crate::specs::Pictures::titled))]
-fn push_titled(out: &mut Vec<u8>, before: &str, title: &str, after: &str) -> Result<(), AllocError>
+fn push_titled(out: &mut Vec<u8>, before: &str, title: &str, after: &str) -> Added
     ensures { OnOk result (out.new.items ≡ out.old.items ++ titled before.now title.now after.now) }
 {
     push(out, before)?;
@@ -97,7 +97,7 @@ fn push_titled(out: &mut Vec<u8>, before: &str, title: &str, after: &str) -> Res
 }
 
 #[tactic(auto, unfolding(crate::specs::Pictures::about))]
-fn push_about(out: &mut Vec<u8>, n: u8, count: usize) -> Result<(), AllocError>
+fn push_about(out: &mut Vec<u8>, n: u8, count: usize) -> Added
     ensures { OnOk result (out.new.items ≡ out.old.items ++ about n count) }
 {
     push_two(
@@ -112,7 +112,7 @@ fn push_about(out: &mut Vec<u8>, n: u8, count: usize) -> Result<(), AllocError>
 
 // The style, and the title once more, which is seen.
 #[tactic(auto, unfolding(crate::specs::Pictures::heading))]
-fn push_heading(out: &mut Vec<u8>, title: &str) -> Result<(), AllocError>
+fn push_heading(out: &mut Vec<u8>, title: &str) -> Added
     ensures { OnOk result (out.new.items ≡ out.old.items ++ heading title.now) }
 {
     push(out, sheet())?;
@@ -123,7 +123,7 @@ fn push_heading(out: &mut Vec<u8>, title: &str) -> Result<(), AllocError>
 
 // What stands under the marks: lanes, how each process ended, and steps, orders and arrows.
 #[tactic(auto, unfolding(crate::specs::Pictures::under_text))]
-fn push_under(alloc: Global, out: &mut Vec<u8>, n: u8, marks: &[Mark]) -> Result<(), AllocError>
+fn push_under(alloc: Global, out: &mut Vec<u8>, n: u8, marks: &[Mark]) -> Added
     ensures { OnOk result (out.new.items ≡ out.old.items ++ under_text n marks.now) }
 {
     let last = last_band(marks.len());
@@ -133,12 +133,7 @@ fn push_under(alloc: Global, out: &mut Vec<u8>, n: u8, marks: &[Mark]) -> Result
 }
 
 // A group for each mark, in order.
-fn push_groups(
-    alloc: Global,
-    out: &mut Vec<u8>,
-    cast: Cast<'_>,
-    marks: &[Mark],
-) -> Result<(), AllocError>
+fn push_groups(alloc: Global, out: &mut Vec<u8>, cast: Cast<'_>, marks: &[Mark]) -> Added
     ensures { OnOk result (out.new.items ≡ out.old.items ++ groups_text cast.entry.processes (names cast.entry.registers.now) 0 marks.now) }
 {
     for (at, mark) in marks.iter().enumerate() {
@@ -149,13 +144,7 @@ fn push_groups(
 
 // A mark: where it stands, what it shows in words, and what is drawn of it.
 #[tactic(auto, unfolding(crate::specs::Pictures::group_text))]
-fn push_group(
-    alloc: Global,
-    out: &mut Vec<u8>,
-    cast: Cast<'_>,
-    at: usize,
-    mark: &Mark,
-) -> Result<(), AllocError>
+fn push_group(alloc: Global, out: &mut Vec<u8>, cast: Cast<'_>, at: usize, mark: &Mark) -> Added
     ensures { OnOk result (out.new.items ≡ out.old.items ++ group_text cast.entry.processes (names cast.entry.registers.now) at mark.now) }
 {
     push_group_head(out, cast.processes, at, mark.process)?;
@@ -166,7 +155,7 @@ fn push_group(
 }
 
 #[tactic(auto, unfolding(crate::specs::Pictures::group_head))]
-fn push_group_head(out: &mut Vec<u8>, n: u8, at: usize, p: u8) -> Result<(), AllocError>
+fn push_group_head(out: &mut Vec<u8>, n: u8, at: usize, p: u8) -> Added
     ensures { OnOk result (out.new.items ≡ out.old.items ++ group_head n at p) }
 {
     push_group_name(out, at)?;
@@ -175,14 +164,14 @@ fn push_group_head(out: &mut Vec<u8>, n: u8, at: usize, p: u8) -> Result<(), All
 }
 
 #[tactic(auto, unfolding(crate::specs::Pictures::group_name))]
-fn push_group_name(out: &mut Vec<u8>, at: usize) -> Result<(), AllocError>
+fn push_group_name(out: &mut Vec<u8>, at: usize) -> Added
     ensures { OnOk result (out.new.items ≡ out.old.items ++ group_name at) }
 {
     push_one(out, "<g id=\"mark-", at as u128 + 1, "\" color=\"")
 }
 
 #[tactic(auto, unfolding(crate::specs::Pictures::group_place))]
-fn push_group_place(out: &mut Vec<u8>, x: u64, y: u128) -> Result<(), AllocError>
+fn push_group_place(out: &mut Vec<u8>, x: u64, y: u128) -> Added
     ensures { OnOk result (out.new.items ≡ out.old.items ++ group_place x y) }
 {
     let place = "\" transform=\"translate(";

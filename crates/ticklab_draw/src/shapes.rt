@@ -7,9 +7,22 @@ use crate::beside::beside;
 use crate::layout::{field_half, flag_middle, flag_width, is_far};
 use crate::mark::{Mark, Sight};
 use crate::words::Cast;
-use crate::writing::{push, push_one};
+use crate::writing::{Added, push, push_one};
 use base::Act;
-use std::alloc::{AllocError, Global};
+use std::alloc::Global;
+
+const PUT_SQUARE: &str = "<rect class=\"f\" x=\"-7\" y=\"-7\" width=\"14\" height=\"14\"/>";
+
+const GET_SQUARE: &str = "<rect class=\"o\" x=\"-6\" y=\"-6\" width=\"12\" height=\"12\"/>";
+
+// Where words begin.
+const FAR_ABOVE: &str = "<text y=\"-27\"";
+
+const NEAR_ABOVE: &str = "<text y=\"-14\"";
+
+const NEAR_BELOW: &str = "<text y=\"23\"";
+
+const FAR_BELOW: &str = "<text y=\"36\"";
 
 /// What stands in a lane for a mark, as the legend has it.
 #[derive(Clone, Copy)]
@@ -29,13 +42,7 @@ pub enum Shape {
 
 /// Adds what is drawn of the mark of this place.
 #[tactic(auto, unfolding(crate::specs::Shapes::drawn))]
-pub fn push_drawn(
-    alloc: Global,
-    out: &mut Vec<u8>,
-    cast: Cast<'_>,
-    at: usize,
-    mark: &Mark,
-) -> Result<(), AllocError>
+pub fn push_drawn(alloc: Global, out: &mut Vec<u8>, cast: Cast<'_>, at: usize, mark: &Mark) -> Added
     ensures { OnOk result (out.new.items ≡ out.old.items ++ drawn cast.entry.processes (names cast.entry.registers.now) at mark.now) }
 {
     let words = beside(alloc, cast, mark)?;
@@ -80,18 +87,12 @@ fn answer_shape(answer: u8) -> Shape
 }
 
 #[tactic(auto, unfolding(crate::specs::Shapes::outline))]
-fn push_outline(out: &mut Vec<u8>, shape: Shape, letters: usize) -> Result<(), AllocError>
+fn push_outline(out: &mut Vec<u8>, shape: Shape, letters: usize) -> Added
     ensures { OnOk result (out.new.items ≡ out.old.items ++ outline shape letters) }
 {
     match shape {
-        Shape::Put => push(
-            out,
-            "<rect class=\"f\" x=\"-7\" y=\"-7\" width=\"14\" height=\"14\"/>",
-        ),
-        Shape::Get => push(
-            out,
-            "<rect class=\"o\" x=\"-6\" y=\"-6\" width=\"12\" height=\"12\"/>",
-        ),
+        Shape::Put => push(out, PUT_SQUARE),
+        Shape::Get => push(out, GET_SQUARE),
         Shape::Stamp => push_field(out, field_half(letters)),
         Shape::Clear => push(
             out,
@@ -115,7 +116,7 @@ fn push_outline(out: &mut Vec<u8>, shape: Shape, letters: usize) -> Result<(), A
 
 // A field so wide on each side.
 #[tactic(auto, unfolding(crate::specs::Shapes::field))]
-fn push_field(out: &mut Vec<u8>, half: u128) -> Result<(), AllocError>
+fn push_field(out: &mut Vec<u8>, half: u128) -> Added
     requires { half < 2 ^ 90 }
     ensures { OnOk result (out.new.items ≡ out.old.items ++ field half) }
 {
@@ -125,7 +126,7 @@ fn push_field(out: &mut Vec<u8>, half: u128) -> Result<(), AllocError>
 }
 
 #[tactic(auto, unfolding(crate::specs::Shapes::flag))]
-fn push_flag(out: &mut Vec<u8>, width: u128) -> Result<(), AllocError>
+fn push_flag(out: &mut Vec<u8>, width: u128) -> Added
     ensures { OnOk result (out.new.items ≡ out.old.items ++ flag width) }
 {
     let begin = "<path class=\"flag\" d=\"M0 0V-28H";
@@ -133,7 +134,7 @@ fn push_flag(out: &mut Vec<u8>, width: u128) -> Result<(), AllocError>
 }
 
 #[tactic(auto, unfolding(crate::specs::Shapes::words_text))]
-fn push_words(out: &mut Vec<u8>, shape: Shape, far: bool, words: &[u8]) -> Result<(), AllocError>
+fn push_words(out: &mut Vec<u8>, shape: Shape, far: bool, words: &[u8]) -> Added
     ensures { OnOk result (out.new.items ≡ out.old.items ++ words_text shape far words.now) }
 {
     match shape {
@@ -154,25 +155,17 @@ fn push_words(out: &mut Vec<u8>, shape: Shape, far: bool, words: &[u8]) -> Resul
 fn above(far: bool) -> &'static str
     ensures { result.now ≡ above far }
 {
-    if far {
-        "<text y=\"-27\""
-    } else {
-        "<text y=\"-14\""
-    }
+    if far { FAR_ABOVE } else { NEAR_ABOVE }
 }
 
 fn below(far: bool) -> &'static str
     ensures { result.now ≡ below far }
 {
-    if far {
-        "<text y=\"36\""
-    } else {
-        "<text y=\"23\""
-    }
+    if far { FAR_BELOW } else { NEAR_BELOW }
 }
 
 #[tactic(auto, unfolding(crate::specs::Shapes::label))]
-fn push_label(out: &mut Vec<u8>, head: &str, style: &str, words: &[u8]) -> Result<(), AllocError>
+fn push_label(out: &mut Vec<u8>, head: &str, style: &str, words: &[u8]) -> Added
     ensures { OnOk result (out.new.items ≡ out.old.items ++ label head.now style.now words.now) }
 {
     push(out, head)?;
@@ -182,7 +175,7 @@ fn push_label(out: &mut Vec<u8>, head: &str, style: &str, words: &[u8]) -> Resul
 }
 
 #[tactic(auto, unfolding(crate::specs::Shapes::flag_label))]
-fn push_flag_label(out: &mut Vec<u8>, words: &[u8]) -> Result<(), AllocError>
+fn push_flag_label(out: &mut Vec<u8>, words: &[u8]) -> Added
     ensures { OnOk result (out.new.items ≡ out.old.items ++ flag_label words.now) }
 {
     let middle = flag_middle(words.len());
@@ -191,7 +184,7 @@ fn push_flag_label(out: &mut Vec<u8>, words: &[u8]) -> Result<(), AllocError>
 }
 
 // Words, and the end of their element.
-fn push_rest(out: &mut Vec<u8>, words: &[u8]) -> Result<(), AllocError>
+fn push_rest(out: &mut Vec<u8>, words: &[u8]) -> Added
     ensures { OnOk result (out.new.items ≡ out.old.items ++ (words.now ++ codes "</text>")) }
 {
     out.extend_from_slice(words)?;

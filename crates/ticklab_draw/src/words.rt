@@ -8,11 +8,10 @@ ghost use Rattle.ticklab_draw.specs.Words.{act_text, answer_text, held_text, lab
 ghost use Rattle.tick_play.specs.Lines.{trap_text};
 
 use crate::mark::{Holdings, Mark, Sight};
-use crate::writing::{push, push_escaped, push_number, push_wide};
+use crate::writing::{Added, push, push_escaped, push_number, push_wide};
 use base::tree::Named;
 use base::{Act, Trap};
 use label_core::Label;
-use std::alloc::AllocError;
 use tick_play::trap_name;
 use word_core::LabelWord;
 
@@ -25,7 +24,7 @@ pub struct Cast<'a> {
 
 /// The step, the process and what it did.
 #[tactic(auto, unfolding(crate::specs::Words::sentence))]
-pub fn push_sentence(out: &mut Vec<u8>, cast: Cast<'_>, mark: &Mark) -> Result<(), AllocError>
+pub fn push_sentence(out: &mut Vec<u8>, cast: Cast<'_>, mark: &Mark) -> Added
     ensures { OnOk result (out.new.items ≡ out.old.items ++ sentence cast.entry.processes (names cast.entry.registers.now) mark.now) }
 {
     push(out, "step ")?;
@@ -36,7 +35,7 @@ pub fn push_sentence(out: &mut Vec<u8>, cast: Cast<'_>, mark: &Mark) -> Result<(
     push_sight(out, cast, mark.sight)
 }
 
-fn push_sight(out: &mut Vec<u8>, cast: Cast<'_>, sight: Sight) -> Result<(), AllocError>
+fn push_sight(out: &mut Vec<u8>, cast: Cast<'_>, sight: Sight) -> Added
     ensures { OnOk result (out.new.items ≡ out.old.items ++ sight_text cast.entry.processes (names cast.entry.registers.now) sight) }
 {
     match sight {
@@ -55,7 +54,7 @@ fn push_got(
     index: u8,
     value: u32,
     put: Option<usize>,
-) -> Result<(), AllocError>
+) -> Added
     ensures { OnOk result (out.new.items ≡ out.old.items ++ codes "gets " ++ row_text (names registers.now) row ++ codes "[" ++ decimal index ++ codes "] = " ++ decimal value ++ origin_text put) }
 {
     push(out, "gets ")?;
@@ -63,14 +62,14 @@ fn push_got(
     push_origin(out, put)
 }
 
-fn push_left(out: &mut Vec<u8>, did: &str, n: u8, held: Holdings) -> Result<(), AllocError>
+fn push_left(out: &mut Vec<u8>, did: &str, n: u8, held: Holdings) -> Added
     ensures { OnOk result (out.new.items ≡ out.old.items ++ did.now ++ held_text n held) }
 {
     push(out, did)?;
     push_held(out, n, held)
 }
 
-fn push_act(out: &mut Vec<u8>, cast: Cast<'_>, act: Act) -> Result<(), AllocError>
+fn push_act(out: &mut Vec<u8>, cast: Cast<'_>, act: Act) -> Added
     ensures { OnOk result (out.new.items ≡ out.old.items ++ act_text cast.entry.processes (names cast.entry.registers.now) act) }
 {
     match act {
@@ -87,7 +86,7 @@ fn push_act(out: &mut Vec<u8>, cast: Cast<'_>, act: Act) -> Result<(), AllocErro
     }
 }
 
-fn push_put(out: &mut Vec<u8>, registers: &[Named], row: u8, value: u32) -> Result<(), AllocError>
+fn push_put(out: &mut Vec<u8>, registers: &[Named], row: u8, value: u32) -> Added
     ensures { OnOk result (out.new.items ≡ out.old.items ++ codes "puts " ++ row_text (names registers.now) row ++ codes " := " ++ decimal value) }
 {
     push(out, "puts ")?;
@@ -95,12 +94,7 @@ fn push_put(out: &mut Vec<u8>, registers: &[Named], row: u8, value: u32) -> Resu
 }
 
 /// A row, and the value that is put into its register.
-pub fn push_written(
-    out: &mut Vec<u8>,
-    registers: &[Named],
-    row: u8,
-    value: u32,
-) -> Result<(), AllocError>
+pub fn push_written(out: &mut Vec<u8>, registers: &[Named], row: u8, value: u32) -> Added
     ensures { OnOk result (out.new.items ≡ out.old.items ++ (row_text (names registers.now) row ++ codes " := " ++ decimal value)) }
 {
     push_row(out, registers, row)?;
@@ -108,34 +102,28 @@ pub fn push_written(
     push_number(out, u64::from(value))
 }
 
-fn push_gets(
-    out: &mut Vec<u8>,
-    registers: &[Named],
-    row: u8,
-    index: u8,
-    value: u32,
-) -> Result<(), AllocError>
+fn push_gets(out: &mut Vec<u8>, registers: &[Named], row: u8, index: u8, value: u32) -> Added
     ensures { OnOk result (out.new.items ≡ out.old.items ++ codes "gets " ++ row_text (names registers.now) row ++ codes "[" ++ decimal index ++ codes "] = " ++ decimal value) }
 {
     push(out, "gets ")?;
     push_read(out, registers, row, index, value)
 }
 
-fn push_given(out: &mut Vec<u8>, value: u32) -> Result<(), AllocError>
+fn push_given(out: &mut Vec<u8>, value: u32) -> Added
     ensures { OnOk result (out.new.items ≡ out.old.items ++ codes "gives out " ++ decimal value) }
 {
     push(out, "gives out ")?;
     push_number(out, u64::from(value))
 }
 
-fn push_trap(out: &mut Vec<u8>, trap: Trap) -> Result<(), AllocError>
+fn push_trap(out: &mut Vec<u8>, trap: Trap) -> Added
     ensures { OnOk result (out.new.items ≡ out.old.items ++ codes "traps: " ++ trap_text trap) }
 {
     push(out, "traps: ")?;
     push(out, trap_name(trap))
 }
 
-fn push_asked(out: &mut Vec<u8>, i: u8, j: u8, answer: u8) -> Result<(), AllocError>
+fn push_asked(out: &mut Vec<u8>, i: u8, j: u8, answer: u8) -> Added
     ensures { OnOk result (out.new.items ≡ out.old.items ++ codes "asks whether " ++ decimal i ++ codes " is older than " ++ decimal j ++ codes ": " ++ answer_text answer) }
 {
     push(out, "asks whether ")?;
@@ -146,7 +134,14 @@ fn push_asked(out: &mut Vec<u8>, i: u8, j: u8, answer: u8) -> Result<(), AllocEr
     push_answer(out, answer)
 }
 
-fn push_asked_held(out: &mut Vec<u8>, index: u8, answer: u8) -> Result<(), AllocError>
+fn push_scanned(out: &mut Vec<u8>, n: u8, ranks: &[u8]) -> Added
+    ensures { OnOk result (out.new.items ≡ out.old.items ++ codes "scans: ranks" ++ spaced (map decimal (take n ranks.now))) }
+{
+    push(out, "scans: ranks")?;
+    push_ranks(out, n, ranks)
+}
+
+fn push_asked_held(out: &mut Vec<u8>, index: u8, answer: u8) -> Added
     ensures { OnOk result (out.new.items ≡ out.old.items ++ codes "asks whether " ++ decimal index ++ codes " holds a ticket: " ++ answer_text answer) }
 {
     push(out, "asks whether ")?;
@@ -155,28 +150,15 @@ fn push_asked_held(out: &mut Vec<u8>, index: u8, answer: u8) -> Result<(), Alloc
     push_answer(out, answer)
 }
 
-fn push_scanned(out: &mut Vec<u8>, n: u8, ranks: &[u8]) -> Result<(), AllocError>
-    ensures { OnOk result (out.new.items ≡ out.old.items ++ codes "scans: ranks" ++ spaced (map decimal (take n ranks.now))) }
-{
-    push(out, "scans: ranks")?;
-    push_ranks(out, n, ranks)
-}
-
 /// Yes or no.
-pub fn push_answer(out: &mut Vec<u8>, answer: u8) -> Result<(), AllocError>
+pub fn push_answer(out: &mut Vec<u8>, answer: u8) -> Added
     ensures { OnOk result (out.new.items ≡ out.old.items ++ answer_text answer) }
 {
     push(out, if answer == 0 { "no" } else { "yes" })
 }
 
 /// A register and the value that it has.
-pub fn push_read(
-    out: &mut Vec<u8>,
-    registers: &[Named],
-    row: u8,
-    index: u8,
-    value: u32,
-) -> Result<(), AllocError>
+pub fn push_read(out: &mut Vec<u8>, registers: &[Named], row: u8, index: u8, value: u32) -> Added
     ensures { OnOk result (out.new.items ≡ out.old.items ++ row_text (names registers.now) row ++ codes "[" ++ decimal index ++ codes "] = " ++ decimal value) }
 {
     push_row(out, registers, row)?;
@@ -187,7 +169,7 @@ pub fn push_read(
 }
 
 /// The name of a row, or `r` and its number where it has none.
-pub fn push_row(out: &mut Vec<u8>, registers: &[Named], row: u8) -> Result<(), AllocError>
+pub fn push_row(out: &mut Vec<u8>, registers: &[Named], row: u8) -> Added
     ensures { OnOk result (out.new.items ≡ out.old.items ++ row_text (names registers.now) row) }
 {
     match registers.get(row as usize) {
@@ -199,7 +181,7 @@ pub fn push_row(out: &mut Vec<u8>, registers: &[Named], row: u8) -> Result<(), A
     }
 }
 
-fn push_origin(out: &mut Vec<u8>, put: Option<usize>) -> Result<(), AllocError>
+fn push_origin(out: &mut Vec<u8>, put: Option<usize>) -> Added
     ensures { OnOk result (out.new.items ≡ out.old.items ++ origin_text put) }
 {
     match put {
@@ -208,7 +190,7 @@ fn push_origin(out: &mut Vec<u8>, put: Option<usize>) -> Result<(), AllocError>
     }
 }
 
-fn push_put_mark(out: &mut Vec<u8>, at: usize) -> Result<(), AllocError>
+fn push_put_mark(out: &mut Vec<u8>, at: usize) -> Added
     ensures { OnOk result (out.new.items ≡ out.old.items ++ codes ", put by mark " ++ decimal (at + 1)) }
 {
     push(out, ", put by mark ")?;
@@ -216,7 +198,7 @@ fn push_put_mark(out: &mut Vec<u8>, at: usize) -> Result<(), AllocError>
 }
 
 /// Ranks of so many processes, each after a space.
-pub fn push_ranks(out: &mut Vec<u8>, n: u8, ranks: &[u8]) -> Result<(), AllocError>
+pub fn push_ranks(out: &mut Vec<u8>, n: u8, ranks: &[u8]) -> Added
     ensures { OnOk result (out.new.items ≡ out.old.items ++ spaced (map decimal (take n ranks.now))) }
 {
     let told = &ranks[..ranks.len().min(n as usize)];
@@ -227,7 +209,7 @@ pub fn push_ranks(out: &mut Vec<u8>, n: u8, ranks: &[u8]) -> Result<(), AllocErr
     Ok(())
 }
 
-fn push_held(out: &mut Vec<u8>, n: u8, held: Holdings) -> Result<(), AllocError>
+fn push_held(out: &mut Vec<u8>, n: u8, held: Holdings) -> Added
     ensures { OnOk result (out.new.items ≡ out.old.items ++ held_text n held) }
 {
     match held {
@@ -242,7 +224,7 @@ fn push_held(out: &mut Vec<u8>, n: u8, held: Holdings) -> Result<(), AllocError>
     }
 }
 
-fn push_tickets(out: &mut Vec<u8>, n: u8, tickets: &[u64]) -> Result<(), AllocError>
+fn push_tickets(out: &mut Vec<u8>, n: u8, tickets: &[u64]) -> Added
     ensures { OnOk result (out.new.items ≡ out.old.items ++ spaced (map decimal (take n tickets.now))) }
 {
     let told = &tickets[..tickets.len().min(n as usize)];
@@ -254,7 +236,7 @@ fn push_tickets(out: &mut Vec<u8>, n: u8, tickets: &[u64]) -> Result<(), AllocEr
 }
 
 /// The label of each process, after a space.
-pub fn push_labels(out: &mut Vec<u8>, word: &LabelWord) -> Result<(), AllocError>
+pub fn push_labels(out: &mut Vec<u8>, word: &LabelWord) -> Added
     ensures { OnOk result (out.new.items ≡ out.old.items ++ spaced (map label_text word.now)) }
 {
     for process in 0..word.n() {
@@ -265,7 +247,7 @@ pub fn push_labels(out: &mut Vec<u8>, word: &LabelWord) -> Result<(), AllocError
 }
 
 /// The label of a process: its digits, a dash where it has none, a dot where the process is absent.
-pub fn push_label(out: &mut Vec<u8>, word: &LabelWord, process: u8) -> Result<(), AllocError>
+pub fn push_label(out: &mut Vec<u8>, word: &LabelWord, process: u8) -> Added
     requires { process < length word.now }
     ensures { OnOk result (out.new.items ≡ out.old.items ++ label_text (label_at word.now process)) }
 {
@@ -275,7 +257,7 @@ pub fn push_label(out: &mut Vec<u8>, word: &LabelWord, process: u8) -> Result<()
     }
 }
 
-fn push_digits(out: &mut Vec<u8>, label: &Label) -> Result<(), AllocError>
+fn push_digits(out: &mut Vec<u8>, label: &Label) -> Added
     ensures { OnOk result (out.new.items ≡ out.old.items ++ label_text (Some label.now)) }
 {
     if label.is_empty() {

@@ -8,22 +8,25 @@ ghost use Rattle.ticklab_draw.specs.Writing.{one_number, two_numbers};
 use itoa::Buffer;
 use std::alloc::AllocError;
 
+/// It was added to the picture, or memory was refused.
+pub type Added = Result<(), AllocError>;
+
 /// Adds a text that is markup.
-pub fn push(out: &mut Vec<u8>, text: &str) -> Result<(), AllocError>
+pub fn push(out: &mut Vec<u8>, text: &str) -> Added
     ensures { OnOk result (out.new.items ≡ out.old.items ++ text.now) }
 {
     out.extend_from_slice(text.as_bytes())
 }
 
 /// Adds the digits of a number.
-pub fn push_number(out: &mut Vec<u8>, number: u64) -> Result<(), AllocError>
+pub fn push_number(out: &mut Vec<u8>, number: u64) -> Added
     ensures { OnOk result (out.new.items ≡ out.old.items ++ decimal number) }
 {
     push(out, Buffer::new().format(number))
 }
 
 /// Adds the digits of a great number.
-pub fn push_wide(out: &mut Vec<u8>, number: u128) -> Result<(), AllocError>
+pub fn push_wide(out: &mut Vec<u8>, number: u128) -> Added
     ensures { OnOk result (out.new.items ≡ out.old.items ++ decimal number) }
 {
     push(out, Buffer::new().format(number))
@@ -31,12 +34,7 @@ pub fn push_wide(out: &mut Vec<u8>, number: u128) -> Result<(), AllocError>
 
 /// Adds a number with markup before and after it.
 #[tactic(auto, unfolding(crate::specs::Writing::one_number))]
-pub fn push_one(
-    out: &mut Vec<u8>,
-    before: &str,
-    number: u128,
-    after: &str,
-) -> Result<(), AllocError>
+pub fn push_one(out: &mut Vec<u8>, before: &str, number: u128, after: &str) -> Added
     ensures { OnOk result (out.new.items ≡ out.old.items ++ one_number before.now number after.now) }
 {
     push(out, before)?;
@@ -53,7 +51,7 @@ pub fn push_two(
     between: &str,
     second: u128,
     after: &str,
-) -> Result<(), AllocError>
+) -> Added
     ensures { OnOk result (out.new.items ≡ out.old.items ++ two_numbers before.now first between.now second after.now) }
 {
     push(out, before)?;
@@ -64,13 +62,13 @@ pub fn push_two(
 }
 
 /// Adds a text that is no markup.
-pub fn push_escaped(out: &mut Vec<u8>, text: &str) -> Result<(), AllocError>
+pub fn push_escaped(out: &mut Vec<u8>, text: &str) -> Added
     ensures { OnOk result (out.new.items ≡ out.old.items ++ escaped text.now) }
 {
     push_escaped_bytes(out, text.as_bytes())
 }
 
-fn push_escaped_bytes(out: &mut Vec<u8>, bytes: &[u8]) -> Result<(), AllocError>
+fn push_escaped_bytes(out: &mut Vec<u8>, bytes: &[u8]) -> Added
     ensures { OnOk result (out.new.items ≡ out.old.items ++ flat_map escaped_byte bytes.now) }
 {
     for byte in bytes {
@@ -79,7 +77,7 @@ fn push_escaped_bytes(out: &mut Vec<u8>, bytes: &[u8]) -> Result<(), AllocError>
     Ok(())
 }
 
-fn push_byte(out: &mut Vec<u8>, byte: u8) -> Result<(), AllocError>
+fn push_byte(out: &mut Vec<u8>, byte: u8) -> Added
     ensures { OnOk result (out.new.items ≡ out.old.items ++ escaped_byte byte) }
 {
     match byte {

@@ -22,11 +22,13 @@ abbrev pub at_least_sign : List ℕ
 at_least_sign = 226 ∷ 137 ∷ 165 ∷ []
 
 unfoldable pub advice_text : Advice → List ℕ
+advice_text A.FirstLine =
+    codes "it is `tickcode 2 P V S R`, with the numbers of processes, variables, scans and registers"
+advice_text A.InstructionLine =
+    codes "it is a name, and numbers after one space each, as `Push 5`; the last line ends too"
 advice_text A.GreatestNumber = codes "the greatest number is 4294967295"
 advice_text A.LongestName = codes "a name has at most 64 bytes"
 advice_text A.DeepestBracket = codes "at most 64 are: give a part its own statement"
-advice_text A.FirstLine = codes "it is `tickcode 2 P V S R`, with the numbers of processes, variables, scans and registers"
-advice_text A.InstructionLine = codes "it is a name, and numbers after one space each, as `Push 5`; the last line ends too"
 advice_text A.NoGroups = codes "there are no groups: write each item out"
 advice_text A.Blanks = codes "items are separated by blanks"
 advice_text A.NoComments = codes "a schedule has no comments"

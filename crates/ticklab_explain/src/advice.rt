@@ -66,13 +66,13 @@ impl Advice {
         ensures { result.now ≡ advice_text self }
     {
         match self {
-            Advice::GreatestNumber => "the greatest number is 4294967295",
-            Advice::LongestName => "a name has at most 64 bytes",
-            Advice::DeepestBracket => "at most 64 are: give a part its own statement",
             Advice::FirstLine =>
                 "it is `tickcode 2 P V S R`, with the numbers of processes, variables, scans and registers",
             Advice::InstructionLine =>
                 "it is a name, and numbers after one space each, as `Push 5`; the last line ends too",
+            Advice::GreatestNumber => "the greatest number is 4294967295",
+            Advice::LongestName => "a name has at most 64 bytes",
+            Advice::DeepestBracket => "at most 64 are: give a part its own statement",
             Advice::NoGroups => "there are no groups: write each item out",
             Advice::Blanks => "items are separated by blanks",
             Advice::NoComments => "a schedule has no comments",

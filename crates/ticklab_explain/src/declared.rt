@@ -5,19 +5,19 @@ ghost use Rattle.ticklab_explain.specs.Settings.{setting};
 
 use crate::grammar_slips::is_section;
 use crate::scene::{Scene, is_name, text_at};
-use std::alloc::AllocError;
+use crate::writing::Added;
 use tick_syntax::token::Token;
 
 /// Adds the names that are declared, by sections.
 #[tactic(auto, unfolding(crate::specs::Hints::declared_names))]
-pub fn push_declared_names(text: &mut String, scene: &Scene) -> Result<(), AllocError>
+pub fn push_declared_names(text: &mut String, scene: &Scene) -> Added
     ensures { OnOk result (string_bytes text.new ≡ string_bytes text.old ++ declared_names (setting scene.now)) }
 {
     text.push_str("declared are")?;
     push_declared(text, scene.text, scene.tokens)
 }
 
-fn push_declared(text: &mut String, bytes: &[u8], tokens: &[Token]) -> Result<(), AllocError>
+fn push_declared(text: &mut String, bytes: &[u8], tokens: &[Token]) -> Added
     ensures { OnOk result (string_bytes text.new ≡ string_bytes text.old ++ declared_in bytes.now true false tokens.now) }
 {
     let mut is_first = true;
@@ -39,7 +39,7 @@ fn push_declared(text: &mut String, bytes: &[u8], tokens: &[Token]) -> Result<()
     push_no_names(text, is_first)
 }
 
-fn push_no_names(text: &mut String, is_first: bool) -> Result<(), AllocError>
+fn push_no_names(text: &mut String, is_first: bool) -> Added
     ensures { OnOk result (string_bytes text.new ≡ string_bytes text.old ++ no_names is_first) }
 {
     if is_first {
@@ -49,14 +49,14 @@ fn push_no_names(text: &mut String, is_first: bool) -> Result<(), AllocError>
     }
 }
 
-fn push_section(text: &mut String, is_first: bool, keyword: &str) -> Result<(), AllocError>
+fn push_section(text: &mut String, is_first: bool, keyword: &str) -> Added
     ensures { OnOk result (string_bytes text.new ≡ string_bytes text.old ++ ((if is_first then codes " " else codes "; ") ++ section_name keyword.now)) }
 {
     text.push_str(if is_first { " " } else { "; " })?;
     text.push_str(section_name(keyword))
 }
 
-fn push_name(text: &mut String, is_next: bool, name: &str) -> Result<(), AllocError>
+fn push_name(text: &mut String, is_next: bool, name: &str) -> Added
     ensures { OnOk result (string_bytes text.new ≡ string_bytes text.old ++ ((if is_next then codes ", " else codes " ") ++ name.now)) }
 {
     text.push_str(if is_next { ", " } else { " " })?;

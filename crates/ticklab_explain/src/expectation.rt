@@ -9,16 +9,12 @@ use crate::piece::Piece::{Here, Words};
 use crate::piece::{Piece, push_pieces};
 use crate::scene::Scene;
 use crate::wanted::Wanted;
-use std::alloc::AllocError;
+use crate::writing::Added;
 use tick_syntax::token::Sort;
 
 /// Adds what was expected, and what was found.
 #[tactic(auto, unfolding(crate::specs::Following::expectation))]
-pub fn push_expectation(
-    text: &mut String,
-    scene: &Scene,
-    wanted: &[Wanted],
-) -> Result<(), AllocError>
+pub fn push_expectation(text: &mut String, scene: &Scene, wanted: &[Wanted]) -> Added
     ensures { OnOk result (string_bytes text.new ≡ string_bytes text.old ++ expectation (setting scene.now) wanted.now) }
 {
     text.push_str(opening(wanted))?;
@@ -27,7 +23,7 @@ pub fn push_expectation(
     push_found(text, scene)
 }
 
-fn push_listed(text: &mut String, wanted: &[Wanted]) -> Result<(), AllocError>
+fn push_listed(text: &mut String, wanted: &[Wanted]) -> Added
     ensures { OnOk result (string_bytes text.new ≡ string_bytes text.old ++ listed 0 (length wanted.now) wanted.now) }
 {
     for (index, one) in wanted.iter().enumerate() {
@@ -60,7 +56,7 @@ fn joint(index: usize, count: usize) -> &'static str
     }
 }
 
-fn push_found(text: &mut String, scene: &Scene) -> Result<(), AllocError>
+fn push_found(text: &mut String, scene: &Scene) -> Added
     ensures { OnOk result (string_bytes text.new ≡ string_bytes text.old ++ found (sort_here (setting scene.now)) (here (setting scene.now))) }
 {
     push_pieces(text, scene, found(scene.sort()))

@@ -8,8 +8,8 @@ use crate::advice::Advice;
 use crate::name_hint::NameHint;
 use crate::quote::Quote;
 use crate::scene::Scene;
+use crate::writing::Added;
 use base::span::Span;
-use std::alloc::AllocError;
 
 /// What may help.
 #[derive(Clone, Copy)]
@@ -24,7 +24,7 @@ pub enum Hint {
 
 impl Hint {
     /// Adds its words.
-    pub fn push(self, text: &mut String, scene: &Scene) -> Result<(), AllocError>
+    pub fn push(self, text: &mut String, scene: &Scene) -> Added
         ensures { OnOk result (string_bytes text.new ≡ string_bytes text.old ++ hint_text (setting scene.now) self) }
     {
         match self {

@@ -8,21 +8,15 @@ use crate::piece::Piece::{About, Words};
 use crate::piece::{Piece, push_pieces};
 use crate::scene::{Scene, is_text, shortened};
 use crate::wanted::Wanted;
-use crate::writing::{push_all, push_number};
+use crate::writing::{Added, push_all, push_number};
 use code_core::CodeFault;
 use language_schedules::ScheduleFault;
-use std::alloc::AllocError;
 use tick_kinds::{Kind, KindFault};
 use tick_syntax::TextFault;
 use ticketc_refusals::Refusal;
 
 /// Adds what is wrong.
-pub fn push_message(
-    text: &mut String,
-    scene: &Scene,
-    wanted: &[Wanted],
-    refusal: Refusal,
-) -> Result<(), AllocError>
+pub fn push_message(text: &mut String, scene: &Scene, wanted: &[Wanted], refusal: Refusal) -> Added
     ensures { OnOk result (string_bytes text.new ≡ string_bytes text.old ++ message_of (setting scene.now) wanted.now refusal) }
 {
     match refusal {
@@ -33,12 +27,7 @@ pub fn push_message(
     }
 }
 
-fn push_text(
-    text: &mut String,
-    scene: &Scene,
-    wanted: &[Wanted],
-    fault: TextFault,
-) -> Result<(), AllocError>
+fn push_text(text: &mut String, scene: &Scene, wanted: &[Wanted], fault: TextFault) -> Added
     ensures { OnOk result (string_bytes text.new ≡ string_bytes text.old ++ text_message (setting scene.now) wanted.now fault) }
 {
     match fault {
@@ -63,7 +52,7 @@ fn push_text(
 }
 
 #[tactic(auto, unfolding(crate::specs::Messages::character_message))]
-fn push_character(text: &mut String, scene: &Scene) -> Result<(), AllocError>
+fn push_character(text: &mut String, scene: &Scene) -> Added
     ensures { OnOk result (string_bytes text.new ≡ string_bytes text.old ++ character_message (setting scene.now)) }
 {
     if is_text(scene.text) {
@@ -75,7 +64,7 @@ fn push_character(text: &mut String, scene: &Scene) -> Result<(), AllocError>
 
 static NO_TOKEN: [Piece; 3] = [Words("no token begins with `"), About, Words("`")];
 
-fn push_kinds(text: &mut String, scene: &Scene, fault: KindFault) -> Result<(), AllocError>
+fn push_kinds(text: &mut String, scene: &Scene, fault: KindFault) -> Added
     ensures { OnOk result (string_bytes text.new ≡ string_bytes text.old ++ kinds_message (setting scene.now) fault) }
 {
     match fault {
@@ -92,12 +81,7 @@ static TWICE: [Piece; 3] = [Words("`"), About, Words("` is declared twice")];
 
 static UNKNOWN: [Piece; 3] = [Words("`"), About, Words("` is not declared")];
 
-fn push_wrong_kind(
-    text: &mut String,
-    scene: &Scene,
-    wanted: Kind,
-    found: Kind,
-) -> Result<(), AllocError>
+fn push_wrong_kind(text: &mut String, scene: &Scene, wanted: Kind, found: Kind) -> Added
     ensures { OnOk result (string_bytes text.new ≡ string_bytes text.old ++ wrong_kind (about (setting scene.now)) wanted found) }
 {
     push_all(
@@ -125,7 +109,7 @@ fn kind_word<'a>(kind: Kind) -> &'a str
     }
 }
 
-fn push_code(text: &mut String, fault: CodeFault) -> Result<(), AllocError>
+fn push_code(text: &mut String, fault: CodeFault) -> Added
     ensures { OnOk result (string_bytes text.new ≡ string_bytes text.old ++ code_message fault) }
 {
     match fault {
@@ -156,13 +140,13 @@ fn push_code(text: &mut String, fault: CodeFault) -> Result<(), AllocError>
     }
 }
 
-fn push_instruction(text: &mut String, place: u16, fault: &str) -> Result<(), AllocError>
+fn push_instruction(text: &mut String, place: u16, fault: &str) -> Added
     ensures { OnOk result (string_bytes text.new ≡ string_bytes text.old ++ instruction place fault.now) }
 {
     push_number(text, "instruction ", usize::from(place), fault)
 }
 
-fn push_schedule(text: &mut String, scene: &Scene, fault: ScheduleFault) -> Result<(), AllocError>
+fn push_schedule(text: &mut String, scene: &Scene, fault: ScheduleFault) -> Added
     ensures { OnOk result (string_bytes text.new ≡ string_bytes text.old ++ schedule_message (setting scene.now) fault) }
 {
     let item = shortened(scene.about());

@@ -7,8 +7,7 @@ use crate::declared::push_declared_names;
 use crate::piece::Piece::{About, After, Words};
 use crate::piece::{Piece, push_pieces};
 use crate::scene::Scene;
-use crate::writing::push_number;
-use std::alloc::AllocError;
+use crate::writing::{Added, push_number};
 
 /// What may help, in words that quote names.
 #[derive(Clone, Copy)]
@@ -21,7 +20,7 @@ pub enum NameHint {
 
 impl NameHint {
     /// Adds its words.
-    pub fn push(self, text: &mut String, scene: &Scene) -> Result<(), AllocError>
+    pub fn push(self, text: &mut String, scene: &Scene) -> Added
         ensures { OnOk result (string_bytes text.new ≡ string_bytes text.old ++ name_hint_text (setting scene.now) self) }
     {
         match self {

@@ -5,10 +5,10 @@ ghost use Rattle.std.specs.List.{flat_map};
 ghost use Rattle.ticklab_explain.specs.Pictures.{IsPicture, caret_of, cut, margin, picture, shown, shown_byte, source_line};
 
 use crate::place::{characters, line_end, line_start};
-use crate::writing::{push, push_decimal, push_often};
+use crate::writing::{Added, push, push_decimal, push_often};
 use base::span::Span;
 use itoa::Buffer;
-use std::alloc::{AllocError, Global};
+use std::alloc::Global;
 
 const BEFORE_LIMIT: usize = 120;
 
@@ -16,7 +16,7 @@ const AFTER_LIMIT: usize = 240;
 
 // A line by its number, as it is shown before a part, in it and after it.
 #[derive(Clone, Copy)]
-struct Line<'a> {
+struct SourceLine<'a> {
     number: usize,
     before: &'a [u8],
     part: &'a [u8],
@@ -30,7 +30,7 @@ pub fn push_picture(
     text: &[u8],
     span: Span,
     number: usize,
-) -> Result<(), AllocError>
+) -> Added
     ensures { OnOk result ((drawn : List ℕ) × IsPicture text.now span number drawn × (out.new.items ≡ out.old.items ++ drawn)) }
 {
     let at = span.start.min(text.len());
@@ -47,7 +47,7 @@ pub fn push_picture(
     let mut after = Vec::new(alloc);
     push_shown(alloc, &mut after, &text[end..to])?;
     push_cut(&mut after, stop - to)?;
-    let line = Line {
+    let line = SourceLine {
         number,
         before: &before,
         part: &part,
@@ -56,13 +56,13 @@ pub fn push_picture(
     push_lines(out, line)
 }
 
-fn push_cut(out: &mut Vec<u8>, rest: usize) -> Result<(), AllocError>
+fn push_cut(out: &mut Vec<u8>, rest: usize) -> Added
     ensures { OnOk result (out.new.items ≡ out.old.items ++ cut rest) }
 {
     if rest == 0 { Ok(()) } else { push(out, "..") }
 }
 
-fn push_lines(out: &mut Vec<u8>, line: Line<'_>) -> Result<(), AllocError>
+fn push_lines(out: &mut Vec<u8>, line: SourceLine<'_>) -> Added
     ensures { OnOk result (out.new.items ≡ out.old.items ++ picture line.entry.number line.entry.before.now line.entry.part.now line.entry.after.now) }
 {
     push_margin(out, line.number)?;
@@ -76,7 +76,7 @@ fn push_lines(out: &mut Vec<u8>, line: Line<'_>) -> Result<(), AllocError>
     )
 }
 
-fn push_source(out: &mut Vec<u8>, line: Line<'_>) -> Result<(), AllocError>
+fn push_source(out: &mut Vec<u8>, line: SourceLine<'_>) -> Added
     ensures { OnOk result (out.new.items ≡ out.old.items ++ source_line line.entry.number line.entry.before.now line.entry.part.now line.entry.after.now) }
 {
     push_decimal(out, line.number)?;
@@ -88,12 +88,7 @@ fn push_source(out: &mut Vec<u8>, line: Line<'_>) -> Result<(), AllocError>
 }
 
 // The caret's line, for so many columns before the caret and so many under which it stands.
-fn push_caret(
-    out: &mut Vec<u8>,
-    number: usize,
-    before: usize,
-    part: usize,
-) -> Result<(), AllocError>
+fn push_caret(out: &mut Vec<u8>, number: usize, before: usize, part: usize) -> Added
     ensures { OnOk result (out.new.items ≡ out.old.items ++ caret_of number before part) }
 {
     push_margin(out, number)?;
@@ -103,31 +98,15 @@ fn push_caret(
     push(out, "\n")
 }
 
-fn push_margin(out: &mut Vec<u8>, number: usize) -> Result<(), AllocError>
+fn push_margin(out: &mut Vec<u8>, number: usize) -> Added
     ensures { OnOk result (out.new.items ≡ out.old.items ++ margin number) }
 {
     push_often(out, b' ', Buffer::new().format(number).len())?;
     push(out, " |")
 }
 
-// Bytes as they are shown.
-fn push_shown(alloc: Global, out: &mut Vec<u8>, bytes: &[u8]) -> Result<(), AllocError>
-    ensures { OnOk result (out.new.items ≡ out.old.items ++ shown bytes.now) }
-{
-    let text = String::from_utf8_lossy(alloc, bytes)?;
-    push_plain(out, text.as_bytes())
-}
-
-fn push_plain(out: &mut Vec<u8>, bytes: &[u8]) -> Result<(), AllocError>
-    ensures { OnOk result (out.new.items ≡ out.old.items ++ flat_map shown_byte bytes.now) }
-{
-    for byte in bytes {
-        push_byte(out, *byte)?;
-    }
-    Ok(())
-}
-
-fn push_byte(out: &mut Vec<u8>, byte: u8) -> Result<(), AllocError>
+// A byte as it is shown.
+fn push_byte(out: &mut Vec<u8>, byte: u8) -> Added
     ensures { OnOk result (out.new.items ≡ out.old.items ++ shown_byte byte) }
 {
     match byte {
@@ -136,4 +115,21 @@ fn push_byte(out: &mut Vec<u8>, byte: u8) -> Result<(), AllocError>
         0..=31 => push(out, "?"),
         _ => out.extend_from_slice(&[byte]),
     }
+}
+
+fn push_plain(out: &mut Vec<u8>, bytes: &[u8]) -> Added
+    ensures { OnOk result (out.new.items ≡ out.old.items ++ flat_map shown_byte bytes.now) }
+{
+    for byte in bytes {
+        push_byte(out, *byte)?;
+    }
+    Ok(())
+}
+
+// Bytes as they are shown, with a sign for each that is no UTF-8.
+fn push_shown(alloc: Global, out: &mut Vec<u8>, bytes: &[u8]) -> Added
+    ensures { OnOk result (out.new.items ≡ out.old.items ++ shown bytes.now) }
+{
+    let text = String::from_utf8_lossy(alloc, bytes)?;
+    push_plain(out, text.as_bytes())
 }

@@ -5,7 +5,7 @@ ghost use Rattle.ticklab_explain.specs.Hints.{meaning, or_else, piece_text, stat
 ghost use Rattle.ticklab_explain.specs.Settings.{setting};
 
 use crate::scene::Scene;
-use std::alloc::AllocError;
+use crate::writing::Added;
 
 /// Words, or what is quoted of the text about the place.
 #[derive(Clone, Copy)]
@@ -48,7 +48,7 @@ impl Piece {
 }
 
 /// Adds pieces one after another.
-pub fn push_pieces(text: &mut String, scene: &Scene, pieces: &[Piece]) -> Result<(), AllocError>
+pub fn push_pieces(text: &mut String, scene: &Scene, pieces: &[Piece]) -> Added
     ensures { OnOk result (string_bytes text.new ≡ string_bytes text.old ++ flat_map (piece_text (setting scene.now)) pieces.now) }
 {
     for piece in pieces {

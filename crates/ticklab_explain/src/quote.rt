@@ -7,8 +7,8 @@ ghost use Rattle.ticklab_explain.specs.Settings.{Setting, setting};
 use crate::piece::Piece::{About, After, Before, Here, Left, Meaning, Right, Statement, Words};
 use crate::piece::{Piece, push_pieces};
 use crate::scene::Scene;
+use crate::writing::Added;
 use base::span::Span;
-use std::alloc::AllocError;
 
 /// What may help, in words that quote the text about the place. The last three speak of another place.
 #[derive(Clone, Copy)]
@@ -37,7 +37,7 @@ pub enum Quote {
 
 impl Quote {
     /// Adds its words.
-    pub fn push(self, text: &mut String, scene: &Scene) -> Result<(), AllocError>
+    pub fn push(self, text: &mut String, scene: &Scene) -> Added
         ensures { OnOk result (string_bytes text.new ≡ string_bytes text.old ++ quote_text (setting scene.now) self) }
     {
         push_pieces(text, scene, self.pieces())

@@ -19,7 +19,7 @@ use crate::scene::Scene;
 use crate::setting::scene_of;
 use crate::spot::{span_at, spot_of};
 use crate::wanted::Wanted;
-use crate::writing::{push, push_decimal};
+use crate::writing::{Added, push, push_decimal};
 use base::NoMemory;
 use base::span::Span;
 use std::alloc::{AllocError, Global};
@@ -80,7 +80,7 @@ fn push_head(
     text: &[u8],
     refusal: Refusal,
     message: &str,
-) -> Result<(), AllocError>
+) -> Added
     ensures { OnOk result ((head : List ℕ) × IsHead name.now text.now refusal message.now head × (out.new.items ≡ out.old.items ++ head)) }
 {
     match span_at(text, spot_of(refusal)) {
@@ -97,7 +97,7 @@ fn push_placed(
     text: &[u8],
     span: Span,
     message: &str,
-) -> Result<(), AllocError>
+) -> Added
     ensures { OnOk result ((place : Place) × (drawn : List ℕ) × IsPlace text.now (min span.start (length text.now)) place × IsPicture text.now span place.line drawn × (out.new.items ≡ out.old.items ++ (place_text name.now place ++ error_text message.now ++ drawn))) }
 {
     let place = place_of(text, span.start.min(text.len()));
@@ -106,14 +106,14 @@ fn push_placed(
     push_picture(alloc, out, text, span, place.line)
 }
 
-fn push_unplaced(out: &mut Vec<u8>, name: &str, message: &str) -> Result<(), AllocError>
+fn push_unplaced(out: &mut Vec<u8>, name: &str, message: &str) -> Added
     ensures { OnOk result (out.new.items ≡ out.old.items ++ (name.now ++ error_text message.now)) }
 {
     push(out, name)?;
     push_error(out, message)
 }
 
-fn push_place(out: &mut Vec<u8>, name: &str, place: Place) -> Result<(), AllocError>
+fn push_place(out: &mut Vec<u8>, name: &str, place: Place) -> Added
     ensures { OnOk result (out.new.items ≡ out.old.items ++ place_text name.now place) }
 {
     push(out, name)?;
@@ -123,7 +123,7 @@ fn push_place(out: &mut Vec<u8>, name: &str, place: Place) -> Result<(), AllocEr
     push_decimal(out, place.column)
 }
 
-fn push_error(out: &mut Vec<u8>, message: &str) -> Result<(), AllocError>
+fn push_error(out: &mut Vec<u8>, message: &str) -> Added
     ensures { OnOk result (out.new.items ≡ out.old.items ++ error_text message.now) }
 {
     push(out, ": error: ")?;
@@ -138,7 +138,7 @@ fn push_hint(
     name: &str,
     scene: &Scene,
     hint: Option<Hint>,
-) -> Result<(), AllocError>
+) -> Added
     ensures { OnOk result ((lines : List ℕ) × AreHintLines name.now scene.now.text.now (setting scene.now) hint lines × (out.new.items ≡ out.old.items ++ lines)) }
 {
     match hint {
@@ -151,7 +151,7 @@ fn push_hint(
     Ok(())
 }
 
-fn push_words(alloc: Global, out: &mut Vec<u8>, scene: &Scene, hint: Hint) -> Result<(), AllocError>
+fn push_words(alloc: Global, out: &mut Vec<u8>, scene: &Scene, hint: Hint) -> Added
     ensures { OnOk result (out.new.items ≡ out.old.items ++ (codes "hint: " ++ hint_text (setting scene.now) hint ++ line_end)) }
 {
     let mut words = String::new(alloc);
@@ -161,13 +161,7 @@ fn push_words(alloc: Global, out: &mut Vec<u8>, scene: &Scene, hint: Hint) -> Re
     push(out, "\n")
 }
 
-fn push_seen(
-    alloc: Global,
-    out: &mut Vec<u8>,
-    name: &str,
-    text: &[u8],
-    span: Option<Span>,
-) -> Result<(), AllocError>
+fn push_seen(alloc: Global, out: &mut Vec<u8>, name: &str, text: &[u8], span: Option<Span>) -> Added
     ensures { OnOk result ((seen : List ℕ) × IsSeen name.now text.now span seen × (out.new.items ≡ out.old.items ++ seen)) }
 {
     match span {
@@ -177,13 +171,7 @@ fn push_seen(
     Ok(())
 }
 
-fn push_other(
-    alloc: Global,
-    out: &mut Vec<u8>,
-    name: &str,
-    text: &[u8],
-    span: Span,
-) -> Result<(), AllocError>
+fn push_other(alloc: Global, out: &mut Vec<u8>, name: &str, text: &[u8], span: Span) -> Added
     ensures { OnOk result ((place : Place) × (drawn : List ℕ) × IsPlace text.now (min span.start (length text.now)) place × IsPicture text.now span place.line drawn × (out.new.items ≡ out.old.items ++ (codes " --> " ++ place_text name.now place ++ line_end ++ drawn))) }
 {
     let place = place_of(text, span.start.min(text.len()));
@@ -191,7 +179,7 @@ fn push_other(
     push_picture(alloc, out, text, span, place.line)
 }
 
-fn push_seen_place(out: &mut Vec<u8>, name: &str, place: Place) -> Result<(), AllocError>
+fn push_seen_place(out: &mut Vec<u8>, name: &str, place: Place) -> Added
     ensures { OnOk result (out.new.items ≡ out.old.items ++ (codes " --> " ++ place_text name.now place ++ line_end)) }
 {
     push(out, " --> ")?;
@@ -199,7 +187,7 @@ fn push_seen_place(out: &mut Vec<u8>, name: &str, place: Place) -> Result<(), Al
     push(out, "\n")
 }
 
-fn push_last(alloc: Global, out: &mut Vec<u8>, refusal: Refusal) -> Result<(), AllocError>
+fn push_last(alloc: Global, out: &mut Vec<u8>, refusal: Refusal) -> Added
     ensures { OnOk result (out.new.items ≡ out.old.items ++ last_line refusal) }
 {
     let line = line_of(alloc, refusal)?;

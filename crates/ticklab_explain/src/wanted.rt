@@ -2,8 +2,7 @@
 ghost use Rattle.std.specs.Prelude.{◌≡◌, ◌++◌, OnOk, string_bytes};
 ghost use Rattle.ticklab_explain.specs.Following.{before_expression, before_name, choices, is_one_of, is_one_of_now, other_choices, repeated_choices, sample, told};
 
-use crate::writing::push_all;
-use std::alloc::AllocError;
+use crate::writing::{Added, push_all};
 use tick_syntax::terminals::Terminal;
 
 /// What may be expected: all tokens of a kind, one word or sign, or the end of the text.
@@ -16,8 +15,8 @@ pub enum Wanted {
     Operator,
     Name,
     Number,
-    TextEnd,
     Word(Terminal),
+    TextEnd,
 }
 
 impl Wanted {
@@ -26,6 +25,7 @@ impl Wanted {
         ensures { result.now ≡ sample self }
     {
         match self {
+            Wanted::Word(terminal) => terminal.text(),
             Wanted::Statement => "stamp",
             Wanted::Value => "get",
             Wanted::Expression => "me",
@@ -33,12 +33,11 @@ impl Wanted {
             Wanted::Name => "x",
             Wanted::Number => "0",
             Wanted::TextEnd => "",
-            Wanted::Word(terminal) => terminal.text(),
         }
     }
 
     /// Adds how it is told.
-    pub fn push_told(self, text: &mut String) -> Result<(), AllocError>
+    pub fn push_told(self, text: &mut String) -> Added
         ensures { OnOk result (string_bytes text.new ≡ string_bytes text.old ++ told self) }
     {
         match self {

@@ -7,8 +7,7 @@
 -- each. The definitions drop several at once. `branch_past` and `repeat_past` join these equations for the
 -- tokens. `branch_heads` and `repeat_heads` do it for the heads, which the code pushes at the end.
 -- Read `past_two` first, then `branch_past`.
-use Rattle.std.proofs.Common.{◌≡◌, ℕ, zero, suc, ◌+◌, ◌-◌, ◌*◌, ◌<◌, ◌≤◌, List, Vec, Global, [], ◌∷◌, ◌++◌, length, refl, ap, ◌∙◌, sym, subst, arith, append_assoc, length-append, length-drop, drop, take, take_all, drop-cons, drop-drop, drop_of_length-le, add-one, get_or, ⊎_elim}
-use Rattle.std.proofs.lemmas.List.{append-nil}
+use Rattle.std.proofs.Common.{◌≡◌, ℕ, ◌+◌, ◌-◌, ◌*◌, ◌<◌, List, Vec, Global, [], ◌∷◌, ◌++◌, length, refl, ap, ◌∙◌, sym, subst, arith, append_assoc, length-append, length-drop, drop, take, take_all, drop-drop, get_or, ⊎_elim}
 use Rattle.std.proofs.lemmas.Bool.{cases_lt}
 use Rattle.base.specs.declared.operator.Op.{Op}
 use Rattle.tick_syntax.specs.declared.terminals.Terminal.{Terminal}
@@ -20,11 +19,12 @@ use Rattle.base.specs.declared.tree.Stmt.{Stmt}
 use Rattle.base.specs.declared.tree.Stmt.TheVariants as S
 use Rattle.tick_syntax.specs.Grammar.{block_tokens, expression_tokens, in_braces, names_tokens, section_tokens, statement_tokens}
 use Rattle.tick_syntax.specs.Lexeme.{Lexeme, a_terminal}
-use Rattle.base.specs.Plain.{Name, Expression, binary, Statement, assign, get, put, stamp, clear, scan, copy, older, held, out, branch, repeat, Block, nil, cons, WholeProgram}
+use Rattle.base.specs.Plain.{Name, Expression, binary, Statement, assign, get, put, stamp, clear, scan, copy, older, held, out, branch, repeat, Block, cons, WholeProgram}
 use Rattle.base.specs.View.{block_of, expression_of, statement_of}
 use Rattle.base.proofs.Offered.{statement_of_branch, statement_of_repeat}
 use Rattle.ticklab_trace.specs.Places.{extent, head_tokens, heads, inner_heads, opening_tokens}
 use Rattle.ticklab_trace.specs.prover.Heads.{names_count, whole_heads}
+use Rattle.ticklab_trace.proofs.Slices.{next_item}
 
 names_long : (x : Name) (xs : List Name) → length (names_tokens x xs) ≡ 2 * length xs + 1
 names_long x [] = refl
@@ -187,16 +187,10 @@ plain_heads s tokens old pushed plain push =
 pub plain_as : (s x : Stmt) → s ≡ x → IsPlain (statement_of x) → IsPlain (statement_of s)
 plain_as s x is plain = subst (λ y. IsPlain (statement_of y)) (sym is) plain
 
--- the statements of a list from one on, and past its end
+-- the statements of a list from one on
 pub next_statement : (ss : List Stmt) (k : ℕ) (s : Stmt) → k < length ss → s ≡ get_or ss k s
     → block_of (drop k ss) ≡ cons (statement_of s) (block_of (drop (k + 1) ss))
-next_statement ss k s inside is =
-    ap block_of (drop-cons ss k s inside)
-    ∙ ap (λ x. cons (statement_of x) (block_of (drop (suc k) ss))) (sym is)
-    ∙ ap (λ j. cons (statement_of s) (block_of (drop j ss))) (sym (add-one k))
-
-pub no_statement : (ss : List Stmt) (k : ℕ) → length ss ≤ k → block_of (drop k ss) ≡ nil
-no_statement ss k over = ap block_of (drop_of_length-le ss over)
+next_statement = next_item block_of (λ s more. cons (statement_of s) more) (λ s more. refl)
 
 -- a statement more
 pub one_more : (s : Statement Name) (before after : Block Name) (tokens rest : List Token) (old mid new whole : List Span)

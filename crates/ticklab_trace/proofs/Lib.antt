@@ -1,3 +1,4 @@
+pub mod Slices
 pub mod HeadTokens
 pub mod Cutting
 pub mod Passing

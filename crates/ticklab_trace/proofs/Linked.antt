@@ -7,10 +7,9 @@
 -- of the table. A block has as many numbers as its size says (`length_remains`). An empty block begins where
 -- it goes on (`begins`).
 -- Read `begins` first, then `adding_more`.
-use Rattle.std.proofs.Common.{◌≡◌, ℕ, zero, suc, ◌+◌, ◌<◌, ◌≤◌, List, [], ◌∷◌, ◌++◌, length, refl, ap, ◌∙◌, sym, subst, arith, append_assoc, add-one, drop, get_or, drop_of_length-le, false, Some}
+use Rattle.std.proofs.Common.{◌≡◌, ℕ, zero, suc, ◌+◌, ◌<◌, ◌≤◌, List, [], ◌∷◌, ◌++◌, length, refl, ap, ◌∙◌, sym, subst, arith, append_assoc, drop, get_or, drop_of_length-le, false, Some}
 use Rattle.std.specs.Prelude.{slice_get, slice_index_or}
 use Rattle.std.specs.Prelude.{◌==◌}
-use Rattle.std.proofs.Math.Seq.{drop-cons}
 use Rattle.std.proofs.lemmas.List.{length-append, append-nil, get_or_past}
 use Rattle.std.proofs.lemmas.Option.{same_Some, none-some}
 use Rattle.base.specs.Plain.{Expression, Statement, assign, get, put, stamp, clear, scan, copy, older, held, out, branch, repeat, Block, nil, cons, onto}
@@ -18,6 +17,7 @@ use Rattle.tick_kinds.specs.declared.resolved.Statement as DeclaredStatement
 use Rattle.tick_kinds.specs.Resolved.{resolved_statement, resolved_block}
 use Rattle.ticklab_trace.specs.declared.links.Link.{Link}
 use Rattle.ticklab_trace.specs.Numbers.{size, size_of, remains, inside}
+use Rattle.ticklab_trace.proofs.Slices.{next_item}
 use Rattle.ticklab_trace.specs.prover.Links.{rest_next, rest_past, IsLinked, AreLinked, AreAt, Begins, Adds, AddsOne, Adding, IsPlain, rest_at, IsTable}
 
 mutual
@@ -27,14 +27,14 @@ mutual
       omega (arith, length-append (inside s (onto b rest)) (remains b rest), length_inside s (onto b rest), length_remains b rest)
 
   pub length_inside : (s : Statement ℕ) (rest : Block ℕ) → suc (length (inside s rest)) ≡ size_of s
-  length_inside (branch e a b) rest =
-      omega (arith, length-append (remains a rest) (remains b rest), length_remains a rest, length_remains b rest)
-  length_inside (repeat e a) rest = ap suc (length_remains a (cons (repeat e a) rest))
   length_inside (assign x e) rest = refl
   length_inside (get x r e) rest = refl
   length_inside (put r e) rest = refl
   length_inside stamp rest = refl
   length_inside clear rest = refl
+  length_inside (branch e a b) rest =
+      omega (arith, length-append (remains a rest) (remains b rest), length_remains a rest, length_remains b rest)
+  length_inside (repeat e a) rest = ap suc (length_remains a (cons (repeat e a) rest))
   length_inside (scan s) rest = refl
   length_inside (copy t s) rest = refl
   length_inside (older x s e f) rest = refl
@@ -233,10 +233,7 @@ table_of body after old new empty all adds =
 -- Blocks as slices.
 pub next_statement : (ss : List DeclaredStatement.Statement) (k : ℕ) (s : DeclaredStatement.Statement) → k < length ss → s ≡ get_or ss k s
     → resolved_block (drop k ss) ≡ cons (resolved_statement s) (resolved_block (drop (k + 1) ss))
-next_statement ss k s inside is =
-    ap resolved_block (drop-cons ss k s inside)
-    ∙ ap (λ x. cons (resolved_statement x) (resolved_block (drop (suc k) ss))) (sym is)
-    ∙ ap (λ j. cons (resolved_statement s) (resolved_block (drop j ss))) (sym (add-one k))
+next_statement = next_item resolved_block (λ s more. cons (resolved_statement s) more) (λ s more. refl)
 
 pub no_statement : (ss : List DeclaredStatement.Statement) (k : ℕ) → length ss ≤ k → resolved_block (drop k ss) ≡ nil
 no_statement ss k over = ap resolved_block (drop_of_length-le ss over)

@@ -1,18 +1,18 @@
 -- The place after bytes that are passed in parts.
 use Rattle.std.proofs.Common.{◌≡◌, ℕ, ◌+◌, ◌-◌, ◌≤◌, List, [], ◌∷◌, ◌++◌, length, refl, ap, ◌∙◌, sym, arith, take, drop, slice_range, take-add, length-drop, length-take, drop_of_length-le}
-use Rattle.ticklab_trace.specs.declared.spots.Place.{Place}
+use Rattle.ticklab_trace.specs.declared.spots.LineColumn.{LineColumn}
 use Rattle.ticklab_trace.specs.declared.spots.Passed.{Passed}
 use Rattle.ticklab_trace.specs.Places.{first_place, next_place, place_after}
 use Rattle.ticklab_trace.specs.prover.Heads.{HasPassed}
 
-pub place_after-append : (place : Place) (xs ys : List ℕ) → place_after place (xs ++ ys) ≡ place_after (place_after place xs) ys
+pub place_after-append : (place : LineColumn) (xs ys : List ℕ) → place_after place (xs ++ ys) ≡ place_after (place_after place xs) ys
 place_after-append place [] ys = refl
 place_after-append place (x ∷ xs) ys = place_after-append (next_place place x) xs ys
 
 pub length_part : (bytes : List ℕ) (at start : ℕ) → start ≤ length bytes → length (slice_range bytes at start) ≡ start - at
 length_part bytes at start within = length-take (start - at) (drop at bytes) ∙ omega (arith, length-drop at bytes)
 
-pub passed_more : (bytes : List ℕ) (passed : Passed) (start i : ℕ) (place : Place) → HasPassed bytes passed → passed.at ≤ start → start ≤ length bytes
+pub passed_more : (bytes : List ℕ) (passed : Passed) (start i : ℕ) (place : LineColumn) → HasPassed bytes passed → passed.at ≤ start → start ≤ length bytes
     → length (slice_range bytes passed.at start) ≤ i → i ≤ length (slice_range bytes passed.at start)
     → place_after place (drop i (slice_range bytes passed.at start)) ≡ place_after passed.place (slice_range bytes passed.at start)
     → place.line ≤ 1 + passed.at + i → place.column ≤ 1 + passed.at + i → HasPassed bytes (record { at = start; place = place })

@@ -9,8 +9,8 @@ use Rattle.tick_syntax.specs.Grammar.{block_tokens, expression_tokens, section_t
 use Rattle.tick_syntax.specs.Lexeme.{Lexeme, a_number, a_terminal}
 use Rattle.base.specs.Plain.{nowhere, Name, Statement, branch, repeat, Block, nil, cons, WholeProgram}
 use Rattle.tick_syntax.specs.Spelling.{Spells}
-use Rattle.ticklab_trace.specs.declared.spots.Place.{Place}
-use Rattle.ticklab_trace.specs.declared.spots.Spot.{Spot}
+use Rattle.ticklab_trace.specs.declared.spots.LineColumn.{LineColumn}
+use Rattle.ticklab_trace.specs.declared.spots.StatementPlace.{StatementPlace}
 
 -- the tokens of a program before its body
 abbrev pub opening_tokens : WholeProgram Name → List Lexeme
@@ -55,18 +55,18 @@ is_line_feed byte = byte == 10
 
 -- The place after a byte that stands at this place. A character is one column, and begins with any byte but
 -- 128 to 191.
-abbrev pub next_place : Place → ℕ → Place
+abbrev pub next_place : LineColumn → ℕ → LineColumn
 next_place place byte =
     if is_line_feed byte then record { line = place.line + 1; column = 1 }
     else if nat_lt byte 128 || nat_le 192 byte then record { line = place.line; column = place.column + 1 }
     else place
 
-abbrev pub place_after : Place → List ℕ → Place
+abbrev pub place_after : LineColumn → List ℕ → LineColumn
 place_after place [] = place
 place_after place (byte ∷ bytes) = place_after (next_place place byte) bytes
 
 -- lines and columns count from 1
-abbrev pub first_place : Place
+abbrev pub first_place : LineColumn
 first_place = record { line = 1; column = 1 }
 
 -- where a statement stands, and how its head reads in its first line
@@ -88,11 +88,11 @@ abbrev pub standings : List ℕ → List Token → WholeProgram Name → List St
 standings text tokens a = map (standing_at text) (statement_heads tokens a)
 
 -- as they are told
-abbrev pub told_standing : Spot → Standing
+abbrev pub told_standing : StatementPlace → Standing
 told_standing spot = record { line = spot.line; column = spot.column; words = spot.words.now }
 
 -- these are the statements of the program in the text
-pub record Stand (text : List ℕ) (a : WholeProgram Name) (spots : List Spot) : Type 0 where
+pub record Stand (text : List ℕ) (a : WholeProgram Name) (spots : List StatementPlace) : Type 0 where
   pub tokens : List Token
   pub spelled : Spells text tokens
   pub told : map told_standing spots ≡ standings text tokens a

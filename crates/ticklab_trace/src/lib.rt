@@ -22,6 +22,6 @@ pub use base::NoMemory;
 pub use code_lines::code_trace;
 pub use instructions::code_steps;
 pub use source_lines::source_trace;
-pub use spots::{Spot, places};
+pub use spots::{StatementPlace, places};
 pub use statements::source_steps;
 pub use steps::{InstructionStep, StatementStep, Written};

@@ -5,7 +5,7 @@ ghost use Rattle.ticklab_trace.specs.Places.{told_standing};
 ghost use Rattle.ticklab_trace.specs.TraceText.{done_text, order_text, spot_text, statement_line, statement_lines, step_text, taken_text, ticket_rank};
 
 use crate::columns::{push_head, push_nowhere, push_where, push_words};
-use crate::spots::Spot;
+use crate::spots::StatementPlace;
 use crate::steps::StatementStep;
 use crate::wording::{push_act, push_rank, push_variable};
 use base::{Act, NoMemory, push_number};
@@ -18,7 +18,7 @@ use ticket_core::Tickets;
 pub fn source_trace(
     alloc: Global,
     program: &Program,
-    spots: &[Spot<'_>],
+    spots: &[StatementPlace<'_>],
     steps: &[StatementStep],
 ) -> Result<String, NoMemory>
     ensures { IfOk result (λ text. string_bytes text ≡ statement_lines program.now (map told_standing spots.now) 0 steps.now) }
@@ -33,7 +33,7 @@ pub fn source_trace(
 fn push_line(
     text: &mut String,
     program: &Program,
-    spots: &[Spot<'_>],
+    spots: &[StatementPlace<'_>],
     number: usize,
     step: StatementStep,
 ) -> Result<(), AllocError>
@@ -49,7 +49,7 @@ fn push_line(
 fn push_step(
     text: &mut String,
     program: &Program,
-    spots: &[Spot<'_>],
+    spots: &[StatementPlace<'_>],
     step: StatementStep,
 ) -> Result<(), AllocError>
     ensures { OnOk result (string_bytes text.new ≡ string_bytes text.old ++ step_text program.now (map told_standing spots.now) step step.number step.act) }
@@ -68,7 +68,7 @@ fn push_step(
 fn push_statement(
     text: &mut String,
     program: &Program,
-    spot: Option<Spot<'_>>,
+    spot: Option<StatementPlace<'_>>,
     step: StatementStep,
     act: Option<Act>,
 ) -> Result<(), AllocError>

@@ -15,7 +15,7 @@ use tick_syntax::{TextFault, tokens};
 
 /// A statement as it stands in a text.
 #[derive(Clone, Copy)]
-pub struct Spot<'a> {
+pub struct StatementPlace<'a> {
     /// Its line, from 1.
     pub line: usize,
     /// The character of its line that it begins with, from 1.
@@ -29,7 +29,7 @@ pub fn places<'a>(
     alloc: Global,
     program: &Program,
     text: &'a str,
-) -> Result<Vec<Spot<'a>>, TextFault>
+) -> Result<Vec<StatementPlace<'a>>, TextFault>
     ensures spots { IfOk result (λ spots. Stand text.now program.now spots.items) }
     ensures fault { (tokens : List SpelledToken) → length text.now ≤ 1000000 → Spells text.now tokens → IfErr result (λ fault. fault ≡ NoMemory) }
 {
@@ -46,7 +46,7 @@ pub fn places<'a>(
 
 // A line, and a column in it.
 #[derive(Clone, Copy)]
-struct Place {
+struct LineColumn {
     line: usize,
     column: usize,
 }
@@ -55,12 +55,12 @@ struct Place {
 #[derive(Clone, Copy)]
 struct Passed {
     at: usize,
-    place: Place,
+    place: LineColumn,
 }
 
 const NOTHING: Passed = Passed {
     at: 0,
-    place: Place { line: 1, column: 1 },
+    place: LineColumn { line: 1, column: 1 },
 };
 
 // Passes what stands before a byte. A place further back is sought from the first byte on.
@@ -92,19 +92,19 @@ fn passed_on(bytes: &[u8], passed: Passed, start: usize) -> Passed
 }
 
 // The place after a byte.
-fn next_place(place: Place, byte: u8) -> Place
+fn next_place(place: LineColumn, byte: u8) -> LineColumn
     requires line { place.line < 18446744073709551615 }
     requires column { place.column < 18446744073709551615 }
     ensures { result ≡ next_place place byte }
 {
-    let Place { line, column } = place;
+    let LineColumn { line, column } = place;
     if byte == b'\n' {
-        Place {
+        LineColumn {
             line: line + 1,
             column: 1,
         }
     } else if byte < 128 || byte >= 192 {
-        Place {
+        LineColumn {
             line,
             column: column + 1,
         }
@@ -114,13 +114,13 @@ fn next_place(place: Place, byte: u8) -> Place
 }
 
 // A statement whose head stands there.
-fn spot_at(text: &str, place: Place, head: Span) -> Spot<'_>
+fn spot_at(text: &str, place: LineColumn, head: Span) -> StatementPlace<'_>
     requires { IsCut text.now head }
     ensures line { result.line ≡ place.line }
     ensures column { result.column ≡ place.column }
     ensures words { result.words.now ≡ first_line (slice_range text.now head.start head.end) }
 {
-    Spot {
+    StatementPlace {
         line: place.line,
         column: place.column,
         words: first_line(part(text, head)),

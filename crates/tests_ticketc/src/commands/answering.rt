@@ -13,14 +13,14 @@ pub const USAGE: &str =
 
 /// What came of a command line, how many calls its ends had, and what was written.
 #[derive(Drop)]
-pub struct Outcome {
+pub struct LineOutcome {
     pub status: Result<u8, EngineFault>,
     pub reads: u64,
     pub writes: u64,
     pub written: Vec<u8>,
 }
 
-impl Outcome {
+impl LineOutcome {
     /// Whether it is this status, with this written.
     pub fn is(&self, status: Result<u8, EngineFault>, written: &str) -> bool {
         self.status == status && self.written.as_slice() == written.as_bytes()
@@ -42,7 +42,7 @@ pub fn served<R: AllocGlobal + Threads + Wait>(
     words: &[&str],
     mut reader: Input<'_>,
     mut writer: Output,
-) -> Result<Outcome, Fail> {
+) -> Result<LineOutcome, Fail> {
     let line = line(rt.alloc(), words)?;
     let status = engine(
         rt.alloc(),
@@ -51,7 +51,7 @@ pub fn served<R: AllocGlobal + Threads + Wait>(
         &mut reader,
         &mut writer,
     );
-    Ok(Outcome {
+    Ok(LineOutcome {
         status,
         reads: reader.counts.calls,
         writes: writer.counts.calls,

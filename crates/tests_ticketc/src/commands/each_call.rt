@@ -1,6 +1,6 @@
 //! Each call of the reader and of the writer, disturbed in each way, for each command. Both move one byte at
 //! a time.
-use crate::commands::answering::{Outcome, USAGE, served};
+use crate::commands::answering::{LineOutcome, USAGE, served};
 use crate::commands::in_memory::{Disturbance, Input, Output};
 use std::sync::Wait;
 use std::test::Fail;
@@ -183,7 +183,7 @@ impl Wanted {
         }
     }
 
-    fn is(&self, outcome: &Outcome, answer: &str) -> bool {
+    fn is(&self, outcome: &LineOutcome, answer: &str) -> bool {
         let written = answer.as_bytes().get(..self.written as usize);
         outcome.status == self.status
             && outcome.reads == self.reads
@@ -218,7 +218,7 @@ fn answered<R: AllocGlobal + Threads + Wait>(
     rt: &R,
     row: &Row,
     disturbances: (Disturbance, Disturbance),
-) -> Result<Outcome, Fail> {
+) -> Result<LineOutcome, Fail> {
     let (reads, writes) = disturbances;
     let input = Input::new(row.1.unwrap_or(b""), 1, reads);
     let output = Output::new(rt.alloc(), 1, writes);
@@ -249,7 +249,7 @@ fn each_call_of_each_end(rt: HostRuntime) -> Result<(), Fail> {
 }
 
 // Every third read and every second write is interrupted.
-fn is_so_now_and_then(outcome: &Outcome, row: &Row) -> bool {
+fn is_so_now_and_then(outcome: &LineOutcome, row: &Row) -> bool {
     let whole = Wanted::of(row);
     let (reads, writes) = (whole.reads, whole.writes);
     let wanted = whole.of_more(reads.saturating_sub(1) / 2, writes.saturating_sub(1));
@@ -266,7 +266,7 @@ fn now_and_then(rt: HostRuntime) -> Result<(), Fail> {
 }
 
 // Where the words want no input, none is read.
-fn ends_after_all_reads(outcome: &Outcome, row: &Row) -> bool {
+fn ends_after_all_reads(outcome: &LineOutcome, row: &Row) -> bool {
     if row.1.is_none() {
         return outcome.is(Ok(row.2), row.3) && outcome.reads == 0;
     }

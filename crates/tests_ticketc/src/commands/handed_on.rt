@@ -26,7 +26,7 @@ impl OneRun for Unthreaded<'_> {
 
 // What serving comes to without threads.
 #[derive(Clone, Copy, PartialEq, Eq)]
-struct Outcome {
+struct HandedOn {
     status: Result<u8, EngineFault>,
     // Of the run that is handed on.
     turns: Option<u64>,
@@ -34,14 +34,14 @@ struct Outcome {
     writes: u64,
 }
 
-fn handed_on(alloc: Global, words: &[&str]) -> Result<Outcome, Fail> {
+fn handed_on(alloc: Global, words: &[&str]) -> Result<HandedOn, Fail> {
     let mut reader = Input::new(COUNT, 1000, Disturbance::Never);
     let mut writer = Output::new(alloc, 1000, Disturbance::Never);
     let line = line(alloc, words)?;
     let mut turns = None;
     let one = Unthreaded { turns: &mut turns };
     let status = engine(alloc, one, line.as_slice(), &mut reader, &mut writer);
-    Ok(Outcome {
+    Ok(HandedOn {
         status,
         turns,
         is_read: reader.counts.calls > 0,
@@ -49,10 +49,10 @@ fn handed_on(alloc: Global, words: &[&str]) -> Result<Outcome, Fail> {
     })
 }
 
-static HANDED_ON: [(&[&str], Outcome); 3] = [
+static HANDED_ON: [(&[&str], HandedOn); 3] = [
     (
         &["ticketc", "run", "0025"],
-        Outcome {
+        HandedOn {
             status: Err(EngineFault::Thread),
             turns: Some(25),
             is_read: true,
@@ -61,7 +61,7 @@ static HANDED_ON: [(&[&str], Outcome); 3] = [
     ),
     (
         &["ticketc", "run", "+25"],
-        Outcome {
+        HandedOn {
             status: Ok(2),
             turns: None,
             is_read: false,
@@ -70,7 +70,7 @@ static HANDED_ON: [(&[&str], Outcome); 3] = [
     ),
     (
         &["ticketc", "check"],
-        Outcome {
+        HandedOn {
             status: Ok(0),
             turns: None,
             is_read: true,

@@ -108,14 +108,14 @@ fn line(alloc: Global, words: &[&str]) -> Result<Args, AllocError> {
 
 /// What the program ended with, how many calls its ends had, and what was written.
 #[derive(Drop)]
-pub struct Ending {
+pub struct ProgramOutcome {
     status: ExitCode,
     reads: usize,
     writes: usize,
     written: Vec<u8>,
 }
 
-impl Ending {
+impl ProgramOutcome {
     pub fn is(&self, status: u8, written: &str) -> bool {
         self.status == ExitCode::from(status) && self.written.as_slice() == written.as_bytes()
     }
@@ -131,7 +131,7 @@ pub fn ending_of<A: AllocGlobal + Threads + Wait>(
     words: io::Result<Args>,
     mut input: Given<'_>,
     mut output: Taken,
-) -> Ending {
+) -> ProgramOutcome {
     let mut reader = HostReader::new(&mut input);
     let mut writer = HostWriter::new(&mut output);
     let status = ended(
@@ -141,7 +141,7 @@ pub fn ending_of<A: AllocGlobal + Threads + Wait>(
         &mut reader,
         &mut writer,
     );
-    Ending {
+    ProgramOutcome {
         status,
         reads: input.calls,
         writes: output.calls,
@@ -155,7 +155,7 @@ pub fn served<A: AllocGlobal + Threads + Wait>(
     words: &[&str],
     input: Given<'_>,
     output: Taken,
-) -> Result<Ending, Fail> {
+) -> Result<ProgramOutcome, Fail> {
     let line = line(rt.alloc(), words)?;
     Ok(ending_of(rt, Ok(line), input, output))
 }

@@ -5,17 +5,17 @@ use Rattle.ticketc_answers.specs.Answer.{Answer, refused, too_long}
 use Rattle.ticketc_answers.specs.Commands.{InputAnswers, is_run}
 use Rattle.ticketc_answers.specs.declared.fault.EngineFault.{EngineFault}
 use Rattle.ticketc_answers.specs.declared.fault.EngineFault.TheVariants as fault
-use Rattle.ticketc_answers.specs.declared.response.Response.{Response}
+use Rattle.ticketc_answers.specs.declared.response.StatusText.{StatusText}
 use Rattle.ticketc_answers.specs.declared.stop.Stop.{Stop}
 use Rattle.ticketc_answers.specs.declared.stop.Stop.TheVariants.{Refused, TooLong, Memory, Thread}
 
 -- the response is this answer
-pub record Says (response : Response) (a : Answer) : Type 0 where
+pub record Says (response : StatusText) (a : Answer) : Type 0 where
   pub status : response.status ≡ a.status
   pub text : string_bytes response.text ≡ a.text
 
 -- the response is an answer of these
-pub record IsResponse (allowed : Answer → Type 0) (response : Response) : Type 0 where
+pub record IsResponse (allowed : Answer → Type 0) (response : StatusText) : Type 0 where
   pub answer : Answer
   pub is_allowed : allowed answer
   pub says : Says response answer
@@ -26,12 +26,12 @@ IsUnanswered run fault.Memory = Unit {0}
 IsUnanswered run fault.Thread = run ≡ true
 IsUnanswered run other = ⊥
 
-abbrev pub IsAnswered : PlainCommand → List ℕ → Result Response EngineFault → Type 0
+abbrev pub IsAnswered : PlainCommand → List ℕ → Result StatusText EngineFault → Type 0
 IsAnswered command input (Ok response) = IsResponse (InputAnswers command input) response
 IsAnswered command input (Err fault) = IsUnanswered (is_run command) fault
 
 -- the response to what stops a command
-abbrev pub SaysStop : Response → Stop → Type 0
+abbrev pub SaysStop : StatusText → Stop → Type 0
 SaysStop response (Refused refusal) = Says response (refused refusal)
 SaysStop response TooLong = Says response too_long
 SaysStop response Memory = ⊥

@@ -20,10 +20,10 @@ use crate::host::Files;
 use crate::progress::Progress;
 use crate::reading::program_of;
 use crate::response::{DONE, LIMIT, Response, STUCK, TRAPPED, answer, settled};
-use crate::stop::Stop;
+use crate::stop::NoAnswer;
 use crate::trapping::trap_text;
 use base::{NoMemory, push_number};
-use searches_explore::{Asked, EndExplored, Watch, explore_ends};
+use searches_explore::{EndExplored, MustStop, Watch, explore_ends};
 use std::alloc::{AllocError, Global};
 use tick_kinds::Program;
 
@@ -54,7 +54,7 @@ fn all_ends<W: Watch>(
     process: Option<u8>,
     limit: u32,
     watch: &mut W,
-) -> Result<Response, Stop>
+) -> Result<Response, NoAnswer>
     ensures ok { IfOk result (λ response. IsWatched W.hears watch.old watch.new (IsEndsExplored name.now process limit input.now response)) }
     ensures refused { IfErr result (λ stop. IfRefused stop (λ report. IsEndsRefused name.now process input.now report × (watch.old ≡ watch.new))) }
 {
@@ -65,17 +65,17 @@ fn all_ends<W: Watch>(
 }
 
 // Who is asked for, of so many processes.
-fn asked_of(alloc: Global, process: Option<u8>, n: u8) -> Result<Asked, Stop>
+fn asked_of(alloc: Global, process: Option<u8>, n: u8) -> Result<MustStop, NoAnswer>
     ensures asked { IfOk result (λ asked. asked ≡ asked_by process) }
     ensures in_range { IfOk result (IsAskedOf n) }
     ensures refused { IfErr result (λ stop. IfRefused stop (IsPast n process)) }
 {
     match process {
-        None => Ok(Asked::All),
-        Some(process) if process < n => Ok(Asked::One(process)),
+        None => Ok(MustStop::All),
+        Some(process) if process < n => Ok(MustStop::One(process)),
         Some(process) => {
             let line = no_process_line(alloc, process)?;
-            Err(Stop::Refused(line.into_bytes()))
+            Err(NoAnswer::Refused(line.into_bytes()))
         }
     }
 }
@@ -83,7 +83,7 @@ fn asked_of(alloc: Global, process: Option<u8>, n: u8) -> Result<Asked, Stop>
 // The answer that tells what was explored.
 fn shown(
     alloc: Global,
-    asked: Asked,
+    asked: MustStop,
     program: &Program,
     input: &[u8],
     explored: &EndExplored,
@@ -110,19 +110,19 @@ fn shown(
     }
 }
 
-fn push_asked(text: &mut String, asked: Asked) -> Result<(), AllocError>
+fn push_asked(text: &mut String, asked: MustStop) -> Result<(), AllocError>
     ensures { OnOk result (string_bytes text.new ≡ string_bytes text.old ++ asked_text asked) }
 {
     match asked {
-        Asked::All => text.push_str("all processes"),
-        Asked::One(process) => {
+        MustStop::All => text.push_str("all processes"),
+        MustStop::One(process) => {
             text.push_str("process ")?;
             push_number(text, u64::from(process))
         }
     }
 }
 
-fn can_end_line(alloc: Global, asked: Asked, states: u32) -> Result<String, AllocError>
+fn can_end_line(alloc: Global, asked: MustStop, states: u32) -> Result<String, AllocError>
     ensures { IfOk result (λ line. string_bytes line ≡ can_end_line asked states) }
 {
     let mut line = String::new(alloc);
@@ -133,7 +133,7 @@ fn can_end_line(alloc: Global, asked: Asked, states: u32) -> Result<String, Allo
     Ok(line)
 }
 
-fn stuck_line(alloc: Global, asked: Asked) -> Result<String, AllocError>
+fn stuck_line(alloc: Global, asked: MustStop) -> Result<String, AllocError>
     ensures { IfOk result (λ line. string_bytes line ≡ stuck_line asked) }
 {
     let mut line = String::from_str(alloc, "after this schedule no further steps end ")?;

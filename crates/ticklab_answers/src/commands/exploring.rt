@@ -19,7 +19,7 @@ use crate::host::Files;
 use crate::progress::Progress;
 use crate::reading::program_of;
 use crate::response::{DONE, LIMIT, Response, TRAPPED, answer, settled};
-use crate::stop::Stop;
+use crate::stop::NoAnswer;
 use crate::trapping::trap_text;
 use base::NoMemory;
 use searches_explore::{Explored, Watch, explore, explore_merged};
@@ -58,7 +58,7 @@ fn all_schedules<W: Watch>(
     limit: u32,
     is_merged: bool,
     watch: &mut W,
-) -> Result<Response, Stop>
+) -> Result<Response, NoAnswer>
     ensures ok { IfOk result (λ response. IsWatched W.hears watch.old watch.new (IsExplored is_merged name.now limit input.now response)) }
     ensures refused { IfErr result (λ stop. IfRefused stop (λ report. Tells (IsProgramRefused input.now) name.now input.now report × (watch.old ≡ watch.new))) }
 {

@@ -17,7 +17,7 @@ use crate::files::bytes_of;
 use crate::host::Files;
 use crate::reading::program_of;
 use crate::response::{DONE, Response, TRAPPED, answer, settled};
-use crate::stop::Stop;
+use crate::stop::NoAnswer;
 use crate::trapping::trap_text;
 use base::NoMemory;
 use searches_hunt::{Hunted, Mode, Plan, hunt};
@@ -60,7 +60,12 @@ pub fn hunted<F: Files>(
     Ok(settled(alloc, hunted)?)
 }
 
-fn random_schedules(alloc: Global, name: &str, input: &[u8], plan: Plan) -> Result<Response, Stop>
+fn random_schedules(
+    alloc: Global,
+    name: &str,
+    input: &[u8],
+    plan: Plan,
+) -> Result<Response, NoAnswer>
     ensures ok { IfOk result (IsHunted name.now plan input.now) }
     ensures refused { IfErr result (λ stop. IfRefused stop (Tells (IsProgramRefused input.now) name.now input.now)) }
 {

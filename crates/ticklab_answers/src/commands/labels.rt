@@ -9,7 +9,7 @@ ghost use Rattle.ticklab_answers.specs.Stops.{IfRefused};
 use crate::fault::LabFault;
 use crate::reading::moves_of;
 use crate::response::{DONE, Response, output, settled};
-use crate::stop::Stop;
+use crate::stop::NoAnswer;
 use base::NoMemory;
 use std::alloc::{AllocError, Global};
 use ticklab_draw::{MOST_MOVES, frames, write_frames};
@@ -22,18 +22,18 @@ pub fn labelled(alloc: Global, n: u8, text: &str) -> Result<Response, LabFault>
     Ok(settled(alloc, labels_drawn(alloc, n, text))?)
 }
 
-fn labels_drawn(alloc: Global, n: u8, text: &str) -> Result<Response, Stop>
+fn labels_drawn(alloc: Global, n: u8, text: &str) -> Result<Response, NoAnswer>
     ensures ok { IfOk result (Gives 0 (AreDrawn n text.now)) }
     ensures refused { IfErr result (λ stop. IfRefused stop (AreUndrawn n text.now)) }
 {
     if n < 1 || n > 6 {
         let line = String::from_str(alloc, "N: error: there are 1 to 6 processes\n")?;
-        return Err(Stop::Refused(line.into_bytes()));
+        return Err(NoAnswer::Refused(line.into_bytes()));
     }
     frames_drawn(alloc, n, text)
 }
 
-fn frames_drawn(alloc: Global, n: u8, text: &str) -> Result<Response, Stop>
+fn frames_drawn(alloc: Global, n: u8, text: &str) -> Result<Response, NoAnswer>
     requires at_least_one { 1 ≤ n }
     requires at_most_six { n ≤ 6 }
     ensures ok { IfOk result (Gives 0 (AreDrawn n text.now)) }
@@ -42,7 +42,7 @@ fn frames_drawn(alloc: Global, n: u8, text: &str) -> Result<Response, Stop>
     let moves = moves_of(alloc, text, n)?;
     if moves.len() > MOST_MOVES {
         let line = many_line(alloc, moves.len())?;
-        return Err(Stop::Refused(line.into_bytes()));
+        return Err(NoAnswer::Refused(line.into_bytes()));
     }
     let frames = frames(alloc, n, moves.as_slice())?;
     let out = write_frames(alloc, n, frames.as_slice())?;

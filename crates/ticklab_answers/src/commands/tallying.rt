@@ -12,7 +12,7 @@ use crate::files::bytes_of;
 use crate::host::Files;
 use crate::reading::{code_of, program_of};
 use crate::response::{DONE, Response, answer, settled};
-use crate::stop::Stop;
+use crate::stop::NoAnswer;
 use base::NoMemory;
 use searches_hunt::{Counted, tally};
 use std::alloc::{AllocError, Global};
@@ -44,7 +44,7 @@ fn runs_counted<M: Runner>(
     input: &[u8],
     times: u32,
     turns: u64,
-) -> Result<Response, Stop>
+) -> Result<Response, NoAnswer>
     ensures ok { IfOk result (Gives 0 (IsTally M.Ran runner.old runner.new times turns input.now)) }
     ensures refused { IfErr result (λ stop. IfRefused stop (λ report. IsUncoded name.now input.now report × (runner.new ≡ runner.old))) }
 {

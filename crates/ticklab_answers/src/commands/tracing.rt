@@ -3,23 +3,22 @@ ghost use Rattle.std.specs.Prelude.{◌≡◌, ◌<◌, All, IfErr, IfOk, string
 ghost use Rattle.tick_kinds.specs.Resolution.{resolved};
 ghost use Rattle.ticklab_answers.specs.Codes.{HasNoCode, IsCodeless};
 ghost use Rattle.ticklab_answers.specs.Faults.{IsEither, IsOfFileThat};
-ghost use Rattle.ticklab_answers.specs.Responses.{Gives};
 ghost use Rattle.ticklab_trace.specs.Places.{Stand};
-ghost use Rattle.ticklab_answers.specs.Runs.{IsInstructionTrace, IsOf, IsRun, IsStatementTrace, IsTrace, IsUnrun, Traces};
+ghost use Rattle.ticklab_answers.specs.Runs.{IsInstructionTrace, IsOf, IsStatementTrace, IsTrace, Traces};
 ghost use Rattle.ticklab_answers.specs.Stops.{IfRefused};
 
+use crate::commands::told_run::{Telling, told};
 use crate::fault::LabFault;
-use crate::files::{bytes_of, text_of};
 use crate::host::Files;
-use crate::reading::{code_of, program_of, schedule_of};
-use crate::response::{DONE, Response, answer, settled};
-use crate::stop::Stop;
+use crate::reading::code_of;
+use crate::response::Response;
+use crate::stop::NoAnswer;
 use base::NoMemory;
 use std::alloc::Global;
 use std::str;
 use tick_kinds::Program;
 use tick_syntax::TextFault;
-use ticklab_trace::{Spot, code_steps, code_trace, places, source_steps, source_trace};
+use ticklab_trace::{StatementPlace, code_steps, code_trace, places, source_steps, source_trace};
 
 /// A line for each step of the program under a schedule, or of its code.
 pub fn traced<F: Files>(
@@ -32,38 +31,18 @@ pub fn traced<F: Files>(
     ensures ok { IfOk result (Traces F.Reads F.ReadsInput files.old files.new file.now schedule.now is_code) }
     ensures err { IfErr result (IsOfFileThat (IsEither file.now schedule.now)) }
 {
-    let input = bytes_of(alloc, files, file)?;
-    let (from, text) = text_of(alloc, files, schedule)?;
-    let told = steps_told(alloc, file, input.as_slice(), from, &text, is_code);
-    Ok(settled(alloc, told)?)
+    told(alloc, files, file, schedule, Telling::Trace, is_code)
 }
 
-// `name` is that of the program's file, `from` says where the schedule is from.
-fn steps_told(
-    alloc: Global,
-    name: &str,
-    input: &[u8],
-    from: &str,
-    schedule: &str,
-    is_code: bool,
-) -> Result<Response, Stop>
-    ensures ok { IfOk result (Gives 0 (IsRun (IsTrace is_code input.now) input.now schedule.now)) }
-    ensures refused { IfErr result (λ stop. IfRefused stop (IsUnrun name.now input.now from.now schedule.now is_code)) }
-{
-    let program = program_of(alloc, name, input)?;
-    let steps = schedule_of(alloc, from, schedule, program.processes())?;
-    let text = trace_of(alloc, name, &program, input, steps.as_slice(), is_code)?;
-    Ok(answer(alloc, DONE, text))
-}
-
-fn trace_of(
+/// The lines of the steps; `name` is that of the program's file.
+pub fn trace_of(
     alloc: Global,
     name: &str,
     program: &Program,
     input: &[u8],
     schedule: &[u8],
     is_code: bool,
-) -> Result<String, Stop>
+) -> Result<String, NoAnswer>
     requires schedule { All (λ p. p < (resolved program.now).processes) schedule.now }
     requires program { IsOf input.now program.now }
     ensures ok { IfOk result (λ text. IsTrace is_code input.now program.now schedule.now (string_bytes text)) }
@@ -83,8 +62,8 @@ pub fn source_text(
     input: &[u8],
     schedule: &[u8],
 ) -> Result<String, NoMemory>
-    requires schedule { All (λ p. p < (resolved program.now).processes) schedule.now }
     requires program { IsOf input.now program.now }
+    requires schedule { All (λ p. p < (resolved program.now).processes) schedule.now }
     ensures { IfOk result (λ text. IsStatementTrace input.now program.now schedule.now (string_bytes text)) }
 {
     let spots = spots_in(alloc, program, input)?;
@@ -97,7 +76,7 @@ fn spots_in<'a>(
     alloc: Global,
     program: &Program,
     input: &'a [u8],
-) -> Result<Vec<Spot<'a>>, NoMemory>
+) -> Result<Vec<StatementPlace<'a>>, NoMemory>
     requires { IsOf input.now program.now }
     ensures { IfOk result (λ spots. Stand input.now program.now spots.items) }
 {
@@ -111,7 +90,12 @@ fn spots_in<'a>(
     }
 }
 
-fn code_text(alloc: Global, name: &str, program: &Program, schedule: &[u8]) -> Result<String, Stop>
+fn code_text(
+    alloc: Global,
+    name: &str,
+    program: &Program,
+    schedule: &[u8],
+) -> Result<String, NoAnswer>
     requires { All (λ p. p < (resolved program.now).processes) schedule.now }
     ensures ok { IfOk result (λ text. IsInstructionTrace program.now schedule.now (string_bytes text)) }
     ensures refused { IfErr result (λ stop. IfRefused stop (HasNoCode name.now program.now)) }

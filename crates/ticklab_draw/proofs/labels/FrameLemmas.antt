@@ -39,13 +39,12 @@ pub after_move : (n : ℕ) (moves : List Move) (frames more : List Frame) (label
 after_move n moves frames more labels next i default has within is ordered added =
     let move : Move = get_or moves i default in
     let rest : List Move = drop (i + 1) moves in
-    let split : drop i moves ≡ move ∷ rest = drop_more moves i default within in
     record {
       count = ap length is ∙ length-moved move labels ∙ has.count;
       ordered = ordered;
       frames_are = ap (λ (f : List Frame). f ++ frames_from next rest) added ∙ append_assoc frames (frame (Some move) next ∷ []) (frames_from next rest)
           ∙ ap (λ (l : Labels). frames ++ (frame (Some move) l ∷ frames_from l rest)) is
-          ∙ ap (λ (s : List Move). frames ++ frames_from labels s) (sym split) ∙ has.frames_are;
+          ∙ ap (λ (s : List Move). frames ++ frames_from labels s) (sym (drop_more moves i default within)) ∙ has.frames_are;
     }
 
 pub length-frames_from : (labels : Labels) (moves : List Move) → length (frames_from labels moves) ≡ length moves

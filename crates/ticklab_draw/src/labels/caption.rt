@@ -4,12 +4,11 @@ ghost use Rattle.ticklab_draw.specs.labels.Captions.{labels_line, labels_told, l
 
 use crate::labels::layout::{frames_of, is_nested};
 use crate::words::push_labels;
-use crate::writing::{push, push_one};
-use std::alloc::AllocError;
+use crate::writing::{Added, push, push_one};
 use word_core::LabelWord;
 
 /// Adds the labels, as `ticketc order` writes them. A table has them above.
-pub fn push_labels_line(out: &mut Vec<u8>, labels: &LabelWord) -> Result<(), AllocError>
+pub fn push_labels_line(out: &mut Vec<u8>, labels: &LabelWord) -> Added
     ensures { OnOk result (out.new.items ≡ out.old.items ++ labels_line labels.now) }
 {
     if is_nested(labels.n()) {
@@ -20,7 +19,7 @@ pub fn push_labels_line(out: &mut Vec<u8>, labels: &LabelWord) -> Result<(), All
 }
 
 #[tactic(auto, unfolding(crate::specs::labels::Captions::labels_told))]
-fn push_labels_told(out: &mut Vec<u8>, labels: &LabelWord) -> Result<(), AllocError>
+fn push_labels_told(out: &mut Vec<u8>, labels: &LabelWord) -> Added
     ensures { OnOk result (out.new.items ≡ out.old.items ++ labels_told labels.now) }
 {
     push_begin(out, labels.n(), 38, "'>labels")?;
@@ -29,7 +28,7 @@ fn push_labels_told(out: &mut Vec<u8>, labels: &LabelWord) -> Result<(), AllocEr
 }
 
 // Adds the beginning of a line of words, so far above the lower end of the frame.
-fn push_begin(out: &mut Vec<u8>, n: u8, above: u64, words: &str) -> Result<(), AllocError>
+fn push_begin(out: &mut Vec<u8>, n: u8, above: u64, words: &str) -> Added
     requires { above ≤ 38 }
     ensures { OnOk result (out.new.items ≡ out.old.items ++ line_begin n above words.now) }
 {
@@ -39,7 +38,7 @@ fn push_begin(out: &mut Vec<u8>, n: u8, above: u64, words: &str) -> Result<(), A
 
 /// Adds the processes from the oldest on.
 #[tactic(auto, unfolding(crate::specs::labels::Captions::order_line))]
-pub fn push_order_line(out: &mut Vec<u8>, labels: &LabelWord) -> Result<(), AllocError>
+pub fn push_order_line(out: &mut Vec<u8>, labels: &LabelWord) -> Added
     ensures { OnOk result (out.new.items ≡ out.old.items ++ order_line labels.now) }
 {
     push_begin(out, labels.n(), 20, "'>order ")?;
@@ -48,14 +47,14 @@ pub fn push_order_line(out: &mut Vec<u8>, labels: &LabelWord) -> Result<(), Allo
 }
 
 #[tactic(auto, using(crate::proofs::labels::RankLemmas::order_of_row))]
-fn push_order_of(out: &mut Vec<u8>, labels: &LabelWord) -> Result<(), AllocError>
+fn push_order_of(out: &mut Vec<u8>, labels: &LabelWord) -> Added
     ensures { OnOk result (out.new.items ≡ out.old.items ++ order_of labels.now) }
 {
     let n = labels.n() as usize;
     push_order(out, &labels.ranks()[..n])
 }
 
-fn push_order(out: &mut Vec<u8>, ranks: &[u8]) -> Result<(), AllocError>
+fn push_order(out: &mut Vec<u8>, ranks: &[u8]) -> Added
     requires { length ranks.now ≤ 6 }
     ensures { OnOk result (out.new.items ≡ out.old.items ++ order_text ranks.now (length ranks.now)) }
 {
@@ -66,7 +65,7 @@ fn push_order(out: &mut Vec<u8>, ranks: &[u8]) -> Result<(), AllocError>
 }
 
 // The processes of this rank: those without a label have one in common.
-fn push_ranked(out: &mut Vec<u8>, ranks: &[u8], rank: u8) -> Result<(), AllocError>
+fn push_ranked(out: &mut Vec<u8>, ranks: &[u8], rank: u8) -> Added
     ensures { OnOk result (out.new.items ≡ out.old.items ++ ranked_text rank true 0 ranks.now) }
 {
     let mut first = true;

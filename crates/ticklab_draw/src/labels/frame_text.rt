@@ -10,13 +10,12 @@ use crate::labels::cycles::push_process;
 use crate::labels::layout::{frame_left, frame_top, is_nested};
 use crate::labels::run::Frame;
 use crate::labels::table::push_row;
-use crate::writing::{push, push_one, push_two};
-use std::alloc::AllocError;
+use crate::writing::{Added, push, push_one, push_two};
 use ticket_core::Move;
 use word_core::LabelWord;
 
 /// Adds a frame, which stands at this place of the list.
-pub fn push_frame(out: &mut Vec<u8>, at: usize, frame: &Frame) -> Result<(), AllocError>
+pub fn push_frame(out: &mut Vec<u8>, at: usize, frame: &Frame) -> Added
     requires { at ≤ 400 }
     ensures { OnOk result (out.new.items ≡ out.old.items ++ frame_text at frame.now) }
 {
@@ -30,7 +29,7 @@ pub fn push_frame(out: &mut Vec<u8>, at: usize, frame: &Frame) -> Result<(), All
     push(out, "</g>\n")
 }
 
-fn push_begin(out: &mut Vec<u8>, n: u8, at: u64) -> Result<(), AllocError>
+fn push_begin(out: &mut Vec<u8>, n: u8, at: u64) -> Added
     requires { at ≤ 400 }
     ensures { OnOk result (out.new.items ≡ out.old.items ++ begin_text n at) }
 {
@@ -39,14 +38,14 @@ fn push_begin(out: &mut Vec<u8>, n: u8, at: u64) -> Result<(), AllocError>
 }
 
 #[tactic(auto, unfolding(crate::specs::labels::Pictures::frame_name))]
-fn push_frame_name(out: &mut Vec<u8>, at: u64) -> Result<(), AllocError>
+fn push_frame_name(out: &mut Vec<u8>, at: u64) -> Added
     ensures { OnOk result (out.new.items ≡ out.old.items ++ frame_name at) }
 {
     push_one(out, "<g id='frame-", u128::from(at), "'")
 }
 
 #[tactic(auto, unfolding(crate::specs::labels::Pictures::frame_place))]
-fn push_frame_place(out: &mut Vec<u8>, n: u8, at: u64) -> Result<(), AllocError>
+fn push_frame_place(out: &mut Vec<u8>, n: u8, at: u64) -> Added
     requires { at ≤ 400 }
     ensures { OnOk result (out.new.items ≡ out.old.items ++ frame_place n at) }
 {
@@ -61,7 +60,7 @@ fn push_frame_place(out: &mut Vec<u8>, n: u8, at: u64) -> Result<(), AllocError>
 }
 
 #[tactic(auto, unfolding(crate::specs::labels::Captions::heading_text))]
-fn push_heading(out: &mut Vec<u8>, at: u64, made: Option<Move>) -> Result<(), AllocError>
+fn push_heading(out: &mut Vec<u8>, at: u64, made: Option<Move>) -> Added
     ensures { OnOk result (out.new.items ≡ out.old.items ++ heading_text at made) }
 {
     let begin = "<text class='move' x='8' y='18'>";
@@ -73,7 +72,7 @@ fn push_heading(out: &mut Vec<u8>, at: u64, made: Option<Move>) -> Result<(), Al
 }
 
 #[tactic(auto, unfolding(crate::specs::labels::Figures::nest_text))]
-fn push_nest(out: &mut Vec<u8>, n: u8) -> Result<(), AllocError>
+fn push_nest(out: &mut Vec<u8>, n: u8) -> Added
     ensures { OnOk result (out.new.items ≡ out.old.items ++ nest_text n) }
 {
     if is_nested(n) {
@@ -84,7 +83,7 @@ fn push_nest(out: &mut Vec<u8>, n: u8) -> Result<(), AllocError>
 }
 
 // Where each process has its label.
-fn push_figures(out: &mut Vec<u8>, made: Option<Move>, labels: &LabelWord) -> Result<(), AllocError>
+fn push_figures(out: &mut Vec<u8>, made: Option<Move>, labels: &LabelWord) -> Added
     ensures { OnOk result (out.new.items ≡ out.old.items ++ figures_text (length labels.now) made 0 labels.now) }
 {
     for process in 0..labels.n() {
@@ -93,12 +92,7 @@ fn push_figures(out: &mut Vec<u8>, made: Option<Move>, labels: &LabelWord) -> Re
     Ok(())
 }
 
-fn push_figure(
-    out: &mut Vec<u8>,
-    made: Option<Move>,
-    labels: &LabelWord,
-    process: u8,
-) -> Result<(), AllocError>
+fn push_figure(out: &mut Vec<u8>, made: Option<Move>, labels: &LabelWord, process: u8) -> Added
     requires { process < length labels.now }
     ensures { OnOk result (out.new.items ≡ out.old.items ++ figure_text (length labels.now) made process (label_at labels.now process)) }
 {

@@ -4,12 +4,11 @@ ghost use Rattle.ticklab_draw.specs.labels.Pictures.{head_text, page_size, page_
 
 use crate::labels::layout::{page_height, page_width};
 use crate::labels::shapes::push_shapes;
-use crate::writing::push_two;
-use std::alloc::AllocError;
+use crate::writing::{Added, push_two};
 
 /// Adds the head of a picture of `count` frames of `n` processes.
 #[tactic(auto, unfolding(crate::specs::labels::Pictures::head_text))]
-pub fn push_head(out: &mut Vec<u8>, n: u8, count: u64) -> Result<(), AllocError>
+pub fn push_head(out: &mut Vec<u8>, n: u8, count: u64) -> Added
     requires { count ≤ 401 }
     ensures { OnOk result (out.new.items ≡ out.old.items ++ head_text n count) }
 {
@@ -18,7 +17,7 @@ pub fn push_head(out: &mut Vec<u8>, n: u8, count: u64) -> Result<(), AllocError>
     push_shapes(out, n)
 }
 
-fn push_page(out: &mut Vec<u8>, width: u64, height: u64) -> Result<(), AllocError>
+fn push_page(out: &mut Vec<u8>, width: u64, height: u64) -> Added
     ensures { OnOk result (out.new.items ≡ out.old.items ++ page_text width height) }
 {
     push_size(out, width, height)?;
@@ -26,43 +25,27 @@ fn push_page(out: &mut Vec<u8>, width: u64, height: u64) -> Result<(), AllocErro
 }
 
 #[tactic(auto, unfolding(crate::specs::labels::Pictures::page_size))]
-fn push_size(out: &mut Vec<u8>, width: u64, height: u64) -> Result<(), AllocError>
+fn push_size(out: &mut Vec<u8>, width: u64, height: u64) -> Added
     ensures { OnOk result (out.new.items ≡ out.old.items ++ page_size width height) }
 {
-    push_two(
-        out,
-        "<svg xmlns='http://www.w3.org/2000/svg' role='img' aria-labelledby='title about' width='",
-        width,
-        "' height='",
-        u128::from(height),
-        "'",
-    )
+    let begin =
+        "<svg xmlns='http://www.w3.org/2000/svg' role='img' aria-labelledby='title about' width='";
+    push_two(out, begin, width, "' height='", u128::from(height), "'")
 }
 
 #[tactic(auto, unfolding(crate::specs::labels::Pictures::page_view))]
-fn push_view(out: &mut Vec<u8>, width: u64, height: u64) -> Result<(), AllocError>
+fn push_view(out: &mut Vec<u8>, width: u64, height: u64) -> Added
     ensures { OnOk result (out.new.items ≡ out.old.items ++ page_view width height) }
 {
-    push_two(
-        out,
-        " viewBox='0 0 ",
-        width,
-        " ",
-        u128::from(height),
-        "'>\n",
-    )
+    let (begin, tall) = (" viewBox='0 0 ", u128::from(height));
+    push_two(out, begin, width, " ", tall, "'>\n")
 }
 
 #[tactic(auto, unfolding(crate::specs::labels::Pictures::title_text))]
-fn push_title(out: &mut Vec<u8>, n: u8, moves: u64) -> Result<(), AllocError>
+fn push_title(out: &mut Vec<u8>, n: u8, moves: u64) -> Added
     ensures { OnOk result (out.new.items ≡ out.old.items ++ title_text n moves) }
 {
-    push_two(
-        out,
-        "<title id='title'>Bounded labels (processes: ",
-        u64::from(n),
-        ", moves: ",
-        u128::from(moves),
-        ")</title>\n",
-    )
+    let begin = "<title id='title'>Bounded labels (processes: ";
+    let (n, moves) = (u64::from(n), u128::from(moves));
+    push_two(out, begin, n, ", moves: ", moves, ")</title>\n")
 }

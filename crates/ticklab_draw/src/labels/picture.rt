@@ -5,9 +5,9 @@ ghost use Rattle.ticklab_draw.specs.labels.Pictures.{frames_text, picture};
 use crate::labels::frame_text::push_frame;
 use crate::labels::head::push_head;
 use crate::labels::run::Frame;
-use crate::writing::push;
+use crate::writing::{Added, push};
 use base::NoMemory;
-use std::alloc::{AllocError, Global};
+use std::alloc::Global;
 
 /// The most moves that are drawn: their frames and the start fill a hundred rows and more. Refuse a
 /// longer list before `frames`.
@@ -25,7 +25,7 @@ pub fn write_frames(alloc: Global, n: u8, frames: &[Frame]) -> Result<Vec<u8>, N
     Ok(out)
 }
 
-fn push_frames(out: &mut Vec<u8>, frames: &[Frame]) -> Result<(), AllocError>
+fn push_frames(out: &mut Vec<u8>, frames: &[Frame]) -> Added
     requires { length frames.now ≤ 401 }
     ensures { OnOk result (out.new.items ≡ out.old.items ++ frames_text 0 frames.now) }
 {

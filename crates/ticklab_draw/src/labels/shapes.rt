@@ -2,12 +2,11 @@
 ghost use Rattle.std.specs.Prelude.{◌≡◌, ◌++◌, OnOk};
 ghost use Rattle.ticklab_draw.specs.labels.Shapes.{drawn_once, marks, nest, told};
 
-use crate::writing::push;
-use std::alloc::AllocError;
+use crate::writing::{Added, push};
 
 /// Adds the words on how to read the picture, the style, and the shapes of the frames of `n` processes.
 #[tactic(auto, unfolding(crate::specs::labels::Shapes::drawn_once))]
-pub fn push_shapes(out: &mut Vec<u8>, n: u8) -> Result<(), AllocError>
+pub fn push_shapes(out: &mut Vec<u8>, n: u8) -> Added
     ensures { OnOk result (out.new.items ≡ out.old.items ++ drawn_once n) }
 {
     push(out, told(n))?;

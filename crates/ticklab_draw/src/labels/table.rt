@@ -4,18 +4,12 @@ ghost use Rattle.ticklab_draw.specs.labels.Figures.{cell_text, cells_text, digit
 
 use crate::labels::cycles::push_mark;
 use crate::labels::layout::{cell_left, row_top};
-use crate::writing::{push, push_two};
+use crate::writing::{Added, push, push_two};
 use label_core::Label;
-use std::alloc::AllocError;
 use ticket_core::Move;
 
 /// Adds the row of a process.
-pub fn push_row(
-    out: &mut Vec<u8>,
-    made: Option<Move>,
-    process: u8,
-    label: &Option<Label>,
-) -> Result<(), AllocError>
+pub fn push_row(out: &mut Vec<u8>, made: Option<Move>, process: u8, label: &Option<Label>) -> Added
     ensures { OnOk result (out.new.items ≡ out.old.items ++ row_text made process label.now) }
 {
     push_row_head(out, process)?;
@@ -24,7 +18,7 @@ pub fn push_row(
 }
 
 #[tactic(auto, unfolding(crate::specs::labels::Figures::row_head))]
-fn push_row_head(out: &mut Vec<u8>, process: u8) -> Result<(), AllocError>
+fn push_row_head(out: &mut Vec<u8>, process: u8) -> Added
     ensures { OnOk result (out.new.items ≡ out.old.items ++ row_head process) }
 {
     push_two(
@@ -37,7 +31,7 @@ fn push_row_head(out: &mut Vec<u8>, process: u8) -> Result<(), AllocError>
     )
 }
 
-fn push_cells(out: &mut Vec<u8>, label: &Option<Label>) -> Result<(), AllocError>
+fn push_cells(out: &mut Vec<u8>, label: &Option<Label>) -> Added
     ensures { OnOk result (out.new.items ≡ out.old.items ++ cells_text label.now) }
 {
     match label {
@@ -46,7 +40,7 @@ fn push_cells(out: &mut Vec<u8>, label: &Option<Label>) -> Result<(), AllocError
     }
 }
 
-fn push_digits(out: &mut Vec<u8>, label: &Label) -> Result<(), AllocError>
+fn push_digits(out: &mut Vec<u8>, label: &Label) -> Added
     ensures { OnOk result (out.new.items ≡ out.old.items ++ digits_text 0 label.now) }
 {
     for place in 0..label.len() {
@@ -56,7 +50,7 @@ fn push_digits(out: &mut Vec<u8>, label: &Label) -> Result<(), AllocError>
 }
 
 #[tactic(auto, unfolding(crate::specs::labels::Figures::cell_text))]
-fn push_cell(out: &mut Vec<u8>, place: usize, digit: u8) -> Result<(), AllocError>
+fn push_cell(out: &mut Vec<u8>, place: usize, digit: u8) -> Added
     requires { place < 5 }
     ensures { OnOk result (out.new.items ≡ out.old.items ++ cell_text place digit) }
 {

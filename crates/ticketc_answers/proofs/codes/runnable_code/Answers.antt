@@ -7,8 +7,7 @@ use Rattle.ticketc_answers.proofs.codes.runnable_code.Goals as goal
 
 pub returns-then-begins_code-clause-code : goal.returns-then-begins_code-clause-code
 returns-then-begins_code-clause-code c =
-    let begins = c.begins_code.ensures.yes c.if-begins_code.true in
-    IfOk-weaker _ _ _ (λ code is. is_code begins is) c.read.ensures.code
+    IfOk-weaker _ _ _ (λ code is. is_code (c.begins_code.ensures.yes c.if-begins_code.true) is) c.read.ensures.code
 
 pub returns-then-begins_code-clause-refused : goal.returns-then-begins_code-clause-refused
 returns-then-begins_code-clause-refused c =

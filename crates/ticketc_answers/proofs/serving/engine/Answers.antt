@@ -21,10 +21,10 @@ returns-in_err-input-in-Ok g c =
 pub returns-in_err-response-in-Ok : goal.returns-in_err-response-in-Ok
 returns-in_err-response-in-Ok g c =
     let asks = sym (ap plain_asked c.in-Ok.is) ∙ c.in_ok-command.ensures.asked in
-    let read = c.in_ok-input-in-Ok.ensures in
     rw (err_is c.from_residual-in_err-response-in-Ok.result c.from_residual-in_err-response-in-Ok.ensures.1)
     (asking _ _ _ _ _ _ _ _ _ _ _ asks
-    (unanswered (Ok (plain_command c.in-Ok.command)) _ _ _ _ _ _ (λ none. absurd (cc)) read.few read.calls _ c.in_err-response-in-Ok.ensures _ read.counted))
+    (unanswered (Ok (plain_command c.in-Ok.command)) _ _ _ _ _ _ (λ none. absurd (cc)) c.in_ok-input-in-Ok.ensures.few
+    c.in_ok-input-in-Ok.ensures.calls _ c.in_err-response-in-Ok.ensures _ c.in_ok-input-in-Ok.ensures.counted))
 
 pub returns-in_ok-response-in-Ok : goal.returns-in_ok-response-in-Ok
 returns-in_ok-response-in-Ok g c =

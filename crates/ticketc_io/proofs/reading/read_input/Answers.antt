@@ -1,9 +1,8 @@
 use Rattle.std.proofs.Common.{◌≡◌, ◌∙◌, ◌≤◌, ◌++◌, ℕ, List, ap, subst, sym, length, take, arith, Vec, Global}
 use Rattle.std.proofs.Math.ListN.{length-append, length-take}
-use Rattle.std.proofs.lemmas.List.{take-append-le}
 use Rattle.std.specs.Io.KnownBytes.{Consumes}
 use Rattle.ticketc_io.specs.Reading.{IsRead}
-use Rattle.ticketc_io.proofs.ReadingLemmas.{Consumes-keeps, Consumes-trans, after_some}
+use Rattle.ticketc_io.proofs.ReadingLemmas.{Consumes-keeps, Consumes-trans, after_some, grown_by}
 use Rattle.ticketc_io.specs.declared.counts.Counts.{Counts}
 use Rattle.ticketc_io.proofs.reading.read_input.Goals as goal
 use Rattle.ticketc_io.proofs.reading.read_input.Goals.{in-Moved+in_ok-extend_from_slice-in-Moved, in-Interrupted}
@@ -24,10 +23,8 @@ returns-then-len-gt-INPUT_LIMIT-clause-ok g c =
     elim c.match-read.branch [
       | in-Moved+in_ok-extend_from_slice-in-Moved w ↦
           let moved = w.in-Moved.ensures.bytes in
-          let within : w.in-Moved.count ≤ length c.read.new.buffer = moved.0 in
           let grown : c.match-read.input.items ≡ c.calls.input.items ++ take w.in-Moved.count c.read.new.buffer =
-          ap (λ (v : Vec ℕ Global). v.items) w.input-is ∙ w.in_ok-extend_from_slice-in-Moved.ensures.items
-          ∙ ap (λ (bytes : List ℕ). c.calls.input.items ++ bytes) (take-append-le _ _ _ within) in
+          grown_by c.match-read.input _ c.calls.input.items c.read.new.buffer _ w.in-Moved.count w.input-is w.in_ok-extend_from_slice-in-Moved.ensures.items moved.0 in
           let P : List ℕ → Type 0 = Consumes (g.R.ByteSource.remaining c.args.reader.now) (g.R.ByteSource.remaining c.read.new.self) in
           record {
             taken = subst P (sym grown) (Consumes-trans _ _ _ _ _ c.calls.invariant.taken moved.1);
@@ -48,10 +45,8 @@ calls-preserved g c =
     elim c.match-read.branch [
       | in-Moved+in_ok-extend_from_slice-in-Moved w ↦
           let moved = w.in-Moved.ensures.bytes in
-          let within : w.in-Moved.count ≤ length c.read.new.buffer = moved.0 in
           let grown : c.match-read.input.items ≡ c.calls.input.items ++ take w.in-Moved.count c.read.new.buffer =
-          ap (λ (v : Vec ℕ Global). v.items) w.input-is ∙ w.in_ok-extend_from_slice-in-Moved.ensures.items
-          ∙ ap (λ (bytes : List ℕ). c.calls.input.items ++ bytes) (take-append-le _ _ _ within) in
+          grown_by c.match-read.input _ c.calls.input.items c.read.new.buffer _ w.in-Moved.count w.input-is w.in_ok-extend_from_slice-in-Moved.ensures.items moved.0 in
           let after = after_some w.in-Moved.count _ _ w.in-Moved.count-test.1 w.in-Moved.ensures.counted in
           record {
             taken = rw grown (Consumes-trans _ _ _ _ _ c.calls.invariant.taken moved.1);

@@ -1,19 +1,4 @@
-use Rattle.std.proofs.Common.{ℕ, List, string_bytes, subst}
-use Rattle.ticklab_answers.specs.Runs.{AnswersRun, IsRunPicture, run, unrun}
-use Rattle.ticklab_answers.proofs.Settled.{settled_with}
 use Rattle.ticklab_answers.proofs.commands.drawing.drawn.Goals as goal
 
 pub returns-clause-ok : goal.returns-clause-ok
-returns-clause-ok g c =
-    let answered = c.run_drawn-drawn.ensures in
-    let from = c.in_ok-from.from.now in (
-      c.in_ok-input.input.items,
-      c.bytes_of.new.files,
-      c.in_ok-input.ensures.ok,
-      from,
-      string_bytes c.in_ok-from.text,
-      c.in_ok-from.ensures.ok,
-      subst (λ (text : List ℕ). AnswersRun (IsRunPicture c.args.is_code c.args.file.now) c.args.file.now c.in_ok-input.input.items from text c.args.is_code c.in_ok-settled.field-0) c.deref.ensures
-          (subst (λ (input : List ℕ). AnswersRun (IsRunPicture c.args.is_code c.args.file.now) c.args.file.now input from c.deref.result.now c.args.is_code c.in_ok-settled.field-0) c.as_slice.ensures.value
-          (settled_with c.run_drawn-drawn.result c.in_ok-settled.field-0 (λ x h. run h) (λ x h. unrun h) answered.ok answered.refused c.in_ok-settled.ensures)),
-    )
+returns-clause-ok g c = c.told.ensures.ok

@@ -4,68 +4,58 @@ use crate::tracing::programs::{
     ALIKE, CLEARS, CLEARS_SCHEDULE, QUEUE, QUEUE_SCHEDULE, STAMPS, STAMPS_SCHEDULE, TRAPS,
     TRAPS_SCHEDULE,
 };
+use base::{Act, Event};
 use std::alloc::Global;
 use std::test::Fail;
 use tests_shared::{accepted, is_same};
-use tick_kinds::Program;
 use tick_lower::lower;
 use ticklab_trace::{code_steps, source_steps};
 
-// The program that a text is, for a schedule that it can have.
-fn program_for(alloc: Global, text: &str, schedule: &[u8]) -> Result<Program, Fail> {
-    let program = accepted(alloc, text)?;
-    let n = program.processes();
-    for p in schedule {
-        if *p >= n {
-            return Err("no such process")?;
+// That the steps are of these processes, and that what they do is these events.
+fn same_acts(steps: &[(u8, Option<Act>)], schedule: &[u8], events: &[Event]) -> Result<(), Fail> {
+    let mut told = events.iter();
+    for (step, p) in steps.iter().zip(schedule) {
+        is_same(&step.0, p)?;
+        if let Some(act) = step.1 {
+            is_same(
+                &told.next().map(|event| (event.process, event.act)),
+                &Some((*p, act)),
+            )?;
         }
     }
-    Ok(program)
+    is_same(&steps.len(), &schedule.len())?;
+    is_same(&told.next().is_none(), &true)
 }
 
 fn agree(alloc: Global, text: &str, schedule: &[u8]) -> Result<(), Fail> {
-    let program = program_for(alloc, text, schedule)?;
+    let program = accepted(alloc, text)?;
     let n = program.processes();
     if !schedule.iter().all(|p| *p < n) {
         return Err("no such process")?;
     }
     let steps = source_steps(alloc, &program, schedule)?;
     let outcome = tick_source::run(alloc, &program, schedule)?;
-    let mut told = outcome.events.iter();
-    for (step, p) in steps.iter().zip(schedule) {
-        is_same(&step.process, p)?;
-        if let Some(act) = step.act {
-            is_same(
-                &told.next().map(|event| (event.process, event.act)),
-                &Some((*p, act)),
-            )?;
-        }
+    let mut acts = Vec::new(alloc);
+    for step in &steps {
+        acts.push((step.process, step.act))?;
     }
-    is_same(&steps.len(), &schedule.len())?;
-    is_same(&told.next().is_none(), &true)
+    same_acts(acts.as_slice(), schedule, outcome.events.as_slice())
 }
 
 fn code_agrees(alloc: Global, text: &str, schedule: &[u8]) -> Result<(), Fail> {
-    let program = program_for(alloc, text, schedule)?;
+    let program = accepted(alloc, text)?;
     let code = lower(alloc, &program)?;
     let n = code.sizes().processes();
     if !schedule.iter().all(|p| *p < n) {
         return Err("no such process")?;
     }
-    let steps = code_steps(alloc, &code, schedule)?;
     let outcome = code_machine::run(alloc, &code, schedule)?;
-    let mut told = outcome.events.iter();
-    for (step, p) in steps.iter().zip(schedule) {
-        is_same(&step.process, p)?;
-        if let Some(act) = step.act {
-            is_same(
-                &told.next().map(|event| (event.process, event.act)),
-                &Some((*p, act)),
-            )?;
-        }
+    let steps = code_steps(alloc, &code, schedule)?;
+    let mut acts = Vec::new(alloc);
+    for step in &steps {
+        acts.push((step.process, step.act))?;
     }
-    is_same(&steps.len(), &schedule.len())?;
-    is_same(&told.next().is_none(), &true)
+    same_acts(acts.as_slice(), schedule, outcome.events.as_slice())
 }
 
 #[test]

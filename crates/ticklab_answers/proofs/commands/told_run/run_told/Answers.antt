@@ -1,8 +1,8 @@
 use Rattle.std.proofs.Common.{ap}
-use Rattle.ticklab_answers.specs.Runs.{IsRunPicture, IsUnrun}
+use Rattle.ticklab_answers.specs.Runs.{IsTold, IsUnrun}
 use Rattle.ticklab_answers.proofs.Ran.{code_unrun, run_by, schedule_unrun}
 use Rattle.ticklab_answers.proofs.Settled.{stopped_by}
-use Rattle.ticklab_answers.proofs.commands.drawing.run_drawn.Goals as goal
+use Rattle.ticklab_answers.proofs.commands.told_run.run_told.Goals as goal
 
 pub returns-in_err-steps-clause-refused : goal.returns-in_err-steps-clause-refused
 returns-in_err-steps-clause-refused c =
@@ -23,7 +23,7 @@ pub returns-clause-ok : goal.returns-clause-ok
 returns-clause-ok c = record {
   status = c.output.ensures.status;
   quiet = c.output.ensures.told;
-  out = run_by (IsRunPicture c.args.is_code c.args.name.now) c.args.input.now c.args.schedule.now c.in_ok-program.program c.in_ok-program.ensures.ok
+  out = run_by (IsTold c.args.telling c.args.is_code c.args.name.now c.args.input.now) c.args.input.now c.args.schedule.now c.in_ok-program.program c.in_ok-program.ensures.ok
       c.processes.result c.processes.ensures.count c.in_ok-steps.steps.items c.as_slice.result.now c.in_ok-steps.ensures.ok
       c.as_slice.ensures.value c.in_ok-out.out.items _ (ap (λ out. out.items) c.output.ensures.out) c.in_ok-out.ensures.ok;
 }

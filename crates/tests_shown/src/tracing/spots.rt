@@ -3,7 +3,7 @@
 use std::alloc::Global;
 use std::test::Fail;
 use tests_shared::{accepted, is_same};
-use ticklab_trace::{Spot, places};
+use ticklab_trace::{StatementPlace, places};
 
 static TEXT: &str = "\
 # a comment with ; and { and stamp;
@@ -58,7 +58,7 @@ static COMMENTED_SPOTS: [(usize, usize, &str); 8] = [
     (8, 42, "out"),
 ];
 
-fn are(spots: &[Spot<'_>], wanted: &[(usize, usize, &str)]) -> Result<(), Fail> {
+fn are(spots: &[StatementPlace<'_>], wanted: &[(usize, usize, &str)]) -> Result<(), Fail> {
     is_same(&spots.len(), &wanted.len())?;
     for (spot, wanted) in spots.iter().zip(wanted) {
         is_same(&(spot.line, spot.column, spot.words), wanted)?;

@@ -1,0 +1,95 @@
+//! What `ticklab trace` and `ticklab draw` share: they read a program and a schedule, and tell of the run.
+ghost use Rattle.std.specs.Prelude.{◌<◌, All, IfErr, IfOk};
+ghost use Rattle.tick_kinds.specs.Resolution.{resolved};
+ghost use Rattle.ticklab_answers.specs.Codes.{IsCodeless};
+ghost use Rattle.ticklab_answers.specs.Faults.{IsEither, IsOfFileThat};
+ghost use Rattle.ticklab_answers.specs.Responses.{Gives};
+ghost use Rattle.ticklab_answers.specs.Stops.{IfRefused};
+ghost use Rattle.ticklab_answers.specs.Runs.{IsOf, IsRun, IsTold, IsUnrun, TellsRun};
+
+use crate::commands::drawing::picture_of;
+use crate::commands::tracing::trace_of;
+use crate::fault::LabFault;
+use crate::files::{bytes_of, text_of};
+use crate::host::Files;
+use crate::reading::{program_of, schedule_of};
+use crate::response::{DONE, Response, output, settled};
+use crate::stop::NoAnswer;
+use std::alloc::Global;
+use tick_kinds::Program;
+
+/// How a run is told.
+#[derive(Clone, Copy)]
+pub enum Telling {
+    /// A line for each step.
+    Trace,
+    Picture,
+}
+
+/// The run of the program under a schedule, or of its code, told so.
+pub fn told<F: Files>(
+    alloc: Global,
+    files: &mut F,
+    file: &str,
+    schedule: &str,
+    telling: Telling,
+    is_code: bool,
+) -> Result<Response, LabFault>
+    ensures ok { IfOk result (TellsRun telling F.Reads F.ReadsInput files.old files.new file.now schedule.now is_code) }
+    ensures err { IfErr result (IsOfFileThat (IsEither file.now schedule.now)) }
+{
+    let input = bytes_of(alloc, files, file)?;
+    let (from, text) = text_of(alloc, files, schedule)?;
+    let answered = run_told(alloc, file, input.as_slice(), from, &text, telling, is_code);
+    Ok(settled(alloc, answered)?)
+}
+
+// `name` is that of the program's file, `from` says where the schedule is from.
+fn run_told(
+    alloc: Global,
+    name: &str,
+    input: &[u8],
+    from: &str,
+    schedule: &str,
+    telling: Telling,
+    is_code: bool,
+) -> Result<Response, NoAnswer>
+    ensures ok { IfOk result (Gives 0 (IsRun (IsTold telling is_code name.now input.now) input.now schedule.now)) }
+    ensures refused { IfErr result (λ stop. IfRefused stop (IsUnrun name.now input.now from.now schedule.now is_code)) }
+{
+    let program = program_of(alloc, name, input)?;
+    let steps = schedule_of(alloc, from, schedule, program.processes())?;
+    let out = telling_of(
+        alloc,
+        telling,
+        is_code,
+        name,
+        &program,
+        input,
+        steps.as_slice(),
+    )?;
+    Ok(output(alloc, DONE, out))
+}
+
+fn telling_of(
+    alloc: Global,
+    telling: Telling,
+    is_code: bool,
+    name: &str,
+    program: &Program,
+    input: &[u8],
+    schedule: &[u8],
+) -> Result<Vec<u8>, NoAnswer>
+    requires schedule { All (λ p. p < (resolved program.now).processes) schedule.now }
+    requires program { IsOf input.now program.now }
+    ensures ok { IfOk result (λ out. IsTold telling is_code name.now input.now program.now schedule.now out.items) }
+    ensures refused { IfErr result (λ stop. IfRefused stop (IsCodeless is_code name.now program.now)) }
+{
+    match telling {
+        Telling::Trace => {
+            let text = trace_of(alloc, name, program, input, schedule, is_code)?;
+            Ok(text.into_bytes())
+        }
+        Telling::Picture => picture_of(alloc, name, program, schedule, is_code),
+    }
+}
