@@ -2,7 +2,6 @@
 use Rattle.std.proofs.Common.{◌≡◌, ℕ, List, map, Ok, Err, refl, ap, if◌then◌else◌}
 use Rattle.std.specs.Prelude.{◌==◌, nat_lt, length, slice_index_or, slice_set}
 use Rattle.std.specs.List.{range_with_len}
-use Rattle.ticket_core.specs.Tickets.{older_ticket}
 use Rattle.base.specs.declared.status.Status.TheVariants.{Running}
 use Rattle.base.specs.declared.status.Trap.TheVariants as T
 use Rattle.base.specs.Operators.{truth_value, operation}
@@ -25,8 +24,8 @@ module _ (s t : SeenState) (alike : IsSeenAlike s t) where
   same_process p one two same = λ i. if nat_lt p (length (alike.statuses i)) then same i else Err T.Index
 
   same_order : (p q : ℕ)
-      → of_process s p (of_process s q (Ok (truth_value (older_ticket s.tickets p q))))
-      ≡ of_process t p (of_process t q (Ok (truth_value (older_ticket t.tickets p q))))
+      → of_process s p (of_process s q (Ok (truth_value (s.is_older p q))))
+      ≡ of_process t p (of_process t q (Ok (truth_value (t.is_older p q))))
   same_order p q = same_process p _ _ (same_process q _ _ (ap (λ b. Ok (truth_value b)) (alike.older p q)))
 
   same_value : (processes : List ℕ) (e : Formula) → value s processes e ≡ value t processes e

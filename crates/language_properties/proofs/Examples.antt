@@ -7,14 +7,12 @@ use Rattle.language_properties.specs.declared.property.Question.TheVariants as A
 use Rattle.language_properties.specs.declared.property.Junction.TheVariants as J
 use Rattle.language_properties.specs.declared.property.Quantifier.TheVariants as Q
 use Rattle.language_properties.specs.Properties.{Formula, number, count, bound, asked, older, binary, joined, negated, over}
-use Rattle.language_properties.specs.Values.{Valued, value}
+use Rattle.language_properties.specs.Values.{Valued, seen_with, value}
 
 abbrev in_state : Formula → Valued
-in_state e = value (record {
-  tickets = 0 ∷ 7 ∷ 3 ∷ [];
-  rows = (1 ∷ 0 ∷ 1 ∷ []) ∷ (5 ∷ 6 ∷ 4294967295 ∷ []) ∷ [];
-  statuses = Running ∷ Ended ∷ Trapped T.Zero ∷ [];
-}) (replicate 8 0) e
+in_state e =
+    value (seen_with (0 ∷ 7 ∷ 3 ∷ []) ((1 ∷ 0 ∷ 1 ∷ []) ∷ (5 ∷ 6 ∷ 4294967295 ∷ []) ∷ []) (Running ∷ Ended ∷ Trapped T.Zero ∷ []))
+    (replicate 8 0) e
 
 abbrev first : Formula
 first = bound 0

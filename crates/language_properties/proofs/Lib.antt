@@ -1,5 +1,6 @@
 pub mod Alike
 pub mod Counting
 mod Examples
+pub mod Offered
 pub mod ValueLaws
 pub mod WithoutStatuses

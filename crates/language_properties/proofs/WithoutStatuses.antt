@@ -3,7 +3,6 @@ use Rattle.std.proofs.Common.{◌≡◌, ℕ, List, true, map, Ok, Err, refl, ap
 use Rattle.std.specs.Prelude.{◌==◌, nat_lt, slice_set}
 use Rattle.std.specs.List.{range_with_len}
 use Rattle.std.proofs.lemmas.Bool.{and_parts}
-use Rattle.ticket_core.specs.Tickets.{older_ticket}
 use Rattle.base.specs.declared.status.Trap.TheVariants as T
 use Rattle.base.specs.Operators.{truth_value, operation}
 use Rattle.base.specs.Refusing.{◌>>=◌}
@@ -25,8 +24,8 @@ module _ (s t : SeenState) (alike : IsSharedAlike s t) where
   same_process p one two same = λ i. if nat_lt p (alike.processes i) then same i else Err T.Index
 
   same_order : (p q : ℕ)
-      → of_process s p (of_process s q (Ok (truth_value (older_ticket s.tickets p q))))
-      ≡ of_process t p (of_process t q (Ok (truth_value (older_ticket t.tickets p q))))
+      → of_process s p (of_process s q (Ok (truth_value (s.is_older p q))))
+      ≡ of_process t p (of_process t q (Ok (truth_value (t.is_older p q))))
   same_order p q = same_process p _ _ (same_process q _ _ (ap (λ b. Ok (truth_value b)) (alike.older p q)))
 
   same_value : (processes : List ℕ) (e : Formula) → is_statusless e ≡ true → value s processes e ≡ value t processes e

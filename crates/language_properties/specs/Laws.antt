@@ -1,6 +1,5 @@
 -- What holds of the values of all properties, also where something traps.
 use Rattle.std.specs.Prelude.{◌≡◌, ℕ, List}
-use Rattle.ticket_core.specs.Tickets.{holds_ticket, older_ticket}
 use Rattle.base.specs.Refusing.{◌>>=◌}
 use Rattle.language_properties.specs.declared.property.Junction.TheVariants as J
 use Rattle.language_properties.specs.declared.property.Quantifier.TheVariants as Q
@@ -18,8 +17,8 @@ pub record ValuesLaw : Type 0 where
 
 -- Two states that all see alike: who holds a ticket, which of two tickets is older, and all else but the tickets.
 pub record IsSeenAlike (s t : SeenState) : Type 0 where
-  pub held : (p : ℕ) → holds_ticket s.tickets p ≡ holds_ticket t.tickets p
-  pub older : (p q : ℕ) → older_ticket s.tickets p q ≡ older_ticket t.tickets p q
+  pub held : (p : ℕ) → s.holds p ≡ t.holds p
+  pub older : (p q : ℕ) → s.is_older p q ≡ t.is_older p q
   pub rows : s.rows ≡ t.rows
   pub statuses : s.statuses ≡ t.statuses
 

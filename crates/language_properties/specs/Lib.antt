@@ -1,5 +1,6 @@
 pub mod Properties
 pub mod Values
+pub mod Seen
 pub mod Laws
 pub mod WithoutStatuses
 pub mod prover

@@ -17,11 +17,22 @@ use Rattle.language_properties.specs.declared.property.Quantifier.{Quantifier}
 use Rattle.language_properties.specs.declared.property.Quantifier.TheVariants as Q
 use Rattle.language_properties.specs.Properties.{Formula, number, count, bound, asked, older, binary, joined, negated, over}
 
--- What all can see of a state: the tickets, the register rows, and for each process its status.
+-- What all can see of a state: which processes hold a ticket, of which two the first has the older one, the register
+-- rows, and for each process its status.
 pub record SeenState : Type 0 where
-  pub tickets : List ℕ
+  pub holds : ℕ → Bool
+  pub is_older : ℕ → ℕ → Bool
   pub rows : List (List ℕ)
   pub statuses : List Status
+
+-- the same, of tickets
+abbrev pub seen_with : List ℕ → List (List ℕ) → List Status → SeenState
+seen_with tickets rows statuses = record {
+  holds = holds_ticket tickets;
+  is_older = older_ticket tickets;
+  rows = rows;
+  statuses = statuses;
+}
 
 abbrev pub is_end : Status → Bool
 is_end Ended = true
@@ -70,7 +81,7 @@ module _ (s : SeenState) where
   -- what is asked of process `p`
   abbrev pub answer : Question → ℕ → ℕ
   answer (A.Row r) p = register_at s.rows r p
-  answer A.Held p = truth_value (holds_ticket s.tickets p)
+  answer A.Held p = truth_value (s.holds p)
   answer A.Ended p = truth_value (is_end (status_at p))
   answer A.Trapped p = truth_value (is_trap (status_at p))
 
@@ -87,7 +98,7 @@ module _ (s : SeenState) where
   value processes (asked a e) = value processes e >>= λ p. of_process p (Ok (answer a p))
   value processes (older e f) =
       value processes e >>= λ p. value processes f >>= λ q.
-      of_process p (of_process q (Ok (truth_value (older_ticket s.tickets p q))))
+      of_process p (of_process q (Ok (truth_value (s.is_older p q))))
   value processes (binary a op b) = value processes a >>= λ x. value processes b >>= λ y. operation op x y
   value processes (joined a by b) = value processes a >>= λ x. junction by x (value processes b)
   value processes (negated e) = value processes e >>= λ x. Ok (if x == 0 then 1 else 0)

@@ -1,6 +1,5 @@
 -- Properties that don't ask who has ended or trapped.
 use Rattle.std.specs.Prelude.{◌≡◌, ℕ, Bool, true, false, ◌&&◌, List, length}
-use Rattle.ticket_core.specs.Tickets.{holds_ticket, older_ticket}
 use Rattle.language_properties.specs.declared.property.Question.{Question}
 use Rattle.language_properties.specs.declared.property.Question.TheVariants as A
 use Rattle.language_properties.specs.Properties.{Formula, number, count, bound, asked, older, binary, joined, negated, over}
@@ -24,8 +23,8 @@ is_statusless (over quantifier i e) = is_statusless e
 
 -- Two states of as many processes that all see alike, but for who has ended or trapped.
 pub record IsSharedAlike (s t : SeenState) : Type 0 where
-  pub held : (p : ℕ) → holds_ticket s.tickets p ≡ holds_ticket t.tickets p
-  pub older : (p q : ℕ) → older_ticket s.tickets p q ≡ older_ticket t.tickets p q
+  pub held : (p : ℕ) → s.holds p ≡ t.holds p
+  pub older : (p q : ℕ) → s.is_older p q ≡ t.is_older p q
   pub rows : s.rows ≡ t.rows
   pub processes : length s.statuses ≡ length t.statuses
 

@@ -2,16 +2,16 @@
 //!
 //! A `Property` is an expression over what all can see: register rows, tickets, and which processes have
 //! ended or trapped. `Property::value` gives its value in a state that is `Visible`. `specs/Values.antt` says what
-//! a property means.
+//! a property means, and `specs/Seen.antt` what is seen of a program on tickets.
 //! Start with `Property`.
 #![tactic(auto)]
 
 pub mod laws;
 mod property;
-mod seen;
 mod statusless;
 mod value;
+mod visible;
 
 pub use base::{Op, Status, Trap};
 pub use property::{Junction, Property, Quantifier, Question};
-pub use seen::Visible;
+pub use visible::Visible;

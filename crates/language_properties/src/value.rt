@@ -5,7 +5,7 @@ ghost use Rattle.language_properties.specs.Values.{answer, value, values, sum_fr
 ghost use Rattle.language_properties.specs.prover.Deciding.{decides, decided};
 
 use crate::property::{Junction, Property, Quantifier, Question};
-use crate::seen::Visible;
+use crate::visible::Visible;
 use base::{Op, Status, Trap, set_at};
 
 /// How many quantifiers may stand in one another.

@@ -1,5 +1,4 @@
 ghost use Rattle.std.specs.Prelude.{◌≡◌, ◌<◌, Some, length, slice_get};
-ghost use Rattle.ticket_core.specs.Tickets.{holds_ticket, older_ticket};
 ghost use Rattle.base.specs.RegisterRows.{register_at};
 ghost use Rattle.language_properties.specs.Values.{SeenState};
 
@@ -21,13 +20,13 @@ pub trait Visible {
     /// Whether this process holds a ticket.
     fn holds(&self, process: u8) -> bool
         requires { process < length (Self.seen self.now).statuses }
-        ensures { result ≡ holds_ticket (Self.seen self.now).tickets process };
+        ensures { result ≡ (Self.seen self.now).holds process };
 
     /// Whether the ticket of the first process is older than that of the second.
     fn is_older(&self, first: u8, second: u8) -> bool
         requires first { first < length (Self.seen self.now).statuses }
         requires second { second < length (Self.seen self.now).statuses }
-        ensures { result ≡ older_ticket (Self.seen self.now).tickets first second };
+        ensures { result ≡ (Self.seen self.now).is_older first second };
 
     fn status(&self, process: u8) -> Status
         requires { process < length (Self.seen self.now).statuses }

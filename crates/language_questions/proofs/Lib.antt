@@ -1,0 +1,6 @@
+pub mod Examples
+pub mod Letters
+mod LineExamples
+pub mod LineLemmas
+pub mod Scopes
+pub mod Told

@@ -1,0 +1,10 @@
+pub mod Characters
+pub mod Directives
+pub mod Extents
+pub mod Lines
+pub mod Names
+pub mod Reading
+pub mod Signs
+pub mod Tokens
+pub mod Words
+pub mod prover

@@ -1,0 +1,27 @@
+//! `language_questions` reads questions from texts, by the names of an accepted program.
+//!
+//! A question is a property of states, which no state may have. `never_of` reads one; `questions_of` reads those of
+//! the lines of a file that begin with `#!`, and who is asked whether it can still end. `specs/Reading.antt` has the
+//! grammar, as functions of places of the text; they say too which fault a text has first.
+//! Start with `never_of`.
+#![tactic(auto)]
+
+mod characters;
+mod directives;
+mod extents;
+mod fault;
+mod lines;
+mod never;
+mod questions;
+mod reader;
+mod scope;
+mod signs;
+mod token;
+mod tokens;
+mod words;
+
+pub use fault::QuestionFault;
+pub use language_properties::Property;
+pub use lines::questions_of;
+pub use never::never_of;
+pub use questions::{Ends, NeverLine, Questions};

@@ -1,0 +1,204 @@
+// What the lines of a file ask.
+ghost use Rattle.std.specs.Prelude.{◌≡◌, ◌≢◌, ◌≤◌, IfErr, IfOk, Ok, Err, length, take};
+ghost use Rattle.base.specs.Refusing.{GivesBut};
+ghost use Rattle.language_questions.specs.Lines.{asked_of, each_from, ended_at, ends_from, listed_from, listed_with, questions_in, with_directive, with_ends, with_line, with_never, word_span};
+ghost use Rattle.language_questions.specs.Reading.{is_memory};
+ghost use Rattle.language_questions.specs.declared.fault.QuestionFault.TheVariants.{NoMemory};
+
+use crate::directives::{Directive, directive_of};
+use crate::extents::Extent;
+use crate::fault::QuestionFault;
+use crate::questions::{Ends, NeverLine, Questions};
+use crate::reader::Reader;
+use crate::token::Meaning;
+use base::set_at;
+use base::span::Span;
+use std::alloc::Global;
+use tick_kinds::Program;
+
+/// What the lines of a file ask of its program, or the first fault. Spans are in bytes of the file. A line asks
+/// something if its first characters but for blanks are `#!`.
+#[tactic(auto, unfolding(crate::specs::Lines::questions_in))]
+pub fn questions_of(
+    alloc: Global,
+    program: &Program,
+    text: &str,
+) -> Result<Questions, QuestionFault>
+    ensures questions { IfOk result (λ questions. questions_in program.now text.now ≡ Ok (asked_of questions)) }
+    ensures fault { IfErr result (λ fault. fault ≢ NoMemory → questions_in program.now text.now ≡ Err fault) }
+{
+    let bytes = text.as_bytes();
+    let mut found = Questions {
+        never: Vec::new(alloc),
+        ends: None,
+    };
+    let mut start = 0;
+    for (place, byte) in bytes.iter().enumerate() {
+        if *byte == b'\n' {
+            read_line(alloc, program, &bytes[..place], start, &mut found)?;
+            start = place + 1;
+        }
+    }
+    read_line(alloc, program, &bytes[..bytes.len()], start, &mut found)?;
+    Ok(found)
+}
+
+// Adds what the line from a place on asks, with which the text ends.
+fn read_line(
+    alloc: Global,
+    program: &Program,
+    text: &[u8],
+    start: usize,
+    found: &mut Questions,
+) -> Result<(), QuestionFault>
+    requires { start ≤ length text.now }
+    ensures { GivesBut is_memory (λ _. asked_of found.new) result (with_line program.now text.now (asked_of found.old) start) }
+{
+    let reader = Reader {
+        alloc,
+        program,
+        text,
+    };
+    reader.line(start, found)
+}
+
+impl Reader<'_> {
+    #[tactic(auto, unfolding(crate::specs::Lines::with_line))]
+    fn line(&self, start: usize, found: &mut Questions) -> Result<(), QuestionFault>
+        requires { start ≤ length self.now.text.now }
+        ensures { GivesBut is_memory (λ _. asked_of found.new) result (with_line self.now.program.now self.now.text.now (asked_of found.old) start) }
+    {
+        let at = Extent::Blanks.end(self.text, start);
+        let rest = &self.text[at..];
+        if rest.starts_with(b"#!") {
+            return self.directive(at + 2, found);
+        }
+        Ok(())
+    }
+
+    // Adds what stands after `#!`.
+    #[tactic(auto, unfolding(crate::specs::Lines::with_directive))]
+    fn directive(&self, at: usize, found: &mut Questions) -> Result<(), QuestionFault>
+        requires { at ≤ length self.now.text.now }
+        ensures { GivesBut is_memory (λ _. asked_of found.new) result (with_directive self.now.program.now self.now.text.now (asked_of found.old) at) }
+    {
+        let span = self.word_span(at);
+        match directive_of(&self.text[span.start..span.end]) {
+            None => Err(QuestionFault::NoSuchWord(span)),
+            Some(Directive::Never) => self.never(span.end, found),
+            Some(Directive::Ends) => self.ends(span, found),
+        }
+    }
+
+    // The letters and digits at a place, after blanks.
+    fn word_span(&self, at: usize) -> Span
+        requires { at ≤ length self.now.text.now }
+        ensures span { result ≡ word_span self.now.text.now at }
+        ensures ordered { result.start ≤ result.end }
+        ensures within { result.end ≤ length self.now.text.now }
+    {
+        let start = Extent::Blanks.end(self.text, at);
+        Span {
+            start,
+            end: Extent::Word.end(self.text, start),
+        }
+    }
+
+    // Adds the property that stands here.
+    #[tactic(auto, unfolding(crate::specs::Lines::with_never))]
+    fn never(&self, at: usize, found: &mut Questions) -> Result<(), QuestionFault>
+        ensures { GivesBut is_memory (λ _. asked_of found.new) result (with_never self.now.program.now self.now.text.now (asked_of found.old) at) }
+    {
+        let (property, end) = self.whole(at)?;
+        let start = self.token(at).span.start;
+        let span = Span { start, end };
+        found.never.push(NeverLine { property, span })?;
+        Ok(())
+    }
+
+    // Adds who is asked by what stands after the word at this span.
+    #[tactic(auto, unfolding(crate::specs::Lines::with_ends))]
+    fn ends(&self, span: Span, found: &mut Questions) -> Result<(), QuestionFault>
+        requires { span.end ≤ length self.now.text.now }
+        ensures { GivesBut is_memory (λ _. asked_of found.new) result (with_ends self.now.program.now self.now.text.now (asked_of found.old) span) }
+    {
+        if found.ends.is_some() {
+            return Err(QuestionFault::EndsTwice(span));
+        }
+        let ends = self.ends_from(span.end)?;
+        found.ends = Some(ends);
+        Ok(())
+    }
+
+    // Who is asked by what stands here.
+    #[tactic(auto, unfolding(crate::specs::Lines::ends_from))]
+    fn ends_from(&self, at: usize) -> Result<Ends, QuestionFault>
+        requires { at ≤ length self.now.text.now }
+        ensures { result ≡ ends_from self.now.program.now self.now.text.now at }
+    {
+        let span = self.word_span(at);
+        let letters = &self.text[span.start..span.end];
+        if letters == b"all".as_slice() {
+            return self.ended(Ends::All, span.end);
+        }
+        if letters == b"none".as_slice() {
+            return self.ended(Ends::Nobody, span.end);
+        }
+        self.each(at)
+    }
+
+    // The end of the question, after what says who is asked.
+    #[tactic(auto, unfolding(crate::specs::Lines::ended_at))]
+    fn ended(&self, ends: Ends, at: usize) -> Result<Ends, QuestionFault>
+        ensures { result ≡ ended_at self.now.program.now self.now.text.now ends at }
+    {
+        let token = self.token(at);
+        match token.meaning {
+            Meaning::End => Ok(ends),
+            _ => Err(token.wrong()),
+        }
+    }
+
+    // One number of a process or more.
+    #[tactic(auto, unfolding(crate::specs::Lines::each_from))]
+    fn each(&self, at: usize) -> Result<Ends, QuestionFault>
+        ensures { result ≡ each_from self.now.program.now self.now.text.now at }
+    {
+        let token = self.token(at);
+        match token.meaning {
+            Meaning::Number(_) => self.listed(6, [false; 6], at),
+            _ => Err(token.wrong()),
+        }
+    }
+
+    // At most so many numbers of processes, after others.
+    #[cycle(listed)]
+    #[tactic(auto, unfolding(crate::specs::Lines::listed_from))]
+    fn listed(&self, room: usize, marks: [bool; 6], at: usize) -> Result<Ends, QuestionFault>
+        ensures { result ≡ listed_from self.now.program.now self.now.text.now room marks at }
+    {
+        match room {
+            0 => self.ended(Ends::Each(marks), at),
+            _ => self.next_listed(room - 1, marks, at),
+        }
+    }
+
+    // The next number, and at most so many after it.
+    #[cycle(listed)]
+    #[tactic(auto, unfolding(crate::specs::Lines::listed_with))]
+    fn next_listed(&self, room: usize, marks: [bool; 6], at: usize) -> Result<Ends, QuestionFault>
+        ensures { result ≡ listed_with self.now.program.now self.now.text.now (listed_from self.now.program.now self.now.text.now room) marks at }
+    {
+        let token = self.token(at);
+        match token.meaning {
+            Meaning::Number(process) if process < u32::from(self.program.processes()) => {
+                let mut more = marks;
+                set_at(&mut more, process as usize, true);
+                self.listed(room, more, token.span.end)
+            }
+            Meaning::Number(_) => Err(QuestionFault::NoSuchProcess(token.span)),
+            Meaning::End => Ok(Ends::Each(marks)),
+            _ => Err(token.wrong()),
+        }
+    }
+}
