@@ -8,3 +8,4 @@ pub mod Searched
 pub mod Settled
 pub mod Threaded
 pub mod Uncoded
+mod NeverLines
