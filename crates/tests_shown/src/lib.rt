@@ -1,8 +1,7 @@
 //! `tests_shown` tests what `ticklab` shows people, beside the rows of `answers/`: explanations, traces and labels.
 //!
-//! `explaining` tests which tokens a refusal says may stand next, `rewriting` what hints say to write, `tracing`
-//! each step of both machines, and `of_labels` pictures of labels. A call whose memory was refused is made once
-//! more.
+//! `explaining` tests which tokens a refusal says may stand next, `tracing` each step of both machines, and
+//! `of_labels` pictures of labels. A call whose memory was refused is made once more.
 //! Start with `tracing`.
 #![tactic(auto)]
 
@@ -10,7 +9,5 @@
 mod explaining;
 #[cfg(test)]
 mod of_labels;
-#[cfg(test)]
-mod rewriting;
 #[cfg(test)]
 mod tracing;

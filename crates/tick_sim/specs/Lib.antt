@@ -1,4 +1,3 @@
 pub mod Maps
 pub mod Laws
-pub mod Properties
 pub mod prover

@@ -37,14 +37,6 @@ impl fmt::Display for EngineFault {
     }
 }
 
-impl From<AllocError> for EngineFault {
-    ghost from_gives = { λ _ fault. fault ≡ Memory };
-
-    fn from(_error: AllocError) -> EngineFault {
-        EngineFault::Memory
-    }
-}
-
 impl<T: Drop> From<AllocFailed<T>> for EngineFault {
     ghost from_gives = { λ _ fault. fault ≡ Memory };
 
@@ -62,5 +54,13 @@ impl From<EndFault> for EngineFault {
             EndFault::Write => EngineFault::Write,
             EndFault::Memory => EngineFault::Memory,
         }
+    }
+}
+
+impl From<AllocError> for EngineFault {
+    ghost from_gives = { λ _ fault. fault ≡ Memory };
+
+    fn from(_error: AllocError) -> EngineFault {
+        EngineFault::Memory
     }
 }

@@ -25,66 +25,19 @@ pub enum Stop {
 /// The text of an answer, or what stops its command.
 pub type Reply = Result<String, Stop>;
 
+impl From<AllocError> for Stop {
+    ghost from_gives = { λ _ stop. stop ≡ Memory };
+
+    fn from(_error: AllocError) -> Stop {
+        Stop::Memory
+    }
+}
+
 impl From<Refusal> for Stop {
     ghost from_gives = { λ refusal stop. stop ≡ Refused refusal };
 
     fn from(refusal: Refusal) -> Stop {
         Stop::Refused(refusal)
-    }
-}
-
-impl From<TextFault> for Stop {
-    ghost from_gives = { λ fault stop. stop ≡ text_stop fault };
-
-    fn from(fault: TextFault) -> Stop {
-        match fault {
-            TextFault::NoMemory => Stop::Memory,
-            fault => Stop::Refused(Refusal::Text(fault)),
-        }
-    }
-}
-
-impl From<CodeFault> for Stop {
-    ghost from_gives = { λ fault stop. stop ≡ code_stop fault };
-
-    fn from(fault: CodeFault) -> Stop {
-        match fault {
-            CodeFault::NoMemory => Stop::Memory,
-            fault => Stop::Refused(Refusal::Code(fault)),
-        }
-    }
-}
-
-impl From<ScheduleFault> for Stop {
-    ghost from_gives = { λ fault stop. stop ≡ schedule_stop fault };
-
-    fn from(fault: ScheduleFault) -> Stop {
-        match fault {
-            ScheduleFault::NoMemory => Stop::Memory,
-            fault => Stop::Refused(Refusal::Schedule(fault)),
-        }
-    }
-}
-
-impl From<LowerFault> for Stop {
-    ghost from_gives = { λ fault stop. stop ≡ lower_stop fault };
-
-    fn from(fault: LowerFault) -> Stop {
-        match fault {
-            LowerFault::TooLong => Stop::TooLong,
-            LowerFault::NoMemory => Stop::Memory,
-        }
-    }
-}
-
-impl From<RunFault> for Stop {
-    ghost from_gives = { λ fault stop. stop ≡ run_stop fault };
-
-    fn from(fault: RunFault) -> Stop {
-        match fault {
-            RunFault::NoMemory => Stop::Memory,
-            RunFault::NoThread => Stop::Thread,
-        }
     }
 }
 
@@ -96,10 +49,57 @@ impl From<NoMemory> for Stop {
     }
 }
 
-impl From<AllocError> for Stop {
-    ghost from_gives = { λ _ stop. stop ≡ Memory };
+impl From<TextFault> for Stop {
+    ghost from_gives = { λ fault stop. stop ≡ text_stop fault };
 
-    fn from(_error: AllocError) -> Stop {
-        Stop::Memory
+    fn from(fault: TextFault) -> Stop {
+        match fault {
+            TextFault::NoMemory => Stop::from(NoMemory),
+            fault => Stop::Refused(Refusal::Text(fault)),
+        }
+    }
+}
+
+impl From<CodeFault> for Stop {
+    ghost from_gives = { λ fault stop. stop ≡ code_stop fault };
+
+    fn from(fault: CodeFault) -> Stop {
+        match fault {
+            CodeFault::NoMemory => Stop::from(NoMemory),
+            fault => Stop::Refused(Refusal::Code(fault)),
+        }
+    }
+}
+
+impl From<ScheduleFault> for Stop {
+    ghost from_gives = { λ fault stop. stop ≡ schedule_stop fault };
+
+    fn from(fault: ScheduleFault) -> Stop {
+        match fault {
+            ScheduleFault::NoMemory => Stop::from(NoMemory),
+            fault => Stop::Refused(Refusal::Schedule(fault)),
+        }
+    }
+}
+
+impl From<LowerFault> for Stop {
+    ghost from_gives = { λ fault stop. stop ≡ lower_stop fault };
+
+    fn from(fault: LowerFault) -> Stop {
+        match fault {
+            LowerFault::TooLong => Stop::TooLong,
+            LowerFault::NoMemory => Stop::from(NoMemory),
+        }
+    }
+}
+
+impl From<RunFault> for Stop {
+    ghost from_gives = { λ fault stop. stop ≡ run_stop fault };
+
+    fn from(fault: RunFault) -> Stop {
+        match fault {
+            RunFault::NoThread => Stop::Thread,
+            RunFault::NoMemory => Stop::from(NoMemory),
+        }
     }
 }

@@ -1,3 +1,2 @@
 pub mod Decided
-pub mod Judged
 pub mod Offered

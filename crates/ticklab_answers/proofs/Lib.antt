@@ -8,4 +8,3 @@ pub mod Searched
 pub mod Settled
 pub mod Threaded
 pub mod Uncoded
-mod NeverLines

@@ -1,5 +1,4 @@
 pub mod Answers
-pub mod Asking
 pub mod Codes
 pub mod Ends
 pub mod Explanations
@@ -16,4 +15,3 @@ pub mod Serving
 pub mod Shown
 pub mod Stops
 pub mod Tallies
-pub mod prover

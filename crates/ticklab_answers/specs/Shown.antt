@@ -1,18 +1,15 @@
 -- What `explore` and `hunt` show of the program that an input is. A schedule is told as that of a trap.
-use Rattle.std.specs.Prelude.{◌≡◌, ◌++◌, ℕ, List, length, slice_get, Some}
+use Rattle.std.specs.Prelude.{◌≡◌, ◌++◌, ℕ, List}
 use Rattle.base.specs.Plain.{Name, WholeProgram}
-use Rattle.base.specs.declared.span.Span.{Span}
-use Rattle.language_properties.specs.Values.{Valued}
-use Rattle.searches_explore.specs.declared.never_answer.NeverExplored.{NeverExplored}
-use Rattle.searches_explore.specs.declared.never_answer.NeverExplored.TheVariants.{Trapped, Broken, Safe, Limit}
+use Rattle.searches_explore.specs.declared.answer.Explored.{Explored}
+use Rattle.searches_explore.specs.declared.answer.Explored.TheVariants.{Trapped, Safe, Limit}
 use Rattle.searches_explore.specs.declared.ending.EndExplored.{EndExplored}
 use Rattle.searches_explore.specs.declared.ending.EndExplored.TheVariants as E
 use Rattle.searches_states.specs.declared.ending.MustStop.{MustStop}
 use Rattle.searches_hunt.specs.declared.answer.Hunted.{Hunted}
 use Rattle.searches_hunt.specs.declared.answer.Hunted.TheVariants.{Found, Nothing}
 use Rattle.searches_hunt.specs.declared.plan.Plan.{Plan}
-use Rattle.ticklab_explain.specs.Questions.{IsPointed}
-use Rattle.ticklab_answers.specs.Lines.{broken_text, can_end_line, limit_line, minimal_line, nothing_line, safe_line, shortest_line, stuck_line, trap_lines}
+use Rattle.ticklab_answers.specs.Lines.{can_end_line, limit_line, minimal_line, nothing_line, safe_line, shortest_line, stuck_line, trap_lines}
 use Rattle.ticklab_answers.specs.Responses.{Gives}
 use Rattle.ticklab_answers.specs.Runs.{IsStatementTrace}
 use Rattle.ticklab_answers.specs.declared.response.Response.{Response}
@@ -26,23 +23,8 @@ pub record IsTrapText (found input : List ℕ) (a : WholeProgram Name) (schedule
 abbrev pub ShowsTrap : List ℕ → List ℕ → WholeProgram Name → List ℕ → Response → Type 0
 ShowsTrap found input a schedule = Gives 5 (IsTrapText found input a schedule)
 
--- How a line was found that breaks, the schedule, what each of its steps does, and the line with what it comes to.
-pub record IsBrokenText (found name input : List ℕ) (a : WholeProgram Name) (schedule : List ℕ) (span : Span) (v : Valued) (out : List ℕ) : Type 0 where
-  pub traced : List ℕ
-  pub is_traced : IsTrapText found input a schedule traced
-  pub pointed : List ℕ
-  pub is_pointed : IsPointed name input span (broken_text v) pointed
-  pub whole : out ≡ traced ++ pointed
-
--- of the lines whose properties stand here the one of this number breaks
-pub record ShowsBroken (found name input : List ℕ) (a : WholeProgram Name) (spans : List Span) (schedule : List ℕ) (line : ℕ) (v : Valued) (response : Response) : Type 0 where
-  pub span : Span
-  pub there : slice_get spans line ≡ Some span
-  pub shown : Gives 5 (IsBrokenText found name input a schedule span v) response
-
--- no process traps, and none of so many lines breaks
-abbrev pub ShowsSafe : ℕ → ℕ → Response → Type 0
-ShowsSafe lines states = Gives 0 (λ out. out ≡ safe_line lines states)
+abbrev pub ShowsSafe : ℕ → Response → Type 0
+ShowsSafe states = Gives 0 (λ out. out ≡ safe_line states)
 
 abbrev pub ShowsLimit : ℕ → Response → Type 0
 ShowsLimit states = Gives 6 (λ out. out ≡ limit_line states)
@@ -56,12 +38,10 @@ ShowsStuck asked input a schedule = Gives 7 (IsTrapText (stuck_line asked) input
 abbrev pub ShowsNothing : Plan → Response → Type 0
 ShowsNothing plan = Gives 0 (λ out. out ≡ nothing_line plan)
 
--- `trap` and `broken` say how a trap and a line that breaks were found; `spans` where the properties of the lines stand.
-abbrev pub Shows : List ℕ → List ℕ → List ℕ → List ℕ → WholeProgram Name → List Span → NeverExplored → Response → Type 0
-Shows trap broken name input a spans (Trapped schedule) response = ShowsTrap trap input a schedule.items response
-Shows trap broken name input a spans (Broken schedule line v) response = ShowsBroken broken name input a spans schedule.items line v response
-Shows trap broken name input a spans (Safe states) response = ShowsSafe (length spans) states response
-Shows trap broken name input a spans (Limit states) response = ShowsLimit states response
+abbrev pub Shows : List ℕ → List ℕ → WholeProgram Name → Explored → Response → Type 0
+Shows found input a (Trapped schedule) response = ShowsTrap found input a schedule.items response
+Shows found input a (Safe states) response = ShowsSafe states response
+Shows found input a (Limit states) response = ShowsLimit states response
 
 abbrev pub ShowsHunt : List ℕ → WholeProgram Name → Plan → Hunted → Response → Type 0
 ShowsHunt input a plan (Found run schedule) response = ShowsTrap minimal_line input a schedule.items response

@@ -1,28 +1,22 @@
 //! From the bytes or the text that was read to a program, a schedule, a code, or moves.
-ghost use Rattle.std.specs.Prelude.{◌≡◌, ◌<◌, All, Err, IfErr, IfOk, Ok, length, map, string_bytes};
+ghost use Rattle.std.specs.Prelude.{◌≡◌, ◌<◌, All, Err, IfErr, IfOk, Ok, string_bytes};
 ghost use Rattle.language_schedules.specs.Moves.{moves_of as moves_spelled, mover};
 ghost use Rattle.language_schedules.specs.Schedule.{schedule_of as schedule_spelled};
-ghost use Rattle.ticketc_refusals.specs.Refusals.{IsProgram, IsProgramRefused, IsScheduleRefused, ProgramIn, SpelledIn};
+ghost use Rattle.ticketc_refusals.specs.Refusals.{IsProgram, IsProgramRefused, IsScheduleRefused};
 ghost use Rattle.ticklab_explain.specs.Reports.{Tells, TellsFor};
-ghost use Rattle.language_questions.specs.Lines.{Asked, asked_of, questions_in};
-ghost use Rattle.ticklab_answers.specs.Asking.{AreLinesOf, TellsQuestion};
 ghost use Rattle.ticklab_answers.specs.Codes.{HasCode, HasNoCode, program_code};
 ghost use Rattle.ticklab_answers.specs.Lines.{spelling_line};
 ghost use Rattle.ticklab_answers.specs.Stops.{IfRefused};
 
 use crate::fault::AnswerFault;
 use crate::stop::NoAnswer;
-use base::NoMemory;
-use base::span::Span;
 use code_core::Code;
-use language_questions::{NeverLine, Property, QuestionFault, Questions, questions_of};
 use language_schedules::{Move, ScheduleFault, read_moves, read_schedule};
 use std::alloc::{AllocError, Global};
-use std::str;
 use tick_kinds::Program;
 use tick_lower::{LowerFault, lower};
-use ticketc_refusals::{SpelledProgram, program_in, program_with_tokens};
-use ticklab_explain::{explain_question, explain_refusal, explain_schedule};
+use ticketc_refusals::program_in;
+use ticklab_explain::{explain_refusal, explain_schedule};
 
 /// The accepted program that an input is; `name` is that of its file.
 pub fn program_of(alloc: Global, name: &str, input: &[u8]) -> Result<Program, NoAnswer>
@@ -36,85 +30,6 @@ pub fn program_of(alloc: Global, name: &str, input: &[u8]) -> Result<Program, No
             Err(NoAnswer::Refused(report))
         }
     }
-}
-
-/// The accepted program that an input is, with the tokens of its text; `name` is that of its file.
-pub fn spelled_program_of(
-    alloc: Global,
-    name: &str,
-    input: &[u8],
-) -> Result<SpelledProgram, NoAnswer>
-    ensures ok { IfOk result (SpelledIn input.now) }
-    ensures refused { IfErr result (λ stop. IfRefused stop (Tells (IsProgramRefused input.now) name.now input.now)) }
-{
-    match program_with_tokens(alloc, input)? {
-        Ok(spelled) => Ok(spelled),
-        Err(refusal) => {
-            let report = explain_refusal(alloc, name, input, refusal)?;
-            Err(NoAnswer::Refused(report))
-        }
-    }
-}
-
-/// The properties that no state of a program may have, and where each stands in the program's file.
-#[derive(Drop)]
-pub struct NeverLines {
-    pub properties: Vec<Property>,
-    pub spans: Vec<Span>,
-}
-
-/// The lines `#! never` of the file that has these bytes, by the names of its program; `name` is that of the file.
-pub fn never_lines(
-    alloc: Global,
-    name: &str,
-    input: &[u8],
-    program: &Program,
-) -> Result<NeverLines, NoAnswer>
-    requires { ProgramIn input.now program.now }
-    ensures ok { IfOk result (λ lines. (asked : Asked) × (questions_in program.now input.now ≡ Ok asked) × AreLinesOf asked lines) }
-    ensures as_many { IfOk result (λ lines. length lines.properties.items ≡ length lines.spans.items) }
-    ensures refused { IfErr result (λ stop. IfRefused stop (TellsQuestion program.now name.now input.now)) }
-{
-    let questions = questions_asked(alloc, name, input, program)?;
-    let lines = apart(alloc, questions.never)?;
-    Ok(lines)
-}
-
-fn questions_asked(
-    alloc: Global,
-    name: &str,
-    input: &[u8],
-    program: &Program,
-) -> Result<Questions, NoAnswer>
-    requires { ProgramIn input.now program.now }
-    ensures ok { IfOk result (λ questions. questions_in program.now input.now ≡ Ok (asked_of questions)) }
-    ensures refused { IfErr result (λ stop. IfRefused stop (TellsQuestion program.now name.now input.now)) }
-{
-    let Ok(text) = str::from_utf8(input) else {
-        unreachable!()
-    };
-    match questions_of(alloc, program, text) {
-        Ok(questions) => Ok(questions),
-        Err(QuestionFault::NoMemory) => Err(NoAnswer::Fault(AnswerFault::NoMemory)),
-        Err(fault) => {
-            let report = explain_question(alloc, name, input, fault)?;
-            Err(NoAnswer::Refused(report))
-        }
-    }
-}
-
-// The properties of these lines by themselves, and their places.
-fn apart(alloc: Global, lines: Vec<NeverLine>) -> Result<NeverLines, NoMemory>
-    ensures properties { IfOk result (λ found. found.properties.items ≡ map (λ line. line.property) lines.items) }
-    ensures spans { IfOk result (λ found. found.spans.items ≡ map (λ line. line.span) lines.items) }
-{
-    let mut properties = Vec::new(alloc);
-    let mut spans = Vec::new(alloc);
-    for line in lines {
-        properties.push(line.property)?;
-        spans.push(line.span)?;
-    }
-    Ok(NeverLines { properties, spans })
 }
 
 /// The schedule of so many processes that a text spells; `name` says where the text is from.

@@ -15,8 +15,8 @@ pub enum Wanted {
     Operator,
     Name,
     Number,
-    TextEnd,
     Word(Terminal),
+    TextEnd,
 }
 
 impl Wanted {
@@ -25,6 +25,7 @@ impl Wanted {
         ensures { result.now ≡ sample self }
     {
         match self {
+            Wanted::Word(terminal) => terminal.text(),
             Wanted::Statement => "stamp",
             Wanted::Value => "get",
             Wanted::Expression => "me",
@@ -32,7 +33,6 @@ impl Wanted {
             Wanted::Name => "x",
             Wanted::Number => "0",
             Wanted::TextEnd => "",
-            Wanted::Word(terminal) => terminal.text(),
         }
     }
 

@@ -3,7 +3,6 @@
 use std::alloc::Global;
 use std::test::Fail;
 use tests_shared::{accepted, is_same};
-use tick_syntax::tokens;
 use ticklab_trace::{StatementPlace, places};
 
 static TEXT: &str = "\
@@ -68,11 +67,7 @@ fn are(spots: &[StatementPlace<'_>], wanted: &[(usize, usize, &str)]) -> Result<
 }
 
 fn stand(alloc: Global, text: &str, wanted: &[(usize, usize, &str)]) -> Result<(), Fail> {
-    let tokens = tokens(alloc, text)?;
-    are(
-        &places(alloc, &accepted(alloc, text)?, text, &tokens)?,
-        wanted,
-    )
+    are(&places(alloc, &accepted(alloc, text)?, text)?, wanted)
 }
 
 #[test]
@@ -87,8 +82,6 @@ fn spots(rt: HostRuntime) -> Result<(), Fail> {
 #[test]
 fn another_text(rt: HostRuntime) -> Result<(), Fail> {
     let program = accepted(rt.alloc(), "processes 1; begin stamp; clear; end")?;
-    let text = "a b c\n d stamp";
-    let tokens = tokens(rt.alloc(), text)?;
-    let spots = places(rt.alloc(), &program, text, &tokens)?;
+    let spots = places(rt.alloc(), &program, "a b c\n d stamp")?;
     are(&spots, &[(2, 4, "stamp"), (1, 1, "")])
 }

@@ -1,17 +1,15 @@
-use Rattle.std.proofs.Common.{ℕ, ◌<◌, subst}
-use Rattle.searches_explore.specs.Never.{IfBroken}
+use Rattle.std.proofs.Common.{true, false}
 use Rattle.ticklab_answers.proofs.Searched.{searched}
 use Rattle.ticklab_answers.proofs.commands.exploring.all_schedules.Goals as goal
 
-pub in_ok-shown-requires-line : goal.in_ok-shown-requires-line
-in_ok-shown-requires-line g c =
-    let P : ℕ → Type 0 = λ count. IfBroken c.in_ok-explored.explored (λ schedule line v. line < count) in
-    subst P c.in_ok-lines.ensures.as_many c.in_ok-explored.ensures.within
+pub returns-then-is_merged-clause-ok : goal.returns-then-is_merged-clause-ok
+returns-then-is_merged-clause-ok g c =
+    let e = c.in_ok-explored.ensures in
+    searched true c.args.name.now c.args.limit c.args.input.now c.in_ok-program.program c.in_ok-program.ensures.ok g.W.Watch.hears _ _
+    c.args.is_merged c.if-is_merged.true c.in_ok-explored.explored c.in_ok-shown.field-0 e.trapped e.safe e.limit c.in_ok-shown.ensures e.watched
 
 pub returns-clause-ok : goal.returns-clause-ok
 returns-clause-ok g c =
-    let e = c.in_ok-explored.ensures in
-    let asked = c.in_ok-lines.ensures.ok in
-    searched c.args.is_merged c.args.name.now c.args.limit c.args.input.now c.in_ok-spelled.spelled.program c.in_ok-spelled.ensures.ok.0
-    asked.0 asked.1 _ _ asked.2.properties asked.2.spans g.W.Watch.hears _ _
-    c.in_ok-explored.explored c.in_ok-shown.field-0 e.trapped e.broken e.safe e.at_limit c.in_ok-shown.ensures e.watched
+    let e = c.in_ok-explored-2.ensures in
+    searched false c.args.name.now c.args.limit c.args.input.now c.in_ok-program.program c.in_ok-program.ensures.ok g.W.Watch.hears _ _
+    c.args.is_merged c.if-is_merged.false c.in_ok-explored-2.explored c.in_ok-shown-2.field-0 e.trapped e.safe e.limit c.in_ok-shown-2.ensures e.watched
