@@ -58,7 +58,7 @@ of_tickets = refl
 
 -- faults of tokens, and where no question goes on
 of_tokens :
-    Asks (codes "1 ? 2") (Err (F.BadCharacter (span 2 3)))
+    Asks (codes "1 @ 2") (Err (F.BadCharacter (span 2 3)))
     × Asks (codes "4294967296") (Err (F.NumberTooBig (span 0 10)))
     × Asks (codes "1 + 2 + 3") (Err (F.Unexpected (span 6 7)))
     × Asks (codes "held[0") (Err (F.Unexpected (span 6 6)))
