@@ -1,4 +1,4 @@
-//! `language_properties` has what may be asked of a state of a program: properties, as texts and as trees.
+//! `language_properties` has what may be asked of a state of a program: properties.
 //!
 //! A `Property` is an expression over what all can see: register rows, tickets, and which processes have
 //! ended or trapped. `Property::value` gives its value in a state that is `Visible`. `specs/Values.antt` says what

@@ -2,7 +2,7 @@
 //!
 //! `searching` has small machines whose answers are known. `exploring` tests what a watch is told of an
 //! exploration. `hunting` tests hunts through programs. `examples` has texts of programs. What `explore`
-//! answers on programs stands in `answers/states.txt`.
+//! answers on programs stands in `answers/states.txt`. `fairness` compares the search for fair schedules with a slow one.
 //! Start with `searching`.
 #![tactic(auto)]
 
@@ -10,6 +10,8 @@
 mod examples;
 #[cfg(test)]
 mod exploring;
+#[cfg(test)]
+mod fairness;
 #[cfg(test)]
 mod hunting;
 #[cfg(test)]

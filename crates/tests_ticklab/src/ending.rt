@@ -157,7 +157,7 @@ static ROWS: [Row; 16] = [
         false,
         1,
         "",
-        "none:1:1: error: expected `processes`, found the name `x`\n  |\n1 | x\n  | ^\nticketc: refused 5 Unexpected 0 1\n",
+        "none:1:1: error: expected `processes`, found the name `x`\n  |\n1 | x\n  | ^\nhint: a program begins with `processes 2;`\nticketc: refused 5 Unexpected 0 1\n",
         1,
         0,
     ),

@@ -9,12 +9,12 @@
 #![tactic(auto)]
 
 mod fault;
+mod history;
 pub mod laws;
 mod merging;
 mod process;
 mod run_fault;
 mod runners;
-mod words;
 
 pub use code_core::Code;
 pub use fault::MergeFault;

@@ -11,8 +11,8 @@ ghost use Rattle.tick_merge.specs.prover.Held.{memory_held};
 ghost use Rattle.tick_merge.specs.prover.Reached.{Reached, IsLed, StepTaken, ProcessSpent, AllTaken, AllSpent};
 
 use crate::fault::MergeFault;
+use crate::history::may_follow;
 use crate::process::{go_alone, makes_act};
-use crate::words::may_follow;
 use code_core::Code;
 use code_machine::{CodeMemory, Proc};
 use std::alloc::Global;

@@ -8,7 +8,7 @@ ghost use Rattle.code_machine.specs.Safety.{AreOrdered};
 ghost use Rattle.tick_merge.specs.Merged.{alone_for};
 ghost use Rattle.tick_merge.specs.prover.Held.{memory_held, after_alone, act_next};
 
-use crate::words::act_for;
+use crate::history::act_for;
 use code_core::Code;
 use code_machine::{Advance, CodeMemory, Proc};
 use std::alloc::AllocFailed;

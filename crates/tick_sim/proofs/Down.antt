@@ -4,6 +4,7 @@
 -- labels that are there.
 use Rattle.std.proofs.Common.{◌≡◌, ℕ, Bool, true, false, if◌then◌else◌, List, [], ◌∷◌, refl, sym, ◌∙◌, subst, ⊎_elim, Option, Some, None}
 use Rattle.std.specs.Prelude.{slice_get}
+use Rattle.base.specs.Plain.{WholeProgram}
 use Rattle.base.specs.declared.status.Status.TheVariants.{Running}
 use Rattle.code_core.specs.declared.instr.Instr.{Instr}
 use Rattle.word_core.specs.Stamps.{Labels}
@@ -11,13 +12,17 @@ use Rattle.tick_source.specs.Source as S
 use Rattle.tick_source.specs.Source.{SourceProcess, SourceState}
 use Rattle.code_machine.specs.Machine as C
 use Rattle.code_machine.specs.Machine.{CodeProcess, CodeState}
+use Rattle.language_properties.specs.Laws.{IsSeenAlike}
+use Rattle.language_properties.specs.Seen.{seen_of}
 use Rattle.tick_lower.specs.Lowered.{lowered, lowered_sizes}
 use Rattle.tick_sim.specs.Maps.{commit_of, is_commit, down_from, down}
 use Rattle.tick_sim.specs.Laws.{DownLaw}
+use Rattle.tick_sim.specs.Properties.{code_state_after, seen_by_labels}
 use Rattle.tick_sim.proofs.Match.{Matches, NextStep, together, apart, Between}
 use Rattle.tick_sim.proofs.Step.{between_matches, match_status, process_step}
 use Rattle.tick_sim.proofs.Pairs.{first_at}
 use Rattle.tick_sim.proofs.States.{MatchStates, seen_same, match_weaker, commit_runs, both_after, code_after, stopped_step, runs_or_not}
+use Rattle.tick_sim.proofs.SeenAlike.{matching_alike}
 use Rattle.tick_sim.proofs.Start.{start_between}
 
 -- of the labels that a stamp has loaded nothing is known
@@ -100,13 +105,26 @@ module _ (n : ℕ) (code : List Instr) where
             (down_runs schedule s next after)
       ]
 
-pub down_law : DownLaw
-down_law a schedule =
+-- the code matches the program after the schedule that its own one stands for
+down_matches : (a : WholeProgram ℕ) (schedule : List ℕ)
+    → AllMatch a.processes (lowered a) (S.source a (down (lowered_sizes a) (lowered a) schedule)) (code_state_after a schedule)
+down_matches a schedule =
     let n : ℕ = a.processes in
     let code : List Instr = lowered a in
-    seen_same n (AnyMatch n code) (S.source a (down (lowered_sizes a) code schedule))
-    (C.run_of (lowered_sizes a) code schedule)
-    (down_runs n code schedule (S.source_start a) (C.code_start (lowered_sizes a))
+    down_runs n code schedule (S.source_start a) (C.code_start (lowered_sizes a))
     (match_weaker n (λ p. Between n code) (AnyMatch n code) (S.source_start a) (C.code_start (lowered_sizes a))
-    (between_any n code) (start_between a)))
-    (λ p x y any. match_status n code p Loaded any.0 x y any.1)
+    (between_any n code) (start_between a))
+
+any_status : (n : ℕ) (code : List Instr) (p : ℕ) (x : SourceProcess) (y : CodeProcess) → AnyMatch n code p x y → x.status ≡ y.status
+any_status n code p x y any = match_status n code p Loaded any.0 x y any.1
+
+pub down_law : DownLaw
+down_law a schedule =
+    seen_same a.processes (AnyMatch a.processes (lowered a)) (S.source a (down (lowered_sizes a) (lowered a) schedule))
+    (code_state_after a schedule) (down_matches a schedule) (any_status a.processes (lowered a))
+
+pub down_alike : (a : WholeProgram ℕ) (schedule : List ℕ)
+    → IsSeenAlike (seen_by_labels (code_state_after a schedule)) (seen_of (S.source a (down (lowered_sizes a) (lowered a) schedule)))
+down_alike a schedule =
+    matching_alike a.processes (AnyMatch a.processes (lowered a)) (S.source a (down (lowered_sizes a) (lowered a) schedule))
+    (code_state_after a schedule) (down_matches a schedule) (any_status a.processes (lowered a))

@@ -23,6 +23,7 @@
 use Rattle.std.proofs.Common.{◌≡◌, ℕ, zero, suc, ◌≤◌, inl, inr, ⊎_elim, Bool, true, false, List, [], ◌∷◌, ◌++◌, length, replicate, refl, ap, sym, ◌∙◌, subst, arith, Option, Some, None}
 use Rattle.std.specs.Prelude.{◌≢◌, slice_get}
 use Rattle.std.proofs.lemmas.Bool.{both_ways}
+use Rattle.base.specs.Plain.{WholeProgram}
 use Rattle.base.specs.declared.status.Status.{Status}
 use Rattle.base.specs.declared.status.Status.TheVariants.{Running, Ended, Trapped}
 use Rattle.code_core.specs.declared.instr.Instr.{Instr}
@@ -32,13 +33,17 @@ use Rattle.tick_source.specs.Source.{SourceProcess, SourceState}
 use Rattle.code_machine.specs.Machine as C
 use Rattle.code_machine.specs.Machine.{CodeProcess, CodeState, made}
 use Rattle.code_machine.proofs.Offered.{same_self}
+use Rattle.language_properties.specs.Laws.{IsSeenAlike}
+use Rattle.language_properties.specs.Seen.{seen_of}
 use Rattle.tick_lower.specs.Lowered.{lowered, lowered_sizes}
 use Rattle.tick_sim.specs.Maps.{commit_of, is_commit, one_more, steps_to_commit, repeated, steps_of, up_from, up}
 use Rattle.tick_sim.specs.Laws.{UpLaw, kept_as, kept_of}
+use Rattle.tick_sim.specs.Properties.{code_state_after, seen_by_labels}
 use Rattle.tick_sim.proofs.Match.{HasStopped, Between, over, rests, Matches, NextStep, together, apart}
 use Rattle.tick_sim.proofs.Step.{between_matches, match_status, process_step}
 use Rattle.tick_sim.proofs.Pairs.{get_set_same, first_at, first_none}
 use Rattle.tick_sim.proofs.States.{MatchStates, AllBetween, seen_same, match_weaker, commit_runs, code_runs, both_after, code_after, stopped_step, stopped_source, runs_or_not}
+use Rattle.tick_sim.proofs.SeenAlike.{matching_alike}
 use Rattle.tick_sim.proofs.Start.{start_between}
 
 -- one schedule, then the other
@@ -231,11 +236,20 @@ module _ (n : ℕ) (code : List Instr) where
             (up_runs schedule s d all))
       ]
 
+-- the program matches its code after the schedule that leads through it
+up_matches : (a : WholeProgram ℕ) (schedule : List ℕ)
+    → AllBetween a.processes (lowered a) (S.source a schedule) (code_state_after a (up (lowered_sizes a) (lowered a) schedule))
+up_matches a schedule = up_runs a.processes (lowered a) schedule (S.source_start a) (C.code_start (lowered_sizes a)) (start_between a)
+
 pub up_law : UpLaw
 up_law a schedule =
-    let n : ℕ = a.processes in
-    let code : List Instr = lowered a in
-    sym (seen_same n (λ p. Between n code) (S.source a schedule)
-    (C.run_of (lowered_sizes a) code (up (lowered_sizes a) code schedule))
-    (up_runs n code schedule (S.source_start a) (C.code_start (lowered_sizes a)) (start_between a))
-    (λ p. between_status n code))
+    sym (seen_same a.processes (λ p. Between a.processes (lowered a)) (S.source a schedule)
+    (code_state_after a (up (lowered_sizes a) (lowered a) schedule)) (up_matches a schedule)
+    (λ p. between_status a.processes (lowered a)))
+
+pub up_alike : (a : WholeProgram ℕ) (schedule : List ℕ)
+    → IsSeenAlike (seen_by_labels (code_state_after a (up (lowered_sizes a) (lowered a) schedule))) (seen_of (S.source a schedule))
+up_alike a schedule =
+    matching_alike a.processes (λ p. Between a.processes (lowered a)) (S.source a schedule)
+    (code_state_after a (up (lowered_sizes a) (lowered a) schedule)) (up_matches a schedule)
+    (λ p. between_status a.processes (lowered a))

@@ -1,3 +1,4 @@
 pub mod Maps
 pub mod Laws
+pub mod Properties
 pub mod prover

@@ -1,6 +1,7 @@
 //! What a program and its code have in common under every schedule.
 
 ghost use Rattle.tick_sim.specs.Laws.{DownLaw, UpLaw, RoundLaw};
+ghost use Rattle.tick_sim.specs.Properties.{PropertiesLaw};
 
 /// Under every schedule the code of a program shows the events, the register rows and the statuses
 /// that the program shows on whole-number tickets under the schedule that `project` makes of it.
@@ -18,4 +19,12 @@ pub fn law_up()
 /// had stopped.
 pub fn law_round()
     ensures { RoundLaw }
+{}
+
+/// A property of what all can see (register rows, who holds a ticket and whose is older, who has ended or
+/// trapped) has after every schedule of the code the value that it has in the program after the schedule that
+/// `project` makes of it; and after every schedule of the program the value that it has in the code after the
+/// one that `expand` makes.
+pub fn law_properties()
+    ensures { PropertiesLaw }
 {}

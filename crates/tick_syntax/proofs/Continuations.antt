@@ -33,9 +33,9 @@ use Rattle.base.specs.declared.operator.Op.TheVariants as O
 use Rattle.tick_syntax.specs.declared.terminals.Terminal.TheVariants as T
 use Rattle.tick_syntax.specs.Lexeme.{Lexeme, a_name, a_number, a_terminal, nothing, lexemes}
 use Rattle.base.specs.Plain.{nowhere, Name, WholeProgram}
-use Rattle.tick_syntax.specs.Grammar.{program_tokens, second_span, Derives}
+use Rattle.tick_syntax.specs.Grammar.{program_tokens, second_span, Derives, nesting}
 use Rattle.tick_syntax.specs.declared.token.Token.{Token}
-use Rattle.tick_syntax.specs.Nesting.{nesting, IsOpening, open_by}
+use Rattle.tick_syntax.specs.Nesting.{IsOpening, open_by}
 use Rattle.tick_syntax.specs.prover.Reading.{program_at}
 use Rattle.tick_syntax.specs.Refusal.{CanStand, AllCanStand, GoesOn}
 use Rattle.tick_syntax.specs.prover.ValuedTokens.{plain}

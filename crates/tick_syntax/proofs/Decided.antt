@@ -20,10 +20,10 @@ use Rattle.tick_syntax.specs.declared.token.Sort.TheVariants as K
 use Rattle.tick_syntax.specs.declared.token.Token.{Token}
 use Rattle.tick_syntax.specs.declared.terminals.Terminal.{Terminal}
 use Rattle.tick_syntax.specs.Decided.{IsWithinLimits}
-use Rattle.tick_syntax.specs.Grammar.{second_span, Derives}
+use Rattle.tick_syntax.specs.Grammar.{second_span, Derives, nesting}
 use Rattle.tick_syntax.specs.prover.ValuedTokens.{plain, SayAs}
 use Rattle.tick_syntax.specs.Lexeme.{Lexeme, lexeme_at, lexemes, of_terminal, bytes_at}
-use Rattle.tick_syntax.specs.Nesting.{nesting, open_by, IsShallow}
+use Rattle.tick_syntax.specs.Nesting.{open_by, IsShallow}
 use Rattle.base.specs.Plain.{Name, WholeProgram}
 use Rattle.tick_syntax.specs.prover.Reading.{program_at}
 use Rattle.tick_syntax.specs.Refusal.{CanStand, AllCanStand, IsTextRefused}

@@ -7,9 +7,8 @@ use Rattle.base.specs.declared.operator.Op.TheVariants as O
 use Rattle.tick_syntax.specs.declared.terminals.Terminal.TheVariants as T
 use Rattle.tick_syntax.specs.Lexeme.{Lexeme, a_name, a_number, a_terminal, lexemes}
 use Rattle.base.specs.Plain.{Name, named, me, count, binary, out, repeat, nil, cons, WholeProgram}
-use Rattle.tick_syntax.specs.Grammar.{program_tokens}
+use Rattle.tick_syntax.specs.Grammar.{program_tokens, nesting}
 use Rattle.tick_syntax.specs.Terminals.{signs, keywords, spelled_among}
-use Rattle.tick_syntax.specs.Nesting.{nesting}
 use Rattle.tick_syntax.specs.Printed.{printed}
 
 abbrev span : ℕ → ℕ → Span

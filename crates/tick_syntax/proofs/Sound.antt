@@ -43,8 +43,7 @@ use Rattle.tick_syntax.specs.declared.terminals.Terminal.{Terminal}
 use Rattle.tick_syntax.specs.declared.terminals.Terminal.TheVariants as T
 use Rattle.tick_syntax.specs.Lexeme.{Lexeme, a_name, a_terminal}
 use Rattle.base.specs.Plain.{Name, Expression}
-use Rattle.tick_syntax.specs.Grammar.{expression_tokens}
-use Rattle.tick_syntax.specs.Nesting.{expression_nesting}
+use Rattle.tick_syntax.specs.Grammar.{expression_tokens, expression_nesting}
 use Rattle.base.specs.Refusing.{◌>>=◌}
 use Rattle.tick_syntax.specs.prover.Reading.{Reading, next_at, terminal_at, terminal_by, operator_at, operator_by, name_at, name_by, pair_at, brackets_at, expression_by, expression_at, last_at}
 use Rattle.tick_syntax.proofs.Symbols.{said_by, says, Symbol, s_semicolon, s_name, s_becomes, s_else, s_close, s_operator, s_expression, step, opened, is_full, on_stack, fault_by, fault}

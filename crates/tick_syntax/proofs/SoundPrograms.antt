@@ -21,8 +21,7 @@ use Rattle.tick_syntax.specs.declared.terminals.Terminal.{Terminal}
 use Rattle.tick_syntax.specs.declared.terminals.Terminal.TheVariants as T
 use Rattle.tick_syntax.specs.Lexeme.{Lexeme, a_name, a_number, a_terminal}
 use Rattle.base.specs.Plain.{Name, Block, WholeProgram}
-use Rattle.tick_syntax.specs.Grammar.{block_tokens, names_tokens, section_tokens, program_tokens, second_span}
-use Rattle.tick_syntax.specs.Nesting.{block_nesting, nesting}
+use Rattle.tick_syntax.specs.Grammar.{block_tokens, names_tokens, section_tokens, program_tokens, second_span, block_nesting, nesting}
 use Rattle.base.specs.Refusing.{◌>>=◌}
 use Rattle.tick_syntax.specs.prover.Reading.{Reading, next_at, terminal_at, terminal_by, number_at, number_by, name_by, names_by, names_at, begins, section_by, section_at, statements_at, body_at, sections_at, headed_at, whole_at, program_at, nothing_after}
 use Rattle.std.proofs.lemmas.List.{append-nil}

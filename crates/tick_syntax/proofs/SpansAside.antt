@@ -4,9 +4,8 @@ use Rattle.std.proofs.lemmas.List.{map-append}
 use Rattle.tick_syntax.specs.declared.terminals.Terminal.{Terminal}
 use Rattle.tick_syntax.specs.declared.terminals.Terminal.TheVariants as T
 use Rattle.tick_syntax.specs.Lexeme.{Lexeme, a_name, a_number, a_terminal, nothing}
-use Rattle.tick_syntax.specs.Nesting.{nesting}
 use Rattle.base.specs.Plain.{nowhere, Name, map_block, WholeProgram, without_spans}
-use Rattle.tick_syntax.specs.Grammar.{names_tokens, section_tokens, program_tokens}
+use Rattle.tick_syntax.specs.Grammar.{names_tokens, section_tokens, program_tokens, nesting}
 use Rattle.tick_syntax.specs.Printed.{printed_token, printed_tokens, printed}
 use Rattle.tick_syntax.proofs.Spanless.{letters_of, spanless, spanless_all}
 use Rattle.tick_syntax.proofs.Statements.{block_as_deep, name_at_none, block_plain}

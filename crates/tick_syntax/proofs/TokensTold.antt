@@ -1,5 +1,5 @@
 -- What is told of a whole text is told of no other.
-use Rattle.std.proofs.Common.{◌<◌, ◌∙◌, sym, subst, map, zero-add, ◌≡◌, ◌≢◌, ℕ, ◌≤◌, List, [], ◌∷◌, length, refl, arith, inl, inr, ◌⊎◌, ⊎_elim, Result, Ok, Err}
+use Rattle.std.proofs.Common.{◌<◌, ◌∙◌, ap, sym, subst, map, zero-add, ◌≡◌, ◌≢◌, ℕ, ◌≤◌, List, [], ◌∷◌, length, refl, arith, inl, inr, ◌⊎◌, ⊎_elim, Result, Ok, Err}
 use Rattle.std.specs.Prelude.{IfOk, IfErr, IsOkUnless, MatchResult}
 use Rattle.std.proofs.lemmas.Bool.Decides.{leb_tells}
 use Rattle.std.specs.Global.{Vec}
@@ -91,6 +91,11 @@ pub first_spelled : (text : List ℕ) (ts : List Token) → Spells text ts → (
 first_spelled text [] spells some = absurd (some refl)
 first_spelled text (t ∷ ts) spells some =
     (t, spells.0, subst (λ n. TokenAt n (after_gap text) t spells.0) (zero-add (gap_length text)) spells.1)
+
+-- the tokens of values, without them, spell the text
+pub plain_spelled : (text : List ℕ) (is given : List ValuedToken) (tokens : List Token) → AreValues text is → given ≡ is → tokens ≡ map plain given
+    → Spells text tokens
+plain_spelled text is given tokens values same plain_are = subst (Spells text) (sym (plain_are ∙ ap (map plain) same)) values.spelled
 
 -- the tokens of values, without them
 pub told_plain : (text : List ℕ) (is : List ValuedToken) (result : Result (Vec Token) TextFault) → length text ≤ 1000000 → AreValues text is

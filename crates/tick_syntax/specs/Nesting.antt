@@ -1,8 +1,7 @@
--- How deeply brackets are nested: those of a tree, which stand in `Grammar`, and those of a list of tokens.
+-- How many brackets are open in a list of tokens. `Grammar` says how deeply those of a tree are nested.
 use Rattle.std.specs.Prelude.{ℕ, suc, ◌-◌, ◌≤◌, List, [], ◌∷◌}
 use Rattle.tick_syntax.specs.declared.terminals.Terminal.TheVariants as T
 use Rattle.tick_syntax.specs.Lexeme.{Lexeme, a_terminal}
-pub use Rattle.tick_syntax.specs.Grammar.{expression_nesting, statement_nesting, block_nesting, nesting}
 
 -- an opening `(` or `{`
 abbrev pub IsOpening : Lexeme → Type 0

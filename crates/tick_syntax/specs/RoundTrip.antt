@@ -1,8 +1,7 @@
 -- Which program a text is, and what it means that a printed program reads back.
 use Rattle.std.specs.Prelude.{◌≡◌, ℕ, List}
 use Rattle.tick_syntax.specs.declared.token.Token.{Token}
-use Rattle.tick_syntax.specs.Grammar.{Derives}
-use Rattle.tick_syntax.specs.Nesting.{nesting}
+use Rattle.tick_syntax.specs.Grammar.{Derives, nesting}
 use Rattle.base.specs.Plain.{Name, WholeProgram, without_spans}
 use Rattle.tick_syntax.specs.Printed.{printed}
 use Rattle.tick_syntax.specs.Spelling.{Spells}

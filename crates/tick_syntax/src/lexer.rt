@@ -51,7 +51,8 @@ pub fn valued_tokens<'a>(alloc: Global, text: &'a str) -> Result<Vec<ValuedToken
     read_tokens(alloc, text.as_bytes())
 }
 
-fn plain_tokens(alloc: Global, valued: &[ValuedToken]) -> Result<Vec<Token>, TextFault>
+/// The tokens without what they say.
+pub fn plain_tokens(alloc: Global, valued: &[ValuedToken]) -> Result<Vec<Token>, TextFault>
     ensures ok { IfOk result (λ tokens. tokens.items ≡ map plain valued.now) }
     ensures err { IsOkUnless result NoMemory }
     ensures none { valued.now ≡ [] → result ≢ Err NoMemory }

@@ -1,6 +1,7 @@
 //! `tick_syntax` reads the text of a program into its tree, and prints a tree as a text.
 //!
-//! `tokens` gives the tokens of a text, `parse` its tree, and `print` the one printed text of a tree.
+//! `tokens` gives the tokens of a text, `parse` its tree, `parse_with_tokens` both, and `print` the one
+//! printed text of a tree.
 //! `specs/Grammar.antt` has the grammar.
 //! Start with `parse` and `print`.
 #![tactic(auto)]
@@ -19,5 +20,5 @@ mod valued_token;
 pub use base::{span, tree};
 pub use fault::TextFault;
 pub use lexer::tokens;
-pub use parser::parse;
+pub use parser::{parse, parse_with_tokens};
 pub use printer::print;

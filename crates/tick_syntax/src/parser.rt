@@ -1,18 +1,21 @@
 // From the tokens of a text to its tree: a descent by the grammar, one method for each of its rules.
 ghost use Rattle.std.specs.Prelude.{◌≡◌, ◌≢◌, ◌<◌, ◌≤◌, ◌⊎◌, ℕ, List, [], length, drop, map, IfOk, IfErr, IsOkUnless, MatchResult};
 ghost use Rattle.tick_syntax.specs.prover.Reading.{Gives, GivesAlways, GivesWhole, IsOkUnlessMemory, next_at, terminal_at, brace_at, operator_at, name_at, number_at, pair_at, brackets_at, expression_at, last_at, ended_at, named_last_at, copy_at, older_at, plain_at, right_at, assignment_at, out_at, branch_at, repeat_at, block_at, statement_by, statement_at, statements_at, names_at, section_at, body_at, sections_at, headed_at, whole_at, program_at};
-ghost use Rattle.tick_syntax.specs.Nesting.{nesting};
+ghost use Rattle.tick_syntax.specs.Grammar.{nesting};
 ghost use Rattle.base.specs.Plain.{Name, WholeProgram, get, put, held, name_of, expression_of, statement_of, block_of, tree_of};
 ghost use Rattle.tick_syntax.specs.declared.fault.TextFault.TheVariants.{NoMemory, TextTooLong, Unexpected, TooDeep};
 ghost use Rattle.tick_syntax.specs.Refusal.{IsTextRefused};
 ghost use Rattle.tick_syntax.specs.declared.fault.TextFault.{TextFault};
 ghost use Rattle.tick_syntax.specs.RoundTrip.{IsTextOf};
-ghost use Rattle.tick_syntax.specs.Spelling.{HasToken};
+ghost use Rattle.tick_syntax.specs.Decided.{IsWithinLimits};
+ghost use Rattle.tick_syntax.specs.Spelling.{HasToken, Spells, StandInOrder};
+ghost use Rattle.tick_syntax.specs.prover.ValuedTokens.{AreValues};
 ghost use Rattle.base.specs.declared.span.Span.{Span};
 
 use crate::fault::TextFault;
-use crate::lexer::valued_tokens;
+use crate::lexer::{plain_tokens, valued_tokens};
 use crate::terminals::Terminal;
+use crate::token::Token;
 use crate::valued_token::{Ending, Meaning, Section, ValuedToken};
 use base::span::Span;
 use base::tree::{Expr, Named, Op, Stmt, Tree};
@@ -32,9 +35,39 @@ pub fn parse(alloc: Global, text: &str) -> Result<Tree, TextFault>
     ensures first { (first : TextFault) → IsTextRefused text.now first → MatchResult result (λ tree. ⊥) (λ fault. (fault ≡ first) ⊎ (fault ≡ NoMemory)) }
 {
     let tokens = valued_tokens(alloc, text)?;
+    read_tree(alloc, text, &tokens)
+}
+
+/// The tree of a text, as `parse` gives it, and with it the tokens of the text, in its order. Both are of
+/// one reading of the text.
+pub fn parse_with_tokens(alloc: Global, text: &str) -> Result<(Tree, Vec<Token>), TextFault>
+    ensures tree { IfOk result (λ read. IsTextOf text.now (tree_of read.0)) }
+    ensures limits { IfOk result (λ read. (length text.now ≤ 1000000) × (nesting (tree_of read.0) ≤ 64)) }
+    ensures tokens { IfOk result (λ read. Spells text.now read.1.items) }
+    ensures order { IfOk result (λ read. StandInOrder text.now 0 read.1.items) }
+    ensures accepted { (p : WholeProgram Name) → length text.now ≤ 1000000 → IsTextOf text.now p → nesting p ≤ 64 → MatchResult result (λ read. p ≡ tree_of read.0) (λ fault. fault ≡ NoMemory) }
+    ensures long { 1000000 < length text.now → result ≡ Err TextTooLong }
+    ensures memory { result ≡ Err NoMemory → (length text.now ≤ 1000000) × HasToken text.now }
+    ensures refused { IfErr result (λ fault. fault ≢ NoMemory → IsTextRefused text.now fault) }
+    ensures first { (first : TextFault) → IsTextRefused text.now first → MatchResult result (λ read. ⊥) (λ fault. (fault ≡ first) ⊎ (fault ≡ NoMemory)) }
+{
+    let valued = valued_tokens(alloc, text)?;
+    let tree = read_tree(alloc, text, &valued)?;
+    let tokens = plain_tokens(alloc, &valued)?;
+    Ok((tree, tokens))
+}
+
+// The tree of a text that these tokens spell.
+fn read_tree(alloc: Global, text: &str, tokens: &[ValuedToken]) -> Result<Tree, TextFault>
+    requires short { length text.now ≤ 1000000 }
+    requires values { AreValues text.now tokens.now }
+    ensures within { IfOk result (λ tree. IsWithinLimits text.now (tree_of tree)) }
+    ensures refused { IfErr result (λ fault. fault ≢ NoMemory → IsTextRefused text.now fault) }
+    ensures memory { result ≡ Err NoMemory → HasToken text.now }
+{
     let parser = Parser {
         alloc,
-        tokens: &tokens,
+        tokens,
         end: text.len(),
     };
     parser.program()

@@ -16,6 +16,21 @@ use tick_lower::lower;
 use tick_play::play_code;
 use ticketc_refusals::{begins_code, code_in};
 
+/// The text of the code that an accepted program becomes.
+pub fn emit_text(alloc: Global, input: &[u8]) -> Reply
+    ensures { Tells false (OnLowered (Is emit_answer) input.now) result }
+{
+    let code = lowered_code(alloc, input)?;
+    written(alloc, &code)
+}
+
+fn written(alloc: Global, code: &Code) -> Reply
+    ensures { Tells false (Is emit_answer code.now) result }
+{
+    let text = write_code(alloc, code)?;
+    Ok(text)
+}
+
 /// The report of the run of a code, or of the code of a program, under the schedule that a text spells.
 pub fn code_report(alloc: Global, input: &[u8], schedule: &str) -> Reply
     ensures { Tells false (OnCode (Is (code_answer schedule.now)) input.now) result }
@@ -29,21 +44,6 @@ fn report_of_code(alloc: Global, code: &Code, schedule: &str) -> Reply
 {
     let steps = read_schedule(alloc, schedule, code.sizes().processes())?;
     let text = play_code(alloc, code, steps.as_slice())?;
-    Ok(text)
-}
-
-/// The text of the code that an accepted program becomes.
-pub fn emit_text(alloc: Global, input: &[u8]) -> Reply
-    ensures { Tells false (OnLowered (Is emit_answer) input.now) result }
-{
-    let code = lowered_code(alloc, input)?;
-    written(alloc, &code)
-}
-
-fn written(alloc: Global, code: &Code) -> Reply
-    ensures { Tells false (Is emit_answer code.now) result }
-{
-    let text = write_code(alloc, code)?;
     Ok(text)
 }
 

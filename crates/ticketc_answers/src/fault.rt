@@ -37,6 +37,14 @@ impl fmt::Display for EngineFault {
     }
 }
 
+impl From<AllocError> for EngineFault {
+    ghost from_gives = { λ _ fault. fault ≡ Memory };
+
+    fn from(_error: AllocError) -> EngineFault {
+        EngineFault::Memory
+    }
+}
+
 impl<T: Drop> From<AllocFailed<T>> for EngineFault {
     ghost from_gives = { λ _ fault. fault ≡ Memory };
 
@@ -54,13 +62,5 @@ impl From<EndFault> for EngineFault {
             EndFault::Write => EngineFault::Write,
             EndFault::Memory => EngineFault::Memory,
         }
-    }
-}
-
-impl From<AllocError> for EngineFault {
-    ghost from_gives = { λ _ fault. fault ≡ Memory };
-
-    fn from(_error: AllocError) -> EngineFault {
-        EngineFault::Memory
     }
 }

@@ -25,14 +25,6 @@ pub enum Stop {
 /// The text of an answer, or what stops its command.
 pub type Reply = Result<String, Stop>;
 
-impl From<AllocError> for Stop {
-    ghost from_gives = { λ _ stop. stop ≡ Memory };
-
-    fn from(_error: AllocError) -> Stop {
-        Stop::Memory
-    }
-}
-
 impl From<Refusal> for Stop {
     ghost from_gives = { λ refusal stop. stop ≡ Refused refusal };
 
@@ -41,20 +33,12 @@ impl From<Refusal> for Stop {
     }
 }
 
-impl From<NoMemory> for Stop {
-    ghost from_gives = { λ _ stop. stop ≡ Memory };
-
-    fn from(_error: NoMemory) -> Stop {
-        Stop::Memory
-    }
-}
-
 impl From<TextFault> for Stop {
     ghost from_gives = { λ fault stop. stop ≡ text_stop fault };
 
     fn from(fault: TextFault) -> Stop {
         match fault {
-            TextFault::NoMemory => Stop::from(NoMemory),
+            TextFault::NoMemory => Stop::Memory,
             fault => Stop::Refused(Refusal::Text(fault)),
         }
     }
@@ -65,7 +49,7 @@ impl From<CodeFault> for Stop {
 
     fn from(fault: CodeFault) -> Stop {
         match fault {
-            CodeFault::NoMemory => Stop::from(NoMemory),
+            CodeFault::NoMemory => Stop::Memory,
             fault => Stop::Refused(Refusal::Code(fault)),
         }
     }
@@ -76,7 +60,7 @@ impl From<ScheduleFault> for Stop {
 
     fn from(fault: ScheduleFault) -> Stop {
         match fault {
-            ScheduleFault::NoMemory => Stop::from(NoMemory),
+            ScheduleFault::NoMemory => Stop::Memory,
             fault => Stop::Refused(Refusal::Schedule(fault)),
         }
     }
@@ -88,7 +72,7 @@ impl From<LowerFault> for Stop {
     fn from(fault: LowerFault) -> Stop {
         match fault {
             LowerFault::TooLong => Stop::TooLong,
-            LowerFault::NoMemory => Stop::from(NoMemory),
+            LowerFault::NoMemory => Stop::Memory,
         }
     }
 }
@@ -98,8 +82,24 @@ impl From<RunFault> for Stop {
 
     fn from(fault: RunFault) -> Stop {
         match fault {
+            RunFault::NoMemory => Stop::Memory,
             RunFault::NoThread => Stop::Thread,
-            RunFault::NoMemory => Stop::from(NoMemory),
         }
+    }
+}
+
+impl From<NoMemory> for Stop {
+    ghost from_gives = { λ _ stop. stop ≡ Memory };
+
+    fn from(_error: NoMemory) -> Stop {
+        Stop::Memory
+    }
+}
+
+impl From<AllocError> for Stop {
+    ghost from_gives = { λ _ stop. stop ≡ Memory };
+
+    fn from(_error: AllocError) -> Stop {
+        Stop::Memory
     }
 }

@@ -1,7 +1,9 @@
--- Each input is a text, a program and a code, or it has one refusal as such; it is never both.
+-- Each input is a text, a program and a code, or it has one refusal as such; it is never both (`IsDecided`).
 --
--- The crates below show this of texts that are short. An input that is too long or no UTF-8 is none of the
--- three, and has the refusal of no text, which is found first.
+-- The idea. The crates below show this of texts that are short. An input that is too long or no UTF-8 is none of the
+-- three, and has the refusal of no text, which is found first. So each of the three is decided by cases: of the bytes
+-- (`text_or_none`), then of the text, then of its kinds. The difficulty is only that each case has to be told apart from
+-- all others, in both directions. Read `text_decided` first; `program_decided` and `code_decided` go the same way.
 use Rattle.std.proofs.Common.{◌≡◌, ◌≤◌, ◌∙◌, ◌⊎◌, inl, inr, ℕ, Bool, true, false, List, length, drop, codes, Option, Some, None, Result, Ok, Err, ap, refl, sym, arith, true≢false}
 use Rattle.std.proofs.lemmas.Bool.{cases_Bool}
 use Rattle.std.proofs.lemmas.Bool.Decides.{Decides-eqb, leb_tells}

@@ -30,12 +30,12 @@ kind_name K.Register = codes "Register"
 
 abbrev pub text_line : TextFault → List ℕ
 text_line T.TextTooLong = codes "1 TextTooLong"
-text_line T.NoMemory = []
 text_line (T.BadCharacter place) = with_number (codes "2 BadCharacter") place
 text_line (T.NumberTooBig span) = with_span (codes "3 NumberTooBig") span
 text_line (T.NameTooLong span) = with_span (codes "4 NameTooLong") span
 text_line (T.Unexpected span) = with_span (codes "5 Unexpected") span
 text_line (T.TooDeep span) = with_span (codes "6 TooDeep") span
+text_line T.NoMemory = []
 
 abbrev pub kinds_line : KindFault → List ℕ
 kinds_line (N.Processes span) = with_span (codes "11 Processes") span

@@ -10,14 +10,16 @@ use Rattle.tick_kinds.specs.Refusals.{first_refusal}
 use Rattle.tick_kinds.specs.declared.fault.KindFault.{KindFault}
 use Rattle.language_schedules.specs.Schedule.{schedule_of}
 use Rattle.language_schedules.specs.declared.schedule.ScheduleFault.{ScheduleFault}
-use Rattle.tick_syntax.specs.Nesting.{nesting}
+use Rattle.tick_syntax.specs.Grammar.{nesting}
 use Rattle.base.specs.Plain.{Name, WholeProgram}
 use Rattle.tick_syntax.specs.Refusal.{IsTextRefused}
 use Rattle.tick_syntax.specs.RoundTrip.{IsTextOf}
+use Rattle.tick_syntax.specs.Spelling.{Spells}
 use Rattle.tick_syntax.specs.declared.fault.TextFault.{TextFault}
 use Rattle.tick_syntax.specs.declared.fault.TextFault.TheVariants.{TextTooLong, BadCharacter}
 use Rattle.ticketc_refusals.specs.declared.refusal.Refusal.{Refusal}
 use Rattle.ticketc_refusals.specs.declared.refusal.Refusal.TheVariants.{Text, Kinds, Code, Schedule}
+use Rattle.ticketc_refusals.specs.declared.spelled_program.SpelledProgram.{SpelledProgram}
 
 -- an input that is UTF-8 and not too long
 pub record IsText (input : List ℕ) : Type 0 where
@@ -47,6 +49,10 @@ ProgramIn input program = (is : IsProgram input) × (program ≡ is.program)
 
 abbrev pub CodeIn : List ℕ → StepCode → Type 0
 CodeIn input code = (is : IsCode input) × (code ≡ is.code)
+
+-- the program that an input is, with the tokens that spell the input
+abbrev pub SpelledIn : List ℕ → SpelledProgram → Type 0
+SpelledIn input spelled = ProgramIn input spelled.program × Spells input spelled.tokens.items
 
 -- it is no text: its length is told before its bytes
 pub data IsNoText (input : List ℕ) (refusal : Refusal) : Type 0 where

@@ -1,9 +1,10 @@
 // Which refusal an input has, by the crates that read it.
 ghost use Rattle.std.specs.Prelude.{◌≡◌, ◌≢◌, ◌++◌, ℕ, List, IfOk, MatchOption, MatchResult, codes, true, false};
 ghost use Rattle.language_schedules.specs.Schedule.{schedule_of};
-ghost use Rattle.ticketc_refusals.specs.Refusals.{BeginsCode, CodeIn, IsCode, IsCodeRefused, IsNoText, IsProgram, IsProgramRefused, IsScheduleRefused, ProgramIn, TextIn};
+ghost use Rattle.ticketc_refusals.specs.Refusals.{BeginsCode, CodeIn, IsCode, IsCodeRefused, IsNoText, IsProgram, IsProgramRefused, IsScheduleRefused, ProgramIn, SpelledIn, TextIn};
 
 use crate::refusal::Refusal;
+use crate::spelled_program::SpelledProgram;
 use base::NoMemory;
 use code_core::{Code, CodeFault};
 use code_text::read_code;
@@ -11,7 +12,7 @@ use language_schedules::{ScheduleFault, read_schedule};
 use std::alloc::Global;
 use std::str;
 use tick_kinds::{KindFault, Program, check};
-use tick_syntax::{TextFault, parse};
+use tick_syntax::{TextFault, parse, parse_with_tokens};
 
 /// The longest input that is taken, in bytes.
 const INPUT_LIMIT: usize = 1_000_000;
@@ -26,25 +27,6 @@ pub fn text_of(input: &[u8]) -> Result<&str, Refusal>
     match str::from_utf8(input) {
         Ok(text) => Ok(text),
         Err(error) => Err(Refusal::Text(TextFault::BadCharacter(error.valid_up_to()))),
-    }
-}
-
-// A fault as a refusal, unless memory was refused.
-fn of_text(fault: TextFault) -> Result<Refusal, NoMemory>
-    ensures { IfOk result (λ refusal. (fault ≢ TextFault.NoMemory) × (refusal ≡ Refusal.Text fault)) }
-{
-    match fault {
-        TextFault::NoMemory => Err(NoMemory),
-        fault => Ok(Refusal::Text(fault)),
-    }
-}
-
-fn of_kinds(fault: KindFault) -> Result<Refusal, NoMemory>
-    ensures { IfOk result (λ refusal. (fault ≢ KindFault.NoMemory) × (refusal ≡ Refusal.Kinds fault)) }
-{
-    match fault {
-        KindFault::NoMemory => Err(NoMemory),
-        fault => Ok(Refusal::Kinds(fault)),
     }
 }
 
@@ -66,11 +48,60 @@ pub fn program_in(alloc: Global, input: &[u8]) -> Result<Result<Program, Refusal
     }
 }
 
+/// The accepted program that an input is, with the tokens of its text, or why it is none. Both are of one
+/// reading of the text.
+pub fn program_with_tokens(
+    alloc: Global,
+    input: &[u8],
+) -> Result<Result<SpelledProgram, Refusal>, NoMemory>
+    ensures { IfOk result (λ found. MatchResult found (SpelledIn input.now) (IsProgramRefused input.now)) }
+{
+    let text = match text_of(input) {
+        Ok(text) => text,
+        Err(refusal) => return Ok(Err(refusal)),
+    };
+    let (tree, tokens) = match parse_with_tokens(alloc, text) {
+        Ok(read) => read,
+        Err(fault) => return Ok(Err(of_text(fault)?)),
+    };
+    match check(alloc, tree) {
+        Ok(program) => Ok(Ok(SpelledProgram { program, tokens })),
+        Err((_tree, fault)) => Ok(Err(of_kinds(fault)?)),
+    }
+}
+
 /// Why an input is no accepted program, where it is none.
 pub fn program_refusal(alloc: Global, input: &[u8]) -> Result<Option<Refusal>, NoMemory>
     ensures { IfOk result (λ found. MatchOption found (IsProgram input.now) (IsProgramRefused input.now)) }
 {
     Ok(program_in(alloc, input)?.err())
+}
+
+// A fault as a refusal, unless memory was refused.
+fn of_text(fault: TextFault) -> Result<Refusal, NoMemory>
+    ensures { IfOk result (λ refusal. (fault ≢ TextFault.NoMemory) × (refusal ≡ Refusal.Text fault)) }
+{
+    match fault {
+        TextFault::NoMemory => Err(NoMemory),
+        fault => Ok(Refusal::Text(fault)),
+    }
+}
+
+fn of_kinds(fault: KindFault) -> Result<Refusal, NoMemory>
+    ensures { IfOk result (λ refusal. (fault ≢ KindFault.NoMemory) × (refusal ≡ Refusal.Kinds fault)) }
+{
+    match fault {
+        KindFault::NoMemory => Err(NoMemory),
+        fault => Ok(Refusal::Kinds(fault)),
+    }
+}
+
+/// Whether an input begins as codes do.
+pub fn begins_code(input: &[u8]) -> bool
+    ensures yes { result ≡ true → BeginsCode input.now }
+    ensures no { result ≡ false → BeginsCode input.now → ⊥ }
+{
+    input.starts_with(b"tickcode ")
 }
 
 /// The verified code that an input is, or why it is none.
@@ -87,15 +118,6 @@ pub fn code_in(alloc: Global, input: &[u8]) -> Result<Result<Code, Refusal>, NoM
     }
 }
 
-fn of_code(fault: CodeFault) -> Result<Refusal, NoMemory>
-    ensures { IfOk result (λ refusal. (fault ≢ CodeFault.NoMemory) × (refusal ≡ Refusal.Code fault)) }
-{
-    match fault {
-        CodeFault::NoMemory => Err(NoMemory),
-        fault => Ok(Refusal::Code(fault)),
-    }
-}
-
 /// Why an input is no verified code, where it is none.
 pub fn code_refusal(alloc: Global, input: &[u8]) -> Result<Option<Refusal>, NoMemory>
     ensures { IfOk result (λ found. MatchOption found (IsCode input.now) (IsCodeRefused input.now)) }
@@ -103,20 +125,12 @@ pub fn code_refusal(alloc: Global, input: &[u8]) -> Result<Option<Refusal>, NoMe
     Ok(code_in(alloc, input)?.err())
 }
 
-/// Whether an input begins as codes do.
-pub fn begins_code(input: &[u8]) -> bool
-    ensures yes { result ≡ true → BeginsCode input.now }
-    ensures no { result ≡ false → BeginsCode input.now → ⊥ }
-{
-    input.starts_with(b"tickcode ")
-}
-
-fn of_schedule(fault: ScheduleFault) -> Result<Refusal, NoMemory>
-    ensures { IfOk result (λ refusal. (fault ≢ ScheduleFault.NoMemory) × (refusal ≡ Refusal.Schedule fault)) }
+fn of_code(fault: CodeFault) -> Result<Refusal, NoMemory>
+    ensures { IfOk result (λ refusal. (fault ≢ CodeFault.NoMemory) × (refusal ≡ Refusal.Code fault)) }
 {
     match fault {
-        ScheduleFault::NoMemory => Err(NoMemory),
-        fault => Ok(Refusal::Schedule(fault)),
+        CodeFault::NoMemory => Err(NoMemory),
+        fault => Ok(Refusal::Code(fault)),
     }
 }
 
@@ -127,5 +141,14 @@ pub fn schedule_refusal(alloc: Global, text: &str, n: u8) -> Result<Option<Refus
     match read_schedule(alloc, text, n) {
         Ok(_steps) => Ok(None),
         Err(fault) => Ok(Some(of_schedule(fault)?)),
+    }
+}
+
+fn of_schedule(fault: ScheduleFault) -> Result<Refusal, NoMemory>
+    ensures { IfOk result (λ refusal. (fault ≢ ScheduleFault.NoMemory) × (refusal ≡ Refusal.Schedule fault)) }
+{
+    match fault {
+        ScheduleFault::NoMemory => Err(NoMemory),
+        fault => Ok(Refusal::Schedule(fault)),
     }
 }

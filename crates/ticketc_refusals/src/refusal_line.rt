@@ -33,33 +33,17 @@ fn push_number_and_name(line: &mut String, refusal: Refusal) -> Result<(), Alloc
     }
 }
 
-fn push_with_number(line: &mut String, name: &str, field: usize) -> Result<(), AllocError>
-    ensures { OnOk result (string_bytes line.new ≡ string_bytes line.old ++ with_number name.now field) }
-{
-    line.push_str(name)?;
-    line.push_str(" ")?;
-    push_number(line, field as u64)
-}
-
-fn push_with_span(line: &mut String, name: &str, span: Span) -> Result<(), AllocError>
-    ensures { OnOk result (string_bytes line.new ≡ string_bytes line.old ++ with_span name.now span) }
-{
-    push_with_number(line, name, span.start)?;
-    line.push_str(" ")?;
-    push_number(line, span.end as u64)
-}
-
 fn push_text(line: &mut String, fault: TextFault) -> Result<(), AllocError>
     ensures { OnOk result (string_bytes line.new ≡ string_bytes line.old ++ text_line fault) }
 {
     match fault {
         TextFault::TextTooLong => line.push_str("1 TextTooLong"),
-        TextFault::NoMemory => Ok(()),
         TextFault::BadCharacter(place) => push_with_number(line, "2 BadCharacter", place),
         TextFault::NumberTooBig(span) => push_with_span(line, "3 NumberTooBig", span),
         TextFault::NameTooLong(span) => push_with_span(line, "4 NameTooLong", span),
         TextFault::Unexpected(span) => push_with_span(line, "5 Unexpected", span),
         TextFault::TooDeep(span) => push_with_span(line, "6 TooDeep", span),
+        TextFault::NoMemory => Ok(()),
     }
 }
 
@@ -138,4 +122,20 @@ fn push_schedule(line: &mut String, fault: ScheduleFault) -> Result<(), AllocErr
         ScheduleFault::TooLong => line.push_str("53 TooLong"),
         ScheduleFault::NoMemory => Ok(()),
     }
+}
+
+fn push_with_number(line: &mut String, name: &str, field: usize) -> Result<(), AllocError>
+    ensures { OnOk result (string_bytes line.new ≡ string_bytes line.old ++ with_number name.now field) }
+{
+    line.push_str(name)?;
+    line.push_str(" ")?;
+    push_number(line, field as u64)
+}
+
+fn push_with_span(line: &mut String, name: &str, span: Span) -> Result<(), AllocError>
+    ensures { OnOk result (string_bytes line.new ≡ string_bytes line.old ++ with_span name.now span) }
+{
+    push_with_number(line, name, span.start)?;
+    line.push_str(" ")?;
+    push_number(line, span.end as u64)
 }

@@ -2,7 +2,7 @@
 ghost use Rattle.std.specs.Prelude.{◌≡◌, ◌<◌, All, Err, IfErr, IfOk, Ok, string_bytes};
 ghost use Rattle.language_schedules.specs.Moves.{moves_of as moves_spelled, mover};
 ghost use Rattle.language_schedules.specs.Schedule.{schedule_of as schedule_spelled};
-ghost use Rattle.ticketc_refusals.specs.Refusals.{IsProgram, IsProgramRefused, IsScheduleRefused};
+ghost use Rattle.ticketc_refusals.specs.Refusals.{IsProgram, IsProgramRefused, IsScheduleRefused, SpelledIn};
 ghost use Rattle.ticklab_explain.specs.Reports.{Tells, TellsFor};
 ghost use Rattle.ticklab_answers.specs.Codes.{HasCode, HasNoCode, program_code};
 ghost use Rattle.ticklab_answers.specs.Lines.{spelling_line};
@@ -15,7 +15,7 @@ use language_schedules::{Move, ScheduleFault, read_moves, read_schedule};
 use std::alloc::{AllocError, Global};
 use tick_kinds::Program;
 use tick_lower::{LowerFault, lower};
-use ticketc_refusals::program_in;
+use ticketc_refusals::{SpelledProgram, program_in, program_with_tokens};
 use ticklab_explain::{explain_refusal, explain_schedule};
 
 /// The accepted program that an input is; `name` is that of its file.
@@ -25,6 +25,24 @@ pub fn program_of(alloc: Global, name: &str, input: &[u8]) -> Result<Program, No
 {
     match program_in(alloc, input)? {
         Ok(program) => Ok(program),
+        Err(refusal) => {
+            let report = explain_refusal(alloc, name, input, refusal)?;
+            Err(NoAnswer::Refused(report))
+        }
+    }
+}
+
+/// The accepted program that an input is, with the tokens of its text; `name` is that of its file.
+pub fn spelled_program_of(
+    alloc: Global,
+    name: &str,
+    input: &[u8],
+) -> Result<SpelledProgram, NoAnswer>
+    ensures ok { IfOk result (SpelledIn input.now) }
+    ensures refused { IfErr result (λ stop. IfRefused stop (Tells (IsProgramRefused input.now) name.now input.now)) }
+{
+    match program_with_tokens(alloc, input)? {
+        Ok(spelled) => Ok(spelled),
         Err(refusal) => {
             let report = explain_refusal(alloc, name, input, refusal)?;
             Err(NoAnswer::Refused(report))

@@ -11,19 +11,6 @@ use crate::writing::{Added, push, push_one};
 use base::Act;
 use std::alloc::Global;
 
-const PUT_SQUARE: &str = "<rect class=\"f\" x=\"-7\" y=\"-7\" width=\"14\" height=\"14\"/>";
-
-const GET_SQUARE: &str = "<rect class=\"o\" x=\"-6\" y=\"-6\" width=\"12\" height=\"12\"/>";
-
-// Where words begin.
-const FAR_ABOVE: &str = "<text y=\"-27\"";
-
-const NEAR_ABOVE: &str = "<text y=\"-14\"";
-
-const NEAR_BELOW: &str = "<text y=\"23\"";
-
-const FAR_BELOW: &str = "<text y=\"36\"";
-
 /// What stands in a lane for a mark, as the legend has it.
 #[derive(Clone, Copy)]
 pub enum Shape {
@@ -91,8 +78,14 @@ fn push_outline(out: &mut Vec<u8>, shape: Shape, letters: usize) -> Added
     ensures { OnOk result (out.new.items ≡ out.old.items ++ outline shape letters) }
 {
     match shape {
-        Shape::Put => push(out, PUT_SQUARE),
-        Shape::Get => push(out, GET_SQUARE),
+        Shape::Put => push(
+            out,
+            "<rect class=\"f\" x=\"-7\" y=\"-7\" width=\"14\" height=\"14\"/>",
+        ),
+        Shape::Get => push(
+            out,
+            "<rect class=\"o\" x=\"-6\" y=\"-6\" width=\"12\" height=\"12\"/>",
+        ),
         Shape::Stamp => push_field(out, field_half(letters)),
         Shape::Clear => push(
             out,
@@ -155,13 +148,21 @@ fn push_words(out: &mut Vec<u8>, shape: Shape, far: bool, words: &[u8]) -> Added
 fn above(far: bool) -> &'static str
     ensures { result.now ≡ above far }
 {
-    if far { FAR_ABOVE } else { NEAR_ABOVE }
+    if far {
+        "<text y=\"-27\""
+    } else {
+        "<text y=\"-14\""
+    }
 }
 
 fn below(far: bool) -> &'static str
     ensures { result.now ≡ below far }
 {
-    if far { FAR_BELOW } else { NEAR_BELOW }
+    if far {
+        "<text y=\"36\""
+    } else {
+        "<text y=\"23\""
+    }
 }
 
 #[tactic(auto, unfolding(crate::specs::Shapes::label))]

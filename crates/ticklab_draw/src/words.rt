@@ -109,18 +109,11 @@ fn push_gets(out: &mut Vec<u8>, registers: &[Named], row: u8, index: u8, value: 
     push_read(out, registers, row, index, value)
 }
 
-fn push_given(out: &mut Vec<u8>, value: u32) -> Added
-    ensures { OnOk result (out.new.items ≡ out.old.items ++ codes "gives out " ++ decimal value) }
+fn push_scanned(out: &mut Vec<u8>, n: u8, ranks: &[u8]) -> Added
+    ensures { OnOk result (out.new.items ≡ out.old.items ++ codes "scans: ranks" ++ spaced (map decimal (take n ranks.now))) }
 {
-    push(out, "gives out ")?;
-    push_number(out, u64::from(value))
-}
-
-fn push_trap(out: &mut Vec<u8>, trap: Trap) -> Added
-    ensures { OnOk result (out.new.items ≡ out.old.items ++ codes "traps: " ++ trap_text trap) }
-{
-    push(out, "traps: ")?;
-    push(out, trap_name(trap))
+    push(out, "scans: ranks")?;
+    push_ranks(out, n, ranks)
 }
 
 fn push_asked(out: &mut Vec<u8>, i: u8, j: u8, answer: u8) -> Added
@@ -134,13 +127,6 @@ fn push_asked(out: &mut Vec<u8>, i: u8, j: u8, answer: u8) -> Added
     push_answer(out, answer)
 }
 
-fn push_scanned(out: &mut Vec<u8>, n: u8, ranks: &[u8]) -> Added
-    ensures { OnOk result (out.new.items ≡ out.old.items ++ codes "scans: ranks" ++ spaced (map decimal (take n ranks.now))) }
-{
-    push(out, "scans: ranks")?;
-    push_ranks(out, n, ranks)
-}
-
 fn push_asked_held(out: &mut Vec<u8>, index: u8, answer: u8) -> Added
     ensures { OnOk result (out.new.items ≡ out.old.items ++ codes "asks whether " ++ decimal index ++ codes " holds a ticket: " ++ answer_text answer) }
 {
@@ -148,6 +134,20 @@ fn push_asked_held(out: &mut Vec<u8>, index: u8, answer: u8) -> Added
     push_number(out, u64::from(index))?;
     push(out, " holds a ticket: ")?;
     push_answer(out, answer)
+}
+
+fn push_given(out: &mut Vec<u8>, value: u32) -> Added
+    ensures { OnOk result (out.new.items ≡ out.old.items ++ codes "gives out " ++ decimal value) }
+{
+    push(out, "gives out ")?;
+    push_number(out, u64::from(value))
+}
+
+fn push_trap(out: &mut Vec<u8>, trap: Trap) -> Added
+    ensures { OnOk result (out.new.items ≡ out.old.items ++ codes "traps: " ++ trap_text trap) }
+{
+    push(out, "traps: ")?;
+    push(out, trap_name(trap))
 }
 
 /// Yes or no.

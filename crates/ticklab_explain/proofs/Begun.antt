@@ -3,7 +3,7 @@ use Rattle.std.proofs.Common.{◌≡◌, ◌≢◌, ◌≤◌, ◌⊎◌, ◌==�
 use Rattle.std.proofs.lemmas.Bool.{eqb-true, eqb-false}
 use Rattle.base.specs.Plain.{Name, WholeProgram, nowhere}
 use Rattle.base.specs.declared.span.Span.{Span}
-use Rattle.tick_syntax.specs.Nesting.{nesting}
+use Rattle.tick_syntax.specs.Grammar.{nesting}
 use Rattle.tick_syntax.specs.Refusal.{IsTextRefused}
 use Rattle.tick_syntax.specs.RoundTrip.{IsTextOf}
 use Rattle.tick_syntax.specs.declared.fault.TextFault.{TextFault}

@@ -3,3 +3,4 @@ pub mod Begun
 pub mod Fitting
 pub mod Utf8
 pub mod Backwards
+pub mod Tails

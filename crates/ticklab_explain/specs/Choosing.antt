@@ -1,8 +1,7 @@
 -- Which hint is told: that of the first rule that fits.
 use Rattle.std.specs.Prelude.{ℕ, ◌==◌, nat_eq, Bool, true, false, not, ◌&&◌, ◌||◌, List, [], ◌∷◌, codes, length, Option, Some, None, is_some, is_none, slice_index, if◌then◌else◌}
 use Rattle.std.specs.List.{list_any, starts_with, ends_with}
-use Rattle.std.specs.Option.{option_map_or, option_or}
-use Rattle.std.specs.Str.{bytes_eq}
+use Rattle.std.specs.Option.{option_or}
 use Rattle.code_core.specs.declared.fault.CodeFault.{CodeFault}
 use Rattle.code_core.specs.declared.fault.CodeFault.TheVariants as C
 use Rattle.tick_kinds.specs.declared.fault.KindFault.{KindFault}
@@ -13,36 +12,26 @@ use Rattle.language_schedules.specs.declared.schedule.ScheduleFault.{ScheduleFau
 use Rattle.language_schedules.specs.declared.schedule.ScheduleFault.TheVariants as S
 use Rattle.tick_syntax.specs.declared.fault.TextFault.{TextFault}
 use Rattle.tick_syntax.specs.declared.fault.TextFault.TheVariants as T
-use Rattle.ticklab_explain.specs.Following.{is_one_of, sample}
+use Rattle.ticklab_explain.specs.BlockSlips.{block_slip, body_slip}
+use Rattle.ticklab_explain.specs.CallSlips.{call_slip}
+use Rattle.ticklab_explain.specs.DeclarationSlips.{declaration_slip}
+use Rattle.ticklab_explain.specs.Following.{is_one_of}
 use Rattle.ticklab_explain.specs.Hints.{first_declaration, is_section}
-use Rattle.ticklab_explain.specs.Settings.{Setting, about, after, before, has_begun, here, is_name, is_keyword, open_brace, shortened, sort_here, touches}
+use Rattle.ticklab_explain.specs.OperandSlips.{operand_slip}
+use Rattle.ticklab_explain.specs.Parts.{has}
+use Rattle.ticklab_explain.specs.Rules.{first_that_fits, is, is_keyword_here, is_name_before, is_name_here, wants}
+use Rattle.ticklab_explain.specs.StatementSlips.{other_slip, statement_slip}
+use Rattle.ticklab_explain.specs.Settings.{Setting, about, after, before, has_begun, here, shortened, sort_here, touches}
 use Rattle.ticklab_explain.specs.declared.advice.Advice.TheVariants as A
 use Rattle.ticklab_explain.specs.declared.hint.Hint.{Hint}
-use Rattle.ticklab_explain.specs.declared.hint.Hint.TheVariants.{Fixed, Naming, Quoting}
+use Rattle.ticklab_explain.specs.declared.hint.Hint.TheVariants.{Fixed, Naming, Quoting, Rewriting}
 use Rattle.ticklab_explain.specs.declared.name_hint.NameHint.TheVariants as H
+use Rattle.ticklab_explain.specs.declared.part.Part.TheVariants as P
 use Rattle.ticklab_explain.specs.declared.quote.Quote.TheVariants as W
+use Rattle.ticklab_explain.specs.declared.rewrite.Rewrite.TheVariants as R
 use Rattle.ticketc_refusals.specs.declared.refusal.Refusal.{Refusal}
 use Rattle.ticketc_refusals.specs.declared.refusal.Refusal.TheVariants.{Text, Kinds, Code, Schedule}
 use Rattle.ticklab_explain.specs.declared.wanted.Wanted.{Wanted}
-
--- of rules, which are whether they fit and a hint, the first that fits
-abbrev pub first_that_fits : List (Bool × Hint) → Option Hint
-first_that_fits [] = None
-first_that_fits (rule ∷ rules) = if rule.0 then Some rule.1 else first_that_fits rules
-
--- the word is this
-abbrev pub is : List ℕ → List ℕ → Bool
-is word other = bytes_eq word other
-
--- a token is wanted that is told by this sample
-abbrev pub wants : List Wanted → List ℕ → Bool
-wants wanted word = list_any (λ one. bytes_eq (sample one) word) wanted
-
-unfoldable pub is_name_here : Setting → Bool
-is_name_here s = option_map_or is_name (sort_here s) false
-
-unfoldable pub is_keyword_here : Setting → Bool
-is_keyword_here s = option_map_or is_keyword (sort_here s) false
 
 -- of the text as a whole
 unfoldable pub whole_slip : Setting → List Wanted → Option Hint
@@ -50,15 +39,7 @@ whole_slip s wanted = first_that_fits (
     (length s.tokens == 0, Fixed A.EmptyText)
     ∷ ((s.at == 0) && is (here s) (codes "tickcode"), Fixed A.CodeText)
     ∷ (is (before s 1) (codes "end"), Fixed A.NothingFollows)
-    ∷ (is_none (sort_here s) && wants wanted (codes "end"), Fixed A.EndIsMissing)
-    ∷ [])
-
--- of blocks
-unfoldable pub block_slip : Setting → List Wanted → Option Hint
-block_slip s wanted = first_that_fits (
-    (is_some (open_brace s) && ((is_none (sort_here s) || is (here s) (codes "end")) && wants wanted (codes "}")), Quoting W.BraceIsOpen)
-    ∷ (is (here s) (codes "if") && is (before s 1) (codes "else"), Fixed A.NoElseIf)
-    ∷ (wants wanted (codes "else"), Fixed A.ElseIsMissing)
+    ∷ (is_none (sort_here s) && (wants wanted (codes "end") || wants wanted (codes "=")), Fixed A.EndIsMissing)
     ∷ [])
 
 -- of words that other languages have
@@ -70,6 +51,7 @@ foreign_slip s = first_that_fits (
     ∷ (is (here s) (codes "const"), Fixed A.NoConstants)
     ∷ (is (here s) (codes "and"), Fixed A.NoAnd)
     ∷ (is (here s) (codes "or"), Fixed A.NoOr)
+    ∷ (is (here s) (codes "mod"), Fixed A.RemainderSign)
     ∷ [])
 
 -- the keywords that give a value, in a statement of their own
@@ -87,9 +69,7 @@ keyword_slip s wanted = first_that_fits (
 -- of what the place wants first
 unfoldable pub place_slip : Setting → List Wanted → Option Hint
 place_slip s wanted = first_that_fits (
-    (wants wanted (codes "x") && is (before s 1) (codes "older"), Fixed A.OlderWantsScan)
-    ∷ (wants wanted (codes "x") && is (before s 1) (codes "held"), Fixed A.HeldWantsScan)
-    ∷ (wants wanted (codes "me") && is (before s 2) (codes "get"), Quoting W.GetWantsProcess)
+    (wants wanted (codes "me") && is (before s 2) (codes "get"), Quoting W.GetWantsProcess)
     ∷ (wants wanted (codes "begin") && is_section (here s), Fixed A.SectionOrder)
     ∷ (wants wanted (codes "begin"), Fixed A.BeginIsMissing)
     ∷ [])
@@ -103,55 +83,80 @@ begins_comment s =
 abbrev pub arithmetic : List (List ℕ)
 arithmetic = codes "+" ∷ codes "-" ∷ codes "*" ∷ codes "/" ∷ codes "%" ∷ []
 
-abbrev pub operators : List (List ℕ)
-operators =
-    codes "+" ∷ codes "-" ∷ codes "*" ∷ codes "/" ∷ codes "%" ∷ codes "<" ∷ codes "<=" ∷ codes "==" ∷ codes "!=" ∷ []
-
 -- of equals signs and operators
 unfoldable pub operator_slip : Setting → List Wanted → Option Hint
 operator_slip s wanted = first_that_fits (
     (begins_comment s, Fixed A.CommentSign)
     ∷ (is (here s) (codes "==") && wants wanted (codes "="), Fixed A.OneEqualsAssigns)
     ∷ (is (here s) (codes "=") && wants wanted (codes "+"), Fixed A.TwoEqualsCompare)
-    ∷ (is_one_of (here s) arithmetic && (wants wanted (codes "=") && is (after s 1) (codes "=")), Quoting W.AssignedInPlace)
+    ∷ (is_one_of (here s) arithmetic && (wants wanted (codes "=") && (is (after s 1) (codes "=") && has s (P.OperandAfter 2))), Rewriting R.AssignedInPlace)
     ∷ (is (here s) (codes "-") && (wants wanted (codes "get") || wants wanted (codes "me")), Fixed A.NoNegatives)
-    ∷ (is_one_of (here s) operators && wants wanted (codes ")"), Quoting W.OneOperator)
-    ∷ (is_one_of (here s) operators && (wants wanted (codes ";") || wants wanted (codes "{")), Quoting W.OwnBrackets)
     ∷ [])
 
--- of other signs, and of an operand more than the statement has
+-- of other signs
 unfoldable pub sign_slip : Setting → List Wanted → Option Hint
 sign_slip s wanted = first_that_fits (
     (is (here s) (codes ";") && (wants wanted (codes "stamp") && is (before s 1) (codes "}")), Fixed A.NoSemicolonAfterBlock)
     ∷ (is (here s) (codes ";") && wants wanted (codes "stamp"), Fixed A.NoEmptyStatement)
     ∷ (is (here s) (codes ";") && (wants wanted (codes "x") && not (has_begun s)), Fixed A.NoEmptySection)
     ∷ (is (here s) (codes ",") && wants wanted (codes ";"), Fixed A.SemicolonForComma)
-    ∷ (wants wanted (codes ";") && (is (before s 3) (codes "put") && is (after s 1) (codes ";")), Quoting W.OwnRegister)
     ∷ [])
 
--- of a `;` that was left out
+-- of a letter in a number, and of a `;` that was left out
 unfoldable pub missing_slip : Setting → List Wanted → Option Hint
 missing_slip s wanted = first_that_fits (
-    (wants wanted (codes ";") && (is_none (sort_here s) || (is_name_here s || (is_keyword_here s || is (here s) (codes "}")))), Quoting W.SemicolonIsMissing)
+    (wants wanted (codes ";") && (is_name_here s && (touches s && not (is (before s 1) (codes ")")))), Fixed A.DecimalDigits)
+    ∷ (wants wanted (codes ";") && (is_none (sort_here s) || (is_name_here s || (is_keyword_here s || is (here s) (codes "}")))), Quoting W.SemicolonIsMissing)
     ∷ [])
 
--- where no program goes on: of the text as a whole, of words, of signs, of a semicolon
+-- Where no program goes on. First come slips that show in the text as a whole and in words, then those in
+-- operands and signs, and last what is told of any word that begins a statement.
+unfoldable pub word_hint : Setting → List Wanted → Option Hint
+word_hint s wanted =
+    option_or (foreign_slip s) (option_or (body_slip s wanted) (option_or (call_slip s wanted)
+    (option_or (keyword_slip s wanted) (option_or (declaration_slip s wanted) (place_slip s wanted)))))
+
+unfoldable pub sign_hint : Setting → List Wanted → Option Hint
+sign_hint s wanted =
+    option_or (operator_slip s wanted) (option_or (operand_slip s wanted) (option_or (sign_slip s wanted)
+    (option_or (statement_slip s wanted) (option_or (missing_slip s wanted) (other_slip s wanted)))))
+
 unfoldable pub slip : Setting → List Wanted → Option Hint
 slip s wanted =
-    option_or (whole_slip s wanted) (option_or (block_slip s wanted) (option_or (foreign_slip s)
-    (option_or (keyword_slip s wanted) (option_or (place_slip s wanted) (option_or (operator_slip s wanted)
-    (option_or (sign_slip s wanted) (missing_slip s wanted)))))))
+    option_or (whole_slip s wanted) (option_or (block_slip s wanted) (option_or (word_hint s wanted) (sign_hint s wanted)))
 
--- signs between two operands, before one, and of a register
+-- signs between two operands, and before one
 unfoldable pub compared_slip : Setting → Option Hint
 compared_slip s = first_that_fits (
-    (is (about s) (codes ">") && (slice_index s.text s.span.end == 61), Quoting W.AtLeast)
+    (is (about s) (codes ">") && is (before s 1) (codes "<"), Fixed A.DiffersSign)
+    ∷ (is (about s) (codes ">") && (slice_index s.text s.span.end == 61), Quoting W.AtLeast)
     ∷ (is (about s) (codes ">"), Quoting W.Greater)
     ∷ (is (about s) ((226 ∷ 137 ∷ 165 ∷ [])), Quoting W.AtLeastSign)
     ∷ (is (about s) (codes "&"), Quoting W.Both)
     ∷ (is (about s) (codes "|"), Quoting W.Either)
     ∷ (is (about s) (codes "!"), Quoting W.NotSign)
+    ∷ [])
+
+-- a number in brackets after a name
+unfoldable pub index_slip : Setting → Option Hint
+index_slip s = first_that_fits (
+    (is (about s) (codes "[") && (not (has_begun s) && is_name_before s 1), Rewriting R.Sized)
+    ∷ (is (about s) (codes "[") && (is (before s 2) (codes "put") && is_name_before s 1), Rewriting R.PutOwn)
+    ∷ (is (about s) (codes "[") && (is_one_of (before s 2) (codes ";" ∷ codes "begin" ∷ codes "{" ∷ codes "}" ∷ []) && is_name_before s 1), Rewriting R.PutOwn)
+    ∷ (is (about s) (codes "[") && (is (before s 2) (codes "get") && is_name_before s 1), Rewriting R.GetIndexed)
     ∷ (is (about s) (codes "["), Quoting W.Indexed)
+    ∷ [])
+
+-- a colon, and a point
+unfoldable pub point_slip : Setting → Option Hint
+point_slip s = first_that_fits (
+    (is (about s) (codes ":") && (slice_index s.text s.span.end == 61), Fixed A.Assigns)
+    ∷ (is (about s) (codes ":") && is (before s 1) (codes "processes"), Fixed A.ProgramBegins)
+    ∷ (is (about s) (codes ":") && not (has_begun s), Fixed A.NoTypes)
+    ∷ (is (about s) (codes ":"), Fixed A.BlockInBraces)
+    ∷ (is (about s) (codes ".") && is (before s 1) (codes "end"), Fixed A.NothingFollows)
+    ∷ (is (about s) (codes ".") && (is (before s 4) (codes "for") && is_name_before s 3), Rewriting R.ForRange)
+    ∷ (is (about s) (codes "."), Fixed A.NoDot)
     ∷ [])
 
 -- the text begins with these two bytes
@@ -166,14 +171,14 @@ other_sign_slip s = first_that_fits (
     ∷ (is_one_of (about s) ((195 ∷ 151 ∷ []) ∷ (194 ∷ 183 ∷ []) ∷ []), Fixed A.TimesSign)
     ∷ (is (about s) ((195 ∷ 183 ∷ [])), Fixed A.DividesSign)
     ∷ (is_one_of (about s) ((226 ∷ 136 ∷ 146 ∷ []) ∷ (226 ∷ 128 ∷ 147 ∷ []) ∷ []), Fixed A.MinusSign)
-    ∷ (is (about s) (codes ":"), Fixed A.Assigns)
     ∷ (is (about s) (239 ∷ 187 ∷ 191 ∷ []), Fixed A.ByteOrderMark)
     ∷ (begins_with s 255 254 || begins_with s 254 255, Fixed A.Utf16)
     ∷ [])
 
 -- of a character that begins no token
 unfoldable pub character_slip : Setting → Option Hint
-character_slip s = option_or (compared_slip s) (other_sign_slip s)
+character_slip s =
+    option_or (compared_slip s) (option_or (index_slip s) (option_or (point_slip s) (other_sign_slip s)))
 
 abbrev pub text_hint : Setting → List Wanted → TextFault → Option Hint
 text_hint s wanted T.TextTooLong = None
@@ -198,13 +203,37 @@ register_slip s = first_that_fits (
     ∷ (true, Naming H.ReadByGet)
     ∷ [])
 
+-- of a scan in the place of a variable
+unfoldable pub scan_slip : Setting → Option Hint
+scan_slip s = first_that_fits (
+    (is (after s 1) (codes "="), Rewriting R.ScanTarget)
+    ∷ (true, Fixed A.LookAtScan)
+    ∷ [])
+
+-- of another name in the place of a scan
+unfoldable pub no_scan_slip : Setting → Option Hint
+no_scan_slip s = first_that_fits (
+    (is (after s 1) (codes "="), Fixed A.IntoScan)
+    ∷ (true, Fixed A.ScanFirst)
+    ∷ [])
+
+-- of a variable in the place of a register
+unfoldable pub variable_slip : Setting → Option Hint
+variable_slip s = first_that_fits (
+    (is (before s 1) (codes "put") && has s (P.OperandAfter 1), Rewriting R.AssignedVariable)
+    ∷ (is (before s 1) (codes "get") && is (before s 2) (codes "="), Rewriting R.ReadVariable)
+    ∷ (true, Fixed A.GetAndPut)
+    ∷ [])
+
 -- where the first kind is wanted, and the second found
 abbrev pub kind_slip : Setting → Kind → Kind → Option Hint
 kind_slip s K.Variable K.Register = register_slip s
 kind_slip s K.Variable K.Variable = Some (Fixed A.LookAtScan)
-kind_slip s K.Variable K.Scan = Some (Fixed A.LookAtScan)
-kind_slip s K.Scan found = Some (Fixed A.ScanFirst)
-kind_slip s K.Register found = Some (Fixed A.GetAndPut)
+kind_slip s K.Variable K.Scan = scan_slip s
+kind_slip s K.Scan found = no_scan_slip s
+kind_slip s K.Register K.Variable = variable_slip s
+kind_slip s K.Register K.Scan = Some (Fixed A.GetAndPut)
+kind_slip s K.Register K.Register = Some (Fixed A.GetAndPut)
 
 unfoldable pub twice_slip : Setting → Option Hint
 twice_slip s = first_that_fits ((is_some (first_declaration s), Quoting W.DeclaredFirst) ∷ [])
@@ -230,19 +259,19 @@ code_hint (C.BadStamp place) = None
 code_hint C.NoMemory = None
 
 -- a byte of the item, its begin and its end
-abbrev pub has : List ℕ → ℕ → Bool
-has item byte = list_any (λ one. one == byte) item
+abbrev pub contains : List ℕ → ℕ → Bool
+contains item byte = list_any (λ one. one == byte) item
 
 unfoldable pub item_slip : List ℕ → Option Hint
 item_slip item = first_that_fits (
-    (has item 40 || has item 41, Fixed A.NoGroups)
-    ∷ (has item 44 || has item 59, Fixed A.Blanks)
+    (contains item 40 || contains item 41, Fixed A.NoGroups)
+    ∷ (contains item 44 || contains item 59, Fixed A.Blanks)
     ∷ (starts_with nat_eq item (codes "#"), Fixed A.NoComments)
     ∷ (starts_with nat_eq item (codes "-"), Fixed A.CountedFromZero)
     ∷ (starts_with nat_eq item (codes "c"), Fixed A.NoClears)
     ∷ (starts_with nat_eq item (codes "*") || ends_with nat_eq item (codes "*"), Fixed A.NoBlankAtStar)
     ∷ (ends_with nat_eq item (codes "*0"), Fixed A.OneStepAtLeast)
-    ∷ (has item 120, Fixed A.StarRepeats)
+    ∷ (contains item 120, Fixed A.StarRepeats)
     ∷ (true, Fixed A.OnlyDigits)
     ∷ [])
 

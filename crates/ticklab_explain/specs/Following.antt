@@ -48,12 +48,12 @@ is_at_end NoMemory length = false
 abbrev pub sample : Wanted → List ℕ
 sample Statement = codes "stamp"
 sample Value = codes "get"
-sample (Word terminal) = spelling terminal
 sample Expression = codes "me"
 sample Operator = codes "+"
 sample AName = codes "x"
 sample Number = codes "0"
 sample TextEnd = []
+sample (Word terminal) = spelling terminal
 
 -- after this text, which is UTF-8, the token may stand on a new line
 abbrev pub MayFollow : List ℕ → Wanted → Type 0

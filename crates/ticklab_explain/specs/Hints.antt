@@ -4,14 +4,16 @@ use Rattle.std.specs.Fmt.{decimal}
 use Rattle.std.specs.Str.{bytes_eq}
 use Rattle.base.specs.declared.span.Span.{Span}
 use Rattle.tick_syntax.specs.declared.token.Token.{Token}
-use Rattle.ticklab_explain.specs.Pieces.{joined}
+use Rattle.ticklab_explain.specs.Parts.{quoted}
+use Rattle.ticklab_explain.specs.Pieces.{joined, or_else}
+use Rattle.ticklab_explain.specs.Rewrites.{rewrite_text}
 use Rattle.ticklab_explain.specs.Settings.{Setting, about, after, before, front_end, here, is_name, open_brace, text_at}
 use Rattle.ticklab_explain.specs.declared.advice.Advice.{Advice}
 use Rattle.ticklab_explain.specs.declared.advice.Advice.TheVariants as A
 use Rattle.ticklab_explain.specs.declared.name_hint.NameHint.{NameHint}
 use Rattle.ticklab_explain.specs.declared.name_hint.NameHint.TheVariants as N
 use Rattle.ticklab_explain.specs.declared.hint.Hint.{Hint}
-use Rattle.ticklab_explain.specs.declared.hint.Hint.TheVariants.{Fixed, Naming, Quoting}
+use Rattle.ticklab_explain.specs.declared.hint.Hint.TheVariants.{Fixed, Naming, Quoting, Rewriting}
 use Rattle.ticklab_explain.specs.declared.quote.Quote.{Quote}
 use Rattle.ticklab_explain.specs.declared.quote.Quote.TheVariants as W
 use Rattle.ticklab_explain.specs.declared.piece.Piece.{Piece}
@@ -22,13 +24,13 @@ abbrev pub at_least_sign : List ℕ
 at_least_sign = 226 ∷ 137 ∷ 165 ∷ []
 
 unfoldable pub advice_text : Advice → List ℕ
+advice_text A.GreatestNumber = codes "the greatest number is 4294967295"
+advice_text A.LongestName = codes "a name has at most 64 bytes"
+advice_text A.DeepestBracket = codes "at most 64 are: give a part its own statement"
 advice_text A.FirstLine =
     codes "it is `tickcode 2 P V S R`, with the numbers of processes, variables, scans and registers"
 advice_text A.InstructionLine =
     codes "it is a name, and numbers after one space each, as `Push 5`; the last line ends too"
-advice_text A.GreatestNumber = codes "the greatest number is 4294967295"
-advice_text A.LongestName = codes "a name has at most 64 bytes"
-advice_text A.DeepestBracket = codes "at most 64 are: give a part its own statement"
 advice_text A.NoGroups = codes "there are no groups: write each item out"
 advice_text A.Blanks = codes "items are separated by blanks"
 advice_text A.NoComments = codes "a schedule has no comments"
@@ -76,10 +78,30 @@ advice_text A.NoEmptyStatement = codes "there is no empty statement"
 advice_text A.NoEmptySection = codes "a section without names is left out"
 advice_text A.SemicolonForComma = codes "write `;` in place of `,`"
 advice_text A.NoNegatives = codes "there are no negative numbers: they are 0 to 4294967295"
-
--- another word where there is none
-unfoldable pub or_else : List ℕ → List ℕ → List ℕ
-or_else word other = if length word == 0 then other else word
+advice_text A.OneInBrackets = codes "one operator in a pair of brackets"
+advice_text A.OwnPair = codes "an operation has brackets of its own"
+advice_text A.OneAssignment = codes "a statement has one `=`"
+advice_text A.NoFor = codes "there is no `for`: write `i = 0; while (i < n) { i = (i + 1); }`"
+advice_text A.LoopEnds = codes "a loop ends when its test is 0: let the test look at a variable"
+advice_text A.ProcessEnds = codes "a process ends after its last statement"
+advice_text A.DeclareBefore = codes "names are declared before `begin`"
+advice_text A.BeginsStatement = codes "a statement begins with a name and `=`, or with `put`, `stamp`, `clear`, `out`, `if` or `while`"
+advice_text A.NoFreeBlock = codes "a block stands after the test of an `if` or a `while`, and after `else`"
+advice_text A.NothingToClose = codes "this `}` closes nothing"
+advice_text A.ElseAlone = codes "`else` stands after the block of an `if`"
+advice_text A.BlockInBraces = codes "a block stands in braces"
+advice_text A.NoCommas = codes "operands stand side by side, without commas"
+advice_text A.AllBeginAsZero = codes "no name has a first value: all begin as 0"
+advice_text A.NoLastComma = codes "no `,` stands after the last name"
+advice_text A.SectionWords = codes "names are declared by `var`, `scan` and `reg`"
+advice_text A.NameBegins = codes "a name begins with a letter or `_`"
+advice_text A.NameLetters = codes "a name is made of letters, digits and `_`"
+advice_text A.ProgramBegins = codes "a program begins with `processes 2;`"
+advice_text A.NoTypes = codes "names have no types"
+advice_text A.NoDot = codes "there are neither fractions nor ranges: `.` stands in comments alone"
+advice_text A.DecimalDigits = codes "numbers are written in digits `0` to `9`"
+advice_text A.RemainderSign = codes "`%` is the remainder"
+advice_text A.IntoScan = codes "`scan` and `copy` give to a name that `scan` declares"
 
 -- the first name that is written so
 abbrev pub first_written : List ℕ → List ℕ → List Token → Option Span
@@ -97,12 +119,13 @@ meaning keyword =
     else if bytes_eq keyword (codes "me") then codes ", the number of the process itself"
     else []
 
--- a statement of a keyword that gives a value
+-- a statement of a keyword that has operands, or gives a scan
 unfoldable pub statement_of : List ℕ → List ℕ
 statement_of keyword =
     if bytes_eq keyword (codes "older") then codes "x = older s 0 1;"
     else if bytes_eq keyword (codes "held") then codes "x = held s 0;"
     else if bytes_eq keyword (codes "get") then codes "x = get r me;"
+    else if bytes_eq keyword (codes "put") then codes "put r 1;"
     else if bytes_eq keyword (codes "scan") then codes "s = scan;"
     else codes "t = copy s;"
 
@@ -145,6 +168,8 @@ piece_text s (Q.Left other) = or_else s.left other.now
 piece_text s (Q.Right other) = or_else s.right other.now
 piece_text s Q.Meaning = meaning (here s)
 piece_text s Q.Statement = statement_of (here s)
+piece_text s Q.StatementBefore = statement_of (before s 1)
+piece_text s (Q.Tokens part) = quoted s part
 
 -- those that quote names
 abbrev pub name_hint_text : Setting → NameHint → List ℕ
@@ -172,18 +197,15 @@ quote_text s W.NotWord = joined (codes "there is no `not`: write `(" ∷ here s 
 quote_text s W.Await =
     joined (codes "there is no `await`: wait in a loop, `while (" ∷ here s ∷ codes " == 0) { " ∷ here s ∷ codes " = get r e; }`" ∷ [])
 quote_text s W.Keyword = joined (codes "`" ∷ here s ∷ codes "` is a keyword" ∷ meaning (here s) ∷ codes ": choose another name" ∷ [])
+quote_text s W.KeywordBefore = joined (codes "`" ∷ before s 1 ∷ codes "` is a keyword: choose another name" ∷ [])
 quote_text s W.NoValue = joined (codes "`" ∷ here s ∷ codes "` gives no value: write `" ∷ here s ∷ codes ";`" ∷ [])
 quote_text s W.OwnStatement =
     joined (codes "`" ∷ here s ∷ codes "` is a statement of its own: `" ∷ statement_of (here s) ∷ codes "`" ∷ [])
 quote_text s W.GetWantsProcess =
     joined (codes "`get " ∷ before s 1 ∷ codes "` wants the process whose register is read: `get " ∷ before s 1 ∷ codes " me`" ∷ [])
-quote_text s W.AssignedInPlace =
-    joined (codes "write `" ∷ before s 1 ∷ codes " = (" ∷ before s 1 ∷ codes " " ∷ here s ∷ codes " " ∷ after s 2 ∷ codes ");`" ∷ [])
-quote_text s W.OneOperator =
-    joined (codes "one operator in a pair of brackets: `((" ∷ before s 3 ∷ codes " " ∷ before s 2 ∷ codes " " ∷ before s 1 ∷ codes ") " ∷ here s ∷ codes " " ∷ after s 1 ∷ codes ")`" ∷ [])
-quote_text s W.OwnBrackets =
-    joined (codes "an operation has brackets of its own: `(" ∷ before s 1 ∷ codes " " ∷ here s ∷ codes " " ∷ after s 1 ∷ codes ")`" ∷ [])
-quote_text s W.OwnRegister = joined (codes "a process writes its own register only: `put " ∷ before s 2 ∷ codes " " ∷ here s ∷ codes ";`" ∷ [])
+quote_text s W.NoThen = joined (codes "there is no `" ∷ here s ∷ codes "`: a block begins with `{`" ∷ [])
+quote_text s W.NoCall = joined (codes "operands stand without brackets and commas: `" ∷ statement_of (before s 1) ∷ codes "`" ∷ [])
+quote_text s W.NoFunctions = joined (codes "`" ∷ before s 1 ∷ codes "` can't be called: there are no functions" ∷ [])
 quote_text s W.DeclaredFirst = joined (codes "`" ∷ about s ∷ codes "` was declared here first" ∷ [])
 quote_text s W.BraceIsOpen = codes "this `{` is not closed"
 quote_text s W.SemicolonIsMissing = joined (codes "a `;` is missing after `" ∷ before s 1 ∷ codes "`" ∷ [])
@@ -199,9 +221,11 @@ abbrev pub hint_text : Setting → Hint → List ℕ
 hint_text s (Fixed advice) = advice_text advice
 hint_text s (Naming hint) = name_hint_text s hint
 hint_text s (Quoting quote) = quote_text s quote
+hint_text s (Rewriting rewrite) = rewrite_text s rewrite
 
 -- the other place that a hint speaks of
 abbrev pub hint_span : Setting → Hint → Option Span
 hint_span s (Fixed advice) = None
 hint_span s (Naming hint) = None
 hint_span s (Quoting quote) = quote_span s quote
+hint_span s (Rewriting rewrite) = None

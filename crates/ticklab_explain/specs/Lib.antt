@@ -3,8 +3,17 @@ pub mod Spots
 pub mod Pictures
 pub mod Pieces
 pub mod Settings
+pub mod Parts
+pub mod Rewrites
 pub mod Following
 pub mod Hints
+pub mod Rules
+pub mod BlockSlips
+pub mod CallSlips
+pub mod DeclarationSlips
+pub mod OperandSlips
+pub mod StatementSlips
 pub mod Choosing
 pub mod Messages
 pub mod Reports
+pub mod Questions

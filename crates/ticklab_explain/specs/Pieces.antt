@@ -1,5 +1,5 @@
 -- Pieces of a text, one after another.
-use Rattle.std.specs.Prelude.{ℕ, List, [], ◌∷◌, ◌++◌}
+use Rattle.std.specs.Prelude.{ℕ, ◌==◌, List, [], ◌∷◌, ◌++◌, length, if◌then◌else◌}
 use Rattle.std.specs.Borrow.{Bor}
 use Rattle.std.specs.List.{flat_map}
 
@@ -10,3 +10,7 @@ joined (piece ∷ pieces) = piece ++ joined pieces
 -- the same of pieces that are lent
 abbrev pub joined_now : List (Bor (List ℕ)) → List ℕ
 joined_now pieces = flat_map (λ piece. piece.now) pieces
+
+-- another word where there is none
+unfoldable pub or_else : List ℕ → List ℕ → List ℕ
+or_else word other = if length word == 0 then other else word

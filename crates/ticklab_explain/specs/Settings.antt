@@ -7,12 +7,15 @@ use Rattle.std.specs.Char.{is_ascii_alphabetic, is_ascii_digit}
 use Rattle.base.specs.declared.span.Span.{Span}
 use Rattle.base.specs.Plain.{nowhere}
 use Rattle.tick_syntax.specs.Spelling.{Spells}
+use Rattle.tick_syntax.specs.declared.fault.TextFault.{TextFault}
+use Rattle.tick_syntax.specs.declared.fault.TextFault.TheVariants as T
 use Rattle.tick_syntax.specs.declared.token.Sort.{Sort}
 use Rattle.tick_syntax.specs.declared.token.Sort.TheVariants as K
 use Rattle.tick_syntax.specs.declared.token.Token.{Token}
 use Rattle.ticketc_refusals.specs.Refusals.{IsText}
 use Rattle.ticklab_explain.specs.Spots.{IsSpanAt, spot_of}
 use Rattle.ticketc_refusals.specs.declared.refusal.Refusal.{Refusal}
+use Rattle.ticketc_refusals.specs.declared.refusal.Refusal.TheVariants.{Text, Kinds, Code, Schedule}
 use Rattle.ticklab_explain.specs.declared.scene.Scene.{Scene}
 
 -- bytes that are a text; for others nothing
@@ -94,6 +97,22 @@ unfoldable pub behind : List ℕ → Span → ℕ
 behind text span =
     if is_compared (text_at text span) && is_doubled (slice_index text span.end) then span.end + 1 else span.end
 
+-- What tokens are sought in: where a character begins no token, what stands before it.
+abbrev pub text_part : List ℕ → TextFault → List ℕ
+text_part text T.TextTooLong = text
+text_part text (T.BadCharacter place) = take (min place (length text)) text
+text_part text (T.NumberTooBig span) = text
+text_part text (T.NameTooLong span) = text
+text_part text (T.Unexpected span) = text
+text_part text (T.TooDeep span) = text
+text_part text T.NoMemory = text
+
+abbrev pub read_part : List ℕ → Refusal → List ℕ
+read_part text (Text fault) = text_part text fault
+read_part text (Kinds fault) = text
+read_part text (Code fault) = text
+read_part text (Schedule fault) = text
+
 -- a refusal's place in a text, and what stands about it
 pub record Setting : Type 0 where
   pub text : List ℕ
@@ -111,7 +130,7 @@ pub record Setting : Type 0 where
 -- This is the place of the refusal in the text. One that is nowhere is set at its begin.
 pub record IsSetting (processes : ℕ) (text : List ℕ) (refusal : Refusal) (s : Setting) : Type 0 where
   pub same_text : s.text ≡ text
-  pub are_tokens : AreTokens text s.tokens
+  pub are_tokens : AreTokens (read_part text refusal) s.tokens
   pub found : Option Span
   pub is_found : IsSpanAt text (spot_of refusal) found
   pub same_span : s.span ≡ unwrap_or found nowhere

@@ -57,6 +57,30 @@ pub enum Advice {
     NoEmptySection,
     SemicolonForComma,
     NoNegatives,
+    OneInBrackets,
+    OwnPair,
+    OneAssignment,
+    NoFor,
+    LoopEnds,
+    ProcessEnds,
+    DeclareBefore,
+    BeginsStatement,
+    NoFreeBlock,
+    NothingToClose,
+    ElseAlone,
+    BlockInBraces,
+    NoCommas,
+    AllBeginAsZero,
+    NoLastComma,
+    SectionWords,
+    NameBegins,
+    NameLetters,
+    ProgramBegins,
+    NoTypes,
+    NoDot,
+    DecimalDigits,
+    RemainderSign,
+    IntoScan,
 }
 
 impl Advice {
@@ -66,13 +90,13 @@ impl Advice {
         ensures { result.now ≡ advice_text self }
     {
         match self {
+            Advice::GreatestNumber => "the greatest number is 4294967295",
+            Advice::LongestName => "a name has at most 64 bytes",
+            Advice::DeepestBracket => "at most 64 are: give a part its own statement",
             Advice::FirstLine =>
                 "it is `tickcode 2 P V S R`, with the numbers of processes, variables, scans and registers",
             Advice::InstructionLine =>
                 "it is a name, and numbers after one space each, as `Push 5`; the last line ends too",
-            Advice::GreatestNumber => "the greatest number is 4294967295",
-            Advice::LongestName => "a name has at most 64 bytes",
-            Advice::DeepestBracket => "at most 64 are: give a part its own statement",
             Advice::NoGroups => "there are no groups: write each item out",
             Advice::Blanks => "items are separated by blanks",
             Advice::NoComments => "a schedule has no comments",
@@ -123,6 +147,32 @@ impl Advice {
             Advice::NoEmptySection => "a section without names is left out",
             Advice::SemicolonForComma => "write `;` in place of `,`",
             Advice::NoNegatives => "there are no negative numbers: they are 0 to 4294967295",
+            Advice::OneInBrackets => "one operator in a pair of brackets",
+            Advice::OwnPair => "an operation has brackets of its own",
+            Advice::OneAssignment => "a statement has one `=`",
+            Advice::NoFor => "there is no `for`: write `i = 0; while (i < n) { i = (i + 1); }`",
+            Advice::LoopEnds => "a loop ends when its test is 0: let the test look at a variable",
+            Advice::ProcessEnds => "a process ends after its last statement",
+            Advice::DeclareBefore => "names are declared before `begin`",
+            Advice::BeginsStatement =>
+                "a statement begins with a name and `=`, or with `put`, `stamp`, `clear`, `out`, `if` or `while`",
+            Advice::NoFreeBlock =>
+                "a block stands after the test of an `if` or a `while`, and after `else`",
+            Advice::NothingToClose => "this `}` closes nothing",
+            Advice::ElseAlone => "`else` stands after the block of an `if`",
+            Advice::BlockInBraces => "a block stands in braces",
+            Advice::NoCommas => "operands stand side by side, without commas",
+            Advice::AllBeginAsZero => "no name has a first value: all begin as 0",
+            Advice::NoLastComma => "no `,` stands after the last name",
+            Advice::SectionWords => "names are declared by `var`, `scan` and `reg`",
+            Advice::NameBegins => "a name begins with a letter or `_`",
+            Advice::NameLetters => "a name is made of letters, digits and `_`",
+            Advice::ProgramBegins => "a program begins with `processes 2;`",
+            Advice::NoTypes => "names have no types",
+            Advice::NoDot => "there are neither fractions nor ranges: `.` stands in comments alone",
+            Advice::DecimalDigits => "numbers are written in digits `0` to `9`",
+            Advice::RemainderSign => "`%` is the remainder",
+            Advice::IntoScan => "`scan` and `copy` give to a name that `scan` declares",
         }
     }
 }

@@ -1,11 +1,12 @@
 // Common slips with characters that begin no token.
 ghost use Rattle.std.specs.Prelude.{◌≡◌};
-ghost use Rattle.ticklab_explain.specs.Choosing.{begins_with, character_slip, compared_slip, other_sign_slip};
+ghost use Rattle.ticklab_explain.specs.Choosing.{begins_with, character_slip, compared_slip, index_slip, other_sign_slip, point_slip};
 ghost use Rattle.ticklab_explain.specs.Settings.{setting};
 
 use crate::advice::Advice;
 use crate::hint::{Hint, first_that_fits};
 use crate::quote::Quote;
+use crate::rewrite::Rewrite;
 use crate::scene::{Scene, byte_at};
 use crate::wanted::is_one_of;
 
@@ -14,16 +15,20 @@ use crate::wanted::is_one_of;
 pub fn character_slip(scene: &Scene) -> Option<Hint>
     ensures { result ≡ character_slip (setting scene.now) }
 {
-    compared_slip(scene).or(other_sign_slip(scene))
+    compared_slip(scene).or(index_slip(scene).or(point_slip(scene).or(other_sign_slip(scene))))
 }
 
-// Signs between two operands, before one, and of a register.
+// Signs between two operands, and before one.
 #[tactic(auto, unfolding(crate::specs::Choosing::compared_slip))]
 fn compared_slip(scene: &Scene) -> Option<Hint>
     ensures { result ≡ compared_slip (setting scene.now) }
 {
     let is_or_equal = byte_at(scene.text, scene.span.end) == b'=';
     first_that_fits(&[
+        (
+            scene.is_about(">") & scene.is_before(1, "<"),
+            Hint::Fixed(Advice::DiffersSign),
+        ),
         (
             scene.is_about(">") & is_or_equal,
             Hint::Quoting(Quote::AtLeast),
@@ -33,7 +38,62 @@ fn compared_slip(scene: &Scene) -> Option<Hint>
         (scene.is_about("&"), Hint::Quoting(Quote::Both)),
         (scene.is_about("|"), Hint::Quoting(Quote::Either)),
         (scene.is_about("!"), Hint::Quoting(Quote::NotSign)),
+    ])
+}
+
+// A number in brackets after a name.
+#[tactic(auto, unfolding(crate::specs::Choosing::index_slip))]
+fn index_slip(scene: &Scene) -> Option<Hint>
+    ensures { result ≡ index_slip (setting scene.now) }
+{
+    let is_target = is_one_of(scene.before(2), &[";", "begin", "{", "}"]);
+    let is_name = scene.is_name_before(1);
+    first_that_fits(&[
+        (
+            scene.is_about("[") & (!scene.has_begun() & is_name),
+            Hint::Rewriting(Rewrite::Sized),
+        ),
+        (
+            scene.is_about("[") & (scene.is_before(2, "put") & is_name),
+            Hint::Rewriting(Rewrite::PutOwn),
+        ),
+        (
+            scene.is_about("[") & (is_target & is_name),
+            Hint::Rewriting(Rewrite::PutOwn),
+        ),
+        (
+            scene.is_about("[") & (scene.is_before(2, "get") & is_name),
+            Hint::Rewriting(Rewrite::GetIndexed),
+        ),
         (scene.is_about("["), Hint::Quoting(Quote::Indexed)),
+    ])
+}
+
+// A colon, and a point.
+#[tactic(auto, unfolding(crate::specs::Choosing::point_slip))]
+fn point_slip(scene: &Scene) -> Option<Hint>
+    ensures { result ≡ point_slip (setting scene.now) }
+{
+    let is_colon = scene.is_about(":");
+    let is_point = scene.is_about(".");
+    let is_or_equal = byte_at(scene.text, scene.span.end) == b'=';
+    first_that_fits(&[
+        (is_colon & is_or_equal, Hint::Fixed(Advice::Assigns)),
+        (
+            is_colon & scene.is_before(1, "processes"),
+            Hint::Fixed(Advice::ProgramBegins),
+        ),
+        (is_colon & !scene.has_begun(), Hint::Fixed(Advice::NoTypes)),
+        (is_colon, Hint::Fixed(Advice::BlockInBraces)),
+        (
+            is_point & scene.is_before(1, "end"),
+            Hint::Fixed(Advice::NothingFollows),
+        ),
+        (
+            is_point & (scene.is_before(4, "for") & scene.is_name_before(3)),
+            Hint::Rewriting(Rewrite::ForRange),
+        ),
+        (is_point, Hint::Fixed(Advice::NoDot)),
     ])
 }
 
@@ -59,7 +119,6 @@ fn other_sign_slip(scene: &Scene) -> Option<Hint>
             is_one_of(about, &["−", "–"]),
             Hint::Fixed(Advice::MinusSign),
         ),
-        (scene.is_about(":"), Hint::Fixed(Advice::Assigns)),
         (
             scene.is_about("\u{feff}"),
             Hint::Fixed(Advice::ByteOrderMark),

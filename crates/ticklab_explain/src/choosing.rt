@@ -1,6 +1,6 @@
 // Which hint is told.
 ghost use Rattle.std.specs.Prelude.{◌≡◌};
-ghost use Rattle.ticklab_explain.specs.Choosing.{code_hint, has, hint_of, item_slip, kind_slip, kinds_hint, register_slip, schedule_hint, text_hint, twice_slip, unknown_slip};
+ghost use Rattle.ticklab_explain.specs.Choosing.{code_hint, contains, hint_of, item_slip, kind_slip, kinds_hint, no_scan_slip, register_slip, scan_slip, schedule_hint, text_hint, twice_slip, unknown_slip, variable_slip};
 ghost use Rattle.ticklab_explain.specs.Settings.{setting};
 
 use crate::advice::Advice;
@@ -8,7 +8,9 @@ use crate::character_slips::character_slip;
 use crate::grammar_slips::slip;
 use crate::hint::{Hint, first_that_fits};
 use crate::name_hint::NameHint;
+use crate::part::{Part, has};
 use crate::quote::Quote;
+use crate::rewrite::Rewrite;
 use crate::scene::{Scene, shortened};
 use crate::wanted::Wanted;
 use code_core::CodeFault;
@@ -79,9 +81,11 @@ fn kind_slip(scene: &Scene, wanted: Kind, found: Kind) -> Option<Hint>
 {
     match (wanted, found) {
         (Kind::Variable, Kind::Register) => register_slip(scene),
-        (Kind::Variable, Kind::Variable | Kind::Scan) => Some(Hint::Fixed(Advice::LookAtScan)),
-        (Kind::Scan, _) => Some(Hint::Fixed(Advice::ScanFirst)),
-        (Kind::Register, _) => Some(Hint::Fixed(Advice::GetAndPut)),
+        (Kind::Variable, Kind::Scan) => scan_slip(scene),
+        (Kind::Variable, Kind::Variable) => Some(Hint::Fixed(Advice::LookAtScan)),
+        (Kind::Scan, _) => no_scan_slip(scene),
+        (Kind::Register, Kind::Variable) => variable_slip(scene),
+        (Kind::Register, Kind::Scan | Kind::Register) => Some(Hint::Fixed(Advice::GetAndPut)),
     }
 }
 
@@ -93,6 +97,42 @@ fn register_slip(scene: &Scene) -> Option<Hint>
     first_that_fits(&[
         (scene.is_after(1, "="), Hint::Naming(NameHint::WrittenByPut)),
         (true, Hint::Naming(NameHint::ReadByGet)),
+    ])
+}
+
+// Of a scan in the place of a variable.
+#[tactic(auto, unfolding(crate::specs::Choosing::scan_slip))]
+fn scan_slip(scene: &Scene) -> Option<Hint>
+    ensures { result ≡ scan_slip (setting scene.now) }
+{
+    first_that_fits(&[
+        (scene.is_after(1, "="), Hint::Rewriting(Rewrite::ScanTarget)),
+        (true, Hint::Fixed(Advice::LookAtScan)),
+    ])
+}
+
+// Of another name in the place of a scan.
+#[tactic(auto, unfolding(crate::specs::Choosing::no_scan_slip))]
+fn no_scan_slip(scene: &Scene) -> Option<Hint>
+    ensures { result ≡ no_scan_slip (setting scene.now) }
+{
+    first_that_fits(&[
+        (scene.is_after(1, "="), Hint::Fixed(Advice::IntoScan)),
+        (true, Hint::Fixed(Advice::ScanFirst)),
+    ])
+}
+
+// Of a variable in the place of a register.
+#[tactic(auto, unfolding(crate::specs::Choosing::variable_slip))]
+fn variable_slip(scene: &Scene) -> Option<Hint>
+    ensures { result ≡ variable_slip (setting scene.now) }
+{
+    let is_put = scene.is_before(1, "put") & has(scene, Part::OperandAfter(1));
+    let is_got = scene.is_before(1, "get") & scene.is_before(2, "=");
+    first_that_fits(&[
+        (is_put, Hint::Rewriting(Rewrite::AssignedVariable)),
+        (is_got, Hint::Rewriting(Rewrite::ReadVariable)),
+        (true, Hint::Fixed(Advice::GetAndPut)),
     ])
 }
 
@@ -125,8 +165,8 @@ fn schedule_hint(scene: &Scene, fault: ScheduleFault) -> Option<Hint>
     }
 }
 
-fn has(item: &[u8], byte: u8) -> bool
-    ensures { result ≡ has item.now byte }
+fn contains(item: &[u8], byte: u8) -> bool
+    ensures { result ≡ contains item.now byte }
 {
     item.iter().any(|one| *one == byte)
 }
@@ -139,11 +179,11 @@ fn item_slip(item: &str) -> Option<Hint>
     let has_star = item.starts_with(b"*") | item.ends_with(b"*");
     first_that_fits(&[
         (
-            has(item, b'(') | has(item, b')'),
+            contains(item, b'(') | contains(item, b')'),
             Hint::Fixed(Advice::NoGroups),
         ),
         (
-            has(item, b',') | has(item, b';'),
+            contains(item, b',') | contains(item, b';'),
             Hint::Fixed(Advice::Blanks),
         ),
         (item.starts_with(b"#"), Hint::Fixed(Advice::NoComments)),
@@ -151,7 +191,7 @@ fn item_slip(item: &str) -> Option<Hint>
         (item.starts_with(b"c"), Hint::Fixed(Advice::NoClears)),
         (has_star, Hint::Fixed(Advice::NoBlankAtStar)),
         (item.ends_with(b"*0"), Hint::Fixed(Advice::OneStepAtLeast)),
-        (has(item, b'x'), Hint::Fixed(Advice::StarRepeats)),
+        (contains(item, b'x'), Hint::Fixed(Advice::StarRepeats)),
         (true, Hint::Fixed(Advice::OnlyDigits)),
     ])
 }

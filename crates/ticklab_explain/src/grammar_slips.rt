@@ -1,14 +1,20 @@
 // Common slips at a token where no program goes on, known by the tokens around the place.
 ghost use Rattle.std.specs.Prelude.{◌≡◌};
-ghost use Rattle.ticklab_explain.specs.Choosing.{block_slip, foreign_slip, keyword_slip, missing_slip, place_slip, slip, wants, whole_slip};
+ghost use Rattle.ticklab_explain.specs.Choosing.{foreign_slip, keyword_slip, missing_slip, place_slip, sign_hint, slip, whole_slip, word_hint};
 ghost use Rattle.ticklab_explain.specs.Hints.{is_section};
+ghost use Rattle.ticklab_explain.specs.Rules.{wants};
 ghost use Rattle.ticklab_explain.specs.Settings.{setting};
 
 use crate::advice::Advice;
+use crate::block_slips::{block_slip, body_slip};
+use crate::call_slips::call_slip;
+use crate::declaration_slips::declaration_slip;
 use crate::hint::{Hint, first_that_fits};
+use crate::operand_slips::operand_slip;
 use crate::quote::Quote;
 use crate::scene::Scene;
 use crate::sign_slips::{operator_slip, sign_slip};
+use crate::statement_slips::{other_slip, statement_slip};
 use crate::wanted::{Wanted, is_one_of};
 
 /// Whether a token is wanted that is told by this sample.
@@ -18,18 +24,31 @@ pub fn wants(wanted: &[Wanted], sample: &str) -> bool
     wanted.iter().any(|one| one.sample() == sample)
 }
 
-/// What may help: the first that fits, of the text as a whole, of words, and of signs.
+/// What may help: the first that fits.
 #[tactic(auto, unfolding(crate::specs::Choosing::slip))]
 pub fn slip(scene: &Scene, wanted: &[Wanted]) -> Option<Hint>
     ensures { result ≡ slip (setting scene.now) wanted.now }
 {
-    let of_signs = operator_slip(scene, wanted).or(sign_slip(scene, wanted).or(missing_slip(
-        scene, wanted,
-    )));
-    let of_words = foreign_slip(scene).or(keyword_slip(scene, wanted).or(place_slip(
-        scene, wanted,
-    ).or(of_signs)));
-    whole_slip(scene, wanted).or(block_slip(scene, wanted).or(of_words))
+    let about_line = word_hint(scene, wanted).or(sign_hint(scene, wanted));
+    whole_slip(scene, wanted).or(block_slip(scene, wanted).or(about_line))
+}
+
+#[tactic(auto, unfolding(crate::specs::Choosing::word_hint))]
+fn word_hint(scene: &Scene, wanted: &[Wanted]) -> Option<Hint>
+    ensures { result ≡ word_hint (setting scene.now) wanted.now }
+{
+    let of_names = declaration_slip(scene, wanted).or(place_slip(scene, wanted));
+    let of_calls = call_slip(scene, wanted).or(keyword_slip(scene, wanted).or(of_names));
+    foreign_slip(scene).or(body_slip(scene, wanted).or(of_calls))
+}
+
+#[tactic(auto, unfolding(crate::specs::Choosing::sign_hint))]
+fn sign_hint(scene: &Scene, wanted: &[Wanted]) -> Option<Hint>
+    ensures { result ≡ sign_hint (setting scene.now) wanted.now }
+{
+    let of_words = missing_slip(scene, wanted).or(other_slip(scene, wanted));
+    let of_signs = sign_slip(scene, wanted).or(statement_slip(scene, wanted).or(of_words));
+    operator_slip(scene, wanted).or(operand_slip(scene, wanted).or(of_signs))
 }
 
 #[tactic(auto, unfolding(crate::specs::Choosing::whole_slip))]
@@ -47,27 +66,9 @@ fn whole_slip(scene: &Scene, wanted: &[Wanted]) -> Option<Hint>
             Hint::Fixed(Advice::NothingFollows),
         ),
         (
-            scene.is_at_end() & wants(wanted, "end"),
+            scene.is_at_end() & (wants(wanted, "end") | wants(wanted, "=")),
             Hint::Fixed(Advice::EndIsMissing),
         ),
-    ])
-}
-
-#[tactic(auto, unfolding(crate::specs::Choosing::block_slip))]
-fn block_slip(scene: &Scene, wanted: &[Wanted]) -> Option<Hint>
-    ensures { result ≡ block_slip (setting scene.now) wanted.now }
-{
-    let ends = scene.is_at_end() | scene.is_here("end");
-    first_that_fits(&[
-        (
-            scene.open_brace().is_some() & (ends & wants(wanted, "}")),
-            Hint::Quoting(Quote::BraceIsOpen),
-        ),
-        (
-            scene.is_here("if") & scene.is_before(1, "else"),
-            Hint::Fixed(Advice::NoElseIf),
-        ),
-        (wants(wanted, "else"), Hint::Fixed(Advice::ElseIsMissing)),
     ])
 }
 
@@ -83,6 +84,7 @@ fn foreign_slip(scene: &Scene) -> Option<Hint>
         (scene.is_here("const"), Hint::Fixed(Advice::NoConstants)),
         (scene.is_here("and"), Hint::Fixed(Advice::NoAnd)),
         (scene.is_here("or"), Hint::Fixed(Advice::NoOr)),
+        (scene.is_here("mod"), Hint::Fixed(Advice::RemainderSign)),
     ])
 }
 
@@ -116,14 +118,6 @@ fn place_slip(scene: &Scene, wanted: &[Wanted]) -> Option<Hint>
 {
     first_that_fits(&[
         (
-            wants(wanted, "x") & scene.is_before(1, "older"),
-            Hint::Fixed(Advice::OlderWantsScan),
-        ),
-        (
-            wants(wanted, "x") & scene.is_before(1, "held"),
-            Hint::Fixed(Advice::HeldWantsScan),
-        ),
-        (
             wants(wanted, "me") & scene.is_before(2, "get"),
             Hint::Quoting(Quote::GetWantsProcess),
         ),
@@ -143,14 +137,21 @@ pub fn is_section(word: &str) -> bool
     (word == "var") | (word == "scan") | (word == "reg")
 }
 
-// A `;` that was left out, told where it belongs.
+// A letter in a number, and a `;` that was left out, told where it belongs.
 #[tactic(auto, unfolding(crate::specs::Choosing::missing_slip))]
 fn missing_slip(scene: &Scene, wanted: &[Wanted]) -> Option<Hint>
     ensures { result ≡ missing_slip (setting scene.now) wanted.now }
 {
+    let is_letter = scene.is_name() & (scene.touches() & !scene.is_before(1, ")"));
     let is_word = scene.is_name() | (scene.is_keyword() | scene.is_here("}"));
-    first_that_fits(&[(
-        wants(wanted, ";") & (scene.is_at_end() | is_word),
-        Hint::Quoting(Quote::SemicolonIsMissing),
-    )])
+    first_that_fits(&[
+        (
+            wants(wanted, ";") & is_letter,
+            Hint::Fixed(Advice::DecimalDigits),
+        ),
+        (
+            wants(wanted, ";") & (scene.is_at_end() | is_word),
+            Hint::Quoting(Quote::SemicolonIsMissing),
+        ),
+    ])
 }

@@ -1,12 +1,13 @@
 // A hint of any kind.
 ghost use Rattle.std.specs.Prelude.{◌≡◌, ◌++◌, OnOk, string_bytes};
-ghost use Rattle.ticklab_explain.specs.Choosing.{first_that_fits};
+ghost use Rattle.ticklab_explain.specs.Rules.{first_that_fits};
 ghost use Rattle.ticklab_explain.specs.Hints.{hint_span, hint_text};
 ghost use Rattle.ticklab_explain.specs.Settings.{setting};
 
 use crate::advice::Advice;
 use crate::name_hint::NameHint;
 use crate::quote::Quote;
+use crate::rewrite::Rewrite;
 use crate::scene::Scene;
 use crate::writing::Added;
 use base::span::Span;
@@ -20,6 +21,8 @@ pub enum Hint {
     Naming(NameHint),
     /// In words that quote the text about the place.
     Quoting(Quote),
+    /// In words that say what to write in its place.
+    Rewriting(Rewrite),
 }
 
 impl Hint {
@@ -31,6 +34,7 @@ impl Hint {
             Hint::Fixed(advice) => text.push_str(advice.text()),
             Hint::Naming(hint) => hint.push(text, scene),
             Hint::Quoting(quote) => quote.push(text, scene),
+            Hint::Rewriting(rewrite) => rewrite.push(text, scene),
         }
     }
 
@@ -39,7 +43,7 @@ impl Hint {
         ensures { result ≡ hint_span (setting scene.now) self }
     {
         match self {
-            Hint::Fixed(_) | Hint::Naming(_) => None,
+            Hint::Fixed(_) | Hint::Naming(_) | Hint::Rewriting(_) => None,
             Hint::Quoting(quote) => quote.span(scene),
         }
     }

@@ -9,8 +9,11 @@
 #![tactic(auto)]
 
 mod advice;
+mod block_slips;
+mod call_slips;
 mod character_slips;
 mod choosing;
+mod declaration_slips;
 mod declared;
 mod expectation;
 mod expected;
@@ -20,16 +23,22 @@ mod grammar_slips;
 mod hint;
 mod messages;
 mod name_hint;
+mod operand_slips;
+mod part;
 mod picture;
 mod piece;
 pub mod place;
+mod questions;
 mod quote;
 mod report;
+mod rewrite;
 mod scene;
 mod setting;
 mod sign_slips;
 mod spot;
+mod statement_slips;
 mod wanted;
 mod writing;
 
 pub use explaining::{explain, explain_code, explain_program, explain_refusal, explain_schedule};
+pub use questions::{explain_question, point};

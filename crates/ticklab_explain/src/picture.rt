@@ -105,16 +105,12 @@ fn push_margin(out: &mut Vec<u8>, number: usize) -> Added
     push(out, " |")
 }
 
-// A byte as it is shown.
-fn push_byte(out: &mut Vec<u8>, byte: u8) -> Added
-    ensures { OnOk result (out.new.items ≡ out.old.items ++ shown_byte byte) }
+// Bytes as they are shown, with a sign for each that is no UTF-8.
+fn push_shown(alloc: Global, out: &mut Vec<u8>, bytes: &[u8]) -> Added
+    ensures { OnOk result (out.new.items ≡ out.old.items ++ shown bytes.now) }
 {
-    match byte {
-        b'\t' => push(out, "    "),
-        b'\r' => Ok(()),
-        0..=31 => push(out, "?"),
-        _ => out.extend_from_slice(&[byte]),
-    }
+    let text = String::from_utf8_lossy(alloc, bytes)?;
+    push_plain(out, text.as_bytes())
 }
 
 fn push_plain(out: &mut Vec<u8>, bytes: &[u8]) -> Added
@@ -126,10 +122,14 @@ fn push_plain(out: &mut Vec<u8>, bytes: &[u8]) -> Added
     Ok(())
 }
 
-// Bytes as they are shown, with a sign for each that is no UTF-8.
-fn push_shown(alloc: Global, out: &mut Vec<u8>, bytes: &[u8]) -> Added
-    ensures { OnOk result (out.new.items ≡ out.old.items ++ shown bytes.now) }
+// A byte as it is shown.
+fn push_byte(out: &mut Vec<u8>, byte: u8) -> Added
+    ensures { OnOk result (out.new.items ≡ out.old.items ++ shown_byte byte) }
 {
-    let text = String::from_utf8_lossy(alloc, bytes)?;
-    push_plain(out, text.as_bytes())
+    match byte {
+        b'\t' => push(out, "    "),
+        b'\r' => Ok(()),
+        0..=31 => push(out, "?"),
+        _ => out.extend_from_slice(&[byte]),
+    }
 }

@@ -1,9 +1,11 @@
 // The pieces of which hints and messages are made.
 ghost use Rattle.std.specs.Prelude.{◌≡◌, ◌++◌, OnOk, string_bytes};
 ghost use Rattle.std.specs.List.{flat_map};
-ghost use Rattle.ticklab_explain.specs.Hints.{meaning, or_else, piece_text, statement_of};
+ghost use Rattle.ticklab_explain.specs.Hints.{meaning, piece_text, statement_of};
+ghost use Rattle.ticklab_explain.specs.Pieces.{or_else};
 ghost use Rattle.ticklab_explain.specs.Settings.{setting};
 
+use crate::part::{Part, push_part};
 use crate::scene::Scene;
 use crate::writing::Added;
 
@@ -27,22 +29,28 @@ pub enum Piece {
     Meaning,
     /// A statement of the keyword that stands here.
     Statement,
+    /// A statement of the keyword that stands before.
+    StatementBefore,
+    /// A part of the text.
+    Tokens(Part),
 }
 
 impl Piece {
-    fn text<'a>(self, scene: &Scene<'a>) -> &'a str
-        ensures { result.now ≡ piece_text (setting scene.now) self }
+    fn push(self, text: &mut String, scene: &Scene) -> Added
+        ensures { OnOk result (string_bytes text.new ≡ string_bytes text.old ++ piece_text (setting scene.now) self) }
     {
         match self {
-            Piece::Words(words) => words,
-            Piece::About => scene.about(),
-            Piece::Here => scene.here(),
-            Piece::Before(count) => scene.before(count),
-            Piece::After(count) => scene.after(count),
-            Piece::Left(other) => or(scene.left, other),
-            Piece::Right(other) => or(scene.right, other),
-            Piece::Meaning => meaning(scene.here()),
-            Piece::Statement => statement_of(scene.here()),
+            Piece::Words(words) => text.push_str(words),
+            Piece::About => text.push_str(scene.about()),
+            Piece::Here => text.push_str(scene.here()),
+            Piece::Before(count) => text.push_str(scene.before(count)),
+            Piece::After(count) => text.push_str(scene.after(count)),
+            Piece::Left(other) => text.push_str(or(scene.left, other)),
+            Piece::Right(other) => text.push_str(or(scene.right, other)),
+            Piece::Meaning => text.push_str(meaning(scene.here())),
+            Piece::Statement => text.push_str(statement_of(scene.here())),
+            Piece::StatementBefore => text.push_str(statement_of(scene.before(1))),
+            Piece::Tokens(part) => push_part(text, scene, part),
         }
     }
 }
@@ -52,13 +60,13 @@ pub fn push_pieces(text: &mut String, scene: &Scene, pieces: &[Piece]) -> Added
     ensures { OnOk result (string_bytes text.new ≡ string_bytes text.old ++ flat_map (piece_text (setting scene.now)) pieces.now) }
 {
     for piece in pieces {
-        text.push_str(piece.text(scene))?;
+        piece.push(text, scene)?;
     }
     Ok(())
 }
 
 // Another word where there is none.
-#[tactic(auto, unfolding(crate::specs::Hints::or_else))]
+#[tactic(auto, unfolding(crate::specs::Pieces::or_else))]
 fn or<'a>(word: &'a str, other: &'a str) -> &'a str
     ensures { result.now ≡ or_else word.now other.now }
 {
@@ -77,7 +85,7 @@ fn meaning<'a>(keyword: &'a str) -> &'a str
     }
 }
 
-// A statement of a keyword that gives a value.
+// A statement of a keyword that has operands, or gives a scan.
 #[tactic(auto, unfolding(crate::specs::Hints::statement_of))]
 fn statement_of<'a>(keyword: &'a str) -> &'a str
     ensures { result.now ≡ statement_of keyword.now }
@@ -86,6 +94,7 @@ fn statement_of<'a>(keyword: &'a str) -> &'a str
         "older" => "x = older s 0 1;",
         "held" => "x = held s 0;",
         "get" => "x = get r me;",
+        "put" => "put r 1;",
         "scan" => "s = scan;",
         _ => "t = copy s;",
     }

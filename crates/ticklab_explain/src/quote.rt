@@ -4,7 +4,9 @@ ghost use Rattle.std.specs.List.{flat_map};
 ghost use Rattle.ticklab_explain.specs.Hints.{piece_text, quote_span, quote_text};
 ghost use Rattle.ticklab_explain.specs.Settings.{Setting, setting};
 
-use crate::piece::Piece::{About, After, Before, Here, Left, Meaning, Right, Statement, Words};
+use crate::piece::Piece::{
+    About, Before, Here, Left, Meaning, Right, Statement, StatementBefore, Words,
+};
 use crate::piece::{Piece, push_pieces};
 use crate::scene::Scene;
 use crate::writing::Added;
@@ -23,13 +25,13 @@ pub enum Quote {
     NotWord,
     Await,
     Keyword,
+    KeywordBefore,
     NoValue,
     OwnStatement,
     GetWantsProcess,
-    AssignedInPlace,
-    OneOperator,
-    OwnBrackets,
-    OwnRegister,
+    NoThen,
+    NoCall,
+    NoFunctions,
     DeclaredFirst,
     BraceIsOpen,
     SemicolonIsMissing,
@@ -57,13 +59,13 @@ impl Quote {
             Quote::NotWord => &NOT_WORD,
             Quote::Await => &AWAIT,
             Quote::Keyword => &KEYWORD,
+            Quote::KeywordBefore => &KEYWORD_BEFORE,
             Quote::NoValue => &NO_VALUE,
             Quote::OwnStatement => &OWN_STATEMENT,
             Quote::GetWantsProcess => &GET_WANTS_PROCESS,
-            Quote::AssignedInPlace => &ASSIGNED_IN_PLACE,
-            Quote::OneOperator => &ONE_OPERATOR,
-            Quote::OwnBrackets => &OWN_BRACKETS,
-            Quote::OwnRegister => &OWN_REGISTER,
+            Quote::NoThen => &NO_THEN,
+            Quote::NoCall => &NO_CALL,
+            Quote::NoFunctions => &NO_FUNCTIONS,
             Quote::DeclaredFirst => &DECLARED_FIRST,
             Quote::BraceIsOpen => &BRACE_IS_OPEN,
             Quote::SemicolonIsMissing => &SEMICOLON_IS_MISSING,
@@ -158,6 +160,12 @@ static KEYWORD: [Piece; 5] = [
     Words(": choose another name"),
 ];
 
+static KEYWORD_BEFORE: [Piece; 3] = [
+    Words("`"),
+    Before(1),
+    Words("` is a keyword: choose another name"),
+];
+
 static NO_VALUE: [Piece; 5] = [
     Words("`"),
     Here,
@@ -182,48 +190,22 @@ static GET_WANTS_PROCESS: [Piece; 5] = [
     Words(" me`"),
 ];
 
-static ASSIGNED_IN_PLACE: [Piece; 9] = [
-    Words("write `"),
-    Before(1),
-    Words(" = ("),
-    Before(1),
-    Words(" "),
+static NO_THEN: [Piece; 3] = [
+    Words("there is no `"),
     Here,
-    Words(" "),
-    After(2),
-    Words(");`"),
+    Words("`: a block begins with `{`"),
 ];
 
-static ONE_OPERATOR: [Piece; 11] = [
-    Words("one operator in a pair of brackets: `(("),
-    Before(3),
-    Words(" "),
-    Before(2),
-    Words(" "),
-    Before(1),
-    Words(") "),
-    Here,
-    Words(" "),
-    After(1),
-    Words(")`"),
+static NO_CALL: [Piece; 3] = [
+    Words("operands stand without brackets and commas: `"),
+    StatementBefore,
+    Words("`"),
 ];
 
-static OWN_BRACKETS: [Piece; 7] = [
-    Words("an operation has brackets of its own: `("),
+static NO_FUNCTIONS: [Piece; 3] = [
+    Words("`"),
     Before(1),
-    Words(" "),
-    Here,
-    Words(" "),
-    After(1),
-    Words(")`"),
-];
-
-static OWN_REGISTER: [Piece; 5] = [
-    Words("a process writes its own register only: `put "),
-    Before(2),
-    Words(" "),
-    Here,
-    Words(";`"),
+    Words("` can't be called: there are no functions"),
 ];
 
 static DECLARED_FIRST: [Piece; 3] = [Words("`"), About, Words("` was declared here first")];

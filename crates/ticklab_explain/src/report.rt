@@ -16,7 +16,7 @@ use crate::messages::push_message;
 use crate::picture::push_picture;
 use crate::place::{Place, place_of};
 use crate::scene::Scene;
-use crate::setting::scene_of;
+use crate::setting::{read_part, scene_of};
 use crate::spot::{span_at, spot_of};
 use crate::wanted::Wanted;
 use crate::writing::{Added, push, push_decimal};
@@ -36,7 +36,7 @@ pub fn report(
 ) -> Result<Vec<u8>, NoMemory>
     ensures { IfOk result (λ report. IsReport processes name.now text.now refusal report.items) }
 {
-    let tokens = tokens_of(alloc, text)?;
+    let tokens = tokens_of(alloc, read_part(text, refusal))?;
     let scene = scene_of(processes, text, &tokens, refusal);
     let wanted = wanted_at(alloc, &scene, refusal)?;
     told(alloc, name, &scene, &wanted, refusal)
@@ -90,7 +90,8 @@ fn push_head(
     Ok(())
 }
 
-fn push_placed(
+/// A place, a message, and the line with a caret.
+pub fn push_placed(
     alloc: Global,
     out: &mut Vec<u8>,
     name: &str,

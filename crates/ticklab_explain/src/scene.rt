@@ -2,7 +2,7 @@
 ghost use Rattle.std.specs.Prelude.{◌≡◌, ◌+◌, ◌<◌, ◌≤◌, ◌^◌, IfSome, is_none, reverse, slice_index};
 ghost use Rattle.std.specs.Str.{bytes_eq, is_utf8};
 ghost use Rattle.ticklab_explain.specs.Hints.{first_declaration, first_written};
-ghost use Rattle.ticklab_explain.specs.Choosing.{is_keyword_here, is_name_here};
+ghost use Rattle.ticklab_explain.specs.Rules.{is_keyword_here, is_name_after, is_name_at, is_name_before, is_name_here};
 ghost use Rattle.ticklab_explain.specs.Settings.{about, after, as_text, before, counted, front, front_end, has_begun, here, is_name, open_brace, setting, shortened, sort_here, text_at, touches, unclosed, word};
 
 use base::span::Span;
@@ -199,7 +199,7 @@ impl<'a> Scene<'a> {
     }
 
     /// Whether a name stands here.
-    #[tactic(auto, unfolding(crate::specs::Choosing::is_name_here))]
+    #[tactic(auto, unfolding(crate::specs::Rules::is_name_here))]
     pub fn is_name(&self) -> bool
         ensures { result ≡ is_name_here (setting self.now) }
     {
@@ -210,7 +210,7 @@ impl<'a> Scene<'a> {
     }
 
     /// Whether a keyword stands here.
-    #[tactic(auto, unfolding(crate::specs::Choosing::is_keyword_here))]
+    #[tactic(auto, unfolding(crate::specs::Rules::is_keyword_here))]
     pub fn is_keyword(&self) -> bool
         ensures { result ≡ is_keyword_here (setting self.now) }
     {
@@ -218,6 +218,38 @@ impl<'a> Scene<'a> {
             Some(Sort::Keyword) => true,
             Some(Sort::Name | Sort::Num(_) | Sort::Sign) | None => false,
         }
+    }
+
+    #[tactic(auto, unfolding(crate::specs::Rules::is_name_at))]
+    fn is_name_at(&self, index: usize) -> bool
+        ensures { result ≡ is_name_at (setting self.now) index }
+    {
+        match self.tokens.get(index) {
+            Some(token) => is_name(token.sort),
+            None => false,
+        }
+    }
+
+    /// Whether a name stands so many tokens before.
+    #[tactic(auto, unfolding(crate::specs::Rules::is_name_before))]
+    pub fn is_name_before(&self, count: usize) -> bool
+        ensures { result ≡ is_name_before (setting self.now) count }
+    {
+        if self.at < count {
+            return false;
+        }
+        self.is_name_at(self.at - count)
+    }
+
+    /// Whether a name stands so many tokens after.
+    #[tactic(auto, using(std::proofs::lemmas::Option::slice_get_past), unfolding(crate::specs::Rules::is_name_after, crate::specs::Rules::is_name_at))]
+    pub fn is_name_after(&self, count: usize) -> bool
+        ensures { result ≡ is_name_after (setting self.now) count }
+    {
+        if self.tokens.len().saturating_sub(self.at) <= count {
+            return false;
+        }
+        self.is_name_at(self.at + count)
     }
 
     /// Where the token before ends; 0 where there is none.
@@ -248,7 +280,7 @@ impl<'a> Scene<'a> {
 
     /// The tokens before.
     #[tactic(auto, unfolding(crate::specs::Settings::front))]
-    fn front(&self) -> &'a [Token]
+    pub fn front(&self) -> &'a [Token]
         ensures { result.now ≡ front (setting self.now) }
     {
         if self.at < self.tokens.len() {

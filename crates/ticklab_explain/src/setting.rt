@@ -1,21 +1,22 @@
 // The place of a refusal in its text.
 ghost use Rattle.std.specs.Prelude.{◌≡◌, ◌≤◌, length};
-ghost use Rattle.ticklab_explain.specs.Settings.{AreBlanksAfter, AreBlanksBefore, AreTokens, IsSetting, IsWordAfter, IsWordBefore, IsWordEnd, IsWordStart, behind, index_from, is_doubled, is_compared, is_word_byte, setting};
+ghost use Rattle.ticklab_explain.specs.Settings.{AreBlanksAfter, AreBlanksBefore, AreTokens, IsSetting, IsWordAfter, IsWordBefore, IsWordEnd, IsWordStart, behind, index_from, is_doubled, is_compared, is_word_byte, read_part, setting, text_part};
 
 use crate::scene::{Scene, as_text, byte_at, text_at};
 use crate::spot::{span_at, spot_of};
 use base::span::Span;
+use tick_syntax::TextFault;
 use tick_syntax::token::Token;
 use ticketc_refusals::Refusal;
 
-/// The scene of a refusal in a text of these tokens.
+/// The scene of a refusal in a text that these tokens spell, as far as it is read.
 pub fn scene_of<'a>(
     processes: u8,
     text: &'a [u8],
     tokens: &'a [Token],
     refusal: Refusal,
 ) -> Scene<'a>
-    requires { AreTokens text.now tokens.now }
+    requires { AreTokens (read_part text.now refusal) tokens.now }
     ensures { IsSetting processes text.now refusal (setting result) }
 {
     let span = span_at(text, spot_of(refusal)).unwrap_or(Span { start: 0, end: 0 });
@@ -27,6 +28,30 @@ pub fn scene_of<'a>(
         left: word_before(text, span.start),
         right: word_after(text, behind(text, span)),
         processes,
+    }
+}
+
+/// What tokens are sought in: where a character begins no token, what stands before it.
+pub fn read_part(text: &[u8], refusal: Refusal) -> &[u8]
+    ensures { result.now ≡ read_part text.now refusal }
+{
+    match refusal {
+        Refusal::Text(fault) => text_part(text, fault),
+        Refusal::Kinds(_) | Refusal::Code(_) | Refusal::Schedule(_) => text,
+    }
+}
+
+fn text_part(text: &[u8], fault: TextFault) -> &[u8]
+    ensures { result.now ≡ text_part text.now fault }
+{
+    match fault {
+        TextFault::BadCharacter(place) => &text[..place.min(text.len())],
+        TextFault::TextTooLong
+        | TextFault::NumberTooBig(_)
+        | TextFault::NameTooLong(_)
+        | TextFault::Unexpected(_)
+        | TextFault::TooDeep(_)
+        | TextFault::NoMemory => text,
     }
 }
 

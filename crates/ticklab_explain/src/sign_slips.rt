@@ -6,7 +6,8 @@ ghost use Rattle.ticklab_explain.specs.Settings.{setting};
 use crate::advice::Advice;
 use crate::grammar_slips::wants;
 use crate::hint::{Hint, first_that_fits};
-use crate::quote::Quote;
+use crate::part::{Part, has};
+use crate::rewrite::Rewrite;
 use crate::scene::Scene;
 use crate::wanted::{Wanted, is_one_of};
 
@@ -17,7 +18,6 @@ pub fn operator_slip(scene: &Scene, wanted: &[Wanted]) -> Option<Hint>
 {
     let here = scene.here();
     let is_arithmetic = is_one_of(here, &["+", "-", "*", "/", "%"]);
-    let is_operator = is_one_of(here, &["+", "-", "*", "/", "%", "<", "<=", "==", "!="]);
     first_that_fits(&[
         (begins_comment(scene), Hint::Fixed(Advice::CommentSign)),
         (
@@ -29,20 +29,14 @@ pub fn operator_slip(scene: &Scene, wanted: &[Wanted]) -> Option<Hint>
             Hint::Fixed(Advice::TwoEqualsCompare),
         ),
         (
-            is_arithmetic & (wants(wanted, "=") & scene.is_after(1, "=")),
-            Hint::Quoting(Quote::AssignedInPlace),
+            is_arithmetic
+                & (wants(wanted, "=")
+                    & (scene.is_after(1, "=") & has(scene, Part::OperandAfter(2)))),
+            Hint::Rewriting(Rewrite::AssignedInPlace),
         ),
         (
             scene.is_here("-") & (wants(wanted, "get") | wants(wanted, "me")),
             Hint::Fixed(Advice::NoNegatives),
-        ),
-        (
-            is_operator & wants(wanted, ")"),
-            Hint::Quoting(Quote::OneOperator),
-        ),
-        (
-            is_operator & (wants(wanted, ";") | wants(wanted, "{")),
-            Hint::Quoting(Quote::OwnBrackets),
         ),
     ])
 }
@@ -58,7 +52,7 @@ fn begins_comment(scene: &Scene) -> bool
     first | second
 }
 
-/// What may help at another sign, or at an operand more than the statement has.
+/// What may help at another sign.
 #[tactic(auto, unfolding(crate::specs::Choosing::sign_slip))]
 pub fn sign_slip(scene: &Scene, wanted: &[Wanted]) -> Option<Hint>
     ensures { result ≡ sign_slip (setting scene.now) wanted.now }
@@ -79,10 +73,6 @@ pub fn sign_slip(scene: &Scene, wanted: &[Wanted]) -> Option<Hint>
         (
             scene.is_here(",") & wants(wanted, ";"),
             Hint::Fixed(Advice::SemicolonForComma),
-        ),
-        (
-            wants(wanted, ";") & (scene.is_before(3, "put") & scene.is_after(1, ";")),
-            Hint::Quoting(Quote::OwnRegister),
         ),
     ])
 }

@@ -112,17 +112,6 @@ pub fn span_at(text: &[u8], spot: Spot) -> Option<Span>
     }
 }
 
-fn item_end(text: &[u8], at: usize) -> usize
-    requires { at ≤ length text.now }
-    ensures { IsItemEnd text.now at result }
-{
-    let mut end = at;
-    while end < text.len() && !is_blank(text[end]) {
-        end += 1;
-    }
-    end
-}
-
 fn character_end(text: &[u8], at: usize) -> usize
     requires { at ≤ length text.now }
     ensures { IsCharacterEnd text.now at result }
@@ -132,6 +121,17 @@ fn character_end(text: &[u8], at: usize) -> usize
     }
     let mut end = at + 1;
     while end < text.len() && text[end] >= 128 && text[end] < 192 {
+        end += 1;
+    }
+    end
+}
+
+fn item_end(text: &[u8], at: usize) -> usize
+    requires { at ≤ length text.now }
+    ensures { IsItemEnd text.now at result }
+{
+    let mut end = at;
+    while end < text.len() && !is_blank(text[end]) {
         end += 1;
     }
     end

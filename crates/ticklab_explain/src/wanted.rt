@@ -15,8 +15,8 @@ pub enum Wanted {
     Operator,
     Name,
     Number,
-    Word(Terminal),
     TextEnd,
+    Word(Terminal),
 }
 
 impl Wanted {
@@ -25,7 +25,6 @@ impl Wanted {
         ensures { result.now ≡ sample self }
     {
         match self {
-            Wanted::Word(terminal) => terminal.text(),
             Wanted::Statement => "stamp",
             Wanted::Value => "get",
             Wanted::Expression => "me",
@@ -33,6 +32,7 @@ impl Wanted {
             Wanted::Name => "x",
             Wanted::Number => "0",
             Wanted::TextEnd => "",
+            Wanted::Word(terminal) => terminal.text(),
         }
     }
 

@@ -16,6 +16,13 @@ pub fn push(out: &mut Vec<u8>, text: &str) -> Added
     out.extend_from_slice(text.as_bytes())
 }
 
+/// Adds the digits of a number.
+pub fn push_decimal(out: &mut Vec<u8>, number: usize) -> Added
+    ensures { OnOk result (out.new.items ≡ out.old.items ++ decimal number) }
+{
+    push(out, Buffer::new().format(number))
+}
+
 /// Adds a byte so many times.
 pub fn push_often(out: &mut Vec<u8>, byte: u8, count: usize) -> Added
     ensures { OnOk result (out.new.items ≡ out.old.items ++ replicate count byte) }
@@ -24,13 +31,6 @@ pub fn push_often(out: &mut Vec<u8>, byte: u8, count: usize) -> Added
         out.push(byte)?;
     }
     Ok(())
-}
-
-/// Adds the digits of a number.
-pub fn push_decimal(out: &mut Vec<u8>, number: usize) -> Added
-    ensures { OnOk result (out.new.items ≡ out.old.items ++ decimal number) }
-{
-    push(out, Buffer::new().format(number))
 }
 
 /// Adds pieces one after another.

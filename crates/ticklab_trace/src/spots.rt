@@ -1,17 +1,16 @@
 //! Where the statements of a program stand in its text.
 
-ghost use Rattle.std.specs.Prelude.{◌≡◌, ◌<◌, ◌≤◌, IfErr, IfOk, List, length, map, slice_range};
+ghost use Rattle.std.specs.Prelude.{◌≡◌, ◌<◌, ◌≤◌, IfOk, length, map, slice_range};
 ghost use Rattle.tick_syntax.specs.Spelling.{Spells};
-ghost use Rattle.tick_syntax.specs.declared.token.Token.{Token as SpelledToken};
-ghost use Rattle.tick_syntax.specs.declared.fault.TextFault.TheVariants.{NoMemory};
 ghost use Rattle.ticklab_trace.specs.Places.{Stand, first_line, next_place, standing_at, told_standing};
 ghost use Rattle.ticklab_trace.specs.prover.Heads.{HasPassed, IsCut};
 
 use crate::heads::heads;
+use base::NoMemory;
 use base::span::Span;
 use std::alloc::Global;
 use tick_kinds::Program;
-use tick_syntax::{TextFault, tokens};
+use tick_syntax::token::Token;
 
 /// A statement as it stands in a text.
 #[derive(Clone, Copy)]
@@ -24,17 +23,17 @@ pub struct StatementPlace<'a> {
     pub words: &'a str,
 }
 
-/// The statements of a program in its text, in their order.
+/// The statements of a program in its text, in their order. The tokens are those of the text.
 pub fn places<'a>(
     alloc: Global,
     program: &Program,
     text: &'a str,
-) -> Result<Vec<StatementPlace<'a>>, TextFault>
-    ensures spots { IfOk result (λ spots. Stand text.now program.now spots.items) }
-    ensures fault { (tokens : List SpelledToken) → length text.now ≤ 1000000 → Spells text.now tokens → IfErr result (λ fault. fault ≡ NoMemory) }
+    tokens: &[Token],
+) -> Result<Vec<StatementPlace<'a>>, NoMemory>
+    requires { Spells text.now tokens.now }
+    ensures { IfOk result (λ spots. Stand text.now program.now spots.items) }
 {
-    let tokens = tokens(alloc, text)?;
-    let heads = heads(alloc, program, &tokens)?;
+    let heads = heads(alloc, program, tokens)?;
     let mut spots = Vec::with_capacity(alloc, heads.len())?;
     let mut passed = NOTHING;
     for head in &heads {

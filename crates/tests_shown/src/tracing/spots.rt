@@ -3,6 +3,7 @@
 use std::alloc::Global;
 use std::test::Fail;
 use tests_shared::{accepted, is_same};
+use tick_syntax::tokens;
 use ticklab_trace::{StatementPlace, places};
 
 static TEXT: &str = "\
@@ -67,7 +68,11 @@ fn are(spots: &[StatementPlace<'_>], wanted: &[(usize, usize, &str)]) -> Result<
 }
 
 fn stand(alloc: Global, text: &str, wanted: &[(usize, usize, &str)]) -> Result<(), Fail> {
-    are(&places(alloc, &accepted(alloc, text)?, text)?, wanted)
+    let tokens = tokens(alloc, text)?;
+    are(
+        &places(alloc, &accepted(alloc, text)?, text, &tokens)?,
+        wanted,
+    )
 }
 
 #[test]
@@ -82,6 +87,8 @@ fn spots(rt: HostRuntime) -> Result<(), Fail> {
 #[test]
 fn another_text(rt: HostRuntime) -> Result<(), Fail> {
     let program = accepted(rt.alloc(), "processes 1; begin stamp; clear; end")?;
-    let spots = places(rt.alloc(), &program, "a b c\n d stamp")?;
+    let text = "a b c\n d stamp";
+    let tokens = tokens(rt.alloc(), text)?;
+    let spots = places(rt.alloc(), &program, text, &tokens)?;
     are(&spots, &[(2, 4, "stamp"), (1, 1, "")])
 }

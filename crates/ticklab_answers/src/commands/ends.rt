@@ -5,10 +5,10 @@ ghost use Rattle.searches_states.specs.Ending.{IsAskedOf};
 ghost use Rattle.searches_states.specs.Watching.{IsWatched};
 ghost use Rattle.searches_explore.specs.Ending.{IfStuck, explore_answer};
 ghost use Rattle.searches_explore.specs.Searching.{IfTrapped};
+ghost use Rattle.ticketc_refusals.specs.Refusals.{SpelledIn};
 ghost use Rattle.ticklab_answers.specs.Ends.{ExploresEnds, IsEndsExplored, IsEndsRefused, IsPast, asked_by};
 ghost use Rattle.ticklab_answers.specs.Faults.{IsOfFile};
 ghost use Rattle.ticklab_answers.specs.Lines.{asked_text, can_end_line, no_process_line, stuck_line};
-ghost use Rattle.ticklab_answers.specs.Runs.{IsOf};
 ghost use Rattle.ticklab_answers.specs.Shown.{ShowsEnds};
 ghost use Rattle.ticklab_answers.specs.Stops.{IfRefused};
 
@@ -18,14 +18,14 @@ use crate::fault::LabFault;
 use crate::files::bytes_of;
 use crate::host::Files;
 use crate::progress::Progress;
-use crate::reading::program_of;
+use crate::reading::spelled_program_of;
 use crate::response::{DONE, LIMIT, Response, STUCK, TRAPPED, answer, settled};
 use crate::stop::NoAnswer;
 use crate::trapping::trap_text;
 use base::{NoMemory, push_number};
 use searches_explore::{EndExplored, MustStop, Watch, explore_ends};
 use std::alloc::{AllocError, Global};
-use tick_kinds::Program;
+use ticketc_refusals::SpelledProgram;
 
 /// Whether all processes of the program can still end after every schedule, or this one, as far as the program has
 /// at most `limit` states. The watch is told how far the search is.
@@ -58,10 +58,10 @@ fn all_ends<W: Watch>(
     ensures ok { IfOk result (λ response. IsWatched W.hears watch.old watch.new (IsEndsExplored name.now process limit input.now response)) }
     ensures refused { IfErr result (λ stop. IfRefused stop (λ report. IsEndsRefused name.now process input.now report × (watch.old ≡ watch.new))) }
 {
-    let program = program_of(alloc, name, input)?;
-    let asked = asked_of(alloc, process, program.processes())?;
-    let explored = explore_ends(alloc, &program, asked, limit, watch)?;
-    Ok(shown(alloc, asked, &program, input, &explored)?)
+    let spelled = spelled_program_of(alloc, name, input)?;
+    let asked = asked_of(alloc, process, spelled.program.processes())?;
+    let explored = explore_ends(alloc, &spelled.program, asked, limit, watch)?;
+    Ok(shown(alloc, asked, &spelled, input, &explored)?)
 }
 
 // Who is asked for, of so many processes.
@@ -84,14 +84,14 @@ fn asked_of(alloc: Global, process: Option<u8>, n: u8) -> Result<MustStop, NoAns
 fn shown(
     alloc: Global,
     asked: MustStop,
-    program: &Program,
+    spelled: &SpelledProgram,
     input: &[u8],
     explored: &EndExplored,
 ) -> Result<Response, NoMemory>
-    requires trapped { IfTrapped (explore_answer explored.now) (All (λ p. p < (resolved program.now).processes)) }
-    requires stuck { IfStuck explored.now (All (λ p. p < (resolved program.now).processes)) }
-    requires program { IsOf input.now program.now }
-    ensures { IfOk result (ShowsEnds asked input.now program.now explored.now) }
+    requires trapped { IfTrapped (explore_answer explored.now) (All (λ p. p < (resolved spelled.now.program).processes)) }
+    requires stuck { IfStuck explored.now (All (λ p. p < (resolved spelled.now.program).processes)) }
+    requires program { SpelledIn input.now spelled.now }
+    ensures { IfOk result (ShowsEnds asked input.now spelled.now.program explored.now) }
 {
     match explored {
         EndExplored::Ends { states } => {
@@ -99,11 +99,11 @@ fn shown(
         }
         EndExplored::Stuck { schedule, .. } => {
             let found = stuck_line(alloc, asked)?;
-            let text = trap_text(alloc, &found, program, input, schedule.as_slice())?;
+            let text = trap_text(alloc, &found, spelled, input, schedule.as_slice())?;
             Ok(answer(alloc, STUCK, text))
         }
         EndExplored::Trapped(schedule) => {
-            let text = trap_text(alloc, SHORTEST, program, input, schedule.as_slice())?;
+            let text = trap_text(alloc, SHORTEST, spelled, input, schedule.as_slice())?;
             Ok(answer(alloc, TRAPPED, text))
         }
         EndExplored::Limit { states } => Ok(answer(alloc, LIMIT, limit_line(alloc, *states)?)),

@@ -3,12 +3,11 @@ ghost use Rattle.std.specs.Prelude.{◌≡◌, ◌<◌, All, IfErr, IfOk, string
 ghost use Rattle.tick_kinds.specs.Resolution.{resolved};
 ghost use Rattle.searches_states.specs.Watching.{IsWatched};
 ghost use Rattle.searches_explore.specs.Searching.{IfTrapped};
-ghost use Rattle.ticketc_refusals.specs.Refusals.{IsProgramRefused};
+ghost use Rattle.ticketc_refusals.specs.Refusals.{IsProgramRefused, SpelledIn};
 ghost use Rattle.ticklab_explain.specs.Reports.{Tells};
 ghost use Rattle.ticklab_answers.specs.Exploring.{Explores, IsExplored};
 ghost use Rattle.ticklab_answers.specs.Faults.{IsOfFile};
 ghost use Rattle.ticklab_answers.specs.Lines.{limit_line, safe_line};
-ghost use Rattle.ticklab_answers.specs.Runs.{IsOf};
 ghost use Rattle.ticklab_answers.specs.Shown.{Shows};
 ghost use Rattle.ticklab_answers.specs.Stops.{IfRefused};
 
@@ -17,14 +16,14 @@ use crate::fault::LabFault;
 use crate::files::bytes_of;
 use crate::host::Files;
 use crate::progress::Progress;
-use crate::reading::program_of;
+use crate::reading::spelled_program_of;
 use crate::response::{DONE, LIMIT, Response, TRAPPED, answer, settled};
 use crate::stop::NoAnswer;
 use crate::trapping::trap_text;
 use base::NoMemory;
 use searches_explore::{Explored, Watch, explore, explore_merged};
 use std::alloc::{AllocError, Global};
-use tick_kinds::Program;
+use ticketc_refusals::SpelledProgram;
 
 pub const SHORTEST: &str = "a process traps under this schedule, and under no shorter one:";
 
@@ -62,31 +61,31 @@ fn all_schedules<W: Watch>(
     ensures ok { IfOk result (λ response. IsWatched W.hears watch.old watch.new (IsExplored is_merged name.now limit input.now response)) }
     ensures refused { IfErr result (λ stop. IfRefused stop (λ report. Tells (IsProgramRefused input.now) name.now input.now report × (watch.old ≡ watch.new))) }
 {
-    let program = program_of(alloc, name, input)?;
+    let spelled = spelled_program_of(alloc, name, input)?;
     if is_merged {
-        let explored = explore_merged(alloc, &program, limit, watch)?;
-        return Ok(shown(alloc, SOME, &program, input, &explored)?);
+        let explored = explore_merged(alloc, &spelled.program, limit, watch)?;
+        return Ok(shown(alloc, SOME, &spelled, input, &explored)?);
     }
-    let explored = explore(alloc, &program, limit, watch)?;
-    Ok(shown(alloc, SHORTEST, &program, input, &explored)?)
+    let explored = explore(alloc, &spelled.program, limit, watch)?;
+    Ok(shown(alloc, SHORTEST, &spelled, input, &explored)?)
 }
 
 // The answer that tells what was explored.
 fn shown(
     alloc: Global,
     found: &str,
-    program: &Program,
+    spelled: &SpelledProgram,
     input: &[u8],
     explored: &Explored,
 ) -> Result<Response, NoMemory>
-    requires schedule { IfTrapped explored.now (All (λ p. p < (resolved program.now).processes)) }
-    requires program { IsOf input.now program.now }
-    ensures { IfOk result (Shows found.now input.now program.now explored.now) }
+    requires schedule { IfTrapped explored.now (All (λ p. p < (resolved spelled.now.program).processes)) }
+    requires program { SpelledIn input.now spelled.now }
+    ensures { IfOk result (Shows found.now input.now spelled.now.program explored.now) }
 {
     match explored {
         Explored::Safe { states } => Ok(answer(alloc, DONE, safe_line(alloc, *states)?)),
         Explored::Trapped(schedule) => {
-            let text = trap_text(alloc, found, program, input, schedule.as_slice())?;
+            let text = trap_text(alloc, found, spelled, input, schedule.as_slice())?;
             Ok(answer(alloc, TRAPPED, text))
         }
         Explored::Limit { states } => Ok(answer(alloc, LIMIT, limit_line(alloc, *states)?)),

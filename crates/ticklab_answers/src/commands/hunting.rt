@@ -2,12 +2,11 @@
 ghost use Rattle.std.specs.Prelude.{◌≡◌, ◌<◌, All, IfErr, IfOk, string_bytes};
 ghost use Rattle.tick_kinds.specs.Resolution.{resolved};
 ghost use Rattle.searches_hunt.specs.Hunts.{IfFound, IsMinimalTrap};
-ghost use Rattle.ticketc_refusals.specs.Refusals.{IsProgramRefused};
+ghost use Rattle.ticketc_refusals.specs.Refusals.{IsProgramRefused, SpelledIn};
 ghost use Rattle.ticklab_explain.specs.Reports.{Tells};
 ghost use Rattle.ticklab_answers.specs.Faults.{IsOfFile};
 ghost use Rattle.ticklab_answers.specs.Hunting.{Hunts, IsHunted, plan_of};
 ghost use Rattle.ticklab_answers.specs.Lines.{nothing_line};
-ghost use Rattle.ticklab_answers.specs.Runs.{IsOf};
 ghost use Rattle.ticklab_answers.specs.Shown.{ShowsHunt};
 ghost use Rattle.ticklab_answers.specs.Stops.{IfRefused};
 
@@ -15,7 +14,7 @@ use crate::counts::push_many;
 use crate::fault::LabFault;
 use crate::files::bytes_of;
 use crate::host::Files;
-use crate::reading::program_of;
+use crate::reading::spelled_program_of;
 use crate::response::{DONE, Response, TRAPPED, answer, settled};
 use crate::stop::NoAnswer;
 use crate::trapping::trap_text;
@@ -23,7 +22,7 @@ use base::NoMemory;
 use searches_hunt::{Hunted, Mode, Plan, hunt};
 use std::alloc::{AllocError, Global};
 use std::fmt::Write;
-use tick_kinds::Program;
+use ticketc_refusals::SpelledProgram;
 
 const MINIMAL: &str =
     "a process traps under this schedule, and where any one step is left out none does:";
@@ -69,26 +68,26 @@ fn random_schedules(
     ensures ok { IfOk result (IsHunted name.now plan input.now) }
     ensures refused { IfErr result (λ stop. IfRefused stop (Tells (IsProgramRefused input.now) name.now input.now)) }
 {
-    let program = program_of(alloc, name, input)?;
-    let hunted = hunt(alloc, &program, plan)?;
-    Ok(shown(alloc, &program, input, plan, &hunted)?)
+    let spelled = spelled_program_of(alloc, name, input)?;
+    let hunted = hunt(alloc, &spelled.program, plan)?;
+    Ok(shown(alloc, &spelled, input, plan, &hunted)?)
 }
 
 // The answer that tells what the hunt came to.
 fn shown(
     alloc: Global,
-    program: &Program,
+    spelled: &SpelledProgram,
     input: &[u8],
     plan: Plan,
     hunted: &Hunted,
 ) -> Result<Response, NoMemory>
-    requires schedule { IfFound hunted.now (λ run schedule. IsMinimalTrap (resolved program.now) schedule) }
-    requires program { IsOf input.now program.now }
-    ensures { IfOk result (ShowsHunt input.now program.now plan hunted.now) }
+    requires schedule { IfFound hunted.now (λ run schedule. IsMinimalTrap (resolved spelled.now.program) schedule) }
+    requires program { SpelledIn input.now spelled.now }
+    ensures { IfOk result (ShowsHunt input.now spelled.now.program plan hunted.now) }
 {
     match hunted {
         Hunted::Found { schedule, .. } => {
-            let text = trap_text(alloc, MINIMAL, program, input, schedule.as_slice())?;
+            let text = trap_text(alloc, MINIMAL, spelled, input, schedule.as_slice())?;
             Ok(answer(alloc, TRAPPED, text))
         }
         Hunted::Nothing => Ok(answer(alloc, DONE, nothing_line(alloc, plan)?)),

@@ -1,22 +1,23 @@
 //! What `ticklab trace` and `ticklab draw` share: they read a program and a schedule, and tell of the run.
 ghost use Rattle.std.specs.Prelude.{◌<◌, All, IfErr, IfOk};
 ghost use Rattle.tick_kinds.specs.Resolution.{resolved};
+ghost use Rattle.ticketc_refusals.specs.Refusals.{SpelledIn};
 ghost use Rattle.ticklab_answers.specs.Codes.{IsCodeless};
 ghost use Rattle.ticklab_answers.specs.Faults.{IsEither, IsOfFileThat};
 ghost use Rattle.ticklab_answers.specs.Responses.{Gives};
 ghost use Rattle.ticklab_answers.specs.Stops.{IfRefused};
-ghost use Rattle.ticklab_answers.specs.Runs.{IsOf, IsRun, IsTold, IsUnrun, TellsRun};
+ghost use Rattle.ticklab_answers.specs.Runs.{IsRun, IsTold, IsUnrun, TellsRun};
 
 use crate::commands::drawing::picture_of;
 use crate::commands::tracing::trace_of;
 use crate::fault::LabFault;
 use crate::files::{bytes_of, text_of};
 use crate::host::Files;
-use crate::reading::{program_of, schedule_of};
+use crate::reading::{schedule_of, spelled_program_of};
 use crate::response::{DONE, Response, output, settled};
 use crate::stop::NoAnswer;
 use std::alloc::Global;
-use tick_kinds::Program;
+use ticketc_refusals::SpelledProgram;
 
 /// How a run is told.
 #[derive(Clone, Copy)]
@@ -57,14 +58,14 @@ fn run_told(
     ensures ok { IfOk result (Gives 0 (IsRun (IsTold telling is_code name.now input.now) input.now schedule.now)) }
     ensures refused { IfErr result (λ stop. IfRefused stop (IsUnrun name.now input.now from.now schedule.now is_code)) }
 {
-    let program = program_of(alloc, name, input)?;
-    let steps = schedule_of(alloc, from, schedule, program.processes())?;
+    let spelled = spelled_program_of(alloc, name, input)?;
+    let steps = schedule_of(alloc, from, schedule, spelled.program.processes())?;
     let out = telling_of(
         alloc,
         telling,
         is_code,
         name,
-        &program,
+        &spelled,
         input,
         steps.as_slice(),
     )?;
@@ -76,20 +77,20 @@ fn telling_of(
     telling: Telling,
     is_code: bool,
     name: &str,
-    program: &Program,
+    spelled: &SpelledProgram,
     input: &[u8],
     schedule: &[u8],
 ) -> Result<Vec<u8>, NoAnswer>
-    requires schedule { All (λ p. p < (resolved program.now).processes) schedule.now }
-    requires program { IsOf input.now program.now }
-    ensures ok { IfOk result (λ out. IsTold telling is_code name.now input.now program.now schedule.now out.items) }
-    ensures refused { IfErr result (λ stop. IfRefused stop (IsCodeless is_code name.now program.now)) }
+    requires schedule { All (λ p. p < (resolved spelled.now.program).processes) schedule.now }
+    requires program { SpelledIn input.now spelled.now }
+    ensures ok { IfOk result (λ out. IsTold telling is_code name.now input.now spelled.now.program schedule.now out.items) }
+    ensures refused { IfErr result (λ stop. IfRefused stop (IsCodeless is_code name.now spelled.now.program)) }
 {
     match telling {
         Telling::Trace => {
-            let text = trace_of(alloc, name, program, input, schedule, is_code)?;
+            let text = trace_of(alloc, name, spelled, input, schedule, is_code)?;
             Ok(text.into_bytes())
         }
-        Telling::Picture => picture_of(alloc, name, program, schedule, is_code),
+        Telling::Picture => picture_of(alloc, name, &spelled.program, schedule, is_code),
     }
 }

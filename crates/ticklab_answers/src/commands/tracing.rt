@@ -1,10 +1,11 @@
 //! `ticklab trace`.
 ghost use Rattle.std.specs.Prelude.{◌≡◌, ◌<◌, All, IfErr, IfOk, string_bytes};
 ghost use Rattle.tick_kinds.specs.Resolution.{resolved};
+ghost use Rattle.ticketc_refusals.specs.Refusals.{SpelledIn};
 ghost use Rattle.ticklab_answers.specs.Codes.{HasNoCode, IsCodeless};
 ghost use Rattle.ticklab_answers.specs.Faults.{IsEither, IsOfFileThat};
 ghost use Rattle.ticklab_trace.specs.Places.{Stand};
-ghost use Rattle.ticklab_answers.specs.Runs.{IsInstructionTrace, IsOf, IsStatementTrace, IsTrace, Traces};
+ghost use Rattle.ticklab_answers.specs.Runs.{IsInstructionTrace, IsStatementTrace, IsTrace, Traces};
 ghost use Rattle.ticklab_answers.specs.Stops.{IfRefused};
 
 use crate::commands::told_run::{Telling, told};
@@ -17,7 +18,7 @@ use base::NoMemory;
 use std::alloc::Global;
 use std::str;
 use tick_kinds::Program;
-use tick_syntax::TextFault;
+use ticketc_refusals::SpelledProgram;
 use ticklab_trace::{StatementPlace, code_steps, code_trace, places, source_steps, source_trace};
 
 /// A line for each step of the program under a schedule, or of its code.
@@ -38,35 +39,36 @@ pub fn traced<F: Files>(
 pub fn trace_of(
     alloc: Global,
     name: &str,
-    program: &Program,
+    spelled: &SpelledProgram,
     input: &[u8],
     schedule: &[u8],
     is_code: bool,
 ) -> Result<String, NoAnswer>
-    requires schedule { All (λ p. p < (resolved program.now).processes) schedule.now }
-    requires program { IsOf input.now program.now }
-    ensures ok { IfOk result (λ text. IsTrace is_code input.now program.now schedule.now (string_bytes text)) }
-    ensures refused { IfErr result (λ stop. IfRefused stop (IsCodeless is_code name.now program.now)) }
+    requires schedule { All (λ p. p < (resolved spelled.now.program).processes) schedule.now }
+    requires program { SpelledIn input.now spelled.now }
+    ensures ok { IfOk result (λ text. IsTrace is_code input.now spelled.now.program schedule.now (string_bytes text)) }
+    ensures refused { IfErr result (λ stop. IfRefused stop (IsCodeless is_code name.now spelled.now.program)) }
 {
     if is_code {
-        code_text(alloc, name, program, schedule)
+        code_text(alloc, name, &spelled.program, schedule)
     } else {
-        Ok(source_text(alloc, program, input, schedule)?)
+        Ok(source_text(alloc, spelled, input, schedule)?)
     }
 }
 
 /// The steps of the program that this input is.
 pub fn source_text(
     alloc: Global,
-    program: &Program,
+    spelled: &SpelledProgram,
     input: &[u8],
     schedule: &[u8],
 ) -> Result<String, NoMemory>
-    requires program { IsOf input.now program.now }
-    requires schedule { All (λ p. p < (resolved program.now).processes) schedule.now }
-    ensures { IfOk result (λ text. IsStatementTrace input.now program.now schedule.now (string_bytes text)) }
+    requires program { SpelledIn input.now spelled.now }
+    requires schedule { All (λ p. p < (resolved spelled.now.program).processes) schedule.now }
+    ensures { IfOk result (λ text. IsStatementTrace input.now spelled.now.program schedule.now (string_bytes text)) }
 {
-    let spots = spots_in(alloc, program, input)?;
+    let program = &spelled.program;
+    let spots = spots_in(alloc, spelled, input)?;
     let steps = source_steps(alloc, program, schedule)?;
     source_trace(alloc, program, spots.as_slice(), steps.as_slice())
 }
@@ -74,20 +76,16 @@ pub fn source_text(
 // Where the statements of the program stand that this input is.
 fn spots_in<'a>(
     alloc: Global,
-    program: &Program,
+    spelled: &SpelledProgram,
     input: &'a [u8],
 ) -> Result<Vec<StatementPlace<'a>>, NoMemory>
-    requires { IsOf input.now program.now }
-    ensures { IfOk result (λ spots. Stand input.now program.now spots.items) }
+    requires { SpelledIn input.now spelled.now }
+    ensures { IfOk result (λ spots. Stand input.now spelled.now.program spots.items) }
 {
     let Ok(text) = str::from_utf8(input) else {
         unreachable!()
     };
-    match places(alloc, program, text) {
-        Ok(spots) => Ok(spots),
-        Err(TextFault::NoMemory) => Err(NoMemory),
-        Err(_) => unreachable!(),
-    }
+    places(alloc, &spelled.program, text, spelled.tokens.as_slice())
 }
 
 fn code_text(

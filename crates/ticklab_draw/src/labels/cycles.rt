@@ -42,22 +42,6 @@ fn push_corner(out: &mut Vec<u8>, n: u8) -> Added
     push_two(out, begin, frames.left, " ", u128::from(frames.top), ")")
 }
 
-#[tactic(auto, unfolding(crate::specs::labels::Figures::absent_text))]
-fn push_absent(out: &mut Vec<u8>, n: u8, process: u8) -> Added
-    requires few { n ≤ 6 }
-    requires in_range { process < n }
-    ensures { OnOk result (out.new.items ≡ out.old.items ++ absent_text n process) }
-{
-    push_two(
-        out,
-        "<g transform='translate(",
-        seat(n, process),
-        " 14)'><use href='#absent-",
-        u128::from(process),
-        "'/>",
-    )
-}
-
 fn push_steps(out: &mut Vec<u8>, n: u8, label: &Label) -> Added
     ensures { OnOk result (out.new.items ≡ out.old.items ++ place_text n 0 label.now) }
 {
@@ -87,6 +71,22 @@ fn push_name(out: &mut Vec<u8>, process: u8) -> Added
     ensures { OnOk result (out.new.items ≡ out.old.items ++ present_text process) }
 {
     push_one(out, "'><use href='#process-", u128::from(process), "'/>")
+}
+
+#[tactic(auto, unfolding(crate::specs::labels::Figures::absent_text))]
+fn push_absent(out: &mut Vec<u8>, n: u8, process: u8) -> Added
+    requires few { n ≤ 6 }
+    requires in_range { process < n }
+    ensures { OnOk result (out.new.items ≡ out.old.items ++ absent_text n process) }
+{
+    push_two(
+        out,
+        "<g transform='translate(",
+        seat(n, process),
+        " 14)'><use href='#absent-",
+        u128::from(process),
+        "'/>",
+    )
 }
 
 /// Adds the mark of the process that moved, and ends its group.

@@ -1,5 +1,5 @@
 use Rattle.std.proofs.Common.{◌≡◌, drop}
-use Rattle.ticklab_explain.specs.Choosing.{first_that_fits}
+use Rattle.ticklab_explain.specs.Rules.{first_that_fits}
 use Rattle.ticklab_explain.proofs.hint.first_that_fits.Given as goal
 
 abbrev pub invariant-loop-fits : goal.invariant-loop-fits

@@ -7,5 +7,5 @@ use Rattle.ticklab_trace.proofs.spots.places.Given as goal
 abbrev pub invariant-loop-head : goal.invariant-loop-head
 invariant-loop-head l =
     HasPassed l.text l.passed
-    × (map told_standing l.spots.items ++ map (standing_at l.text) (drop l.head-index (statement_heads l.tokens.items l.program))
-    ≡ standings l.text l.tokens.items l.program)
+    × (map told_standing l.spots.items ++ map (standing_at l.text) (drop l.head-index (statement_heads l.tokens l.program))
+    ≡ standings l.text l.tokens l.program)

@@ -12,19 +12,19 @@ pub returns-in_err-asked-clause-refused : goal.returns-in_err-asked-clause-refus
 returns-in_err-asked-clause-refused g c =
     stopped_by (λ report. IsEndsRefused c.args.name.now c.args.process c.args.input.now report × (c.args.watch.now ≡ c.args.watch.now)) _
     c.from_residual-in_err-asked.result c.from_residual-in_err-asked.ensures.1
-    (refused_as _ (past_told c.args.watch.now c.args.name.now c.args.process c.args.input.now c.in_ok-program.program c.in_ok-program.ensures.ok
+    (refused_as _ (past_told c.args.watch.now c.args.name.now c.args.process c.args.input.now c.in_ok-spelled.spelled.program c.in_ok-spelled.ensures.ok.0
     c.processes.result c.processes.ensures.count) c.in_err-asked.ensures.refused)
 
 pub returns-clause-ok : goal.returns-clause-ok
 returns-clause-ok g c =
     let e = c.in_ok-explored.ensures in
-    let a = resolved c.in_ok-program.program in
+    let a = resolved c.in_ok-spelled.spelled.program in
     let found = c.in_ok-explored.explored in
     let response = c.in_ok-shown.field-0 in
     let same = c.in_ok-asked.ensures.asked in
-    ends_searched c.args.name.now c.args.process c.args.limit c.args.input.now c.in_ok-program.program c.in_ok-program.ensures.ok
+    ends_searched c.args.name.now c.args.process c.args.limit c.args.input.now c.in_ok-spelled.spelled.program c.in_ok-spelled.ensures.ok.0
     (subst (IsAskedOf a.processes) same (subst (λ n. IsAskedOf n c.in_ok-asked.asked) c.processes.ensures.count c.in_ok-asked.ensures.in_range))
     g.W.Watch.hears _ _ found response e.trapped e.safe
     (subst (λ asked. IfStuck found (IsShortestStuck a asked)) same e.stuck)
     (subst (λ asked. IfEnds found (CanAlwaysEnd a asked)) same e.ends) e.limit
-    (subst (λ asked. ShowsEnds asked c.args.input.now c.in_ok-program.program found response) same c.in_ok-shown.ensures) e.watched
+    (subst (λ asked. ShowsEnds asked c.args.input.now c.in_ok-spelled.spelled.program found response) same c.in_ok-shown.ensures) e.watched

@@ -1,0 +1,48 @@
+-- Slips with blocks.
+use Rattle.std.specs.Prelude.{Bool, not, ◌&&◌, ◌||◌, List, [], ◌∷◌, codes, Option, is_some, is_none}
+use Rattle.std.specs.Option.{option_or}
+use Rattle.ticklab_explain.specs.Following.{is_one_of}
+use Rattle.ticklab_explain.specs.Parts.{has}
+use Rattle.ticklab_explain.specs.Rules.{first_that_fits, is, is_keyword_here, is_name_here, wants}
+use Rattle.ticklab_explain.specs.Settings.{Setting, after, before, here, open_brace, sort_here}
+use Rattle.ticklab_explain.specs.declared.advice.Advice.TheVariants as A
+use Rattle.ticklab_explain.specs.declared.hint.Hint.{Hint}
+use Rattle.ticklab_explain.specs.declared.hint.Hint.TheVariants.{Fixed, Quoting, Rewriting}
+use Rattle.ticklab_explain.specs.declared.part.Part.TheVariants as P
+use Rattle.ticklab_explain.specs.declared.quote.Quote.TheVariants as W
+use Rattle.ticklab_explain.specs.declared.rewrite.Rewrite.TheVariants as R
+use Rattle.ticklab_explain.specs.declared.wanted.Wanted.{Wanted}
+
+-- of `else`
+unfoldable pub else_slip : Setting → List Wanted → Option Hint
+else_slip s wanted = first_that_fits (
+    (is (here s) (codes "if") && (is (before s 1) (codes "else") && has s (P.OperandAfter 1)), Rewriting R.ElseIf)
+    ∷ (is (here s) (codes "if") && is (before s 1) (codes "else"), Fixed A.NoElseIf)
+    ∷ (is_one_of (here s) (codes "elif" ∷ codes "elseif" ∷ codes "elsif" ∷ []) && (wants wanted (codes "else") && has s (P.OperandAfter 1)), Rewriting R.ElseIf)
+    ∷ (is (here s) (codes "else") && (wants wanted (codes "stamp") && not (is_some (open_brace s))), Fixed A.ElseAlone)
+    ∷ [])
+
+-- a `}` stands here, and no `{` is open
+abbrev pub closes_nothing : Setting → Bool
+closes_nothing s = is (here s) (codes "}") && not (is_some (open_brace s))
+
+-- of braces
+unfoldable pub brace_slip : Setting → List Wanted → Option Hint
+brace_slip s wanted = first_that_fits (
+    (is_some (open_brace s) && ((is_none (sort_here s) || (is (here s) (codes "end") || is (here s) (codes "else"))) && wants wanted (codes "}")), Quoting W.BraceIsOpen)
+    ∷ (closes_nothing s && (wants wanted (codes "end") && is (after s 1) []), Fixed A.EndIsMissing)
+    ∷ (closes_nothing s && (wants wanted (codes "stamp") || wants wanted (codes "else")), Fixed A.NothingToClose)
+    ∷ (is (here s) (codes "{") && wants wanted (codes "stamp"), Fixed A.NoFreeBlock)
+    ∷ (wants wanted (codes "else"), Fixed A.ElseIsMissing)
+    ∷ [])
+
+-- of a block that has no braces
+unfoldable pub body_slip : Setting → List Wanted → Option Hint
+body_slip s wanted = first_that_fits (
+    (is_one_of (here s) (codes "then" ∷ codes "do" ∷ []) && wants wanted (codes "{"), Quoting W.NoThen)
+    ∷ (wants wanted (codes "{") && (((is_name_here s && is (after s 1) (codes "=")) || is_one_of (here s) (codes "put" ∷ codes "stamp" ∷ codes "clear" ∷ codes "out" ∷ [])) && has s P.ToSemicolon), Rewriting R.InBraces)
+    ∷ (wants wanted (codes "{") && (is_name_here s || is_keyword_here s), Fixed A.BlockInBraces)
+    ∷ [])
+
+unfoldable pub block_slip : Setting → List Wanted → Option Hint
+block_slip s wanted = option_or (else_slip s wanted) (brace_slip s wanted)
