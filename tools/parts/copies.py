@@ -1,11 +1,14 @@
 """Copies of functions, for rounds in which more than one edit turns the same function.
 
 A copy stands at the end of the function's file, under a name of its own, with its contract and its proof. Nothing
-calls it, so it stands for the function where its body is turned.
+calls it, so it stands for the function where its body is turned. A copy belongs to no cycle: it calls the functions
+of the one that its function belongs to.
 """
 import os
 import re
 import shutil
+
+from parts.functions import CYCLE
 
 
 class Copy:
@@ -21,7 +24,8 @@ class Copy:
     def put(self, folder, lines, source):
         """Puts the copy into a copy of the crate, with these lines as its text."""
         name = re.compile(rf"\bfn {self.function.name()}\b")
-        lines = [name.sub(f"fn {self.name}", line) for line in lines]
+        # A line for a line.
+        lines = ["" if CYCLE.search(line) else name.sub(f"fn {self.name}", line) for line in lines]
         if self.function.indent:
             lines = [source.opening_of(self.function), *lines, "}"]
         with open(f"{folder}/{self.file}", encoding="utf-8") as text:
@@ -49,12 +53,17 @@ class Copy:
 
 
 def may_copy(edit, source):
-    """Whether an edit may turn a copy: it turns one function, which belongs to no trait and doesn't call itself."""
+    """Whether an edit may turn a copy: it turns one function, which belongs to no trait and either doesn't call itself or
+    belongs to a cycle whose proof answers none of its goals."""
     if edit.is_wide or len(edit.paths()) != 1:
         return False
     function = edit.functions[0]
     body = function.body()
-    return function.is_plain(source.types) and body is not None and not calls(function.text[body[0] + 1 :], function.name())
+    if body is None or not function.may_stand_twice(source.types):
+        return False
+    if function.is_in_cycle:
+        return not source.is_answered(function)
+    return not calls(function.text[body[0] + 1 :], function.name())
 
 
 def calls(lines, name):

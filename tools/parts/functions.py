@@ -30,8 +30,12 @@ class Function:
 
     def is_plain(self, types):
         """Whether its body may be left out: it belongs to no trait and to no cycle, and no constant is made by it."""
+        return self.may_stand_twice(types) and not self.is_in_cycle
+
+    def may_stand_twice(self, types):
+        """Whether it belongs to no trait, no constant is made by it, and it is no test."""
         of_trait = self.owner[:1].isupper() and self.owner not in types
-        return not (of_trait or self.is_in_cycle or self.is_const or "#[test" in "\n".join(self.text))
+        return not (of_trait or self.is_const or "#[test" in "\n".join(self.text))
 
     def body(self):
         """The places in `text` of the line that opens the body and of the one that closes it, if it is laid out so."""
@@ -97,7 +101,7 @@ class Source:
     """The text of a crate's src/, and the functions in it."""
 
     def __init__(self, folder):
-        self.texts = {}
+        self.folder, self.texts = folder, {}
         for at, _, names in os.walk(f"{folder}/src"):
             for name in names:
                 if name.endswith(".rt"):
@@ -118,6 +122,17 @@ class Source:
         opens = max(at for at, line in enumerate(before) if line.startswith("impl"))
         ends = next(at for at in range(opens, len(before)) if before[at].endswith("{"))
         return "\n".join(before[opens : ends + 1])
+
+    def is_answered(self, function):
+        """Whether a page of its proof says something of a function that belongs to a cycle, but for its measure."""
+        own = re.compile(rf"(?m)^(?:abbrev )?pub (?:invariant-)?{function.name()}-")
+        place = f"{self.folder}/proofs/{function.proof.replace('::', '/')}"
+        for at, _, names in os.walk(place):
+            for name in names:
+                with open(f"{at}/{name}", encoding="utf-8") as text:
+                    if own.search(text.read()):
+                        return True
+        return False
 
     def proofs(self):
         """For the path of each function, under which its proof stands."""
