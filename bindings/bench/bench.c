@@ -1,6 +1,8 @@
-/* What a call costs, and what a turn of a lock costs beside other locks: nanoseconds. Of one
- * thread the least of forty short rounds, which others disturb least; of two the median of nine. */
+/* What a call costs beside the same written by hand (by_hand.c), and what a turn of a lock costs beside other locks:
+ * nanoseconds. Of one thread the least of forty short rounds, which others disturb least; of two the median of nine.
+ * With an argument it measures the calls alone. */
 #define _POSIX_C_SOURCE 200809L
+#include "by_hand.h"
 #include "ticket_word.h"
 #include <pthread.h>
 #include <sched.h>
@@ -18,55 +20,120 @@ static double now(void) {
 
 static volatile uint64_t sink;
 
-/* ---- Calls, over words that moves of all processes lead to. ---- */
+/* ---- Calls, over words that moves of all processes lead to, each beside the same by hand. ---- */
 
-enum { WORDS = 64 };
+enum { WORDS = 64, COMPARED = 10000 };
 
 static uint64_t words[WORDS];
 
+static unsigned drawn = 1;
+
+static unsigned draw(void) {
+    drawn = drawn * 1103515245 + 12345;
+    return drawn >> 16 & 0x7fff;
+}
+
 static void make_words(uint8_t n) {
     uint64_t word = 0;
-    unsigned drawn = 1;
+    drawn = 1;
     for (unsigned k = 0; k < 100 + WORDS; k++) {
-        drawn = drawn * 1103515245 + 12345;
-        word = ticket_word_stamped(n, word, (uint8_t)(drawn >> 16 & 0x7fff) % n).word;
+        word = ticket_word_stamped(n, word, (uint8_t)(draw() % n)).word;
         if (k >= 100) words[k - 100] = word;
     }
 }
 
-static uint64_t fault(uint8_t n, uint64_t word) { return ticket_word_fault(n, word); }
-static uint64_t stamped(uint8_t n, uint64_t word) { return ticket_word_stamped(n, word, 0).word; }
-static uint64_t cleared(uint8_t n, uint64_t word) { return ticket_word_cleared(n, word, 0).word; }
-static uint64_t held(uint8_t n, uint64_t word) { return ticket_word_held(n, word, 0).answer; }
-static uint64_t older(uint8_t n, uint64_t word) { return ticket_word_older(n, word, 0, n - 1).answer; }
-static uint64_t is_first(uint8_t n, uint64_t word) { return ticket_word_is_first(n, word, 0).answer; }
-static uint64_t rank(uint8_t n, uint64_t word) { return ticket_word_rank(n, word, 0).rank; }
-static uint64_t ranks(uint8_t n, uint64_t word) { return ticket_word_ranks(n, word).of[0]; }
+#define CALL(name, arguments, part) \
+    static uint64_t name(uint8_t n, uint64_t word) { return ticket_word_##name arguments part; } \
+    static uint64_t name##_by_hand(uint8_t n, uint64_t word) { return by_hand_##name arguments part; }
 
-static double a_call(uint64_t (*call)(uint8_t, uint64_t), uint8_t n) {
-    double least = 1e18;
-    for (unsigned round = 0; round < ROUNDS; round++) {
-        double start = now();
-        for (unsigned k = 0; k < CALLS; k++) sink = call(n, words[k % WORDS]);
-        double took = (now() - start) / CALLS;
-        if (took < least) least = took;
+CALL(fault, (n, word), )
+CALL(stamped, (n, word, 0), .word)
+CALL(cleared, (n, word, 0), .word)
+CALL(held, (n, word, 0), .answer)
+CALL(older, (n, word, 0, n - 1), .answer)
+CALL(is_first, (n, word, 0), .answer)
+CALL(rank, (n, word, 0), .rank)
+CALL(ranks, (n, word), .of[0])
+
+static double a_round_of(uint64_t (*call)(uint8_t, uint64_t), uint8_t n) {
+    double start = now();
+    for (unsigned k = 0; k < CALLS; k++) sink = call(n, words[k % WORDS]);
+    return (now() - start) / CALLS;
+}
+
+/* The least that each of the two takes, in rounds by turns. */
+static void both(uint64_t (*const call[2])(uint8_t, uint64_t), uint8_t n, double least[2]) {
+    least[0] = least[1] = 1e18;
+    for (unsigned round = 0; round < 2 * ROUNDS; round++) {
+        double took = a_round_of(call[round % 2], n);
+        if (took < least[round % 2]) least[round % 2] = took;
     }
-    return least;
 }
 
 static void calls(void) {
     static const struct {
         const char *name;
-        uint64_t (*call)(uint8_t, uint64_t);
-    } all[] = {{"fault", fault}, {"stamped", stamped}, {"cleared", cleared}, {"held", held}, {"older", older}, {"is_first", is_first}, {"rank", rank}, {"ranks", ranks}};
-    printf("%-22s %8s %8s %8s\n", "a call", "n = 2", "n = 4", "n = 6");
+        uint64_t (*call[2])(uint8_t, uint64_t);
+    } all[] = {
+        {"fault", {fault, fault_by_hand}}, {"stamped", {stamped, stamped_by_hand}}, {"cleared", {cleared, cleared_by_hand}},
+        {"held", {held, held_by_hand}}, {"older", {older, older_by_hand}}, {"is_first", {is_first, is_first_by_hand}},
+        {"rank", {rank, rank_by_hand}}, {"ranks", {ranks, ranks_by_hand}},
+    };
+    printf("%-22s", "a call");
+    for (unsigned n = 2; n <= 6; n += 2) printf("      n = %u  by hand  ratio", n);
+    printf("\n");
     for (unsigned k = 0; k < sizeof all / sizeof all[0]; k++) {
         printf("%-22s", all[k].name);
         for (uint8_t n = 2; n <= 6; n = (uint8_t)(n + 2)) {
+            double least[2];
             make_words(n);
-            printf(" %8.0f", a_call(all[k].call, n));
+            both(all[k].call, n, least);
+            printf(" %10.1f %8.1f %6.2f", least[0], least[1], least[0] / least[1]);
         }
         printf("\n");
+    }
+}
+
+/* Stops where a call answers another thing than the same by hand. */
+static void compare_answers(uint8_t n, uint64_t word, uint8_t i, uint8_t j) {
+    ticket_word_made made[2][2] = {
+        {ticket_word_stamped(n, word, i), by_hand_stamped(n, word, i)},
+        {ticket_word_cleared(n, word, i), by_hand_cleared(n, word, i)},
+    };
+    ticket_word_told told[3][2] = {
+        {ticket_word_held(n, word, i), by_hand_held(n, word, i)},
+        {ticket_word_older(n, word, i, j), by_hand_older(n, word, i, j)},
+        {ticket_word_is_first(n, word, i), by_hand_is_first(n, word, i)},
+    };
+    ticket_word_counted counted[2] = {ticket_word_rank(n, word, i), by_hand_rank(n, word, i)};
+    ticket_word_ranked ranked[2] = {ticket_word_ranks(n, word), by_hand_ranks(n, word)};
+    bool same = ticket_word_fault(n, word) == by_hand_fault(n, word);
+    for (unsigned k = 0; k < 2; k++) same = same && made[k][0].word == made[k][1].word && made[k][0].fault == made[k][1].fault;
+    for (unsigned k = 0; k < 3; k++) same = same && told[k][0].answer == told[k][1].answer && told[k][0].fault == told[k][1].fault;
+    same = same && counted[0].rank == counted[1].rank && counted[0].fault == counted[1].fault;
+    for (unsigned k = 0; k < TICKET_MOST; k++) same = same && ranked[0].of[k] == ranked[1].of[k];
+    if (same && ranked[0].fault == ranked[1].fault) return;
+    printf("n = %u, word %llx, processes %u and %u: not the answers of the same by hand\n", n, (unsigned long long)word, i, j);
+    exit(1);
+}
+
+/* Words that moves lead to, the same with a bit turned, and labels drawn for all, of any numbers of processes. */
+static void compare_all(void) {
+    drawn = 1;
+    for (uint8_t n = 0; n <= 8; n++) {
+        uint64_t word = 0;
+        for (unsigned k = 0; k < COMPARED; k++) {
+            uint8_t i = (uint8_t)(draw() % 8), j = (uint8_t)(draw() % 8);
+            ticket_word_made next = draw() % 8 < 5 ? ticket_word_stamped(n, word, i) : ticket_word_cleared(n, word, i);
+            if (next.fault == 0) word = next.word;
+            compare_answers(n, word, i, j);
+            compare_answers(n, word ^ UINT64_C(1) << draw() % 64, i, j);
+            uint64_t any = 0;
+            for (unsigned p = 0; p < n && p < TICKET_MOST; p++) {
+                if (draw() % 4 > 0) any |= (uint64_t)(draw() % (k % 2 ? 9 : 256)) << 8 * p | UINT64_C(1) << (48 + p);
+            }
+            compare_answers(n, any, i, j);
+        }
     }
 }
 
@@ -210,7 +277,8 @@ static double a_turn(unsigned threads) {
     return took[0] < 0 ? -1 : took[threads == 1 ? 0 : rounds / 2];
 }
 
-int main(void) {
+int main(int arguments, char **given) {
+    (void)given;
     static const lock locks[] = {
         {"this, n = 6", word_in, word_out},
         {"fetch_add ticket lock", counter_in, counter_out},
@@ -219,7 +287,10 @@ int main(void) {
         {"bakery, n = 6", bakery_in, bakery_out},
     };
     setvbuf(stdout, NULL, _IOLBF, 0);
+    by_hand_start();
+    compare_all();
     calls();
+    if (arguments > 1) return 0;
     printf("\n%-22s %8s %8s\n", "a turn of a lock", "1 thread", "2");
     for (unsigned k = 0; k < sizeof locks / sizeof locks[0]; k++) {
         tried = &locks[k];

@@ -1,11 +1,16 @@
 -- The greatest of some labels, and that the next label dominates each of them.
+--
+-- The idea. Of two labels of one length the one dominates or equals the other exactly where that one does
+-- not dominate it (`at_least_turn`). So where one of the labels is greatest the search finds a label that
+-- none of them dominates (`top_of`), and the choice beside it dominates each of them (`next_is`, by
+-- `choice_beats` of `Choices.antt`). What the search finds is as long as the labels are (`greatest_alike`).
 use Rattle.std.proofs.Common.{◌≡◌, ℕ, suc, ◌-◌, ◌<◌, Bool, true, false, not, ◌||◌, cond, Some, List, [], ◌∷◌, refl, sym, ap, ◌∙◌, subst, arith, inl, inr, ⊎_elim}
 use Rattle.std.specs.Prelude.{All, Contains, find, ◌⊎◌}
 use Rattle.std.specs.List.{AllByRecursion, list_all}
 use Rattle.std.proofs.lemmas.Bool.{cases_Bool, and_parts, and_from, both_ways, or_right}
 use Rattle.std.proofs.lemmas.List.{length-replicate}
-use Rattle.std.proofs.lemmas.List.Elements.{All-contains, All-from_recursion, All-replicate, recursion_from_All}
-use Rattle.label_core.specs.Labels.{IsLabel, dominates, same_label, at_least, is_greatest, greatest, choice, choice_beside, next, zeros, HasGreatest, CanChoose}
+use Rattle.std.proofs.lemmas.List.Elements.{All-cons, All-contains, All-from_recursion, All-replicate, recursion_from_All}
+use Rattle.label_core.specs.Labels.{IsLabel, dominates, same_label, at_least, is_greatest, greatest, choice, choice_beside, next, zeros, AreAlike, HasGreatest, CanChoose}
 use Rattle.label_core.proofs.Domination.{dominates_self, equal_from_same, dominates_turn}
 use Rattle.label_core.proofs.Choices.{NotOver, Beaten, choice_beats, length-choice, small-choice}
 
@@ -141,3 +146,18 @@ next_is n (other ∷ others) can =
           (omega (arith, can.few, is_top.len));
     } in
     subst (λ found. IsNext (n - 1) labels (choice_beside (n - 1) found labels)) (sym top.is) chosen
+
+found_all : {X : Type 0} (p : X → Bool) (P : X → Type 0) (xs : List X) (x : X) → AllByRecursion P xs → find p xs ≡ Some x → P x
+found_all p P [] x all found = cc
+found_all p P (y ∷ ys) x all found =
+    let Q : Bool → Type 0 = λ t. cond t (Some y) (find p ys) ≡ Some x → P x in
+    let by : (t : Bool) → Q t = λ t. elim t as Q [
+      | true ↦ λ is. let same : y ≡ x = cc in subst P same all.0
+      | false ↦ λ is. found_all p P ys x all.1 is
+    ] in
+    by (p y) found
+
+-- the greatest is as long as the labels are
+pub greatest_alike : (m : ℕ) (labels : List (List ℕ)) (label : List ℕ) → All (IsLabel m) labels → greatest labels ≡ Some label → AreAlike (label ∷ labels)
+greatest_alike m labels label are is =
+    (m, All-cons (IsLabel m) label labels (found_all (is_greatest labels) (IsLabel m) labels label (recursion_from_All (IsLabel m) labels are) is) are)

@@ -1,4 +1,5 @@
 pub mod Choices
+pub mod Dominated
 pub mod Domination
 pub mod Examples
 pub mod Greatest
@@ -8,5 +9,5 @@ pub mod Pairs
 pub mod Reaching
 pub mod Rows
 pub mod Scanning
-pub mod Sharing
+pub mod Stretches
 pub mod Turning

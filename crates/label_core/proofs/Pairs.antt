@@ -1,12 +1,12 @@
 -- Ranks of labels to which one more is added, by what each pair that it makes says.
-use Rattle.std.proofs.Common.{◌≡◌, ℕ, ◌+◌, ◌<◌, ◌≤◌, ◌++◌, Bool, true, false, not, cond, List, [], ◌∷◌, length, get_or, map, take, drop, set, sym, ap, ◌∙◌, arith, append_assoc, length-take-le}
+use Rattle.std.proofs.Common.{◌≡◌, ℕ, ◌+◌, ◌<◌, ◌≤◌, ◌++◌, Bool, true, false, not, ◌&&◌, cond, eqb, List, [], ◌∷◌, length, get_or, map, take, drop, set, refl, sym, ap, ◌∙◌, arith, append_assoc, length-take-le}
 use Rattle.std.specs.Prelude.{◌≢◌}
-use Rattle.std.proofs.lemmas.Bool.{false_from_ne_true}
-use Rattle.std.proofs.lemmas.List.{append-nil, drop_all, drop_more, get_or_at, length-map, map_more, map_push, set_at, take_all}
-use Rattle.std.proofs.lemmas.List.Sums.{sum_by-cons, sum_by_push}
+use Rattle.std.proofs.lemmas.Bool.{both_ways, eqb-true, eq-eqb, false_from_ne_true}
+use Rattle.std.proofs.lemmas.List.{append-nil, drop_all, drop_more, get_or_at, length-map, map_more, map_push, set-get_or, set_at, take_all}
+use Rattle.std.proofs.lemmas.List.Sums.{count_by_more_yes, count_by_more_no, sum_by-cons, sum_by_push}
 use Rattle.label_core.specs.Labels.{IsLabel, dominates, same_label, dominated, label_ranks, label_number, digits_in}
 use Rattle.label_core.specs.prover.Numbers.{digits_in-number}
-use Rattle.label_core.proofs.Domination.{dominates_self, dominates_turn, equal_from_same}
+use Rattle.label_core.proofs.Domination.{dominates_self, dominates_one_way, dominates_turn, equal_from_same}
 
 -- labels of one length that are read as one number are one
 pub equal_from_number : (digits : ℕ) (a b : List ℕ) → IsLabel digits a → IsLabel digits b → label_number a ≡ label_number b → a ≡ b
@@ -102,3 +102,36 @@ label_ranks-snoc labels label =
     map_push (dominated (labels ++ label ∷ [])) labels label
     ∙ ap (λ xs. xs ++ dominated (labels ++ label ∷ []) label ∷ []) (λ i. map (λ other. last other i) labels)
     ∙ ap (λ rank. map (dominated (label ∷ labels)) labels ++ rank ∷ []) (last label ∙ sym (unseen label labels label (dominates_self label)))
+
+-- what a test counts: 1 where it holds
+pub record Counts (test : Bool) (count : ℕ) : Type 0 where
+  pub one : test ≡ true → count ≡ 1
+  pub none : test ≡ false → count ≡ 0
+
+-- one more pair, as the code counts it: `over` where the label that is added dominates the other, `same`
+-- where their numbers are one
+pub ranks_step : (digits : ℕ) (label : List ℕ) (labels : List (List ℕ)) (i : ℕ) (ranks : List ℕ) (over same : Bool) (count : ℕ) → i < length labels → ranks ≡ ranks_so_far label labels i
+    → IsLabel digits label → IsLabel digits (get_or labels i []) → over ≡ dominates label (get_or labels i []) → same ≡ eqb (label_number label) (label_number (get_or labels i []))
+    → Counts (not over && not same) count → set ranks i (get_or ranks i 0 + count) ≡ ranks_so_far label labels (i + 1)
+ranks_step digits label labels i ranks true same count inside is is_label is_other over_is same_is counts =
+    ap (λ n. set ranks i (get_or ranks i 0 + n)) (counts.none refl) ∙ ap (set ranks i) (let kept : get_or ranks i 0 + 0 ≡ get_or ranks i 0 = omega arith in kept) ∙ set-get_or ranks i 0
+    ∙ ranks_kept label labels i ranks inside is (dominates_one_way label (get_or labels i []) (sym over_is))
+ranks_step digits label labels i ranks false true count inside is is_label is_other over_is same_is counts =
+    ap (λ n. set ranks i (get_or ranks i 0 + n)) (counts.none refl) ∙ ap (set ranks i) (let kept : get_or ranks i 0 + 0 ≡ get_or ranks i 0 = omega arith in kept) ∙ set-get_or ranks i 0
+    ∙ ranks_kept label labels i ranks inside is (same_dominates digits label (get_or labels i []) is_label is_other (eqb-true _ _ (sym same_is)))
+ranks_step digits label labels i ranks false false count inside is is_label is_other over_is same_is counts =
+    ap (λ n. set ranks i (get_or ranks i 0 + n)) (counts.one refl)
+    ∙ ranks_raised label labels i ranks inside is (other_dominates digits label (get_or labels i []) is_label is_other (sym over_is)
+    (λ one. both_ways (eqb (label_number label) (label_number (get_or labels i []))) (sym same_is) (eq-eqb _ _ one)))
+
+pub rank_step : (label : List ℕ) (labels : List (List ℕ)) (i rank : ℕ) (over : Bool) (count : ℕ) → i < length labels → rank ≡ dominated (take i labels) label
+    → over ≡ dominates label (get_or labels i []) → Counts over count → rank + count ≡ dominated (take (i + 1) labels) label
+rank_step label labels i rank true count inside is over_is counts =
+    omega (arith, counts.one refl, is, count_by_more_yes (dominates label) labels i [] inside (sym over_is))
+rank_step label labels i rank false count inside is over_is counts =
+    omega (arith, counts.none refl, is, count_by_more_no (dominates label) labels i [] inside (sym over_is))
+
+-- a count is at most 1
+pub counts_le : (test : Bool) (count : ℕ) → Counts test count → count ≤ 1
+counts_le true count counts = omega (arith, counts.one refl)
+counts_le false count counts = omega (arith, counts.none refl)

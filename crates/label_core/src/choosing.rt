@@ -1,7 +1,9 @@
-ghost use Rattle.std.specs.Prelude.{◌≡◌, ◌-◌, ◌<◌, ◌≤◌, ◌++◌, ℕ, nat_le, true, length, map, replicate, count_by, All};
-ghost use Rattle.label_core.specs.Labels.{IsLabel, AreAlike, HasGreatest, CanChoose, dominates, digits_shared, greatest, choice, next};
+ghost use Rattle.std.specs.Prelude.{◌≡◌, ◌-◌, ◌<◌, ◌≤◌, ◌∷◌, ℕ, true, length, count_by, All};
+ghost use Rattle.label_core.specs.Labels.{IsLabel, AreAlike, HasGreatest, CanChoose, dominates, greatest, choice, next};
+ghost use Rattle.label_core.specs.prover.Numbers.{is_within};
 
-use crate::digits::{Label, MOST_DIGITS};
+use crate::digits::{Label, next_digit};
+use crate::table::COUNTS;
 
 /// The label that one of `n` processes takes next, beside the labels of others: at most n - 1 of
 /// them, each of n - 1 digits, and one of them greatest where there are any. It dominates each of
@@ -36,51 +38,34 @@ fn greatest(labels: &[Label]) -> Option<Label>
     Some(top)
 }
 
-// The digits of the greatest label, as long as few enough of the labels share them.
+// The digits of the greatest label, as long as few enough of the labels share them. The labels that
+// begin with some digits have the numbers of one stretch, from those digits and zeros on.
 fn choice(top: &Label, labels: &[Label]) -> Label
-    requires { length labels.now ≤ 5 }
+    requires { AreAlike (top.now ∷ labels.now) }
     ensures { result ≡ choice top.now labels.now }
 {
     let len = top.len();
-    let shared = shared_with(top, labels);
+    let mut before = 0;
     for at in 0..len {
-        if count_sharing(&shared, at + 1) > len - (at + 1) {
-            return top.turned(at);
+        let digit = top.digit(at);
+        let weight = COUNTS[len - (at + 1)];
+        let first = before + digit * weight;
+        if count_within(first, weight, labels) > len - (at + 1) {
+            return Label::numbered(len as u8, before + next_digit(digit) * weight);
         }
+        before = first;
     }
     *top
 }
 
-// With how many digits of `top` each of the labels begins, and 0 past the last label.
-fn shared_with(top: &Label, labels: &[Label]) -> [usize; MOST_DIGITS]
-    requires { length labels.now ≤ 5 }
-    ensures { result ≡ map (digits_shared top.now) labels.now ++ replicate (5 - length labels.now) 0 }
+// How many of the labels have one of the `count` numbers from `first` on.
+fn count_within(first: u8, count: u8, labels: &[Label]) -> usize
+    ensures count { result ≡ count_by (is_within first count) labels.now }
+    ensures most { result ≤ length labels.now }
 {
-    let mut shared = [0; MOST_DIGITS];
-    for (place, label) in labels.iter().enumerate() {
-        shared[place] = digits_shared(top.held(), label.held());
+    let mut within = 0;
+    for label in labels {
+        within += usize::from(label.number().wrapping_sub(first) < count);
     }
-    shared
-}
-
-fn digits_shared(digits: &[u8], label: &[u8]) -> usize
-    ensures { result ≡ digits_shared digits.now label.now }
-{
-    for (at, &digit) in digits.iter().enumerate() {
-        if at >= label.len() || label[at] != digit {
-            return at;
-        }
-    }
-    digits.len()
-}
-
-// How many of the numbers are at least `count`.
-fn count_sharing(shared: &[usize], count: usize) -> usize
-    ensures { result ≡ count_by (nat_le count) shared.now }
-{
-    let mut sharing = 0;
-    for &digits in shared {
-        sharing += usize::from(count <= digits);
-    }
-    sharing
+    within
 }

@@ -1,7 +1,8 @@
-ghost use Rattle.std.specs.Prelude.{◌≡◌, ◌↔◌, ◌+◌, ◌-◌, ◌^◌, ◌<◌, ◌≤◌, ◌∷◌, ◌++◌, length, take, replicate, slice_index, All, IsSome, IfSome, MatchOption, ◌==◌};
+ghost use Rattle.std.specs.Prelude.{◌≡◌, ◌↔◌, ◌+◌, ◌-◌, ◌^◌, ◌<◌, ◌≤◌, ◌∷◌, ◌++◌, length, take, replicate, slice_index, All, IsSome, IfSome, MatchOption, ◌==◌, [], slice_index_or};
 ghost use Rattle.label_core.specs.Labels.{AreDigits, IsNumbered, dominates, next_digit, zeros, label_number, digits_in};
+ghost use Rattle.label_core.specs.declared.table.TheConstants.{DOMINATED};
 
-use crate::table::{COUNTS, DIGITS};
+use crate::table::{COUNTS, DIGITS, DOMINATED};
 use std::marker::Model;
 
 /// The most digits that a label has: those of six processes.
@@ -126,21 +127,9 @@ impl Label {
         requires { length self.now ≡ length other.now }
         ensures { result ≡ dominates self.now other.now }
     {
-        // The zeros in front of both are equal, and rows of a known length take half the time.
-        dominates_digits(self.row(), other.row())
-    }
-
-    // The digits before place `at`, the next digit there, and 0 from there on.
-    pub(crate) fn turned(&self, at: usize) -> Label
-        requires { at < length self.now }
-        ensures { result ≡ take at self.now ++ next_digit (slice_index self.now at) ∷ replicate (length self.now - (at + 1)) 0 }
-    {
-        let weight = COUNTS[self.len() - (at + 1)];
-        let before = self.number / weight / 3;
-        Label {
-            len: self.len,
-            number: (before * 3 + next_digit(self.digit(at))) * weight,
-        }
+        let _place = self.place();
+        let at = other.place();
+        (self.dominated()[at / 64] >> (at % 64)) % 2 == 1
     }
 
     // The digits that count.
@@ -152,6 +141,23 @@ impl Label {
         &row[MOST_DIGITS - self.len as usize..]
     }
 
+    // The row of the table that tells which labels this one dominates.
+    #[tactic(auto, using(crate::proofs::Held::number_held))]
+    fn dominated(&self) -> &[u64; 4]
+        ensures { result.now ≡ slice_index_or DOMINATED (label_number self.now) [] }
+    {
+        &DOMINATED[self.number as usize]
+    }
+
+    // The number as the place in a row.
+    fn place(&self) -> usize
+        ensures place { result ≡ label_number self.now }
+        ensures small { result < 243 }
+        ensures digits { AreDigits self.now }
+    {
+        self.number() as usize
+    }
+
     // The digits below as many zeros as make them five.
     #[tactic(auto, using(crate::proofs::Held::row_held, crate::proofs::Held::digits_held))]
     fn row(&self) -> &[u8; MOST_DIGITS]
@@ -160,20 +166,6 @@ impl Label {
     {
         &DIGITS[self.number as usize]
     }
-}
-
-fn dominates_digits(digits: &[u8], others: &[u8]) -> bool
-    requires len { length digits.now ≡ length others.now }
-    requires small { All (λ digit. digit < 3) others.now }
-    ensures { result ≡ dominates digits.now others.now }
-{
-    for (at, &digit) in digits.iter().enumerate() {
-        let against = others[at];
-        if digit != against {
-            return digit == next_digit(against);
-        }
-    }
-    false
 }
 
 // The digit that dominates this one.

@@ -14,4 +14,4 @@ mod table;
 
 pub use choosing::next_label;
 pub use digits::{Label, MOST_DIGITS};
-pub use ranking::{MOST_LABELS, ranks};
+pub use ranking::{MOST_LABELS, ranks, write_ranks};

@@ -41,16 +41,14 @@ tells_word n bits processes count are none = record {
 }
 
 -- ordered labels agree with the numbers that order them
-pub asked_word : (n bits : ℕ) (processes : List ℕ) (labels : Labels) → IsAsked n bits processes labels → IsTicketWord n bits
-asked_word n bits processes labels asked = record {
-  tickets = asked.ordered.0;
-  stands = record {
-    count = asked.count;
-    labels = labels;
-    is = asked.is;
-    agrees = record { are = asked.is.are; by = asked.ordered.1 };
-  };
+pub ordered_word : (n bits : ℕ) (labels : Labels) → IsCount n → IsWordOf n bits labels → IsOrdered labels → IsTicketWord n bits
+ordered_word n bits labels count is ordered = record {
+  tickets = ordered.0;
+  stands = record { count = count; labels = labels; is = is; agrees = record { are = is.are; by = ordered.1 } };
 }
+
+pub asked_word : (n bits : ℕ) (processes : List ℕ) (labels : Labels) → IsAsked n bits processes labels → IsTicketWord n bits
+asked_word n bits processes labels asked = ordered_word n bits labels asked.count asked.is asked.ordered
 
 -- the labels of a word that stands for tickets are ordered
 pub stands_ordered : (n bits : ℕ) (labels : Labels) → IsWordOf n bits labels → IsTicketWord n bits → IsOrdered labels

@@ -1,7 +1,7 @@
-ghost use Rattle.std.specs.Prelude.{◌≡◌, ◌<◌, ◌≤◌, ℕ, List, length, OnOk, IfOk, IfErr, IsTrue};
-ghost use Rattle.ticket_word.specs.Standing.{IsCount};
+ghost use Rattle.std.specs.Prelude.{◌≡◌, ◌↔◌, ◌<◌, ◌≤◌, ℕ, List, [], length, OnOk, IfOk, IfErr, IsTrue};
+ghost use Rattle.ticket_word.specs.Standing.{IsCount, IsTicketWord};
 ghost use Rattle.ticket_word.specs.Faults.{AreProcesses, Tells};
-ghost use Rattle.ticket_word.specs.prover.Asked.{IsAsked, fault_number};
+ghost use Rattle.ticket_word.specs.prover.Asked.{AreAskedRanks, IsAsked, fault_number};
 
 use word_core::LabelWord;
 
@@ -44,17 +44,42 @@ pub fn within(n: u8, processes: &[u8]) -> Result<(), Fault>
 }
 
 /// The labels of a word of `n` processes, of which these are some.
+#[inline(always)]
 pub fn asked(n: u8, bits: u64, processes: &[u8]) -> Result<LabelWord, Fault>
     ensures ok { IfOk result (λ labels. IsAsked n bits processes.now labels) }
     ensures err { IfErr result (λ fault. Tells n bits processes.now (fault_number fault)) }
 {
     within(n, processes)?;
+    if is_ticket_word(n, bits) {
+        Ok(LabelWord::from_bits(n, bits))
+    } else {
+        Err(Fault::Word)
+    }
+}
+
+// Whether the number is the word of ordered labels.
+#[inline(never)]
+fn is_ticket_word(n: u8, bits: u64) -> bool
+    requires { IsCount n }
+    ensures { IsTrue result ↔ IsTicketWord n bits }
+{
+    match LabelWord::read(n, bits) {
+        Some(word) => word.is_ordered(),
+        None => false,
+    }
+}
+
+/// The ranks of the labels of a word of `n` processes, and 0 past the last.
+pub fn asked_ranks(n: u8, bits: u64) -> Result<[u8; 6], Fault>
+    ensures ok { IfOk result (λ ranks. AreAskedRanks n bits ranks) }
+    ensures err { IfErr result (λ fault. Tells n bits [] (fault_number fault)) }
+{
+    within(n, &[])?;
     let Some(word) = LabelWord::read(n, bits) else {
         return Err(Fault::Word);
     };
-    if word.is_ordered() {
-        Ok(word)
-    } else {
-        Err(Fault::Word)
+    match word.ordered_ranks() {
+        Some(ranks) => Ok(ranks),
+        None => Err(Fault::Word),
     }
 }

@@ -8,7 +8,7 @@ ghost use Rattle.ticket_word.specs.Faults.{Tells};
 ghost use Rattle.ticket_word.specs.Changes.{Makes};
 ghost use Rattle.ticket_word.specs.prover.Asked.{IsFirstLabel};
 
-use crate::asked::{asked, within};
+use crate::asked::{asked, asked_ranks, within};
 use word_core::{LabelWord, clear_mask};
 
 /// A word, or what stands against it.
@@ -209,9 +209,9 @@ pub extern "C" fn ticket_word_ranks(n: u8, word: u64) -> TicketRanks
     ensures fault { Tells n word [] result.fault }
     ensures nothing { 0 < result.fault → result.of ≡ replicate 6 0 }
 {
-    match asked(n, word, &[]) {
-        Ok(labels) => TicketRanks {
-            of: labels.ranks(),
+    match asked_ranks(n, word) {
+        Ok(ranks) => TicketRanks {
+            of: ranks,
             fault: 0,
         },
         Err(fault) => TicketRanks {

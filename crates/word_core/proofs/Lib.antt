@@ -1,3 +1,4 @@
+pub mod Apart
 pub mod Choosing
 pub mod Counting
 pub mod Examples
@@ -10,4 +11,5 @@ pub mod OfferedHistory
 pub mod Ranks
 pub mod Setting
 pub mod Stamping
+pub mod Taken
 pub mod Views

@@ -1,9 +1,9 @@
 -- Where labels are in an order, how many each is above are numbers of that order too.
-use Rattle.std.proofs.Common.{◌≡◌, ℕ, ◌+◌, ◌-◌, ◌<◌, ◌≤◌, ◌++◌, replicate, true, false, ltb, Option, None, Some, List, length, refl, sym, ap, ◌∙◌, arith, ⊎_elim}
-use Rattle.std.specs.Prelude.{is_some, slice_index}
+use Rattle.std.proofs.Common.{◌≡◌, ℕ, ◌+◌, ◌<◌, ◌≤◌, true, false, ltb, Option, None, Some, List, length, refl, sym, ap, ◌∙◌, arith, ⊎_elim}
+use Rattle.std.specs.Prelude.{slice_index}
 use Rattle.std.specs.List.{AllByRecursion}
 use Rattle.std.proofs.lemmas.Bool.{cases_lt, ltb-true, lt-ltb, le-ltb}
-use Rattle.std.proofs.lemmas.List.{length-map, get_or-map, get_or_append_left}
+use Rattle.std.proofs.lemmas.List.{length-map, get_or-map}
 use Rattle.std.proofs.lemmas.List.Elements.{All-from_get_or, recursion_from_All}
 use Rattle.word_core.specs.Stamps.{Labels, label_at, is_present}
 use Rattle.word_core.specs.Order.{OrderedBy, IsOrdered, above, labels_below}
@@ -45,15 +45,6 @@ number_some labels (Some label) here = refl
 number_none : (labels : Labels) (label : Option (List ℕ)) → is_present label ≡ false → number_among labels label ≡ 0
 number_none labels None gone = refl
 number_none labels (Some label) gone = cc
-
--- as the code tells it
-pub number_counted : (labels : Labels) (label : Option (List ℕ)) → is_some label ≡ true → number_among labels label ≡ 1 + labels_below labels label
-number_counted labels None here = cc
-number_counted labels (Some label) here = refl
-
-pub number_absent : (labels : Labels) (label : Option (List ℕ)) → is_some label ≡ false → number_among labels label ≡ 0
-number_absent labels None gone = refl
-number_absent labels (Some label) gone = cc
 
 pub number_at : (labels : Labels) (i : ℕ) → i < length labels → slice_index (numbers_of labels) i ≡ number_among labels (label_at labels i)
 number_at labels i inside = get_or-map (number_among labels) labels i None 0 inside
@@ -116,26 +107,3 @@ pairs_ordered labels pairs = (
     over = λ i j in_i in_j. (pairs i j in_i in_j).over;
   },
 )
-
--- what holds of the numbers holds of a row of them
-number_in : (labels : Labels) (row : List ℕ) (i : ℕ) → row ≡ numbers_of labels ++ replicate (6 - length labels) 0 → i < length labels
-    → slice_index row i ≡ slice_index (numbers_of labels) i
-number_in labels row i is inside =
-    ap (λ r. slice_index r i) is ∙ get_or_append_left (numbers_of labels) (replicate (6 - length labels) 0) 0 i (omega (arith, inside, length-map labels (number_among labels)))
-
-same_pairs : (labels : Labels) (a b : List ℕ) (i j : ℕ) → slice_index a i ≡ slice_index b i → slice_index a j ≡ slice_index b j
-    → PairAgrees labels a i j → PairAgrees labels b i j
-same_pairs labels a b i j at_i at_j pair = record {
-  over = pair.over ∙ ap (λ n. ltb n (slice_index a i)) at_j ∙ ap (ltb (slice_index b j)) at_i;
-  apart = λ other same. sym at_i ∙ pair.apart other (at_i ∙ same ∙ sym at_j);
-}
-
-pub row_pairs : (labels : Labels) (row : List ℕ) → row ≡ numbers_of labels ++ replicate (6 - length labels) 0 → IsOrdered labels
-    → (i j : ℕ) → i < length labels → j < length labels → PairAgrees labels row i j
-row_pairs labels row is ordered i j in_i in_j =
-    same_pairs labels (numbers_of labels) row i j (sym (number_in labels row i is in_i)) (sym (number_in labels row j is in_j)) (ordered_pairs labels ordered i j in_i in_j)
-
-pub pairs_from_row : (labels : Labels) (row : List ℕ) → row ≡ numbers_of labels ++ replicate (6 - length labels) 0
-    → ((i j : ℕ) → i < length labels → j < length labels → PairAgrees labels row i j) → IsOrdered labels
-pairs_from_row labels row is pairs = pairs_ordered labels (λ i j in_i in_j.
-    same_pairs labels row (numbers_of labels) i j (number_in labels row i is in_i) (number_in labels row j is in_j) (pairs i j in_i in_j))

@@ -1,14 +1,15 @@
-ghost use Rattle.std.specs.Prelude.{◌≡◌, ◌↔◌, ◌+◌, ◌-◌, ◌<◌, ◌≤◌, ℕ, Option, None, Some, List, [], ◌++◌, length, map, take, replicate, slice_index, slice_set, All, IfSome, MatchOption, IsTrue};
-ghost use Rattle.label_core.specs.Labels.{IsLabel, dominated, next};
+ghost use Rattle.std.specs.Prelude.{◌≡◌, ◌↔◌, ◌+◌, ◌-◌, ◌<◌, ◌≤◌, ℕ, Option, None, Some, List, [], ◌++◌, length, take, replicate, slice_index, slice_set, All, IfSome, MatchOption, IsTrue};
+ghost use Rattle.label_core.specs.Labels.{IsLabel, next};
 ghost use Rattle.ticket_core.specs.Tickets.{start_tickets, stamp_ticket, clear_ticket};
 ghost use Rattle.word_core.specs.Stamps.{Labels, start_labels, label_at, is_present, present, stamped, cleared};
 ghost use Rattle.word_core.specs.Packed.{AreLabels, IsWordOf, word};
 ghost use Rattle.word_core.specs.Order.{IsOrdered, older_label, label_ranks};
 ghost use Rattle.word_core.specs.Agreement.{Agrees};
+ghost use Rattle.word_core.specs.prover.Numbers.{AreRanks};
 
-use crate::order::{above, are_ordered};
+use crate::order::{above, are_apart};
 use crate::packing::{all_count, clear_mask, fits, is_present, label_in, with_label};
-use label_core::{Label, MOST_LABELS, next_label, ranks};
+use label_core::{Label, MOST_LABELS, next_label, ranks, write_ranks};
 use std::marker::Model;
 
 /// What is written for a label of no digits, that of a single process that is present.
@@ -123,8 +124,19 @@ impl LabelWord {
     pub fn is_ordered(&self) -> bool
         ensures { IsTrue result ↔ IsOrdered self.now }
     {
-        let n = self.n();
-        are_ordered(&self.labels()[..n as usize])
+        let mut row = [0; MOST_LABELS];
+        self.rank_among(&mut row).is_some()
+    }
+
+    /// The ranks, as `ranks` tells them, of labels that are ordered; `None` where they are not. It costs
+    /// little more than the test alone.
+    pub fn ordered_ranks(&self) -> Option<[u8; MOST_LABELS]>
+        ensures { MatchOption result (¬ IsOrdered self.now) (λ ranks. IsOrdered self.now × (ranks ≡ label_ranks self.now ++ replicate (6 - length self.now) 0)) }
+    {
+        let mut row = [0; MOST_LABELS];
+        let count = self.rank_among(&mut row)?;
+        let ranks = self.ranks_from(&row, count);
+        Some(ranks)
     }
 
     /// The word after process `p` has taken its next label beside those of the others that are
@@ -161,7 +173,8 @@ impl LabelWord {
         ensures { result ≡ label_ranks self.now ++ replicate (6 - length self.now) 0 }
     {
         let _n = self.n();
-        let (labels, count) = self.present();
+        let mut labels = [Label::zeros(0); MOST_LABELS];
+        let count = self.gather(&mut labels);
         self.ranks_from(&ranks(&labels[..count as usize]), count)
     }
 
@@ -170,8 +183,13 @@ impl LabelWord {
         requires { i < length self.now }
         ensures { result ≡ slice_index (label_ranks self.now) i }
     {
-        let _n = self.n();
-        self.ranks()[i as usize]
+        let n = self.n();
+        let label = self.label(i);
+        let mut rank = 0;
+        for other in 0..n {
+            rank += u8::from(above(&label, &self.label(other)));
+        }
+        rank
     }
 
     /// Whether process `j` is above process `i`.
@@ -193,7 +211,8 @@ impl LabelWord {
         ensures label { IsLabel (length self.now - 1) result }
     {
         let n = self.n();
-        let (labels, count) = self.cleared(p).present();
+        let mut labels = [Label::zeros(0); MOST_LABELS];
+        let count = self.cleared(p).gather(&mut labels);
         next_label(n, &labels[..count as usize])
     }
 
@@ -211,14 +230,14 @@ impl LabelWord {
         }
     }
 
-    // The labels of those that are present, with empty ones past them, and how many there are.
-    fn present(&self) -> ([Label; MOST_LABELS], u8)
-        ensures labels { result.0 ≡ present self.now ++ replicate (6 - length (present self.now)) [] }
-        ensures count { result.1 ≡ length (present self.now) }
-        ensures few { result.1 ≤ length self.now }
+    // Writes the labels of those that are present into a row of empty ones, and answers how many there are.
+    fn gather(&self, row: &mut [Label; MOST_LABELS]) -> u8
+        requires { row.old ≡ replicate 6 [] }
+        ensures labels { row.new ≡ present self.now ++ replicate (6 - length (present self.now)) [] }
+        ensures count { result ≡ length (present self.now) }
+        ensures few { result ≤ length self.now }
     {
         let n = self.n();
-        let mut row = [Label::zeros(0); MOST_LABELS];
         let mut count = 0;
         for i in 0..n {
             if let Some(label) = self.label(i) {
@@ -226,14 +245,31 @@ impl LabelWord {
                 count += 1;
             }
         }
-        (row, count)
+        count
+    }
+
+    // Writes into a row of zeros how many labels each of those that are present dominates among them,
+    // and answers how many there are; `None` where the labels are not ordered, since two of them dominate
+    // equally many.
+    #[inline(always)]
+    fn rank_among(&self, row: &mut [u8; MOST_LABELS]) -> Option<u8>
+        requires { row.old ≡ replicate 6 0 }
+        ensures { MatchOption result (¬ IsOrdered self.now) (λ count. IsOrdered self.now × AreRanks self.now row.new count) }
+    {
+        let _n = self.n();
+        let mut labels = [Label::zeros(0); MOST_LABELS];
+        let count = self.gather(&mut labels);
+        write_ranks(&labels[..count as usize], row);
+        if are_apart(&row[..count as usize]) {
+            Some(count)
+        } else {
+            None
+        }
     }
 
     // The ranks of all processes, of those that are present from these ranks among themselves.
     fn ranks_from(&self, among: &[u8; MOST_LABELS], count: u8) -> [u8; MOST_LABELS]
-        requires among { among.now ≡ map (dominated (present self.now)) (present self.now) ++ replicate (6 - length (present self.now)) 0 }
-        requires count { count ≡ length (present self.now) }
-        requires few { count ≤ length self.now }
+        requires { AreRanks self.now among.now count }
         ensures { result ≡ label_ranks self.now ++ replicate (6 - length self.now) 0 }
     {
         let n = self.n();
@@ -247,17 +283,5 @@ impl LabelWord {
             }
         }
         ranks
-    }
-
-    // What each process has, and none past the last.
-    fn labels(&self) -> [Option<Label>; MOST_LABELS]
-        ensures { result ≡ self.now ++ replicate (6 - length self.now) None }
-    {
-        let n = self.n();
-        let mut row = [None; MOST_LABELS];
-        for i in 0..n {
-            row[i as usize] = self.label(i);
-        }
-        row
     }
 }

@@ -1,10 +1,14 @@
 -- Labels, and the numbers that they are read as.
 use Rattle.std.proofs.Common.{◌≡◌, ℕ, suc, zero, ◌+◌, ◌*◌, ◌/◌, ◌%◌, ◌^◌, ◌<◌, List, [], ◌∷◌, ◌++◌, length, length-append, refl, ap, ◌∙◌, arith}
-use Rattle.std.specs.Prelude.{All}
+use Rattle.std.specs.Prelude.{Bool, nat_lt, ◌-◌, All}
 use Rattle.std.proofs.Math.Nat.{pow-suc, one-le-pow}
 use Rattle.std.proofs.lemmas.Nat.{pow-add, div-add-mod', div-mul-add, mod-mul-add, mul-add-lt, div_below, mod_below}
 use Rattle.std.proofs.lemmas.List.Elements.{All-nil, All-cons, All-head, All-tail}
 use Rattle.label_core.specs.Labels.{label_number, digits_in}
+
+-- whether a label has one of the `count` numbers from `first` on, as a byte that wraps tells it
+abbrev pub is_within : ℕ → ℕ → List ℕ → Bool
+is_within first count label = nat_lt ((label_number label + (256 - first)) % 256) count
 
 pub some_labels : (digits : ℕ) → 0 < 3 ^ digits
 some_labels digits = omega (arith, one-le-pow digits 3 (omega arith))

@@ -1,8 +1,8 @@
 -- What the code makes of a word before it answers.
-use Rattle.std.specs.Prelude.{ℕ, ◌<◌, List, length, IsTrue}
+use Rattle.std.specs.Prelude.{◌≡◌, ℕ, ◌-◌, ◌<◌, List, [], ◌++◌, length, replicate, IsTrue}
 use Rattle.word_core.specs.Stamps.{Labels, label_at, is_present}
 use Rattle.word_core.specs.Packed.{IsWordOf}
-use Rattle.word_core.specs.Order.{IsOrdered, older_label}
+use Rattle.word_core.specs.Order.{IsOrdered, older_label, label_ranks}
 use Rattle.ticket_word.specs.Standing.{IsCount}
 use Rattle.ticket_word.specs.Faults.{AreProcesses}
 use Rattle.ticket_word.specs.declared.asked.Fault.{Fault}
@@ -19,6 +19,12 @@ pub record IsAsked (n bits : ℕ) (processes : List ℕ) (labels : Labels) : Typ
   pub are : AreProcesses n processes
   pub is : IsWordOf n bits labels
   pub ordered : IsOrdered labels
+
+-- the ranks of such labels, and 0 past the last
+pub record AreAskedRanks (n bits : ℕ) (ranks : List ℕ) : Type 0 where
+  pub labels : Labels
+  pub asked : IsAsked n bits [] labels
+  pub are : ranks ≡ label_ranks labels ++ replicate (6 - length labels) 0
 
 -- process `p` is present, and nobody who is present is older
 pub record IsFirstLabel (labels : Labels) (p : ℕ) : Type 0 where

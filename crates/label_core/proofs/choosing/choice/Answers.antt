@@ -1,21 +1,52 @@
-use Rattle.std.proofs.Common.{◌≡◌, ◌+◌, ◌<◌, arith, ap, sym, ◌∙◌, length, take}
-use Rattle.std.specs.Prelude.{count_by}
-use Rattle.label_core.proofs.Reaching.{begins, step_turns, step_keeps}
-use Rattle.label_core.proofs.Sharing.{count_begins}
+use Rattle.std.proofs.Common.{arith, ap, sym, ◌∙◌}
+use Rattle.label_core.specs.Labels.{next_digit}
+use Rattle.label_core.proofs.Reaching.{step_turns, step_keeps}
+use Rattle.label_core.proofs.Stretches.{place}
+use Rattle.label_core.proofs.Turning.{turned}
 use Rattle.label_core.proofs.choosing.choice.Goals as goal
-use Rattle.label_core.proofs.choosing.choice.Goals.{After-count_sharing}
 
-counted : (c : goal.After-count_sharing) → c.count_sharing.result ≡ count_by (begins (take (c.loop-at.at + 1) c.args.top.now)) c.args.labels.now
-counted c =
-    let inside : c.loop-at.at < length c.args.top.now = omega (arith, c.len-len.ensures.len) in
-    c.count_sharing.ensures ∙ ap (count_by _) c.shared_with-shared.ensures ∙ count_begins c.loop-at.at c.args.top.now c.args.labels.now _ inside
+pub overflow_add-first : goal.overflow_add-first
+overflow_add-first c =
+    omega (
+      arith,
+      (place c.args.top.now c.args.labels.now c.loop-at.at c.loop-at.before c.digit-digit.result c.len-len.result c.requires
+          (omega (arith, c.len-len.ensures.digits.few)) c.loop-at-test.true c.loop-at.invariant.before c.digit-digit.ensures.digit c.len-len.ensures.len).room,
+    )
 
-pub returns-then-count_sharing-len : goal.returns-then-count_sharing-len
-returns-then-count_sharing-len c =
-    c.turned.ensures ∙ sym (step_turns c.args.top.now c.loop-at.at c.args.labels.now (omega (arith, c.len-len.ensures.len))
-    (omega (arith, c.len-len.ensures.len, counted (goal.at.returns-then-count_sharing-len c).After-count_sharing)) c.loop-at.invariant)
+pub overflow_add-before : goal.overflow_add-before
+overflow_add-before c =
+    omega (
+      arith,
+      ((place c.args.top.now c.args.labels.now c.loop-at.at c.loop-at.before c.digit-digit.result c.len-len.result c.requires
+          (omega (arith, c.len-len.ensures.digits.few)) c.loop-at-test.true c.loop-at.invariant.before c.digit-digit.ensures.digit c.len-len.ensures.len).turns
+          c.next_digit.result (omega (arith, c.next_digit.ensures))).in_table,
+    )
+
+pub numbered-requires-clause-small : goal.numbered-requires-clause-small
+numbered-requires-clause-small c =
+    ((place c.args.top.now c.args.labels.now c.loop-at.at c.loop-at.before c.digit-digit.result c.len-len.result c.requires
+    (omega (arith, c.len-len.ensures.digits.few)) c.loop-at-test.true c.loop-at.invariant.before c.digit-digit.ensures.digit c.len-len.ensures.len).turns
+    c.next_digit.result (omega (arith, c.next_digit.ensures))).small
+
+pub returns-then-count_within-len : goal.returns-then-count_within-len
+returns-then-count_within-len c =
+    let top = c.args.top.now in
+    let labels = c.args.labels.now in
+    let p = place top labels c.loop-at.at c.loop-at.before c.digit-digit.result c.len-len.result c.requires
+    (omega (arith, c.len-len.ensures.digits.few)) c.loop-at-test.true c.loop-at.invariant.before c.digit-digit.ensures.digit c.len-len.ensures.len in
+    c.numbered.ensures.digits ∙ (p.turns c.next_digit.result (omega (arith, c.next_digit.ensures))).is
+    ∙ ap (λ digit. turned c.loop-at.at digit top) (c.next_digit.ensures ∙ ap next_digit c.digit-digit.ensures.digit)
+    ∙ sym (step_turns top c.loop-at.at labels (omega (arith, c.len-len.ensures.len, c.loop-at-test.true))
+    (omega (arith, c.len-len.ensures.len, c.count_within.ensures.count, p.counted, c.if-count_within-len.true)) c.loop-at.invariant.chosen)
 
 pub loop-at-preserved : goal.loop-at-preserved
 loop-at-preserved c =
-    step_keeps c.args.top.now c.loop-at.at c.args.labels.now (omega (arith, c.len-len.ensures.len))
-    (omega (arith, c.len-len.ensures.len, counted (goal.at.loop-at-preserved c).After-count_sharing)) c.loop-at.invariant
+    let top = c.args.top.now in
+    let labels = c.args.labels.now in
+    let p = place top labels c.loop-at.at c.loop-at.before c.digit-digit.result c.len-len.result c.requires
+    (omega (arith, c.len-len.ensures.digits.few)) c.loop-at-test.true c.loop-at.invariant.before c.digit-digit.ensures.digit c.len-len.ensures.len in
+    record {
+      chosen = step_keeps top c.loop-at.at labels (omega (arith, c.len-len.ensures.len, c.loop-at-test.true))
+          (omega (arith, c.len-len.ensures.len, c.count_within.ensures.count, p.counted, c.if-count_within-len.false)) c.loop-at.invariant.chosen;
+      before = p.starts;
+    }

@@ -2,7 +2,7 @@ use Rattle.std.proofs.Common.{◌≡◌, ℕ, ◌-◌, true, List, Option, None,
 use Rattle.std.specs.Prelude.{All}
 use Rattle.std.proofs.lemmas.List.Elements.{All-from_recursion}
 use Rattle.label_core.specs.Labels.{IsLabel, CanChoose, dominates, greatest, choice_beside, next}
-use Rattle.label_core.proofs.Greatest.{next_is}
+use Rattle.label_core.proofs.Greatest.{greatest_alike, next_is}
 use Rattle.label_core.proofs.choosing.next_label.Goals as goal
 
 -- what is made beside the greatest is the next label
@@ -31,3 +31,7 @@ pub returns-in-None-clause-dominates : goal.returns-in-None-clause-dominates
 returns-in-None-clause-dominates c =
     beats c.args.n c.args.others.now c.zeros.result c.requires.can
     (made_next c.args.n c.args.others.now c.zeros.result None c.zeros.ensures (sym c.in-None.is ∙ c.greatest.ensures))
+
+pub choice-requires : goal.choice-requires
+choice-requires c =
+    greatest_alike (c.args.n - 1) c.args.others.now c.in-Some.top c.requires.can.labels (sym c.greatest.ensures ∙ c.in-Some.is)

@@ -4,4 +4,5 @@ use Rattle.ticket_word.proofs.calls.ticket_word_ranks.Goals as goal
 
 pub returns-in-Ok-clause-ranks : goal.returns-in-Ok-clause-ranks
 returns-in-Ok-clause-ranks c =
-    λ _ tickets stands. c.ranks.ensures ∙ ranks_told c.args.n c.args.word tickets c.in-Ok.labels stands c.in-Ok.ensures.ok.is
+    let found = c.in-Ok.ensures.ok in
+    λ _ tickets stands. found.are ∙ ranks_told c.args.n c.args.word tickets found.labels stands found.asked.is

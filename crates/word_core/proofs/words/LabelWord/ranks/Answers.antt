@@ -12,5 +12,5 @@ ranks-requires-clause-alike c =
     let digits = c.n-n.result - 1 in
     let all = present labels in
     let none : List ℕ = [] in
-    let taken = ap (take c.present-labels.result.1) c.present-labels.ensures.labels ∙ take_at all (replicate (6 - length all) none) c.present-labels.result.1 (sym c.present-labels.ensures.count) in
+    let taken = ap (take c.gather-count.result) c.gather-count.ensures.labels ∙ take_at all (replicate (6 - length all) none) c.gather-count.result (sym c.gather-count.ensures.count) in
     (digits, subst (All (IsLabel digits)) (sym taken) (All-present (IsLabel digits) labels c.n-n.ensures.labels.each))

@@ -20,24 +20,24 @@ at_place labels row i place count n held row_is count_is few many inside here te
 pub bounds-among-place : goal.bounds-among-place
 bounds-among-place c =
     let found =
-    at_place c.args.self.now c.args.among.now c.loop-i.i c.loop-i.place c.args.count c.n-n.result c.held.result c.requires.among c.requires.count c.requires.few
+    at_place c.args.self.now c.args.among.now c.loop-i.i c.loop-i.place c.args.count c.n-n.result c.held.result c.requires.among c.requires.many c.requires.few
     c.n-n.ensures.count c.loop-i-test.true c.loop-i.invariant.place c.held.ensures c.if-held.true in
-    omega (arith, found.inside, c.requires.count, c.requires.few, c.n-n.ensures.count, c.n-n.ensures.at_most_six)
+    omega (arith, found.inside, c.requires.many, c.requires.few, c.n-n.ensures.count, c.n-n.ensures.at_most_six)
 
 pub overflow_add-ranks : goal.overflow_add-ranks
 overflow_add-ranks c =
     let labels = c.args.self.now in
     let found =
-    at_place labels c.args.among.now c.loop-i.i c.loop-i.place c.args.count c.n-n.result c.held.result c.requires.among c.requires.count c.requires.few
+    at_place labels c.args.among.now c.loop-i.i c.loop-i.place c.args.count c.n-n.result c.held.result c.requires.among c.requires.many c.requires.few
     c.n-n.ensures.count c.loop-i-test.true c.loop-i.invariant.place c.held.ensures c.if-held.true in
     omega (arith, found.rank, count_by-le-length (above (label_at labels c.loop-i.i)) labels, c.n-n.ensures.count, c.n-n.ensures.at_most_six)
 
 pub overflow_add-place : goal.overflow_add-place
 overflow_add-place c =
     let found =
-    at_place c.args.self.now c.args.among.now c.loop-i.i c.loop-i.place c.args.count c.n-n.result c.held.result c.requires.among c.requires.count c.requires.few
+    at_place c.args.self.now c.args.among.now c.loop-i.i c.loop-i.place c.args.count c.n-n.result c.held.result c.requires.among c.requires.many c.requires.few
     c.n-n.ensures.count c.loop-i-test.true c.loop-i.invariant.place c.held.ensures c.if-held.true in
-    omega (arith, found.inside, c.requires.count, c.requires.few, c.n-n.ensures.count, c.n-n.ensures.at_most_six)
+    omega (arith, found.inside, c.requires.many, c.requires.few, c.n-n.ensures.count, c.n-n.ensures.at_most_six)
 
 pub loop-i-preserved : goal.loop-i-preserved
 loop-i-preserved c =
@@ -51,7 +51,7 @@ loop-i-preserved c =
     elim c.if-held.branch [
       | then-held w ↦
           let found : RankFound labels c.args.among.now at c.loop-i.place c.args.count =
-          rank_found labels c.args.among.now at c.loop-i.place c.args.count c.requires.among c.requires.count c.requires.few inside c.loop-i.invariant.place (sym c.held.ensures ∙ w.if-held.true) in
+          rank_found labels c.args.among.now at c.loop-i.place c.args.count c.requires.among c.requires.many c.requires.few inside c.loop-i.invariant.place (sym c.held.ensures ∙ w.if-held.true) in
           let rank : c.n-n.result - c.args.count + get_or c.args.among.now c.loop-i.place 0 ≡ get_or items at 0 =
           ap (λ n. n - c.args.count + get_or c.args.among.now c.loop-i.place 0) c.n-n.ensures.count ∙ found.rank ∙ sym item in
           record {

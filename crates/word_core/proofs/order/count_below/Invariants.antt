@@ -1,7 +1,0 @@
-use Rattle.std.proofs.Common.{◌≡◌, take}
-use Rattle.word_core.specs.Order.{labels_below}
-use Rattle.word_core.proofs.order.count_below.Given as goal
-
--- how many of those so far it is above
-abbrev pub invariant-loop-other : goal.invariant-loop-other
-invariant-loop-other l = l.count ≡ labels_below (take l.other-index l.labels) l.label
