@@ -11,14 +11,14 @@ use Rattle.word_core.specs.Stamps.{Labels}
 use Rattle.tick_source.specs.Source as S
 use Rattle.tick_source.specs.Source.{SourceProcess, SourceState}
 use Rattle.code_machine.specs.Machine as C
-use Rattle.code_machine.specs.Machine.{CodeProcess, CodeState}
+use Rattle.code_machine.specs.Machine.{CodeProcess, CodeState, made}
 use Rattle.language_properties.specs.Laws.{IsSeenAlike}
 use Rattle.language_properties.specs.Seen.{seen_of}
 use Rattle.tick_lower.specs.Lowered.{lowered, lowered_sizes}
 use Rattle.tick_sim.specs.Maps.{commit_of, is_commit, down_from, down}
 use Rattle.tick_sim.specs.Laws.{DownLaw}
 use Rattle.tick_sim.specs.Properties.{code_state_after, seen_by_labels}
-use Rattle.tick_sim.proofs.Match.{Matches, NextStep, together, apart, Between}
+use Rattle.tick_sim.proofs.Match.{Matches, NextStep, Unseen, inside, together, apart, loses, Between}
 use Rattle.tick_sim.proofs.Step.{between_matches, match_status, process_step}
 use Rattle.tick_sim.proofs.Pairs.{first_at}
 use Rattle.tick_sim.proofs.States.{MatchStates, seen_same, match_weaker, commit_runs, both_after, code_after, stopped_step, runs_or_not}
@@ -26,19 +26,19 @@ use Rattle.tick_sim.proofs.SeenAlike.{matching_alike}
 use Rattle.tick_sim.proofs.Start.{start_between}
 
 -- of the labels that a stamp has loaded nothing is known
-abbrev Loaded : Labels → Type 0
+abbrev pub Loaded : Labels → Type 0
 Loaded labels = Unit {0}
 
 module _ (n : ℕ) (code : List Instr) where
   -- a process in any situation
-  abbrev AnyMatch : ℕ → SourceProcess → CodeProcess → Type 0
+  abbrev pub AnyMatch : ℕ → SourceProcess → CodeProcess → Type 0
   AnyMatch p x y = (m : ℕ) × Matches n code p Loaded m x y
 
   -- two states, with each process in any situation
-  abbrev AllMatch : SourceState → CodeState → Type 0
+  abbrev pub AllMatch : SourceState → CodeState → Type 0
   AllMatch = MatchStates n AnyMatch
 
-  between_any : (p : ℕ) (x : SourceProcess) (y : CodeProcess) → Between n code x y → AnyMatch p x y
+  pub between_any : (p : ℕ) (x : SourceProcess) (y : CodeProcess) → Between n code x y → AnyMatch p x y
   between_any p x y between =
       let matches = between_matches n code p Loaded x y between in
       (matches.0, matches.2)
@@ -56,16 +56,21 @@ module _ (n : ℕ) (code : List Instr) where
       case any.0 (match_status n code p Loaded any.0 x y any.1 ∙ runs)
       (process_step n code p Loaded any.0 x y s d all.agrees all.same_rows tt any.1 runs)
     where
+      unseen_by : Unseen n code p d.labels d.rows (C.did n p code y) (slice_get code y.place)
+          → AnyMatch p x (made d.labels d.rows (C.did n p code y)).process
+          → StateStep p s (C.code_step n code p d) (is_commit n code p d)
+      unseen_by unseen any =
+          code_makes (commit_runs n code p d y at_y runs ∙ unseen.0)
+          (code_after n code p s d x y at_x at_y runs AnyMatch AnyMatch all (λ q x y other h. h) unseen.1 unseen.2 unseen.3 any)
+
       case : (m : ℕ) → x.status ≡ Running → NextStep n code p Loaded m x y s d
           → StateStep p s (C.code_step n code p d) (is_commit n code p d)
       case m source_runs (together some step) =
           both_make (commit_runs n code p d y at_y runs ∙ step.ends)
           (both_after n code p s d x y at_x at_y runs AnyMatch AnyMatch all (λ q x y other h. h) source_runs step
           (between_any p))
-      case m source_runs (apart ends labels rows act m' left matches) =
-          code_makes (commit_runs n code p d y at_y runs ∙ ends)
-          (code_after n code p s d x y at_x at_y runs AnyMatch AnyMatch all (λ q x y other h. h) labels rows act
-          (m', matches))
+      case m source_runs (apart unseen m' less matches) = unseen_by unseen (m', matches)
+      case m source_runs (loses unseen scratch loaded lost begun) = unseen_by unseen (3, inside begun)
 
   state_step : (p : ℕ) (s : SourceState) (d : CodeState) → AllMatch s d
       → StateStep p s (C.code_step n code p d) (is_commit n code p d)
@@ -87,7 +92,7 @@ module _ (n : ℕ) (code : List Instr) where
           (code_makes nothing.1 (subst (AllMatch s) (sym nothing.0) all)))
           (runs_or_not y.status)
 
-  down_runs : (schedule : List ℕ) (s : SourceState) (d : CodeState) → AllMatch s d
+  pub down_runs : (schedule : List ℕ) (s : SourceState) (d : CodeState) → AllMatch s d
       → AllMatch (S.source_run n (down_from n code schedule d) s) (C.code_run n code schedule d)
   down_runs [] s d all = all
   down_runs (p ∷ schedule) s d all =
@@ -106,7 +111,7 @@ module _ (n : ℕ) (code : List Instr) where
       ]
 
 -- the code matches the program after the schedule that its own one stands for
-down_matches : (a : WholeProgram ℕ) (schedule : List ℕ)
+pub down_matches : (a : WholeProgram ℕ) (schedule : List ℕ)
     → AllMatch a.processes (lowered a) (S.source a (down (lowered_sizes a) (lowered a) schedule)) (code_state_after a schedule)
 down_matches a schedule =
     let n : ℕ = a.processes in
@@ -115,7 +120,7 @@ down_matches a schedule =
     (match_weaker n (λ p. Between n code) (AnyMatch n code) (S.source_start a) (C.code_start (lowered_sizes a))
     (between_any n code) (start_between a))
 
-any_status : (n : ℕ) (code : List Instr) (p : ℕ) (x : SourceProcess) (y : CodeProcess) → AnyMatch n code p x y → x.status ≡ y.status
+pub any_status : (n : ℕ) (code : List Instr) (p : ℕ) (x : SourceProcess) (y : CodeProcess) → AnyMatch n code p x y → x.status ≡ y.status
 any_status n code p x y any = match_status n code p Loaded any.0 x y any.1
 
 pub down_law : DownLaw

@@ -6,8 +6,11 @@
 -- The cases are those that are difficult for the maps: an exchange that is lost (`lost`), a process that
 -- has stopped (`counts_past`), a trap inside an expression (`trapped_below`), and labels that come back while a
 -- stamp is on its way (`back`, `went_around`).
+-- `StopsAs` says who has stopped.
 -- Read `LedThrough` and `its_run` first.
-use Rattle.std.proofs.Common.{◌≡◌, ℕ, List, [], ◌∷◌, ◌++◌, refl, map, replicate}
+use Rattle.std.proofs.Common.{◌≡◌, ◌<◌, ℕ, zero, suc, Bool, true, false, List, [], ◌∷◌, ◌++◌, refl, ap, map, replicate, arith, Some}
+use Rattle.std.specs.Prelude.{◌==◌}
+use Rattle.std.proofs.lemmas.List.Elements.{All-replicate}
 use Rattle.base.specs.declared.operator.Op.TheVariants as O
 use Rattle.base.specs.declared.status.Status.TheVariants.{Running, Ended, Trapped}
 use Rattle.base.specs.declared.status.Trap.TheVariants as T
@@ -17,11 +20,13 @@ use Rattle.base.specs.declared.event.Event.{Event}
 use Rattle.base.specs.Observables.{Observables}
 use Rattle.word_core.specs.Packed.{word}
 use Rattle.base.specs.Plain.{number, me, binary, assign, stamp, clear, scan, branch, repeat, nil, cons, WholeProgram}
-use Rattle.code_machine.specs.Machine.{run_of}
+use Rattle.tick_source.specs.Source.{source_start, source_run, statuses_of}
+use Rattle.code_machine.specs.Machine.{CodeState, run_of}
 use Rattle.tick_lower.specs.Lowered.{lowered, lowered_sizes}
 use Rattle.tick_lower.proofs.Offered.{program, stamps_and_compares, gives_up, counts_to_two}
-use Rattle.tick_sim.specs.Maps.{down, up}
+use Rattle.tick_sim.specs.Maps.{steps_to_commit, down, up_from, up}
 use Rattle.tick_sim.specs.Laws.{seen, seen_of_code, running}
+use Rattle.tick_sim.specs.Ends.{have_stopped, statuses, code_statuses, CanEnd, IsStuck}
 
 abbrev by : ℕ → Act → Event
 by p act = record { process = p; act = act }
@@ -153,3 +158,65 @@ taken_again = record { events = by 0 A.Stamp ∷ by 0 A.Clear ∷ by 0 A.Stamp �
 
 went_around : StandsFor stamps_and_clears around (0 ∷ 0 ∷ 1 ∷ 0 ∷ 0 ∷ 0 ∷ 1 ∷ []) taken_again
 went_around = record { code = refl; down_to = refl; source = refl }
+
+-- what `have_stopped` says of a program after a schedule, and of its code after one
+record StopsAs (a : WholeProgram ℕ) (asked : ℕ → Bool) (schedule steps : List ℕ) (stopped : Bool) : Type 0 where
+  source : have_stopped asked a.processes (statuses a schedule) ≡ stopped
+  code : have_stopped asked a.processes (code_statuses a steps) ≡ stopped
+
+abbrev every : ℕ → Bool
+every p = true
+
+abbrev only : ℕ → ℕ → Bool
+only p q = q == p
+
+-- a step too few, and enough
+not_yet : StopsAs counts_to_two every (replicate 6 0) (replicate 24 0) false
+not_yet = record { source = refl; code = refl }
+
+at_end : StopsAs counts_to_two every (replicate 7 0) (replicate 25 0) true
+at_end = record { source = refl; code = refl }
+
+-- one that has trapped has stopped; the other one runs
+stopped_by_trap : StopsAs goes_below (only 1) (1 ∷ []) (0 ∷ replicate 6 1) true
+stopped_by_trap = record { source = refl; code = refl }
+
+not_both : StopsAs goes_below every (1 ∷ []) (0 ∷ replicate 6 1) false
+not_both = record { source = refl; code = refl }
+
+-- nobody is asked for, and one that there is not
+nobody : StopsAs goes_below (λ p. false) [] [] true
+nobody = record { source = refl; code = refl }
+
+none_there : StopsAs goes_below (only 2) [] [] true
+none_there = record { source = refl; code = refl }
+
+-- the exchange of process 1 is lost, and it can end all the same
+can_after_a_loss : CanEnd 2 (only 1) (code_statuses stamps_and_compares) (0 ∷ 1 ∷ 0 ∷ 1 ∷ 0 ∷ 1 ∷ [])
+can_after_a_loss = (replicate 10 1, All-replicate (λ p. p < 2) 10 1 (omega arith), refl)
+
+-- a loop that is never left
+abbrev turns : WholeProgram ℕ
+turns = program 1 [] [] [] (cons (repeat (number 1) nil) nil)
+
+turns_on : (more : List ℕ) → source_run 1 more (source_start turns) ≡ source_start turns
+turns_on [] = refl
+turns_on (zero ∷ more) = turns_on more
+turns_on (suc p ∷ more) = turns_on more
+
+never_ends : IsStuck 1 every (statuses turns) []
+never_ends more = ap (λ s. have_stopped every 1 (statuses_of s)) (turns_on more)
+
+-- Process 1 has loaded labels that process 0 has changed since. It loses its exchange, and so its next step takes more
+-- instructions than the code has: begun here, `up` finds no end of it.
+abbrev one_stamp : WholeProgram ℕ
+one_stamp = program 2 [] [] [] (cons stamp nil)
+
+abbrev changed_since : CodeState
+changed_since = run_of (lowered_sizes one_stamp) (lowered one_stamp) (1 ∷ 0 ∷ 0 ∷ 0 ∷ [])
+
+finds_none : up_from 2 (lowered one_stamp) (1 ∷ []) changed_since ≡ []
+finds_none = refl
+
+takes_five : steps_to_commit 2 (lowered one_stamp) 1 5 changed_since ≡ Some 5
+takes_five = refl

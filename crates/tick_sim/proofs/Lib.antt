@@ -11,6 +11,7 @@ mod Start
 mod Down
 mod Up
 mod Round
+mod Ends
 mod PropertyValues
 mod Examples
 mod Reached

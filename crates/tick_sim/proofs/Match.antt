@@ -11,7 +11,7 @@
 -- What leads to the end of a step (`Leads`) ends `Between` two steps again, and there the program alone says
 -- which code stands at the place. So nothing is circular: `Between` speaks of code and statements, `Leads` of
 -- `Between`, and `Matches` of `Leads`.
-use Rattle.std.proofs.Common.{◌≡◌, ℕ, suc, ◌+◌, ◌≤◌, ◌⊎◌, true, false, List, [], ◌∷◌, Result, Ok, Err, Option, Some, None}
+use Rattle.std.proofs.Common.{◌≡◌, ℕ, suc, ◌+◌, ◌≤◌, true, false, List, [], ◌∷◌, Result, Ok, Err, Option, Some, None}
 use Rattle.std.specs.Prelude.{slice_get}
 use Rattle.base.specs.declared.status.Status.{Status}
 use Rattle.base.specs.declared.status.Status.TheVariants.{Running}
@@ -88,27 +88,41 @@ module _ (n : ℕ) (code : List Instr) (p : ℕ) where
         (after : Block ℕ) × ((tickets : List ℕ) (rows : List (List ℕ))
         → S.did n p tickets rows q.variables scans rest ≡ S.traps n p tickets rows q.variables scans after t)
 
+  -- Process `y` runs at such a place, with such a stack.
+  pub record IsInside (m : ℕ) (x : SourceProcess) (y : CodeProcess) : Type 0 where
+    pub process : CodeProcess
+    pub place : ℕ
+    pub stack : List ℕ
+    pub is : y ≡ at process place stack
+    pub alike : RunAlike n x process
+    pub leads : Leads process x.scans x.rest m place stack
+
+  -- Instruction `o` ended no step of the program, and nobody sees what it did, `e`.
+  abbrev pub Unseen : Labels → List (List ℕ) → CodeStep → Option Instr → Type 0
+  Unseen labels rows e o =
+      (ended_at o (made labels rows e).act ≡ false) × (labels_left p e labels ≡ labels) × (rows_left p e rows ≡ rows)
+      × ((made labels rows e).act ≡ None)
+
   -- `Loaded` is what is known of the labels that a stamp has loaded: it may be nothing.
   module _ (Loaded : Labels → Type 0) where
     -- At most so many steps of process `p` end the next step of the program, unless an exchange is lost.
     pub data Matches (m : ℕ) (x : SourceProcess) (y : CodeProcess) : Type 0 where
       stopped : x.status ≡ y.status → HasStopped x.status → Matches m x y
-      inside : (q : CodeProcess) (k : ℕ) (stack : List ℕ) → y ≡ at q k stack → RunAlike n x q
-          → Leads q x.scans x.rest m k stack → Matches m x y
+      inside : IsInside m x y → Matches m x y
       has_loaded : (k : ℕ) → 2 ≤ m → y.place ≡ k + 1 → Loaded y.scratch → RunAlike n x y
           → StampBegins code x.rest k y.stack → Matches m x y
       has_labelled : (k : ℕ) → 1 ≤ m → y.place ≡ k + 2 → Loaded y.scratch → y.beside ≡ stamped p y.scratch
           → RunAlike n x y → StampBegins code x.rest k y.stack → Matches m x y
 
-    -- What step `d` of the program is to what `e` of the code did, by instruction `o`: the same step, or
-    -- nobody sees it, and there is less to do or an exchange was lost.
+    -- What step `d` of the program is to what `e` of the code did, by instruction `o`: the same step, or nobody sees it.
+    -- Then there is less to do, or an exchange was lost, and the stamp begins again.
     pub data ProcessStep (m : ℕ) (x : SourceProcess) (labels : Labels) (rows : List (List ℕ)) (d : S.SourceStep) (e : CodeStep)
         (o : Option Instr) : Type 0 where
       together : 1 ≤ m → SameStep labels rows d e o → ProcessStep m x labels rows d e o
-      apart : ended_at o (made labels rows e).act ≡ false → labels_left p e labels ≡ labels → rows_left p e rows ≡ rows
-          → (made labels rows e).act ≡ None → (m' : ℕ)
-          → (suc m' ≤ m) ⊎ ((scratch : Labels) × Loaded scratch × (C.same_labels labels scratch ≡ false))
-          → Matches m' x (made labels rows e).process → ProcessStep m x labels rows d e o
+      apart : Unseen labels rows e o → (m' : ℕ) → suc m' ≤ m → Matches m' x (made labels rows e).process
+          → ProcessStep m x labels rows d e o
+      loses : Unseen labels rows e o → (scratch : Labels) → Loaded scratch → C.same_labels labels scratch ≡ false
+          → IsInside 3 x (made labels rows e).process → ProcessStep m x labels rows d e o
 
     -- the next step of the process in these two states
     abbrev pub NextStep : ℕ → SourceProcess → CodeProcess → SourceState → CodeState → Type 0

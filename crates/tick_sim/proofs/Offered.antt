@@ -1,10 +1,11 @@
--- What the crates above may cite: the two laws, and what the maps keep of a schedule.
+-- What the crates above may cite: the laws, and what the maps keep of a schedule.
 use Rattle.std.proofs.Common.{ℕ, ◌≤◌, suc, true, false, if◌then◌else◌, List, [], ◌∷◌, length, arith}
 use Rattle.code_core.specs.declared.instr.Instr.{Instr}
 use Rattle.code_machine.specs.Machine.{CodeState, code_step}
 use Rattle.tick_sim.specs.Maps.{down_from, is_commit}
 pub use Rattle.tick_sim.proofs.Down.{down_law}
 pub use Rattle.tick_sim.proofs.Up.{up_law}
+pub use Rattle.tick_sim.proofs.Ends.{ends_law}
 pub use Rattle.tick_sim.proofs.Maps.{down_lawful, up_lawful}
 
 pub down_short : (n : ℕ) (code : List Instr) (schedule : List ℕ) (d : CodeState)

@@ -1,8 +1,9 @@
 -- One step of a process of the code that matches its process of the program: it either ends a step of the
--- program, and both did the same, or nobody sees it and the process matches again, nearer to the end or,
--- after a lost exchange, where its stamp begins. A case for each situation of `Matches`. That the exchange
+-- program, and both did the same (`together`), or nobody sees it and the process matches again, nearer to the end
+-- (`apart`) or, after a lost exchange, where its stamp begins, with no labels loaded (`loses`).
+-- A case for each situation of `Matches`, in `match_step`. The difficulty is the exchange (`exchange_step`): that it
 -- stamps rightly asks only that the labels are those that were loaded, not what happened in between.
-use Rattle.std.proofs.Common.{◌≡◌, ℕ, suc, ◌+◌, ◌-◌, ◌≤◌, inl, inr, Bool, true, false, List, [], length, refl, ap, sym, ◌∙◌, subst, arith, Option, Some, None}
+use Rattle.std.proofs.Common.{◌≡◌, ℕ, suc, ◌+◌, ◌-◌, ◌≤◌, Bool, true, false, List, [], length, refl, ap, sym, ◌∙◌, subst, arith, Option, Some, None}
 use Rattle.std.specs.Prelude.{slice_get, if◌then◌else◌}
 use Rattle.base.specs.declared.status.Status.TheVariants.{Running}
 use Rattle.base.specs.declared.event.Act.TheVariants as A
@@ -23,7 +24,7 @@ use Rattle.code_machine.proofs.Offered.{equal_from_same}
 use Rattle.tick_sim.specs.Maps.{ended}
 use Rattle.tick_sim.proofs.Stands.{StandsAt, stands_few}
 use Rattle.tick_sim.proofs.Match as M
-use Rattle.tick_sim.proofs.Match.{HasStopped, at, RunAlike, Between, over, rests, StampBegins, Leads, ends_here, stamps, quietly, stopped, inside, has_loaded, has_labelled, together, apart}
+use Rattle.tick_sim.proofs.Match.{HasStopped, at, RunAlike, Between, over, rests, StampBegins, Leads, ends_here, stamps, quietly, stopped, inside, has_loaded, has_labelled, together, apart, loses}
 use Rattle.tick_sim.proofs.Statements.{stands_lead}
 
 module _ (n : ℕ) (code : List Instr) (p : ℕ) (Loaded : Labels → Type 0) where
@@ -39,13 +40,19 @@ module _ (n : ℕ) (code : List Instr) (p : ℕ) (Loaded : Labels → Type 0) wh
   between_matches x y (rests alike stack (m, stands)) = (
     m,
     stands_few code m y.place x.rest stands,
-    inside y y.place [] (ap (at y y.place) stack) alike
-        (stands_lead n code p y x.scans alike.1 alike.3 m y.place x.rest stands),
+    inside (record {
+      process = y;
+      place = y.place;
+      stack = [];
+      is = ap (at y y.place) stack;
+      alike = alike;
+      leads = stands_lead n code p y x.scans alike.1 alike.3 m y.place x.rest stands;
+    }),
   )
 
   pub match_status : (m : ℕ) (x : SourceProcess) (y : CodeProcess) → Matches m x y → x.status ≡ y.status
   match_status m x y (stopped same has) = same
-  match_status m x y (inside q k stack is alike leads) = alike.0 ∙ sym alike.1 ∙ ap (λ y. y.status) (sym is)
+  match_status m x y (inside within) = within.alike.0 ∙ sym within.alike.1 ∙ ap (λ y. y.status) (sym within.is)
   match_status m x y (has_loaded k few place loaded alike begun) = alike.0 ∙ sym alike.1
   match_status m x y (has_labelled k few place loaded beside alike begun) = alike.0 ∙ sym alike.1
 
@@ -65,13 +72,14 @@ module _ (n : ℕ) (code : List Instr) (p : ℕ) (Loaded : Labels → Type 0) wh
         (together some (same_step tickets labels rows agrees))
     inside_step m x q k stack alike (stamps three begun) tickets agrees =
         step_at m x (at q k stack) (S.did n p tickets rows q.variables x.scans x.rest) I.LoadWord begun.has.0
-        (apart refl refl refl refl (m - 1) (inl (omega arith)) (has_loaded k (omega arith) refl loaded alike begun))
+        (apart (refl, refl, refl, refl) (m - 1) (omega arith) (has_loaded k (omega arith) refl loaded alike begun))
     inside_step _ x q k stack alike (quietly {m = m} {k' = k'} {stack' = stack'} i here makes quiet leads) tickets
         agrees =
         step_at (suc m) x (at q k stack) (S.did n p tickets rows q.variables x.scans x.rest) i here
         (subst (λ e. ProcessStep (suc m) x labels rows (S.did n p tickets rows q.variables x.scans x.rest) e (Some i))
         (sym makes)
-        (apart quiet refl refl refl m (inl (omega arith)) (inside q k' stack' refl alike leads)))
+        (apart (quiet, refl, refl, refl) m (omega arith)
+        (inside (record { process = q; place = k'; stack = stack'; is = refl; alike = alike; leads = leads }))))
 
     -- an exchange is won where the labels are those that were loaded
     exchange_step : (m : ℕ) (x : SourceProcess) (y : CodeProcess) (k : ℕ) → 1 ≤ m → y.place ≡ k + 2 → Loaded y.scratch
@@ -104,27 +112,33 @@ module _ (n : ℕ) (code : List Instr) (p : ℕ) (Loaded : Labels → Type 0) wh
         let moved : made labels rows (asks (Q.Exchange y.scratch y.beside) (C.exchanges y k))
         ≡ C.goes y k y.stack None =
         ap (λ b. C.exchanges y k (if b then R.Won else R.Lost labels)) lost in
-        apart (ap (λ moved. ended (I.Exchange k) moved.act) moved) (ap (λ b. if b then y.beside else labels) lost) refl
-        (ap (λ moved. moved.act) moved) 3 (inr (y.scratch, has, lost))
-        (subst (λ moved. Matches 3 x moved.process) (sym moved)
-        (inside y k y.stack refl alike (stamps (omega arith) begun)))
+        loses (
+          ap (λ moved. ended (I.Exchange k) moved.act) moved,
+          ap (λ b. if b then y.beside else labels) lost,
+          refl,
+          ap (λ moved. moved.act) moved,
+        )
+        y.scratch has lost
+        (subst (λ moved. M.IsInside n code p 3 x moved.process) (sym moved)
+        (record { process = y; place = k; stack = y.stack; is = refl; alike = alike; leads = stamps (omega arith) begun }))
 
     match_step : (m : ℕ) (x : SourceProcess) (y : CodeProcess) → Matches m x y → y.status ≡ Running → (tickets : List ℕ)
         → Agrees n tickets labels
         → ProcessStep m x labels rows (S.did n p tickets rows x.variables x.scans x.rest) (C.did n p code y)
         (slice_get code y.place)
     match_step m x y (stopped same has) runs tickets agrees = absurd (subst HasStopped (same ∙ runs) has)
-    match_step m x y (inside q k stack is alike leads) runs tickets agrees =
+    match_step m x y (inside within) runs tickets agrees =
         subst (λ y. ProcessStep m x labels rows (S.did n p tickets rows x.variables x.scans x.rest) (C.did n p code y)
         (slice_get code y.place))
-        (sym is)
+        (sym within.is)
         (subst (λ v. ProcessStep m x labels rows (S.did n p tickets rows v x.scans x.rest)
-        (C.did n p code (at q k stack)) (slice_get code k))
-        (sym alike.2) (inside_step m x q k stack alike leads tickets agrees))
+        (C.did n p code (at within.process within.place within.stack)) (slice_get code within.place))
+        (sym within.alike.2)
+        (inside_step m x within.process within.place within.stack within.alike within.leads tickets agrees))
     match_step m x y (has_loaded k few place has alike begun) runs tickets agrees =
         step_at m x y (S.did n p tickets rows x.variables x.scans x.rest) I.Next
         (ap (slice_get code) place ∙ begun.has.1.0)
-        (apart refl refl refl refl (m - 1) (inl (omega arith))
+        (apart (refl, refl, refl, refl) (m - 1) (omega arith)
         (has_labelled k (omega arith) (omega (arith, place)) has refl alike begun))
     match_step m x y (has_labelled k few place has beside alike begun) runs tickets agrees =
         let same : y.place ≡ k + 1 + 1 = omega (arith, place) in

@@ -6,10 +6,10 @@
 --
 --   - `solo`, by induction on the steps that are left (`fuel`). Process `p` of the code matches that of the
 --     program, and at most `m` of its steps end the next step of the program (`Matches`, with `m` at most the
---     fuel). Its next step is either made together with the program, and that is the end, or apart from it: then
---     fewer steps are left, or an exchange was lost. The last can't be (`not_lost`): what the stamp has loaded are
---     the labels that are there, which is what `Loaded` says here, and nobody but `p` steps. Between two steps `m`
---     is at most the length of the code (`between_matches`), so that much fuel is enough.
+--     fuel). Its next step (`alone_step`) is either made together with the program, and that is the end, or apart
+--     from it: then fewer steps are left, or an exchange was lost. The last can't be (`not_lost`): what the stamp
+--     has loaded are the labels that are there, which is what `Loaded` says here, and nobody but `p` steps. Between
+--     two steps `m` is at most the length of the code (`between_matches`), so that much fuel is enough.
 --   - `turn`, for one item of the schedule. A process that runs moves in this way. One that has stopped, or that
 --     there is not, takes no step, and nothing changes, in the program as in the code. The map `up` is defined by
 --     a search for the first step that ends one (`steps_to_commit`); `commits_now` and `commits_later` unroll that
@@ -17,10 +17,10 @@
 --   - `up_runs`, by induction on the schedule. After each item all processes stand between two steps again
 --     (`AllBetween`), so the next item can begin; and states that match show the same (`seen_same`).
 --
--- While `p` is on its way the others are only known to stand between two steps (`OtherBetween`). They make no
--- step, and what `p` does alone changes nothing of theirs; what it writes at the end, labels or a register, the
--- program writes too.
-use Rattle.std.proofs.Common.{◌≡◌, ℕ, zero, suc, ◌≤◌, inl, inr, ⊎_elim, Bool, true, false, List, [], ◌∷◌, ◌++◌, length, replicate, refl, ap, sym, ◌∙◌, subst, arith, Option, Some, None}
+-- While `p` is on its way the others are only known to be related as before (`Others`), here to stand between two
+-- steps. They make no step, and what `p` does alone changes nothing of theirs; what it writes at the end, labels or a
+-- register, the program writes too.
+use Rattle.std.proofs.Common.{◌≡◌, ℕ, zero, suc, ◌≤◌, ⊎_elim, Bool, true, false, List, [], ◌∷◌, ◌++◌, length, replicate, refl, ap, sym, ◌∙◌, subst, arith, Option, Some, None}
 use Rattle.std.specs.Prelude.{◌≢◌, slice_get}
 use Rattle.std.proofs.lemmas.Bool.{both_ways}
 use Rattle.base.specs.Plain.{WholeProgram}
@@ -39,7 +39,7 @@ use Rattle.tick_lower.specs.Lowered.{lowered, lowered_sizes}
 use Rattle.tick_sim.specs.Maps.{commit_of, is_commit, one_more, steps_to_commit, repeated, steps_of, up_from, up}
 use Rattle.tick_sim.specs.Laws.{UpLaw, kept_as, kept_of}
 use Rattle.tick_sim.specs.Properties.{code_state_after, seen_by_labels}
-use Rattle.tick_sim.proofs.Match.{HasStopped, Between, over, rests, Matches, NextStep, together, apart}
+use Rattle.tick_sim.proofs.Match.{HasStopped, Between, over, rests, IsInside, Unseen, Matches, NextStep, together, apart, loses}
 use Rattle.tick_sim.proofs.Step.{between_matches, match_status, process_step}
 use Rattle.tick_sim.proofs.Pairs.{get_set_same, first_at, first_none}
 use Rattle.tick_sim.proofs.States.{MatchStates, AllBetween, seen_same, match_weaker, commit_runs, code_runs, both_after, code_after, stopped_step, stopped_source, runs_or_not}
@@ -86,79 +86,103 @@ commits_later : (n : ℕ) (code : List Instr) (p most k : ℕ) (d : CodeState) �
 commits_later n code p most k d quiet later = steps_by n code p most d false quiet ∙ ap one_more later
 
 -- the labels that a stamp has loaded are these
-abbrev Loaded : Labels → Labels → Type 0
+abbrev pub Loaded : Labels → Labels → Type 0
 Loaded labels loaded = loaded ≡ labels
 
 module _ (n : ℕ) (code : List Instr) where
-  -- each process but `p` stands between two steps
-  abbrev OtherBetween : ℕ → ℕ → SourceProcess → CodeProcess → Type 0
-  OtherBetween p q x y = q ≢ p → Between n code x y
+  -- Process `p` steps alone, and the others are related in some way.
+  module _ (R : ℕ → SourceProcess → CodeProcess → Type 0) (p : ℕ) where
+    abbrev pub Others : ℕ → SourceProcess → CodeProcess → Type 0
+    Others q x y = q ≢ p → R q x y
 
-  -- so many steps of process `p` alone, at most `fuel`, end its next step
+    -- so many steps of process `p` alone, at most `fuel`, end its next step
+    abbrev pub AloneWithin : ℕ → SourceState → CodeState → Type 0
+    AloneWithin fuel s d =
+        (k : ℕ) × (steps_to_commit n code p fuel d ≡ Some k)
+        × MatchStates n R (S.source_step n p s) (C.code_run n code (replicate k p) d)
+
+    -- after a step that ended none process `p` is `y`, and all else is as it was
+    pub record GoesOn (s : SourceState) (d d' : CodeState) (y : CodeProcess) : Type 0 where
+      pub quiet : is_commit n code p d ≡ false
+      pub labels : d'.labels ≡ d.labels
+      pub here : slice_get d'.processes p ≡ Some y
+      pub others : MatchStates n Others s d'
+
+    -- One step of process `p`, of which `x` is in the program: it ends a step of the program, or there is less to do, or
+    -- an exchange was lost.
+    pub data AloneStep (Known : Labels → Type 0) (m : ℕ) (x : SourceProcess) (s : SourceState) (d : CodeState) : Type 0 where
+      ends_step : 1 ≤ m → is_commit n code p d ≡ true → MatchStates n R (S.source_step n p s) (C.code_step n code p d)
+          → AloneStep Known m x s d
+      has_less : (m' : ℕ) (y : CodeProcess) → suc m' ≤ m → GoesOn s d (C.code_step n code p d) y
+          → Matches n code p Known m' x y → AloneStep Known m x s d
+      has_lost : (scratch : Labels) (y : CodeProcess) → Known scratch → C.same_labels d.labels scratch ≡ false
+          → GoesOn s d (C.code_step n code p d) y → IsInside n code p 3 x y → AloneStep Known m x s d
+
+    -- what becomes of process `p`, which is `y`, in its next step
+    abbrev after_step : CodeState → CodeProcess → CodeProcess
+    after_step d y = (made d.labels d.rows (C.did n p code y)).process
+
+    -- It runs in the program, and any two that stand between two steps are related.
+    module _ (between : (x : SourceProcess) (y : CodeProcess) → Between n code x y → R p x y)
+        (s : SourceState) (x : SourceProcess) (at_x : slice_get s.processes p ≡ Some x) (source_runs : x.status ≡ Running) where
+      pub alone_step : (Known : Labels → Type 0) (m : ℕ) (d : CodeState) (y : CodeProcess) → slice_get d.processes p ≡ Some y
+          → MatchStates n Others s d → Known d.labels → Matches n code p Known m x y → AloneStep Known m x s d
+      alone_step Known m d y at_y others loaded matches =
+          let runs : y.status ≡ Running = sym (match_status n code p Known m x y matches) ∙ source_runs in
+          case runs (process_step n code p Known m x y s d others.agrees others.same_rows loaded matches runs)
+        where
+          goes_on : y.status ≡ Running → Unseen n code p d.labels d.rows (C.did n p code y) (slice_get code y.place)
+              → GoesOn s d (C.code_step n code p d) (after_step d y)
+          goes_on runs unseen =
+              let is : C.code_step n code p d ≡ C.state_after p d (C.did n p code y) = code_runs n code p d y at_y runs in
+              record {
+                quiet = commit_runs n code p d y at_y runs ∙ unseen.0;
+                labels = ap (λ d. d.labels) is ∙ unseen.1;
+                here = ap (λ d. slice_get d.processes p) is ∙ get_set_same d.processes p (after_step d y) y at_y;
+                others = code_after n code p s d x y at_x at_y runs Others Others others (λ q x y other h. h)
+                    unseen.1 unseen.2 unseen.3 (λ other. absurd (other refl));
+              }
+
+          case : y.status ≡ Running → NextStep n code p Known m x y s d → AloneStep Known m x s d
+          case runs (together some step) =
+              ends_step some (commit_runs n code p d y at_y runs ∙ step.ends)
+              (both_after n code p s d x y at_x at_y runs Others R others (λ q x y other h. h other) source_runs step between)
+          case runs (apart unseen m' less matches) = has_less m' (after_step d y) less (goes_on runs unseen) matches
+          case runs (loses unseen scratch loaded lost begun) = has_lost scratch (after_step d y) loaded lost (goes_on runs unseen) begun
+
+      -- Where the labels that the stamp has loaded are those that are there, no exchange is lost, since nobody else steps.
+      module _ (labels : Labels) where
+        not_lost : (d : CodeState) (scratch : Labels) → d.labels ≡ labels → Loaded labels scratch
+            → C.same_labels d.labels scratch ≡ false → ⊥
+        not_lost d scratch same loaded lost =
+            both_ways (C.same_labels d.labels scratch) lost
+            (ap (C.same_labels d.labels) (loaded ∙ sym same) ∙ same_self d.labels)
+
+        pub solo : (fuel m : ℕ) (d : CodeState) (y : CodeProcess) → m ≤ fuel → d.labels ≡ labels
+            → slice_get d.processes p ≡ Some y → MatchStates n Others s d → Matches n code p (Loaded labels) m x y
+            → AloneWithin fuel s d
+        solo zero m d y few same at_y others matches =
+            elim (alone_step (Loaded labels) m d y at_y others same matches) as (λ w. AloneWithin 0 s d) [
+              | ends_step some commits after ↦ absurd (omega arith)
+              | has_less m' y' less goes matches' ↦ absurd (omega arith)
+              | has_lost scratch y' loaded lost goes begun ↦ absurd (not_lost d scratch same loaded lost)
+            ]
+        solo (suc fuel) m d y few same at_y others matches =
+            elim (alone_step (Loaded labels) m d y at_y others same matches) as (λ w. AloneWithin (suc fuel) s d) [
+              | ends_step some commits after ↦ (1, commits_now n code p fuel d commits, after)
+              | has_less m' y' less goes matches' ↦
+                  let later =
+                  solo fuel m' (C.code_step n code p d) y' (omega arith) (goes.labels ∙ same) goes.here goes.others matches' in (
+                    suc later.0,
+                    commits_later n code p fuel later.0 d goes.quiet later.1,
+                    later.2,
+                  )
+              | has_lost scratch y' loaded lost goes begun ↦ absurd (not_lost d scratch same loaded lost)
+            ]
+
+  -- so many steps of process `p` alone, at most `fuel`, end its next step, and all stand between two steps again
   abbrev pub EndsWithin : ℕ → ℕ → SourceState → CodeState → Type 0
-  EndsWithin fuel p s d =
-      (k : ℕ) × (steps_to_commit n code p fuel d ≡ Some k)
-      × AllBetween n code (S.source_step n p s) (C.code_run n code (replicate k p) d)
-
-  -- Process `p` alone steps, so the labels stay those that its stamp has loaded.
-  module _ (p : ℕ) (labels : Labels) (s : SourceState) (x : SourceProcess)
-      (at_x : slice_get s.processes p ≡ Some x)
-      (source_runs : x.status ≡ Running) where
-    not_lost : (d : CodeState) (scratch : Labels) → d.labels ≡ labels → Loaded labels scratch
-        → C.same_labels d.labels scratch ≡ false → ⊥
-    not_lost d scratch same loaded lost =
-        both_ways (C.same_labels d.labels scratch) lost
-        (ap (C.same_labels d.labels) (loaded ∙ sym same) ∙ same_self d.labels)
-
-    none_left : (m : ℕ) (d : CodeState) (y : CodeProcess) → m ≤ 0 → d.labels ≡ labels
-        → NextStep n code p (Loaded labels) m x y s d → ⊥
-    none_left m d y none same (together some step) = omega arith
-    none_left m d y none same (apart ends left rows act m' (inl less) matches) = omega arith
-    none_left m d y none same (apart ends left rows act m' (inr (scratch, loaded, lost)) matches) =
-        not_lost d scratch same loaded lost
-
-    -- one step, where the rest is known to take less
-    alone_step : (m fuel : ℕ) (d : CodeState) (y : CodeProcess) → m ≤ suc fuel → d.labels ≡ labels
-        → slice_get d.processes p ≡ Some y → MatchStates n (OtherBetween p) s d → y.status ≡ Running
-        → ((m' : ℕ) (y' : CodeProcess) → m' ≤ fuel → (C.code_step n code p d).labels ≡ labels
-        → slice_get (C.code_step n code p d).processes p ≡ Some y'
-        → MatchStates n (OtherBetween p) s (C.code_step n code p d)
-        → Matches n code p (Loaded labels) m' x y' → EndsWithin fuel p s (C.code_step n code p d))
-        → NextStep n code p (Loaded labels) m x y s d → EndsWithin (suc fuel) p s d
-    alone_step m fuel d y few same at_y others runs again (together some step) = (
-      1,
-      commits_now n code p fuel d (commit_runs n code p d y at_y runs ∙ step.ends),
-      both_after n code p s d x y at_x at_y runs (OtherBetween p) (λ q. Between n code) others
-          (λ q x y other h. h other)
-          source_runs step (λ x y between. between),
-    )
-    alone_step m fuel d y few same at_y others runs again (apart ends left rows act m' (inl less) matches) =
-        let y' : CodeProcess = (made d.labels d.rows (C.did n p code y)).process in
-        let is : C.code_step n code p d ≡ C.state_after p d (C.did n p code y) = code_runs n code p d y at_y runs in
-        let result = again m' y' (omega arith) (ap (λ d. d.labels) is ∙ left ∙ same)
-        (ap (λ d. slice_get d.processes p) is ∙ get_set_same d.processes p y' y at_y)
-        (code_after n code p s d x y at_x at_y runs (OtherBetween p) (OtherBetween p) others (λ q x y other h. h)
-        left rows act (λ other. absurd (other refl)))
-        matches in (
-          suc result.0,
-          commits_later n code p fuel result.0 d (commit_runs n code p d y at_y runs ∙ ends) result.1,
-          result.2,
-        )
-    alone_step m fuel d y few same at_y others runs again
-        (apart ends left rows act m' (inr (scratch, loaded, lost)) matches) =
-        absurd (not_lost d scratch same loaded lost)
-
-    solo : (fuel m : ℕ) (d : CodeState) (y : CodeProcess) → m ≤ fuel → d.labels ≡ labels
-        → slice_get d.processes p ≡ Some y
-        → MatchStates n (OtherBetween p) s d → Matches n code p (Loaded labels) m x y → EndsWithin fuel p s d
-    solo zero m d y few same at_y others matches =
-        let runs : y.status ≡ Running = sym (match_status n code p (Loaded labels) m x y matches) ∙ source_runs in
-        absurd (none_left m d y few same
-        (process_step n code p (Loaded labels) m x y s d others.agrees others.same_rows same matches runs))
-    solo (suc fuel) m d y few same at_y others matches =
-        let runs : y.status ≡ Running = sym (match_status n code p (Loaded labels) m x y matches) ∙ source_runs in
-        alone_step m fuel d y few same at_y others runs (λ m' y'. solo fuel m' (C.code_step n code p d) y')
-        (process_step n code p (Loaded labels) m x y s d others.agrees others.same_rows same matches runs)
+  EndsWithin fuel p = AloneWithin (λ p. Between n code) p fuel
 
   -- What one item of a schedule of the program is in the code: steps that end just one of the program,
   -- or nothing, where the process has stopped.
@@ -174,8 +198,8 @@ module _ (n : ℕ) (code : List Instr) where
       → EndsWithin (length code) p s d
   running_ends p s d x y all at_x at_y runs =
       let matches = between_matches n code p (Loaded d.labels) x y (all.processes.each p x y at_x at_y) in
-      solo p d.labels s x at_x runs (length code) matches.0 d y matches.1 refl at_y
-      (match_weaker n (λ q. Between n code) (OtherBetween p) s d (λ q x y between other. between) all) matches.2
+      solo (λ p. Between n code) p (λ x y between. between) s x at_x runs d.labels (length code) matches.0 d y matches.1 refl at_y
+      (match_weaker n (λ q. Between n code) (Others (λ p. Between n code) p) s d (λ q x y between other. between) all) matches.2
 
   kept_none : (p : ℕ) (status : Status) (later : List ℕ) → HasStopped status → kept_as p status later ≡ later
   kept_none p Running later has = absurd has
@@ -237,7 +261,7 @@ module _ (n : ℕ) (code : List Instr) where
       ]
 
 -- the program matches its code after the schedule that leads through it
-up_matches : (a : WholeProgram ℕ) (schedule : List ℕ)
+pub up_matches : (a : WholeProgram ℕ) (schedule : List ℕ)
     → AllBetween a.processes (lowered a) (S.source a schedule) (code_state_after a (up (lowered_sizes a) (lowered a) schedule))
 up_matches a schedule = up_runs a.processes (lowered a) schedule (S.source_start a) (C.code_start (lowered_sizes a)) (start_between a)
 

@@ -1,4 +1,5 @@
 pub mod Maps
 pub mod Laws
 pub mod Properties
+pub mod Ends
 pub mod prover

@@ -2,6 +2,7 @@
 
 ghost use Rattle.tick_sim.specs.Laws.{DownLaw, UpLaw, RoundLaw};
 ghost use Rattle.tick_sim.specs.Properties.{PropertiesLaw};
+ghost use Rattle.tick_sim.specs.Ends.{EndsLaw};
 
 /// Under every schedule the code of a program shows the events, the register rows and the statuses
 /// that the program shows on whole-number tickets under the schedule that `project` makes of it.
@@ -27,4 +28,11 @@ pub fn law_round()
 /// one that `expand` makes.
 pub fn law_properties()
     ensures { PropertiesLaw }
+{}
+
+/// After a schedule of the code the processes that are asked for can still all stop exactly if they can in the
+/// program after the schedule that `project` makes of it; and after a schedule of the program exactly if they can
+/// in the code after the one that `expand` makes. So a program can always end exactly if its code can.
+pub fn law_ends()
+    ensures { EndsLaw }
 {}

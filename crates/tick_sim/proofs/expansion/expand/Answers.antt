@@ -1,4 +1,4 @@
-use Rattle.std.proofs.Common.{◌++◌, ◌∙◌, ap, sym, refl, subst, get_or}
+use Rattle.std.proofs.Common.{◌++◌, ◌∙◌, ap, sym, subst, get_or}
 use Rattle.tick_kinds.specs.Resolution.{resolved}
 use Rattle.tick_source.specs.Source.{SourceState, source_start}
 use Rattle.code_machine.specs.Machine.{code_start}
