@@ -1,5 +1,5 @@
-ghost use Rattle.std.specs.Prelude.{◌≡◌, ◌↔◌, ◌<◌, ◌≤◌, ℕ, List, [], length, OnOk, IfOk, IfErr, IsTrue};
-ghost use Rattle.ticket_word.specs.Standing.{IsCount, IsTicketWord};
+ghost use Rattle.std.specs.Prelude.{◌≡◌, ◌<◌, ◌≤◌, ℕ, List, length, OnOk, IfOk, IfErr};
+ghost use Rattle.ticket_word.specs.Standing.{IsCount};
 ghost use Rattle.ticket_word.specs.Faults.{AreProcesses, Tells};
 ghost use Rattle.ticket_word.specs.prover.Asked.{AreAskedRanks, IsAsked, fault_number};
 
@@ -50,35 +50,20 @@ pub fn asked(n: u8, bits: u64, processes: &[u8]) -> Result<LabelWord, Fault>
     ensures err { IfErr result (λ fault. Tells n bits processes.now (fault_number fault)) }
 {
     within(n, processes)?;
-    if is_ticket_word(n, bits) {
-        Ok(LabelWord::from_bits(n, bits))
-    } else {
-        Err(Fault::Word)
+    match LabelWord::read_ordered(n, bits) {
+        Some(labels) => Ok(labels),
+        None => Err(Fault::Word),
     }
 }
 
-// Whether the number is the word of ordered labels.
-#[inline(never)]
-fn is_ticket_word(n: u8, bits: u64) -> bool
-    requires { IsCount n }
-    ensures { IsTrue result ↔ IsTicketWord n bits }
+/// The ranks of the labels of a word of `n` processes, of which these are some, and 0 past the last.
+#[inline(always)]
+pub fn asked_ranks(n: u8, bits: u64, processes: &[u8]) -> Result<[u8; 6], Fault>
+    ensures ok { IfOk result (λ ranks. AreAskedRanks n bits processes.now ranks) }
+    ensures err { IfErr result (λ fault. Tells n bits processes.now (fault_number fault)) }
 {
-    match LabelWord::read(n, bits) {
-        Some(word) => word.is_ordered(),
-        None => false,
-    }
-}
-
-/// The ranks of the labels of a word of `n` processes, and 0 past the last.
-pub fn asked_ranks(n: u8, bits: u64) -> Result<[u8; 6], Fault>
-    ensures ok { IfOk result (λ ranks. AreAskedRanks n bits ranks) }
-    ensures err { IfErr result (λ fault. Tells n bits [] (fault_number fault)) }
-{
-    within(n, &[])?;
-    let Some(word) = LabelWord::read(n, bits) else {
-        return Err(Fault::Word);
-    };
-    match word.ordered_ranks() {
+    within(n, processes)?;
+    match LabelWord::read_ranks(n, bits) {
         Some(ranks) => Ok(ranks),
         None => Err(Fault::Word),
     }

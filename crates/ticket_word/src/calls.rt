@@ -190,9 +190,9 @@ pub extern "C" fn ticket_word_rank(n: u8, word: u64, i: u8) -> TicketRank
     ensures fault { Tells n word (i ∷ []) result.fault }
     ensures nothing { 0 < result.fault → result.rank ≡ 0 }
 {
-    match asked(n, word, &[i]) {
-        Ok(labels) => TicketRank {
-            rank: labels.rank(i),
+    match asked_ranks(n, word, &[i]) {
+        Ok(ranks) => TicketRank {
+            rank: ranks[i as usize],
             fault: 0,
         },
         Err(fault) => TicketRank {
@@ -209,7 +209,7 @@ pub extern "C" fn ticket_word_ranks(n: u8, word: u64) -> TicketRanks
     ensures fault { Tells n word [] result.fault }
     ensures nothing { 0 < result.fault → result.of ≡ replicate 6 0 }
 {
-    match asked_ranks(n, word) {
+    match asked_ranks(n, word, &[]) {
         Ok(ranks) => TicketRanks {
             of: ranks,
             fault: 0,
@@ -226,10 +226,13 @@ fn is_first(labels: &LabelWord, p: u8) -> bool
     requires { p < length labels.now }
     ensures { IsTrue result ↔ IsFirstLabel labels.now p }
 {
+    if !labels.held(p) {
+        return false;
+    }
     for other in 0..labels.n() {
         if labels.held(other) && labels.older(other, p) {
             return false;
         }
     }
-    labels.held(p)
+    true
 }

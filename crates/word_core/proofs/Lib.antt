@@ -3,6 +3,7 @@ pub mod Choosing
 pub mod Counting
 pub mod Examples
 pub mod Fields
+pub mod Gathered
 pub mod Gathering
 pub mod Histories
 pub mod HistoryExamples

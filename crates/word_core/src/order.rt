@@ -1,9 +1,9 @@
-ghost use Rattle.std.specs.Prelude.{◌≡◌, ◌↔◌, ◌<◌, ℕ, Option, All, IfSome, IsTrue};
-ghost use Rattle.label_core.specs.Labels.{IsLabel};
+ghost use Rattle.std.specs.Prelude.{◌≡◌, ◌↔◌, ◌<◌, ◌≤◌, ℕ, Option, length, map, All, IfSome, IsTrue};
+ghost use Rattle.label_core.specs.Labels.{IsLabel, AreAlike, dominated};
 ghost use Rattle.word_core.specs.Order.{above};
 ghost use Rattle.word_core.specs.prover.Numbers.{AreApart};
 
-use label_core::Label;
+use label_core::{Label, ranks};
 
 /// Whether the first process is above the second: an absent one is below each that is present, and of
 /// two that are present labels tell.
@@ -16,6 +16,16 @@ pub fn above(label: &Option<Label>, other: &Option<Label>) -> bool
         (Some(_), None) => true,
         (None, _) => false,
     }
+}
+
+/// Whether no two of the labels dominate equally many of them.
+#[inline(always)]
+pub fn differ_in_rank(labels: &[Label]) -> bool
+    requires few { length labels.now ≤ 6 }
+    requires alike { AreAlike labels.now }
+    ensures { IsTrue result ↔ AreApart (map (dominated labels.now) labels.now) }
+{
+    are_apart(&ranks(labels)[..labels.len()])
 }
 
 /// Whether no two of the numbers are equal.

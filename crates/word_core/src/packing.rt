@@ -1,10 +1,10 @@
-ghost use Rattle.std.specs.Prelude.{◌≡◌, ◌↔◌, ◌==◌, ◌+◌, ◌-◌, ◌*◌, ◌^◌, ◌<◌, ◌≤◌, ℕ, length, bit_and, IsTrue};
+ghost use Rattle.std.specs.Prelude.{◌≡◌, ◌↔◌, ◌==◌, ◌+◌, ◌-◌, ◌*◌, ◌^◌, ◌<◌, ◌≤◌, ℕ, [], length, replicate, bit_and, MatchOption, IsTrue};
 ghost use Rattle.label_core.specs.Labels.{label_number};
 ghost use Rattle.word_core.specs.Stamps.{Labels, cleared};
 ghost use Rattle.word_core.specs.Packed.{AreLabels, word};
-ghost use Rattle.word_core.specs.prover.Packing.{byte_in, presence_in, label_in, Counts, Fits, AllCount, mask_but};
+ghost use Rattle.word_core.specs.prover.Packing.{byte_in, presence_in, label_in, labels_in, Counts, Fits, AllCount, AreGathered, mask_but};
 
-use label_core::Label;
+use label_core::{Label, MOST_LABELS};
 
 /// The name of the layout that is told here, as texts give it.
 pub const LAYOUT: &str = "layout 3";
@@ -76,6 +76,28 @@ pub fn label_in(bits: u64, i: u8, digits: u8) -> Option<Label>
         return None;
     }
     Some(Label::numbered(digits, byte(bits, i)))
+}
+
+/// Writes the labels of those of `n` processes that are present into a row of empty ones, and answers how
+/// many there are; `None` where one has what it may not have. It goes over the processes once.
+#[inline(always)]
+pub fn gather_in(n: u8, bits: u64, row: &mut [Label; MOST_LABELS]) -> Option<u8>
+    requires at_least_one { 1 ≤ n }
+    requires at_most_six { n ≤ 6 }
+    requires empty { row.old ≡ replicate 6 [] }
+    ensures { MatchOption result (¬ AllCount n bits) (λ count. AllCount n bits × AreGathered (labels_in n bits) row.new count) }
+{
+    let mut count = 0;
+    for i in 0..n {
+        if !counts(n, bits, i) {
+            return None;
+        }
+        if let Some(label) = label_in(bits, i, n - 1) {
+            row[count as usize] = label;
+            count += 1;
+        }
+    }
+    Some(count)
 }
 
 /// The bits with this label for process `p`, which had none.

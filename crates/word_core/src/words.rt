@@ -7,8 +7,8 @@ ghost use Rattle.word_core.specs.Order.{IsOrdered, older_label, label_ranks};
 ghost use Rattle.word_core.specs.Agreement.{Agrees};
 ghost use Rattle.word_core.specs.prover.Numbers.{AreRanks};
 
-use crate::order::{above, are_apart};
-use crate::packing::{all_count, clear_mask, fits, is_present, label_in, with_label};
+use crate::order::{above, are_apart, differ_in_rank};
+use crate::packing::{all_count, clear_mask, fits, gather_in, is_present, label_in, with_label};
 use label_core::{Label, MOST_LABELS, next_label, ranks, write_ranks};
 use std::marker::Model;
 
@@ -70,6 +70,46 @@ impl LabelWord {
             return None;
         }
         Some(LabelWord { count: n, bits })
+    }
+
+    /// The word of `n` processes with these bits, where it is one of ordered labels; `None` where it is not.
+    /// It answers what `read` and then `is_ordered` tell, and goes over the processes once.
+    #[inline(always)]
+    pub fn read_ordered(n: u8, bits: u64) -> Option<LabelWord>
+        requires at_least_one { 1 ≤ n }
+        requires at_most_six { n ≤ 6 }
+        ensures { MatchOption result ((labels : Labels) → IsWordOf n bits labels → ¬ IsOrdered labels) (λ labels. IsWordOf n bits labels × IsOrdered labels) }
+    {
+        if !fits(n, bits) {
+            return None;
+        }
+        let mut row = [Label::zeros(0); MOST_LABELS];
+        let count = gather_in(n, bits, &mut row)?;
+        if !differ_in_rank(&row[..count as usize]) {
+            return None;
+        }
+        Some(LabelWord { count: n, bits })
+    }
+
+    /// The ranks, as `ranks` tells them, of the labels of the word of `n` processes with these bits, where they
+    /// are ordered; `None` where the bits are no such word. It goes over the processes once, as `read_ordered`.
+    #[inline(always)]
+    pub fn read_ranks(n: u8, bits: u64) -> Option<[u8; MOST_LABELS]>
+        requires at_least_one { 1 ≤ n }
+        requires at_most_six { n ≤ 6 }
+        ensures { MatchOption result ((labels : Labels) → IsWordOf n bits labels → ¬ IsOrdered labels) (λ ranks. (labels : Labels) × IsWordOf n bits labels × IsOrdered labels × (ranks ≡ label_ranks labels ++ replicate (6 - length labels) 0)) }
+    {
+        if !fits(n, bits) {
+            return None;
+        }
+        let mut row = [Label::zeros(0); MOST_LABELS];
+        let count = gather_in(n, bits, &mut row)?;
+        let among = ranks(&row[..count as usize]);
+        if !are_apart(&among[..count as usize]) {
+            return None;
+        }
+        let word = LabelWord { count: n, bits };
+        Some(word.ranks_from(&among, count))
     }
 
     /// The word of `n` processes with these bits, which the caller knows to be a word: nothing is
@@ -193,7 +233,7 @@ impl LabelWord {
     }
 
     /// Whether process `j` is above process `i`.
-    #[inline(never)]
+    #[inline(always)]
     pub fn older(&self, i: u8, j: u8) -> bool
         requires first_in_range { i < length self.now }
         requires second_in_range { j < length self.now }

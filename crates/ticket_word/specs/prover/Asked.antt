@@ -1,5 +1,5 @@
 -- What the code makes of a word before it answers.
-use Rattle.std.specs.Prelude.{◌≡◌, ℕ, ◌-◌, ◌<◌, List, [], ◌++◌, length, replicate, IsTrue}
+use Rattle.std.specs.Prelude.{◌≡◌, ℕ, ◌-◌, ◌<◌, List, ◌++◌, length, replicate, IsTrue}
 use Rattle.word_core.specs.Stamps.{Labels, label_at, is_present}
 use Rattle.word_core.specs.Packed.{IsWordOf}
 use Rattle.word_core.specs.Order.{IsOrdered, older_label, label_ranks}
@@ -21,9 +21,9 @@ pub record IsAsked (n bits : ℕ) (processes : List ℕ) (labels : Labels) : Typ
   pub ordered : IsOrdered labels
 
 -- the ranks of such labels, and 0 past the last
-pub record AreAskedRanks (n bits : ℕ) (ranks : List ℕ) : Type 0 where
+pub record AreAskedRanks (n bits : ℕ) (processes ranks : List ℕ) : Type 0 where
   pub labels : Labels
-  pub asked : IsAsked n bits [] labels
+  pub asked : IsAsked n bits processes labels
   pub are : ranks ≡ label_ranks labels ++ replicate (6 - length labels) 0
 
 -- process `p` is present, and nobody who is present is older

@@ -1,7 +1,7 @@
 -- What the packing code reads and writes.
-use Rattle.std.proofs.Common.{◌≡◌, ℕ, zero, suc, ◌+◌, ◌-◌, ◌*◌, ◌/◌, ◌%◌, ◌^◌, ◌<◌, Option, None, Some, List, [], ◌∷◌, length, refl, ap}
+use Rattle.std.proofs.Common.{◌≡◌, ℕ, zero, suc, ◌+◌, ◌-◌, ◌*◌, ◌/◌, ◌%◌, ◌^◌, ◌<◌, ◌≤◌, Option, None, Some, List, [], ◌∷◌, ◌++◌, length, replicate, refl, ap}
 use Rattle.label_core.specs.Labels.{digits_in}
-use Rattle.word_core.specs.Stamps.{Labels}
+use Rattle.word_core.specs.Stamps.{Labels, present}
 
 -- the byte of process `i`
 abbrev pub byte_in : ℕ → ℕ → ℕ
@@ -48,6 +48,12 @@ pub record Fits (n bits : ℕ) : Type 0 where
 -- each of `n` processes has what it may have
 abbrev pub AllCount : ℕ → ℕ → Type 0
 AllCount n bits = (i : ℕ) → i < n → Counts (n - 1) (byte_in bits i) (presence_in bits i)
+
+-- a row has the labels of those that are present, empty ones past them, and so many they are
+pub record AreGathered (labels : Labels) (row : List (List ℕ)) (count : ℕ) : Type 0 where
+  pub there : row ≡ present labels ++ replicate (6 - length (present labels)) []
+  pub many : count ≡ length (present labels)
+  pub few : count ≤ length labels
 
 -- so many fields of ones, but zeros in that of `p`
 abbrev pub all_but : ℕ → ℕ → ℕ → ℕ

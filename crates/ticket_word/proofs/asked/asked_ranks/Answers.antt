@@ -1,8 +1,18 @@
-use Rattle.ticket_word.proofs.Telling.{tells_word, stands_ordered}
+use Rattle.ticket_word.proofs.Telling.{tells_word}
 use Rattle.ticket_word.proofs.asked.asked_ranks.Goals as goal
+
+pub returns-in-Some-clause-ok : goal.returns-in-Some-clause-ok
+returns-in-Some-clause-ok c =
+    let within = c.in_ok-within.ensures.ok in
+    let known = c.in-Some.ensures in
+    record {
+      labels = known.0;
+      asked = record { count = within.0; are = within.1; is = known.1; ordered = known.2 };
+      are = known.3;
+    }
 
 pub returns-in-None-clause-err : goal.returns-in-None-clause-err
 returns-in-None-clause-err c =
     let within = c.in_ok-within.ensures.ok in
-    tells_word c.args.n c.args.bits _ within.0 within.1
-    (λ known. c.in-None.ensures (stands_ordered c.args.n c.args.bits c.in-Some.word c.in-Some.ensures known))
+    tells_word c.args.n c.args.bits c.args.processes.now within.0 within.1
+    (λ known. let s = known.stands in c.in-None.ensures s.labels s.is (known.tickets, s.agrees.by))
