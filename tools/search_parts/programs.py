@@ -15,8 +15,9 @@ MORE = 6
 
 
 def read(path):
+    """The text of a program without its lines `#!`: searched is what traps."""
     with open(f"{TOP}/{path}", "rb") as file:
-        return file.read()
+        return b"".join(line for line in file if not line.lstrip().startswith(b"#!"))
 
 
 def known():

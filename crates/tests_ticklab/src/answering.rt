@@ -25,8 +25,8 @@ fn searched<W: Progress>(
         name: NAME,
         bytes: input,
     };
-    match explored(alloc, &mut files, watch, NAME, limit, is_merged) {
-        Err(Answer(NoMemory)) => explored(alloc, &mut files, watch, NAME, limit, is_merged),
+    match explored(alloc, &mut files, watch, NAME, &[], limit, is_merged) {
+        Err(Answer(NoMemory)) => explored(alloc, &mut files, watch, NAME, &[], limit, is_merged),
         answered => answered,
     }
 }

@@ -3,18 +3,22 @@ use crate::asking::asked_for;
 use std::test::Fail;
 use tests_shared::is_same;
 
-static ASKED: [(&[&str], &str); 14] = [
+static ASKED: [(&[&str], &str); 15] = [
     (
         &["explore", "a.tick"],
-        "Explore { file: \"a.tick\", limit: 1000000, is_merged: false }",
+        "Explore { file: \"a.tick\", never: [], limit: 1000000, is_merged: false }",
     ),
     (
         &["explore", "--limit", "4294967295", "-"],
-        "Explore { file: \"-\", limit: 4294967295, is_merged: false }",
+        "Explore { file: \"-\", never: [], limit: 4294967295, is_merged: false }",
     ),
     (
         &["explore", "a", "--limit=0", "--merged"],
-        "Explore { file: \"a\", limit: 0, is_merged: true }",
+        "Explore { file: \"a\", never: [], limit: 0, is_merged: true }",
+    ),
+    (
+        &["explore", "--never", "n", "a", "--never=1 < n"],
+        "Explore { file: \"a\", never: [\"n\", \"1 < n\"], limit: 1000000, is_merged: false }",
     ),
     (
         &["hunt", "a"],

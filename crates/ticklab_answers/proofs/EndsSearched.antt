@@ -9,10 +9,10 @@ use Rattle.searches_explore.specs.Ending.{CanAlwaysEnd, IfEnds, IfStuck, IsShort
 use Rattle.searches_explore.specs.Searching.{AreToldFor, IfLimit, IfSafe, IfTrapped, IsLimit, IsSafe, IsShortestTrap, Sees}
 use Rattle.searches_explore.specs.declared.ending.EndExplored.{EndExplored}
 use Rattle.searches_explore.specs.declared.ending.EndExplored.TheVariants.{Trapped, Stuck, Ends, Limit}
+use Rattle.ticklab_answers.specs.Asking.{IsOf}
 use Rattle.ticklab_answers.specs.Ends.{IsEndsExplored, IsEndsRefused, IsPast, asked_by, ends, stuck, trapped, unknown, unexplored, no_process}
 use Rattle.ticklab_answers.specs.Lines.{shortest_line}
 use Rattle.ticklab_answers.specs.Responses.{Refuses}
-use Rattle.ticklab_answers.specs.Runs.{IsOf}
 use Rattle.ticklab_answers.specs.Shown.{ShowsEnds, ShowsStuck, ShowsTrap}
 use Rattle.ticklab_answers.specs.declared.response.Response.{Response}
 

@@ -1,6 +1,8 @@
 pub mod Carried
 pub mod EndsSearched
+pub mod NeverLines
 pub mod Pictured
+pub mod ProgramFiles
 pub mod Ran
 pub mod Refusals
 pub mod Responded

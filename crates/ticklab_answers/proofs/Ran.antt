@@ -2,8 +2,9 @@
 use Rattle.std.proofs.Common.{◌≡◌, ℕ, Bool, List, Ok, subst, sym}
 use Rattle.base.specs.Plain.{Name, WholeProgram}
 use Rattle.language_schedules.specs.Schedule.{schedule_of}
-use Rattle.ticketc_refusals.specs.Refusals.{IsProgram, IsScheduleRefused}
+use Rattle.ticketc_refusals.specs.Refusals.{IsScheduleRefused}
 use Rattle.ticklab_explain.specs.Reports.{TellsFor}
+use Rattle.ticklab_answers.specs.Asking.{IsOf}
 use Rattle.ticklab_answers.specs.Codes.{IsCodeless}
 use Rattle.ticklab_answers.specs.Runs.{IsRun, IsUnrun, code_refused, schedule_refused}
 use Rattle.ticklab_answers.specs.Stops.{IfRefused}
@@ -17,7 +18,7 @@ as_read a b same n count text schedule spelled =
     subst (λ c. schedule_of c.processes text ≡ Ok schedule) same (subst (λ m. schedule_of m text ≡ Ok schedule) count spelled)
 
 pub run_by : (P : WholeProgram Name → List ℕ → List ℕ → Type 0) (input text : List ℕ) (a : WholeProgram Name)
-    → ((is : IsProgram input) × (a ≡ is.program)) → (n : ℕ) → n ≡ a.processes → (schedule given : List ℕ) → schedule_of n text ≡ Ok schedule
+    → IsOf input a → (n : ℕ) → n ≡ a.processes → (schedule given : List ℕ) → schedule_of n text ≡ Ok schedule
     → given ≡ schedule → (out told : List ℕ) → told ≡ out → P a given out → IsRun P input text told
 run_by P input text a is n count schedule given spelled same out told told_is held = record {
   is = is.0;
@@ -27,7 +28,7 @@ run_by P input text a is n count schedule given spelled same out told told_is he
 }
 
 -- Each is a reason why it isn't made.
-module _ (name input from text : List ℕ) (is_code : Bool) (a : WholeProgram Name) (is : (is : IsProgram input) × (a ≡ is.program)) (n : ℕ) (count : n ≡ a.processes) where
+module _ (name input from text : List ℕ) (is_code : Bool) (a : WholeProgram Name) (is : IsOf input a) (n : ℕ) (count : n ≡ a.processes) where
   pub schedule_unrun : (stop : NoAnswer) → IfRefused stop (TellsFor n (IsScheduleRefused n text) from text)
       → IfRefused stop (IsUnrun name input from text is_code)
   schedule_unrun stop =

@@ -1,57 +1,56 @@
 -- What an answer says, from what was explored or hunted and what the answer shows of it.
-use Rattle.std.proofs.Common.{◌≡◌, ◌≤◌, ℕ, Bool, List, [], length, refl, sym, subst}
+use Rattle.std.proofs.Common.{◌≡◌, ◌≤◌, ℕ, Bool, List, [], length, refl, subst}
 use Rattle.base.specs.Plain.{Name, WholeProgram}
 use Rattle.tick_kinds.specs.Resolution.{resolved}
-use Rattle.searches_states.specs.Watching.{Told, AreTold, IsWatched}
-use Rattle.searches_explore.specs.Searching.{AreToldFor, IfLimit, IfSafe, IfTrapped}
-use Rattle.searches_explore.specs.declared.answer.Explored.{Explored}
-use Rattle.searches_explore.specs.declared.answer.Explored.TheVariants.{Trapped, Safe, Limit}
+use Rattle.searches_states.specs.Watching.{Told, IsWatched}
+use Rattle.searches_explore.specs.Never.{AreToldFor, IfBroken, IfLimit, IfSafe, IfTrapped}
+use Rattle.searches_explore.specs.declared.never_answer.NeverExplored.{NeverExplored}
+use Rattle.searches_explore.specs.declared.never_answer.NeverExplored.TheVariants.{Trapped, Broken, Safe, Limit}
 use Rattle.searches_hunt.specs.Draws.{random_schedule}
 use Rattle.searches_hunt.specs.Hunts.{IfFound, IfNothing, IsFirstTrap, IsMinimalTrap, IsPartOf, NoRunTraps}
 use Rattle.searches_hunt.specs.declared.answer.Hunted.{Hunted}
 use Rattle.searches_hunt.specs.declared.answer.Hunted.TheVariants.{Found, Nothing}
 use Rattle.searches_hunt.specs.declared.plan.Plan.{Plan}
-use Rattle.ticketc_refusals.specs.Refusals.{IsProgramRefused}
-use Rattle.ticklab_explain.specs.Reports.{Tells}
-use Rattle.ticklab_answers.specs.Exploring.{IsExplored, LimitBy, SafeBy, SeesBy, TrapBy, line_by, safe, trapped, unexplored, unknown}
+use Rattle.ticklab_answers.specs.Asking.{AsksNever, IsOf, TextPlace, places_by}
+use Rattle.ticklab_answers.specs.Exploring.{BrokenBy, IsExplored, IsUnexplored, LimitBy, SafeBy, SeesBy, TrapBy, break_line_by, broken, line_by, safe, trapped, unexplored, unknown}
 use Rattle.ticklab_answers.specs.Hunting.{IsHunted, none_traps, one_traps}
 use Rattle.ticklab_answers.specs.Lines.{minimal_line}
 use Rattle.ticklab_answers.specs.Responses.{Refuses}
-use Rattle.ticklab_answers.specs.Runs.{IsOf}
-use Rattle.ticklab_answers.specs.Shown.{Shows, ShowsHunt, ShowsTrap}
+use Rattle.ticklab_answers.specs.Shown.{Shows, ShowsBroken, ShowsHunt, ShowsSafe, ShowsTrap}
 use Rattle.ticklab_answers.specs.declared.response.Response.{Response}
 
--- of what was explored by steps of this kind
-module _ (m : Bool) (name : List ℕ) (limit : ℕ) (input : List ℕ) (p : WholeProgram Name) (is : IsOf input p) where
-  told_of : (e : Explored) (x : Response) (told : List Told) → IfTrapped e (TrapBy m (resolved p)) → IfSafe e (SafeBy m (resolved p) limit)
-      → IfLimit e (LimitBy m (resolved p) limit) → Shows (line_by m) input p e x → AreToldFor (SeesBy m (resolved p)) e told
-      → IsExplored m name limit input x told
-  told_of (Trapped s) x told traps never full shows some =
-      trapped is.0 s.items (subst (λ q. TrapBy m (resolved q) s.items) is.1 traps) some.0
-      (subst (λ q. AreTold (SeesBy m (resolved q)) some.0 told) is.1 some.1) (subst (λ q. ShowsTrap (line_by m) input q s.items x) is.1 shows)
-  told_of (Safe count) x told traps never full shows all =
-      safe is.0 count (subst (λ q. SafeBy m (resolved q) limit count) is.1 never)
-      (subst (λ q. AreTold (SeesBy m (resolved q)) count told) is.1 all) shows
-  told_of (Limit count) x told traps never full shows some =
-      unknown is.0 count (subst (λ q. LimitBy m (resolved q) limit count) is.1 full) some.0
-      (subst (λ q. AreTold (SeesBy m (resolved q)) some.0 told) is.1 some.1) shows
+-- of what was explored by steps of this kind, with what must never hold of the program of an input
+module _ (m : Bool) (name : List ℕ) (texts : List (List ℕ)) (limit : ℕ) (input : List ℕ) (asks : AsksNever texts input) (places : List TextPlace)
+    (same : places ≡ places_by name input asks.file.asked texts) (many : length places ≡ length asks.lines) where
+  told_of : (e : NeverExplored) (x : Response) (told : List Told)
+      → IfTrapped e (TrapBy m (resolved asks.file.program) asks.lines) → IfBroken e (BrokenBy m (resolved asks.file.program) asks.lines)
+      → IfSafe e (SafeBy m (resolved asks.file.program) asks.lines limit) → IfLimit e (LimitBy m (resolved asks.file.program) asks.lines limit)
+      → Shows (line_by m) (break_line_by m) input asks.file.program places e x
+      → AreToldFor (SeesBy m (resolved asks.file.program) asks.lines) e told → IsExplored m name texts limit input x told
+  told_of (Trapped s) x told traps breaks never full shows some = trapped asks s.items traps some.0 some.1 shows
+  told_of (Broken s line v) x told traps breaks never full shows some =
+      broken asks s.items line v breaks some.0 some.1
+      (subst (λ (ps : List TextPlace). ShowsBroken (break_line_by m) input asks.file.program ps s.items line v x) same shows)
+  told_of (Safe count) x told traps breaks never full shows all = safe asks count never all (subst (λ (n : ℕ). ShowsSafe n count x) many shows)
+  told_of (Limit count) x told traps breaks never full shows some = unknown asks count full some.0 some.1 shows
 
-  pub searched : {W : Type 0} (hears : W → ℕ → ℕ → W → Type 0) (before after : W) (asked : Bool) → asked ≡ m → (e : Explored) (x : Response)
-      → IfTrapped e (TrapBy m (resolved p)) → IfSafe e (SafeBy m (resolved p) limit)
-      → IfLimit e (LimitBy m (resolved p) limit) → Shows (line_by m) input p e x
-      → IsWatched hears before after (AreToldFor (SeesBy m (resolved p)) e)
-      → IsWatched hears before after (IsExplored asked name limit input x)
-  searched hears before after asked same e x traps never full shows watched = record {
+  pub searched : {W : Type 0} (hears : W → ℕ → ℕ → W → Type 0) (before after : W) (e : NeverExplored) (x : Response)
+      → IfTrapped e (TrapBy m (resolved asks.file.program) asks.lines) → IfBroken e (BrokenBy m (resolved asks.file.program) asks.lines)
+      → IfSafe e (SafeBy m (resolved asks.file.program) asks.lines limit) → IfLimit e (LimitBy m (resolved asks.file.program) asks.lines limit)
+      → Shows (line_by m) (break_line_by m) input asks.file.program places e x
+      → IsWatched hears before after (AreToldFor (SeesBy m (resolved asks.file.program) asks.lines) e)
+      → IsWatched hears before after (IsExplored m name texts limit input x)
+  searched hears before after e x traps breaks never full shows watched = record {
     told = watched.told;
     heard = watched.heard;
-    lawful = subst (λ (b : Bool). IsExplored b name limit input x watched.told) (sym same) (told_of e x watched.told traps never full shows watched.lawful);
+    lawful = told_of e x watched.told traps breaks never full shows watched.lawful;
   }
 
 -- a watch was told nothing of an input that is refused
-pub unwatched : {W : Type 0} (hears : W → ℕ → ℕ → W → Type 0) (before after : W) (m : Bool) (name : List ℕ) (limit : ℕ) (input : List ℕ) (x : Response)
-    → Refuses 1 (λ report. Tells (IsProgramRefused input) name input report × (before ≡ after)) x
-    → IsWatched hears before after (IsExplored m name limit input x)
-unwatched hears before after m name limit input x refused = record {
+pub unwatched : {W : Type 0} (hears : W → ℕ → ℕ → W → Type 0) (before after : W) (m : Bool) (name : List ℕ) (texts : List (List ℕ)) (limit : ℕ) (input : List ℕ) (x : Response)
+    → Refuses 1 (λ report. IsUnexplored name texts input report × (before ≡ after)) x
+    → IsWatched hears before after (IsExplored m name texts limit input x)
+unwatched hears before after m name texts limit input x refused = record {
   told = [];
   heard = refused.told.1;
   lawful = unexplored (record { status = refused.status; nothing = refused.nothing; told = refused.told.0 }) refl;

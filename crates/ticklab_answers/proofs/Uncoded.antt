@@ -5,17 +5,16 @@ use Rattle.code_core.specs.Instructions.{StepCode}
 use Rattle.searches_hunt.specs.Tallies.{AreCounted, AreRuns}
 use Rattle.base.specs.Plain.{Name, WholeProgram}
 use Rattle.searches_hunt.specs.declared.tallying.counting.Counted.{Counted}
-use Rattle.ticketc_refusals.specs.Refusals.{IsProgram, IsProgramRefused}
-use Rattle.ticklab_explain.specs.Reports.{Tells}
+use Rattle.ticklab_answers.specs.Asking.{IsFileRefused, IsOf}
 use Rattle.ticklab_answers.specs.Codes.{HasCode, HasNoCode, program_code}
 use Rattle.ticklab_answers.specs.Lines.{count_texts}
 use Rattle.ticklab_answers.specs.Stops.{IfRefused}
-use Rattle.ticklab_answers.specs.Tallies.{IsTally, IsUncoded, RunsOf, no_code, no_program}
+use Rattle.ticklab_answers.specs.Tallies.{IsTally, IsUncoded, RunsOf, no_code, no_file}
 use Rattle.ticklab_answers.specs.declared.stop.NoAnswer.{NoAnswer}
 use Rattle.ticklab_answers.proofs.Settled.{refused_as}
 
 pub tally_by : {M : Type 0} (Ran : RunsOf M) (before after : M) (times turns : ℕ) (input : List ℕ) (a : WholeProgram Name)
-    → ((is : IsProgram input) × (a ≡ is.program)) → HasCode a → (code : StepCode) → code ≡ program_code a
+    → IsOf input a → HasCode a → (code : StepCode) → code ≡ program_code a
     → (outcomes : List RunObservables) → length outcomes ≡ times → AreRuns (λ runner. Ran runner code turns 10000) before outcomes after
     → (counts : List Counted) → AreCounted outcomes counts
     → (out : List ℕ) → out ≡ count_texts times counts → IsTally Ran before after times turns input out
@@ -31,10 +30,10 @@ tally_by Ran before after times turns input a is has code made outcomes all runs
 }
 
 module _ {R : Type 0} (same : R) (name input : List ℕ) where
-  pub program_uncoded : (stop : NoAnswer) → IfRefused stop (Tells (IsProgramRefused input) name input)
+  pub file_uncoded : (stop : NoAnswer) → IfRefused stop (IsFileRefused name input)
       → IfRefused stop (λ report. IsUncoded name input report × R)
-  program_uncoded stop = refused_as stop (λ report told. (no_program told, same))
+  file_uncoded stop = refused_as stop (λ report told. (no_file told, same))
 
-  pub code_uncoded : (a : WholeProgram Name) → ((is : IsProgram input) × (a ≡ is.program)) → (stop : NoAnswer) → IfRefused stop (HasNoCode name a)
+  pub code_uncoded : (a : WholeProgram Name) → IsOf input a → (stop : NoAnswer) → IfRefused stop (HasNoCode name a)
       → IfRefused stop (λ report. IsUncoded name input report × R)
   code_uncoded a is stop = refused_as stop (λ report none. (no_code is.0 (subst (λ b. HasNoCode name b report) is.1 none), same))

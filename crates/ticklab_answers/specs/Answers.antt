@@ -4,11 +4,10 @@ use Rattle.std.specs.Global.{Global}
 use Rattle.std.specs.Vec.Iter.{into_iter_items}
 use Rattle.std.specs.declared.io.Error.{Error}
 use Rattle.std.specs.declared.vec.IntoIter.{IntoIter}
-use Rattle.ticklab_line.specs.Commands.{plain_request}
+use Rattle.ticklab_line.specs.Commands.{Asked, plain_request}
 use Rattle.ticklab_line.specs.Lines.{Answers}
 use Rattle.ticklab_line.specs.declared.asking.Line.{Line}
 use Rattle.ticklab_line.specs.declared.asking.Line.TheVariants as line
-use Rattle.ticklab_line.specs.declared.commands.Request.{Request}
 use Rattle.ticklab_line.specs.declared.commands.Request.TheVariants.{Explore, Ends, Hunt, Runs, Trace, Draw, Explain, Labels}
 use Rattle.ticklab_answers.specs.Ends.{ExploresEnds}
 use Rattle.ticklab_answers.specs.Explanations.{Explains}
@@ -36,9 +35,9 @@ GivesWords (Err error) words = ⊥
 -- makes the runs of `hunt --threads` and no other, and the watch hears of the search of an `explore` and of nothing else.
 module _ {F M W : Type 0} (Reads : ReadsOf F) (ReadsInput : ReadsInputOf F) (Ran : RunsOf M) (hears : HearsOf W)
     (before after : F) (rested ran : M) (quiet heard : W) where
-  abbrev pub Responds : Request (List ℕ) → Response → Type 0
-  Responds (Explore file limit is_merged) response =
-      (ran ≡ rested) × Explores Reads ReadsInput hears before after quiet heard file limit is_merged response
+  abbrev pub Responds : Asked → Response → Type 0
+  Responds (Explore file never limit is_merged) response =
+      (ran ≡ rested) × Explores Reads ReadsInput hears before after quiet heard file never limit is_merged response
   Responds (Ends file process limit) response =
       (ran ≡ rested) × ExploresEnds Reads ReadsInput hears before after quiet heard file process limit response
   Responds (Hunt file seed runs steps is_uniform) response =
@@ -65,8 +64,8 @@ module _ {F M W : Type 0} (Reads : ReadsOf F) (ReadsInput : ReadsInputOf F) (Ran
   RespondsToWords (Err error) response = ⊥
 
 -- the names of files that a request has
-abbrev pub NamesOf : Request (List ℕ) → List ℕ → Type 0
-NamesOf (Explore file limit is_merged) name = name ≡ file
+abbrev pub NamesOf : Asked → List ℕ → Type 0
+NamesOf (Explore file never limit is_merged) name = name ≡ file
 NamesOf (Ends file process limit) name = name ≡ file
 NamesOf (Hunt file seed runs steps is_uniform) name = name ≡ file
 NamesOf (Runs file times turns) name = name ≡ file

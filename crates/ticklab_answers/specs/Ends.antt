@@ -7,8 +7,7 @@ use Rattle.searches_states.specs.declared.ending.MustStop.{MustStop}
 use Rattle.searches_states.specs.declared.ending.MustStop.TheVariants.{All, One}
 use Rattle.searches_explore.specs.Ending.{CanAlwaysEnd, IsShortestStuck}
 use Rattle.searches_explore.specs.Searching.{IsLimit, IsSafe, IsShortestTrap, Sees}
-use Rattle.ticketc_refusals.specs.Refusals.{IsProgram, IsProgramRefused}
-use Rattle.ticklab_explain.specs.Reports.{Tells}
+use Rattle.ticklab_answers.specs.Asking.{IsFileRefused, IsProgramFile}
 use Rattle.ticklab_answers.specs.Exploring.{HearsOf}
 use Rattle.ticklab_answers.specs.Lines.{no_process_line, shortest_line}
 use Rattle.ticklab_answers.specs.Reading.{AfterFile, ReadsOf, ReadsInputOf}
@@ -26,27 +25,27 @@ abbrev pub IsPast : ℕ → Option ℕ → List ℕ → Type 0
 IsPast n None report = ⊥
 IsPast n (Some p) report = (n ≤ p) × (report ≡ no_process_line p)
 
--- The report of an input that isn't explored: of the program first, then of the process.
+-- The report of an input that isn't explored: of its file first, then of the process.
 pub data IsEndsRefused (name : List ℕ) (process : Option ℕ) (input report : List ℕ) : Type 0 where
-  no_program : Tells (IsProgramRefused input) name input report → IsEndsRefused name process input report
-  no_process : (is : IsProgram input) → IsPast (resolved is.program).processes process report → IsEndsRefused name process input report
+  no_file : IsFileRefused name input report → IsEndsRefused name process input report
+  no_process : (is : IsProgramFile input) → IsPast (resolved is.program).processes process report → IsEndsRefused name process input report
 
 -- The answer on an input, and what a watch is told on the way. Where all states were seen all of them are gone; of an
 -- input that is refused nothing is told.
 pub data IsEndsExplored (name : List ℕ) (process : Option ℕ) (limit : ℕ) (input : List ℕ) (response : Response) (told : List Told) : Type 0 where
-  ends : (is : IsProgram input) (states : ℕ) → IsAskedOf (resolved is.program).processes (asked_by process)
+  ends : (is : IsProgramFile input) (states : ℕ) → IsAskedOf (resolved is.program).processes (asked_by process)
       → CanAlwaysEnd (resolved is.program) (asked_by process) → IsSafe (resolved is.program) limit states
       → AreTold (Sees (resolved is.program)) states told → ShowsCanEnd (asked_by process) states response
       → IsEndsExplored name process limit input response told
-  stuck : (is : IsProgram input) (schedule : List ℕ) (states : ℕ) → IsAskedOf (resolved is.program).processes (asked_by process)
+  stuck : (is : IsProgramFile input) (schedule : List ℕ) (states : ℕ) → IsAskedOf (resolved is.program).processes (asked_by process)
       → IsShortestStuck (resolved is.program) (asked_by process) schedule → IsSafe (resolved is.program) limit states
       → AreTold (Sees (resolved is.program)) states told → ShowsStuck (asked_by process) input is.program schedule response
       → IsEndsExplored name process limit input response told
-  trapped : (is : IsProgram input) (schedule : List ℕ) → IsAskedOf (resolved is.program).processes (asked_by process)
+  trapped : (is : IsProgramFile input) (schedule : List ℕ) → IsAskedOf (resolved is.program).processes (asked_by process)
       → IsShortestTrap (resolved is.program) schedule
       → (gone : ℕ) → AreTold (Sees (resolved is.program)) gone told → ShowsTrap shortest_line input is.program schedule response
       → IsEndsExplored name process limit input response told
-  unknown : (is : IsProgram input) (states : ℕ) → IsAskedOf (resolved is.program).processes (asked_by process)
+  unknown : (is : IsProgramFile input) (states : ℕ) → IsAskedOf (resolved is.program).processes (asked_by process)
       → IsLimit (resolved is.program) limit states
       → (gone : ℕ) → AreTold (Sees (resolved is.program)) gone told → ShowsLimit states response
       → IsEndsExplored name process limit input response told

@@ -1,4 +1,5 @@
 pub mod Answers
+pub mod Asking
 pub mod Codes
 pub mod Ends
 pub mod Explanations
@@ -15,3 +16,4 @@ pub mod Serving
 pub mod Shown
 pub mod Stops
 pub mod Tallies
+pub mod prover

@@ -1,10 +1,12 @@
 -- Lines of the answers.
-use Rattle.std.specs.Prelude.{◌++◌, ◌==◌, if◌then◌else◌, ℕ, List, [], ◌∷◌, codes, string_bytes}
+use Rattle.std.specs.Prelude.{◌++◌, ◌==◌, if◌then◌else◌, ℕ, List, [], ◌∷◌, Ok, Err, codes, string_bytes}
 use Rattle.std.specs.Fmt.{decimal}
 use Rattle.base.specs.Lines.{line_end}
+use Rattle.language_properties.specs.Values.{Valued}
 use Rattle.language_schedules.specs.Written.{schedule_text}
 use Rattle.language_schedules.specs.declared.schedule.ScheduleFault.{ScheduleFault}
 use Rattle.language_schedules.specs.declared.schedule.ScheduleFault.TheVariants.{BadItem, NoSuchProcess, TooLong, NoMemory}
+use Rattle.tick_play.specs.Lines.{trap_text}
 use Rattle.searches_states.specs.declared.ending.MustStop.{MustStop}
 use Rattle.searches_states.specs.declared.ending.MustStop.TheVariants.{All, One}
 use Rattle.searches_hunt.specs.declared.plan.Plan.{Plan}
@@ -37,9 +39,25 @@ runs_text count = many count (codes "run") (codes "runs")
 abbrev pub steps_text : ℕ → List ℕ
 steps_text count = many count (codes "step") (codes "steps")
 
--- no trap was found
-abbrev pub safe_line : ℕ → List ℕ
-safe_line states = codes "no process traps under any schedule (" ++ states_text states ++ codes ")\n"
+-- The same where a line `#! never` breaks.
+
+abbrev pub shortest_break_line : List ℕ
+shortest_break_line = codes "a #! never line breaks under this schedule, and under no shorter one:"
+
+abbrev pub some_break_line : List ℕ
+some_break_line = codes "a #! never line breaks under this schedule:"
+
+-- what a line that breaks comes to: it has this value, which isn't 0, or it traps
+abbrev pub broken_text : Valued → List ℕ
+broken_text (Ok v) = codes "this must never hold, and its value is " ++ decimal v
+broken_text (Err trap) = codes "this has no value: it traps with " ++ trap_text trap
+
+-- no trap was found, and so many lines `#! never` don't break
+abbrev pub safe_text : ℕ → List ℕ
+safe_text lines = if lines == 0 then codes "no process traps" else codes "no process traps and no #! never line breaks"
+
+abbrev pub safe_line : ℕ → ℕ → List ℕ
+safe_line lines states = safe_text lines ++ codes " under any schedule (" ++ states_text states ++ codes ")\n"
 
 abbrev pub limit_line : ℕ → List ℕ
 limit_line states = codes "there are more than " ++ states_text states ++ codes ": nothing is said of all schedules\n"

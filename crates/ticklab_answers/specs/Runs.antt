@@ -6,8 +6,8 @@ use Rattle.tick_syntax.specs.Spelling.{Spells}
 use Rattle.tick_syntax.specs.declared.token.Token.{Token}
 use Rattle.tick_kinds.specs.Resolution.{resolved}
 use Rattle.language_schedules.specs.Schedule.{schedule_of}
-use Rattle.ticketc_refusals.specs.Refusals.{IsProgram, IsProgramRefused, IsScheduleRefused}
-use Rattle.ticklab_explain.specs.Reports.{Tells, TellsFor}
+use Rattle.ticketc_refusals.specs.Refusals.{IsScheduleRefused}
+use Rattle.ticklab_explain.specs.Reports.{TellsFor}
 use Rattle.ticklab_trace.specs.declared.steps.InstructionStep.{InstructionStep}
 use Rattle.ticklab_trace.specs.declared.steps.StatementStep.{StatementStep}
 use Rattle.ticklab_trace.specs.InstructionSteps.{AreInstructionSteps}
@@ -16,6 +16,7 @@ use Rattle.ticklab_trace.specs.Places.{standings}
 use Rattle.ticklab_trace.specs.TraceText.{instruction_lines, statement_lines}
 use Rattle.ticklab_draw.specs.Marks.{marks_of_code, program_marks}
 use Rattle.ticklab_draw.specs.Pictures.{picture}
+use Rattle.ticklab_answers.specs.Asking.{IsFileRefused, IsProgramFile}
 use Rattle.ticklab_answers.specs.Codes.{HasCode, IsCodeless, program_code}
 use Rattle.ticklab_answers.specs.Reading.{AfterBoth, ReadsOf, ReadsInputOf}
 use Rattle.ticklab_answers.specs.Responses.{Gives, Refuses}
@@ -23,21 +24,17 @@ use Rattle.ticklab_answers.specs.declared.commands.told_run.Telling.{Telling}
 use Rattle.ticklab_answers.specs.declared.commands.told_run.Telling.TheVariants.{Trace, Picture}
 use Rattle.ticklab_answers.specs.declared.response.Response.{Response}
 
--- the accepted program that the input is
-abbrev pub IsOf : List ℕ → WholeProgram Name → Type 0
-IsOf input a = (is : IsProgram input) × (a ≡ is.program)
-
--- The report of a run that isn't made: the program, the schedule or the code, in this order.
+-- The report of a run that isn't made: of the file, the schedule or the code, in this order.
 pub data IsUnrun (name input from text : List ℕ) (is_code : Bool) (report : List ℕ) : Type 0 where
-  program_refused : Tells (IsProgramRefused input) name input report → IsUnrun name input from text is_code report
-  schedule_refused : (is : IsProgram input) → TellsFor is.program.processes (IsScheduleRefused is.program.processes text) from text report
+  file_refused : IsFileRefused name input report → IsUnrun name input from text is_code report
+  schedule_refused : (is : IsProgramFile input) → TellsFor is.program.processes (IsScheduleRefused is.program.processes text) from text report
       → IsUnrun name input from text is_code report
-  code_refused : (is : IsProgram input) (schedule : List ℕ) → schedule_of is.program.processes text ≡ Ok schedule
+  code_refused : (is : IsProgramFile input) (schedule : List ℕ) → schedule_of is.program.processes text ≡ Ok schedule
       → IsCodeless is_code name is.program report → IsUnrun name input from text is_code report
 
 -- Of the run of the program that the input is, under the schedule that the text spells, this is told.
 pub record IsRun (P : WholeProgram Name → List ℕ → List ℕ → Type 0) (input text out : List ℕ) : Type 0 where
-  pub is : IsProgram input
+  pub is : IsProgramFile input
   pub schedule : List ℕ
   pub spelled : schedule_of is.program.processes text ≡ Ok schedule
   pub told : P is.program schedule out

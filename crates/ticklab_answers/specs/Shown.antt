@@ -1,15 +1,18 @@
 -- What `explore` and `hunt` show of the program that an input is. A schedule is told as that of a trap.
-use Rattle.std.specs.Prelude.{◌≡◌, ◌++◌, ℕ, List}
+use Rattle.std.specs.Prelude.{◌≡◌, ◌++◌, ℕ, List, length, slice_get, Some}
 use Rattle.base.specs.Plain.{Name, WholeProgram}
-use Rattle.searches_explore.specs.declared.answer.Explored.{Explored}
-use Rattle.searches_explore.specs.declared.answer.Explored.TheVariants.{Trapped, Safe, Limit}
+use Rattle.language_properties.specs.Values.{Valued}
+use Rattle.searches_explore.specs.declared.never_answer.NeverExplored.{NeverExplored}
+use Rattle.searches_explore.specs.declared.never_answer.NeverExplored.TheVariants.{Trapped, Broken, Safe, Limit}
 use Rattle.searches_explore.specs.declared.ending.EndExplored.{EndExplored}
 use Rattle.searches_explore.specs.declared.ending.EndExplored.TheVariants as E
 use Rattle.searches_states.specs.declared.ending.MustStop.{MustStop}
 use Rattle.searches_hunt.specs.declared.answer.Hunted.{Hunted}
 use Rattle.searches_hunt.specs.declared.answer.Hunted.TheVariants.{Found, Nothing}
 use Rattle.searches_hunt.specs.declared.plan.Plan.{Plan}
-use Rattle.ticklab_answers.specs.Lines.{can_end_line, limit_line, minimal_line, nothing_line, safe_line, shortest_line, stuck_line, trap_lines}
+use Rattle.ticklab_explain.specs.Questions.{IsPointed}
+use Rattle.ticklab_answers.specs.Asking.{TextPlace}
+use Rattle.ticklab_answers.specs.Lines.{broken_text, can_end_line, limit_line, minimal_line, nothing_line, safe_line, shortest_line, stuck_line, trap_lines}
 use Rattle.ticklab_answers.specs.Responses.{Gives}
 use Rattle.ticklab_answers.specs.Runs.{IsStatementTrace}
 use Rattle.ticklab_answers.specs.declared.response.Response.{Response}
@@ -23,8 +26,23 @@ pub record IsTrapText (found input : List ℕ) (a : WholeProgram Name) (schedule
 abbrev pub ShowsTrap : List ℕ → List ℕ → WholeProgram Name → List ℕ → Response → Type 0
 ShowsTrap found input a schedule = Gives 5 (IsTrapText found input a schedule)
 
-abbrev pub ShowsSafe : ℕ → Response → Type 0
-ShowsSafe states = Gives 0 (λ out. out ≡ safe_line states)
+-- How a line was found that breaks, the schedule, what each of its steps does, and the line with what it comes to.
+pub record IsBrokenText (found input : List ℕ) (a : WholeProgram Name) (schedule : List ℕ) (place : TextPlace) (v : Valued) (out : List ℕ) : Type 0 where
+  pub traced : List ℕ
+  pub is_traced : IsTrapText found input a schedule traced
+  pub pointed : List ℕ
+  pub is_pointed : IsPointed place.name place.text place.span (broken_text v) pointed
+  pub whole : out ≡ traced ++ pointed
+
+-- of the lines that stand here the one of this number breaks
+pub record ShowsBroken (found input : List ℕ) (a : WholeProgram Name) (places : List TextPlace) (schedule : List ℕ) (line : ℕ) (v : Valued) (response : Response) : Type 0 where
+  pub place : TextPlace
+  pub there : slice_get places line ≡ Some place
+  pub shown : Gives 5 (IsBrokenText found input a schedule place v) response
+
+-- no process traps, and none of so many lines breaks
+abbrev pub ShowsSafe : ℕ → ℕ → Response → Type 0
+ShowsSafe lines states = Gives 0 (λ out. out ≡ safe_line lines states)
 
 abbrev pub ShowsLimit : ℕ → Response → Type 0
 ShowsLimit states = Gives 6 (λ out. out ≡ limit_line states)
@@ -38,10 +56,12 @@ ShowsStuck asked input a schedule = Gives 7 (IsTrapText (stuck_line asked) input
 abbrev pub ShowsNothing : Plan → Response → Type 0
 ShowsNothing plan = Gives 0 (λ out. out ≡ nothing_line plan)
 
-abbrev pub Shows : List ℕ → List ℕ → WholeProgram Name → Explored → Response → Type 0
-Shows found input a (Trapped schedule) response = ShowsTrap found input a schedule.items response
-Shows found input a (Safe states) response = ShowsSafe states response
-Shows found input a (Limit states) response = ShowsLimit states response
+-- `trap` and `broken` say how a trap and a line that breaks were found; the lines stand at these places.
+abbrev pub Shows : List ℕ → List ℕ → List ℕ → WholeProgram Name → List TextPlace → NeverExplored → Response → Type 0
+Shows trap broken input a places (Trapped schedule) response = ShowsTrap trap input a schedule.items response
+Shows trap broken input a places (Broken schedule line v) response = ShowsBroken broken input a places schedule.items line v response
+Shows trap broken input a places (Safe states) response = ShowsSafe (length places) states response
+Shows trap broken input a places (Limit states) response = ShowsLimit states response
 
 abbrev pub ShowsHunt : List ℕ → WholeProgram Name → Plan → Hunted → Response → Type 0
 ShowsHunt input a plan (Found run schedule) response = ShowsTrap minimal_line input a schedule.items response

@@ -4,8 +4,7 @@ use Rattle.base.specs.Observables.{RunObservables}
 use Rattle.code_core.specs.Instructions.{StepCode}
 use Rattle.searches_hunt.specs.Tallies.{AreCounted, AreRuns}
 use Rattle.searches_hunt.specs.declared.tallying.counting.Counted.{Counted}
-use Rattle.ticketc_refusals.specs.Refusals.{IsProgram, IsProgramRefused}
-use Rattle.ticklab_explain.specs.Reports.{Tells}
+use Rattle.ticklab_answers.specs.Asking.{IsFileRefused, IsProgramFile}
 use Rattle.ticklab_answers.specs.Codes.{HasCode, HasNoCode, program_code}
 use Rattle.ticklab_answers.specs.Lines.{count_texts}
 use Rattle.ticklab_answers.specs.Reading.{AfterFile, ReadsOf, ReadsInputOf}
@@ -20,7 +19,7 @@ RunsOf M = M → StepCode → ℕ → ℕ → RunObservables → M → Type 0
 -- `turns` instructions and gives out at most 10,000 values: how often each came. The runner is `before` the
 -- first of them and `after` the last.
 pub record IsTally {M : Type 0} (Ran : RunsOf M) (before after : M) (times turns : ℕ) (input out : List ℕ) : Type 0 where
-  pub is : IsProgram input
+  pub is : IsProgramFile input
   pub has_code : HasCode is.program
   pub outcomes : List RunObservables
   pub all : length outcomes ≡ times
@@ -29,10 +28,10 @@ pub record IsTally {M : Type 0} (Ran : RunsOf M) (before after : M) (times turns
   pub counted : AreCounted outcomes counts
   pub lines : out ≡ count_texts times counts
 
--- The report of an input without a code: it is no accepted program, or its code would be too long.
+-- The report of an input without a code: it is refused, or its code would be too long.
 pub data IsUncoded (name input report : List ℕ) : Type 0 where
-  no_program : Tells (IsProgramRefused input) name input report → IsUncoded name input report
-  no_code : (is : IsProgram input) → HasNoCode name is.program report → IsUncoded name input report
+  no_file : IsFileRefused name input report → IsUncoded name input report
+  no_code : (is : IsProgramFile input) → HasNoCode name is.program report → IsUncoded name input report
 
 -- An input without a code is never run.
 pub data IsTallied {M : Type 0} (Ran : RunsOf M) (before after : M) (name : List ℕ) (times turns : ℕ) (input : List ℕ) (response : Response) : Type 0 where

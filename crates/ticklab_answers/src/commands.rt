@@ -48,10 +48,14 @@ pub fn response_to<F: Files, M: Runner, W: Progress>(
         Line::Request(
             Request::Explore {
                 file,
+                never,
                 limit,
                 is_merged,
             },
-        ) => explored(alloc, files, progress, file, limit, is_merged),
+        ) => {
+            let never = never.as_slice();
+            explored(alloc, files, progress, file, never, limit, is_merged)
+        }
         Line::Request(
             Request::Ends {
                 file,

@@ -8,6 +8,7 @@
 //! Start with `ended`.
 #![tactic(auto)]
 
+mod asking;
 mod commands;
 mod counts;
 mod ending;

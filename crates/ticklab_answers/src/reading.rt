@@ -2,15 +2,19 @@
 ghost use Rattle.std.specs.Prelude.{◌≡◌, ◌<◌, All, Err, IfErr, IfOk, Ok, string_bytes};
 ghost use Rattle.language_schedules.specs.Moves.{moves_of as moves_spelled, mover};
 ghost use Rattle.language_schedules.specs.Schedule.{schedule_of as schedule_spelled};
-ghost use Rattle.ticketc_refusals.specs.Refusals.{IsProgram, IsProgramRefused, IsScheduleRefused, SpelledIn};
+ghost use Rattle.ticketc_refusals.specs.Refusals.{IsProgramRefused, IsScheduleRefused, ProgramIn, SpelledIn};
 ghost use Rattle.ticklab_explain.specs.Reports.{Tells, TellsFor};
+ghost use Rattle.language_questions.specs.Lines.{asked_of, questions_in};
+ghost use Rattle.ticklab_answers.specs.Asking.{IsFileRefused, IsOf};
 ghost use Rattle.ticklab_answers.specs.Codes.{HasCode, HasNoCode, program_code};
 ghost use Rattle.ticklab_answers.specs.Lines.{spelling_line};
 ghost use Rattle.ticklab_answers.specs.Stops.{IfRefused};
 
+use crate::asking::questions_asked;
 use crate::fault::AnswerFault;
 use crate::stop::NoAnswer;
 use code_core::Code;
+use language_questions::Questions;
 use language_schedules::{Move, ScheduleFault, read_moves, read_schedule};
 use std::alloc::{AllocError, Global};
 use tick_kinds::Program;
@@ -18,9 +22,34 @@ use tick_lower::{LowerFault, lower};
 use ticketc_refusals::{SpelledProgram, program_in, program_with_tokens};
 use ticklab_explain::{explain_refusal, explain_schedule};
 
-/// The accepted program that an input is; `name` is that of its file.
+/// The program of a file whose lines can be read, with this name.
 pub fn program_of(alloc: Global, name: &str, input: &[u8]) -> Result<Program, NoAnswer>
-    ensures ok { IfOk result (λ program. (is : IsProgram input.now) × (program ≡ is.program)) }
+    ensures ok { IfOk result (IsOf input.now) }
+    ensures refused { IfErr result (λ stop. IfRefused stop (IsFileRefused name.now input.now)) }
+{
+    let program = accepted_program(alloc, name, input)?;
+    let _questions = questions_asked(alloc, name, input, &program)?;
+    Ok(program)
+}
+
+/// The same with the tokens of its text, and what the lines ask.
+pub fn spelled_program_of(
+    alloc: Global,
+    name: &str,
+    input: &[u8],
+) -> Result<(SpelledProgram, Questions), NoAnswer>
+    ensures spelled { IfOk result (λ found. SpelledIn input.now found.0) }
+    ensures questions { IfOk result (λ found. questions_in found.0.program input.now ≡ Ok (asked_of found.1)) }
+    ensures refused { IfErr result (λ stop. IfRefused stop (IsFileRefused name.now input.now)) }
+{
+    let spelled = accepted_spelling(alloc, name, input)?;
+    let questions = questions_asked(alloc, name, input, &spelled.program)?;
+    Ok((spelled, questions))
+}
+
+// The accepted program that an input is; `name` is that of its file.
+fn accepted_program(alloc: Global, name: &str, input: &[u8]) -> Result<Program, NoAnswer>
+    ensures ok { IfOk result (ProgramIn input.now) }
     ensures refused { IfErr result (λ stop. IfRefused stop (Tells (IsProgramRefused input.now) name.now input.now)) }
 {
     match program_in(alloc, input)? {
@@ -32,12 +61,8 @@ pub fn program_of(alloc: Global, name: &str, input: &[u8]) -> Result<Program, No
     }
 }
 
-/// The accepted program that an input is, with the tokens of its text; `name` is that of its file.
-pub fn spelled_program_of(
-    alloc: Global,
-    name: &str,
-    input: &[u8],
-) -> Result<SpelledProgram, NoAnswer>
+// The same with the tokens of its text.
+fn accepted_spelling(alloc: Global, name: &str, input: &[u8]) -> Result<SpelledProgram, NoAnswer>
     ensures ok { IfOk result (SpelledIn input.now) }
     ensures refused { IfErr result (λ stop. IfRefused stop (Tells (IsProgramRefused input.now) name.now input.now)) }
 {

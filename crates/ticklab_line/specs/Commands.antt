@@ -1,20 +1,26 @@
 -- Each command: what it takes, and what its words ask for.
-use Rattle.std.specs.Prelude.{ℕ, Bool, true, false, List, [], ◌∷◌, Option, Some, None, codes, bytes_eq}
+use Rattle.std.specs.Prelude.{ℕ, Bool, true, false, List, [], ◌∷◌, Option, Some, None, Vec, codes, bytes_eq, map}
 use Rattle.std.specs.Prelude.{if◌then◌else◌, option_and_then, option_map}
 use Rattle.std.specs.Borrow.{Bor}
+use Rattle.std.specs.Global.{Global}
 use Rattle.std.specs.Option.{option_map_or}
 use Rattle.clap.specs.Walk.{Row, Text, all_of, first_of}
 use Rattle.clap.specs.Simple.{App, new_app, on_top, with_rule}
 use Rattle.clap.specs.declared.builder.value_parser.ValueParser.TheVariants.{Unsigned}
-use Rattle.ticklab_line.specs.CommandLine.{ends_rule, flag_rule, further_rule, number_rule, processes_rule, threads_rule, up_to, with_app, with_file, word_rule}
-use Rattle.ticklab_line.specs.Found.{for_file, for_number, for_number_or, is_set, number_of, number_or}
+use Rattle.ticklab_line.specs.CommandLine.{ends_rule, flag_rule, further_rule, number_rule, processes_rule, repeated_rule, threads_rule, up_to, with_app, with_file, word_rule}
+use Rattle.ticklab_line.specs.Found.{for_file, for_number, for_number_or, is_set, list_of, number_of, number_or}
 use Rattle.ticklab_line.specs.declared.commands.Request.{Request}
 use Rattle.ticklab_line.specs.declared.commands.Request.TheVariants.{Explore, Ends, Hunt, Runs, Trace, Draw, Explain, Labels}
 
+-- what a command asks for, its texts and its lists of texts as they are
+abbrev pub Asked : Type 0
+Asked = Request Text (List Text)
+
 abbrev pub explore_app : App
-explore_app = with_rule (with_rule (with_rule (with_file (codes "explore"))
+explore_app = with_rule (with_rule (with_rule (with_rule (with_file (codes "explore"))
     (number_rule (codes "limit") (up_to 4294967295)))
     (flag_rule (codes "merged")))
+    (repeated_rule (codes "never")))
     ends_rule
 
 abbrev pub hunt_app : App
@@ -47,51 +53,55 @@ ticklab = with_app (with_app (with_app (with_app (with_app (with_app command_wan
 abbrev pub limit_in : List Row → Option ℕ
 limit_in = number_or 32 (codes "limit") 1000000
 
-abbrev pub schedules_in : List Row → Option (Request Text)
-schedules_in rows = for_file rows (λ file. for_number_or 32 (codes "limit") 1000000 rows (λ limit.
-    Some (Explore file limit (is_set (codes "merged") rows))))
+-- all schedules, with the texts of what must never hold
+abbrev pub schedules_of : List Text → List Row → Option Asked
+schedules_of never rows = for_file rows (λ file. for_number_or 32 (codes "limit") 1000000 rows (λ limit.
+    Some (Explore file never limit (is_set (codes "merged") rows))))
 
-abbrev pub ends_of : Option ℕ → List Row → Option (Request Text)
+abbrev pub schedules_in : List Row → Option Asked
+schedules_in rows = schedules_of (list_of (codes "never") rows) rows
+
+abbrev pub ends_of : Option ℕ → List Row → Option Asked
 ends_of process rows = for_file rows (λ file. for_number_or 32 (codes "limit") 1000000 rows (λ limit.
     Some (Ends file process limit)))
 
 -- no text after `--ends`, or one
-abbrev pub ends_in : List Row → List Text → Option (Request Text)
+abbrev pub ends_in : List Row → List Text → Option Asked
 ends_in rows [] = ends_of None rows
 ends_in rows (process ∷ []) = option_and_then (λ process. ends_of (Some process) rows) (number_of 8 process)
 ends_in rows texts = None
 
-abbrev pub explore_in : List Row → Option (Request Text)
+abbrev pub explore_in : List Row → Option Asked
 explore_in rows = option_map_or (ends_in rows) (all_of (codes "ends") rows) (schedules_in rows)
 
 -- random schedules
-abbrev pub plan_in : List Row → Option (Request Text)
+abbrev pub plan_in : List Row → Option Asked
 plan_in rows = for_file rows (λ file. for_number_or 64 (codes "seed") 0 rows (λ seed.
     for_number_or 32 (codes "runs") 10000 rows (λ runs. for_number_or 32 (codes "steps") 300 rows (λ steps.
     Some (Hunt file seed runs steps (is_set (codes "uniform") rows))))))
 
 -- two texts after `--threads`
-abbrev pub runs_in : List Row → List Text → Option (Request Text)
+abbrev pub runs_in : List Row → List Text → Option Asked
 runs_in rows (times ∷ turns ∷ []) = for_file rows (λ file. option_and_then (λ times.
     option_map (λ turns. Runs file times turns) (number_of 64 turns)) (number_of 32 times))
 runs_in rows texts = None
 
-abbrev pub hunt_in : List Row → Option (Request Text)
+abbrev pub hunt_in : List Row → Option Asked
 hunt_in rows = option_map_or (runs_in rows) (all_of (codes "threads") rows) (plan_in rows)
 
-abbrev pub run_in : (Text → Text → Bool → Request Text) → List Row → Option (Request Text)
+abbrev pub run_in : (Text → Text → Bool → Asked) → List Row → Option Asked
 run_in asking rows = for_file rows (λ file. option_map
     (λ schedule. asking file schedule (is_set (codes "code") rows)) (first_of (codes "schedule") rows))
 
-abbrev pub explain_in : List Row → Option (Request Text)
+abbrev pub explain_in : List Row → Option Asked
 explain_in rows = for_file rows (λ file. Some (Explain file (first_of (codes "schedule") rows)))
 
-abbrev pub labels_in : List Row → Option (Request Text)
+abbrev pub labels_in : List Row → Option Asked
 labels_in rows = for_number 8 (codes "processes") rows (λ processes.
     option_map (Labels processes) (first_of (codes "moves") rows))
 
 -- what a command of this name asks for
-abbrev pub named : Text → List Row → Option (Request Text)
+abbrev pub named : Text → List Row → Option Asked
 named name rows =
     if bytes_eq name (codes "explore") then explore_in rows
     else if bytes_eq name (codes "hunt") then hunt_in rows
@@ -101,12 +111,12 @@ named name rows =
     else if bytes_eq name (codes "labels") then labels_in rows
     else None
 
-abbrev pub request_in : Option (Text × List Row) → Option (Request Text)
+abbrev pub request_in : Option (Text × List Row) → Option Asked
 request_in = option_and_then (λ p. named p.0 p.1)
 
 -- texts that are lent, as the texts themselves
-abbrev pub plain_request : Request (Bor Text) → Request Text
-plain_request (Explore file limit is_merged) = Explore file.now limit is_merged
+abbrev pub plain_request : Request (Bor Text) (Vec (Bor Text) Global) → Asked
+plain_request (Explore file never limit is_merged) = Explore file.now (map (λ text. text.now) never.items) limit is_merged
 plain_request (Ends file process limit) = Ends file.now process limit
 plain_request (Hunt file seed runs steps is_uniform) = Hunt file.now seed runs steps is_uniform
 plain_request (Runs file times turns) = Runs file.now times turns
@@ -116,9 +126,14 @@ plain_request (Explain file schedule) = Explain file.now (option_map (λ text. t
 plain_request (Labels processes moves) = Labels processes moves.now
 
 -- words, and what they ask for: each command but `hunt`, with its options and without
-abbrev pub rows : List (List Text × Request Text)
-rows = (codes "explore" ∷ codes "a" ∷ codes "--limit" ∷ codes "7" ∷ [], Explore (codes "a") 7 false)
-    ∷ (codes "explore" ∷ codes "--merged" ∷ codes "a" ∷ [], Explore (codes "a") 1000000 true)
+abbrev pub rows : List (List Text × Asked)
+rows = (codes "explore" ∷ codes "a" ∷ codes "--limit" ∷ codes "7" ∷ [], Explore (codes "a") [] 7 false)
+    ∷ (codes "explore" ∷ codes "--merged" ∷ codes "a" ∷ [], Explore (codes "a") [] 1000000 true)
+    ∷ (codes "explore" ∷ codes "--never" ∷ codes "n" ∷ codes "a" ∷ [], Explore (codes "a") (codes "n" ∷ []) 1000000 false)
+    ∷ (
+      codes "explore" ∷ codes "a" ∷ codes "--never=1 < n" ∷ codes "--merged" ∷ codes "--never" ∷ codes "0" ∷ [],
+      Explore (codes "a") (codes "1 < n" ∷ codes "0" ∷ []) 1000000 true,
+    )
     ∷ (codes "explore" ∷ codes "a" ∷ codes "--ends" ∷ [], Ends (codes "a") None 1000000)
     ∷ (codes "explore" ∷ codes "a" ∷ codes "--ends" ∷ codes "2" ∷ [], Ends (codes "a") (Some 2) 1000000)
     ∷ (codes "explore" ∷ codes "--ends=5" ∷ codes "a" ∷ codes "--limit" ∷ codes "7" ∷ [], Ends (codes "a") (Some 5) 7)

@@ -1,5 +1,5 @@
 -- Which options do not go together: `--threads`, and each option that says how a hunt draws its schedules; and of
--- `explore`, `--ends` and `--merged`.
+-- `explore`, `--ends` with `--merged` or `--never`.
 use Rattle.std.specs.Prelude.{Bool, true, false, List, ◌++◌, ◌&&◌, ◌||◌, Option, Some, None, codes, bytes_eq, map}
 use Rattle.std.specs.Prelude.{if◌then◌else◌, find, is_some, option_and_then, option_map}
 use Rattle.std.specs.Option.{option_map_or}
@@ -46,11 +46,18 @@ abbrev pub threads_conflict : List Row → Option Shown
 threads_conflict rows = if is_some (all_of (codes "threads") rows)
     then option_map (in_order (threads_lead (map (λ r. r.id) rows))) (plan_option rows) else None
 
-abbrev pub ends_and_merged : Shown
-ends_and_merged = record { command = codes "explore"; first = codes "--ends [<P>]"; second = codes "--merged" }
+-- the first of the options that do not go with `--ends` and are given, as it is shown
+abbrev pub beside_ends : List Row → Option Text
+beside_ends rows =
+    if is_set (codes "merged") rows then Some (codes "--merged")
+    else if is_given (codes "never") rows then Some (codes "--never <EXPR>")
+    else None
+
+abbrev pub ends_and : Text → Shown
+ends_and option = record { command = codes "explore"; first = codes "--ends [<P>]"; second = option }
 
 abbrev pub ends_conflict : List Row → Option Shown
-ends_conflict rows = if is_some (all_of (codes "ends") rows) && is_set (codes "merged") rows then Some ends_and_merged else None
+ends_conflict rows = if is_some (all_of (codes "ends") rows) then option_map ends_and (beside_ends rows) else None
 
 -- two options that do not go together
 abbrev pub conflict_of : List Row → Option Shown

@@ -1,9 +1,9 @@
 -- Values of arguments, by what `clap` found on a command line.
-use Rattle.std.specs.Prelude.{ℕ, Bool, false, List, Option, Some, None, codes, bytes_eq, ◌^◌, ◌&&◌, nat_lt}
-use Rattle.std.specs.Prelude.{if◌then◌else◌, is_some, option_and_then}
+use Rattle.std.specs.Prelude.{ℕ, Bool, false, List, [], Option, Some, None, codes, bytes_eq, ◌^◌, ◌&&◌, nat_lt}
+use Rattle.std.specs.Prelude.{if◌then◌else◌, is_some, option_and_then, unwrap_or}
 use Rattle.std.specs.Option.{option_map_or}
 use Rattle.std.specs.Str.Parse.{digits_value, without_leading_plus}
-use Rattle.clap.specs.Walk.{Row, Text, first_of, one_of}
+use Rattle.clap.specs.Walk.{Row, Text, all_of, first_of, one_of}
 use Rattle.clap.specs.ValueTests.{is_numeral}
 
 -- the number that a text is, where it is one of so many bits
@@ -17,6 +17,10 @@ number_in bits id rows = option_and_then (number_of bits) (one_of id rows)
 
 abbrev pub is_set : Text → List Row → Bool
 is_set id rows = option_map_or (λ text. bytes_eq text (codes "true")) (first_of id rows) false
+
+-- all texts of an argument, none where it is left out
+abbrev pub list_of : Text → List Row → List Text
+list_of id rows = unwrap_or (all_of id rows) []
 
 abbrev pub for_file : {X : Type 0} → List Row → (Text → Option X) → Option X
 for_file rows asked = option_and_then asked (first_of (codes "file") rows)

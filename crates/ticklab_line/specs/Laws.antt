@@ -3,10 +3,9 @@ use Rattle.std.specs.Prelude.{◌≡◌, true, false, List, [], ◌∷◌, Optio
 use Rattle.clap.specs.Walk.{Text}
 use Rattle.clap.specs.Kinds.{Kinds}
 use Rattle.clap.specs.declared.error.kind.ErrorKind.TheVariants as kind
-use Rattle.ticklab_line.specs.Commands.{request_in, rows}
+use Rattle.ticklab_line.specs.Commands.{Asked, request_in, rows}
 use Rattle.ticklab_line.specs.Lines.{command_in, faults}
-use Rattle.ticklab_line.specs.Conflicts.{Shown, conflict_in, ends_and_merged}
-use Rattle.ticklab_line.specs.declared.commands.Request.{Request}
+use Rattle.ticklab_line.specs.Conflicts.{Shown, conflict_in, ends_and}
 use Rattle.ticklab_line.specs.declared.commands.Request.TheVariants.{Explore, Hunt, Runs}
 
 abbrev pub line : List Text → List Text
@@ -17,7 +16,7 @@ abbrev pub IsTaken : List Text → Option Shown → Type 0
 IsTaken words conflict = (faults (line words) ≡ []) × (conflict_in (command_in (line words)) ≡ conflict)
 
 -- the words ask for this
-abbrev pub Asks : List Text → Request Text → Type 0
+abbrev pub Asks : List Text → Asked → Type 0
 Asks words request = IsTaken words None × (request_in (command_in (line words)) ≡ Some request)
 
 -- one of these kinds is told of the words
@@ -25,17 +24,18 @@ abbrev pub Tells : List Text → Kinds → Type 0
 Tells words kinds = faults (line words) ≡ kinds
 
 -- what is told of the words, their options that do not go together, and what they ask for
-abbrev pub read : List Text → Kinds × Option Shown × Option (Request Text)
+abbrev pub read : List Text → Kinds × Option Shown × Option Asked
 read words = (faults (line words), conflict_in (command_in (line words)), request_in (command_in (line words)))
 
 pub record CommandsLaw : Type 0 where
-  pub explore : (rest : Text) → Asks (codes "explore" ∷ (97 ∷ rest) ∷ []) (Explore (97 ∷ rest) 1000000 false)
-  pub ends_merged : IsTaken (codes "explore" ∷ codes "a" ∷ codes "--merged" ∷ codes "--ends" ∷ []) (Some ends_and_merged)
-  pub one_end_merged : IsTaken (codes "explore" ∷ codes "a" ∷ codes "--ends" ∷ codes "0" ∷ codes "--merged" ∷ []) (Some ends_and_merged)
+  pub explore : (rest : Text) → Asks (codes "explore" ∷ (97 ∷ rest) ∷ []) (Explore (97 ∷ rest) [] 1000000 false)
+  pub ends_merged : IsTaken (codes "explore" ∷ codes "a" ∷ codes "--merged" ∷ codes "--ends" ∷ []) (Some (ends_and (codes "--merged")))
+  pub one_end_merged : IsTaken (codes "explore" ∷ codes "a" ∷ codes "--ends" ∷ codes "0" ∷ codes "--merged" ∷ []) (Some (ends_and (codes "--merged")))
+  pub ends_never : IsTaken (codes "explore" ∷ codes "a" ∷ codes "--never" ∷ codes "n" ∷ codes "--ends" ∷ []) (Some (ends_and (codes "--never <EXPR>")))
   pub all : map (λ row. read row.0) rows ≡ map (λ row. ([], None, Some row.1)) rows
 
 -- the words after `hunt` and a program ask for this
-abbrev pub HuntsBy : List Text → Request Text → Type 0
+abbrev pub HuntsBy : List Text → Asked → Type 0
 HuntsBy words = Asks (codes "hunt" ∷ codes "a" ∷ words)
 
 -- they have two options that do not go together, shown so

@@ -1,7 +1,7 @@
 //! The arguments of commands, as they are described to `clap`.
 ghost use Rattle.std.specs.Prelude.{◌≡◌, codes, pos};
 ghost use Rattle.clap.specs.declared.builder.value_parser.ValueParser.TheVariants.{Signed, Unsigned};
-ghost use Rattle.ticklab_line.specs.CommandLine.{IsWord, ends_rule, flag_rule, further_rule, number_rule, processes_rule, threads_rule, up_to, word_rule};
+ghost use Rattle.ticklab_line.specs.CommandLine.{IsWord, ends_rule, flag_rule, further_rule, number_rule, processes_rule, repeated_rule, threads_rule, up_to, word_rule};
 
 use clap::builder::ValueParser;
 use clap::{Arg, ArgAction, value_parser};
@@ -59,6 +59,15 @@ pub fn option<'a>(
         .value_parser(parser)
 }
 
+/// An option with a text, which may be given again and again.
+pub fn repeated<'a>(alloc: Global, name: &'a str, value: &'a str, help: &'a str) -> Arg<'a>
+    ensures { IsWord (repeated_rule name.entry.now) result }
+{
+    further(alloc, name, value, help)
+        .long(name)
+        .action(ArgAction::Append)
+}
+
 /// How many steps a schedule of a hunt may have.
 pub fn length<'a>() -> ValueParser<'a>
     ensures { result ≡ up_to 10000000 }
@@ -76,7 +85,7 @@ pub fn ends<'a>(alloc: Global) -> Arg<'a>
         .num_args(0..=1)
         .value_parser(zero_to_five())
         .help(
-            "Asks too whether all processes can still end after every schedule, or process P; not with --merged",
+            "Asks too whether all processes can still end after every schedule, or process P; not with --merged or --never",
         )
 }
 

@@ -3,7 +3,7 @@ ghost use Rattle.clap.specs.Simple.{subcommand_rows_of};
 ghost use Rattle.clap.specs.Values.{kind_of};
 ghost use Rattle.ticklab_line.specs.Lines.{Answers, IsFound, IsMeant, IsToldBy, number_text};
 
-use crate::commands::{Request, command_line, request_in};
+use crate::commands::{Lent, command_line, request_in};
 use crate::conflicts::{conflict_in, conflict_text};
 use clap::error::ErrorKind;
 use clap::{ArgMatches, Error};
@@ -12,7 +12,7 @@ use std::alloc::{AllocError, Global};
 /// What a command line asks for, or what is told in place of an answer.
 #[derive(Drop)]
 pub enum Line<'a> {
-    Request(Request<&'a str>),
+    Request(Lent<'a>),
     /// The help that was asked for.
     Help(String),
     /// The words are no command, and why.
@@ -42,7 +42,7 @@ fn found<'a>(alloc: Global, matches: &ArgMatches<'a>) -> Result<Line<'a>, AllocE
 fn meant<'a>(alloc: Global, matches: &ArgMatches<'a>) -> Result<Line<'a>, AllocError>
     ensures { IfOk result (IsMeant (subcommand_rows_of matches.now)) }
 {
-    match request_in(matches) {
+    match request_in(alloc, matches)? {
         Some(request) => Ok(Line::Request(request)),
         None => Ok(Line::Refused(number_refused(alloc)?)),
     }

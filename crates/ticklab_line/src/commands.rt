@@ -4,26 +4,29 @@ ghost use Rattle.clap.specs.Matches.{found_of};
 ghost use Rattle.clap.specs.Walk.{rows_of};
 ghost use Rattle.clap.specs.Simple.{app_of, subcommand_rows_of};
 ghost use Rattle.ticklab_line.specs.CommandLine.{IsCommand, IsLine};
-ghost use Rattle.ticklab_line.specs.Commands.{command_wanted, ends_in, ends_of, explain_app, explain_in, explore_app, explore_in, hunt_app, hunt_in, labels_app, labels_in, limit_in, named, plain_request, plan_in, run_app, run_in, runs_in, schedules_in, ticklab};
+ghost use Rattle.ticklab_line.specs.Commands.{command_wanted, ends_in, ends_of, explain_app, explain_in, explore_app, explore_in, hunt_app, hunt_in, labels_app, labels_in, limit_in, named, plain_request, plan_in, run_app, run_in, runs_in, schedules_of, ticklab};
 ghost use Rattle.ticklab_line.specs.Commands.{request_in as found_request};
 ghost use Rattle.ticklab_line.specs.declared.commands.Request.TheVariants.{Trace, Draw};
 
-use crate::arguments::{ends, flag, further, length, option, processes, threads, word};
+use crate::arguments::{ends, flag, further, length, option, processes, repeated, threads, word};
 use crate::parts::{STATUSES, filed, named, taking, with};
 use crate::values::{
-    byte, byte_in, is_set, large_number, large_number_or, number, number_or, text_in, texts_in,
+    byte, byte_in, is_set, large_number, large_number_or, list_in, number, number_or, text_in,
+    texts_in,
 };
 use clap::{ArgMatches, Command, value_parser};
 use std::alloc::{AllocError, Global};
 
-/// A command with what goes with it, its texts in whatever form they are held. A file is a name, and `-` is
-/// standard input; a schedule is its text, or `@` and the name of the file that has it. Neither is read yet.
+/// A command with what goes with it, its texts and its lists of texts in whatever form they are held. A file is a
+/// name, and `-` is standard input; a schedule is its text, or `@` and the name of the file that has it. Neither is
+/// read yet.
 #[derive(Debug, Drop)]
-pub enum Request<T> {
-    /// All schedules of a program, as far as it has at most so many states; merged, private steps go with
-    /// the shared one before them.
+pub enum Request<T, L> {
+    /// All schedules of a program, as far as it has at most so many states, and what must never hold; merged,
+    /// private steps go with the shared one before them.
     Explore {
         file: T,
+        never: L,
         limit: u32,
         is_merged: bool,
     },
@@ -71,6 +74,9 @@ pub enum Request<T> {
     },
 }
 
+/// A request whose texts are those of the words.
+pub type Lent<'a> = Request<&'a str, Vec<&'a str>>;
+
 const PROGRAM: &str = "The program; - for standard input";
 
 const ABOUT: &str =
@@ -105,24 +111,36 @@ fn ticklab<'a>(alloc: Global) -> Command<'a>
 }
 
 /// The request, where the line has one: `clap` has seen to it that it does.
-pub fn request_in<'a>(matches: &ArgMatches<'a>) -> Option<Request<&'a str>>
-    ensures { option_map plain_request result ≡ found_request (subcommand_rows_of matches.now) }
+pub fn request_in<'a>(
+    alloc: Global,
+    matches: &ArgMatches<'a>,
+) -> Result<Option<Lent<'a>>, AllocError>
+    ensures { IfOk result (λ found. option_map plain_request found ≡ found_request (subcommand_rows_of matches.now)) }
 {
-    let (name, given) = matches.subcommand()?;
-    request_named(name, given)
+    match matches.subcommand() {
+        Some((name, given)) => {
+            let found = request_named(alloc, name, given)?;
+            Ok(found)
+        }
+        None => Ok(None),
+    }
 }
 
-fn request_named<'a>(name: &str, given: &ArgMatches<'a>) -> Option<Request<&'a str>>
-    ensures { option_map plain_request result ≡ named name.now (rows_of (found_of given.now)) }
+fn request_named<'a>(
+    alloc: Global,
+    name: &str,
+    given: &ArgMatches<'a>,
+) -> Result<Option<Lent<'a>>, AllocError>
+    ensures { IfOk result (λ found. option_map plain_request found ≡ named name.now (rows_of (found_of given.now))) }
 {
     match name {
-        "explore" => explore_in(given),
-        "hunt" => hunt_in(given),
-        "trace" => trace_in(given),
-        "draw" => draw_in(given),
-        "explain" => explain_in(given),
-        "labels" => labels_in(given),
-        _ => None,
+        "explore" => explore_in(alloc, given),
+        "hunt" => Ok(hunt_in(given)),
+        "trace" => Ok(trace_in(given)),
+        "draw" => Ok(draw_in(given)),
+        "explain" => Ok(explain_in(given)),
+        "labels" => Ok(labels_in(given)),
+        _ => Ok(None),
     }
 }
 
@@ -153,29 +171,42 @@ fn explore<'a>(alloc: Global) -> Result<Command<'a>, AllocError>
             "Takes the private steps of a process with the step before them: far fewer states, and a schedule that need not be a shortest one",
         ),
     );
+    let explore = taking(
+        explore,
+        repeated(
+            alloc,
+            "never",
+            "EXPR",
+            "Asks too whether no state has this property, like a line #! never EXPR of the program; it may be given again",
+        ),
+    );
     taking(explore, ends(alloc))
 }
 
-fn explore_in<'a>(given: &ArgMatches<'a>) -> Option<Request<&'a str>>
-    ensures { option_map plain_request result ≡ explore_in (rows_of (found_of given.now)) }
+fn explore_in<'a>(alloc: Global, given: &ArgMatches<'a>) -> Result<Option<Lent<'a>>, AllocError>
+    ensures { IfOk result (λ found. option_map plain_request found ≡ explore_in (rows_of (found_of given.now))) }
 {
     match texts_in(given, "ends") {
-        Some(texts) => ends_in(given, texts),
-        None => schedules_in(given),
+        Some(texts) => Ok(ends_in(given, texts)),
+        None => {
+            let never = list_in(alloc, given, "never")?;
+            Ok(schedules_of(given, never))
+        }
     }
 }
 
-fn schedules_in<'a>(given: &ArgMatches<'a>) -> Option<Request<&'a str>>
-    ensures { option_map plain_request result ≡ schedules_in (rows_of (found_of given.now)) }
+fn schedules_of<'a>(given: &ArgMatches<'a>, never: Vec<&'a str>) -> Option<Lent<'a>>
+    ensures { option_map plain_request result ≡ schedules_of (map (λ text. text.now) never.entry.items) (rows_of (found_of given.now)) }
 {
     Some(Request::Explore {
         file: text_in(given, "file")?,
+        never,
         limit: limit_in(given)?,
         is_merged: is_set(given, "merged"),
     })
 }
 
-fn ends_in<'a>(given: &ArgMatches<'a>, texts: &[&'a str]) -> Option<Request<&'a str>>
+fn ends_in<'a>(given: &ArgMatches<'a>, texts: &[&'a str]) -> Option<Lent<'a>>
     ensures { option_map plain_request result ≡ ends_in (rows_of (found_of given.now)) (map (λ text. text.now) texts.now) }
 {
     match texts {
@@ -185,7 +216,7 @@ fn ends_in<'a>(given: &ArgMatches<'a>, texts: &[&'a str]) -> Option<Request<&'a 
     }
 }
 
-fn ends_of<'a>(given: &ArgMatches<'a>, process: Option<u8>) -> Option<Request<&'a str>>
+fn ends_of<'a>(given: &ArgMatches<'a>, process: Option<u8>) -> Option<Lent<'a>>
     ensures { option_map plain_request result ≡ ends_of process (rows_of (found_of given.now)) }
 {
     Some(Request::Ends {
@@ -251,7 +282,7 @@ fn hunt<'a>(alloc: Global) -> Result<Command<'a>, AllocError>
     taking(hunt, threads(alloc))
 }
 
-fn hunt_in<'a>(given: &ArgMatches<'a>) -> Option<Request<&'a str>>
+fn hunt_in<'a>(given: &ArgMatches<'a>) -> Option<Lent<'a>>
     ensures { option_map plain_request result ≡ hunt_in (rows_of (found_of given.now)) }
 {
     match texts_in(given, "threads") {
@@ -260,7 +291,7 @@ fn hunt_in<'a>(given: &ArgMatches<'a>) -> Option<Request<&'a str>>
     }
 }
 
-fn runs_in<'a>(given: &ArgMatches<'a>, texts: &[&'a str]) -> Option<Request<&'a str>>
+fn runs_in<'a>(given: &ArgMatches<'a>, texts: &[&'a str]) -> Option<Lent<'a>>
     ensures { option_map plain_request result ≡ runs_in (rows_of (found_of given.now)) (map (λ text. text.now) texts.now) }
 {
     match texts {
@@ -273,7 +304,7 @@ fn runs_in<'a>(given: &ArgMatches<'a>, texts: &[&'a str]) -> Option<Request<&'a 
     }
 }
 
-fn plan_in<'a>(given: &ArgMatches<'a>) -> Option<Request<&'a str>>
+fn plan_in<'a>(given: &ArgMatches<'a>) -> Option<Lent<'a>>
     ensures { option_map plain_request result ≡ plan_in (rows_of (found_of given.now)) }
 {
     Some(Request::Hunt {
@@ -308,7 +339,7 @@ fn run<'a>(alloc: Global, name: &'a str, about: &'a str) -> Result<Command<'a>, 
     )
 }
 
-fn trace_in<'a>(given: &ArgMatches<'a>) -> Option<Request<&'a str>>
+fn trace_in<'a>(given: &ArgMatches<'a>) -> Option<Lent<'a>>
     ensures { option_map plain_request result ≡ run_in Trace (rows_of (found_of given.now)) }
 {
     Some(Request::Trace {
@@ -318,7 +349,7 @@ fn trace_in<'a>(given: &ArgMatches<'a>) -> Option<Request<&'a str>>
     })
 }
 
-fn draw_in<'a>(given: &ArgMatches<'a>) -> Option<Request<&'a str>>
+fn draw_in<'a>(given: &ArgMatches<'a>) -> Option<Lent<'a>>
     ensures { option_map plain_request result ≡ run_in Draw (rows_of (found_of given.now)) }
 {
     Some(Request::Draw {
@@ -348,7 +379,7 @@ fn explain<'a>(alloc: Global) -> Result<Command<'a>, AllocError>
     )
 }
 
-fn explain_in<'a>(given: &ArgMatches<'a>) -> Option<Request<&'a str>>
+fn explain_in<'a>(given: &ArgMatches<'a>) -> Option<Lent<'a>>
     ensures { option_map plain_request result ≡ explain_in (rows_of (found_of given.now)) }
 {
     Some(Request::Explain {
@@ -376,7 +407,7 @@ fn labels<'a>(alloc: Global) -> Result<Command<'a>, AllocError>
     )
 }
 
-fn labels_in<'a>(given: &ArgMatches<'a>) -> Option<Request<&'a str>>
+fn labels_in<'a>(given: &ArgMatches<'a>) -> Option<Lent<'a>>
     ensures { option_map plain_request result ≡ labels_in (rows_of (found_of given.now)) }
 {
     Some(Request::Labels {

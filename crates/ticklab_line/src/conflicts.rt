@@ -3,7 +3,7 @@ ghost use Rattle.std.specs.Prelude.{◌≡◌, IfOk, map, option_map, string_byt
 ghost use Rattle.clap.specs.Matches.{found_of};
 ghost use Rattle.clap.specs.Walk.{rows_of};
 ghost use Rattle.clap.specs.Simple.{subcommand_rows_of};
-ghost use Rattle.ticklab_line.specs.Conflicts.{conflict_in as conflict_found, conflict_of, conflict_text, ends_conflict, in_order, may_conflict, plan_option, shown, threads_conflict, threads_lead};
+ghost use Rattle.ticklab_line.specs.Conflicts.{beside_ends, conflict_in as conflict_found, conflict_of, conflict_text, ends_conflict, in_order, may_conflict, plan_option, shown, threads_conflict, threads_lead};
 
 use crate::values::{is_set, text_in, texts_in};
 use clap::ArgMatches;
@@ -40,14 +40,25 @@ fn ends_conflict(given: &ArgMatches<'_>) -> Option<Conflict<'static>>
     ensures { option_map shown result ≡ ends_conflict (rows_of (found_of given.now)) }
 {
     let _texts = texts_in(given, "ends")?;
-    if !is_set(given, "merged") {
-        return None;
-    }
+    let second = beside_ends(given)?;
     Some(Conflict {
         command: "explore",
         first: "--ends [<P>]",
-        second: "--merged",
+        second,
     })
+}
+
+// The first of the options that don't go with `--ends` and are given, as it is shown.
+fn beside_ends(given: &ArgMatches<'_>) -> Option<&'static str>
+    ensures { option_map (λ option. option.now) result ≡ beside_ends (rows_of (found_of given.now)) }
+{
+    if is_set(given, "merged") {
+        return Some("--merged");
+    }
+    if text_in(given, "never").is_some() {
+        return Some("--never <EXPR>");
+    }
+    None
 }
 
 // `--threads` and an option of a plan, in the order in which they were given.

@@ -9,12 +9,12 @@ use clap::{Arg, Command};
 use std::alloc::{AllocError, Global};
 
 pub const STATUSES: &str = "Exit status: \
-0 it is done: what was asked for is printed, and explore and hunt found no trap; \
-1 the program, code or schedule is refused; \
+0 it is done: what was asked for is printed, and explore and hunt found nothing; \
+1 the program, code, schedule or #! line is refused; \
 2 the command line is; \
 3 a file could not be read, or the answer not be written; \
 4 memory or a thread was refused; \
-5 explore or hunt found a schedule under which a process traps; \
+5 explore or hunt found a schedule under which a process traps, or explore one under which a #! never line breaks; \
 6 explore met its limit; \
 7 explore --ends found a schedule after which what was asked for can't end. \
 All but the answer is told on standard error.";

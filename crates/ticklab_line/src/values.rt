@@ -1,10 +1,11 @@
 //! The values that `clap` found for an argument: its text, and the number that the text is.
-ghost use Rattle.std.specs.Prelude.{◌≡◌, map, option_map};
+ghost use Rattle.std.specs.Prelude.{◌≡◌, IfOk, map, option_map};
 ghost use Rattle.clap.specs.Matches.{found_of};
 ghost use Rattle.clap.specs.Walk.{all_of, first_of, rows_of};
-ghost use Rattle.ticklab_line.specs.Found.{is_set, number_in, number_of, number_or};
+ghost use Rattle.ticklab_line.specs.Found.{is_set, list_of, number_in, number_of, number_or};
 
 use clap::ArgMatches;
+use std::alloc::{AllocError, Global};
 
 /// The text of an argument, where there is one.
 pub fn text_in<'a>(given: &ArgMatches<'a>, id: &str) -> Option<&'a str>
@@ -18,6 +19,20 @@ pub fn texts_in<'b, 'a>(given: &'b ArgMatches<'a>, id: &str) -> Option<&'b [&'a 
     ensures { option_map (λ texts. map (λ text. text.now) texts.now) result ≡ all_of id.now (rows_of (found_of given.now)) }
 {
     given.get_strs(id)
+}
+
+/// The same as a list, which is empty where there are none.
+pub fn list_in<'a>(
+    alloc: Global,
+    given: &ArgMatches<'a>,
+    id: &str,
+) -> Result<Vec<&'a str>, AllocError>
+    ensures { IfOk result (λ list. map (λ text. text.now) list.items ≡ list_of id.now (rows_of (found_of given.now))) }
+{
+    match texts_in(given, id) {
+        Some(texts) => Vec::from_slice(alloc, texts),
+        None => Ok(Vec::new(alloc)),
+    }
 }
 
 /// Whether a flag is given: its text is `true` then. (Of other texts than `true` and `false` `get_flag` has no

@@ -11,7 +11,8 @@ complete -c ticklab -n 'test (count (commandline -opc)) -eq 1' -a labels -d 'Dra
 complete -c ticklab -n 'test (count (commandline -opc)) -eq 1' -a help -d 'Print this message or the help of the given subcommand(s)'
 complete -c ticklab -n 'contains -- explore (commandline -opc)[2]' -l limit -x -d 'Gives up where there are more states than this [default: 1000000]'
 complete -c ticklab -n 'contains -- explore (commandline -opc)[2]' -l merged -d 'Takes the private steps of a process with the step before them: far fewer states, and a schedule that need not be a shortest one'
-complete -c ticklab -n 'contains -- explore (commandline -opc)[2]' -l ends -x -d 'Asks too whether all processes can still end after every schedule, or process P; not with --merged'
+complete -c ticklab -n 'contains -- explore (commandline -opc)[2]' -l never -x -d 'Asks too whether no state has this property, like a line #! never EXPR of the program; it may be given again'
+complete -c ticklab -n 'contains -- explore (commandline -opc)[2]' -l ends -x -d 'Asks too whether all processes can still end after every schedule, or process P; not with --merged or --never'
 complete -c ticklab -n 'contains -- explore (commandline -opc)[2]' -s h -l help -d 'Print help'
 complete -c ticklab -n 'contains -- explore (commandline -opc)[2]' -F
 complete -c ticklab -n 'contains -- hunt (commandline -opc)[2]' -l seed -x -d 'Where the random numbers start: the same seed gives the same answer [default: 0]'

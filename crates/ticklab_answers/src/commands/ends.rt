@@ -58,7 +58,7 @@ fn all_ends<W: Watch>(
     ensures ok { IfOk result (λ response. IsWatched W.hears watch.old watch.new (IsEndsExplored name.now process limit input.now response)) }
     ensures refused { IfErr result (λ stop. IfRefused stop (λ report. IsEndsRefused name.now process input.now report × (watch.old ≡ watch.new))) }
 {
-    let spelled = spelled_program_of(alloc, name, input)?;
+    let (spelled, _questions) = spelled_program_of(alloc, name, input)?;
     let asked = asked_of(alloc, process, spelled.program.processes())?;
     let explored = explore_ends(alloc, &spelled.program, asked, limit, watch)?;
     Ok(shown(alloc, asked, &spelled, input, &explored)?)

@@ -1,18 +1,20 @@
 //! `ticklab explain`.
 ghost use Rattle.std.specs.Prelude.{◌≡◌, IfErr, IfOk, MatchResult, option_map};
-ghost use Rattle.ticketc_refusals.specs.Refusals.{IsInputRefused};
+ghost use Rattle.ticketc_refusals.specs.Refusals.{IsCode, IsCodeRefused};
 ghost use Rattle.ticklab_explain.specs.Reports.{Tells};
 ghost use Rattle.ticklab_answers.specs.Faults.{IsOfFileThat, IsOneOf};
-ghost use Rattle.ticklab_answers.specs.Explanations.{Explains, ExplainsBoth, ExplainsInput, ExplainsSchedule, HasProcesses};
+ghost use Rattle.ticklab_answers.specs.Explanations.{Explains, ExplainsBoth, ExplainsInput, ExplainsSchedule, HasProcesses, IsExplained};
 
 use crate::fault::{AnswerFault, LabFault};
 use crate::files::{bytes_of, text_of};
 use crate::host::Files;
+use crate::reading::program_of;
 use crate::response::{DONE, REFUSED, Response, answer, output};
+use crate::stop::NoAnswer;
 use base::NoMemory;
 use std::alloc::Global;
-use ticketc_refusals::{begins_code, code_in, program_in};
-use ticklab_explain::{explain, explain_refusal, explain_schedule};
+use ticketc_refusals::{begins_code, code_in};
+use ticklab_explain::{explain_refusal, explain_schedule};
 
 /// What is wrong with a program or a code, and where nothing is with a schedule of it. The report is the answer.
 pub fn explained<F: Files>(
@@ -37,12 +39,12 @@ pub fn explained<F: Files>(
 fn input_explained(alloc: Global, name: &str, input: &[u8]) -> Result<Response, AnswerFault>
     ensures { IfOk result (ExplainsInput name.now input.now) }
 {
-    match explain(alloc, name, input)? {
-        Some(report) => Ok(output(alloc, REFUSED, report)),
-        None => {
+    match processes_of(alloc, name, input)? {
+        Ok(_n) => {
             let text = format!(in alloc; "{name}: nothing is wrong\n")?;
             Ok(answer(alloc, DONE, text))
         }
+        Err(report) => Ok(output(alloc, REFUSED, report)),
     }
 }
 
@@ -82,18 +84,28 @@ fn explained_for(
 }
 
 // How many processes an input has, or the report of its refusal.
-fn processes_of(alloc: Global, name: &str, input: &[u8]) -> Result<Result<u8, Vec<u8>>, NoMemory>
-    ensures { IfOk result (λ found. MatchResult found (HasProcesses input.now) (λ report. Tells (IsInputRefused input.now) name.now input.now report.items)) }
+fn processes_of(alloc: Global, name: &str, input: &[u8]) -> Result<Result<u8, Vec<u8>>, AnswerFault>
+    ensures { IfOk result (λ found. MatchResult found (HasProcesses input.now) (λ report. IsExplained name.now input.now report.items)) }
 {
     if begins_code(input) {
-        match code_in(alloc, input)? {
-            Ok(code) => Ok(Ok(code.sizes().processes())),
-            Err(refusal) => Ok(Err(explain_refusal(alloc, name, input, refusal)?)),
-        }
-    } else {
-        match program_in(alloc, input)? {
-            Ok(program) => Ok(Ok(program.processes())),
-            Err(refusal) => Ok(Err(explain_refusal(alloc, name, input, refusal)?)),
-        }
+        return Ok(processes_of_code(alloc, name, input)?);
+    }
+    match program_of(alloc, name, input) {
+        Ok(program) => Ok(Ok(program.processes())),
+        Err(NoAnswer::Refused(report)) => Ok(Err(report)),
+        Err(NoAnswer::Fault(fault)) => Err(fault),
+    }
+}
+
+fn processes_of_code(
+    alloc: Global,
+    name: &str,
+    input: &[u8],
+) -> Result<Result<u8, Vec<u8>>, NoMemory>
+    ensures { IfOk result (λ found. MatchResult found (λ n. (is : IsCode input.now) × (n ≡ is.code.sizes.processes)) (λ report. Tells (IsCodeRefused input.now) name.now input.now report.items)) }
+{
+    match code_in(alloc, input)? {
+        Ok(code) => Ok(Ok(code.sizes().processes())),
+        Err(refusal) => Ok(Err(explain_refusal(alloc, name, input, refusal)?)),
     }
 }

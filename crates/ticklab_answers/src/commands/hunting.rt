@@ -2,8 +2,8 @@
 ghost use Rattle.std.specs.Prelude.{◌≡◌, ◌<◌, All, IfErr, IfOk, string_bytes};
 ghost use Rattle.tick_kinds.specs.Resolution.{resolved};
 ghost use Rattle.searches_hunt.specs.Hunts.{IfFound, IsMinimalTrap};
-ghost use Rattle.ticketc_refusals.specs.Refusals.{IsProgramRefused, SpelledIn};
-ghost use Rattle.ticklab_explain.specs.Reports.{Tells};
+ghost use Rattle.ticketc_refusals.specs.Refusals.{SpelledIn};
+ghost use Rattle.ticklab_answers.specs.Asking.{IsFileRefused};
 ghost use Rattle.ticklab_answers.specs.Faults.{IsOfFile};
 ghost use Rattle.ticklab_answers.specs.Hunting.{Hunts, IsHunted, plan_of};
 ghost use Rattle.ticklab_answers.specs.Lines.{nothing_line};
@@ -66,9 +66,9 @@ fn random_schedules(
     plan: Plan,
 ) -> Result<Response, NoAnswer>
     ensures ok { IfOk result (IsHunted name.now plan input.now) }
-    ensures refused { IfErr result (λ stop. IfRefused stop (Tells (IsProgramRefused input.now) name.now input.now)) }
+    ensures refused { IfErr result (λ stop. IfRefused stop (IsFileRefused name.now input.now)) }
 {
-    let spelled = spelled_program_of(alloc, name, input)?;
+    let (spelled, _questions) = spelled_program_of(alloc, name, input)?;
     let hunted = hunt(alloc, &spelled.program, plan)?;
     Ok(shown(alloc, &spelled, input, plan, &hunted)?)
 }

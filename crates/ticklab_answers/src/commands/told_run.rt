@@ -58,7 +58,7 @@ fn run_told(
     ensures ok { IfOk result (Gives 0 (IsRun (IsTold telling is_code name.now input.now) input.now schedule.now)) }
     ensures refused { IfErr result (λ stop. IfRefused stop (IsUnrun name.now input.now from.now schedule.now is_code)) }
 {
-    let spelled = spelled_program_of(alloc, name, input)?;
+    let (spelled, _questions) = spelled_program_of(alloc, name, input)?;
     let steps = schedule_of(alloc, from, schedule, spelled.program.processes())?;
     let out = telling_of(
         alloc,

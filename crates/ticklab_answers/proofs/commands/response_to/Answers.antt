@@ -1,8 +1,26 @@
-use Rattle.std.proofs.Common.{◌≡◌, ◌∙◌, ap, refl}
+use Rattle.std.proofs.Common.{◌≡◌, ◌∙◌, ℕ, List, ap, refl, subst}
+use Rattle.std.specs.Borrow.{Bor}
 use Rattle.ticklab_line.specs.declared.asking.Line.TheVariants as line
 use Rattle.ticklab_line.specs.declared.commands.Request.TheVariants as request
+use Rattle.ticklab_answers.specs.Asking.{texts_of}
+use Rattle.ticklab_answers.specs.Exploring.{Explores}
 use Rattle.ticklab_answers.proofs.Responded.{failed, responded}
 use Rattle.ticklab_answers.proofs.commands.response_to.Goals as goal
+
+pub returns-in-Request-Explore-clause-ok : goal.returns-in-Request-Explore-clause-ok
+returns-in-Request-Explore-clause-ok g c =
+    let asked = c.in-Request-Explore in
+    responded c.args.given c.in_ok-words.words c.as_slice.result.now c.in_ok-file.field-0 (line.Request (request.Explore asked.file asked.never asked.limit asked.is_merged))
+    c.in_ok-words.ensures.ok c.as_slice.ensures.value c.in_ok-file.ensures (asked.is ∙ ap line.Request asked.field-0-is)
+    g.F.Files.Reads g.F.Files.ReadsInput g.M.Runner.Ran g.W.Watch.hears _ _ _ _ _ _ c.explored.result c.explored.ensures.ok
+    (λ x h. (refl, subst (λ (never : List (Bor (List ℕ))). Explores g.F.Files.Reads g.F.Files.ReadsInput g.W.Watch.hears c.args.files.now c.explored.new.files c.args.progress.now c.explored.new.progress asked.file.now (texts_of never) asked.limit asked.is_merged x) c.as_slice-never.ensures.value h))
+
+pub returns-in-Request-Explore-clause-err : goal.returns-in-Request-Explore-clause-err
+returns-in-Request-Explore-clause-err g c =
+    let asked = c.in-Request-Explore in
+    failed c.args.given c.in_ok-words.words c.as_slice.result.now c.in_ok-file.field-0 (line.Request (request.Explore asked.file asked.never asked.limit asked.is_merged))
+    c.in_ok-words.ensures.ok c.as_slice.ensures.value c.in_ok-file.ensures (asked.is ∙ ap line.Request asked.field-0-is)
+    (λ name. name ≡ asked.file.now) c.explored.result c.explored.ensures.err (λ name same. same)
 
 pub returns-in-Request-Hunt-clause-err : goal.returns-in-Request-Hunt-clause-err
 returns-in-Request-Hunt-clause-err g c =

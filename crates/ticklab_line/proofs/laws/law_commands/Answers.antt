@@ -9,5 +9,6 @@ returns c = record {
   explore = λ rest. ((refl, refl), refl);
   ends_merged = (refl, refl);
   one_end_merged = (refl, refl);
+  ends_never = (refl, refl);
   all = refl;
 }

@@ -1,5 +1,6 @@
+use Rattle.std.proofs.Common.{ap, subst, sym}
 use Rattle.std.proofs.lemmas.Result.{IfOk-weaker}
-use Rattle.ticklab_answers.specs.Explanations.{ExplainsBoth, ExplainsSchedule, input_taken}
+use Rattle.ticklab_answers.specs.Explanations.{ExplainsBoth, ExplainsSchedule, IsExplained, input_explained, input_taken}
 use Rattle.ticklab_answers.proofs.commands.explaining.schedule_explained.Goals as goal
 
 pub returns-in-Ok : goal.returns-in-Ok
@@ -8,3 +9,11 @@ returns-in-Ok c =
     let processes = rw c.in-Ok.is at c.in_ok-n.ensures in
     IfOk-weaker c.explained_for.result (ExplainsSchedule n c.args.name.now c.args.from.now c.args.schedule.now)
     (ExplainsBoth c.args.name.now c.args.input.now c.args.from.now c.args.schedule.now) (λ x h. input_taken n processes h) c.explained_for.ensures
+
+pub returns-in-Err : goal.returns-in-Err
+returns-in-Err c =
+    input_explained (record {
+      status = c.output.ensures.status;
+      quiet = c.output.ensures.told;
+      out = subst (IsExplained c.args.name.now c.args.input.now) (sym (ap (λ out. out.items) c.output.ensures.out)) (rw c.in-Err.is at c.in_ok-n.ensures);
+    })

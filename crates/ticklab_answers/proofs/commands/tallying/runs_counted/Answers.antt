@@ -2,13 +2,13 @@ use Rattle.std.proofs.Common.{◌≡◌, ◌∙◌, ap, refl}
 use Rattle.ticklab_answers.specs.Lines.{count_texts}
 use Rattle.ticklab_answers.specs.Tallies.{IsUncoded}
 use Rattle.ticklab_answers.proofs.Settled.{stopped_by}
-use Rattle.ticklab_answers.proofs.Uncoded.{code_uncoded, program_uncoded, tally_by}
+use Rattle.ticklab_answers.proofs.Uncoded.{code_uncoded, file_uncoded, tally_by}
 use Rattle.ticklab_answers.proofs.commands.tallying.runs_counted.Goals as goal
 
 pub returns-in_err-program-clause-refused : goal.returns-in_err-program-clause-refused
 returns-in_err-program-clause-refused g c =
     stopped_by (λ report. IsUncoded c.args.name.now c.args.input.now report × (c.args.runner.now ≡ c.args.runner.now)) _ c.from_residual.result c.from_residual.ensures.1
-    (program_uncoded refl c.args.name.now c.args.input.now _ c.in_err-program.ensures.refused)
+    (file_uncoded refl c.args.name.now c.args.input.now _ c.in_err-program.ensures.refused)
 
 pub returns-in_err-code-clause-refused : goal.returns-in_err-code-clause-refused
 returns-in_err-code-clause-refused g c =
