@@ -41,7 +41,7 @@ differ_in_rank-requires-clause-alike c =
 pub returns-then-not-differ_in_rank : goal.returns-then-not-differ_in_rank
 returns-then-not-differ_in_rank c = λ labels is ordered.
     let front = there (labels_in c.args.n c.args.bits) c.gather_in.new.row c.in_ok-count.count c.in_ok-count.ensures.1
-        ∙ ap present (labels_read c.args.n c.args.bits labels c.requires.at_most_six is) in
+    ∙ ap present (labels_read c.args.n c.args.bits labels c.requires.at_most_six is) in
     both_ways _ c.if-not-differ_in_rank.true
     (c.differ_in_rank.ensures.1 (apart (present labels) (take c.in_ok-count.count c.gather_in.new.row) (sym front) (apart_from_ordered labels ordered)))
 
