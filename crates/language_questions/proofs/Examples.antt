@@ -8,9 +8,8 @@ use Rattle.language_properties.specs.declared.property.Junction.TheVariants as J
 use Rattle.language_properties.specs.declared.property.Quantifier.TheVariants as Q
 use Rattle.language_properties.specs.declared.property.Question.TheVariants as A
 use Rattle.language_questions.specs.Reading.{asked_with, brackets_with, level, link_with, named_with, new_name_at, older_with, operand_with, over_with, process_by, process_with, property_with, question_of, rest_with, row_at, sign_at, whole_from}
-use Rattle.language_questions.specs.Signs.{sign_among}
-use Rattle.language_questions.specs.Tokens.{token_at, token_from}
-use Rattle.language_questions.specs.Words.{word_among}
+use Rattle.language_questions.specs.Spelled.{spelled}
+use Rattle.language_questions.specs.Tokens.{short_piece, sign_piece, token_at, token_from}
 use Rattle.language_questions.specs.declared.fault.QuestionFault.{QuestionFault}
 use Rattle.language_questions.specs.declared.fault.QuestionFault.TheVariants as F
 
@@ -34,59 +33,30 @@ span a b = record { start = a; end = b }
 abbrev Asks : List ℕ → Result Formula QuestionFault → Type 0
 Asks text answer = question_of program text ≡ answer
 
-plain :
+-- the trees of questions
+trees :
     Asks (codes "n") (Ok count)
     × Asks (codes "007 # no more") (Ok (number 7))
     × Asks (codes "((trapped[n - 1]))") (Ok (asked A.Trapped (binary count O.Sub (number 1))))
-unfolding question_of whole_from level property_with rest_with over_with link_with operand_with named_with brackets_with older_with asked_with process_with process_by new_name_at row_at sign_at token_at token_from word_among sign_among
-plain = (refl, refl, refl)
+    × Asks (codes "1 < (sum p: inside[p])") (Ok (binary (number 1) O.Less (over Q.Sum 0 (asked (A.Row 1) (bound 0)))))
+    × Asks (codes "some p: some q: (not (p == q)) and inside[p] and inside[q]") (Ok (over Q.Some 0 (over Q.Some 1 (joined (negated (binary (bound 0) O.Equal (bound 1))) J.And (joined (asked (A.Row 1) (bound 0)) J.And (asked (A.Row 1) (bound 1)))))))
+    × Asks (codes "held[0] or older[0, 1]") (Ok (joined (asked A.Held (number 0)) J.Or (older (number 0) (number 1))))
+    × Asks (codes "held[3 - 1]") (Ok (asked A.Held (binary (number 3) O.Sub (number 1))))
+unfolding question_of whole_from level property_with rest_with over_with link_with operand_with named_with brackets_with older_with asked_with process_with process_by new_name_at row_at sign_at token_at token_from sign_piece short_piece spelled
+trees = (refl, refl, refl, refl, refl, refl, refl)
 
-two_inside :
-    Asks (codes "1 < (sum p: inside[p])") (Ok (binary (number 1) O.Less (over Q.Sum 0 (asked (A.Row 1) (bound 0)))))
-unfolding question_of whole_from level property_with rest_with over_with link_with operand_with named_with brackets_with older_with asked_with process_with process_by new_name_at row_at sign_at token_at token_from word_among sign_among
-two_inside = refl
-
-both_inside :
-    Asks (codes "some p: some q: (not (p == q)) and inside[p] and inside[q]") (Ok (over Q.Some 0 (over Q.Some 1 (joined (negated (binary (bound 0) O.Equal (bound 1))) J.And (joined (asked (A.Row 1) (bound 0)) J.And (asked (A.Row 1) (bound 1)))))))
-unfolding question_of whole_from level property_with rest_with over_with link_with operand_with named_with brackets_with older_with asked_with process_with process_by new_name_at row_at sign_at token_at token_from word_among sign_among
-both_inside = refl
-
-of_tickets :
-    Asks (codes "held[0] or older[0, 1]") (Ok (joined (asked A.Held (number 0)) J.Or (older (number 0) (number 1))))
-unfolding question_of whole_from level property_with rest_with over_with link_with operand_with named_with brackets_with older_with asked_with process_with process_by new_name_at row_at sign_at token_at token_from word_among sign_among
-of_tickets = refl
-
--- faults of tokens, and where no question goes on
-of_tokens :
+-- faults of tokens, places where no question goes on, faults of chains, of names, of words and of processes
+faults :
     Asks (codes "1 @ 2") (Err (F.BadCharacter (span 2 3)))
     × Asks (codes "4294967296") (Err (F.NumberTooBig (span 0 10)))
     × Asks (codes "1 + 2 + 3") (Err (F.Unexpected (span 6 7)))
     × Asks (codes "held[0") (Err (F.Unexpected (span 6 6)))
-unfolding question_of whole_from level property_with rest_with over_with link_with operand_with named_with brackets_with older_with asked_with process_with process_by new_name_at row_at sign_at token_at token_from word_among sign_among
-of_tokens = (refl, refl, refl, refl)
-
-of_chains :
-    Asks (codes "1 and 2 or 3") (Err (F.Unexpected (span 8 10)))
-unfolding question_of whole_from level property_with rest_with over_with link_with operand_with named_with brackets_with older_with asked_with process_with process_by new_name_at row_at sign_at token_at token_from word_among sign_among
-of_chains = refl
-
--- faults of names
-of_names :
-    Asks (codes "level[me]") (Err (F.Unknown (span 6 8)))
+    × Asks (codes "1 and 2 or 3") (Err (F.Unexpected (span 8 10)))
+    × Asks (codes "level[me]") (Err (F.Unknown (span 6 8)))
     × Asks (codes "x") (Err (F.NotShared (span 0 1)))
     × Asks (codes "some p: all p: p") (Err (F.Twice (span 12 13)))
     × Asks (codes "some level: 1") (Err (F.Twice (span 5 10)))
-unfolding question_of whole_from level property_with rest_with over_with link_with operand_with named_with brackets_with older_with asked_with process_with process_by new_name_at row_at sign_at token_at token_from word_among sign_among
-of_names = (refl, refl, refl, refl)
-
-of_words :
-    Asks (codes "trapped[0] and ended[0]") (Err (F.TwoMeanings (span 15 20)))
-unfolding question_of whole_from level property_with rest_with over_with link_with operand_with named_with brackets_with older_with asked_with process_with process_by new_name_at row_at sign_at token_at token_from word_among sign_among
-of_words = refl
-
--- a number that is no process, which may be part of one
-of_processes :
-    Asks (codes "held[3]") (Err (F.NoSuchProcess (span 5 6)))
-    × Asks (codes "held[3 - 1]") (Ok (asked A.Held (binary (number 3) O.Sub (number 1))))
-unfolding question_of whole_from level property_with rest_with over_with link_with operand_with named_with brackets_with older_with asked_with process_with process_by new_name_at row_at sign_at token_at token_from word_among sign_among
-of_processes = (refl, refl)
+    × Asks (codes "trapped[0] and ended[0]") (Err (F.TwoMeanings (span 15 20)))
+    × Asks (codes "held[3]") (Err (F.NoSuchProcess (span 5 6)))
+unfolding question_of whole_from level property_with rest_with over_with link_with operand_with named_with brackets_with older_with asked_with process_with process_by new_name_at row_at sign_at token_at token_from sign_piece short_piece spelled
+faults = (refl, refl, refl, refl, refl, refl, refl, refl, refl, refl, refl)

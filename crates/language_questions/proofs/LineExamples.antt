@@ -2,12 +2,10 @@
 use Rattle.std.proofs.Common.{◌≡◌, ℕ, true, false, List, [], ◌∷◌, ◌++◌, Some, None, Result, Ok, Err, refl, codes}
 use Rattle.language_properties.specs.Properties.{count}
 use Rattle.language_questions.proofs.Examples.{program, span}
-use Rattle.language_questions.specs.Directives.{directive_among}
 use Rattle.language_questions.specs.Lines.{Asked, each_from, ended_at, ends_from, listed_from, listed_with, questions_in, with_directive, with_ends, with_line, with_never}
 use Rattle.language_questions.specs.Reading.{asked_with, brackets_with, level, link_with, named_with, new_name_at, older_with, operand_with, over_with, process_by, process_with, property_with, rest_with, row_at, sign_at, whole_from}
-use Rattle.language_questions.specs.Signs.{sign_among}
-use Rattle.language_questions.specs.Tokens.{token_at, token_from}
-use Rattle.language_questions.specs.Words.{word_among}
+use Rattle.language_questions.specs.Spelled.{spelled}
+use Rattle.language_questions.specs.Tokens.{short_piece, sign_piece, token_at, token_from}
 use Rattle.language_questions.specs.declared.fault.QuestionFault.{QuestionFault}
 use Rattle.language_questions.specs.declared.fault.QuestionFault.TheVariants as F
 use Rattle.language_questions.specs.declared.questions.Ends.TheVariants as N
@@ -17,26 +15,21 @@ AskInAll text answer = questions_in program text ≡ answer
 
 -- a comment asks nothing, and a question ends at a `#`
 a_property : AskInAll (codes "end # n" ++ 10 ∷ codes " #! never n # so") (Ok (record { never = (count, span 18 19) ∷ []; ends = None }))
-unfolding questions_in with_line with_directive with_never with_ends directive_among whole_from level property_with rest_with link_with operand_with named_with brackets_with older_with asked_with process_with process_by over_with new_name_at row_at sign_at token_at token_from word_among sign_among
+unfolding questions_in with_line with_directive with_never with_ends whole_from level property_with rest_with link_with operand_with named_with brackets_with older_with asked_with process_with process_by over_with new_name_at row_at sign_at token_at token_from sign_piece short_piece spelled
 a_property = refl
 
-two_of_them : AskInAll (codes "#! ends 2 0") (Ok (record { never = []; ends = Some (N.Each (true ∷ false ∷ true ∷ false ∷ false ∷ false ∷ [])) }))
-unfolding questions_in with_line with_directive with_never with_ends ends_from each_from listed_from listed_with ended_at directive_among token_at token_from word_among sign_among
-two_of_them = refl
-
-everybody_and_nobody :
-    AskInAll (codes "#! ends all") (Ok (record { never = []; ends = Some N.All }))
+of_processes :
+    AskInAll (codes "#! ends 2 0") (Ok (record { never = []; ends = Some (N.Each (true ∷ false ∷ true ∷ false ∷ false ∷ false ∷ [])) }))
+    × AskInAll (codes "#! ends all") (Ok (record { never = []; ends = Some N.All }))
     × AskInAll (codes "#! ends none") (Ok (record { never = []; ends = Some N.Nobody }))
-unfolding questions_in with_line with_directive with_never with_ends ends_from each_from listed_from listed_with ended_at directive_among token_at token_from word_among sign_among
-everybody_and_nobody = (refl, refl)
+unfolding questions_in with_line with_directive with_never with_ends ends_from each_from listed_from listed_with ended_at token_at token_from sign_piece short_piece spelled
+of_processes = (refl, refl, refl)
 
--- faults
-of_words : AskInAll (codes "#! nevr n") (Err (F.NoSuchWord (span 3 7))) × AskInAll (codes "#!") (Err (F.NoSuchWord (span 2 2)))
-unfolding questions_in with_line with_directive with_never with_ends directive_among token_at token_from word_among sign_among
-of_words = (refl, refl)
-
-of_ends :
-    AskInAll (codes "#! ends") (Err (F.Unexpected (span 7 7))) × AskInAll (codes "#! ends 3") (Err (F.NoSuchProcess (span 8 9)))
+faults :
+    AskInAll (codes "#! nevr n") (Err (F.NoSuchWord (span 3 7)))
+    × AskInAll (codes "#!") (Err (F.NoSuchWord (span 2 2)))
+    × AskInAll (codes "#! ends") (Err (F.Unexpected (span 7 7)))
+    × AskInAll (codes "#! ends 3") (Err (F.NoSuchProcess (span 8 9)))
     × AskInAll (codes "#! ends none" ++ 10 ∷ codes "#! ends ?") (Err (F.EndsTwice (span 16 20)))
-unfolding questions_in with_line with_directive with_never with_ends ends_from each_from listed_from listed_with ended_at directive_among token_at token_from word_among sign_among
-of_ends = (refl, refl, refl)
+unfolding questions_in with_line with_directive with_never with_ends ends_from each_from listed_from listed_with ended_at token_at token_from sign_piece short_piece spelled
+faults = (refl, refl, refl, refl, refl)

@@ -5,6 +5,7 @@ pub mod Lines
 pub mod Names
 pub mod Reading
 pub mod Signs
+pub mod Spelled
 pub mod Tokens
 pub mod Words
 pub mod prover

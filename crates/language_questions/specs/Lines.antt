@@ -8,12 +8,13 @@ use Rattle.base.specs.Plain.{Name, WholeProgram}
 use Rattle.base.specs.Refusing.{◌>>=◌}
 use Rattle.base.specs.declared.span.Span.{Span}
 use Rattle.language_properties.specs.Properties.{Formula, formula_of}
-use Rattle.language_questions.specs.Directives.{directive_among, directives}
+use Rattle.language_questions.specs.Directives.{directives}
 use Rattle.language_questions.specs.Extents.{end_of}
 use Rattle.language_questions.specs.Reading.{whole_from}
+use Rattle.language_questions.specs.Spelled.{spelled}
 use Rattle.language_questions.specs.Tokens.{letters_at, token_at, wrong}
-use Rattle.language_questions.specs.declared.directives.Directive.{Directive}
-use Rattle.language_questions.specs.declared.directives.Directive.TheVariants as D
+use Rattle.language_questions.specs.declared.spelled.Directive.{Directive}
+use Rattle.language_questions.specs.declared.spelled.Directive.TheVariants as D
 use Rattle.language_questions.specs.declared.extents.Extent.TheVariants as E
 use Rattle.language_questions.specs.declared.fault.QuestionFault.{QuestionFault}
 use Rattle.language_questions.specs.declared.fault.QuestionFault.TheVariants as F
@@ -98,7 +99,7 @@ module _ (p : WholeProgram Name) (text : List ℕ) where
 
   -- with what stands after `#!`
   unfoldable pub with_directive : Asked → ℕ → Result Asked QuestionFault
-  with_directive asked at = directed (directive_among directives (letters_at text (word_span text at))) asked (word_span text at)
+  with_directive asked at = directed (spelled directives (letters_at text (word_span text at))) asked (word_span text at)
 
   -- with what the line from a place on asks, if it asks something
   unfoldable pub with_line : Asked → ℕ → Result Asked QuestionFault

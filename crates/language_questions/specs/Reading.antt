@@ -24,11 +24,11 @@ use Rattle.language_questions.specs.Names.{bound_number, is_taken, row_by}
 use Rattle.language_questions.specs.Tokens.{letters_at, token_at, wrong}
 use Rattle.language_questions.specs.declared.fault.QuestionFault.{QuestionFault}
 use Rattle.language_questions.specs.declared.fault.QuestionFault.TheVariants as F
-use Rattle.language_questions.specs.declared.signs.Sign.{Sign}
-use Rattle.language_questions.specs.declared.signs.Sign.TheVariants as S
+use Rattle.language_questions.specs.declared.token.Sign.{Sign}
+use Rattle.language_questions.specs.declared.token.Sign.TheVariants as S
 use Rattle.language_questions.specs.declared.token.Meaning.{Meaning}
 use Rattle.language_questions.specs.declared.token.Meaning.TheVariants as M
-use Rattle.language_questions.specs.declared.words.Word.TheVariants as W
+use Rattle.language_questions.specs.declared.token.Word.TheVariants as W
 
 -- what was read and the place after it, or a fault
 abbrev pub Reading : Type 0 → Type 0

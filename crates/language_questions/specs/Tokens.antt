@@ -1,6 +1,6 @@
 -- The tokens of a question. Each place of a text has one: blanks are skipped, and where the text ends or a `#` stands
 -- it is the end of the question. What a question can't have is a token too, which stands nowhere.
-use Rattle.std.specs.Prelude.{ℕ, ◌+◌, ◌==◌, nat_lt, Bool, true, false, if◌then◌else◌, List, drop, length, option_map, slice_get, slice_range, Option, Some, None}
+use Rattle.std.specs.Prelude.{ℕ, ◌+◌, ◌==◌, nat_lt, Bool, true, false, if◌then◌else◌, List, drop, length, option_map, slice_get, slice_range, take, Option, Some, None}
 use Rattle.base.specs.Number.{capped, number_of}
 use Rattle.base.specs.Plain.{Name, WholeProgram}
 use Rattle.base.specs.declared.span.Span.{Span}
@@ -8,16 +8,17 @@ use Rattle.tick_kinds.specs.Declarations.{declarations, slot_in}
 use Rattle.language_questions.specs.Characters.{hash, is_digit, is_letter}
 use Rattle.language_questions.specs.Extents.{end_of}
 use Rattle.language_questions.specs.Names.{is_row}
-use Rattle.language_questions.specs.Signs.{sign_among, sign_spelling, signs}
-use Rattle.language_questions.specs.Words.{word_among, words}
+use Rattle.language_questions.specs.Signs.{signs}
+use Rattle.language_questions.specs.Spelled.{spelled}
+use Rattle.language_questions.specs.Words.{words}
 use Rattle.language_questions.specs.declared.extents.Extent.TheVariants as E
 use Rattle.language_questions.specs.declared.fault.QuestionFault.{QuestionFault}
 use Rattle.language_questions.specs.declared.fault.QuestionFault.TheVariants as F
-use Rattle.language_questions.specs.declared.signs.Sign.{Sign}
+use Rattle.language_questions.specs.declared.token.Sign.{Sign}
 use Rattle.language_questions.specs.declared.token.Meaning.{Meaning}
 use Rattle.language_questions.specs.declared.token.Meaning.TheVariants as M
 use Rattle.language_questions.specs.declared.token.Token.{Token}
-use Rattle.language_questions.specs.declared.words.Word.{Word}
+use Rattle.language_questions.specs.declared.token.Word.{Word}
 
 -- why a token can't stand where another is wanted
 abbrev pub wrong : Meaning → Span → QuestionFault
@@ -39,7 +40,7 @@ word_by (Some word) false = M.Word word
 
 -- what letters say to a program
 abbrev pub word_meaning : WholeProgram Name → List ℕ → Meaning
-word_meaning p letters = word_by (word_among words letters) (is_row (slot_in (declarations p) letters))
+word_meaning p letters = word_by (spelled words letters) (is_row (slot_in (declarations p) letters))
 
 -- A piece: what a token says, and where it ends.
 abbrev pub Piece : Type 0
@@ -53,12 +54,20 @@ abbrev pub number_piece : List ℕ → ℕ → Piece
 number_piece text from =
     (number_meaning (option_map capped (number_of (slice_range text from (end_of E.Digits text from)))), end_of E.Digits text from)
 
-abbrev pub sign_by : Option Sign → List ℕ → ℕ → Piece
-sign_by None text from = (M.NoToken, end_of E.Further text (from + 1))
-sign_by (Some sign) text from = (M.Sign sign, from + length (sign_spelling sign))
+-- a sign that ends here, if it is one; else another piece
+abbrev pub sign_or : Piece → ℕ → Option Sign → Piece
+sign_or other end None = other
+sign_or other end (Some sign) = (M.Sign sign, end)
 
-abbrev pub sign_piece : List ℕ → ℕ → Piece
-sign_piece text from = sign_by (sign_among signs (drop from text)) text from
+-- a sign of one byte, or a character that no token begins with
+unfoldable pub short_piece : List ℕ → ℕ → Piece
+short_piece text from =
+    sign_or (M.NoToken, end_of E.Further text (from + 1)) (from + 1) (spelled signs (slice_range text from (from + 1)))
+
+-- the longest sign that stands here
+unfoldable pub sign_piece : List ℕ → ℕ → Piece
+sign_piece text from =
+    sign_or (short_piece text from) (from + length (take 2 (drop from text))) (spelled signs (take 2 (drop from text)))
 
 -- the piece at a place with this byte
 abbrev pub piece_by : WholeProgram Name → Option ℕ → List ℕ → ℕ → Piece

@@ -7,7 +7,6 @@
 #![tactic(auto)]
 
 mod characters;
-mod directives;
 mod extents;
 mod fault;
 mod lines;
@@ -15,10 +14,9 @@ mod never;
 mod questions;
 mod reader;
 mod scope;
-mod signs;
+mod spelled;
 mod token;
 mod tokens;
-mod words;
 
 pub use fault::QuestionFault;
 pub use language_properties::Property;

@@ -5,11 +5,11 @@ ghost use Rattle.language_questions.specs.Lines.{asked_of, each_from, ended_at, 
 ghost use Rattle.language_questions.specs.Reading.{is_memory};
 ghost use Rattle.language_questions.specs.declared.fault.QuestionFault.TheVariants.{NoMemory};
 
-use crate::directives::{Directive, directive_of};
 use crate::extents::Extent;
 use crate::fault::QuestionFault;
 use crate::questions::{Ends, NeverLine, Questions};
 use crate::reader::Reader;
+use crate::spelled::{Directive, directive_of};
 use crate::token::Meaning;
 use base::set_at;
 use base::span::Span;
@@ -112,8 +112,10 @@ impl Reader<'_> {
         let (property, end) = self.whole(at)?;
         let start = self.token(at).span.start;
         let span = Span { start, end };
-        found.never.push(NeverLine { property, span })?;
-        Ok(())
+        match found.never.push(NeverLine { property, span }) {
+            Ok(()) => Ok(()),
+            Err(_) => Err(QuestionFault::NoMemory),
+        }
     }
 
     // Adds who is asked by what stands after the word at this span.

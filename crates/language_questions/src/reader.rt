@@ -1,16 +1,15 @@
 // From the text of a question to its property: a descent by the grammar, one method for each of its rules. No tokens
 // are kept, since each place has its own.
-ghost use Rattle.std.specs.Prelude.{◌≡◌, []};
+ghost use Rattle.std.specs.Prelude.{◌≡◌, [], IfErr, IfOk};
 ghost use Rattle.language_properties.specs.Properties.{formula_of};
 ghost use Rattle.language_questions.specs.Names.{names_of};
 ghost use Rattle.language_questions.specs.Reading.{Gives, GivesAlways, asked_with, brackets_with, joins, level, link_with, may_be_process, named_with, new_name_at, older_with, operand_with, over_with, process_by, process_with, property_with, rest_with, row_at, sign_at, whole_from};
+ghost use Rattle.language_questions.specs.declared.fault.QuestionFault.TheVariants.{NoMemory};
 ghost use Rattle.language_questions.specs.prover.Letters.{IsLetters};
 
 use crate::fault::QuestionFault;
 use crate::scope::{MOST_BOUND, Scope};
-use crate::signs::Sign;
-use crate::token::Meaning;
-use crate::words::Word;
+use crate::token::{Meaning, Sign, Word};
 use base::span::Span;
 use language_properties::{Junction, Property, Quantifier, Question};
 use std::alloc::Global;
@@ -21,6 +20,8 @@ const MOST_LEVELS: usize = 64;
 
 /// What was read, and the place after it.
 pub type Read<T> = Result<(T, usize), QuestionFault>;
+
+type Pair = (Box<Property>, Box<Property>);
 
 /// Reads a question from a text. `at` is the place of the next token, and `room` is how many levels there may
 /// still be.
@@ -79,6 +80,28 @@ impl<'a> Reader<'a> {
         }
     }
 
+    // A part of a property.
+    fn boxed(&self, value: Property) -> Result<Box<Property>, QuestionFault>
+        ensures part { IfOk result (λ part. formula_of part.value ≡ formula_of value) }
+        ensures fault { IfErr result (λ fault. fault ≡ NoMemory) }
+    {
+        match Box::new(self.alloc, value) {
+            Ok(part) => Ok(part),
+            Err(_) => Err(QuestionFault::NoMemory),
+        }
+    }
+
+    // The two parts of a property.
+    fn pair(&self, first: Property, second: Property) -> Result<Pair, QuestionFault>
+        ensures first { IfOk result (λ pair. formula_of pair.0.value ≡ formula_of first) }
+        ensures second { IfOk result (λ pair. formula_of pair.1.value ≡ formula_of second) }
+        ensures fault { IfErr result (λ fault. fault ≡ NoMemory) }
+    {
+        let first = self.boxed(first)?;
+        let second = self.boxed(second)?;
+        Ok((first, second))
+    }
+
     // What was read from a place on, up to another, as a process.
     #[tactic(auto, unfolding(crate::specs::Reading::process_by))]
     fn process_from(&self, from: usize, value: Property, at: usize) -> Read<Property>
@@ -110,7 +133,7 @@ impl<'a> Reader<'a> {
         let opening = self.sign(Sign::OpenIndex, at)?;
         let (process, at) = self.process(room, opening, scope, opening.end)?;
         let closing = self.sign(Sign::CloseIndex, at)?;
-        let process = Box::new(self.alloc, process)?;
+        let process = self.boxed(process)?;
         Ok((Property::Of(question, process), closing.end))
     }
 
@@ -125,8 +148,7 @@ impl<'a> Reader<'a> {
         let comma = self.sign(Sign::Comma, at)?;
         let (second, at) = self.process(room, comma, scope, comma.end)?;
         let closing = self.sign(Sign::CloseIndex, at)?;
-        let first = Box::new(self.alloc, first)?;
-        let second = Box::new(self.alloc, second)?;
+        let (first, second) = self.pair(first, second)?;
         Ok((Property::Older(first, second), closing.end))
     }
 
@@ -189,8 +211,7 @@ impl<'a> Reader<'a> {
             return Ok((first, at));
         }
         let (rest, at) = self.chain(room, by, scope, token.span, token.span.end)?;
-        let first = Box::new(self.alloc, first)?;
-        let rest = Box::new(self.alloc, rest)?;
+        let (first, rest) = self.pair(first, rest)?;
         Ok((Property::Joined(first, by, rest), at))
     }
 
@@ -223,14 +244,12 @@ impl<'a> Reader<'a> {
         match token.meaning {
             Meaning::Sign(Sign::Operator(op)) => {
                 let (right, at) = self.operand(room, scope, token.span.end)?;
-                let left = Box::new(self.alloc, left)?;
-                let right = Box::new(self.alloc, right)?;
+                let (left, right) = self.pair(left, right)?;
                 Ok((Property::Binary(left, op, right), at))
             }
             Meaning::Word(Word::Joins(by)) => {
                 let (right, at) = self.chain(room, by, scope, token.span, token.span.end)?;
-                let left = Box::new(self.alloc, left)?;
-                let right = Box::new(self.alloc, right)?;
+                let (left, right) = self.pair(left, right)?;
                 Ok((Property::Joined(left, by, right), at))
             }
             _ => Ok((left, at)),
@@ -257,7 +276,7 @@ impl<'a> Reader<'a> {
         let colon = self.sign(Sign::Colon, at)?;
         let inner = scope.with(name);
         let (body, at) = self.inside(room, colon, &inner, colon.end)?;
-        let body = Box::new(self.alloc, body)?;
+        let body = self.boxed(body)?;
         Ok((Property::Over(quantifier, number, body), at))
     }
 
@@ -274,7 +293,7 @@ impl<'a> Reader<'a> {
             }
             Meaning::Word(Word::Not) => {
                 let (value, at) = self.operand(room, scope, token.span.end)?;
-                Ok((Property::Not(Box::new(self.alloc, value)?), at))
+                Ok((Property::Not(self.boxed(value)?), at))
             }
             _ => {
                 let (left, at) = self.operand(room, scope, at)?;

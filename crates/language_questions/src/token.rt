@@ -2,9 +2,34 @@ ghost use Rattle.std.specs.Prelude.{◌≡◌};
 ghost use Rattle.language_questions.specs.Tokens.{wrong};
 
 use crate::fault::QuestionFault;
-use crate::signs::Sign;
-use crate::words::Word;
 use base::span::Span;
+use language_properties::{Junction, Op, Quantifier};
+
+/// A word of questions.
+#[derive(Clone, Copy)]
+pub enum Word {
+    /// `n`, how many processes there are.
+    Count,
+    Not,
+    Joins(Junction),
+    Over(Quantifier),
+    Held,
+    Older,
+    Ended,
+    Trapped,
+}
+
+/// A sign of questions.
+#[derive(Clone, Copy)]
+pub enum Sign {
+    Open,
+    Close,
+    OpenIndex,
+    CloseIndex,
+    Comma,
+    Colon,
+    Operator(Op),
+}
 
 /// What a token says.
 #[derive(Clone, Copy)]

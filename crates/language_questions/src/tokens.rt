@@ -1,18 +1,17 @@
 // Which token a question has at a place.
-ghost use Rattle.std.specs.Prelude.{◌≡◌, ◌<◌, length, slice_get};
+ghost use Rattle.std.specs.Prelude.{◌≡◌, ◌≢◌, ◌<◌, length, slice_get};
 ghost use Rattle.std.specs.Str.{IsAscii};
 ghost use Rattle.tick_kinds.specs.Declarations.{declarations, slot_in};
 ghost use Rattle.language_questions.specs.Names.{is_row};
-ghost use Rattle.language_questions.specs.Tokens.{letters_at, number_piece, piece_by, sign_piece, token_at, token_from, word_meaning, word_piece};
+ghost use Rattle.language_questions.specs.Tokens.{letters_at, number_piece, piece_by, short_piece, sign_piece, token_at, token_from, word_meaning, word_piece};
 ghost use Rattle.language_questions.specs.prover.Letters.{IsLetters};
 ghost use Rattle.language_questions.specs.declared.token.Meaning.TheVariants.{Name};
 
 use crate::characters::is_letter;
 use crate::extents::Extent;
 use crate::reader::Reader;
-use crate::signs::sign_of;
+use crate::spelled::{sign_of, word_of};
 use crate::token::{Meaning, Token};
-use crate::words::word_of;
 use base::number;
 use base::span::Span;
 use tick_kinds::Kind;
@@ -102,12 +101,29 @@ impl<'a> Reader<'a> {
         }
     }
 
+    #[tactic(auto, unfolding(crate::specs::Tokens::sign_piece))]
     fn sign_piece(&self, from: usize) -> (Meaning, usize)
         requires { from < length self.now.text.now }
-        ensures { result ≡ sign_piece self.now.text.now from }
+        ensures piece { result ≡ sign_piece self.now.text.now from }
+        ensures no_name { result.0 ≢ Name }
     {
-        match sign_of(&self.text[from..]) {
-            Some(sign) => (Meaning::Sign(sign), from + sign.text().len()),
+        let rest = &self.text[from..];
+        let two = &rest[..rest.len().min(2)];
+        match sign_of(two) {
+            Some(sign) => (Meaning::Sign(sign), from + two.len()),
+            None => self.short_piece(from),
+        }
+    }
+
+    // A sign of one byte, or a character that no token begins with.
+    #[tactic(auto, unfolding(crate::specs::Tokens::short_piece))]
+    fn short_piece(&self, from: usize) -> (Meaning, usize)
+        requires { from < length self.now.text.now }
+        ensures piece { result ≡ short_piece self.now.text.now from }
+        ensures no_name { result.0 ≢ Name }
+    {
+        match sign_of(&self.text[from..from + 1]) {
+            Some(sign) => (Meaning::Sign(sign), from + 1),
             None => (Meaning::NoToken, Extent::Further.end(self.text, from + 1)),
         }
     }

@@ -1,3 +1,4 @@
+pub mod Conditions
 pub mod Weakening
 pub mod Begun
 pub mod Fitting

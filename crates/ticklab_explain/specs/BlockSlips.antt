@@ -1,10 +1,11 @@
 -- Slips with blocks.
-use Rattle.std.specs.Prelude.{Bool, not, ◌&&◌, ◌||◌, List, [], ◌∷◌, codes, Option, is_some, is_none}
+use Rattle.std.specs.Prelude.{not, ◌&&◌, ◌||◌, List, [], ◌∷◌, codes, Option, is_some}
 use Rattle.std.specs.Option.{option_or}
+use Rattle.ticklab_explain.specs.Facts.{begins_simple, ends_block}
 use Rattle.ticklab_explain.specs.Following.{is_one_of}
 use Rattle.ticklab_explain.specs.Parts.{has}
 use Rattle.ticklab_explain.specs.Rules.{first_that_fits, is, is_keyword_here, is_name_here, wants}
-use Rattle.ticklab_explain.specs.Settings.{Setting, after, before, here, open_brace, sort_here}
+use Rattle.ticklab_explain.specs.Settings.{Setting, after, before, here, open_brace}
 use Rattle.ticklab_explain.specs.declared.advice.Advice.TheVariants as A
 use Rattle.ticklab_explain.specs.declared.hint.Hint.{Hint}
 use Rattle.ticklab_explain.specs.declared.hint.Hint.TheVariants.{Fixed, Quoting, Rewriting}
@@ -22,16 +23,12 @@ else_slip s wanted = first_that_fits (
     ∷ (is (here s) (codes "else") && (wants wanted (codes "stamp") && not (is_some (open_brace s))), Fixed A.ElseAlone)
     ∷ [])
 
--- a `}` stands here, and no `{` is open
-abbrev pub closes_nothing : Setting → Bool
-closes_nothing s = is (here s) (codes "}") && not (is_some (open_brace s))
-
 -- of braces
 unfoldable pub brace_slip : Setting → List Wanted → Option Hint
 brace_slip s wanted = first_that_fits (
-    (is_some (open_brace s) && ((is_none (sort_here s) || (is (here s) (codes "end") || is (here s) (codes "else"))) && wants wanted (codes "}")), Quoting W.BraceIsOpen)
-    ∷ (closes_nothing s && (wants wanted (codes "end") && is (after s 1) []), Fixed A.EndIsMissing)
-    ∷ (closes_nothing s && (wants wanted (codes "stamp") || wants wanted (codes "else")), Fixed A.NothingToClose)
+    (is_some (open_brace s) && (ends_block s && wants wanted (codes "}")), Quoting W.BraceIsOpen)
+    ∷ (is (here s) (codes "}") && (not (is_some (open_brace s)) && (wants wanted (codes "end") && is (after s 1) [])), Fixed A.EndIsMissing)
+    ∷ (is (here s) (codes "}") && (not (is_some (open_brace s)) && (wants wanted (codes "stamp") || wants wanted (codes "else"))), Fixed A.NothingToClose)
     ∷ (is (here s) (codes "{") && wants wanted (codes "stamp"), Fixed A.NoFreeBlock)
     ∷ (wants wanted (codes "else"), Fixed A.ElseIsMissing)
     ∷ [])
@@ -40,7 +37,7 @@ brace_slip s wanted = first_that_fits (
 unfoldable pub body_slip : Setting → List Wanted → Option Hint
 body_slip s wanted = first_that_fits (
     (is_one_of (here s) (codes "then" ∷ codes "do" ∷ []) && wants wanted (codes "{"), Quoting W.NoThen)
-    ∷ (wants wanted (codes "{") && (((is_name_here s && is (after s 1) (codes "=")) || is_one_of (here s) (codes "put" ∷ codes "stamp" ∷ codes "clear" ∷ codes "out" ∷ [])) && has s P.ToSemicolon), Rewriting R.InBraces)
+    ∷ (wants wanted (codes "{") && (begins_simple s && has s P.ToSemicolon), Rewriting R.InBraces)
     ∷ (wants wanted (codes "{") && (is_name_here s || is_keyword_here s), Fixed A.BlockInBraces)
     ∷ [])
 

@@ -1,6 +1,6 @@
 -- Which hint is told: that of the first rule that fits.
 use Rattle.std.specs.Prelude.{ℕ, ◌==◌, nat_eq, Bool, true, false, not, ◌&&◌, ◌||◌, List, [], ◌∷◌, codes, length, Option, Some, None, is_some, is_none, slice_index, if◌then◌else◌}
-use Rattle.std.specs.List.{list_any, starts_with, ends_with}
+use Rattle.std.specs.List.{starts_with, ends_with}
 use Rattle.std.specs.Option.{option_or}
 use Rattle.code_core.specs.declared.fault.CodeFault.{CodeFault}
 use Rattle.code_core.specs.declared.fault.CodeFault.TheVariants as C
@@ -15,6 +15,8 @@ use Rattle.tick_syntax.specs.declared.fault.TextFault.TheVariants as T
 use Rattle.ticklab_explain.specs.BlockSlips.{block_slip, body_slip}
 use Rattle.ticklab_explain.specs.CallSlips.{call_slip}
 use Rattle.ticklab_explain.specs.DeclarationSlips.{declaration_slip}
+use Rattle.ticklab_explain.specs.Conditions.{has_one_of, item}
+use Rattle.ticklab_explain.specs.Facts.{begins_comment, begins_with, ends_statement}
 use Rattle.ticklab_explain.specs.Following.{is_one_of}
 use Rattle.ticklab_explain.specs.Hints.{first_declaration, is_section}
 use Rattle.ticklab_explain.specs.OperandSlips.{operand_slip}
@@ -74,12 +76,6 @@ place_slip s wanted = first_that_fits (
     ∷ (wants wanted (codes "begin"), Fixed A.BeginIsMissing)
     ∷ [])
 
--- `//` or `/*`
-unfoldable pub begins_comment : Setting → Bool
-begins_comment s =
-    (is (here s) (codes "/") && is_one_of (after s 1) (codes "/" ∷ codes "*" ∷ []))
-    || (is_one_of (here s) (codes "/" ∷ codes "*" ∷ []) && (is (before s 1) (codes "/") && touches s))
-
 abbrev pub arithmetic : List (List ℕ)
 arithmetic = codes "+" ∷ codes "-" ∷ codes "*" ∷ codes "/" ∷ codes "%" ∷ []
 
@@ -106,7 +102,7 @@ sign_slip s wanted = first_that_fits (
 unfoldable pub missing_slip : Setting → List Wanted → Option Hint
 missing_slip s wanted = first_that_fits (
     (wants wanted (codes ";") && (is_name_here s && (touches s && not (is (before s 1) (codes ")")))), Fixed A.DecimalDigits)
-    ∷ (wants wanted (codes ";") && (is_none (sort_here s) || (is_name_here s || (is_keyword_here s || is (here s) (codes "}")))), Quoting W.SemicolonIsMissing)
+    ∷ (wants wanted (codes ";") && ends_statement s, Quoting W.SemicolonIsMissing)
     ∷ [])
 
 -- Where no program goes on. First come slips that show in the text as a whole and in words, then those in
@@ -159,10 +155,6 @@ point_slip s = first_that_fits (
     ∷ (is (about s) (codes "."), Fixed A.NoDot)
     ∷ [])
 
--- the text begins with these two bytes
-unfoldable pub begins_with : Setting → ℕ → ℕ → Bool
-begins_with s first second = (slice_index s.text 0 == first) && (slice_index s.text 1 == second)
-
 unfoldable pub other_sign_slip : Setting → Option Hint
 other_sign_slip s = first_that_fits (
     (is_one_of (about s) (codes "\"" ∷ codes "'" ∷ []), Fixed A.NoStrings)
@@ -196,26 +188,9 @@ unknown_slip s = first_that_fits (
     ∷ (true, Naming H.Declared)
     ∷ [])
 
--- of a register in the place of a variable
-unfoldable pub register_slip : Setting → Option Hint
-register_slip s = first_that_fits (
-    (is (after s 1) (codes "="), Naming H.WrittenByPut)
-    ∷ (true, Naming H.ReadByGet)
-    ∷ [])
-
--- of a scan in the place of a variable
-unfoldable pub scan_slip : Setting → Option Hint
-scan_slip s = first_that_fits (
-    (is (after s 1) (codes "="), Rewriting R.ScanTarget)
-    ∷ (true, Fixed A.LookAtScan)
-    ∷ [])
-
--- of another name in the place of a scan
-unfoldable pub no_scan_slip : Setting → Option Hint
-no_scan_slip s = first_that_fits (
-    (is (after s 1) (codes "="), Fixed A.IntoScan)
-    ∷ (true, Fixed A.ScanFirst)
-    ∷ [])
+-- of a name in the place of another: one hint where it is assigned, else another
+unfoldable pub assigned_slip : Setting → Hint → Hint → Option Hint
+assigned_slip s assigned read = first_that_fits ((is (after s 1) (codes "="), assigned) ∷ (true, read) ∷ [])
 
 -- of a variable in the place of a register
 unfoldable pub variable_slip : Setting → Option Hint
@@ -227,10 +202,10 @@ variable_slip s = first_that_fits (
 
 -- where the first kind is wanted, and the second found
 abbrev pub kind_slip : Setting → Kind → Kind → Option Hint
-kind_slip s K.Variable K.Register = register_slip s
+kind_slip s K.Variable K.Register = assigned_slip s (Naming H.WrittenByPut) (Naming H.ReadByGet)
 kind_slip s K.Variable K.Variable = Some (Fixed A.LookAtScan)
-kind_slip s K.Variable K.Scan = scan_slip s
-kind_slip s K.Scan found = no_scan_slip s
+kind_slip s K.Variable K.Scan = assigned_slip s (Rewriting R.ScanTarget) (Fixed A.LookAtScan)
+kind_slip s K.Scan found = assigned_slip s (Fixed A.IntoScan) (Fixed A.ScanFirst)
 kind_slip s K.Register K.Variable = variable_slip s
 kind_slip s K.Register K.Scan = Some (Fixed A.GetAndPut)
 kind_slip s K.Register K.Register = Some (Fixed A.GetAndPut)
@@ -248,35 +223,25 @@ kinds_hint s N.NoMemory = None
 
 abbrev pub code_hint : CodeFault → Option Hint
 code_hint (C.BadLine line) = if line == 1 then Some (Fixed A.FirstLine) else Some (Fixed A.InstructionLine)
-code_hint C.Empty = None
-code_hint C.TooLong = None
-code_hint (C.BadJump place) = None
-code_hint (C.StackShort place) = None
-code_hint (C.HeightsDiffer place) = None
-code_hint (C.BadSlot place) = None
-code_hint (C.FallsOff place) = None
-code_hint (C.BadStamp place) = None
-code_hint C.NoMemory = None
+code_hint _ = None
 
--- a byte of the item, its begin and its end
-abbrev pub contains : List ℕ → ℕ → Bool
-contains item byte = list_any (λ one. one == byte) item
-
-unfoldable pub item_slip : List ℕ → Option Hint
-item_slip item = first_that_fits (
-    (contains item 40 || contains item 41, Fixed A.NoGroups)
-    ∷ (contains item 44 || contains item 59, Fixed A.Blanks)
-    ∷ (starts_with nat_eq item (codes "#"), Fixed A.NoComments)
-    ∷ (starts_with nat_eq item (codes "-"), Fixed A.CountedFromZero)
-    ∷ (starts_with nat_eq item (codes "c"), Fixed A.NoClears)
-    ∷ (starts_with nat_eq item (codes "*") || ends_with nat_eq item (codes "*"), Fixed A.NoBlankAtStar)
-    ∷ (ends_with nat_eq item (codes "*0"), Fixed A.OneStepAtLeast)
-    ∷ (contains item 120, Fixed A.StarRepeats)
+-- of an item that a schedule can't have
+unfoldable pub item_slip : Setting → Option Hint
+item_slip s = first_that_fits (
+    (has_one_of (item s) (codes "()"), Fixed A.NoGroups)
+    ∷ (has_one_of (item s) (codes ",;"), Fixed A.Blanks)
+    ∷ (starts_with nat_eq (item s) (codes "#"), Fixed A.NoComments)
+    ∷ (starts_with nat_eq (item s) (codes "-"), Fixed A.CountedFromZero)
+    ∷ (starts_with nat_eq (item s) (codes "c"), Fixed A.NoClears)
+    ∷ (starts_with nat_eq (item s) (codes "*"), Fixed A.NoBlankAtStar)
+    ∷ (ends_with nat_eq (item s) (codes "*"), Fixed A.NoBlankAtStar)
+    ∷ (ends_with nat_eq (item s) (codes "*0"), Fixed A.OneStepAtLeast)
+    ∷ (has_one_of (item s) (codes "x"), Fixed A.StarRepeats)
     ∷ (true, Fixed A.OnlyDigits)
     ∷ [])
 
 abbrev pub schedule_hint : Setting → ScheduleFault → Option Hint
-schedule_hint s (S.BadItem place) = item_slip (shortened (about s))
+schedule_hint s (S.BadItem place) = item_slip s
 schedule_hint s (S.NoSuchProcess place) = Some (Naming H.ProcessCount)
 schedule_hint s S.TooLong = Some (Fixed A.LongestSchedule)
 schedule_hint s S.NoMemory = None

@@ -44,16 +44,22 @@ is_at_end (Unexpected span) length = span.start == length
 is_at_end (TooDeep span) length = false
 is_at_end NoMemory length = false
 
--- a token of what is wanted, where it is of a kind the first of them that comes to mind
+-- a token of what is wanted, where it is of a kind the first of them that comes to mind; and how it is told
+abbrev pub words : Wanted → List ℕ × List ℕ
+words Statement = (codes "stamp", codes "a statement")
+words Value = (codes "get", codes "a value")
+words Expression = (codes "me", codes "an expression")
+words Operator = (codes "+", codes "an operator")
+words AName = (codes "x", codes "a name")
+words Number = (codes "0", codes "a number")
+words TextEnd = ([], codes "the end of the text")
+words (Word terminal) = (spelling terminal, joined (codes "`" ∷ spelling terminal ∷ codes "`" ∷ []))
+
 abbrev pub sample : Wanted → List ℕ
-sample Statement = codes "stamp"
-sample Value = codes "get"
-sample Expression = codes "me"
-sample Operator = codes "+"
-sample AName = codes "x"
-sample Number = codes "0"
-sample TextEnd = []
-sample (Word terminal) = spelling terminal
+sample one = (words one).0
+
+abbrev pub told : Wanted → List ℕ
+told one = (words one).1
 
 -- after this text, which is UTF-8, the token may stand on a new line
 abbrev pub MayFollow : List ℕ → Wanted → Type 0
@@ -117,17 +123,6 @@ choices word =
     if is_one_of word before_name then AName ∷ []
     else if is_one_of word before_expression then Expression ∷ []
     else other_choices word
-
--- how it is told
-abbrev pub told : Wanted → List ℕ
-told Statement = codes "a statement"
-told Value = codes "a value"
-told Expression = codes "an expression"
-told Operator = codes "an operator"
-told AName = codes "a name"
-told Number = codes "a number"
-told TextEnd = codes "the end of the text"
-told (Word terminal) = joined (codes "`" ∷ spelling terminal ∷ codes "`" ∷ [])
 
 -- what stands before the word at this index of so many
 abbrev pub joint : ℕ → ℕ → List ℕ

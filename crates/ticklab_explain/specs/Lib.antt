@@ -8,6 +8,8 @@ pub mod Rewrites
 pub mod Following
 pub mod Hints
 pub mod Rules
+pub mod Facts
+pub mod Conditions
 pub mod BlockSlips
 pub mod CallSlips
 pub mod DeclarationSlips

@@ -23,10 +23,6 @@ is_operator s = is_one_of (here s) operators
 abbrev pub ends_operand : List Wanted → Bool
 ends_operand wanted = wants wanted (codes ";") || wants wanted (codes "{")
 
--- a bracket ends here in which one operand stands
-abbrev pub closes_one : Setting → List Wanted → Bool
-closes_one s wanted = is (here s) (codes ")") && wants wanted (codes "+")
-
 -- of an operation that has no brackets of its own
 unfoldable pub operation_slip : Setting → List Wanted → Option Hint
 operation_slip s wanted = first_that_fits (
@@ -40,10 +36,10 @@ operation_slip s wanted = first_that_fits (
 -- of brackets without an operation
 unfoldable pub plain_slip : Setting → List Wanted → Option Hint
 plain_slip s wanted = first_that_fits (
-    (closes_one s wanted && (is (before s 2) (codes "(") && is (before s 3) (codes "=")), Rewriting R.PlainAssigned)
-    ∷ (closes_one s wanted && (is (before s 2) (codes "(") && is_one_of (before s 3) (codes "(" ∷ operators)), Rewriting R.PlainOperand)
-    ∷ (closes_one s wanted && is (before s 2) (codes "("), Rewriting R.PlainAfter)
-    ∷ (closes_one s wanted && has s P.OperandBefore, Rewriting R.OnePair)
+    (is (here s) (codes ")") && (wants wanted (codes "+") && (is (before s 2) (codes "(") && is (before s 3) (codes "="))), Rewriting R.PlainAssigned)
+    ∷ (is (here s) (codes ")") && (wants wanted (codes "+") && (is (before s 2) (codes "(") && is_one_of (before s 3) (codes "(" ∷ operators))), Rewriting R.PlainOperand)
+    ∷ (is (here s) (codes ")") && (wants wanted (codes "+") && is (before s 2) (codes "(")), Rewriting R.PlainAfter)
+    ∷ (is (here s) (codes ")") && (wants wanted (codes "+") && has s P.OperandBefore), Rewriting R.OnePair)
     ∷ [])
 
 -- of an equals sign too many

@@ -44,14 +44,14 @@ assert_slip s wanted = first_that_fits (
 -- of words of other languages that give a value out
 unfoldable pub print_slip : Setting → List Wanted → Option Hint
 print_slip s wanted = first_that_fits (
-    (is_one_of (before s 1) printing && (has_operand s wanted && (is (here s) (codes "(") && is (after s 2) (codes ")"))), Rewriting R.PrintInner)
+    (is_one_of (before s 1) printing && (wants wanted (codes "=") && (has s (P.OperandAfter 0) && (is (here s) (codes "(") && is (after s 2) (codes ")")))), Rewriting R.PrintInner)
     ∷ (is_one_of (before s 1) printing && has_operand s wanted, Rewriting R.Print)
     ∷ [])
 
 -- of words of other languages that declare a name
 unfoldable pub declared_slip : Setting → List Wanted → Option Hint
 declared_slip s wanted = first_that_fits (
-    (is_one_of (before s 1) declaring && ((wants wanted (codes "=") && is_name_here s) && (is (after s 1) (codes "=") && has s P.ToSemicolon)), Rewriting R.DeclaredAbove)
+    (is_one_of (before s 1) declaring && (wants wanted (codes "=") && (is_name_here s && (is (after s 1) (codes "=") && has s P.ToSemicolon))), Rewriting R.DeclaredAbove)
     ∷ (is_one_of (before s 1) declaring && (wants wanted (codes "=") && is_name_here s), Fixed A.DeclareBefore)
     ∷ [])
 

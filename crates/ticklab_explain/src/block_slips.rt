@@ -4,13 +4,17 @@ ghost use Rattle.ticklab_explain.specs.BlockSlips.{block_slip, body_slip, brace_
 ghost use Rattle.ticklab_explain.specs.Settings.{setting};
 
 use crate::advice::Advice;
-use crate::grammar_slips::wants;
+use crate::condition::Condition::{
+    After, Before, Has, Here, HereOneOf, Is, Not, Wants, WantsEither,
+};
+use crate::fact::Fact::{BeginsSimple, EndsBlock, InBraces, Word};
+use crate::hint::Hint::{Fixed, Quoting, Rewriting};
 use crate::hint::{Hint, first_that_fits};
-use crate::part::{Part, has};
+use crate::part::Part::{OperandAfter, ToSemicolon};
 use crate::quote::Quote;
 use crate::rewrite::Rewrite;
 use crate::scene::Scene;
-use crate::wanted::{Wanted, is_one_of};
+use crate::wanted::Wanted;
 
 /// What may help at a slip of blocks.
 #[tactic(auto, unfolding(crate::specs::BlockSlips::block_slip))]
@@ -25,25 +29,29 @@ pub fn block_slip(scene: &Scene, wanted: &[Wanted]) -> Option<Hint>
 fn else_slip(scene: &Scene, wanted: &[Wanted]) -> Option<Hint>
     ensures { result ≡ else_slip (setting scene.now) wanted.now }
 {
-    first_that_fits(&[
-        (
-            scene.is_here("if") & (scene.is_before(1, "else") & has(scene, Part::OperandAfter(1))),
-            Hint::Rewriting(Rewrite::ElseIf),
-        ),
-        (
-            scene.is_here("if") & scene.is_before(1, "else"),
-            Hint::Fixed(Advice::NoElseIf),
-        ),
-        (
-            is_one_of(scene.here(), &["elif", "elseif", "elsif"])
-                & (wants(wanted, "else") & has(scene, Part::OperandAfter(1))),
-            Hint::Rewriting(Rewrite::ElseIf),
-        ),
-        (
-            scene.is_here("else") & (wants(wanted, "stamp") & scene.open_brace().is_none()),
-            Hint::Fixed(Advice::ElseAlone),
-        ),
-    ])
+    first_that_fits(
+        scene,
+        wanted,
+        &[
+            (
+                &[Here("if"), Before(1, "else"), Has(OperandAfter(1))],
+                Rewriting(Rewrite::ElseIf),
+            ),
+            (&[Here("if"), Before(1, "else")], Fixed(Advice::NoElseIf)),
+            (
+                &[
+                    HereOneOf(&["elif", "elseif", "elsif"]),
+                    Wants("else"),
+                    Has(OperandAfter(1)),
+                ],
+                Rewriting(Rewrite::ElseIf),
+            ),
+            (
+                &[Here("else"), Wants("stamp"), Not(InBraces)],
+                Fixed(Advice::ElseAlone),
+            ),
+        ],
+    )
 }
 
 // Of braces.
@@ -51,28 +59,26 @@ fn else_slip(scene: &Scene, wanted: &[Wanted]) -> Option<Hint>
 fn brace_slip(scene: &Scene, wanted: &[Wanted]) -> Option<Hint>
     ensures { result ≡ brace_slip (setting scene.now) wanted.now }
 {
-    let is_open = scene.open_brace().is_some();
-    let ends = scene.is_at_end() | (scene.is_here("end") | scene.is_here("else"));
-    let closes_nothing = scene.is_here("}") & !is_open;
-    first_that_fits(&[
-        (
-            is_open & (ends & wants(wanted, "}")),
-            Hint::Quoting(Quote::BraceIsOpen),
-        ),
-        (
-            closes_nothing & (wants(wanted, "end") & scene.is_after(1, "")),
-            Hint::Fixed(Advice::EndIsMissing),
-        ),
-        (
-            closes_nothing & (wants(wanted, "stamp") | wants(wanted, "else")),
-            Hint::Fixed(Advice::NothingToClose),
-        ),
-        (
-            scene.is_here("{") & wants(wanted, "stamp"),
-            Hint::Fixed(Advice::NoFreeBlock),
-        ),
-        (wants(wanted, "else"), Hint::Fixed(Advice::ElseIsMissing)),
-    ])
+    first_that_fits(
+        scene,
+        wanted,
+        &[
+            (
+                &[Is(InBraces), Is(EndsBlock), Wants("}")],
+                Quoting(Quote::BraceIsOpen),
+            ),
+            (
+                &[Here("}"), Not(InBraces), Wants("end"), After(1, "")],
+                Fixed(Advice::EndIsMissing),
+            ),
+            (
+                &[Here("}"), Not(InBraces), WantsEither("stamp", "else")],
+                Fixed(Advice::NothingToClose),
+            ),
+            (&[Here("{"), Wants("stamp")], Fixed(Advice::NoFreeBlock)),
+            (&[Wants("else")], Fixed(Advice::ElseIsMissing)),
+        ],
+    )
 }
 
 /// What may help at a block that has no braces.
@@ -80,21 +86,19 @@ fn brace_slip(scene: &Scene, wanted: &[Wanted]) -> Option<Hint>
 pub fn body_slip(scene: &Scene, wanted: &[Wanted]) -> Option<Hint>
     ensures { result ≡ body_slip (setting scene.now) wanted.now }
 {
-    first_that_fits(&[
-        (
-            is_one_of(scene.here(), &["then", "do"]) & wants(wanted, "{"),
-            Hint::Quoting(Quote::NoThen),
-        ),
-        (
-            wants(wanted, "{")
-                & (((scene.is_name() & scene.is_after(1, "="))
-                    | is_one_of(scene.here(), &["put", "stamp", "clear", "out"]))
-                    & has(scene, Part::ToSemicolon)),
-            Hint::Rewriting(Rewrite::InBraces),
-        ),
-        (
-            wants(wanted, "{") & (scene.is_name() | scene.is_keyword()),
-            Hint::Fixed(Advice::BlockInBraces),
-        ),
-    ])
+    first_that_fits(
+        scene,
+        wanted,
+        &[
+            (
+                &[HereOneOf(&["then", "do"]), Wants("{")],
+                Quoting(Quote::NoThen),
+            ),
+            (
+                &[Wants("{"), Is(BeginsSimple), Has(ToSemicolon)],
+                Rewriting(Rewrite::InBraces),
+            ),
+            (&[Wants("{"), Is(Word)], Fixed(Advice::BlockInBraces)),
+        ],
+    )
 }

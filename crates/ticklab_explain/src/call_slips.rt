@@ -4,13 +4,17 @@ ghost use Rattle.ticklab_explain.specs.CallSlips.{call_slip, comma_slip, lack_sl
 ghost use Rattle.ticklab_explain.specs.Settings.{setting};
 
 use crate::advice::Advice;
-use crate::grammar_slips::wants;
+use crate::condition::Condition::{
+    After, Before, BeforeOneOf, Has, Here, Is, NameAfter, NameBefore, NotAfter, Wants,
+};
+use crate::fact::Fact::Name;
+use crate::hint::Hint::{Fixed, Quoting, Rewriting};
 use crate::hint::{Hint, first_that_fits};
-use crate::part::{Part, has};
+use crate::part::Part::OperandAfter;
 use crate::quote::Quote;
 use crate::rewrite::Rewrite;
 use crate::scene::Scene;
-use crate::wanted::{Wanted, is_one_of};
+use crate::wanted::Wanted;
 
 /// What may help at a slip of operands.
 #[tactic(auto, unfolding(crate::specs::CallSlips::call_slip))]
@@ -27,29 +31,29 @@ pub fn call_slip(scene: &Scene, wanted: &[Wanted]) -> Option<Hint>
 fn round_slip(scene: &Scene, wanted: &[Wanted]) -> Option<Hint>
     ensures { result ≡ round_slip (setting scene.now) wanted.now }
 {
-    first_that_fits(&[
-        (
-            scene.is_here("(") & is_one_of(scene.before(1), &["stamp", "clear"]),
-            Hint::Rewriting(Rewrite::NoArguments),
-        ),
-        (
-            scene.is_here("(") & (scene.is_before(1, "scan") & scene.is_before(2, "=")),
-            Hint::Rewriting(Rewrite::PlainScan),
-        ),
-        (
-            scene.is_name()
-                & (scene.is_before(1, "scan") & (scene.is_before(2, "=") & scene.is_after(1, ";"))),
-            Hint::Rewriting(Rewrite::PlainScan),
-        ),
-        (
-            scene.is_here("(") & (wants(wanted, ";") & scene.is_name_before(1)),
-            Hint::Quoting(Quote::NoFunctions),
-        ),
-        (
-            scene.is_here(",") & wants(wanted, "me"),
-            Hint::Fixed(Advice::NoCommas),
-        ),
-    ])
+    first_that_fits(
+        scene,
+        wanted,
+        &[
+            (
+                &[Here("("), BeforeOneOf(1, &["stamp", "clear"])],
+                Rewriting(Rewrite::NoArguments),
+            ),
+            (
+                &[Here("("), Before(1, "scan"), Before(2, "=")],
+                Rewriting(Rewrite::PlainScan),
+            ),
+            (
+                &[Is(Name), Before(1, "scan"), Before(2, "="), After(1, ";")],
+                Rewriting(Rewrite::PlainScan),
+            ),
+            (
+                &[Here("("), Wants(";"), NameBefore(1)],
+                Quoting(Quote::NoFunctions),
+            ),
+            (&[Here(","), Wants("me")], Fixed(Advice::NoCommas)),
+        ],
+    )
 }
 
 // Of operands in brackets.
@@ -57,25 +61,38 @@ fn round_slip(scene: &Scene, wanted: &[Wanted]) -> Option<Hint>
 fn comma_slip(scene: &Scene, wanted: &[Wanted]) -> Option<Hint>
     ensures { result ≡ comma_slip (setting scene.now) wanted.now }
 {
-    first_that_fits(&[
-        (
-            scene.is_here("(")
-                & (is_one_of(scene.before(1), &["get", "held", "put"])
-                    & (scene.is_after(2, ",") & scene.is_after(4, ")"))),
-            Hint::Rewriting(Rewrite::CallOfTwo),
-        ),
-        (
-            scene.is_here("(")
-                & (scene.is_before(1, "older")
-                    & (scene.is_after(2, ",") & (scene.is_after(4, ",") & scene.is_after(6, ")")))),
-            Hint::Rewriting(Rewrite::CallOfThree),
-        ),
-        (
-            scene.is_here("(")
-                & is_one_of(scene.before(1), &["get", "held", "older", "copy", "put"]),
-            Hint::Quoting(Quote::NoCall),
-        ),
-    ])
+    first_that_fits(
+        scene,
+        wanted,
+        &[
+            (
+                &[
+                    Here("("),
+                    BeforeOneOf(1, &["get", "held", "put"]),
+                    After(2, ","),
+                    After(4, ")"),
+                ],
+                Rewriting(Rewrite::CallOfTwo),
+            ),
+            (
+                &[
+                    Here("("),
+                    Before(1, "older"),
+                    After(2, ","),
+                    After(4, ","),
+                    After(6, ")"),
+                ],
+                Rewriting(Rewrite::CallOfThree),
+            ),
+            (
+                &[
+                    Here("("),
+                    BeforeOneOf(1, &["get", "held", "older", "copy", "put"]),
+                ],
+                Quoting(Quote::NoCall),
+            ),
+        ],
+    )
 }
 
 // Of an operand that lacks.
@@ -83,32 +100,36 @@ fn comma_slip(scene: &Scene, wanted: &[Wanted]) -> Option<Hint>
 fn lack_slip(scene: &Scene, wanted: &[Wanted]) -> Option<Hint>
     ensures { result ≡ lack_slip (setting scene.now) wanted.now }
 {
-    first_that_fits(&[
-        (
-            scene.is_here(";") & (wants(wanted, "me") & scene.is_before(2, "held")),
-            Hint::Rewriting(Rewrite::HeldWantsProcess),
-        ),
-        (
-            scene.is_here(";") & (wants(wanted, "me") & scene.is_before(2, "older")),
-            Hint::Rewriting(Rewrite::OlderWantsBoth),
-        ),
-        (
-            scene.is_here(";") & (wants(wanted, "me") & scene.is_before(3, "older")),
-            Hint::Rewriting(Rewrite::OlderWantsSecond),
-        ),
-        (
-            scene.is_here(";") & (wants(wanted, "me") & scene.is_before(2, "put")),
-            Hint::Rewriting(Rewrite::PutWantsValue),
-        ),
-        (
-            wants(wanted, "x") & scene.is_before(1, "older"),
-            Hint::Fixed(Advice::OlderWantsScan),
-        ),
-        (
-            wants(wanted, "x") & scene.is_before(1, "held"),
-            Hint::Fixed(Advice::HeldWantsScan),
-        ),
-    ])
+    first_that_fits(
+        scene,
+        wanted,
+        &[
+            (
+                &[Here(";"), Wants("me"), Before(2, "held")],
+                Rewriting(Rewrite::HeldWantsProcess),
+            ),
+            (
+                &[Here(";"), Wants("me"), Before(2, "older")],
+                Rewriting(Rewrite::OlderWantsBoth),
+            ),
+            (
+                &[Here(";"), Wants("me"), Before(3, "older")],
+                Rewriting(Rewrite::OlderWantsSecond),
+            ),
+            (
+                &[Here(";"), Wants("me"), Before(2, "put")],
+                Rewriting(Rewrite::PutWantsValue),
+            ),
+            (
+                &[Wants("x"), Before(1, "older")],
+                Fixed(Advice::OlderWantsScan),
+            ),
+            (
+                &[Wants("x"), Before(1, "held")],
+                Fixed(Advice::HeldWantsScan),
+            ),
+        ],
+    )
 }
 
 // Of `put`.
@@ -116,24 +137,37 @@ fn lack_slip(scene: &Scene, wanted: &[Wanted]) -> Option<Hint>
 fn put_slip(scene: &Scene, wanted: &[Wanted]) -> Option<Hint>
     ensures { result ≡ put_slip (setting scene.now) wanted.now }
 {
-    first_that_fits(&[
-        (
-            scene.is_here("=")
-                & (wants(wanted, "me")
-                    & (scene.is_before(2, "put") & has(scene, Part::OperandAfter(1)))),
-            Hint::Rewriting(Rewrite::PutPlain),
-        ),
-        (
-            wants(wanted, "x")
-                & (scene.is_before(1, "put")
-                    & (has(scene, Part::OperandAfter(0)) & scene.is_name_after(1))),
-            Hint::Rewriting(Rewrite::RegisterFirst),
-        ),
-        (
-            wants(wanted, ";")
-                & (scene.is_before(3, "put")
-                    & (has(scene, Part::OperandAfter(0)) & !scene.is_after(1, "="))),
-            Hint::Rewriting(Rewrite::OwnRegister),
-        ),
-    ])
+    first_that_fits(
+        scene,
+        wanted,
+        &[
+            (
+                &[
+                    Here("="),
+                    Wants("me"),
+                    Before(2, "put"),
+                    Has(OperandAfter(1)),
+                ],
+                Rewriting(Rewrite::PutPlain),
+            ),
+            (
+                &[
+                    Wants("x"),
+                    Before(1, "put"),
+                    Has(OperandAfter(0)),
+                    NameAfter(1),
+                ],
+                Rewriting(Rewrite::RegisterFirst),
+            ),
+            (
+                &[
+                    Wants(";"),
+                    Before(3, "put"),
+                    Has(OperandAfter(0)),
+                    NotAfter(1, "="),
+                ],
+                Rewriting(Rewrite::OwnRegister),
+            ),
+        ],
+    )
 }

@@ -4,9 +4,13 @@ ghost use Rattle.ticklab_explain.specs.DeclarationSlips.{declaration_slip, names
 ghost use Rattle.ticklab_explain.specs.Settings.{setting};
 
 use crate::advice::Advice;
-use crate::grammar_slips::wants;
+use crate::condition::Condition::{
+    After, Before, Has, Here, Is, NameAfter, Not, Wants, WantsEither,
+};
+use crate::fact::Fact::{Begun, Keyword, Name};
+use crate::hint::Hint::{Fixed, Rewriting};
 use crate::hint::{Hint, first_that_fits};
-use crate::part::{Part, has};
+use crate::part::Part::OperandAfter;
 use crate::rewrite::Rewrite;
 use crate::scene::Scene;
 use crate::wanted::Wanted;
@@ -24,29 +28,23 @@ pub fn declaration_slip(scene: &Scene, wanted: &[Wanted]) -> Option<Hint>
 fn names_slip(scene: &Scene, wanted: &[Wanted]) -> Option<Hint>
     ensures { result ≡ names_slip (setting scene.now) wanted.now }
 {
-    first_that_fits(&[
-        (
-            wants(wanted, ",") & scene.is_name(),
-            Hint::Rewriting(Rewrite::CommaBetween),
-        ),
-        (
-            wants(wanted, ",") & scene.is_here("="),
-            Hint::Fixed(Advice::AllBeginAsZero),
-        ),
-        (
-            wants(wanted, ",") & scene.is_here("-"),
-            Hint::Fixed(Advice::NameLetters),
-        ),
-        (
-            wants(wanted, "x") & (scene.is_here(";") & scene.is_before(1, ",")),
-            Hint::Fixed(Advice::NoLastComma),
-        ),
-        (
-            wants(wanted, "x")
-                & (!scene.has_begun() & (has(scene, Part::OperandAfter(0)) & !scene.is_keyword())),
-            Hint::Fixed(Advice::NameBegins),
-        ),
-    ])
+    first_that_fits(
+        scene,
+        wanted,
+        &[
+            (&[Wants(","), Is(Name)], Rewriting(Rewrite::CommaBetween)),
+            (&[Wants(","), Here("=")], Fixed(Advice::AllBeginAsZero)),
+            (&[Wants(","), Here("-")], Fixed(Advice::NameLetters)),
+            (
+                &[Wants("x"), Here(";"), Before(1, ",")],
+                Fixed(Advice::NoLastComma),
+            ),
+            (
+                &[Wants("x"), Not(Begun), Has(OperandAfter(0)), Not(Keyword)],
+                Fixed(Advice::NameBegins),
+            ),
+        ],
+    )
 }
 
 // Of sections.
@@ -54,19 +52,22 @@ fn names_slip(scene: &Scene, wanted: &[Wanted]) -> Option<Hint>
 fn section_slip(scene: &Scene, wanted: &[Wanted]) -> Option<Hint>
     ensures { result ≡ section_slip (setting scene.now) wanted.now }
 {
-    first_that_fits(&[
-        (
-            wants(wanted, "var")
-                & (scene.is_name() & (scene.is_name_after(1) & scene.is_after(2, ";"))),
-            Hint::Rewriting(Rewrite::DeclaredByVar),
-        ),
-        (
-            wants(wanted, "begin") & (scene.is_name() & scene.is_name_after(1)),
-            Hint::Fixed(Advice::SectionWords),
-        ),
-        (
-            wants(wanted, "processes") | wants(wanted, "0"),
-            Hint::Fixed(Advice::ProgramBegins),
-        ),
-    ])
+    first_that_fits(
+        scene,
+        wanted,
+        &[
+            (
+                &[Wants("var"), Is(Name), NameAfter(1), After(2, ";")],
+                Rewriting(Rewrite::DeclaredByVar),
+            ),
+            (
+                &[Wants("begin"), Is(Name), NameAfter(1)],
+                Fixed(Advice::SectionWords),
+            ),
+            (
+                &[WantsEither("processes", "0")],
+                Fixed(Advice::ProgramBegins),
+            ),
+        ],
+    )
 }

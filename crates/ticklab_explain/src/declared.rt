@@ -3,8 +3,9 @@ ghost use Rattle.std.specs.Prelude.{◌≡◌, ◌++◌, OnOk, codes, false, if�
 ghost use Rattle.ticklab_explain.specs.Hints.{declared_in, declared_names, no_names, section_name};
 ghost use Rattle.ticklab_explain.specs.Settings.{setting};
 
-use crate::grammar_slips::is_section;
+use crate::fact::is_section;
 use crate::scene::{Scene, is_name, text_at};
+use crate::words::beside;
 use crate::writing::Added;
 use tick_syntax::token::Token;
 
@@ -67,9 +68,6 @@ fn push_name(text: &mut String, is_next: bool, name: &str) -> Added
 fn section_name(keyword: &str) -> &'static str
     ensures { result.now ≡ section_name keyword.now }
 {
-    match keyword {
-        "var" => "variables",
-        "scan" => "scans",
-        _ => "registers",
-    }
+    let rows = [("var", "variables"), ("scan", "scans")];
+    beside(&rows, keyword, "registers")
 }

@@ -1,28 +1,22 @@
 // Common slips at a token where no program goes on, known by the tokens around the place.
 ghost use Rattle.std.specs.Prelude.{◌≡◌};
 ghost use Rattle.ticklab_explain.specs.Choosing.{foreign_slip, keyword_slip, missing_slip, place_slip, sign_hint, slip, whole_slip, word_hint};
-ghost use Rattle.ticklab_explain.specs.Hints.{is_section};
-ghost use Rattle.ticklab_explain.specs.Rules.{wants};
 ghost use Rattle.ticklab_explain.specs.Settings.{setting};
 
 use crate::advice::Advice;
 use crate::block_slips::{block_slip, body_slip};
 use crate::call_slips::call_slip;
+use crate::condition::Condition::{Before, Here, HereOneOf, Is, NotBefore, Wants, WantsEither};
 use crate::declaration_slips::declaration_slip;
+use crate::fact::Fact::{AtEnd, AtStart, Empty, EndsStatement, Keyword, Name, Section, Touches};
+use crate::hint::Hint::{Fixed, Quoting};
 use crate::hint::{Hint, first_that_fits};
 use crate::operand_slips::operand_slip;
 use crate::quote::Quote;
 use crate::scene::Scene;
 use crate::sign_slips::{operator_slip, sign_slip};
 use crate::statement_slips::{other_slip, statement_slip};
-use crate::wanted::{Wanted, is_one_of};
-
-/// Whether a token is wanted that is told by this sample.
-pub fn wants(wanted: &[Wanted], sample: &str) -> bool
-    ensures { result ≡ wants wanted.now sample.now }
-{
-    wanted.iter().any(|one| one.sample() == sample)
-}
+use crate::wanted::Wanted;
 
 /// What may help: the first that fits.
 #[tactic(auto, unfolding(crate::specs::Choosing::slip))]
@@ -55,21 +49,19 @@ fn sign_hint(scene: &Scene, wanted: &[Wanted]) -> Option<Hint>
 fn whole_slip(scene: &Scene, wanted: &[Wanted]) -> Option<Hint>
     ensures { result ≡ whole_slip (setting scene.now) wanted.now }
 {
-    first_that_fits(&[
-        (scene.tokens.is_empty(), Hint::Fixed(Advice::EmptyText)),
-        (
-            (scene.at == 0) & scene.is_here("tickcode"),
-            Hint::Fixed(Advice::CodeText),
-        ),
-        (
-            scene.is_before(1, "end"),
-            Hint::Fixed(Advice::NothingFollows),
-        ),
-        (
-            scene.is_at_end() & (wants(wanted, "end") | wants(wanted, "=")),
-            Hint::Fixed(Advice::EndIsMissing),
-        ),
-    ])
+    first_that_fits(
+        scene,
+        wanted,
+        &[
+            (&[Is(Empty)], Fixed(Advice::EmptyText)),
+            (&[Is(AtStart), Here("tickcode")], Fixed(Advice::CodeText)),
+            (&[Before(1, "end")], Fixed(Advice::NothingFollows)),
+            (
+                &[Is(AtEnd), WantsEither("end", "=")],
+                Fixed(Advice::EndIsMissing),
+            ),
+        ],
+    )
 }
 
 // Words that other languages have.
@@ -77,15 +69,19 @@ fn whole_slip(scene: &Scene, wanted: &[Wanted]) -> Option<Hint>
 fn foreign_slip(scene: &Scene) -> Option<Hint>
     ensures { result ≡ foreign_slip (setting scene.now) }
 {
-    first_that_fits(&[
-        (scene.is_before(1, "not"), Hint::Quoting(Quote::NotWord)),
-        (scene.is_before(1, "await"), Hint::Quoting(Quote::Await)),
-        (scene.is_before(1, "and"), Hint::Fixed(Advice::NoAnd)),
-        (scene.is_here("const"), Hint::Fixed(Advice::NoConstants)),
-        (scene.is_here("and"), Hint::Fixed(Advice::NoAnd)),
-        (scene.is_here("or"), Hint::Fixed(Advice::NoOr)),
-        (scene.is_here("mod"), Hint::Fixed(Advice::RemainderSign)),
-    ])
+    first_that_fits(
+        scene,
+        &[],
+        &[
+            (&[Before(1, "not")], Quoting(Quote::NotWord)),
+            (&[Before(1, "await")], Quoting(Quote::Await)),
+            (&[Before(1, "and")], Fixed(Advice::NoAnd)),
+            (&[Here("const")], Fixed(Advice::NoConstants)),
+            (&[Here("and")], Fixed(Advice::NoAnd)),
+            (&[Here("or")], Fixed(Advice::NoOr)),
+            (&[Here("mod")], Fixed(Advice::RemainderSign)),
+        ],
+    )
 }
 
 // Keywords at places of names and values.
@@ -93,22 +89,24 @@ fn foreign_slip(scene: &Scene) -> Option<Hint>
 fn keyword_slip(scene: &Scene, wanted: &[Wanted]) -> Option<Hint>
     ensures { result ≡ keyword_slip (setting scene.now) wanted.now }
 {
-    let here = scene.here();
-    let is_value = wants(wanted, "me") | wants(wanted, "get");
-    first_that_fits(&[
-        (
-            scene.is_keyword() & wants(wanted, "x"),
-            Hint::Quoting(Quote::Keyword),
-        ),
-        (
-            is_one_of(here, &["stamp", "clear"]) & is_value,
-            Hint::Quoting(Quote::NoValue),
-        ),
-        (
-            is_one_of(here, &["older", "held", "get", "scan", "copy"]) & wants(wanted, "me"),
-            Hint::Quoting(Quote::OwnStatement),
-        ),
-    ])
+    first_that_fits(
+        scene,
+        wanted,
+        &[
+            (&[Is(Keyword), Wants("x")], Quoting(Quote::Keyword)),
+            (
+                &[HereOneOf(&["stamp", "clear"]), WantsEither("me", "get")],
+                Quoting(Quote::NoValue),
+            ),
+            (
+                &[
+                    HereOneOf(&["older", "held", "get", "scan", "copy"]),
+                    Wants("me"),
+                ],
+                Quoting(Quote::OwnStatement),
+            ),
+        ],
+    )
 }
 
 // What the place wants first.
@@ -116,25 +114,18 @@ fn keyword_slip(scene: &Scene, wanted: &[Wanted]) -> Option<Hint>
 fn place_slip(scene: &Scene, wanted: &[Wanted]) -> Option<Hint>
     ensures { result ≡ place_slip (setting scene.now) wanted.now }
 {
-    first_that_fits(&[
-        (
-            wants(wanted, "me") & scene.is_before(2, "get"),
-            Hint::Quoting(Quote::GetWantsProcess),
-        ),
-        (
-            wants(wanted, "begin") & is_section(scene.here()),
-            Hint::Fixed(Advice::SectionOrder),
-        ),
-        (wants(wanted, "begin"), Hint::Fixed(Advice::BeginIsMissing)),
-    ])
-}
-
-/// Whether a word begins a section.
-#[tactic(auto, unfolding(crate::specs::Hints::is_section))]
-pub fn is_section(word: &str) -> bool
-    ensures { result ≡ is_section word.now }
-{
-    (word == "var") | (word == "scan") | (word == "reg")
+    first_that_fits(
+        scene,
+        wanted,
+        &[
+            (
+                &[Wants("me"), Before(2, "get")],
+                Quoting(Quote::GetWantsProcess),
+            ),
+            (&[Wants("begin"), Is(Section)], Fixed(Advice::SectionOrder)),
+            (&[Wants("begin")], Fixed(Advice::BeginIsMissing)),
+        ],
+    )
 }
 
 // A letter in a number, and a `;` that was left out, told where it belongs.
@@ -142,16 +133,18 @@ pub fn is_section(word: &str) -> bool
 fn missing_slip(scene: &Scene, wanted: &[Wanted]) -> Option<Hint>
     ensures { result ≡ missing_slip (setting scene.now) wanted.now }
 {
-    let is_letter = scene.is_name() & (scene.touches() & !scene.is_before(1, ")"));
-    let is_word = scene.is_name() | (scene.is_keyword() | scene.is_here("}"));
-    first_that_fits(&[
-        (
-            wants(wanted, ";") & is_letter,
-            Hint::Fixed(Advice::DecimalDigits),
-        ),
-        (
-            wants(wanted, ";") & (scene.is_at_end() | is_word),
-            Hint::Quoting(Quote::SemicolonIsMissing),
-        ),
-    ])
+    first_that_fits(
+        scene,
+        wanted,
+        &[
+            (
+                &[Wants(";"), Is(Name), Is(Touches), NotBefore(1, ")")],
+                Fixed(Advice::DecimalDigits),
+            ),
+            (
+                &[Wants(";"), Is(EndsStatement)],
+                Quoting(Quote::SemicolonIsMissing),
+            ),
+        ],
+    )
 }

@@ -1,14 +1,17 @@
 // A hint of any kind.
 ghost use Rattle.std.specs.Prelude.{◌≡◌, ◌++◌, OnOk, string_bytes};
-ghost use Rattle.ticklab_explain.specs.Rules.{first_that_fits};
+ghost use Rattle.ticklab_explain.specs.Conditions.{first_fitting};
 ghost use Rattle.ticklab_explain.specs.Hints.{hint_span, hint_text};
 ghost use Rattle.ticklab_explain.specs.Settings.{setting};
 
 use crate::advice::Advice;
+use crate::condition::{Condition, fit};
 use crate::name_hint::NameHint;
+use crate::piece::push_pieces;
 use crate::quote::Quote;
 use crate::rewrite::Rewrite;
 use crate::scene::Scene;
+use crate::wanted::Wanted;
 use crate::writing::Added;
 use base::span::Span;
 
@@ -33,8 +36,8 @@ impl Hint {
         match self {
             Hint::Fixed(advice) => text.push_str(advice.text()),
             Hint::Naming(hint) => hint.push(text, scene),
-            Hint::Quoting(quote) => quote.push(text, scene),
-            Hint::Rewriting(rewrite) => rewrite.push(text, scene),
+            Hint::Quoting(quote) => push_pieces(text, scene, quote.pieces()),
+            Hint::Rewriting(rewrite) => push_pieces(text, scene, rewrite.pieces()),
         }
     }
 
@@ -49,15 +52,15 @@ impl Hint {
     }
 }
 
-/// Whether a hint fits, and the hint.
-pub type Rule = (bool, Hint);
+/// Conditions, and the hint where all of them hold.
+pub type Rule<'a> = (&'a [Condition<'a>], Hint);
 
-/// Of rules in their order the first that fits.
-pub fn first_that_fits(rules: &[Rule]) -> Option<Hint>
-    ensures { result ≡ first_that_fits rules.now }
+/// Of rules in their order the first whose conditions hold.
+pub fn first_that_fits(scene: &Scene, wanted: &[Wanted], rules: &[Rule]) -> Option<Hint>
+    ensures { result ≡ first_fitting (setting scene.now) wanted.now rules.now }
 {
-    for (fits, hint) in rules {
-        if *fits {
+    for (conditions, hint) in rules {
+        if fit(conditions, scene, wanted) {
             return Some(*hint);
         }
     }

@@ -4,12 +4,18 @@ ghost use Rattle.ticklab_explain.specs.OperandSlips.{equals_slip, operand_slip, 
 ghost use Rattle.ticklab_explain.specs.Settings.{setting};
 
 use crate::advice::Advice;
-use crate::grammar_slips::wants;
+use crate::condition::Condition::{
+    After, Before, BeforeOneOf, Has, Here, HereOneOf, Is, NameBefore, NotBefore, Wants, WantsEither,
+};
+use crate::fact::Fact::Begun;
+use crate::hint::Hint::{Fixed, Rewriting};
 use crate::hint::{Hint, first_that_fits};
-use crate::part::{Part, has};
+use crate::part::Part::{Bracket, OperandAfter, OperandBefore};
 use crate::rewrite::Rewrite;
 use crate::scene::Scene;
-use crate::wanted::{Wanted, is_one_of};
+use crate::wanted::Wanted;
+
+const OPERATORS: [&str; 9] = ["+", "-", "*", "/", "%", "<", "<=", "==", "!="];
 
 /// What may help at a slip of brackets and operands.
 #[tactic(auto, unfolding(crate::specs::OperandSlips::operand_slip))]
@@ -24,40 +30,49 @@ pub fn operand_slip(scene: &Scene, wanted: &[Wanted]) -> Option<Hint>
 fn operation_slip(scene: &Scene, wanted: &[Wanted]) -> Option<Hint>
     ensures { result ≡ operation_slip (setting scene.now) wanted.now }
 {
-    let is_operator = is_one_of(
-        scene.here(),
-        &["+", "-", "*", "/", "%", "<", "<=", "==", "!="],
-    );
-    let ends_operand = wants(wanted, ";") | wants(wanted, "{");
-    first_that_fits(&[
-        (
-            is_operator
-                & (wants(wanted, ")")
-                    & (has(scene, Part::Bracket) & has(scene, Part::OperandAfter(1)))),
-            Hint::Rewriting(Rewrite::OneOperator),
-        ),
-        (
-            is_operator & wants(wanted, ")"),
-            Hint::Fixed(Advice::OneInBrackets),
-        ),
-        (
-            is_operator
-                & (ends_operand
-                    & (scene.has_begun()
-                        & (!scene.is_before(2, "copy")
-                            & (has(scene, Part::OperandBefore)
-                                & has(scene, Part::OperandAfter(1)))))),
-            Hint::Rewriting(Rewrite::OwnBrackets),
-        ),
-        (
-            is_operator & (ends_operand & (scene.has_begun() & has(scene, Part::OperandBefore))),
-            Hint::Fixed(Advice::OwnPair),
-        ),
-        (
-            scene.is_here(";") & (wants(wanted, ")") & has(scene, Part::Bracket)),
-            Hint::Rewriting(Rewrite::CloseBracket),
-        ),
-    ])
+    first_that_fits(
+        scene,
+        wanted,
+        &[
+            (
+                &[
+                    HereOneOf(&OPERATORS),
+                    Wants(")"),
+                    Has(Bracket),
+                    Has(OperandAfter(1)),
+                ],
+                Rewriting(Rewrite::OneOperator),
+            ),
+            (
+                &[HereOneOf(&OPERATORS), Wants(")")],
+                Fixed(Advice::OneInBrackets),
+            ),
+            (
+                &[
+                    HereOneOf(&OPERATORS),
+                    WantsEither(";", "{"),
+                    Is(Begun),
+                    NotBefore(2, "copy"),
+                    Has(OperandBefore),
+                    Has(OperandAfter(1)),
+                ],
+                Rewriting(Rewrite::OwnBrackets),
+            ),
+            (
+                &[
+                    HereOneOf(&OPERATORS),
+                    WantsEither(";", "{"),
+                    Is(Begun),
+                    Has(OperandBefore),
+                ],
+                Fixed(Advice::OwnPair),
+            ),
+            (
+                &[Here(";"), Wants(")"), Has(Bracket)],
+                Rewriting(Rewrite::CloseBracket),
+            ),
+        ],
+    )
 }
 
 // Of brackets without an operation.
@@ -65,30 +80,33 @@ fn operation_slip(scene: &Scene, wanted: &[Wanted]) -> Option<Hint>
 fn plain_slip(scene: &Scene, wanted: &[Wanted]) -> Option<Hint>
     ensures { result ≡ plain_slip (setting scene.now) wanted.now }
 {
-    let closes_one = scene.is_here(")") & wants(wanted, "+");
-    first_that_fits(&[
-        (
-            closes_one & (scene.is_before(2, "(") & scene.is_before(3, "=")),
-            Hint::Rewriting(Rewrite::PlainAssigned),
-        ),
-        (
-            closes_one
-                & (scene.is_before(2, "(")
-                    & is_one_of(
-                        scene.before(3),
-                        &["(", "+", "-", "*", "/", "%", "<", "<=", "==", "!="],
-                    )),
-            Hint::Rewriting(Rewrite::PlainOperand),
-        ),
-        (
-            closes_one & scene.is_before(2, "("),
-            Hint::Rewriting(Rewrite::PlainAfter),
-        ),
-        (
-            closes_one & has(scene, Part::OperandBefore),
-            Hint::Rewriting(Rewrite::OnePair),
-        ),
-    ])
+    first_that_fits(
+        scene,
+        wanted,
+        &[
+            (
+                &[Here(")"), Wants("+"), Before(2, "("), Before(3, "=")],
+                Rewriting(Rewrite::PlainAssigned),
+            ),
+            (
+                &[
+                    Here(")"),
+                    Wants("+"),
+                    Before(2, "("),
+                    BeforeOneOf(3, &["(", "+", "-", "*", "/", "%", "<", "<=", "==", "!="]),
+                ],
+                Rewriting(Rewrite::PlainOperand),
+            ),
+            (
+                &[Here(")"), Wants("+"), Before(2, "(")],
+                Rewriting(Rewrite::PlainAfter),
+            ),
+            (
+                &[Here(")"), Wants("+"), Has(OperandBefore)],
+                Rewriting(Rewrite::OnePair),
+            ),
+        ],
+    )
 }
 
 // Of an equals sign too many.
@@ -96,24 +114,34 @@ fn plain_slip(scene: &Scene, wanted: &[Wanted]) -> Option<Hint>
 fn equals_slip(scene: &Scene, wanted: &[Wanted]) -> Option<Hint>
     ensures { result ≡ equals_slip (setting scene.now) wanted.now }
 {
-    first_that_fits(&[
-        (
-            scene.is_here("=")
-                & (wants(wanted, "{")
-                    & (has(scene, Part::OperandBefore) & has(scene, Part::OperandAfter(1)))),
-            Hint::Rewriting(Rewrite::ComparedByTwo),
-        ),
-        (
-            scene.is_here("=")
-                & (wants(wanted, ";")
-                    & (scene.is_before(2, "=")
-                        & (scene.is_name_before(1)
-                            & (has(scene, Part::OperandAfter(1)) & scene.is_after(2, ";"))))),
-            Hint::Rewriting(Rewrite::OneByOne),
-        ),
-        (
-            scene.is_here("=") & (wants(wanted, ";") & scene.is_before(2, "=")),
-            Hint::Fixed(Advice::OneAssignment),
-        ),
-    ])
+    first_that_fits(
+        scene,
+        wanted,
+        &[
+            (
+                &[
+                    Here("="),
+                    Wants("{"),
+                    Has(OperandBefore),
+                    Has(OperandAfter(1)),
+                ],
+                Rewriting(Rewrite::ComparedByTwo),
+            ),
+            (
+                &[
+                    Here("="),
+                    Wants(";"),
+                    Before(2, "="),
+                    NameBefore(1),
+                    Has(OperandAfter(1)),
+                    After(2, ";"),
+                ],
+                Rewriting(Rewrite::OneByOne),
+            ),
+            (
+                &[Here("="), Wants(";"), Before(2, "=")],
+                Fixed(Advice::OneAssignment),
+            ),
+        ],
+    )
 }

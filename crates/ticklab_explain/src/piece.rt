@@ -7,6 +7,7 @@ ghost use Rattle.ticklab_explain.specs.Settings.{setting};
 
 use crate::part::{Part, push_part};
 use crate::scene::Scene;
+use crate::words::beside;
 use crate::writing::Added;
 
 /// Words, or what is quoted of the text about the place.
@@ -75,27 +76,27 @@ fn or<'a>(word: &'a str, other: &'a str) -> &'a str
 
 // What a keyword means that looks like a name.
 #[tactic(auto, unfolding(crate::specs::Hints::meaning))]
-fn meaning<'a>(keyword: &'a str) -> &'a str
+fn meaning(keyword: &str) -> &'static str
     ensures { result.now ≡ meaning keyword.now }
 {
-    match keyword {
-        "n" => ", the number of processes",
-        "me" => ", the number of the process itself",
-        _ => "",
-    }
+    let rows = [
+        ("n", ", the number of processes"),
+        ("me", ", the number of the process itself"),
+    ];
+    beside(&rows, keyword, "")
 }
 
 // A statement of a keyword that has operands, or gives a scan.
 #[tactic(auto, unfolding(crate::specs::Hints::statement_of))]
-fn statement_of<'a>(keyword: &'a str) -> &'a str
+fn statement_of(keyword: &str) -> &'static str
     ensures { result.now ≡ statement_of keyword.now }
 {
-    match keyword {
-        "older" => "x = older s 0 1;",
-        "held" => "x = held s 0;",
-        "get" => "x = get r me;",
-        "put" => "put r 1;",
-        "scan" => "s = scan;",
-        _ => "t = copy s;",
-    }
+    let rows = [
+        ("older", "x = older s 0 1;"),
+        ("held", "x = held s 0;"),
+        ("get", "x = get r me;"),
+        ("put", "put r 1;"),
+        ("scan", "s = scan;"),
+    ];
+    beside(&rows, keyword, "t = copy s;")
 }

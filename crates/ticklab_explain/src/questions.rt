@@ -20,8 +20,9 @@ pub fn explain_question(
 ) -> Result<Vec<u8>, NoMemory>
     ensures { IfOk result (λ report. IsQuestionReport name.now text.now fault report.items) }
 {
-    let mut report = point(alloc, name, text, span_of(fault), message_of(fault))?;
-    push_help(&mut report, fault)?;
+    let (span, message, help) = told(fault);
+    let mut report = point(alloc, name, text, span, message)?;
+    push_help(&mut report, help)?;
     Ok(report)
 }
 
@@ -40,76 +41,76 @@ pub fn point(
     Ok(told)
 }
 
-fn push_help(report: &mut Vec<u8>, fault: QuestionFault) -> Added
-    ensures { OnOk result (report.new.items ≡ report.old.items ++ (codes "hint: " ++ question_hint fault ++ line_end)) }
+fn push_help(report: &mut Vec<u8>, hint: &str) -> Added
+    ensures { OnOk result (report.new.items ≡ report.old.items ++ (codes "hint: " ++ hint.now ++ line_end)) }
 {
     push(report, "hint: ")?;
-    push(report, hint_of(fault))?;
+    push(report, hint)?;
     push(report, "\n")
 }
 
-// Where the fault is. Want of memory has no place.
-fn span_of(fault: QuestionFault) -> Span
-    ensures { result ≡ question_span fault }
+// What is told of a fault: where it is, what is wrong, and what may help. Want of memory has no place.
+fn told(fault: QuestionFault) -> (Span, &'static str, &'static str)
+    ensures span { result.0 ≡ question_span fault }
+    ensures message { result.1.now ≡ question_message fault }
+    ensures hint { result.2.now ≡ question_hint fault }
 {
     match fault {
-        QuestionFault::BadCharacter(span)
-        | QuestionFault::NumberTooBig(span)
-        | QuestionFault::Unexpected(span)
-        | QuestionFault::TooDeep(span)
-        | QuestionFault::Unknown(span)
-        | QuestionFault::NotShared(span)
-        | QuestionFault::Twice(span)
-        | QuestionFault::TwoMeanings(span)
-        | QuestionFault::NoSuchProcess(span)
-        | QuestionFault::NoSuchWord(span)
-        | QuestionFault::EndsTwice(span) => span,
-        QuestionFault::NoMemory => Span { start: 0, end: 0 },
-    }
-}
-
-fn message_of(fault: QuestionFault) -> &'static str
-    ensures { result.now ≡ question_message fault }
-{
-    match fault {
-        QuestionFault::BadCharacter(_) => "no question has this character",
-        QuestionFault::NumberTooBig(_) => "this number is above 4294967295",
-        QuestionFault::Unexpected(_) => "a question can't go on with this",
-        QuestionFault::TooDeep(_) => "this is nested too deeply",
-        QuestionFault::Unknown(_) => "nothing has this name",
-        QuestionFault::NotShared(_) => "no other process sees this",
-        QuestionFault::Twice(_) => "this name has a meaning already",
-        QuestionFault::TwoMeanings(_) => "this word names a register row too",
-        QuestionFault::NoSuchProcess(_) => "there is no process of this number",
-        QuestionFault::NoSuchWord(_) => "no question begins with this word",
-        QuestionFault::EndsTwice(_) => "a line above says already who has to end",
-        QuestionFault::NoMemory => "out of memory",
-    }
-}
-
-fn hint_of(fault: QuestionFault) -> &'static str
-    ensures { result.now ≡ question_hint fault }
-{
-    match fault {
-        QuestionFault::BadCharacter(_) => {
-            "a question has names, numbers, brackets, and the operators of the language"
-        }
-        QuestionFault::NumberTooBig(_) => "numbers go up to 4294967295",
-        QuestionFault::Unexpected(_) => {
-            "an operation in another has brackets of its own, as in `1 < (sum p: row[p])`"
-        }
-        QuestionFault::TooDeep(_) => {
-            "there are at most 64 levels, 64 times `and` or `or` in a row, and 8 names at once"
-        }
-        QuestionFault::Unknown(_) => {
-            "a question sees register rows, and `held`, `older`, `ended` and `trapped`"
-        }
-        QuestionFault::NotShared(_) => "write it into a register row, and ask for the row",
-        QuestionFault::Twice(_) => "take another name",
-        QuestionFault::TwoMeanings(_) => "give the register row another name",
-        QuestionFault::NoSuchProcess(_) => "processes are counted from 0",
-        QuestionFault::NoSuchWord(_) => "behind `#!` stands `never` or `ends`",
-        QuestionFault::EndsTwice(_) => "one line names all of them, as `#! ends 0 2`",
-        QuestionFault::NoMemory => "",
+        QuestionFault::BadCharacter(span) => (
+            span,
+            "no question has this character",
+            "a question has names, numbers, brackets, and the operators of the language",
+        ),
+        QuestionFault::NumberTooBig(span) => (
+            span,
+            "this number is above 4294967295",
+            "numbers go up to 4294967295",
+        ),
+        QuestionFault::Unexpected(span) => (
+            span,
+            "a question can't go on with this",
+            "an operation in another has brackets of its own, as in `1 < (sum p: row[p])`",
+        ),
+        QuestionFault::TooDeep(span) => (
+            span,
+            "this is nested too deeply",
+            "there are at most 64 levels, 64 times `and` or `or` in a row, and 8 names at once",
+        ),
+        QuestionFault::Unknown(span) => (
+            span,
+            "nothing has this name",
+            "a question sees register rows, and `held`, `older`, `ended` and `trapped`",
+        ),
+        QuestionFault::NotShared(span) => (
+            span,
+            "no other process sees this",
+            "write it into a register row, and ask for the row",
+        ),
+        QuestionFault::Twice(span) => (
+            span,
+            "this name has a meaning already",
+            "take another name",
+        ),
+        QuestionFault::TwoMeanings(span) => (
+            span,
+            "this word names a register row too",
+            "give the register row another name",
+        ),
+        QuestionFault::NoSuchProcess(span) => (
+            span,
+            "there is no process of this number",
+            "processes are counted from 0",
+        ),
+        QuestionFault::NoSuchWord(span) => (
+            span,
+            "no question begins with this word",
+            "behind `#!` stands `never` or `ends`",
+        ),
+        QuestionFault::EndsTwice(span) => (
+            span,
+            "a line above says already who has to end",
+            "one line names all of them, as `#! ends 0 2`",
+        ),
+        QuestionFault::NoMemory => (Span { start: 0, end: 0 }, "out of memory", ""),
     }
 }

@@ -1,15 +1,14 @@
 // Hints that quote the text about the place.
-ghost use Rattle.std.specs.Prelude.{◌≡◌, ◌++◌, OnOk, string_bytes};
+ghost use Rattle.std.specs.Prelude.{◌≡◌};
 ghost use Rattle.std.specs.List.{flat_map};
 ghost use Rattle.ticklab_explain.specs.Hints.{piece_text, quote_span, quote_text};
 ghost use Rattle.ticklab_explain.specs.Settings.{Setting, setting};
 
+use crate::piece::Piece;
 use crate::piece::Piece::{
     About, Before, Here, Left, Meaning, Right, Statement, StatementBefore, Words,
 };
-use crate::piece::{Piece, push_pieces};
 use crate::scene::Scene;
-use crate::writing::Added;
 use base::span::Span;
 
 /// What may help, in words that quote the text about the place. The last three speak of another place.
@@ -38,14 +37,8 @@ pub enum Quote {
 }
 
 impl Quote {
-    /// Adds its words.
-    pub fn push(self, text: &mut String, scene: &Scene) -> Added
-        ensures { OnOk result (string_bytes text.new ≡ string_bytes text.old ++ quote_text (setting scene.now) self) }
-    {
-        push_pieces(text, scene, self.pieces())
-    }
-
-    fn pieces(self) -> &'static [Piece]
+    /// Its words.
+    pub fn pieces(self) -> &'static [Piece]
         ensures { (s : Setting) → flat_map (piece_text s) result.now ≡ quote_text s self }
     {
         match self {

@@ -1,15 +1,13 @@
 // Hints that say what to write in the place of what stands there.
-ghost use Rattle.std.specs.Prelude.{◌≡◌, ◌++◌, OnOk, string_bytes};
+ghost use Rattle.std.specs.Prelude.{◌≡◌};
 ghost use Rattle.std.specs.List.{flat_map};
 ghost use Rattle.ticklab_explain.specs.Hints.{piece_text};
 ghost use Rattle.ticklab_explain.specs.Rewrites.{rewrite_text};
-ghost use Rattle.ticklab_explain.specs.Settings.{Setting, setting};
+ghost use Rattle.ticklab_explain.specs.Settings.{Setting};
 
 use crate::part::Part::{Bracket, OperandAfter, OperandBefore, ToSemicolon};
+use crate::piece::Piece;
 use crate::piece::Piece::{About, After, Before, Here, Right, Tokens, Words};
-use crate::piece::{Piece, push_pieces};
-use crate::scene::Scene;
-use crate::writing::Added;
 
 /// What may help, in words that say what to write. That put in place, a program is read further.
 #[derive(Clone, Copy)]
@@ -60,14 +58,8 @@ pub enum Rewrite {
 }
 
 impl Rewrite {
-    /// Adds its words.
-    pub fn push(self, text: &mut String, scene: &Scene) -> Added
-        ensures { OnOk result (string_bytes text.new ≡ string_bytes text.old ++ rewrite_text (setting scene.now) self) }
-    {
-        push_pieces(text, scene, self.pieces())
-    }
-
-    fn pieces(self) -> &'static [Piece]
+    /// Its words.
+    pub fn pieces(self) -> &'static [Piece]
         ensures { (s : Setting) → flat_map (piece_text s) result.now ≡ rewrite_text s self }
     {
         match self {

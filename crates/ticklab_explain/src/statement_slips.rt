@@ -4,13 +4,22 @@ ghost use Rattle.ticklab_explain.specs.StatementSlips.{assert_slip, begin_slip, 
 ghost use Rattle.ticklab_explain.specs.Settings.{setting};
 
 use crate::advice::Advice;
-use crate::grammar_slips::wants;
+use crate::condition::Condition::{
+    After, Before, BeforeOneOf, Has, Here, HereOneOf, Is, NameAfter, Wants,
+};
+use crate::fact::Fact::{Doubled, Keyword, Name};
+use crate::hint::Hint::{Fixed, Quoting, Rewriting};
 use crate::hint::{Hint, first_that_fits};
-use crate::part::{Part, has};
+use crate::part::Part::{OperandAfter, ToSemicolon};
 use crate::quote::Quote;
 use crate::rewrite::Rewrite;
 use crate::scene::Scene;
-use crate::wanted::{Wanted, is_one_of};
+use crate::wanted::Wanted;
+
+// Words of other languages that give a value out, and that declare a name.
+const PRINTING: [&str; 5] = ["print", "println", "printf", "write", "output"];
+
+const DECLARING: [&str; 5] = ["let", "int", "bool", "local", "auto"];
 
 /// What may help at a slip of the begin of a statement.
 #[tactic(auto, unfolding(crate::specs::StatementSlips::statement_slip))]
@@ -29,21 +38,21 @@ pub fn statement_slip(scene: &Scene, wanted: &[Wanted]) -> Option<Hint>
 fn for_slip(scene: &Scene, wanted: &[Wanted]) -> Option<Hint>
     ensures { result ≡ for_slip (setting scene.now) wanted.now }
 {
-    first_that_fits(&[
-        (
-            scene.is_before(1, "for") & (wants(wanted, "=") & scene.is_name()),
-            Hint::Rewriting(Rewrite::ForName),
-        ),
-        (
-            scene.is_before(1, "for")
-                & (wants(wanted, "=") & (scene.is_here("(") & scene.is_name_after(1))),
-            Hint::Rewriting(Rewrite::ForBracket),
-        ),
-        (
-            scene.is_before(1, "for") & wants(wanted, "="),
-            Hint::Fixed(Advice::NoFor),
-        ),
-    ])
+    first_that_fits(
+        scene,
+        wanted,
+        &[
+            (
+                &[Before(1, "for"), Wants("="), Is(Name)],
+                Rewriting(Rewrite::ForName),
+            ),
+            (
+                &[Before(1, "for"), Wants("="), Here("("), NameAfter(1)],
+                Rewriting(Rewrite::ForBracket),
+            ),
+            (&[Before(1, "for"), Wants("=")], Fixed(Advice::NoFor)),
+        ],
+    )
 }
 
 // Of words of other languages that say what has to hold.
@@ -51,9 +60,18 @@ fn for_slip(scene: &Scene, wanted: &[Wanted]) -> Option<Hint>
 fn assert_slip(scene: &Scene, wanted: &[Wanted]) -> Option<Hint>
     ensures { result ≡ assert_slip (setting scene.now) wanted.now }
 {
-    let asserts = is_one_of(scene.before(1), &["assert", "require"]);
-    let has_operand = wants(wanted, "=") & has(scene, Part::OperandAfter(0));
-    first_that_fits(&[(asserts & has_operand, Hint::Rewriting(Rewrite::Assert))])
+    first_that_fits(
+        scene,
+        wanted,
+        &[(
+            &[
+                BeforeOneOf(1, &["assert", "require"]),
+                Wants("="),
+                Has(OperandAfter(0)),
+            ],
+            Rewriting(Rewrite::Assert),
+        )],
+    )
 }
 
 // Of words of other languages that give a value out.
@@ -61,19 +79,26 @@ fn assert_slip(scene: &Scene, wanted: &[Wanted]) -> Option<Hint>
 fn print_slip(scene: &Scene, wanted: &[Wanted]) -> Option<Hint>
     ensures { result ≡ print_slip (setting scene.now) wanted.now }
 {
-    let prints = is_one_of(
-        scene.before(1),
-        &["print", "println", "printf", "write", "output"],
-    );
-    let has_operand = wants(wanted, "=") & has(scene, Part::OperandAfter(0));
-    let is_call = scene.is_here("(") & scene.is_after(2, ")");
-    first_that_fits(&[
-        (
-            prints & (has_operand & is_call),
-            Hint::Rewriting(Rewrite::PrintInner),
-        ),
-        (prints & has_operand, Hint::Rewriting(Rewrite::Print)),
-    ])
+    first_that_fits(
+        scene,
+        wanted,
+        &[
+            (
+                &[
+                    BeforeOneOf(1, &PRINTING),
+                    Wants("="),
+                    Has(OperandAfter(0)),
+                    Here("("),
+                    After(2, ")"),
+                ],
+                Rewriting(Rewrite::PrintInner),
+            ),
+            (
+                &[BeforeOneOf(1, &PRINTING), Wants("="), Has(OperandAfter(0))],
+                Rewriting(Rewrite::Print),
+            ),
+        ],
+    )
 }
 
 // Of words of other languages that declare a name.
@@ -81,15 +106,26 @@ fn print_slip(scene: &Scene, wanted: &[Wanted]) -> Option<Hint>
 fn declared_slip(scene: &Scene, wanted: &[Wanted]) -> Option<Hint>
     ensures { result ≡ declared_slip (setting scene.now) wanted.now }
 {
-    let declares = is_one_of(scene.before(1), &["let", "int", "bool", "local", "auto"]);
-    let is_name = wants(wanted, "=") & scene.is_name();
-    first_that_fits(&[
-        (
-            declares & (is_name & (scene.is_after(1, "=") & has(scene, Part::ToSemicolon))),
-            Hint::Rewriting(Rewrite::DeclaredAbove),
-        ),
-        (declares & is_name, Hint::Fixed(Advice::DeclareBefore)),
-    ])
+    first_that_fits(
+        scene,
+        wanted,
+        &[
+            (
+                &[
+                    BeforeOneOf(1, &DECLARING),
+                    Wants("="),
+                    Is(Name),
+                    After(1, "="),
+                    Has(ToSemicolon),
+                ],
+                Rewriting(Rewrite::DeclaredAbove),
+            ),
+            (
+                &[BeforeOneOf(1, &DECLARING), Wants("="), Is(Name)],
+                Fixed(Advice::DeclareBefore),
+            ),
+        ],
+    )
 }
 
 // Of words that leave a loop or a program.
@@ -97,16 +133,23 @@ fn declared_slip(scene: &Scene, wanted: &[Wanted]) -> Option<Hint>
 fn leaving_slip(scene: &Scene, wanted: &[Wanted]) -> Option<Hint>
     ensures { result ≡ leaving_slip (setting scene.now) wanted.now }
 {
-    first_that_fits(&[
-        (
-            is_one_of(scene.before(1), &["break", "continue"]) & wants(wanted, "="),
-            Hint::Fixed(Advice::LoopEnds),
-        ),
-        (
-            is_one_of(scene.before(1), &["return", "exit", "halt", "stop"]) & wants(wanted, "="),
-            Hint::Fixed(Advice::ProcessEnds),
-        ),
-    ])
+    first_that_fits(
+        scene,
+        wanted,
+        &[
+            (
+                &[BeforeOneOf(1, &["break", "continue"]), Wants("=")],
+                Fixed(Advice::LoopEnds),
+            ),
+            (
+                &[
+                    BeforeOneOf(1, &["return", "exit", "halt", "stop"]),
+                    Wants("="),
+                ],
+                Fixed(Advice::ProcessEnds),
+            ),
+        ],
+    )
 }
 
 // Of `x++` and other signs.
@@ -114,29 +157,39 @@ fn leaving_slip(scene: &Scene, wanted: &[Wanted]) -> Option<Hint>
 fn step_slip(scene: &Scene, wanted: &[Wanted]) -> Option<Hint>
     ensures { result ≡ step_slip (setting scene.now) wanted.now }
 {
-    let is_sign = is_one_of(scene.here(), &["+", "-"]);
-    first_that_fits(&[
-        (
-            is_sign
-                & (wants(wanted, "=") & (scene.is_after(1, scene.here()) & scene.is_after(2, ";"))),
-            Hint::Rewriting(Rewrite::Increment),
-        ),
-        (
-            is_sign
-                & (wants(wanted, "stamp")
-                    & (scene.is_after(1, scene.here())
-                        & (scene.is_name_after(2) & scene.is_after(3, ";")))),
-            Hint::Rewriting(Rewrite::IncrementAfter),
-        ),
-        (
-            scene.is_here("-") & (wants(wanted, "stamp") & scene.is_after(1, "-")),
-            Hint::Fixed(Advice::CommentSign),
-        ),
-        (
-            scene.is_here("<") & (wants(wanted, "=") & scene.is_after(1, "-")),
-            Hint::Fixed(Advice::Assigns),
-        ),
-    ])
+    first_that_fits(
+        scene,
+        wanted,
+        &[
+            (
+                &[
+                    HereOneOf(&["+", "-"]),
+                    Wants("="),
+                    Is(Doubled),
+                    After(2, ";"),
+                ],
+                Rewriting(Rewrite::Increment),
+            ),
+            (
+                &[
+                    HereOneOf(&["+", "-"]),
+                    Wants("stamp"),
+                    Is(Doubled),
+                    NameAfter(2),
+                    After(3, ";"),
+                ],
+                Rewriting(Rewrite::IncrementAfter),
+            ),
+            (
+                &[Here("-"), Wants("stamp"), After(1, "-")],
+                Fixed(Advice::CommentSign),
+            ),
+            (
+                &[Here("<"), Wants("="), After(1, "-")],
+                Fixed(Advice::Assigns),
+            ),
+        ],
+    )
 }
 
 // Of what begins no statement.
@@ -144,38 +197,41 @@ fn step_slip(scene: &Scene, wanted: &[Wanted]) -> Option<Hint>
 fn begin_slip(scene: &Scene, wanted: &[Wanted]) -> Option<Hint>
     ensures { result ≡ begin_slip (setting scene.now) wanted.now }
 {
-    first_that_fits(&[
-        (
-            scene.is_keyword() & (wants(wanted, "stamp") & scene.is_after(1, "=")),
-            Hint::Quoting(Quote::Keyword),
-        ),
-        (
-            scene.is_here("=") & is_one_of(scene.before(1), &["put", "out", "if", "while"]),
-            Hint::Quoting(Quote::KeywordBefore),
-        ),
-        (
-            is_one_of(scene.here(), &["get", "held", "older"])
-                & (wants(wanted, "stamp") & has(scene, Part::ToSemicolon)),
-            Hint::Rewriting(Rewrite::TakesValue),
-        ),
-        (
-            scene.is_here("copy") & (wants(wanted, "stamp") & has(scene, Part::ToSemicolon)),
-            Hint::Rewriting(Rewrite::CopiedTo),
-        ),
-        (
-            scene.is_here("scan")
-                & (wants(wanted, "stamp") & (scene.is_name_after(1) & scene.is_after(2, ";"))),
-            Hint::Rewriting(Rewrite::ScanInto),
-        ),
-        (
-            scene.is_here("scan") & wants(wanted, "stamp"),
-            Hint::Fixed(Advice::ScanFirst),
-        ),
-        (
-            is_one_of(scene.here(), &["var", "reg"]) & wants(wanted, "stamp"),
-            Hint::Fixed(Advice::DeclareBefore),
-        ),
-    ])
+    first_that_fits(
+        scene,
+        wanted,
+        &[
+            (
+                &[Is(Keyword), Wants("stamp"), After(1, "=")],
+                Quoting(Quote::Keyword),
+            ),
+            (
+                &[Here("="), BeforeOneOf(1, &["put", "out", "if", "while"])],
+                Quoting(Quote::KeywordBefore),
+            ),
+            (
+                &[
+                    HereOneOf(&["get", "held", "older"]),
+                    Wants("stamp"),
+                    Has(ToSemicolon),
+                ],
+                Rewriting(Rewrite::TakesValue),
+            ),
+            (
+                &[Here("copy"), Wants("stamp"), Has(ToSemicolon)],
+                Rewriting(Rewrite::CopiedTo),
+            ),
+            (
+                &[Here("scan"), Wants("stamp"), NameAfter(1), After(2, ";")],
+                Rewriting(Rewrite::ScanInto),
+            ),
+            (&[Here("scan"), Wants("stamp")], Fixed(Advice::ScanFirst)),
+            (
+                &[HereOneOf(&["var", "reg"]), Wants("stamp")],
+                Fixed(Advice::DeclareBefore),
+            ),
+        ],
+    )
 }
 
 /// What may help at any other word where a statement begins.
@@ -183,5 +239,9 @@ fn begin_slip(scene: &Scene, wanted: &[Wanted]) -> Option<Hint>
 pub fn other_slip(scene: &Scene, wanted: &[Wanted]) -> Option<Hint>
     ensures { result ≡ other_slip (setting scene.now) wanted.now }
 {
-    first_that_fits(&[(wants(wanted, "="), Hint::Fixed(Advice::BeginsStatement))])
+    first_that_fits(
+        scene,
+        wanted,
+        &[(&[Wants("=")], Fixed(Advice::BeginsStatement))],
+    )
 }

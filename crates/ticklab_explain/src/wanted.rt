@@ -1,6 +1,7 @@
 // What may be expected at a place, by what stands before it. The parser decides whether it is.
-ghost use Rattle.std.specs.Prelude.{◌≡◌, ◌++◌, OnOk, string_bytes};
+ghost use Rattle.std.specs.Prelude.{◌≡◌, ◌∷◌, ◌++◌, [], OnOk, string_bytes};
 ghost use Rattle.ticklab_explain.specs.Following.{before_expression, before_name, choices, is_one_of, is_one_of_now, other_choices, repeated_choices, sample, told};
+ghost use Rattle.ticklab_explain.specs.Pieces.{joined};
 
 use crate::writing::{Added, push_all};
 use tick_syntax::terminals::Terminal;
@@ -24,31 +25,31 @@ impl Wanted {
     pub fn sample(self) -> &'static str
         ensures { result.now ≡ sample self }
     {
-        match self {
-            Wanted::Statement => "stamp",
-            Wanted::Value => "get",
-            Wanted::Expression => "me",
-            Wanted::Operator => "+",
-            Wanted::Name => "x",
-            Wanted::Number => "0",
-            Wanted::TextEnd => "",
-            Wanted::Word(terminal) => terminal.text(),
-        }
+        self.words().0
     }
 
     /// Adds how it is told.
     pub fn push_told(self, text: &mut String) -> Added
         ensures { OnOk result (string_bytes text.new ≡ string_bytes text.old ++ told self) }
     {
+        let (_, told, mark) = self.words();
+        push_all(text, &[mark, told, mark])
+    }
+
+    // A token of the kind, how the kind is told, and the mark that stands about that.
+    fn words(self) -> (&'static str, &'static str, &'static str)
+        ensures sample { result.0.now ≡ sample self }
+        ensures told { joined (result.2.now ∷ result.1.now ∷ result.2.now ∷ []) ≡ told self }
+    {
         match self {
-            Wanted::Statement => text.push_str("a statement"),
-            Wanted::Value => text.push_str("a value"),
-            Wanted::Expression => text.push_str("an expression"),
-            Wanted::Operator => text.push_str("an operator"),
-            Wanted::Name => text.push_str("a name"),
-            Wanted::Number => text.push_str("a number"),
-            Wanted::TextEnd => text.push_str("the end of the text"),
-            Wanted::Word(terminal) => push_all(text, &["`", terminal.text(), "`"]),
+            Wanted::Statement => ("stamp", "a statement", ""),
+            Wanted::Value => ("get", "a value", ""),
+            Wanted::Expression => ("me", "an expression", ""),
+            Wanted::Operator => ("+", "an operator", ""),
+            Wanted::Name => ("x", "a name", ""),
+            Wanted::Number => ("0", "a number", ""),
+            Wanted::TextEnd => ("", "the end of the text", ""),
+            Wanted::Word(terminal) => (terminal.text(), terminal.text(), "`"),
         }
     }
 }
