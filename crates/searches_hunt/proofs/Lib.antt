@@ -1,10 +1,6 @@
 mod Runs
-mod Left
-mod Asked
 mod Drawings
-mod Replayed
-mod Told
-mod Unlined
+mod Leaving
 mod Chained
 mod Joined
 mod Ordered

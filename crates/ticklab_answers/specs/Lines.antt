@@ -1,15 +1,14 @@
 -- Lines of the answers.
-use Rattle.std.specs.Prelude.{◌++◌, ◌==◌, if◌then◌else◌, ℕ, ◌+◌, Bool, true, false, not, List, [], ◌∷◌, Ok, Err, codes, string_bytes}
+use Rattle.std.specs.Prelude.{◌++◌, ◌==◌, if◌then◌else◌, ℕ, List, [], ◌∷◌, Ok, Err, codes, string_bytes}
 use Rattle.std.specs.Fmt.{decimal}
-use Rattle.std.specs.List.{list_any}
 use Rattle.base.specs.Lines.{line_end}
 use Rattle.language_properties.specs.Values.{Valued}
 use Rattle.language_schedules.specs.Written.{schedule_text}
 use Rattle.language_schedules.specs.declared.schedule.ScheduleFault.{ScheduleFault}
 use Rattle.language_schedules.specs.declared.schedule.ScheduleFault.TheVariants.{BadItem, NoSuchProcess, TooLong, NoMemory}
 use Rattle.tick_play.specs.Lines.{trap_text}
-use Rattle.searches_states.specs.declared.must_stop.MustStop.{MustStop}
-use Rattle.searches_states.specs.declared.must_stop.MustStop.TheVariants.{All, Each}
+use Rattle.searches_states.specs.declared.ending.MustStop.{MustStop}
+use Rattle.searches_states.specs.declared.ending.MustStop.TheVariants.{All, One}
 use Rattle.searches_hunt.specs.declared.plan.Plan.{Plan}
 use Rattle.searches_hunt.specs.declared.tallying.counting.Counted.{Counted}
 
@@ -63,6 +62,20 @@ safe_line lines states = safe_text lines ++ codes " under any schedule (" ++ sta
 abbrev pub limit_line : ℕ → List ℕ
 limit_line states = codes "there are more than " ++ states_text states ++ codes ": nothing is said of all schedules\n"
 
+-- who is asked for, that they can always end, that they can't any more, and that there is no such process
+abbrev pub asked_text : MustStop → List ℕ
+asked_text All = codes "all processes"
+asked_text (One p) = codes "process " ++ decimal p
+
+abbrev pub can_end_line : MustStop → ℕ → List ℕ
+can_end_line asked states = asked_text asked ++ codes " can still end after every schedule (" ++ states_text states ++ codes ")\n"
+
+abbrev pub stuck_line : MustStop → List ℕ
+stuck_line asked = codes "after this schedule no further steps end " ++ asked_text asked ++ codes ", and after each shorter one some do:"
+
+abbrev pub no_process_line : ℕ → List ℕ
+no_process_line p = codes "--ends: error: there is no process " ++ decimal p ++ codes "\n"
+
 abbrev pub nothing_line : Plan → List ℕ
 nothing_line plan =
     codes "no process traps in " ++ runs_text plan.runs ++ codes " of at most " ++ steps_text plan.steps ++ codes " of seed "
@@ -99,67 +112,3 @@ count_text times counted = decimal counted.times ++ codes " of " ++ runs_text ti
 abbrev pub count_texts : ℕ → List Counted → List ℕ
 count_texts times [] = []
 count_texts times (counted ∷ counts) = count_text times counted ++ count_texts times counts
-
--- The lines of `explore --ends`.
-
--- the numbers, counted from this one, at which there is a `true`
-abbrev pub marked : ℕ → List Bool → List ℕ
-marked p [] = []
-marked p (true ∷ marks) = p ∷ marked (p + 1) marks
-marked p (false ∷ marks) = marked (p + 1) marks
-
--- a number, and these others behind commas and the last behind `and`
-abbrev pub numbers_text : ℕ → List ℕ → List ℕ
-numbers_text p [] = decimal p
-numbers_text p (q ∷ []) = decimal p ++ codes " and " ++ decimal q
-numbers_text p (q ∷ r ∷ more) = decimal p ++ codes ", " ++ numbers_text q (r ∷ more)
-
-abbrev pub processes_text : List ℕ → List ℕ
-processes_text [] = codes "no process"
-processes_text (p ∷ []) = codes "process " ++ decimal p
-processes_text (p ∷ q ∷ more) = codes "processes " ++ numbers_text p (q ∷ more)
-
--- who is asked for
-abbrev pub asked_text : MustStop → List ℕ
-asked_text All = codes "all processes"
-asked_text (Each marks) = processes_text (marked 0 marks)
-
-abbrev pub is_nobody : MustStop → Bool
-is_nobody All = false
-is_nobody (Each marks) = not (list_any (λ mark. mark) marks)
-
--- They can always end; and they do, where each process that runs steps again and again.
-abbrev pub ends_text : MustStop → List ℕ
-ends_text asked =
-    if is_nobody asked then codes "no process is asked whether it can end"
-    else (asked_text asked ++ codes " can still end after every schedule, and will if each that runs steps again and again")
-
-abbrev pub ends_line : MustStop → ℕ → List ℕ
-ends_line asked states = ends_text asked ++ codes " (" ++ states_text states ++ codes ")\n"
-
--- the same, where it isn't known whether they do
-abbrev pub can_end_line : MustStop → ℕ → List ℕ
-can_end_line asked states =
-    asked_text asked ++ codes " can still end after every schedule (" ++ states_text states
-    ++ codes "); of those in which each that runs steps again and again nothing was found out\n"
-
--- they can always end, and under an endless schedule they don't
-abbrev pub endless_line : MustStop → List ℕ
-endless_line asked =
-    asked_text asked ++ codes " can still end after every schedule, but not under this one, in which each that runs steps again and again:"
-
--- they can't end any more
-abbrev pub stuck_line : MustStop → List ℕ
-stuck_line asked = codes "after this schedule no further steps end " ++ asked_text asked ++ codes ", and after each shorter one some do:"
-
--- the steps that lead on, where there are some, and those that repeat for ever
-abbrev pub lead_in_lines : List ℕ → List ℕ
-lead_in_lines [] = []
-lead_in_lines (p ∷ steps) = trap_lines (codes "then these steps:") (p ∷ steps)
-
-abbrev pub loop_lines : List ℕ → List ℕ → List ℕ
-loop_lines lead_in cycle = lead_in_lines lead_in ++ trap_lines (codes "then these again and again:") cycle
-
--- there is no such process
-abbrev pub no_process_line : ℕ → List ℕ
-no_process_line p = codes "--ends: error: there is no process " ++ decimal p ++ codes "\n"

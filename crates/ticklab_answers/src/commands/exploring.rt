@@ -109,8 +109,8 @@ fn explored_by<W: Watch>(
     Ok(explored)
 }
 
-/// The answer that tells what was explored.
-pub fn shown(
+// The answer that tells what was explored.
+fn shown(
     alloc: Global,
     is_merged: bool,
     spelled: &SpelledProgram,
