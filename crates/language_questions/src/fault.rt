@@ -1,4 +1,5 @@
 use base::span::Span;
+use std::alloc::{AllocError, AllocFailed};
 use std::fmt;
 use thiserror::Error;
 
@@ -47,5 +48,27 @@ pub enum QuestionFault {
 impl fmt::Debug for QuestionFault {
     fn fmt<W: fmt::Write>(&self, f: &mut fmt::Formatter<W>) -> fmt::Result {
         fmt::Display::fmt(self, f)
+    }
+}
+
+impl From<AllocError> for QuestionFault {
+    ghost use Rattle.std.specs.Prelude.{◌≡◌};
+    ghost use Rattle.language_questions.specs.declared.fault.QuestionFault.TheVariants.{NoMemory};
+
+    ghost from_gives = { λ _ e. e ≡ NoMemory };
+
+    fn from(_: AllocError) -> QuestionFault {
+        QuestionFault::NoMemory
+    }
+}
+
+impl<T: Drop> From<AllocFailed<T>> for QuestionFault {
+    ghost use Rattle.std.specs.Prelude.{◌≡◌};
+    ghost use Rattle.language_questions.specs.declared.fault.QuestionFault.TheVariants.{NoMemory};
+
+    ghost from_gives = { λ _ e. e ≡ NoMemory };
+
+    fn from(_: AllocFailed<T>) -> QuestionFault {
+        QuestionFault::NoMemory
     }
 }

@@ -112,10 +112,8 @@ impl Reader<'_> {
         let (property, end) = self.whole(at)?;
         let start = self.token(at).span.start;
         let span = Span { start, end };
-        match found.never.push(NeverLine { property, span }) {
-            Ok(()) => Ok(()),
-            Err(_) => Err(QuestionFault::NoMemory),
-        }
+        found.never.push(NeverLine { property, span })?;
+        Ok(())
     }
 
     // Adds who is asked by what stands after the word at this span.

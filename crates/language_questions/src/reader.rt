@@ -85,10 +85,7 @@ impl<'a> Reader<'a> {
         ensures part { IfOk result (λ part. formula_of part.value ≡ formula_of value) }
         ensures fault { IfErr result (λ fault. fault ≡ NoMemory) }
     {
-        match Box::new(self.alloc, value) {
-            Ok(part) => Ok(part),
-            Err(_) => Err(QuestionFault::NoMemory),
-        }
+        Ok(Box::new(self.alloc, value)?)
     }
 
     // The two parts of a property.
