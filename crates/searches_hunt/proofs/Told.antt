@@ -1,5 +1,5 @@
 -- What is said of one kind of answer, turned into what follows from it.
-use Rattle.std.proofs.Common.{◌≡◌, ℕ, List, ap, ◌∙◌, sym, subst}
+use Rattle.std.proofs.Common.{◌≡◌, ℕ, List, sym, subst}
 use Rattle.searches_hunt.specs.declared.never_answer.NeverHunted.{NeverHunted}
 use Rattle.searches_hunt.specs.declared.never_answer.NeverHunted.TheVariants.{Trapped, Broken, Nothing}
 use Rattle.searches_hunt.specs.Never.{IfFault, IfNothing}

@@ -4,7 +4,6 @@ use Rattle.tick_source.specs.Source.{source_run, source_step}
 use Rattle.searches_explore.specs.Lines.{is_fault, lines_of}
 use Rattle.searches_hunt.specs.Draws.{next_drawing}
 use Rattle.searches_hunt.specs.prover.Tries.{first_steps, IsFaultlessTo}
-use Rattle.searches_hunt.proofs.Runs.{none_at_start}
 use Rattle.searches_hunt.proofs.Drawings.{faultless_start, made_on, steps_on, faultless_on, stopped_whole, faultless_whole}
 use Rattle.searches_hunt.proofs.trying.steps_to_fault.Goals as goal
 
