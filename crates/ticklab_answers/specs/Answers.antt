@@ -41,7 +41,7 @@ module _ {F M W : Type 0} (Reads : ReadsOf F) (ReadsInput : ReadsInputOf F) (Ran
   Responds (Ends file process limit) response =
       (ran ≡ rested) × ExploresEnds Reads ReadsInput hears before after quiet heard file process limit response
   Responds (Hunt file seed runs steps is_uniform) response =
-      (ran ≡ rested) × (heard ≡ quiet) × Hunts Reads ReadsInput before after file (plan_of seed runs steps is_uniform) response
+      (ran ≡ rested) × (heard ≡ quiet) × Hunts Reads ReadsInput before after file [] (plan_of seed runs steps is_uniform) 0 response
   Responds (Runs file times turns) response = (heard ≡ quiet) × Tallies Reads ReadsInput Ran before after rested ran file times turns response
   Responds (Trace file schedule is_code) response =
       (ran ≡ rested) × (heard ≡ quiet) × Traces Reads ReadsInput before after file schedule is_code response

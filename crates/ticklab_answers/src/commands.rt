@@ -71,7 +71,7 @@ pub fn response_to<F: Files, M: Runner, W: Progress>(
                 steps,
                 is_uniform,
             },
-        ) => hunted(alloc, files, file, plan_of(seed, runs, steps, is_uniform)),
+        ) => hunted(alloc, files, file, &[], plan_of(seed, runs, steps, is_uniform), 0),
         Line::Request(Request::Runs { file, times, turns }) => {
             tallied(alloc, files, runner, file, times, turns)
         }
