@@ -1,6 +1,10 @@
 mod Runs
+mod Left
+mod Asked
 mod Drawings
-mod Leaving
+mod Replayed
+mod Told
+mod Unlined
 mod Chained
 mod Joined
 mod Ordered

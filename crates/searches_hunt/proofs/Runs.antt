@@ -8,8 +8,8 @@
 -- fact is shown by a case split on the process (`stays_of`, `told_of`, `idle_of`) and its status (`stays_as`,
 -- `told_as`, `idle_as`).
 -- Read `any_stays` and `any_new` first.
-use Rattle.std.proofs.Common.{◌≡◌, ℕ, zero, suc, ◌+◌, ◌<◌, ◌≤◌, Bool, true, false, List, [], ◌∷◌, ◌++◌, length, map, set, drop, get_or, replicate, refl, sym, ◌∙◌, ap, subst, arith, Option, Some, None}
-use Rattle.std.specs.Prelude.{slice_get, slice_set, ◌||◌}
+use Rattle.std.proofs.Common.{◌≡◌, ◌⊎◌, inl, inr, ⊎_elim, ℕ, zero, suc, ◌+◌, ◌<◌, ◌≤◌, Bool, true, false, List, [], ◌∷◌, ◌++◌, length, map, set, drop, get_or, replicate, refl, sym, ◌∙◌, ap, arith, Option, Some, None}
+use Rattle.std.specs.Prelude.{slice_get, ◌||◌}
 use Rattle.std.specs.List.{list_any}
 use Rattle.std.specs.Option.{option_map}
 use Rattle.std.proofs.lemmas.Bool.{both_ways}
@@ -17,10 +17,16 @@ use Rattle.std.proofs.lemmas.List.{map-set}
 use Rattle.std.proofs.lemmas.Option.{same_Some, none-some, slice_get-map, slice_get_within}
 use Rattle.std.proofs.Math.Seq.{drop-cons, drop-length}
 use Rattle.base.specs.declared.status.Status.{Status}
+use Rattle.base.specs.declared.status.Trap.{Trap}
 use Rattle.base.specs.declared.status.Status.TheVariants.{Running, Ended, Trapped}
 use Rattle.base.specs.Plain.{WholeProgram}
 use Rattle.tick_source.specs.Source.{SourceProcess, SourceState, start_process, source_start, did, step_as, step_of, source_step, source_run, statuses_of}
 use Rattle.searches_explore.specs.Explored.{is_trap, has_trapped}
+
+pub most_or_more : (m n : ℕ) → (m ≤ n) ⊎ (n < m)
+most_or_more zero n = inl (omega arith)
+most_or_more (suc m) zero = inr (omega arith)
+most_or_more (suc m) (suc n) = ⊎_elim (λ h. inl (omega arith)) (λ h. inr (omega arith)) (most_or_more m n)
 
 none_of : (k : ℕ) (q : SourceProcess) → is_trap q.status ≡ false → list_any is_trap (map (λ x. x.status) (replicate k q)) ≡ false
 none_of zero q good = refl
@@ -42,6 +48,10 @@ right_one false b e h = h
 or_true : (a b : Bool) → b ≡ true → (a || b) ≡ true
 or_true true b e = refl
 or_true false b e = e
+
+pub or_late : (b : Bool) → (b || true) ≡ true
+or_late true = refl
+or_late false = refl
 
 or_kept : (a b c : Bool) → (b ≡ true → c ≡ true) → (a || b) ≡ true → (a || c) ≡ true
 or_kept true b c f e = refl
@@ -133,6 +143,11 @@ told_of n p s (Some q) told here none tells = told_as n p s q q.status told here
 pub trap_told : (n p : ℕ) (s : SourceState) (told : Status) → has_trapped s ≡ false
     → slice_get (statuses_of (source_step n p s)) p ≡ Some told → has_trapped (source_step n p s) ≡ is_trap told
 trap_told n p s told none tells = told_of n p s (slice_get s.processes p) told refl none tells
+
+pub no_trap : (status : Status) → ((t : Trap) → status ≡ Trapped t → ⊥) → is_trap status ≡ false
+no_trap Running none = refl
+no_trap Ended none = refl
+no_trap (Trapped t) none = absurd (none t refl)
 
 -- no process runs
 abbrev pub HaveStopped : SourceState → Type 0

@@ -1,32 +1,20 @@
-ghost use Rattle.std.specs.Prelude.{◌≤◌, IfOk, length};
+ghost use Rattle.std.specs.Prelude.{◌≡◌, ◌≤◌, IfOk, length};
 ghost use Rattle.tick_kinds.specs.Resolution.{resolved};
 ghost use Rattle.searches_hunt.specs.Draws.{random_schedule};
 ghost use Rattle.searches_hunt.specs.Hunts.{IsMinimalTrap, IsFirstTrap, IsPartOf, NoRunTraps, IfFound, IfNothing};
-ghost use Rattle.searches_hunt.specs.prover.Tries.{TrapsWithin};
 
 use crate::answer::Hunted;
-use crate::drawing::draw;
+use crate::never::hunt_never;
+use crate::never_answer::NeverHunted;
 use crate::plan::Plan;
-use crate::shrinking::shrink;
-use crate::trying::steps_to_trap;
 use base::NoMemory;
 use std::alloc::Global;
 use tick_kinds::Program;
 
-// Shrinks the first steps of a run, after which a process has trapped.
-fn shrunk(
-    alloc: Global,
-    program: &Program,
-    plan: Plan,
-    run: u32,
-    steps: u32,
-) -> Result<Vec<u8>, NoMemory>
-    requires { TrapsWithin (resolved program.now) plan run steps }
-    ensures minimal { IfOk result (λ s. IsMinimalTrap (resolved program.now) s.items) }
-    ensures part { IfOk result (λ s. IsPartOf s.items (random_schedule plan (resolved program.now).processes run)) }
+fn runs_of(plan: Plan) -> u32
+    ensures { result ≡ plan.runs }
 {
-    let schedule = draw(alloc, plan, program.processes(), run, steps)?;
-    shrink(alloc, program, schedule)
+    plan.runs
 }
 
 /// Runs the program under one random schedule after the other, until a process traps. A run ends where
@@ -39,11 +27,12 @@ pub fn hunt(alloc: Global, program: &Program, plan: Plan) -> Result<Hunted, NoMe
     ensures short { IfOk result (λ h. IfFound h (λ run schedule. length schedule ≤ plan.steps)) }
     ensures nothing { IfOk result (λ h. IfNothing h (NoRunTraps (resolved program.now) plan)) }
 {
-    for run in 0..plan.runs {
-        if let Some(steps) = steps_to_trap(alloc, program, plan, run)? {
-            let schedule = shrunk(alloc, program, plan, run, steps)?;
-            return Ok(Hunted::Found { run, schedule });
-        }
+    if runs_of(plan) == 0 {
+        return Ok(Hunted::Nothing);
     }
-    Ok(Hunted::Nothing)
+    match hunt_never(alloc, program, &[], plan, 0)? {
+        NeverHunted::Trapped { run, schedule } => Ok(Hunted::Found { run, schedule }),
+        NeverHunted::Broken { run, schedule, .. } => Ok(Hunted::Found { run, schedule }),
+        NeverHunted::Nothing => Ok(Hunted::Nothing),
+    }
 }

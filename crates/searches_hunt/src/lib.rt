@@ -2,7 +2,8 @@
 //!
 //! `hunt` tries random schedules until a process traps. It gives the first schedule under which one does, and
 //! leaves out the steps that the trap doesn't need. The schedules that it tries follow from the `Plan` alone,
-//! so the same plan always has the same answer.
+//! so the same plan always has the same answer. `hunt_never` also asks in each state for properties that must
+//! never hold, and begins at any run of the plan.
 //! `tally` has a code run on threads many times, and counts how often each outcome comes.
 //! Start with `hunt`.
 #![tactic(auto)]
@@ -10,14 +11,21 @@
 mod answer;
 mod drawing;
 mod hunting;
+mod leaving;
+mod never;
+mod never_answer;
 mod plan;
 mod shrinking;
 mod tallying;
+mod tried;
 mod trying;
 
 pub use answer::Hunted;
-pub use base::NoMemory;
+pub use base::{NoMemory, Trap};
 pub use hunting::hunt;
+pub use language_properties::Property;
+pub use never::hunt_never;
+pub use never_answer::NeverHunted;
 pub use plan::{Mode, Plan};
 pub use tallying::{Counted, tally};
 pub use tick_merge::RunFault;

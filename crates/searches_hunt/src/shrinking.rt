@@ -1,96 +1,200 @@
-ghost use Rattle.std.specs.Prelude.{◌≡◌, ◌+◌, ◌<◌, ◌≤◌, ◌++◌, ℕ, length, take, drop, IfOk, IfSome, MatchOption};
-ghost use Rattle.std.specs.List.{All};
+ghost use Rattle.std.specs.Prelude.{◌≡◌, ◌-◌, ◌<◌, length, slice_get, IfNone, IfOk, IfSome, true};
 ghost use Rattle.tick_kinds.specs.Resolution.{resolved};
-ghost use Rattle.searches_hunt.specs.Hunts.{TrapsNot, IsPartOf, IsMinimalTrap};
-ghost use Rattle.searches_hunt.specs.Hunts.{without as left};
-ghost use Rattle.searches_hunt.specs.prover.Parts.{IsTrap, IsTrapOf};
+ghost use Rattle.searches_explore.specs.Lines.{lines_of};
+ghost use Rattle.searches_hunt.specs.Hunts.{IsPartOf};
+ghost use Rattle.searches_hunt.specs.Never.{IsFaultless, NeedsAll};
+ghost use Rattle.searches_hunt.specs.prover.Parts.{IsFault, IsFaultOf, IsLeft};
 
-use crate::trying::traps;
+use crate::leaving::{place_after, without, without_steps};
+use crate::trying::to_fault;
 use base::NoMemory;
+use language_properties::Property;
 use std::alloc::Global;
 use tick_kinds::Program;
 
-// What is left of a schedule without the items from one place to another.
-fn without(alloc: Global, schedule: &[u8], from: usize, to: usize) -> Result<Vec<u8>, NoMemory>
-    requires from { from ≤ to }
-    requires to { to ≤ length schedule.now }
-    ensures { IfOk result (λ rest. rest.items ≡ take from schedule.now ++ drop to schedule.now) }
+/// How many pieces are tried at least before smaller ones are given up.
+const ENOUGH_PIECES: usize = 64;
+
+// What leads to the fault of what is left of a schedule, if it has one and fewer items are left.
+fn fewer(
+    alloc: Global,
+    program: &Program,
+    lines: &[Property],
+    schedule: &[u8],
+    rest: &[u8],
+) -> Result<Option<Vec<u8>>, NoMemory>
+    requires fault { IsFault (resolved program.now) (lines_of lines.now) schedule.now }
+    requires left { IsLeft rest.now schedule.now }
+    ensures fault { IfOk result (λ o. IfSome o (λ fewer. IsFaultOf (resolved program.now) (lines_of lines.now) schedule.now fewer.items)) }
+    ensures fewer { IfOk result (λ o. IfSome o (λ fewer. length fewer.items < length schedule.now)) }
+    ensures none { IfOk result (λ o. IfNone o (length rest.now < length schedule.now → IsFaultless (resolved program.now) (lines_of lines.now) rest.now)) }
 {
-    let mut rest = Vec::with_capacity(alloc, schedule.len() - (to - from))?;
-    rest.extend_from_slice(&schedule[..from])?;
-    rest.extend_from_slice(&schedule[to..])?;
-    Ok(rest)
+    if rest.len() >= schedule.len() {
+        return Ok(None);
+    }
+    to_fault(alloc, program, lines, rest)
 }
 
-// Leaves out each piece of so many items without which a process still traps, from the front on.
+// Leaves out each piece of so many items without which there still is a fault, from the front on.
 fn without_pieces(
     alloc: Global,
     program: &Program,
+    lines: &[Property],
     schedule: Vec<u8>,
     size: usize,
 ) -> Result<Vec<u8>, NoMemory>
-    requires trap { IsTrap (resolved program.now) schedule.items }
+    requires fault { IsFault (resolved program.now) (lines_of lines.now) schedule.items }
     requires size { 0 < size }
-    ensures { IfOk result (λ kept. IsTrapOf (resolved program.now) schedule.items kept.items) }
+    ensures { IfOk result (λ kept. IsFaultOf (resolved program.now) (lines_of lines.now) schedule.items kept.items) }
 {
     let mut kept = schedule;
     let mut at = 0;
     'pieces: while at < kept.len() {
         let to = at + usize::min(size, kept.len() - at);
         let rest = without(alloc, &kept, at, to)?;
-        if traps(alloc, program, &rest)? {
-            kept = rest;
-        } else {
-            at = to;
+        match fewer(alloc, program, lines, &kept, &rest)? {
+            Some(left) => kept = left,
+            None => at = to,
         }
     }
     Ok(kept)
 }
 
-// Pieces of half the schedule, of a quarter, and so on to single items.
-fn in_pieces(alloc: Global, program: &Program, schedule: Vec<u8>) -> Result<Vec<u8>, NoMemory>
-    requires { IsTrap (resolved program.now) schedule.items }
-    ensures { IfOk result (λ kept. IsTrapOf (resolved program.now) schedule.items kept.items) }
-{
-    let mut size = schedule.len() / 2;
-    let mut kept = schedule;
-    'sizes: while size > 0 {
-        kept = without_pieces(alloc, program, kept, size)?;
-        size /= 2;
-    }
-    Ok(kept)
-}
-
-// What is left without the first item that the trap can do without, if there is one.
-fn without_one(
+// The same of the steps of process `p`, so many of them at once.
+fn without_steps_of(
     alloc: Global,
     program: &Program,
-    schedule: &[u8],
-) -> Result<Option<Vec<u8>>, NoMemory>
-    requires { All (λ p. p < (resolved program.now).processes) schedule.now }
-    ensures needed { IfOk result (λ o. MatchOption o
-        ((place : ℕ) → place < length schedule.now → TrapsNot (resolved program.now) (left place schedule.now))
-        (λ rest. IsTrapOf (resolved program.now) schedule.now rest.items)) }
-    ensures shorter { IfOk result (λ o. IfSome o (λ rest. length rest.items < length schedule.now)) }
+    lines: &[Property],
+    schedule: Vec<u8>,
+    p: u8,
+    size: usize,
+) -> Result<Vec<u8>, NoMemory>
+    requires { IsFault (resolved program.now) (lines_of lines.now) schedule.items }
+    ensures { IfOk result (λ kept. IsFaultOf (resolved program.now) (lines_of lines.now) schedule.items kept.items) }
 {
-    for at in 0..schedule.len() {
-        let rest = without(alloc, schedule, at, at + 1)?;
-        if traps(alloc, program, &rest)? {
-            return Ok(Some(rest));
+    let mut kept = schedule;
+    let mut at = 0;
+    'pieces: while at < kept.len() {
+        let to = place_after(&kept, at, p, size);
+        let rest = without_steps(alloc, &kept, p, at, to)?;
+        match fewer(alloc, program, lines, &kept, &rest)? {
+            Some(left) => kept = left,
+            None => at = to,
         }
     }
-    Ok(None)
+    Ok(kept)
 }
 
-/// Leaves items out while a process still traps, until the trap can do without none.
-pub fn shrink(alloc: Global, program: &Program, schedule: Vec<u8>) -> Result<Vec<u8>, NoMemory>
-    requires { IsTrap (resolved program.now) schedule.items }
-    ensures minimal { IfOk result (λ kept. IsMinimalTrap (resolved program.now) kept.items) }
+// Pieces of half the schedule, of a quarter, and so on, of each process and of all, while some can be left out.
+fn in_pieces(
+    alloc: Global,
+    program: &Program,
+    lines: &[Property],
+    schedule: Vec<u8>,
+) -> Result<Vec<u8>, NoMemory>
+    requires { IsFault (resolved program.now) (lines_of lines.now) schedule.items }
+    ensures { IfOk result (λ kept. IsFaultOf (resolved program.now) (lines_of lines.now) schedule.items kept.items) }
+{
+    let mut kept = schedule;
+    let mut size = kept.len();
+    'sizes: while size > 0 {
+        let before = kept.len();
+        kept = of_each(alloc, program, lines, kept, size)?;
+        if kept.len() == before && before / size >= ENOUGH_PIECES {
+            return Ok(kept);
+        }
+        size = usize::min(size, kept.len()) / 2;
+    }
+    Ok(kept)
+}
+
+// Pieces of so many steps of each process, and then of so many items.
+fn of_each(
+    alloc: Global,
+    program: &Program,
+    lines: &[Property],
+    schedule: Vec<u8>,
+    size: usize,
+) -> Result<Vec<u8>, NoMemory>
+    requires fault { IsFault (resolved program.now) (lines_of lines.now) schedule.items }
+    requires size { 0 < size }
+    ensures { IfOk result (λ kept. IsFaultOf (resolved program.now) (lines_of lines.now) schedule.items kept.items) }
+{
+    let mut kept = schedule;
+    for p in 0..program.processes() {
+        kept = without_steps_of(alloc, program, lines, kept, p, size)?;
+    }
+    without_pieces(alloc, program, lines, kept, size)
+}
+
+// Whether the item before this place is the same: to leave out the one or the other comes to the same.
+fn is_as_before(schedule: &[u8], at: usize) -> bool
+    requires { at < length schedule.now }
+    ensures { result ≡ true → (0 < at) × (slice_get schedule.now at ≡ slice_get schedule.now (at - 1)) }
+{
+    match at.checked_sub(1) {
+        Some(before) => schedule[before] == schedule[at],
+        None => false,
+    }
+}
+
+// Leaves out each item without which there still is a fault, from the front on, and then as many more as can be. If
+// none was left out, the fault needs each.
+fn without_items(
+    alloc: Global,
+    program: &Program,
+    lines: &[Property],
+    schedule: Vec<u8>,
+) -> Result<Vec<u8>, NoMemory>
+    requires { IsFault (resolved program.now) (lines_of lines.now) schedule.items }
+    ensures left { IfOk result (λ kept. IsFaultOf (resolved program.now) (lines_of lines.now) schedule.items kept.items) }
+    ensures needed { IfOk result (λ kept. length kept.items ≡ length schedule.items
+        → NeedsAll (resolved program.now) (lines_of lines.now) kept.items) }
+{
+    let mut kept = schedule;
+    let mut at = 0;
+    let mut size = 1;
+    'items: while at < kept.len() {
+        if is_as_before(&kept, at) {
+            at += 1;
+        } else {
+            let to = at + usize::min(size, kept.len() - at);
+            let rest = without(alloc, &kept, at, to)?;
+            match fewer(alloc, program, lines, &kept, &rest)? {
+                Some(left) => {
+                    kept = left;
+                    size = size.saturating_mul(2);
+                }
+                None => {
+                    if size > 1 {
+                        size = 1;
+                    } else {
+                        at = to;
+                    }
+                }
+            }
+        }
+    }
+    Ok(kept)
+}
+
+/// Leaves items out while there still is a fault, until the fault can do without none.
+pub fn shrink(
+    alloc: Global,
+    program: &Program,
+    lines: &[Property],
+    schedule: Vec<u8>,
+) -> Result<Vec<u8>, NoMemory>
+    requires { IsFault (resolved program.now) (lines_of lines.now) schedule.items }
+    ensures fault { IfOk result (λ kept. IsFault (resolved program.now) (lines_of lines.now) kept.items) }
+    ensures needed { IfOk result (λ kept. NeedsAll (resolved program.now) (lines_of lines.now) kept.items) }
     ensures part { IfOk result (λ kept. IsPartOf kept.items schedule.items) }
 {
-    let mut kept = in_pieces(alloc, program, schedule)?;
-    'items: while let Some(rest) = without_one(alloc, program, &kept)? {
-        kept = rest;
+    let mut kept = in_pieces(alloc, program, lines, schedule)?;
+    let mut before = kept.len() + 1;
+    'passes: while kept.len() < before {
+        before = kept.len();
+        kept = without_items(alloc, program, lines, kept)?;
     }
     Ok(kept)
 }

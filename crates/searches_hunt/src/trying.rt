@@ -1,83 +1,98 @@
-ghost use Rattle.std.specs.Prelude.{◌≡◌, ◌<◌, ◌≤◌, ℕ, List, true, false, length, IfOk, MatchOption};
+ghost use Rattle.std.specs.Prelude.{◌≡◌, ◌⊎◌, ◌<◌, ◌++◌, ◌∷◌, [], false, IfOk, MatchOption};
 ghost use Rattle.std.specs.List.{All};
 ghost use Rattle.tick_kinds.specs.Resolution.{resolved};
-ghost use Rattle.tick_source.specs.Source.{source, source_step, source_run};
-ghost use Rattle.searches_explore.specs.Explored.{has_trapped, is_trap};
+ghost use Rattle.tick_source.specs.Source.{source_step};
+ghost use Rattle.searches_explore.specs.Lines.{is_fault, lines_of};
 ghost use Rattle.searches_hunt.specs.Draws.{random_schedule};
-ghost use Rattle.searches_hunt.specs.Hunts.{TrapsNot};
-ghost use Rattle.searches_hunt.specs.prover.Tries.{TrapsWithin};
+ghost use Rattle.searches_hunt.specs.Never.{IsFaultless};
+ghost use Rattle.searches_hunt.specs.prover.Parts.{IsFaultOf};
+ghost use Rattle.searches_hunt.specs.prover.Tries.{FaultsWithin};
 
 use crate::drawing::Drawing;
 use crate::plan::Plan;
+use crate::tried::Tried;
 use base::{NoMemory, Status};
+use language_properties::Property;
 use std::alloc::Global;
 use tick_kinds::Program;
-use tick_source::SourceMachine;
 
-// Makes a step of process `p`, and answers whether it goes on.
-fn step(machine: &mut SourceMachine<'_>, p: u8) -> Result<Status, NoMemory>
-    requires process { p < length machine.old.processes }
-    requires none { has_trapped machine.old ≡ false }
-    ensures next { IfOk result (λ s. machine.new ≡ source_step (length machine.old.processes) p machine.old) }
-    ensures trapped { IfOk result (λ s. has_trapped machine.new ≡ is_trap s) }
-    ensures processes { length machine.new.processes ≡ length machine.old.processes }
-{
-    machine.step(p)?;
-    Ok(machine.status(p))
-}
-
-// Whether no process runs: then nothing more happens.
-fn have_stopped(machine: &SourceMachine<'_>, n: u8) -> bool
-    requires { n ≡ length machine.now.processes }
-    ensures { result ≡ true → (schedule : List ℕ) → source_run n schedule machine.now ≡ machine.now }
-{
-    for p in 0..n {
-        if let Status::Running = machine.status(p) {
-            return false;
-        }
-    }
-    true
-}
-
-/// After how many steps of its schedule a process has trapped in this run, if one does.
-pub fn steps_to_trap(
+/// After how many steps of its schedule this run has a fault, if it has one: a process has trapped or a line is
+/// broken.
+pub fn steps_to_fault(
     alloc: Global,
     program: &Program,
+    lines: &[Property],
     plan: Plan,
     run: u32,
 ) -> Result<Option<u32>, NoMemory>
     ensures { IfOk result (λ o. MatchOption o
-        (TrapsNot (resolved program.now) (random_schedule plan (resolved program.now).processes run))
-        (TrapsWithin (resolved program.now) plan run)) }
+        (IsFaultless (resolved program.now) (lines_of lines.now) (random_schedule plan (resolved program.now).processes run))
+        (FaultsWithin (resolved program.now) (lines_of lines.now) plan run)) }
 {
     let n = program.processes();
-    let mut machine = SourceMachine::new(alloc, program)?;
+    let mut tried = Tried::new(alloc, program, lines)?;
+    if tried.is_fault(Status::Running) {
+        return Ok(Some(0));
+    }
     let mut drawing = Drawing::new(plan.seed, run);
     for made in 0..plan.steps {
         let p = drawing.step(plan.mode, n);
-        match step(&mut machine, p)? {
-            Status::Running => {}
-            Status::Trapped(_) => return Ok(Some(made + 1)),
-            Status::Ended => {
-                if have_stopped(&machine, n) {
-                    return Ok(None);
-                }
+        let status = tried.step(p)?;
+        if tried.is_fault(status) {
+            return Ok(Some(made + 1));
+        }
+        if let Status::Ended = status {
+            if tried.have_stopped() {
+                return Ok(None);
             }
         }
     }
     Ok(None)
 }
 
-/// Whether a process traps under this schedule.
-pub fn traps(alloc: Global, program: &Program, schedule: &[u8]) -> Result<bool, NoMemory>
-    requires { All (λ p. p < (resolved program.now).processes) schedule.now }
-    ensures { IfOk result (λ b. b ≡ has_trapped (source (resolved program.now) schedule.now)) }
+// Makes a step of process `p` and notes it, but not where the process has stopped: then it does nothing. Answers
+// whether there is a fault now.
+fn advance(tried: &mut Tried<'_>, made: &mut Vec<u8>, p: u8) -> Result<bool, NoMemory>
+    requires process { p < tried.old.processes }
+    requires none { is_fault (lines_of tried.old.lines.now) tried.old.machine ≡ false }
+    ensures next { IfOk result (λ b. tried.new.machine ≡ source_step tried.old.processes p tried.old.machine) }
+    ensures noted { IfOk result (λ b. (made.new.items ≡ made.old.items ++ p ∷ [])
+        ⊎ ((made.new.items ≡ made.old.items) × (tried.new.machine ≡ tried.old.machine))) }
+    ensures fault { IfOk result (λ b. b ≡ is_fault (lines_of tried.old.lines.now) tried.new.machine) }
+    ensures lines { tried.new.lines ≡ tried.old.lines }
+    ensures processes { tried.new.processes ≡ tried.old.processes }
 {
-    let mut machine = SourceMachine::new(alloc, program)?;
+    match tried.status(p) {
+        Status::Running => {
+            let status = tried.step(p)?;
+            made.push(p)?;
+            Ok(tried.is_fault(status))
+        }
+        _ => Ok(false),
+    }
+}
+
+/// The steps of a schedule that do something, up to the first fault; `None` where it leads to no fault.
+pub fn to_fault(
+    alloc: Global,
+    program: &Program,
+    lines: &[Property],
+    schedule: &[u8],
+) -> Result<Option<Vec<u8>>, NoMemory>
+    requires { All (λ p. p < (resolved program.now).processes) schedule.now }
+    ensures { IfOk result (λ o. MatchOption o
+        (IsFaultless (resolved program.now) (lines_of lines.now) schedule.now)
+        (λ made. IsFaultOf (resolved program.now) (lines_of lines.now) schedule.now made.items)) }
+{
+    let mut tried = Tried::new(alloc, program, lines)?;
+    let mut made = Vec::with_capacity(alloc, schedule.len())?;
+    if tried.is_fault(Status::Running) {
+        return Ok(Some(made));
+    }
     for &p in schedule {
-        if let Status::Trapped(_) = step(&mut machine, p)? {
-            return Ok(true);
+        if advance(&mut tried, &mut made, p)? {
+            return Ok(Some(made));
         }
     }
-    Ok(false)
+    Ok(None)
 }

@@ -4,6 +4,7 @@
 //! Start with `finds`; `programs` has the texts.
 
 mod finds;
+mod lines;
 mod programs;
 mod repeats;
 mod replay;

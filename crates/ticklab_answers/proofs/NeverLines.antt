@@ -59,7 +59,7 @@ none_read a lines start text rest before texts next so_far report told = record 
 }
 
 module _ (a : WholeProgram ℕ) (lines : List Property) where
-  line_within : (s : SourceState) (line : ℕ) (v : Valued) → IsFirstBroken (lines_of lines) s line v → line < length lines
+  pub line_within : (s : SourceState) (line : ℕ) (v : Valued) → IsFirstBroken (lines_of lines) s line v → line < length lines
   line_within s line v first =
       subst (λ (count : ℕ). line < count) (length-map lines formula_of) (slice_get_within (lines_of lines) line first.formula first.there)
 

@@ -1,22 +1,14 @@
--- What an answer says, from what was explored or hunted and what the answer shows of it.
-use Rattle.std.proofs.Common.{◌≡◌, ◌≤◌, ℕ, Bool, List, [], length, refl, subst}
-use Rattle.base.specs.Plain.{Name, WholeProgram}
+-- What an answer says, from what was explored and what the answer shows of it.
+use Rattle.std.proofs.Common.{◌≡◌, ℕ, Bool, List, [], length, refl, subst}
 use Rattle.tick_kinds.specs.Resolution.{resolved}
 use Rattle.searches_states.specs.Watching.{Told, IsWatched}
 use Rattle.searches_explore.specs.Never.{AreToldFor, IfBroken, IfLimit, IfSafe, IfTrapped}
 use Rattle.searches_explore.specs.declared.never_answer.NeverExplored.{NeverExplored}
 use Rattle.searches_explore.specs.declared.never_answer.NeverExplored.TheVariants.{Trapped, Broken, Safe, Limit}
-use Rattle.searches_hunt.specs.Draws.{random_schedule}
-use Rattle.searches_hunt.specs.Hunts.{IfFound, IfNothing, IsFirstTrap, IsMinimalTrap, IsPartOf, NoRunTraps}
-use Rattle.searches_hunt.specs.declared.answer.Hunted.{Hunted}
-use Rattle.searches_hunt.specs.declared.answer.Hunted.TheVariants.{Found, Nothing}
-use Rattle.searches_hunt.specs.declared.plan.Plan.{Plan}
-use Rattle.ticklab_answers.specs.Asking.{AsksNever, IsOf, TextPlace, places_by}
+use Rattle.ticklab_answers.specs.Asking.{AsksNever, TextPlace, places_by}
 use Rattle.ticklab_answers.specs.Exploring.{BrokenBy, IsExplored, IsUnexplored, LimitBy, SafeBy, SeesBy, TrapBy, break_line_by, broken, line_by, safe, trapped, unexplored, unknown}
-use Rattle.ticklab_answers.specs.Hunting.{IsHunted, none_traps, one_traps}
-use Rattle.ticklab_answers.specs.Lines.{minimal_line}
 use Rattle.ticklab_answers.specs.Responses.{Refuses}
-use Rattle.ticklab_answers.specs.Shown.{Shows, ShowsBroken, ShowsHunt, ShowsSafe, ShowsTrap}
+use Rattle.ticklab_answers.specs.Shown.{Shows, ShowsBroken, ShowsSafe}
 use Rattle.ticklab_answers.specs.declared.response.Response.{Response}
 
 -- of what was explored by steps of this kind, with what must never hold of the program of an input
@@ -55,17 +47,3 @@ unwatched hears before after m name texts limit input x refused = record {
   heard = refused.told.1;
   lawful = unexplored (record { status = refused.status; nothing = refused.nothing; told = refused.told.0 }) refl;
 }
-
-pub hunted_by : (name : List ℕ) (plan : Plan) (input : List ℕ) (p : WholeProgram Name)
-    → IsOf input p → (h : Hunted) (x : Response)
-    → IfFound h (λ run schedule. IsFirstTrap (resolved p) plan run)
-    → IfFound h (λ run schedule. IsPartOf schedule (random_schedule plan (resolved p).processes run))
-    → IfFound h (λ run schedule. length schedule ≤ plan.steps)
-    → IfFound h (λ run schedule. IsMinimalTrap (resolved p) schedule)
-    → IfNothing h (NoRunTraps (resolved p) plan) → ShowsHunt input p plan h x → IsHunted name plan input x
-hunted_by name plan input p is (Found run s) x first part short minimal none shows =
-    one_traps is.0 run s.items (subst (λ q. IsFirstTrap (resolved q) plan run) is.1 first)
-    (subst (λ q. IsPartOf s.items (random_schedule plan (resolved q).processes run)) is.1 part) short
-    (subst (λ q. IsMinimalTrap (resolved q) s.items) is.1 minimal) (subst (λ q. ShowsTrap minimal_line input q s.items x) is.1 shows)
-hunted_by name plan input p is Nothing x first part short minimal none shows =
-    none_traps is.0 (subst (λ q. NoRunTraps (resolved q) plan) is.1 none) shows

@@ -40,8 +40,8 @@ module _ {F M W : Type 0} (Reads : ReadsOf F) (ReadsInput : ReadsInputOf F) (Ran
       (ran ≡ rested) × Explores Reads ReadsInput hears before after quiet heard file never limit is_merged response
   Responds (Ends file process limit) response =
       (ran ≡ rested) × ExploresEnds Reads ReadsInput hears before after quiet heard file process limit response
-  Responds (Hunt file seed runs steps is_uniform) response =
-      (ran ≡ rested) × (heard ≡ quiet) × Hunts Reads ReadsInput before after file (plan_of seed runs steps is_uniform) response
+  Responds (Hunt file never seed runs from steps is_uniform) response =
+      (ran ≡ rested) × (heard ≡ quiet) × Hunts Reads ReadsInput before after file never (plan_of seed runs steps is_uniform) from response
   Responds (Runs file times turns) response = (heard ≡ quiet) × Tallies Reads ReadsInput Ran before after rested ran file times turns response
   Responds (Trace file schedule is_code) response =
       (ran ≡ rested) × (heard ≡ quiet) × Traces Reads ReadsInput before after file schedule is_code response
@@ -67,7 +67,7 @@ module _ {F M W : Type 0} (Reads : ReadsOf F) (ReadsInput : ReadsInputOf F) (Ran
 abbrev pub NamesOf : Asked → List ℕ → Type 0
 NamesOf (Explore file never limit is_merged) name = name ≡ file
 NamesOf (Ends file process limit) name = name ≡ file
-NamesOf (Hunt file seed runs steps is_uniform) name = name ≡ file
+NamesOf (Hunt file never seed runs from steps is_uniform) name = name ≡ file
 NamesOf (Runs file times turns) name = name ≡ file
 NamesOf (Trace file schedule is_code) name = IsEither file schedule name
 NamesOf (Draw file schedule is_code) name = IsEither file schedule name

@@ -1,16 +1,19 @@
 -- What `hunt` answers without `--threads`.
 use Rattle.std.specs.Prelude.{◌≤◌, ℕ, Bool, true, false, List, length}
 use Rattle.tick_kinds.specs.Resolution.{resolved}
+use Rattle.language_properties.specs.Values.{Valued}
 use Rattle.searches_hunt.specs.Draws.{random_schedule}
-use Rattle.searches_hunt.specs.Hunts.{IsFirstTrap, IsMinimalTrap, IsPartOf, NoRunTraps}
+use Rattle.searches_hunt.specs.Hunts.{IsPartOf}
+use Rattle.searches_hunt.specs.Never.{IsFirstFault, IsMinimalBroken, IsMinimalTrapped, NoRunFaults}
 use Rattle.searches_hunt.specs.declared.plan.Mode.{Mode}
 use Rattle.searches_hunt.specs.declared.plan.Mode.TheVariants.{Bursts, Uniform}
 use Rattle.searches_hunt.specs.declared.plan.Plan.{Plan}
-use Rattle.ticklab_answers.specs.Asking.{IsFileRefused, IsProgramFile}
-use Rattle.ticklab_answers.specs.Lines.{minimal_line}
+use Rattle.ticklab_answers.specs.Asking.{AsksNever, places_by}
+use Rattle.ticklab_answers.specs.Exploring.{IsUnexplored}
+use Rattle.ticklab_answers.specs.Lines.{minimal_break_line, minimal_line}
 use Rattle.ticklab_answers.specs.Reading.{AfterFile, ReadsOf, ReadsInputOf}
 use Rattle.ticklab_answers.specs.Responses.{Refuses}
-use Rattle.ticklab_answers.specs.Shown.{ShowsNothing, ShowsTrap}
+use Rattle.ticklab_answers.specs.Shown.{ShowsBroken, ShowsNothing, ShowsTrap}
 use Rattle.ticklab_answers.specs.declared.response.Response.{Response}
 
 abbrev pub mode_of : Bool → Mode
@@ -20,13 +23,25 @@ mode_of true = Uniform
 abbrev pub plan_of : ℕ → ℕ → ℕ → Bool → Plan
 plan_of seed runs steps is_uniform = record { seed = seed; runs = runs; steps = steps; mode = mode_of is_uniform }
 
--- The random schedules of a plan. The schedule that is shown is a part of the first one under which a process traps.
-pub data IsHunted (name : List ℕ) (plan : Plan) (input : List ℕ) (response : Response) : Type 0 where
-  none_traps : (is : IsProgramFile input) → NoRunTraps (resolved is.program) plan → ShowsNothing plan response → IsHunted name plan input response
-  one_traps : (is : IsProgramFile input) (run : ℕ) (schedule : List ℕ) → IsFirstTrap (resolved is.program) plan run
-      → IsPartOf schedule (random_schedule plan (resolved is.program).processes run) → length schedule ≤ plan.steps
-      → IsMinimalTrap (resolved is.program) schedule → ShowsTrap minimal_line input is.program schedule response → IsHunted name plan input response
-  unhunted : Refuses 1 (IsFileRefused name input) response → IsHunted name plan input response
+-- The random schedules of a plan from a run on, with these texts of a command line for what must never hold. The schedule
+-- that is shown is a part of the first one under which a process traps or a line breaks. What isn't explored isn't
+-- hunted through, for the same reason.
+pub data IsHunted (name : List ℕ) (texts : List (List ℕ)) (plan : Plan) (from : ℕ) (input : List ℕ) (response : Response) : Type 0 where
+  nothing : (asks : AsksNever texts input) → NoRunFaults (resolved asks.file.program) asks.lines plan from
+      → ShowsNothing (length asks.lines) plan from response → IsHunted name texts plan from input response
+  trapped : (asks : AsksNever texts input) (run : ℕ) (schedule : List ℕ)
+      → IsFirstFault (resolved asks.file.program) asks.lines plan from run
+      → IsPartOf schedule (random_schedule plan (resolved asks.file.program).processes run) → length schedule ≤ plan.steps
+      → IsMinimalTrapped (resolved asks.file.program) asks.lines schedule
+      → ShowsTrap minimal_line input asks.file.program schedule response → IsHunted name texts plan from input response
+  broken : (asks : AsksNever texts input) (run : ℕ) (schedule : List ℕ) (line : ℕ) (v : Valued)
+      → IsFirstFault (resolved asks.file.program) asks.lines plan from run
+      → IsPartOf schedule (random_schedule plan (resolved asks.file.program).processes run) → length schedule ≤ plan.steps
+      → IsMinimalBroken (resolved asks.file.program) asks.lines schedule line v
+      → ShowsBroken minimal_break_line input asks.file.program (places_by name input asks.file.asked texts) schedule line v response
+      → IsHunted name texts plan from input response
+  unhunted : Refuses 1 (IsUnexplored name texts input) response → IsHunted name texts plan from input response
 
-abbrev pub Hunts : {F : Type 0} → ReadsOf F → ReadsInputOf F → F → F → List ℕ → Plan → Response → Type 0
-Hunts Reads ReadsInput before after file plan response = AfterFile Reads ReadsInput before after file (λ input. IsHunted file plan input response)
+abbrev pub Hunts : {F : Type 0} → ReadsOf F → ReadsInputOf F → F → F → List ℕ → List (List ℕ) → Plan → ℕ → Response → Type 0
+Hunts Reads ReadsInput before after file never plan from response =
+    AfterFile Reads ReadsInput before after file (λ input. IsHunted file never plan from input response)

@@ -1,5 +1,5 @@
 -- Lines of the answers.
-use Rattle.std.specs.Prelude.{◌++◌, ◌==◌, if◌then◌else◌, ℕ, List, [], ◌∷◌, Ok, Err, codes, string_bytes}
+use Rattle.std.specs.Prelude.{◌++◌, ◌-◌, ◌==◌, if◌then◌else◌, min, ℕ, List, [], ◌∷◌, Ok, Err, codes, string_bytes}
 use Rattle.std.specs.Fmt.{decimal}
 use Rattle.base.specs.Lines.{line_end}
 use Rattle.language_properties.specs.Values.{Valued}
@@ -47,6 +47,9 @@ shortest_break_line = codes "a #! never line breaks under this schedule, and und
 abbrev pub some_break_line : List ℕ
 some_break_line = codes "a #! never line breaks under this schedule:"
 
+abbrev pub minimal_break_line : List ℕ
+minimal_break_line = codes "a #! never line breaks under this schedule, and where any one step is left out none does:"
+
 -- what a line that breaks comes to: it has this value, which isn't 0, or it traps
 abbrev pub broken_text : Valued → List ℕ
 broken_text (Ok v) = codes "this must never hold, and its value is " ++ decimal v
@@ -76,10 +79,17 @@ stuck_line asked = codes "after this schedule no further steps end " ++ asked_te
 abbrev pub no_process_line : ℕ → List ℕ
 no_process_line p = codes "--ends: error: there is no process " ++ decimal p ++ codes "\n"
 
-abbrev pub nothing_line : Plan → List ℕ
-nothing_line plan =
-    codes "no process traps in " ++ runs_text plan.runs ++ codes " of at most " ++ steps_text plan.steps ++ codes " of seed "
-    ++ decimal plan.seed ++ codes "\n"
+-- the runs of a plan from this one on, of which the last that there is is 4294967294, and which one that is
+abbrev pub runs_from : Plan → ℕ → ℕ
+runs_from plan from = min plan.runs (4294967295 - from)
+
+abbrev pub from_text : ℕ → List ℕ
+from_text from = if from == 0 then [] else (codes ", from run " ++ decimal from)
+
+abbrev pub nothing_line : ℕ → Plan → ℕ → List ℕ
+nothing_line lines plan from =
+    safe_text lines ++ codes " in " ++ runs_text (runs_from plan from) ++ codes " of at most " ++ steps_text plan.steps ++ codes " of seed "
+    ++ decimal plan.seed ++ from_text from ++ codes "\n"
 
 -- an input that is taken, and one with a schedule that is
 abbrev pub taken_line : List ℕ → List ℕ

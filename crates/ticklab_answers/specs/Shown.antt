@@ -7,12 +7,12 @@ use Rattle.searches_explore.specs.declared.never_answer.NeverExplored.TheVariant
 use Rattle.searches_explore.specs.declared.ending.EndExplored.{EndExplored}
 use Rattle.searches_explore.specs.declared.ending.EndExplored.TheVariants as E
 use Rattle.searches_states.specs.declared.ending.MustStop.{MustStop}
-use Rattle.searches_hunt.specs.declared.answer.Hunted.{Hunted}
-use Rattle.searches_hunt.specs.declared.answer.Hunted.TheVariants.{Found, Nothing}
+use Rattle.searches_hunt.specs.declared.never_answer.NeverHunted.{NeverHunted}
+use Rattle.searches_hunt.specs.declared.never_answer.NeverHunted.TheVariants as H
 use Rattle.searches_hunt.specs.declared.plan.Plan.{Plan}
 use Rattle.ticklab_explain.specs.Questions.{IsPointed}
 use Rattle.ticklab_answers.specs.Asking.{TextPlace}
-use Rattle.ticklab_answers.specs.Lines.{broken_text, can_end_line, limit_line, minimal_line, nothing_line, safe_line, shortest_line, stuck_line, trap_lines}
+use Rattle.ticklab_answers.specs.Lines.{broken_text, can_end_line, limit_line, minimal_break_line, minimal_line, nothing_line, safe_line, shortest_line, stuck_line, trap_lines}
 use Rattle.ticklab_answers.specs.Responses.{Gives}
 use Rattle.ticklab_answers.specs.Runs.{IsStatementTrace}
 use Rattle.ticklab_answers.specs.declared.response.Response.{Response}
@@ -53,8 +53,9 @@ ShowsCanEnd asked states = Gives 0 (λ out. out ≡ can_end_line asked states)
 abbrev pub ShowsStuck : MustStop → List ℕ → WholeProgram Name → List ℕ → Response → Type 0
 ShowsStuck asked input a schedule = Gives 7 (IsTrapText (stuck_line asked) input a schedule)
 
-abbrev pub ShowsNothing : Plan → Response → Type 0
-ShowsNothing plan = Gives 0 (λ out. out ≡ nothing_line plan)
+-- no process traps, and none of so many lines breaks, in the runs of this plan from this one on
+abbrev pub ShowsNothing : ℕ → Plan → ℕ → Response → Type 0
+ShowsNothing lines plan from = Gives 0 (λ out. out ≡ nothing_line lines plan from)
 
 -- `trap` and `broken` say how a trap and a line that breaks were found; the lines stand at these places.
 abbrev pub Shows : List ℕ → List ℕ → List ℕ → WholeProgram Name → List TextPlace → NeverExplored → Response → Type 0
@@ -63,9 +64,11 @@ Shows trap broken input a places (Broken schedule line v) response = ShowsBroken
 Shows trap broken input a places (Safe states) response = ShowsSafe (length places) states response
 Shows trap broken input a places (Limit states) response = ShowsLimit states response
 
-abbrev pub ShowsHunt : List ℕ → WholeProgram Name → Plan → Hunted → Response → Type 0
-ShowsHunt input a plan (Found run schedule) response = ShowsTrap minimal_line input a schedule.items response
-ShowsHunt input a plan Nothing response = ShowsNothing plan response
+abbrev pub ShowsHunt : List ℕ → WholeProgram Name → List TextPlace → Plan → ℕ → NeverHunted → Response → Type 0
+ShowsHunt input a places plan from (H.Trapped run schedule) response = ShowsTrap minimal_line input a schedule.items response
+ShowsHunt input a places plan from (H.Broken run schedule line v) response =
+    ShowsBroken minimal_break_line input a places schedule.items line v response
+ShowsHunt input a places plan from H.Nothing response = ShowsNothing (length places) plan from response
 
 abbrev pub ShowsEnds : MustStop → List ℕ → WholeProgram Name → EndExplored → Response → Type 0
 ShowsEnds asked input a (E.Trapped schedule) response = ShowsTrap shortest_line input a schedule.items response

@@ -66,12 +66,18 @@ pub fn response_to<F: Files, M: Runner, W: Progress>(
         Line::Request(
             Request::Hunt {
                 file,
+                never,
                 seed,
                 runs,
+                from,
                 steps,
                 is_uniform,
             },
-        ) => hunted(alloc, files, file, plan_of(seed, runs, steps, is_uniform)),
+        ) => {
+            let never = never.as_slice();
+            let plan = plan_of(seed, runs, steps, is_uniform);
+            hunted(alloc, files, file, never, plan, from)
+        }
         Line::Request(Request::Runs { file, times, turns }) => {
             tallied(alloc, files, runner, file, times, turns)
         }

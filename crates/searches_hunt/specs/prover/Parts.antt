@@ -1,15 +1,23 @@
--- What holds of a schedule under which a process traps, while items of it are left out.
-use Rattle.std.specs.Prelude.{◌<◌, ℕ, List}
+-- What holds of a schedule that leads to a fault, while items of it are left out.
+use Rattle.std.specs.Prelude.{◌≡◌, ◌<◌, ℕ, true, List, [], ◌∷◌}
 use Rattle.std.specs.List.{All}
 use Rattle.base.specs.Plain.{WholeProgram}
-use Rattle.searches_hunt.specs.Hunts.{Traps, IsPartOf}
+use Rattle.language_properties.specs.Properties.{Formula}
+use Rattle.tick_source.specs.Source.{source}
+use Rattle.searches_explore.specs.Lines.{is_fault}
 
--- a schedule of the program's processes under which one traps
-pub record IsTrap (a : WholeProgram ℕ) (schedule : List ℕ) : Type 0 where
+-- what is left of a list where some of its items are left out
+pub data IsLeft : List ℕ → List ℕ → Type 0 where
+  no_items : IsLeft [] []
+  one_out : (y : ℕ) (xs ys : List ℕ) → IsLeft xs ys → IsLeft xs (y ∷ ys)
+  one_kept : (y : ℕ) (xs ys : List ℕ) → IsLeft xs ys → IsLeft (y ∷ xs) (y ∷ ys)
+
+-- a schedule of the program's processes after which one has trapped or a line is broken
+pub record IsFault (a : WholeProgram ℕ) (lines : List Formula) (schedule : List ℕ) : Type 0 where
   pub lawful : All (λ p. p < a.processes) schedule
-  pub traps : Traps a schedule
+  pub fault : is_fault lines (source a schedule) ≡ true
 
--- what is left of a schedule, where a process still traps
-pub record IsTrapOf (a : WholeProgram ℕ) (whole part : List ℕ) : Type 0 where
-  pub trap : IsTrap a part
-  pub is_part : IsPartOf part whole
+-- what is left of a schedule, where it is still so
+pub record IsFaultOf (a : WholeProgram ℕ) (lines : List Formula) (whole part : List ℕ) : Type 0 where
+  pub fault : IsFault a lines part
+  pub left : IsLeft part whole

@@ -59,3 +59,26 @@ begin
   }
 end
 ";
+
+/// Each process goes in and out, and nothing keeps the other out.
+pub static BOTH_INSIDE: &str = "\
+processes 2;
+var a;
+reg inside;
+begin
+  a = 3;
+  put inside 1;
+  a = 4;
+  put inside 0;
+end
+";
+
+/// Process 1 traps as soon as process 0 has written.
+pub static WRITTEN: &str = "\
+processes 2;
+var a;
+reg written;
+begin
+  if (me == 0) { put written 1; } else { a = get written 0; a = (1 / (a == 0)); }
+end
+";

@@ -163,8 +163,8 @@ fn break_line(is_merged: bool) -> &'static str
     }
 }
 
-// What was found, and behind it the line that breaks, with what it comes to.
-fn with_line(
+/// What was found, and behind it the line that breaks, with what it comes to.
+pub fn with_line(
     alloc: Global,
     traced: String,
     place: &PropertyPlace<'_>,
@@ -206,7 +206,8 @@ fn safe_line(alloc: Global, lines: usize, states: u32) -> Result<String, AllocEr
     Ok(line)
 }
 
-fn safe_text(lines: usize) -> &'static str
+/// What holds, where so many lines `#! never` are asked.
+pub fn safe_text(lines: usize) -> &'static str
     ensures { result.now ≡ safe_text lines }
 {
     if lines == 0 {

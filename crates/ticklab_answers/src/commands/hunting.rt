@@ -1,31 +1,36 @@
 //! `ticklab hunt` without `--threads`.
-ghost use Rattle.std.specs.Prelude.{◌≡◌, ◌<◌, All, IfErr, IfOk, string_bytes};
+ghost use Rattle.std.specs.Prelude.{◌≡◌, ◌<◌, ◌++◌, All, IfErr, IfOk, length, map, string_bytes};
 ghost use Rattle.tick_kinds.specs.Resolution.{resolved};
-ghost use Rattle.searches_hunt.specs.Hunts.{IfFound, IsMinimalTrap};
+ghost use Rattle.searches_hunt.specs.Never.{IfBroken, IfFault};
 ghost use Rattle.ticketc_refusals.specs.Refusals.{SpelledIn};
-ghost use Rattle.ticklab_answers.specs.Asking.{IsFileRefused};
+ghost use Rattle.ticklab_answers.specs.Asking.{place_of, texts_of};
+ghost use Rattle.ticklab_answers.specs.Exploring.{IsUnexplored};
 ghost use Rattle.ticklab_answers.specs.Faults.{IsOfFile};
 ghost use Rattle.ticklab_answers.specs.Hunting.{Hunts, IsHunted, plan_of};
-ghost use Rattle.ticklab_answers.specs.Lines.{nothing_line};
+ghost use Rattle.ticklab_answers.specs.Lines.{from_text, nothing_line, runs_from};
 ghost use Rattle.ticklab_answers.specs.Shown.{ShowsHunt};
 ghost use Rattle.ticklab_answers.specs.Stops.{IfRefused};
 
+use crate::asking::{NeverLines, never_lines};
+use crate::commands::exploring::{safe_text, with_line};
 use crate::counts::push_many;
 use crate::fault::LabFault;
 use crate::files::bytes_of;
 use crate::host::Files;
 use crate::reading::spelled_program_of;
-use crate::response::{DONE, Response, TRAPPED, answer, settled};
+use crate::response::{DONE, Response, TRAPPED, answer, output, settled};
 use crate::stop::NoAnswer;
 use crate::trapping::trap_text;
-use base::NoMemory;
-use searches_hunt::{Hunted, Mode, Plan, hunt};
+use base::{NoMemory, push_number};
+use searches_hunt::{Mode, NeverHunted, Plan, hunt_never};
 use std::alloc::{AllocError, Global};
-use std::fmt::Write;
 use ticketc_refusals::SpelledProgram;
 
 const MINIMAL: &str =
     "a process traps under this schedule, and where any one step is left out none does:";
+
+const MINIMAL_BREAK: &str =
+    "a #! never line breaks under this schedule, and where any one step is left out none does:";
 
 /// The plan that a command line asks for.
 pub fn plan_of(seed: u64, runs: u32, steps: u32, is_uniform: bool) -> Plan
@@ -44,33 +49,40 @@ pub fn plan_of(seed: u64, runs: u32, steps: u32, is_uniform: bool) -> Plan
     }
 }
 
-/// Whether a process of the program traps under a schedule of the plan.
+/// Whether a process of the program traps under a schedule of the plan, from this run on, or a line `#! never` of the
+/// file breaks or one of these texts that are the same.
 pub fn hunted<F: Files>(
     alloc: Global,
     files: &mut F,
     file: &str,
+    never: &[&str],
     plan: Plan,
+    from: u32,
 ) -> Result<Response, LabFault>
-    ensures ok { IfOk result (Hunts F.Reads F.ReadsInput files.old files.new file.now plan) }
+    ensures ok { IfOk result (Hunts F.Reads F.ReadsInput files.old files.new file.now (texts_of never.now) plan from) }
     ensures err { IfErr result (IsOfFile file.now) }
 {
     let input = bytes_of(alloc, files, file)?;
-    let hunted = random_schedules(alloc, file, input.as_slice(), plan);
+    let hunted = random_schedules(alloc, file, never, input.as_slice(), plan, from);
     Ok(settled(alloc, hunted)?)
 }
 
 fn random_schedules(
     alloc: Global,
     name: &str,
+    never: &[&str],
     input: &[u8],
     plan: Plan,
+    from: u32,
 ) -> Result<Response, NoAnswer>
-    ensures ok { IfOk result (IsHunted name.now plan input.now) }
-    ensures refused { IfErr result (λ stop. IfRefused stop (IsFileRefused name.now input.now)) }
+    ensures ok { IfOk result (IsHunted name.now (texts_of never.now) plan from input.now) }
+    ensures refused { IfErr result (λ stop. IfRefused stop (IsUnexplored name.now (texts_of never.now) input.now)) }
 {
-    let (spelled, _questions) = spelled_program_of(alloc, name, input)?;
-    let hunted = hunt(alloc, &spelled.program, plan)?;
-    Ok(shown(alloc, &spelled, input, plan, &hunted)?)
+    let (spelled, questions) = spelled_program_of(alloc, name, input)?;
+    let lines = never_lines(alloc, name, input, &spelled.program, questions, never)?;
+    let properties = lines.properties.as_slice();
+    let hunted = hunt_never(alloc, &spelled.program, properties, plan, from)?;
+    Ok(shown(alloc, &spelled, input, &lines, plan, from, &hunted)?)
 }
 
 // The answer that tells what the hunt came to.
@@ -78,29 +90,72 @@ fn shown(
     alloc: Global,
     spelled: &SpelledProgram,
     input: &[u8],
+    lines: &NeverLines<'_>,
     plan: Plan,
-    hunted: &Hunted,
+    from: u32,
+    hunted: &NeverHunted,
 ) -> Result<Response, NoMemory>
-    requires schedule { IfFound hunted.now (λ run schedule. IsMinimalTrap (resolved spelled.now.program) schedule) }
+    requires schedule { IfFault hunted.now (λ run. All (λ p. p < (resolved spelled.now.program).processes)) }
+    requires line { IfBroken hunted.now (λ schedule line v. line < length lines.now.places.items) }
     requires program { SpelledIn input.now spelled.now }
-    ensures { IfOk result (ShowsHunt input.now spelled.now.program plan hunted.now) }
+    ensures { IfOk result (ShowsHunt input.now spelled.now.program (map place_of lines.now.places.items) plan from hunted.now) }
 {
     match hunted {
-        Hunted::Found { schedule, .. } => {
+        NeverHunted::Trapped { schedule, .. } => {
             let text = trap_text(alloc, MINIMAL, spelled, input, schedule.as_slice())?;
             Ok(answer(alloc, TRAPPED, text))
         }
-        Hunted::Nothing => Ok(answer(alloc, DONE, nothing_line(alloc, plan)?)),
+        NeverHunted::Broken {
+            schedule,
+            line,
+            value,
+            ..
+        } => {
+            let traced = trap_text(alloc, MINIMAL_BREAK, spelled, input, schedule.as_slice())?;
+            let out = with_line(alloc, traced, &lines.places[*line], *value)?;
+            Ok(output(alloc, TRAPPED, out))
+        }
+        NeverHunted::Nothing => {
+            let line = nothing_line(alloc, lines.places.len(), plan, from)?;
+            Ok(answer(alloc, DONE, line))
+        }
     }
 }
 
-fn nothing_line(alloc: Global, plan: Plan) -> Result<String, AllocError>
-    ensures { IfOk result (λ line. string_bytes line ≡ nothing_line plan) }
+// How many runs there are from this one on: the number of a run is at most 4294967294.
+fn runs_from(plan: Plan, from: u32) -> u32
+    ensures { result ≡ runs_from plan from }
 {
-    let mut line = String::from_str(alloc, "no process traps in ")?;
-    push_many(&mut line, plan.runs, "run", "runs")?;
+    u32::min(plan.runs, u32::MAX - from)
+}
+
+fn nothing_line(
+    alloc: Global,
+    lines: usize,
+    plan: Plan,
+    from: u32,
+) -> Result<String, AllocError>
+    ensures { IfOk result (λ line. string_bytes line ≡ nothing_line lines plan from) }
+{
+    let mut line = String::from_str(alloc, safe_text(lines))?;
+    line.push_str(" in ")?;
+    push_many(&mut line, runs_from(plan, from), "run", "runs")?;
     line.push_str(" of at most ")?;
     push_many(&mut line, plan.steps, "step", "steps")?;
-    writeln!(line, " of seed {}", plan.seed)?;
+    line.push_str(" of seed ")?;
+    push_number(&mut line, plan.seed)?;
+    push_from(&mut line, from)?;
+    line.push_str("\n")?;
     Ok(line)
+}
+
+// From which run on, where that isn't the first.
+fn push_from(line: &mut String, from: u32) -> Result<(), AllocError>
+    ensures { IfOk result (λ _. string_bytes line.new ≡ string_bytes line.old ++ from_text from) }
+{
+    if from > 0 {
+        line.push_str(", from run ")?;
+        push_number(line, u64::from(from))?;
+    }
+    Ok(())
 }

@@ -1,29 +1,38 @@
-use Rattle.std.proofs.Common.{arith}
-use Rattle.std.proofs.lemmas.Option.{MatchOption-at_some}
+use Rattle.std.proofs.Common.{◌≤◌, [], length, subst, arith}
 use Rattle.tick_kinds.specs.Resolution.{resolved}
-use Rattle.searches_hunt.specs.Draws.{start_drawing, random_schedule}
-use Rattle.searches_hunt.specs.Hunts.{TrapsNot}
-use Rattle.searches_hunt.specs.prover.Tries.{TrapsWithin}
-use Rattle.searches_hunt.proofs.Leaving.{part_short}
-use Rattle.searches_hunt.proofs.Drawings.{drawn_length, trapped_whole}
+use Rattle.searches_hunt.specs.Draws.{random_schedule}
+use Rattle.searches_hunt.specs.Hunts.{IsPartOf}
+use Rattle.searches_hunt.specs.Never.{IfBroken, IfFault, IfNothing, IfTrapped, IsFirstFault, IsMinimalBroken, IsMinimalTrapped, NoRunFaults}
+use Rattle.searches_hunt.proofs.Unlined.{first_trap, minimal_trap, no_broken, no_trap_runs}
 use Rattle.searches_hunt.proofs.hunting.hunt.Goals as goal
 
-pub returns-in-Some-clause-first : goal.returns-in-Some-clause-first
-returns-in-Some-clause-first c =
+pub returns-in-Trapped : goal.returns-in-Trapped
+returns-in-Trapped c =
     let a = resolved c.args.program.now in
     let plan = c.args.plan in
-    let run = c.loop-run.run in
-    let tried : TrapsWithin a plan run c.in-Some.steps =
-    MatchOption-at_some (TrapsNot a (random_schedule plan a.processes run)) (TrapsWithin a plan run) c.in-Some.steps c.in-Some.is c.in_ok-steps.ensures in
-    record { within = c.loop-run-test.true; traps = trapped_whole a plan run c.in-Some.steps tried; earlier = c.loop-run.invariant }
+    let schedule = c.in-Trapped.schedule.items in
+    record {
+      first = first_trap a plan c.in-Trapped.run' (subst (λ h. IfFault h (λ run s. IsFirstFault a [] plan 0 run)) c.in-Trapped.is c.in_ok-run.ensures.first);
+      minimal = minimal_trap a schedule (subst (λ h. IfTrapped h (IsMinimalTrapped a [])) c.in-Trapped.is c.in_ok-run.ensures.trapped);
+      part = subst (λ h. IfFault h (λ run s. IsPartOf s (random_schedule plan a.processes run))) c.in-Trapped.is c.in_ok-run.ensures.part;
+      short = subst (λ h. IfFault h (λ run s. length s ≤ plan.steps)) c.in-Trapped.is c.in_ok-run.ensures.short;
+      nothing = tt;
+    }
 
-pub returns-in-Some-clause-short : goal.returns-in-Some-clause-short
-returns-in-Some-clause-short c =
+pub returns-in-Broken : goal.returns-in-Broken
+returns-in-Broken c =
+    let a = resolved c.args.program.now in
+    absurd (no_broken a c.in-Broken.schedule.items c.in-Broken.line c.in-Broken.value
+    (subst (λ h. IfBroken h (IsMinimalBroken a [])) c.in-Broken.is c.in_ok-run.ensures.broken))
+
+pub returns-in-Nothing : goal.returns-in-Nothing
+returns-in-Nothing c =
     let a = resolved c.args.program.now in
     let plan = c.args.plan in
-    let whole = random_schedule plan a.processes c.loop-run.run in
-    omega (
-      arith,
-      part_short c.in_ok-schedule.schedule.items whole c.in_ok-schedule.ensures.part,
-      drawn_length plan.mode a.processes plan.steps (start_drawing plan.seed c.loop-run.run),
-    )
+    record {
+      first = tt;
+      minimal = tt;
+      part = tt;
+      short = tt;
+      nothing = no_trap_runs a plan (omega (arith, c.runs_of.ensures, c.runs_of.type_inv)) (subst (λ h. IfNothing h (NoRunFaults a [] plan 0)) c.in-Nothing.is c.in_ok-run.ensures.nothing);
+    }

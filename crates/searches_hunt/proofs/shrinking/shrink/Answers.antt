@@ -1,17 +1,20 @@
-use Rattle.std.proofs.Common.{ℕ, List, ◌<◌, length, subst}
-use Rattle.std.proofs.lemmas.Option.{MatchOption-at_some}
+use Rattle.std.proofs.Common.{◌≡◌, length, ◌∙◌, arith}
 use Rattle.tick_kinds.specs.Resolution.{resolved}
-use Rattle.searches_hunt.specs.Hunts.{TrapsNot, without}
-use Rattle.searches_hunt.specs.prover.Parts.{IsTrapOf}
-use Rattle.searches_hunt.proofs.Leaving.{trap_again}
+use Rattle.searches_explore.specs.Lines.{lines_of}
+use Rattle.searches_hunt.proofs.Left.{fault_again, left_part, left_short}
 use Rattle.searches_hunt.proofs.shrinking.shrink.Goals as goal
 
-pub items-preserved : goal.items-preserved
-items-preserved c =
+pub passes-preserved : goal.passes-preserved
+passes-preserved c =
     let a = resolved c.args.program.now in
-    let kept = c.deref.result.now in
-    let rest = c.in-Some.rest in
-    let left : IsTrapOf a kept rest.items =
-    MatchOption-at_some ((place : ℕ) → place < length kept → TrapsNot a (without place kept)) (λ r. IsTrapOf a kept r.items) rest c.in-Some.is c.in_ok-rest.ensures.needed in
-    trap_again a c.args.schedule.items c.items.kept.items rest.items c.items.invariant
-    (subst (λ xs. IsTrapOf a xs rest.items) c.deref.ensures.value left)
+    let lines = lines_of c.args.lines.now in
+    let kept = c.passes.kept.items in
+    let kept' = c.in_ok-kept-2.kept.items in
+    let long : c.len-before-in-passes.result ≡ length kept = omega (arith, c.len-before-in-passes.ensures) in (
+      fault_again a lines c.args.schedule.items kept kept' c.passes.invariant.0 c.in_ok-kept-2.ensures.left,
+      omega (arith, left_short kept' kept c.in_ok-kept-2.ensures.left.left, long),
+      λ same. c.in_ok-kept-2.ensures.needed (same ∙ long),
+    )
+
+pub returns-clause-part : goal.returns-clause-part
+returns-clause-part c = left_part c.passes.kept.items c.args.schedule.items c.passes.invariant.0.left

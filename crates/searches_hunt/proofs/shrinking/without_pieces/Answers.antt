@@ -1,20 +1,23 @@
-use Rattle.std.proofs.Common.{rules, ◌≤◌, ◌+◌, take, drop, ◌++◌, length, ap, ◌∙◌, sym, arith}
+use Rattle.std.proofs.Common.{sym, subst}
 use Rattle.tick_kinds.specs.Resolution.{resolved}
-use Rattle.tick_source.specs.Source.{source}
-use Rattle.searches_explore.specs.Explored.{has_trapped}
-use Rattle.searches_hunt.proofs.Leaving.{trap_left, trap_again}
+use Rattle.searches_explore.specs.Lines.{lines_of}
+use Rattle.searches_hunt.specs.prover.Parts.{IsFaultOf}
+use Rattle.searches_hunt.proofs.Left.{fault_all, fault_seen, some_at}
 use Rattle.searches_hunt.proofs.shrinking.without_pieces.Goals as goal
+use Rattle.searches_hunt.proofs.shrinking.without_pieces.Goals.{in-Some, in-None}
 
-pub pieces-preserved-then-branch : goal.pieces-preserved-then-branch
-pieces-preserved-then-branch c =
+pub pieces-init : goal.pieces-init
+pieces-init c = fault_all (resolved c.args.program.now) (lines_of c.args.lines.now) c.args.schedule.items c.requires.fault
+
+pub pieces-preserved : goal.pieces-preserved
+pieces-preserved c =
     let a = resolved c.args.program.now in
-    let at = c.pieces.at in
-    let to = at + c.min.result in
-    let kept = c.pieces.kept.items in
-    let rest = c.in_ok-rest.rest.items in
-    let within : to ≤ length kept =
-    first_of (search rules, omega (arith, c.min.ensures, c.len-in-pieces.ensures, c.pieces-test.true), grind (arith, c.min.ensures, c.len-in-pieces.ensures, c.pieces-test.true)) in
-    trap_again a c.args.schedule.items kept rest c.pieces.invariant
-    (trap_left a at to kept rest (omega arith) within c.pieces.invariant.trap.lawful
-    (c.in_ok-rest.ensures ∙ ap (λ xs. take at xs ++ drop to xs) c.deref.ensures.value)
-    (ap (λ xs. has_trapped (source a xs)) (sym c.deref-in-pieces.ensures.value) ∙ sym c.in_ok-traps.ensures ∙ c.if-branch.true))
+    let lines = lines_of c.args.lines.now in
+    let whole = c.args.schedule.items in
+    let seen = c.deref-in-pieces.result.now in
+    elim c.match-branch-3.branch [
+      | in-Some w ↦ subst (λ v. IsFaultOf a lines whole v.items) (sym w.kept-is)
+          (fault_seen a lines whole c.pieces.kept.items seen w.in-Some.left.items c.pieces.invariant c.deref-in-pieces.ensures.value
+          (some_at (λ made. IsFaultOf a lines seen made.items) c.in_ok-left.field-0 w.in-Some.left w.in-Some.is c.in_ok-left.ensures.fault))
+      | in-None w ↦ subst (λ v. IsFaultOf a lines whole v.items) (sym w.kept-is) c.pieces.invariant
+    ]

@@ -1,9 +1,11 @@
-use Rattle.std.proofs.Common.{◌≡◌, ◌∙◌, ℕ, List, ap, refl, subst}
+use Rattle.std.proofs.Common.{◌≡◌, ◌∙◌, ℕ, List, ap, map, refl, subst}
 use Rattle.std.specs.Borrow.{Bor}
 use Rattle.ticklab_line.specs.declared.asking.Line.TheVariants as line
 use Rattle.ticklab_line.specs.declared.commands.Request.TheVariants as request
 use Rattle.ticklab_answers.specs.Asking.{texts_of}
+use Rattle.searches_hunt.specs.declared.plan.Plan.{Plan}
 use Rattle.ticklab_answers.specs.Exploring.{Explores}
+use Rattle.ticklab_answers.specs.Hunting.{Hunts}
 use Rattle.ticklab_answers.proofs.Responded.{failed, responded}
 use Rattle.ticklab_answers.proofs.commands.response_to.Goals as goal
 
@@ -22,11 +24,21 @@ returns-in-Request-Explore-clause-err g c =
     c.in_ok-words.ensures.ok c.as_slice.ensures.value c.in_ok-file.ensures (asked.is ∙ ap line.Request asked.field-0-is)
     (λ name. name ≡ asked.file.now) c.explored.result c.explored.ensures.err (λ name same. same)
 
+pub returns-in-Request-Hunt-clause-ok : goal.returns-in-Request-Hunt-clause-ok
+returns-in-Request-Hunt-clause-ok g c =
+    let asked = c.in-Request-Hunt in
+    responded c.args.given c.in_ok-words.words c.as_slice.result.now c.in_ok-file.field-0 (line.Request (request.Hunt asked.file asked.never asked.seed asked.runs asked.from asked.steps asked.is_uniform))
+    c.in_ok-words.ensures.ok c.as_slice.ensures.value c.in_ok-file.ensures (asked.is ∙ ap line.Request asked.field-0-is)
+    g.F.Files.Reads g.F.Files.ReadsInput g.M.Runner.Ran g.W.Watch.hears _ _ _ _ _ _ c.hunted.result c.hunted.ensures.ok
+    (λ x h. (refl, refl, subst (λ (plan : Plan). Hunts g.F.Files.Reads g.F.Files.ReadsInput c.args.files.now c.hunted.new.files asked.file.now (map (λ text. text.now) asked.never.items) plan asked.from x) c.plan_of-plan.ensures
+    (subst (λ (never : List (Bor (List ℕ))). Hunts g.F.Files.Reads g.F.Files.ReadsInput c.args.files.now c.hunted.new.files asked.file.now (texts_of never) c.plan_of-plan.result asked.from x) c.as_slice-never-2.ensures.value h)))
+
 pub returns-in-Request-Hunt-clause-err : goal.returns-in-Request-Hunt-clause-err
 returns-in-Request-Hunt-clause-err g c =
-    failed c.args.given c.in_ok-words.words c.as_slice.result.now c.in_ok-file.field-0 (line.Request (request.Hunt c.in-Request-Hunt.file c.in-Request-Hunt.seed c.in-Request-Hunt.runs c.in-Request-Hunt.steps c.in-Request-Hunt.is_uniform))
-    c.in_ok-words.ensures.ok c.as_slice.ensures.value c.in_ok-file.ensures (c.in-Request-Hunt.is ∙ ap line.Request c.in-Request-Hunt.field-0-is)
-    (λ name. name ≡ c.in-Request-Hunt.file.now) c.hunted.result c.hunted.ensures.err (λ name same. same)
+    let asked = c.in-Request-Hunt in
+    failed c.args.given c.in_ok-words.words c.as_slice.result.now c.in_ok-file.field-0 (line.Request (request.Hunt asked.file asked.never asked.seed asked.runs asked.from asked.steps asked.is_uniform))
+    c.in_ok-words.ensures.ok c.as_slice.ensures.value c.in_ok-file.ensures (asked.is ∙ ap line.Request asked.field-0-is)
+    (λ name. name ≡ asked.file.now) c.hunted.result c.hunted.ensures.err (λ name same. same)
 
 pub returns-in-Request-Runs-clause-err : goal.returns-in-Request-Runs-clause-err
 returns-in-Request-Runs-clause-err g c =

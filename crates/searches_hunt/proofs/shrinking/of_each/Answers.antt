@@ -1,0 +1,22 @@
+use Rattle.std.proofs.lemmas.Result.{IfOk-weaker}
+use Rattle.tick_kinds.specs.Resolution.{resolved}
+use Rattle.searches_explore.specs.Lines.{lines_of}
+use Rattle.searches_hunt.specs.prover.Parts.{IsFaultOf}
+use Rattle.searches_hunt.proofs.Left.{fault_again, fault_all}
+use Rattle.searches_hunt.proofs.shrinking.of_each.Goals as goal
+
+pub loop-p-init : goal.loop-p-init
+loop-p-init c = fault_all (resolved c.args.program.now) (lines_of c.args.lines.now) c.args.schedule.items c.requires.fault
+
+pub loop-p-preserved : goal.loop-p-preserved
+loop-p-preserved c =
+    fault_again (resolved c.args.program.now) (lines_of c.args.lines.now) c.args.schedule.items c.loop-p.kept.items c.in_ok-kept.kept.items c.loop-p.invariant c.in_ok-kept.ensures
+
+pub returns : goal.returns
+returns c =
+    let a = resolved c.args.program.now in
+    let lines = lines_of c.args.lines.now in
+    let whole = c.args.schedule.items in
+    let kept = c.loop-p.kept.items in
+    IfOk-weaker c.without_pieces.result (λ s. IsFaultOf a lines kept s.items) (λ s. IsFaultOf a lines whole s.items)
+    (λ s of_kept. fault_again a lines whole kept s.items c.loop-p.invariant of_kept) c.without_pieces.ensures
