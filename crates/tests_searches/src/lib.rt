@@ -1,11 +1,14 @@
-//! `tests_searches` tests the search for a shortest schedule, and the hunt through random schedules.
+//! `tests_searches` tests the searches through states and programs, and the hunt through random schedules.
 //!
 //! `searching` has small machines whose answers are known. `exploring` tests what a watch is told of an
-//! exploration. `hunting` tests hunts through programs. `examples` has texts of programs. What `explore`
-//! answers on programs stands in `answers/states.txt`. `fairness` compares the search for fair schedules with a slow one.
+//! exploration. `ending` compares what `explore_ends` answers on drawn programs with a slow search, and has known
+//! programs. `fairness` does the same with drawn machines. `hunting` tests hunts through programs. `examples` has texts
+//! of programs. What `explore` answers on programs stands in `answers/states.txt`.
 //! Start with `searching`.
 #![tactic(auto)]
 
+#[cfg(test)]
+mod ending;
 #[cfg(test)]
 mod examples;
 #[cfg(test)]
@@ -14,5 +17,9 @@ mod exploring;
 mod fairness;
 #[cfg(test)]
 mod hunting;
+#[cfg(test)]
+mod moves;
+#[cfg(test)]
+mod random;
 #[cfg(test)]
 mod searching;

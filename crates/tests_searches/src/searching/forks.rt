@@ -65,7 +65,14 @@ fn searched(alloc: Global, forks: &Forks, start: u32, limit: u32) -> Result<EndS
     requires { start < 4 }
 {
     match search_ends(alloc, forks, MustStop::All, start, limit, &mut Unwatched) {
-        Err(NoMemory) => search_ends(alloc, forks, MustStop::One(1), start, limit, &mut Unwatched),
+        Err(NoMemory) => search_ends(
+            alloc,
+            forks,
+            MustStop::Each([false, true, false, false, false, false]),
+            start,
+            limit,
+            &mut Unwatched,
+        ),
         found => found,
     }
 }

@@ -75,13 +75,18 @@ fn searched(alloc: Global, jugs: &Jugs, limit: u32) -> Result<Searched, NoMemory
     }
 }
 
+// So much is measured by jugs that hold so much.
+fn measuring(measured: u8, left: u8, right: u8) -> Jugs {
+    Jugs {
+        left,
+        right,
+        measured,
+    }
+}
+
 #[test]
 fn four_of_three_and_five(rt: HostRuntime) -> Result<(), Fail> {
-    let jugs = Jugs {
-        left: 3,
-        right: 5,
-        measured: 4,
-    };
+    let jugs = measuring(4, 3, 5);
     match searched(rt.alloc(), &jugs, 100)? {
         Searched::Found(schedule) => holds(schedule.as_slice() == [1, 5, 2, 5, 1, 5].as_slice(), 4),
         _ => holds(false, 0),
@@ -90,11 +95,7 @@ fn four_of_three_and_five(rt: HostRuntime) -> Result<(), Fail> {
 
 #[test]
 fn five_of_four_and_six(rt: HostRuntime) -> Result<(), Fail> {
-    let jugs = Jugs {
-        left: 4,
-        right: 6,
-        measured: 5,
-    };
+    let jugs = measuring(5, 4, 6);
     let found = searched(rt.alloc(), &jugs, 100)?;
     is_same(&found, &Searched::Nowhere { states: 10 })?;
     let found = searched(rt.alloc(), &jugs, 9)?;
