@@ -129,12 +129,7 @@ fn runs_from(plan: Plan, from: u32) -> u32
     u32::min(plan.runs, u32::MAX - from)
 }
 
-fn nothing_line(
-    alloc: Global,
-    lines: usize,
-    plan: Plan,
-    from: u32,
-) -> Result<String, AllocError>
+fn nothing_line(alloc: Global, lines: usize, plan: Plan, from: u32) -> Result<String, AllocError>
     ensures { IfOk result (λ line. string_bytes line ≡ nothing_line lines plan from) }
 {
     let mut line = String::from_str(alloc, safe_text(lines))?;
