@@ -1,6 +1,6 @@
 pub mod Carried
 pub mod EndsSearched
-pub mod Hunted
+pub mod HuntSearched
 pub mod NeverLines
 pub mod Pictured
 pub mod ProgramFiles

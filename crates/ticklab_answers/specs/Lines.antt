@@ -79,17 +79,18 @@ stuck_line asked = codes "after this schedule no further steps end " ++ asked_te
 abbrev pub no_process_line : ℕ → List ℕ
 no_process_line p = codes "--ends: error: there is no process " ++ decimal p ++ codes "\n"
 
--- the runs of a plan from this one on, of which the last that there is is 4294967294, and which one that is
+-- how many runs of a plan there are from this one on, of which the last is 4294967294; and what they are
 abbrev pub runs_from : Plan → ℕ → ℕ
 runs_from plan from = min plan.runs (4294967295 - from)
 
 abbrev pub from_text : ℕ → List ℕ
 from_text from = if from == 0 then [] else (codes ", from run " ++ decimal from)
 
+abbrev pub plan_text : Plan → ℕ → List ℕ
+plan_text plan from = codes " of at most " ++ steps_text plan.steps ++ codes " of seed " ++ decimal plan.seed ++ from_text from
+
 abbrev pub nothing_line : ℕ → Plan → ℕ → List ℕ
-nothing_line lines plan from =
-    safe_text lines ++ codes " in " ++ runs_text (runs_from plan from) ++ codes " of at most " ++ steps_text plan.steps ++ codes " of seed "
-    ++ decimal plan.seed ++ from_text from ++ codes "\n"
+nothing_line lines plan from = safe_text lines ++ codes " in " ++ runs_text (runs_from plan from) ++ plan_text plan from ++ codes "\n"
 
 -- an input that is taken, and one with a schedule that is
 abbrev pub taken_line : List ℕ → List ℕ

@@ -7,7 +7,7 @@ ghost use Rattle.ticklab_answers.specs.Asking.{place_of, texts_of};
 ghost use Rattle.ticklab_answers.specs.Exploring.{IsUnexplored};
 ghost use Rattle.ticklab_answers.specs.Faults.{IsOfFile};
 ghost use Rattle.ticklab_answers.specs.Hunting.{Hunts, IsHunted, plan_of};
-ghost use Rattle.ticklab_answers.specs.Lines.{from_text, nothing_line, runs_from};
+ghost use Rattle.ticklab_answers.specs.Lines.{from_text, nothing_line, plan_text, runs_from};
 ghost use Rattle.ticklab_answers.specs.Shown.{ShowsHunt};
 ghost use Rattle.ticklab_answers.specs.Stops.{IfRefused};
 
@@ -129,27 +129,29 @@ fn runs_from(plan: Plan, from: u32) -> u32
     u32::min(plan.runs, u32::MAX - from)
 }
 
-fn nothing_line(
-    alloc: Global,
-    lines: usize,
-    plan: Plan,
-    from: u32,
-) -> Result<String, AllocError>
+fn nothing_line(alloc: Global, lines: usize, plan: Plan, from: u32) -> Result<String, AllocError>
     ensures { IfOk result (λ line. string_bytes line ≡ nothing_line lines plan from) }
 {
     let mut line = String::from_str(alloc, safe_text(lines))?;
     line.push_str(" in ")?;
     push_many(&mut line, runs_from(plan, from), "run", "runs")?;
-    line.push_str(" of at most ")?;
-    push_many(&mut line, plan.steps, "step", "steps")?;
-    line.push_str(" of seed ")?;
-    push_number(&mut line, plan.seed)?;
-    push_from(&mut line, from)?;
+    push_plan(&mut line, plan, from)?;
     line.push_str("\n")?;
     Ok(line)
 }
 
-// From which run on, where that isn't the first.
+// How long the runs are, the seed, and which run is the first.
+fn push_plan(line: &mut String, plan: Plan, from: u32) -> Result<(), AllocError>
+    ensures { IfOk result (λ _. string_bytes line.new ≡ string_bytes line.old ++ plan_text plan from) }
+{
+    line.push_str(" of at most ")?;
+    push_many(line, plan.steps, "step", "steps")?;
+    line.push_str(" of seed ")?;
+    push_number(line, plan.seed)?;
+    push_from(line, from)
+}
+
+// The first run, where that isn't 0.
 fn push_from(line: &mut String, from: u32) -> Result<(), AllocError>
     ensures { IfOk result (λ _. string_bytes line.new ≡ string_bytes line.old ++ from_text from) }
 {

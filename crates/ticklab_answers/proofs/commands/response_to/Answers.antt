@@ -30,8 +30,12 @@ returns-in-Request-Hunt-clause-ok g c =
     responded c.args.given c.in_ok-words.words c.as_slice.result.now c.in_ok-file.field-0 (line.Request (request.Hunt asked.file asked.never asked.seed asked.runs asked.from asked.steps asked.is_uniform))
     c.in_ok-words.ensures.ok c.as_slice.ensures.value c.in_ok-file.ensures (asked.is ∙ ap line.Request asked.field-0-is)
     g.F.Files.Reads g.F.Files.ReadsInput g.M.Runner.Ran g.W.Watch.hears _ _ _ _ _ _ c.hunted.result c.hunted.ensures.ok
-    (λ x h. (refl, refl, subst (λ (plan : Plan). Hunts g.F.Files.Reads g.F.Files.ReadsInput c.args.files.now c.hunted.new.files asked.file.now (map (λ text. text.now) asked.never.items) plan asked.from x) c.plan_of-plan.ensures
-    (subst (λ (never : List (Bor (List ℕ))). Hunts g.F.Files.Reads g.F.Files.ReadsInput c.args.files.now c.hunted.new.files asked.file.now (texts_of never) c.plan_of-plan.result asked.from x) c.as_slice-never-2.ensures.value h)))
+    (λ x h. (
+      refl,
+      refl,
+      subst (λ (plan : Plan). Hunts g.F.Files.Reads g.F.Files.ReadsInput c.args.files.now c.hunted.new.files asked.file.now (map (λ text. text.now) asked.never.items) plan asked.from x) c.plan_of-plan.ensures
+          (subst (λ (never : List (Bor (List ℕ))). Hunts g.F.Files.Reads g.F.Files.ReadsInput c.args.files.now c.hunted.new.files asked.file.now (texts_of never) c.plan_of-plan.result asked.from x) c.as_slice-never-2.ensures.value h),
+    ))
 
 pub returns-in-Request-Hunt-clause-err : goal.returns-in-Request-Hunt-clause-err
 returns-in-Request-Hunt-clause-err g c =

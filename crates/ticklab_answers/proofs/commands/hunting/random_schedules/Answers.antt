@@ -9,7 +9,7 @@ use Rattle.searches_explore.specs.Lines.{lines_of}
 use Rattle.searches_hunt.specs.Never.{IfBroken, IfFault, IfNothing, IfTrapped, IsFirstFault, IsMinimalBroken, IsMinimalTrapped, NoRunFaults}
 use Rattle.ticklab_answers.specs.Asking.{IsFileRefused, TellsOption, lines_in, place_of, texts_of}
 use Rattle.ticklab_answers.specs.Exploring.{IsUnexplored, no_file, no_option}
-use Rattle.ticklab_answers.proofs.Hunted.{hunted_by, hunted_lawful, hunted_within}
+use Rattle.ticklab_answers.proofs.HuntSearched.{hunted_by, hunted_lawful, hunted_within}
 use Rattle.ticklab_answers.proofs.ProgramFiles.{file_of}
 use Rattle.ticklab_answers.proofs.Settled.{refused_as, stopped_by}
 use Rattle.ticklab_answers.proofs.commands.hunting.random_schedules.Goals as goal
