@@ -28,7 +28,7 @@ pub fn drawn<F: Files>(
     ensures ok { IfOk result (Draws F.Reads F.ReadsInput files.old files.new file.now schedule.now is_code) }
     ensures err { IfErr result (IsOfFileThat (IsEither file.now schedule.now)) }
 {
-    told(alloc, files, file, schedule, Telling::Picture, is_code)
+    told(alloc, files, file, schedule, &[], Telling::Picture, is_code)
 }
 
 /// The picture; `name` is that of the program's file.
@@ -51,6 +51,7 @@ pub fn picture_of(
         program.processes(),
         registers,
         marks.as_slice(),
+        None,
     )?)
 }
 

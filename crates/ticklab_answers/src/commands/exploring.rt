@@ -163,8 +163,8 @@ fn break_line(is_merged: bool) -> &'static str
     }
 }
 
-// What was found, and behind it the line that breaks, with what it comes to.
-fn with_line(
+/// What was found, and behind it the line that breaks, with what it comes to.
+pub fn with_line(
     alloc: Global,
     traced: String,
     place: &PropertyPlace<'_>,
