@@ -1,5 +1,5 @@
 -- The picture of a run, of whose program the names and the number of processes were read.
-use Rattle.std.proofs.Common.{◌≡◌, ◌∙◌, ℕ, Bool, true, false, List, [], ◌∷◌, ap, if◌then◌else◌, map, refl, string_bytes, Option, None}
+use Rattle.std.proofs.Common.{◌≡◌, ◌∙◌, ℕ, Bool, true, false, List, [], ◌∷◌, ap, if◌then◌else◌, map, refl, string_bytes, Option}
 use Rattle.base.specs.Plain.{Name, WholeProgram}
 use Rattle.base.specs.View.{name_of}
 use Rattle.base.specs.declared.tree.Named.{Named}
@@ -9,6 +9,9 @@ use Rattle.ticklab_draw.specs.Never.{Broken}
 use Rattle.ticklab_draw.specs.Pictures.{picture}
 use Rattle.ticklab_draw.specs.Words.{names}
 use Rattle.ticklab_draw.specs.declared.mark.Mark.{Mark}
+use Rattle.language_properties.specs.Properties.{Formula}
+use Rattle.ticklab_answers.specs.Asking.{TextPlace}
+use Rattle.ticklab_answers.specs.Breaking.{IsMarkedFor}
 use Rattle.ticklab_answers.specs.Codes.{HasCode, program_code}
 use Rattle.ticklab_answers.specs.Runs.{IsRunPicture, row_names}
 
@@ -26,11 +29,18 @@ same_picture name n m rows row_names marks others broken out count named same dr
     ∙ ap (λ (r : List (List ℕ)). picture name m r marks broken) named
     ∙ ap (λ (ms : List Mark). picture name m row_names ms broken) same
 
-pub picture_by : (is_code : Bool) (name : List ℕ) (a : WholeProgram Name) (schedule out : List ℕ) (n : ℕ) (rows : List (List ℕ)) (marks : List Mark)
-    → n ≡ a.processes → rows ≡ row_names a
+pub picture_by : (is_code : Bool) (lines : List Formula) (places : List TextPlace) (name : List ℕ) (a : WholeProgram Name) (schedule out : List ℕ)
+    (n : ℕ) (rows : List (List ℕ)) (marks : List Mark) (mark : Option Broken) → n ≡ a.processes → rows ≡ row_names a
     → marks ≡ (if is_code then marks_of_code (program_code a) schedule else program_marks (resolved a) schedule)
-    → (is_code ≡ true → HasCode a) → out ≡ picture name n rows marks None → IsRunPicture is_code name a schedule out
-picture_by true name a schedule out n rows marks count named same has drawn =
-    (has refl, same_picture name n a.processes rows (row_names a) marks (marks_of_code (program_code a) schedule) None out count named same drawn)
-picture_by false name a schedule out n rows marks count named same has drawn =
-    same_picture name n a.processes rows (row_names a) marks (program_marks (resolved a) schedule) None out count named same drawn
+    → (is_code ≡ true → HasCode a) → IsMarkedFor is_code (resolved a) lines places schedule mark → out ≡ picture name n rows marks mark
+    → IsRunPicture is_code lines places name a schedule out
+picture_by true lines places name a schedule out n rows marks mark count named same has is drawn = (
+  has refl,
+  same_picture name n a.processes rows (row_names a) marks (marks_of_code (program_code a) schedule) mark out count named same drawn
+      ∙ ap (picture name a.processes (row_names a) (marks_of_code (program_code a) schedule)) is,
+)
+picture_by false lines places name a schedule out n rows marks mark count named same has is drawn = record {
+  mark = mark;
+  is_mark = is;
+  drawn = same_picture name n a.processes rows (row_names a) marks (program_marks (resolved a) schedule) mark out count named same drawn;
+}

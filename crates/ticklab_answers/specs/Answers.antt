@@ -46,7 +46,7 @@ module _ {F M W : Type 0} (Reads : ReadsOf F) (ReadsInput : ReadsInputOf F) (Ran
   Responds (Trace file schedule never is_code) response =
       (ran ≡ rested) × (heard ≡ quiet) × Traces Reads ReadsInput before after file schedule never is_code response
   Responds (Draw file schedule never is_code) response =
-      (ran ≡ rested) × (heard ≡ quiet) × Draws Reads ReadsInput before after file schedule is_code response
+      (ran ≡ rested) × (heard ≡ quiet) × Draws Reads ReadsInput before after file schedule never is_code response
   Responds (Explain file schedule) response = (ran ≡ rested) × (heard ≡ quiet) × Explains Reads ReadsInput before after file schedule response
   Responds (Labels processes moves) response = (ran ≡ rested) × (heard ≡ quiet) × (after ≡ before) × DrawsLabels processes moves response
 

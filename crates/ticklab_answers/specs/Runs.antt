@@ -1,6 +1,6 @@
 -- What `trace` and `draw` answer: a trace or a picture of the run of a program, or of its code, under a
 -- schedule.
-use Rattle.std.specs.Prelude.{◌≡◌, ◌++◌, ℕ, Bool, true, false, List, [], drop, map, slice_get, take, Some, None, Ok}
+use Rattle.std.specs.Prelude.{◌≡◌, ◌++◌, ℕ, Bool, true, false, List, drop, map, slice_get, take, Option, Some, None, Ok}
 use Rattle.base.specs.Plain.{Name, WholeProgram}
 use Rattle.tick_syntax.specs.Spelling.{Spells}
 use Rattle.tick_syntax.specs.declared.token.Token.{Token}
@@ -17,9 +17,10 @@ use Rattle.ticklab_trace.specs.StatementSteps.{AreStatementSteps}
 use Rattle.ticklab_trace.specs.Places.{standings}
 use Rattle.ticklab_trace.specs.TraceText.{instruction_lines, statement_lines}
 use Rattle.ticklab_draw.specs.Marks.{marks_of_code, program_marks}
+use Rattle.ticklab_draw.specs.Never.{Broken}
 use Rattle.ticklab_draw.specs.Pictures.{picture}
 use Rattle.ticklab_answers.specs.Asking.{AsksNever, IsFileRefused, IsProgramFile, TellsOption, TextPlace, lines_in, places_by}
-use Rattle.ticklab_answers.specs.Breaking.{IsFirstBreak, NeverBreaks}
+use Rattle.ticklab_answers.specs.Breaking.{IsFirstBreak, IsMarked, NeverBreaks}
 use Rattle.ticklab_answers.specs.Codes.{HasCode, IsCodeless, program_code}
 use Rattle.ticklab_answers.specs.Lines.{broken_text}
 use Rattle.ticklab_answers.specs.Reading.{AfterBoth, ReadsOf, ReadsInputOf}
@@ -92,16 +93,25 @@ IsTrace false lines places input a schedule out = IsLinedTrace lines places inpu
 abbrev pub row_names : WholeProgram Name → List (List ℕ)
 row_names a = map (λ row. row.letters) a.registers
 
--- the picture of the program's run, or of its code's
-abbrev pub IsRunPicture : Bool → List ℕ → WholeProgram Name → List ℕ → List ℕ → Type 0
-IsRunPicture true name a schedule out =
+-- The picture of the run of a program, with the first of these lines to be broken, which stand here.
+pub record IsProgramPicture (lines : List Formula) (places : List TextPlace) (name : List ℕ) (a : WholeProgram Name) (schedule out : List ℕ) : Type 0 where
+  pub mark : Option Broken
+  pub is_mark : IsMarked (resolved a) lines places schedule mark
+  pub drawn : out ≡ picture name a.processes (row_names a) (program_marks (resolved a) schedule) mark
+
+-- that of its code, of which no line is asked
+abbrev pub IsCodePicture : List ℕ → WholeProgram Name → List ℕ → List ℕ → Type 0
+IsCodePicture name a schedule out =
     HasCode a × (out ≡ picture name a.processes (row_names a) (marks_of_code (program_code a) schedule) None)
-IsRunPicture false name a schedule out = out ≡ picture name a.processes (row_names a) (program_marks (resolved a) schedule) None
+
+abbrev pub IsRunPicture : Bool → List Formula → List TextPlace → List ℕ → WholeProgram Name → List ℕ → List ℕ → Type 0
+IsRunPicture true lines places name a schedule out = IsCodePicture name a schedule out
+IsRunPicture false lines places name a schedule out = IsProgramPicture lines places name a schedule out
 
 -- a run is told as a trace or as a picture
 abbrev pub IsToldWith : Telling → Bool → List ℕ → List Formula → List TextPlace → List ℕ → WholeProgram Name → List ℕ → List ℕ → Type 0
 IsToldWith Trace is_code name lines places input = IsTrace is_code lines places input
-IsToldWith Picture is_code name lines places input = IsRunPicture is_code name
+IsToldWith Picture is_code name lines places input = IsRunPicture is_code lines places name
 
 abbrev pub IsTold : Telling → Bool → (name : List ℕ) (texts : List (List ℕ)) (input : List ℕ) → Told texts input
 IsTold telling is_code name texts input asks =
@@ -115,5 +125,5 @@ TellsRun telling Reads ReadsInput before after file schedule never is_code respo
 abbrev pub Traces : {F : Type 0} → ReadsOf F → ReadsInputOf F → F → F → List ℕ → List ℕ → List (List ℕ) → Bool → Response → Type 0
 Traces Reads ReadsInput before after file schedule never is_code response = TellsRun Trace Reads ReadsInput before after file schedule never is_code response
 
-abbrev pub Draws : {F : Type 0} → ReadsOf F → ReadsInputOf F → F → F → List ℕ → List ℕ → Bool → Response → Type 0
-Draws Reads ReadsInput before after file schedule is_code response = TellsRun Picture Reads ReadsInput before after file schedule [] is_code response
+abbrev pub Draws : {F : Type 0} → ReadsOf F → ReadsInputOf F → F → F → List ℕ → List ℕ → List (List ℕ) → Bool → Response → Type 0
+Draws Reads ReadsInput before after file schedule never is_code response = TellsRun Picture Reads ReadsInput before after file schedule never is_code response

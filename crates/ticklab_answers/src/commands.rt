@@ -87,10 +87,10 @@ pub fn response_to<F: Files, M: Runner, W: Progress>(
             Request::Draw {
                 file,
                 schedule,
-                never: _,
+                never,
                 is_code,
             },
-        ) => drawn(alloc, files, file, schedule, is_code),
+        ) => drawn(alloc, files, file, schedule, never.as_slice(), is_code),
         Line::Request(Request::Explain { file, schedule }) => {
             explained(alloc, files, file, schedule)
         }

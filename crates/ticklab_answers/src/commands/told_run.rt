@@ -106,6 +106,6 @@ fn telling_of(
 {
     match telling {
         Telling::Trace => trace_of(alloc, name, spelled, input, lines, schedule, is_code),
-        Telling::Picture => picture_of(alloc, name, &spelled.program, schedule, is_code),
+        Telling::Picture => { picture_of(alloc, name, &spelled.program, lines, schedule, is_code) },
     }
 }
