@@ -1,3 +1,4 @@
+pub mod Breaks
 pub mod Carried
 pub mod EndsSearched
 pub mod HuntSearched

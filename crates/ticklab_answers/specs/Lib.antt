@@ -1,5 +1,6 @@
 pub mod Answers
 pub mod Asking
+pub mod Breaking
 pub mod Codes
 pub mod Ends
 pub mod Explanations

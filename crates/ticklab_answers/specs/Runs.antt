@@ -1,12 +1,14 @@
 -- What `trace` and `draw` answer: a trace or a picture of the run of a program, or of its code, under a
 -- schedule.
-use Rattle.std.specs.Prelude.{◌≡◌, ℕ, Bool, true, false, List, map, Ok}
+use Rattle.std.specs.Prelude.{◌≡◌, ◌++◌, ℕ, Bool, true, false, List, drop, map, slice_get, take, Option, Some, None, Ok}
 use Rattle.base.specs.Plain.{Name, WholeProgram}
 use Rattle.tick_syntax.specs.Spelling.{Spells}
 use Rattle.tick_syntax.specs.declared.token.Token.{Token}
 use Rattle.tick_kinds.specs.Resolution.{resolved}
+use Rattle.language_properties.specs.Properties.{Formula}
 use Rattle.language_schedules.specs.Schedule.{schedule_of}
 use Rattle.ticketc_refusals.specs.Refusals.{IsScheduleRefused}
+use Rattle.ticklab_explain.specs.Questions.{IsPointed}
 use Rattle.ticklab_explain.specs.Reports.{TellsFor}
 use Rattle.ticklab_trace.specs.declared.steps.InstructionStep.{InstructionStep}
 use Rattle.ticklab_trace.specs.declared.steps.StatementStep.{StatementStep}
@@ -15,33 +17,42 @@ use Rattle.ticklab_trace.specs.StatementSteps.{AreStatementSteps}
 use Rattle.ticklab_trace.specs.Places.{standings}
 use Rattle.ticklab_trace.specs.TraceText.{instruction_lines, statement_lines}
 use Rattle.ticklab_draw.specs.Marks.{marks_of_code, program_marks}
+use Rattle.ticklab_draw.specs.Never.{Broken}
 use Rattle.ticklab_draw.specs.Pictures.{picture}
-use Rattle.ticklab_answers.specs.Asking.{IsFileRefused, IsProgramFile}
+use Rattle.ticklab_answers.specs.Asking.{AsksNever, IsFileRefused, IsProgramFile, TellsOption, TextPlace, lines_in, places_by}
+use Rattle.ticklab_answers.specs.Breaking.{IsFirstBreak, IsMarked, NeverBreaks}
 use Rattle.ticklab_answers.specs.Codes.{HasCode, IsCodeless, program_code}
+use Rattle.ticklab_answers.specs.Lines.{broken_text}
 use Rattle.ticklab_answers.specs.Reading.{AfterBoth, ReadsOf, ReadsInputOf}
 use Rattle.ticklab_answers.specs.Responses.{Gives, Refuses}
+use Rattle.ticklab_answers.specs.declared.breaking.Break.{Break}
 use Rattle.ticklab_answers.specs.declared.commands.told_run.Telling.{Telling}
 use Rattle.ticklab_answers.specs.declared.commands.told_run.Telling.TheVariants.{Trace, Picture}
 use Rattle.ticklab_answers.specs.declared.response.Response.{Response}
 
--- The report of a run that isn't made: of the file, the schedule or the code, in this order.
-pub data IsUnrun (name input from text : List ℕ) (is_code : Bool) (report : List ℕ) : Type 0 where
-  file_refused : IsFileRefused name input report → IsUnrun name input from text is_code report
+-- The report of a run that isn't made: of the file, these texts of a command line, the schedule or the code, in this order.
+pub data IsUnrun (name : List ℕ) (texts : List (List ℕ)) (input from text : List ℕ) (is_code : Bool) (report : List ℕ) : Type 0 where
+  file_refused : IsFileRefused name input report → IsUnrun name texts input from text is_code report
+  option_refused : (is : IsProgramFile input) → TellsOption is.program (lines_in is.asked) texts report → IsUnrun name texts input from text is_code report
   schedule_refused : (is : IsProgramFile input) → TellsFor is.program.processes (IsScheduleRefused is.program.processes text) from text report
-      → IsUnrun name input from text is_code report
+      → IsUnrun name texts input from text is_code report
   code_refused : (is : IsProgramFile input) (schedule : List ℕ) → schedule_of is.program.processes text ≡ Ok schedule
-      → IsCodeless is_code name is.program report → IsUnrun name input from text is_code report
+      → IsCodeless is_code name is.program report → IsUnrun name texts input from text is_code report
+
+-- what is told of a run of the program of an input, with what must never hold of it
+abbrev pub Told : List (List ℕ) → List ℕ → Type 1
+Told texts input = AsksNever texts input → List ℕ → List ℕ → Type 0
 
 -- Of the run of the program that the input is, under the schedule that the text spells, this is told.
-pub record IsRun (P : WholeProgram Name → List ℕ → List ℕ → Type 0) (input text out : List ℕ) : Type 0 where
-  pub is : IsProgramFile input
+pub record IsRun {texts : List (List ℕ)} {input : List ℕ} (P : Told texts input) (text out : List ℕ) : Type 0 where
+  pub asks : AsksNever texts input
   pub schedule : List ℕ
-  pub spelled : schedule_of is.program.processes text ≡ Ok schedule
-  pub told : P is.program schedule out
+  pub spelled : schedule_of asks.file.program.processes text ≡ Ok schedule
+  pub told : P asks schedule out
 
-pub data AnswersRun (P : WholeProgram Name → List ℕ → List ℕ → Type 0) (name input from text : List ℕ) (is_code : Bool) (response : Response) : Type 0 where
-  run : Gives 0 (IsRun P input text) response → AnswersRun P name input from text is_code response
-  unrun : Refuses 1 (IsUnrun name input from text is_code) response → AnswersRun P name input from text is_code response
+pub data AnswersRun {texts : List (List ℕ)} {input : List ℕ} (P : Told texts input) (name from text : List ℕ) (is_code : Bool) (response : Response) : Type 0 where
+  run : Gives 0 (IsRun P text) response → AnswersRun P name from text is_code response
+  unrun : Refuses 1 (IsUnrun name texts input from text is_code) response → AnswersRun P name from text is_code response
 
 -- The lines of the steps of the program that the input is, with its statements where they stand there.
 pub record IsStatementTrace (input : List ℕ) (a : WholeProgram Name) (schedule out : List ℕ) : Type 0 where
@@ -51,6 +62,23 @@ pub record IsStatementTrace (input : List ℕ) (a : WholeProgram Name) (schedule
   pub are_steps : AreStatementSteps (resolved a) schedule steps
   pub lines : out ≡ statement_lines a (standings input tokens a) 0 steps
 
+-- The same, and after the step after which a line first is broken, that line, which stands here, and what it comes to.
+pub record IsTraceAround (place : TextPlace) (input : List ℕ) (a : WholeProgram Name) (schedule : List ℕ) (b : Break) (out : List ℕ) : Type 0 where
+  pub tokens : List Token
+  pub spelled : Spells input tokens
+  pub steps : List StatementStep
+  pub are_steps : AreStatementSteps (resolved a) schedule steps
+  pub pointed : List ℕ
+  pub is_pointed : IsPointed place.name place.text place.span (broken_text b.value) pointed
+  pub lines : out ≡ statement_lines a (standings input tokens a) 0 (take b.steps steps) ++ pointed
+      ++ statement_lines a (standings input tokens a) b.steps (drop b.steps steps)
+
+-- the trace with the first of these lines to be broken, which stand here
+pub data IsLinedTrace (lines : List Formula) (places : List TextPlace) (input : List ℕ) (a : WholeProgram Name) (schedule out : List ℕ) : Type 0 where
+  unbroken : NeverBreaks (resolved a) lines schedule → IsStatementTrace input a schedule out → IsLinedTrace lines places input a schedule out
+  breaking : (b : Break) → IsFirstBreak (resolved a) lines schedule b → (place : TextPlace) → slice_get places b.line ≡ Some place
+      → IsTraceAround place input a schedule b out → IsLinedTrace lines places input a schedule out
+
 -- The same of its code.
 pub record IsInstructionTrace (a : WholeProgram Name) (schedule out : List ℕ) : Type 0 where
   pub has_code : HasCode a
@@ -58,30 +86,44 @@ pub record IsInstructionTrace (a : WholeProgram Name) (schedule out : List ℕ) 
   pub are_steps : AreInstructionSteps (program_code a) schedule steps
   pub lines : out ≡ instruction_lines a 0 steps
 
-abbrev pub IsTrace : Bool → List ℕ → WholeProgram Name → List ℕ → List ℕ → Type 0
-IsTrace true input a schedule out = IsInstructionTrace a schedule out
-IsTrace false input a schedule out = IsStatementTrace input a schedule out
+abbrev pub IsTrace : Bool → List Formula → List TextPlace → List ℕ → WholeProgram Name → List ℕ → List ℕ → Type 0
+IsTrace true lines places input a schedule out = IsInstructionTrace a schedule out
+IsTrace false lines places input a schedule out = IsLinedTrace lines places input a schedule out
 
 abbrev pub row_names : WholeProgram Name → List (List ℕ)
 row_names a = map (λ row. row.letters) a.registers
 
--- the picture of the program's run, or of its code's
-abbrev pub IsRunPicture : Bool → List ℕ → WholeProgram Name → List ℕ → List ℕ → Type 0
-IsRunPicture true name a schedule out =
-    HasCode a × (out ≡ picture name a.processes (row_names a) (marks_of_code (program_code a) schedule))
-IsRunPicture false name a schedule out = out ≡ picture name a.processes (row_names a) (program_marks (resolved a) schedule)
+-- The picture of the run of a program, with the first of these lines to be broken, which stand here.
+pub record IsProgramPicture (lines : List Formula) (places : List TextPlace) (name : List ℕ) (a : WholeProgram Name) (schedule out : List ℕ) : Type 0 where
+  pub mark : Option Broken
+  pub is_mark : IsMarked (resolved a) lines places schedule mark
+  pub drawn : out ≡ picture name a.processes (row_names a) (program_marks (resolved a) schedule) mark
+
+-- that of its code, of which no line is asked
+abbrev pub IsCodePicture : List ℕ → WholeProgram Name → List ℕ → List ℕ → Type 0
+IsCodePicture name a schedule out =
+    HasCode a × (out ≡ picture name a.processes (row_names a) (marks_of_code (program_code a) schedule) None)
+
+abbrev pub IsRunPicture : Bool → List Formula → List TextPlace → List ℕ → WholeProgram Name → List ℕ → List ℕ → Type 0
+IsRunPicture true lines places name a schedule out = IsCodePicture name a schedule out
+IsRunPicture false lines places name a schedule out = IsProgramPicture lines places name a schedule out
 
 -- a run is told as a trace or as a picture
-abbrev pub IsTold : Telling → Bool → List ℕ → List ℕ → WholeProgram Name → List ℕ → List ℕ → Type 0
-IsTold Trace is_code name input = IsTrace is_code input
-IsTold Picture is_code name input = IsRunPicture is_code name
+abbrev pub IsToldWith : Telling → Bool → List ℕ → List Formula → List TextPlace → List ℕ → WholeProgram Name → List ℕ → List ℕ → Type 0
+IsToldWith Trace is_code name lines places input = IsTrace is_code lines places input
+IsToldWith Picture is_code name lines places input = IsRunPicture is_code lines places name
 
-abbrev pub TellsRun : {F : Type 0} → Telling → ReadsOf F → ReadsInputOf F → F → F → List ℕ → List ℕ → Bool → Response → Type 0
-TellsRun telling Reads ReadsInput before after file schedule is_code response =
-    AfterBoth Reads ReadsInput before after file schedule (λ input from text. AnswersRun (IsTold telling is_code file input) file input from text is_code response)
+abbrev pub IsTold : Telling → Bool → (name : List ℕ) (texts : List (List ℕ)) (input : List ℕ) → Told texts input
+IsTold telling is_code name texts input asks =
+    IsToldWith telling is_code name asks.lines (places_by name input asks.file.asked texts) input asks.file.program
 
-abbrev pub Traces : {F : Type 0} → ReadsOf F → ReadsInputOf F → F → F → List ℕ → List ℕ → Bool → Response → Type 0
-Traces Reads ReadsInput before after file schedule is_code response = TellsRun Trace Reads ReadsInput before after file schedule is_code response
+abbrev pub TellsRun : {F : Type 0} → Telling → ReadsOf F → ReadsInputOf F → F → F → List ℕ → List ℕ → List (List ℕ) → Bool → Response → Type 0
+TellsRun telling Reads ReadsInput before after file schedule never is_code response =
+    AfterBoth Reads ReadsInput before after file schedule
+    (λ input from text. AnswersRun (IsTold telling is_code file never input) file from text is_code response)
 
-abbrev pub Draws : {F : Type 0} → ReadsOf F → ReadsInputOf F → F → F → List ℕ → List ℕ → Bool → Response → Type 0
-Draws Reads ReadsInput before after file schedule is_code response = TellsRun Picture Reads ReadsInput before after file schedule is_code response
+abbrev pub Traces : {F : Type 0} → ReadsOf F → ReadsInputOf F → F → F → List ℕ → List ℕ → List (List ℕ) → Bool → Response → Type 0
+Traces Reads ReadsInput before after file schedule never is_code response = TellsRun Trace Reads ReadsInput before after file schedule never is_code response
+
+abbrev pub Draws : {F : Type 0} → ReadsOf F → ReadsInputOf F → F → F → List ℕ → List ℕ → List (List ℕ) → Bool → Response → Type 0
+Draws Reads ReadsInput before after file schedule never is_code response = TellsRun Picture Reads ReadsInput before after file schedule never is_code response

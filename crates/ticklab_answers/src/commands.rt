@@ -85,16 +85,18 @@ pub fn response_to<F: Files, M: Runner, W: Progress>(
             Request::Trace {
                 file,
                 schedule,
+                never,
                 is_code,
             },
-        ) => traced(alloc, files, file, schedule, is_code),
+        ) => traced(alloc, files, file, schedule, never.as_slice(), is_code),
         Line::Request(
             Request::Draw {
                 file,
                 schedule,
+                never,
                 is_code,
             },
-        ) => drawn(alloc, files, file, schedule, is_code),
+        ) => drawn(alloc, files, file, schedule, never.as_slice(), is_code),
         Line::Request(Request::Explain { file, schedule }) => {
             explained(alloc, files, file, schedule)
         }

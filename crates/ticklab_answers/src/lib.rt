@@ -9,6 +9,7 @@
 #![tactic(auto)]
 
 mod asking;
+mod breaking;
 mod commands;
 mod counts;
 mod ending;
@@ -19,6 +20,7 @@ pub mod laws;
 mod progress;
 mod reading;
 mod response;
+mod seen;
 mod stop;
 mod trapping;
 mod writing;

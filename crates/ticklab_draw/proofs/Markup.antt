@@ -1,5 +1,5 @@
--- Titles and names of rows open no tag. Two pictures of the same marks have as many `<`, whatever their
--- titles are and however their rows are named (`markup_law`).
+-- Titles, names of rows and the text of what must never hold open no tag. Two pictures of the same marks have as many `<`,
+-- whatever these are (`markup_law`).
 -- The idea. The two pictures are the same pieces but for escaped texts. An escaped text has no `<`
 -- (`none_in`). Texts with as many `<`, joined in turn, have as many (`joined`). So the page goes piece by
 -- piece from the name of a row (`at_row`) to the whole picture (`picture_alike`).
@@ -8,7 +8,7 @@
 -- don't depend on the words (`put_drawn`, `get_drawn`).
 -- Read `joined` and `none_in` first.
 use Rattle.std.proofs.Common.{◌≡◌, ◌∙◌, ap, sym, refl, arith, zero-add, ℕ, zero, suc, ◌+◌, Bool, true, false, if◌then◌else◌, List, [], ◌∷◌, ◌++◌, codes, length, Option, None, Some}
-use Rattle.std.specs.Prelude.{◌==◌, ◌||◌, nat_lt, slice_get}
+use Rattle.std.specs.Prelude.{◌==◌, ◌||◌, nat_lt, option_map, slice_get}
 use Rattle.std.specs.Fmt.{decimal}
 use Rattle.std.specs.List.{flat_map}
 use Rattle.base.specs.declared.event.Act.{Act}
@@ -18,9 +18,10 @@ use Rattle.ticklab_draw.specs.declared.mark.Sight.{Sight}
 use Rattle.ticklab_draw.specs.declared.mark.Sight.TheVariants as S
 use Rattle.ticklab_draw.specs.declared.shapes.Shape.TheVariants.{Put, Get}
 use Rattle.ticklab_draw.specs.Escapes.{escaped, escaped_byte}
-use Rattle.ticklab_draw.specs.Laws.{MarkupLaw, openings}
-use Rattle.ticklab_draw.specs.Layout.{is_far, page_height}
+use Rattle.ticklab_draw.specs.Laws.{MarkupLaw, openings, reworded}
+use Rattle.ticklab_draw.specs.Layout.{above_y, band_foot, band_top, behind_x, is_far, last_band, page_height}
 use Rattle.ticklab_draw.specs.Legend.{legend_text}
+use Rattle.ticklab_draw.specs.Never.{Broken, dashed_line, marks_within, moment_text, never_behind, never_label, never_text, never_title, value_text}
 use Rattle.ticklab_draw.specs.Pictures.{about, group_head, group_text, groups_text, heading, page_head, page_size, picture, title_element, titled, under_text}
 use Rattle.ticklab_draw.specs.Shapes.{above, below, beside, drawn, drawn_as, label, outline, shape_of, words_text}
 use Rattle.ticklab_draw.specs.Style.{backdrop, sheet}
@@ -179,11 +180,27 @@ unfolding heading
 heading_alike title other =
     joined (both (sheet ++ backdrop)) (titled_alike (codes "<text class=\"title\" x=\"16\" y=\"26\">") title other (codes "</text>\n"))
 
-picture_alike : (title other : List ℕ) (n : ℕ) (rows renamed : List (List ℕ)) (marks : List Mark) → length rows ≡ length renamed
-    → Alike (picture title n rows marks) (picture other n renamed marks)
+never_titled : (b : Broken) (text : List ℕ) → Alike (never_title b) (never_title (reworded text b))
+unfolding never_title
+never_titled b text =
+    joined (joined (joined (joined (both (codes "<g id=\"never\"><title>" ++ moment_text b.steps ++ codes ": ")) (texts b.text text)) (both (codes " must never hold, and "))) (both (value_text b.value))) (both (codes "</title>"))
+
+behind_alike : (n count : ℕ) (b : Broken) (text : List ℕ) → Alike (never_behind n count b) (never_behind n count (reworded text b))
+unfolding never_behind
+behind_alike n count b text =
+    joined (joined (never_titled b text) (both (dashed_line (behind_x count) (band_top n (last_band count)) (band_foot n (last_band count))))) (both (never_label (behind_x count) (above_y n (last_band count)) b.number))
+
+never_alike : (n : ℕ) (marks : List Mark) (broken : Option Broken) (text : List ℕ)
+    → Alike (never_text n marks broken) (never_text n marks (option_map (reworded text) broken))
+never_alike n marks None text = both []
+never_alike n marks (Some b) text = behind_alike n (marks_within b.steps marks) b text
+
+picture_alike : (title other : List ℕ) (n : ℕ) (rows renamed : List (List ℕ)) (marks : List Mark) (broken : Option Broken) (text : List ℕ)
+    → length rows ≡ length renamed
+    → Alike (picture title n rows marks broken) (picture other n renamed marks (option_map (reworded text) broken))
 unfolding picture
-picture_alike title other n rows renamed marks e =
-    joined (joined (joined (joined (head_alike title other n (length marks)) (heading_alike title other)) (both (under_text n marks))) (groups_alike n rows renamed e 0 marks)) (both (legend_text n (length marks)))
+picture_alike title other n rows renamed marks broken text e =
+    joined (joined (joined (joined (joined (head_alike title other n (length marks)) (heading_alike title other)) (never_alike n marks broken text)) (both (under_text n marks))) (groups_alike n rows renamed e 0 marks)) (both (legend_text n (length marks)))
 
 pub markup_law : MarkupLaw
-markup_law title other n rows renamed marks e = (picture_alike title other n rows renamed marks e).same
+markup_law title other n rows renamed marks broken text e = (picture_alike title other n rows renamed marks broken text e).same

@@ -1,6 +1,7 @@
 -- No text of a file opens a tag: each `<` of a picture belongs to its markup.
-use Rattle.std.specs.Prelude.{◌≡◌, ℕ, ◌+◌, ◌==◌, if◌then◌else◌, List, [], ◌∷◌, length}
+use Rattle.std.specs.Prelude.{◌≡◌, ℕ, ◌+◌, ◌==◌, if◌then◌else◌, List, [], ◌∷◌, length, Option, option_map}
 use Rattle.ticklab_draw.specs.declared.mark.Mark.{Mark}
+use Rattle.ticklab_draw.specs.Never.{Broken}
 use Rattle.ticklab_draw.specs.Pictures.{picture}
 
 -- how many `<` stand in a text
@@ -8,7 +9,12 @@ abbrev pub openings : List ℕ → ℕ
 openings [] = 0
 openings (byte ∷ bytes) = if byte == 60 then 1 + openings bytes else openings bytes
 
--- a picture has as many of them whatever its title is, and however its rows are named
+-- the same with another text
+abbrev pub reworded : List ℕ → Broken → Broken
+reworded text b = record b { text = text }
+
+-- a picture has as many of them whatever its title is, however its rows are named, and however reads what must never hold
 abbrev pub MarkupLaw : Type 0
-MarkupLaw = (title other : List ℕ) (n : ℕ) (rows renamed : List (List ℕ)) (marks : List Mark) → length rows ≡ length renamed
-    → openings (picture title n rows marks) ≡ openings (picture other n renamed marks)
+MarkupLaw = (title other : List ℕ) (n : ℕ) (rows renamed : List (List ℕ)) (marks : List Mark) (broken : Option Broken) (text : List ℕ)
+    → length rows ≡ length renamed
+    → openings (picture title n rows marks broken) ≡ openings (picture other n renamed marks (option_map (reworded text) broken))

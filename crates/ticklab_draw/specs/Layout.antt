@@ -1,5 +1,5 @@
 -- Where things stand on the page: 14 marks in a band, each in the lane of its process. `Lanes`, `Feet`,
--- `Arrows` and `Shapes` say what is shown there, without these numbers.
+-- `Arrows`, `Shapes` and `Never` say what is shown there, without these numbers.
 use Rattle.std.specs.Prelude.{ℕ, ◌+◌, ◌-◌, ◌*◌, ◌/◌, ◌%◌, ◌==◌, max, nat_lt, Bool, if◌then◌else◌}
 
 -- the place of the last band of so many marks, counted from 0
@@ -41,6 +41,13 @@ order_y n at = band_foot n (at / 14) + (if is_far at then 23 else 10)
 -- and the number of the step
 abbrev pub step_y : ℕ → ℕ → ℕ
 step_y n at = band_foot n (at / 14) + 40
+
+-- a line behind so many marks, and words above the lanes of a band
+abbrev pub behind_x : ℕ → ℕ
+behind_x count = if count == 0 then 56 else mark_x (count - 1) + 30
+
+abbrev pub above_y : ℕ → ℕ → ℕ
+above_y n band = band_top n band - 3
 
 -- where an arrow from one height to another begins and ends, just outside of its marks
 abbrev pub arrow_start : ℕ → ℕ → ℕ

@@ -11,6 +11,7 @@ pub mod Steps
 pub mod Arrows
 pub mod Feet
 pub mod Legend
+pub mod Never
 pub mod Style
 pub mod Pictures
 pub mod Laws

@@ -1,6 +1,7 @@
--- A run as SVG, to the byte: a page with its title, its style, lanes with what stands below them, a group for
--- each mark in order, and the legend. The title and the names of rows are written as `Escapes` says.
-use Rattle.std.specs.Prelude.{ℕ, ◌+◌, List, [], ◌∷◌, ◌++◌, codes, length}
+-- A run as SVG, to the byte: a page with its title, its style, the mark of what must never hold, lanes with
+-- what stands below them, a group for each mark in order, and the legend. The title, the names of rows and the text of what
+-- must never hold are written as `Escapes` says.
+use Rattle.std.specs.Prelude.{ℕ, ◌+◌, List, [], ◌∷◌, ◌++◌, codes, length, Option}
 use Rattle.ticklab_draw.specs.declared.mark.Mark.{Mark}
 use Rattle.ticklab_draw.specs.Colours.{colour}
 use Rattle.ticklab_draw.specs.Escapes.{escaped}
@@ -8,6 +9,7 @@ use Rattle.ticklab_draw.specs.Feet.{feet_text}
 use Rattle.ticklab_draw.specs.Lanes.{bands_text, ends_text}
 use Rattle.ticklab_draw.specs.Layout.{last_band, mark_x, mark_y, page_height}
 use Rattle.ticklab_draw.specs.Legend.{legend_text}
+use Rattle.ticklab_draw.specs.Never.{Broken, never_text}
 use Rattle.ticklab_draw.specs.Shapes.{drawn}
 use Rattle.ticklab_draw.specs.Style.{backdrop, sheet}
 use Rattle.ticklab_draw.specs.Words.{sentence}
@@ -66,7 +68,8 @@ unfoldable pub under_text : ℕ → List Mark → List ℕ
 under_text n marks =
     bands_text n (last_band (length marks) + 1) ++ ends_text n (last_band (length marks)) marks n ++ feet_text n marks 0 marks
 
--- the picture of these marks of a run of `n` processes, whose rows have these names
-unfoldable pub picture : List ℕ → ℕ → List (List ℕ) → List Mark → List ℕ
-picture title n rows marks =
-    page_head title n (length marks) ++ heading title ++ under_text n marks ++ groups_text n rows 0 marks ++ legend_text n (length marks)
+-- the picture of these marks of a run of `n` processes, whose rows have these names, and of what must never hold and does
+unfoldable pub picture : List ℕ → ℕ → List (List ℕ) → List Mark → Option Broken → List ℕ
+picture title n rows marks broken =
+    page_head title n (length marks) ++ heading title ++ never_text n marks broken ++ under_text n marks
+    ++ groups_text n rows 0 marks ++ legend_text n (length marks)

@@ -3,7 +3,8 @@
 ghost use Rattle.ticklab_draw.specs.Laws.{MarkupLaw};
 ghost use Rattle.ticklab_draw.specs.labels.Laws.{FramesLaw};
 
-/// No title and no name of a row opens a tag: a picture has as many `<` whatever they are.
+/// No title, no name of a row and no text of what must never hold opens a tag: a picture has as many `<` whatever
+/// they are.
 pub fn law_markup()
     ensures { MarkupLaw }
 {}

@@ -1,6 +1,6 @@
 // Where things stand on the page. Bands of columns stand one below the other, each with all lanes.
 ghost use Rattle.std.specs.Prelude.{◌≡◌, ◌*◌, ◌+◌, ◌/◌, ◌<◌, ◌^◌};
-ghost use Rattle.ticklab_draw.specs.Layout.{arrow_end, arrow_start, band_foot, band_height, band_top, field_half, flag_middle, flag_width, is_far, lane_y, last_band, mark_x, mark_y, order_y, page_height, step_y, stub_y};
+ghost use Rattle.ticklab_draw.specs.Layout.{above_y, arrow_end, arrow_start, band_foot, band_height, band_top, behind_x, field_half, flag_middle, flag_width, is_far, lane_y, last_band, mark_x, mark_y, order_y, page_height, step_y, stub_y};
 
 /// How many marks a band has.
 const COLUMNS: usize = 14;
@@ -87,6 +87,24 @@ pub fn step_y(n: u8, at: usize) -> u128
     ensures { result ≡ step_y n at }
 {
     band_foot(n, band_of(at)) + 40
+}
+
+/// How far from the left a line behind so many marks stands.
+pub fn behind_x(count: usize) -> u64
+    ensures { result ≡ behind_x count }
+{
+    if count == 0 {
+        56
+    } else {
+        mark_x(count - 1) + 30
+    }
+}
+
+/// How far from the top words above the lanes of a band stand.
+pub fn above_y(n: u8, band: usize) -> u128
+    ensures { result ≡ above_y n band }
+{
+    band_top(n, band) - 3
 }
 
 /// Where an arrow from one height to another begins, just outside of its mark.

@@ -18,6 +18,7 @@ mod layout;
 mod legend;
 pub mod mark;
 mod marking;
+mod never;
 mod orders;
 mod page;
 mod run;
@@ -26,8 +27,9 @@ mod style;
 mod words;
 mod writing;
 
-pub use base::NoMemory;
+pub use base::{NoMemory, Trap};
 pub use labels::{Frame, MOST_MOVES, frames, write_frames};
 pub use mark::{Holdings, Mark, Sight};
+pub use never::NeverMark;
 pub use page::picture;
 pub use run::{code_marks, marks};

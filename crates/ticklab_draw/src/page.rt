@@ -1,5 +1,6 @@
 // The picture of a list of marks.
-ghost use Rattle.std.specs.Prelude.{◌≡◌, ◌++◌, IfOk, OnOk};
+ghost use Rattle.std.specs.Prelude.{◌≡◌, ◌++◌, IfOk, OnOk, option_map};
+ghost use Rattle.ticklab_draw.specs.Never.{broken_of};
 ghost use Rattle.ticklab_draw.specs.Words.{names};
 ghost use Rattle.ticklab_draw.specs.Pictures.{about, group_head, group_name, group_place, group_text, groups_text, heading, page_element, page_head, page_size, page_view, picture, title_element, titled, under_text};
 
@@ -9,6 +10,7 @@ use crate::lanes::{push_bands, push_ends};
 use crate::layout::{last_band, mark_x, mark_y, page_height};
 use crate::legend::push_legend;
 use crate::mark::Mark;
+use crate::never::{NeverMark, push_never};
 use crate::shapes::push_drawn;
 use crate::style::{backdrop, sheet};
 use crate::words::{Cast, push_sentence};
@@ -18,7 +20,8 @@ use base::tree::Named;
 use std::alloc::Global;
 
 /// The marks of a run of `processes` processes as SVG. Rows of registers have these names, and `r` with
-/// its number where there is none. The title is read out, and stands above the picture.
+/// its number where there is none. The title is read out, and stands above the picture. What must never hold
+/// has a mark where it does.
 #[tactic(auto, unfolding(crate::specs::Pictures::picture))]
 pub fn picture(
     alloc: Global,
@@ -26,8 +29,9 @@ pub fn picture(
     processes: u8,
     registers: &[Named],
     marks: &[Mark],
+    never: Option<NeverMark<'_>>,
 ) -> Result<Vec<u8>, NoMemory>
-    ensures { IfOk result (λ text. text.items ≡ picture title.now processes (names registers.now) marks.now) }
+    ensures { IfOk result (λ text. text.items ≡ picture title.now processes (names registers.now) marks.now (option_map broken_of never.entry)) }
 {
     let cast = Cast {
         processes,
@@ -36,6 +40,7 @@ pub fn picture(
     let mut out = Vec::new(alloc);
     push_page(&mut out, title, processes, marks.len())?;
     push_heading(&mut out, title)?;
+    push_never(&mut out, processes, marks, never)?;
     push_under(alloc, &mut out, processes, marks)?;
     push_groups(alloc, &mut out, cast, marks)?;
     push_legend(&mut out, processes, marks.len())?;

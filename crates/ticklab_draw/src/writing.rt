@@ -68,7 +68,8 @@ pub fn push_escaped(out: &mut Vec<u8>, text: &str) -> Added
     push_escaped_bytes(out, text.as_bytes())
 }
 
-fn push_escaped_bytes(out: &mut Vec<u8>, bytes: &[u8]) -> Added
+/// Adds bytes of such a text.
+pub fn push_escaped_bytes(out: &mut Vec<u8>, bytes: &[u8]) -> Added
     ensures { OnOk result (out.new.items ≡ out.old.items ++ flat_map escaped_byte bytes.now) }
 {
     for byte in bytes {

@@ -1,6 +1,6 @@
 //! The lines of the steps of a program.
 
-ghost use Rattle.std.specs.Prelude.{◌≡◌, ◌<◌, ◌++◌, IfOk, OnOk, length, map, option_map, slice_get, slice_index, string_bytes};
+ghost use Rattle.std.specs.Prelude.{◌≡◌, ◌<◌, ◌≤◌, ◌+◌, ◌++◌, IfOk, OnOk, length, map, option_map, slice_get, slice_index, string_bytes};
 ghost use Rattle.ticklab_trace.specs.Places.{told_standing};
 ghost use Rattle.ticklab_trace.specs.TraceText.{done_text, order_text, spot_text, statement_line, statement_lines, step_text, taken_text, ticket_rank};
 
@@ -13,19 +13,21 @@ use std::alloc::{AllocError, Global};
 use tick_kinds::Program;
 use ticket_core::Tickets;
 
-/// A line for each step: its number from 1, the process, where its statement stands and how it reads,
-/// and what it did. `spots` are those of the program's text, as `places` tells them.
+/// A line for each step: its number, the process, where its statement stands and how it reads, and what it
+/// did. So many steps come before these. `spots` are those of the program's text, as `places` tells them.
 pub fn source_trace(
     alloc: Global,
     program: &Program,
     spots: &[StatementPlace<'_>],
+    before: usize,
     steps: &[StatementStep],
 ) -> Result<String, NoMemory>
-    ensures { IfOk result (λ text. string_bytes text ≡ statement_lines program.now (map told_standing spots.now) 0 steps.now) }
+    requires { before + length steps.now ≤ 18446744073709551615 }
+    ensures { IfOk result (λ text. string_bytes text ≡ statement_lines program.now (map told_standing spots.now) before steps.now) }
 {
     let mut text = String::new(alloc);
     for (number, step) in steps.iter().enumerate() {
-        push_line(&mut text, program, spots, number, *step)?;
+        push_line(&mut text, program, spots, before + number, *step)?;
     }
     Ok(text)
 }

@@ -8,7 +8,7 @@ use std::test::Fail;
 use tests_shared::accepted;
 use tick_kinds::Program;
 use tick_lower::lower;
-use ticklab_draw::{Mark, NoMemory, code_marks, marks, picture};
+use ticklab_draw::{Mark, NeverMark, NoMemory, code_marks, marks, picture};
 
 /// The marks of a program's run.
 pub fn marked(alloc: Global, program: &Program, schedule: &str) -> Result<Vec<Mark>, Fail> {
@@ -34,10 +34,12 @@ pub fn drawn(
     title: &str,
     program: &Program,
     marks: &[Mark],
+    never: Option<NeverMark<'_>>,
 ) -> Result<Vec<u8>, Fail> {
     let registers = &program.tree().registers;
-    match picture(alloc, title, program.processes(), registers, marks) {
-        Err(NoMemory) => Ok(picture(alloc, title, program.processes(), registers, marks)?),
+    let n = program.processes();
+    match picture(alloc, title, n, registers, marks, never) {
+        Err(NoMemory) => Ok(picture(alloc, title, n, registers, marks, never)?),
         Ok(text) => Ok(text),
     }
 }
@@ -46,7 +48,19 @@ pub fn drawn(
 pub fn drawn_run(alloc: Global, title: &str, text: &str, schedule: &str) -> Result<Vec<u8>, Fail> {
     let program = accepted(alloc, text)?;
     let marks = marked(alloc, &program, schedule)?;
-    drawn(alloc, title, &program, &marks)
+    drawn(alloc, title, &program, &marks, None)
+}
+
+/// The same with what must never hold and does.
+pub fn drawn_never(
+    alloc: Global,
+    text: &str,
+    schedule: &str,
+    never: NeverMark<'_>,
+) -> Result<Vec<u8>, Fail> {
+    let program = accepted(alloc, text)?;
+    let marks = marked(alloc, &program, schedule)?;
+    drawn(alloc, "never", &program, &marks, Some(never))
 }
 
 /// The same of its code.
@@ -54,7 +68,7 @@ pub fn drawn_code(alloc: Global, text: &str, schedule: &str) -> Result<Vec<u8>, 
     let program = accepted(alloc, text)?;
     let code = lower(alloc, &program)?;
     let marks = code_marked(alloc, &code, schedule)?;
-    drawn(alloc, "code", &program, &marks)
+    drawn(alloc, "code", &program, &marks, None)
 }
 
 /// The bytes as a text.

@@ -1,11 +1,12 @@
 //! Pictures as texts.
 
-use crate::of_runs::drawing::{drawn_code, drawn_run, text_of};
+use crate::of_runs::drawing::{drawn_code, drawn_never, drawn_run, text_of};
 use crate::of_runs::markup::{is_closed, times};
 use crate::of_runs::programs::{COUNTED, DIVIDED, STAMPED, TWO_WORDS};
 use std::alloc::Global;
 use std::test::Fail;
 use tests_shared::{holds, is_same};
+use ticklab_draw::{NeverMark, Trap};
 
 // That a picture is closed markup with so many marks, and has these pieces.
 fn shows(alloc: Global, bytes: &[u8], marks: usize, pieces: &[&str]) -> Result<(), Fail> {
@@ -70,6 +71,47 @@ fn a_code(rt: HostRuntime) -> Result<(), Fail> {
             "<title>step 5: P1 stamps: labels . 0</title>",
             "<title>step 6: P0 loses an exchange: labels . 0</title>",
             "stroke-dasharray=\"3 2.5\"",
+        ],
+    )
+}
+
+#[test]
+fn never_after_a_step(rt: HostRuntime) -> Result<(), Fail> {
+    let never = NeverMark {
+        steps: 4,
+        number: Some(2),
+        text: b"1 < inside[0]",
+        value: Ok(7),
+    };
+    let bytes = drawn_never(rt.alloc(), DIVIDED, "1 0*2 1*2", never)?;
+    shows(
+        rt.alloc(),
+        &bytes,
+        6,
+        &[
+            "\n<g id=\"never\"><title>after step 4: 1 &lt; inside[0] must never hold, and its value is 7</title>",
+            "</title><path fill=\"none\" stroke=\"#666\" stroke-dasharray=\"5 4\" d=\"M296 44V228\"/>",
+            "/><text class=\"step\" x=\"296\" y=\"41\">never 2</text></g>\n<path class=\"lane\" ",
+        ],
+    )
+}
+
+#[test]
+fn never_at_the_start(rt: HostRuntime) -> Result<(), Fail> {
+    let never = NeverMark {
+        steps: 0,
+        number: None,
+        text: b"1 / inside[0]",
+        value: Err(Trap::Zero),
+    };
+    let bytes = drawn_never(rt.alloc(), DIVIDED, "1", never)?;
+    shows(
+        rt.alloc(),
+        &bytes,
+        2,
+        &[
+            ">at the start: 1 / inside[0] must never hold, and it traps with Zero</title>",
+            "d=\"M56 44V228\"/><text class=\"step\" x=\"56\" y=\"41\">never</text></g>\n",
         ],
     )
 }

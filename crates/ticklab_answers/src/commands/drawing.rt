@@ -1,34 +1,52 @@
 //! `ticklab draw`.
-ghost use Rattle.std.specs.Prelude.{◌≡◌, ◌<◌, All, IfErr, IfOk, true, if◌then◌else◌};
+ghost use Rattle.std.specs.Prelude.{◌≡◌, ◌<◌, ◌-◌, All, IfErr, IfOk, drop, length, map, option_map, take, true, if◌then◌else◌};
 ghost use Rattle.tick_kinds.specs.Resolution.{resolved};
+ghost use Rattle.searches_explore.specs.Lines.{lines_of};
 ghost use Rattle.ticklab_draw.specs.Marks.{marks_of_code, program_marks};
+ghost use Rattle.ticklab_draw.specs.Never.{broken_of};
+ghost use Rattle.ticklab_answers.specs.Asking.{place_of, texts_of};
+ghost use Rattle.ticklab_answers.specs.Breaking.{IsMarkedFor, mark_of};
 ghost use Rattle.ticklab_answers.specs.Codes.{HasCode, IsCodeless, program_code};
 ghost use Rattle.ticklab_answers.specs.Faults.{IsEither, IsOfFileThat};
 ghost use Rattle.ticklab_answers.specs.Runs.{Draws, IsRunPicture};
 ghost use Rattle.ticklab_answers.specs.Stops.{IfRefused};
 
+use crate::asking::{NeverLines, PropertyPlace};
+use crate::breaking::{Break, first_break};
 use crate::commands::told_run::{Telling, told};
 use crate::fault::LabFault;
 use crate::host::Files;
 use crate::reading::code_of;
 use crate::response::Response;
 use crate::stop::NoAnswer;
+use base::NoMemory;
+use base::span::Span;
 use std::alloc::Global;
 use tick_kinds::Program;
-use ticklab_draw::{Mark, code_marks, marks, picture};
+use ticklab_draw::{Mark, NeverMark, code_marks, marks, picture};
 
-/// The run of the program under a schedule, or of its code, as a picture.
+/// The run of the program under a schedule, or of its code, as a picture. That of a program marks where what must
+/// never hold does first: a line `#! never` of the file, or one of these texts that are the same.
 pub fn drawn<F: Files>(
     alloc: Global,
     files: &mut F,
     file: &str,
     schedule: &str,
+    never: &[&str],
     is_code: bool,
 ) -> Result<Response, LabFault>
-    ensures ok { IfOk result (Draws F.Reads F.ReadsInput files.old files.new file.now schedule.now is_code) }
+    ensures ok { IfOk result (Draws F.Reads F.ReadsInput files.old files.new file.now schedule.now (texts_of never.now) is_code) }
     ensures err { IfErr result (IsOfFileThat (IsEither file.now schedule.now)) }
 {
-    told(alloc, files, file, schedule, Telling::Picture, is_code)
+    told(
+        alloc,
+        files,
+        file,
+        schedule,
+        never,
+        Telling::Picture,
+        is_code,
+    )
 }
 
 /// The picture; `name` is that of the program's file.
@@ -36,14 +54,17 @@ pub fn picture_of(
     alloc: Global,
     name: &str,
     program: &Program,
+    lines: &NeverLines<'_>,
     schedule: &[u8],
     is_code: bool,
 ) -> Result<Vec<u8>, NoAnswer>
-    requires { All (λ p. p < (resolved program.now).processes) schedule.now }
-    ensures ok { IfOk result (λ out. IsRunPicture is_code name.now program.now schedule.now out.items) }
+    requires lines { length lines.now.properties.items ≡ length lines.now.places.items }
+    requires schedule { All (λ p. p < (resolved program.now).processes) schedule.now }
+    ensures ok { IfOk result (λ out. IsRunPicture is_code (lines_of lines.now.properties.items) (map place_of lines.now.places.items) name.now program.now schedule.now out.items) }
     ensures refused { IfErr result (λ stop. IfRefused stop (IsCodeless is_code name.now program.now)) }
 {
     let marks = marks_of(alloc, program, schedule, is_code, name)?;
+    let never = never_mark(alloc, program, lines, schedule, is_code)?;
     let registers = program.tree().registers.as_slice();
     Ok(picture(
         alloc,
@@ -51,7 +72,59 @@ pub fn picture_of(
         program.processes(),
         registers,
         marks.as_slice(),
+        never,
     )?)
+}
+
+// The mark of the line that first is broken. Of a code none is asked.
+fn never_mark<'l>(
+    alloc: Global,
+    program: &Program,
+    lines: &'l NeverLines<'_>,
+    schedule: &[u8],
+    is_code: bool,
+) -> Result<Option<NeverMark<'l>>, NoMemory>
+    requires lines { length lines.now.properties.items ≡ length lines.now.places.items }
+    requires schedule { All (λ p. p < (resolved program.now).processes) schedule.now }
+    ensures { IfOk result (λ mark. IsMarkedFor is_code (resolved program.now) (lines_of lines.now.properties.items) (map place_of lines.now.places.items) schedule.now (option_map broken_of mark)) }
+{
+    if is_code {
+        return Ok(None);
+    }
+    match first_break(alloc, program, lines.properties.as_slice(), schedule)? {
+        None => Ok(None),
+        Some(broken) => {
+            let place = &lines.places[broken.line];
+            Ok(Some(mark_of(lines.places.len(), place, broken)))
+        }
+    }
+}
+
+// The mark of the broken line that stands here, one of so many.
+fn mark_of<'l>(count: usize, place: &PropertyPlace<'l>, broken: Break) -> NeverMark<'l>
+    requires { broken.line < count }
+    ensures { broken_of result ≡ mark_of count (place_of place.now) broken }
+{
+    let number = if count == 1 {
+        None
+    } else {
+        Some(broken.line + 1)
+    };
+    NeverMark {
+        steps: broken.steps,
+        number,
+        text: part_of(place.text, place.span),
+        value: broken.value,
+    }
+}
+
+fn part_of(text: &[u8], span: Span) -> &[u8]
+    ensures { result.now ≡ take (span.end - span.start) (drop span.start text.now) }
+{
+    let start = span.start.min(text.len());
+    let rest = &text[start..];
+    let letters = span.end.saturating_sub(span.start);
+    &rest[..letters.min(rest.len())]
 }
 
 fn marks_of(

@@ -1,13 +1,18 @@
 //! `ticklab trace`.
-ghost use Rattle.std.specs.Prelude.{◌≡◌, ◌<◌, All, IfErr, IfOk, string_bytes};
+ghost use Rattle.std.specs.Prelude.{◌≡◌, ◌<◌, ◌≤◌, All, IfErr, IfOk, length, map, string_bytes};
 ghost use Rattle.tick_kinds.specs.Resolution.{resolved};
 ghost use Rattle.ticketc_refusals.specs.Refusals.{SpelledIn};
+ghost use Rattle.searches_explore.specs.Lines.{lines_of};
+ghost use Rattle.ticklab_answers.specs.Asking.{place_of, texts_of};
 ghost use Rattle.ticklab_answers.specs.Codes.{HasNoCode, IsCodeless};
 ghost use Rattle.ticklab_answers.specs.Faults.{IsEither, IsOfFileThat};
 ghost use Rattle.ticklab_trace.specs.Places.{Stand};
-ghost use Rattle.ticklab_answers.specs.Runs.{IsInstructionTrace, IsStatementTrace, IsTrace, Traces};
+ghost use Rattle.ticklab_answers.specs.Runs.{IsInstructionTrace, IsLinedTrace, IsStatementTrace, IsTrace, IsTraceAround, Traces};
 ghost use Rattle.ticklab_answers.specs.Stops.{IfRefused};
 
+use crate::asking::{NeverLines, PropertyPlace};
+use crate::breaking::{Break, first_break};
+use crate::commands::exploring::with_line;
 use crate::commands::told_run::{Telling, told};
 use crate::fault::LabFault;
 use crate::host::Files;
@@ -21,18 +26,20 @@ use tick_kinds::Program;
 use ticketc_refusals::SpelledProgram;
 use ticklab_trace::{StatementPlace, code_steps, code_trace, places, source_steps, source_trace};
 
-/// A line for each step of the program under a schedule, or of its code.
+/// A line for each step of the program under a schedule, or of its code. Of the program it shows too where what
+/// must never hold does first: a line `#! never` of the file, or one of these texts that are the same.
 pub fn traced<F: Files>(
     alloc: Global,
     files: &mut F,
     file: &str,
     schedule: &str,
+    never: &[&str],
     is_code: bool,
 ) -> Result<Response, LabFault>
-    ensures ok { IfOk result (Traces F.Reads F.ReadsInput files.old files.new file.now schedule.now is_code) }
+    ensures ok { IfOk result (Traces F.Reads F.ReadsInput files.old files.new file.now schedule.now (texts_of never.now) is_code) }
     ensures err { IfErr result (IsOfFileThat (IsEither file.now schedule.now)) }
 {
-    told(alloc, files, file, schedule, Telling::Trace, is_code)
+    told(alloc, files, file, schedule, never, Telling::Trace, is_code)
 }
 
 /// The lines of the steps; `name` is that of the program's file.
@@ -41,19 +48,72 @@ pub fn trace_of(
     name: &str,
     spelled: &SpelledProgram,
     input: &[u8],
+    lines: &NeverLines<'_>,
     schedule: &[u8],
     is_code: bool,
-) -> Result<String, NoAnswer>
+) -> Result<Vec<u8>, NoAnswer>
+    requires lines { length lines.now.properties.items ≡ length lines.now.places.items }
     requires schedule { All (λ p. p < (resolved spelled.now.program).processes) schedule.now }
     requires program { SpelledIn input.now spelled.now }
-    ensures ok { IfOk result (λ text. IsTrace is_code input.now spelled.now.program schedule.now (string_bytes text)) }
+    ensures ok { IfOk result (λ out. IsTrace is_code (lines_of lines.now.properties.items) (map place_of lines.now.places.items) input.now spelled.now.program schedule.now out.items) }
     ensures refused { IfErr result (λ stop. IfRefused stop (IsCodeless is_code name.now spelled.now.program)) }
 {
     if is_code {
-        code_text(alloc, name, &spelled.program, schedule)
-    } else {
-        Ok(source_text(alloc, spelled, input, schedule)?)
+        let text = code_text(alloc, name, &spelled.program, schedule)?;
+        return Ok(text.into_bytes());
     }
+    Ok(lined_trace(alloc, spelled, input, lines, schedule)?)
+}
+
+// The steps of the program that this input is, with the line that is broken first.
+fn lined_trace(
+    alloc: Global,
+    spelled: &SpelledProgram,
+    input: &[u8],
+    lines: &NeverLines<'_>,
+    schedule: &[u8],
+) -> Result<Vec<u8>, NoMemory>
+    requires lines { length lines.now.properties.items ≡ length lines.now.places.items }
+    requires schedule { All (λ p. p < (resolved spelled.now.program).processes) schedule.now }
+    requires program { SpelledIn input.now spelled.now }
+    ensures { IfOk result (λ out. IsLinedTrace (lines_of lines.now.properties.items) (map place_of lines.now.places.items) input.now spelled.now.program schedule.now out.items) }
+{
+    let properties = lines.properties.as_slice();
+    match first_break(alloc, &spelled.program, properties, schedule)? {
+        None => {
+            let text = source_text(alloc, spelled, input, schedule)?;
+            Ok(text.into_bytes())
+        }
+        Some(broken) => {
+            let place = &lines.places[broken.line];
+            broken_trace(alloc, spelled, input, schedule, place, broken)
+        }
+    }
+}
+
+// The steps, and after so many of them the line that stands here, with what it comes to.
+fn broken_trace(
+    alloc: Global,
+    spelled: &SpelledProgram,
+    input: &[u8],
+    schedule: &[u8],
+    place: &PropertyPlace<'_>,
+    broken: Break,
+) -> Result<Vec<u8>, NoMemory>
+    requires within { broken.steps ≤ length schedule.now }
+    requires schedule { All (λ p. p < (resolved spelled.now.program).processes) schedule.now }
+    requires program { SpelledIn input.now spelled.now }
+    ensures { IfOk result (λ out. IsTraceAround (place_of place.now) input.now spelled.now.program schedule.now broken out.items) }
+{
+    let program = &spelled.program;
+    let spots = spots_in(alloc, spelled, input)?;
+    let steps = source_steps(alloc, program, schedule)?;
+    let (before, after) = steps.split_at(broken.steps);
+    let text = source_trace(alloc, program, spots.as_slice(), 0, before)?;
+    let mut out = with_line(alloc, text, place, broken.value)?;
+    let rest = source_trace(alloc, program, spots.as_slice(), broken.steps, after)?;
+    out.extend_from_slice(rest.as_bytes())?;
+    Ok(out)
 }
 
 /// The steps of the program that this input is.
@@ -70,7 +130,7 @@ pub fn source_text(
     let program = &spelled.program;
     let spots = spots_in(alloc, spelled, input)?;
     let steps = source_steps(alloc, program, schedule)?;
-    source_trace(alloc, program, spots.as_slice(), steps.as_slice())
+    source_trace(alloc, program, spots.as_slice(), 0, steps.as_slice())
 }
 
 // Where the statements of the program stand that this input is.
