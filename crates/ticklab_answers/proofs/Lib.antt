@@ -9,4 +9,5 @@ pub mod Responded
 pub mod Searched
 pub mod Settled
 pub mod Threaded
+pub mod ToldLoops
 pub mod Uncoded

@@ -1,5 +1,5 @@
 -- The answer to the words of a command line: each command, with what it reads, runs and tells.
-use Rattle.std.specs.Prelude.{◌≡◌, ⊤, ℕ, List, Result, Ok, Err, String, Vec, map, string_bytes}
+use Rattle.std.specs.Prelude.{◌≡◌, ⊤, ℕ, List, [], Result, Ok, Err, String, Vec, map, string_bytes}
 use Rattle.std.specs.Global.{Global}
 use Rattle.std.specs.Vec.Iter.{into_iter_items}
 use Rattle.std.specs.declared.io.Error.{Error}
@@ -39,7 +39,7 @@ module _ {F M W : Type 0} (Reads : ReadsOf F) (ReadsInput : ReadsInputOf F) (Ran
   Responds (Explore file never limit is_merged) response =
       (ran ≡ rested) × Explores Reads ReadsInput hears before after quiet heard file never limit is_merged response
   Responds (Ends file process limit) response =
-      (ran ≡ rested) × ExploresEnds Reads ReadsInput hears before after quiet heard file process limit response
+      (ran ≡ rested) × ExploresEnds Reads ReadsInput hears before after quiet heard file [] process limit response
   Responds (Hunt file seed runs steps is_uniform) response =
       (ran ≡ rested) × (heard ≡ quiet) × Hunts Reads ReadsInput before after file (plan_of seed runs steps is_uniform) response
   Responds (Runs file times turns) response = (heard ≡ quiet) × Tallies Reads ReadsInput Ran before after rested ran file times turns response

@@ -9,6 +9,7 @@ pub mod Hunting
 pub mod Labels
 pub mod Laws
 pub mod Lines
+pub mod Loops
 pub mod Reading
 pub mod Responses
 pub mod Runs

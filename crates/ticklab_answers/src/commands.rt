@@ -62,7 +62,7 @@ pub fn response_to<F: Files, M: Runner, W: Progress>(
                 process,
                 limit,
             },
-        ) => explored_ends(alloc, files, progress, file, process, limit),
+        ) => explored_ends(alloc, files, progress, file, &[], process, limit),
         Line::Request(
             Request::Hunt {
                 file,
