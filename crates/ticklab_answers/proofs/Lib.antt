@@ -1,5 +1,6 @@
 pub mod Carried
 pub mod EndsSearched
+pub mod Looped
 pub mod NeverLines
 pub mod Pictured
 pub mod ProgramFiles

@@ -7,6 +7,7 @@ pub mod Exploring
 pub mod Faults
 pub mod Hunting
 pub mod Labels
+pub mod Lasso
 pub mod Laws
 pub mod Lines
 pub mod Loops
