@@ -1,5 +1,5 @@
 -- Each command: what it takes, and what its words ask for.
-use Rattle.std.specs.Prelude.{ℕ, Bool, true, false, List, [], ◌∷◌, Option, Some, None, Vec, codes, bytes_eq, map}
+use Rattle.std.specs.Prelude.{ℕ, true, false, List, [], ◌∷◌, Option, Some, None, Vec, codes, bytes_eq, map}
 use Rattle.std.specs.Prelude.{if◌then◌else◌, option_and_then, option_map}
 use Rattle.std.specs.Borrow.{Bor}
 use Rattle.std.specs.Global.{Global}
@@ -10,7 +10,7 @@ use Rattle.clap.specs.declared.builder.value_parser.ValueParser.TheVariants.{Uns
 use Rattle.ticklab_line.specs.CommandLine.{ends_rule, flag_rule, further_rule, number_rule, processes_rule, repeated_rule, threads_rule, up_to, with_app, with_file, word_rule}
 use Rattle.ticklab_line.specs.Found.{for_file, for_number, for_number_or, is_set, list_of, number_of, number_or}
 use Rattle.ticklab_line.specs.declared.commands.Request.{Request}
-use Rattle.ticklab_line.specs.declared.commands.Request.TheVariants.{Explore, Ends, Hunt, Runs, Trace, Draw, Explain, Labels}
+use Rattle.ticklab_line.specs.declared.commands.Request.TheVariants.{Explore, Ends, Lasso, Hunt, Runs, Trace, Draw, Explain, Labels}
 
 -- what a command asks for, its texts and its lists of texts as they are
 abbrev pub Asked : Type 0
@@ -23,17 +23,24 @@ explore_app = with_rule (with_rule (with_rule (with_rule (with_file (codes "expl
     (repeated_rule (codes "never")))
     ends_rule
 
+abbrev pub lasso_app : App
+lasso_app = with_rule (with_rule (with_file (codes "lasso")) (word_rule (codes "prefix"))) (word_rule (codes "cycle"))
+
 abbrev pub hunt_app : App
-hunt_app = with_rule (with_rule (with_rule (with_rule (with_rule (with_file (codes "hunt"))
+hunt_app = with_rule (with_rule (with_rule (with_rule (with_rule (with_rule (with_rule (with_file (codes "hunt"))
     (number_rule (codes "seed") (Unsigned 0 18446744073709551615)))
     (number_rule (codes "runs") (up_to 4294967295)))
+    (number_rule (codes "from") (up_to 4294967295)))
     (number_rule (codes "steps") (up_to 10000000)))
     (flag_rule (codes "uniform")))
+    (repeated_rule (codes "never")))
     threads_rule
 
 -- `trace` and `draw`
 abbrev pub run_app : Text → App
-run_app name = with_rule (with_rule (with_file name) (word_rule (codes "schedule"))) (flag_rule (codes "code"))
+run_app name = with_rule (with_rule (with_rule (with_file name) (word_rule (codes "schedule")))
+    (flag_rule (codes "code")))
+    (repeated_rule (codes "never"))
 
 abbrev pub explain_app : App
 explain_app = with_rule (with_file (codes "explain")) (further_rule (codes "schedule"))
@@ -47,8 +54,8 @@ command_wanted =
     on_top (λ s. record s { subcommand_required = true; arg_required_else_help = true }) (new_app (codes "ticklab"))
 
 abbrev pub ticklab : App
-ticklab = with_app (with_app (with_app (with_app (with_app (with_app command_wanted
-    explore_app) hunt_app) (run_app (codes "trace"))) (run_app (codes "draw"))) explain_app) labels_app
+ticklab = with_app (with_app (with_app (with_app (with_app (with_app (with_app command_wanted
+    explore_app) lasso_app) hunt_app) (run_app (codes "trace"))) (run_app (codes "draw"))) explain_app) labels_app
 
 abbrev pub limit_in : List Row → Option ℕ
 limit_in = number_or 32 (codes "limit") 1000000
@@ -61,24 +68,32 @@ schedules_of never rows = for_file rows (λ file. for_number_or 32 (codes "limit
 abbrev pub schedules_in : List Row → Option Asked
 schedules_in rows = schedules_of (list_of (codes "never") rows) rows
 
-abbrev pub ends_of : Option ℕ → List Row → Option Asked
-ends_of process rows = for_file rows (λ file. for_number_or 32 (codes "limit") 1000000 rows (λ limit.
-    Some (Ends file process limit)))
+abbrev pub ends_of : List Text → Option ℕ → List Row → Option Asked
+ends_of never process rows = for_file rows (λ file. for_number_or 32 (codes "limit") 1000000 rows (λ limit.
+    Some (Ends file never process limit)))
 
 -- no text after `--ends`, or one
-abbrev pub ends_in : List Row → List Text → Option Asked
-ends_in rows [] = ends_of None rows
-ends_in rows (process ∷ []) = option_and_then (λ process. ends_of (Some process) rows) (number_of 8 process)
-ends_in rows texts = None
+abbrev pub ends_in : List Text → List Row → List Text → Option Asked
+ends_in never rows [] = ends_of never None rows
+ends_in never rows (process ∷ []) = option_and_then (λ process. ends_of never (Some process) rows) (number_of 8 process)
+ends_in never rows texts = None
 
 abbrev pub explore_in : List Row → Option Asked
-explore_in rows = option_map_or (ends_in rows) (all_of (codes "ends") rows) (schedules_in rows)
+explore_in rows = option_map_or (ends_in (list_of (codes "never") rows) rows) (all_of (codes "ends") rows) (schedules_in rows)
 
--- random schedules
+abbrev pub lasso_in : List Row → Option Asked
+lasso_in rows = for_file rows (λ file. option_and_then (λ prefix.
+    option_map (Lasso file prefix) (first_of (codes "cycle") rows)) (first_of (codes "prefix") rows))
+
+-- random schedules, with the texts of what must never hold
+abbrev pub plan_of : List Text → List Row → Option Asked
+plan_of never rows = for_file rows (λ file. for_number_or 64 (codes "seed") 0 rows (λ seed.
+    for_number_or 32 (codes "runs") 10000 rows (λ runs. for_number_or 32 (codes "from") 0 rows (λ from.
+    for_number_or 32 (codes "steps") 300 rows (λ steps.
+    Some (Hunt file never seed runs from steps (is_set (codes "uniform") rows)))))))
+
 abbrev pub plan_in : List Row → Option Asked
-plan_in rows = for_file rows (λ file. for_number_or 64 (codes "seed") 0 rows (λ seed.
-    for_number_or 32 (codes "runs") 10000 rows (λ runs. for_number_or 32 (codes "steps") 300 rows (λ steps.
-    Some (Hunt file seed runs steps (is_set (codes "uniform") rows))))))
+plan_in rows = plan_of (list_of (codes "never") rows) rows
 
 -- two texts after `--threads`
 abbrev pub runs_in : List Row → List Text → Option Asked
@@ -89,9 +104,19 @@ runs_in rows texts = None
 abbrev pub hunt_in : List Row → Option Asked
 hunt_in rows = option_map_or (runs_in rows) (all_of (codes "threads") rows) (plan_in rows)
 
-abbrev pub run_in : (Text → Text → Bool → Asked) → List Row → Option Asked
-run_in asking rows = for_file rows (λ file. option_map
-    (λ schedule. asking file schedule (is_set (codes "code") rows)) (first_of (codes "schedule") rows))
+abbrev pub trace_of : List Text → List Row → Option Asked
+trace_of never rows = for_file rows (λ file. option_map
+    (λ schedule. Trace file schedule never (is_set (codes "code") rows)) (first_of (codes "schedule") rows))
+
+abbrev pub trace_in : List Row → Option Asked
+trace_in rows = trace_of (list_of (codes "never") rows) rows
+
+abbrev pub draw_of : List Text → List Row → Option Asked
+draw_of never rows = for_file rows (λ file. option_map
+    (λ schedule. Draw file schedule never (is_set (codes "code") rows)) (first_of (codes "schedule") rows))
+
+abbrev pub draw_in : List Row → Option Asked
+draw_in rows = draw_of (list_of (codes "never") rows) rows
 
 abbrev pub explain_in : List Row → Option Asked
 explain_in rows = for_file rows (λ file. Some (Explain file (first_of (codes "schedule") rows)))
@@ -104,9 +129,10 @@ labels_in rows = for_number 8 (codes "processes") rows (λ processes.
 abbrev pub named : Text → List Row → Option Asked
 named name rows =
     if bytes_eq name (codes "explore") then explore_in rows
+    else if bytes_eq name (codes "lasso") then lasso_in rows
     else if bytes_eq name (codes "hunt") then hunt_in rows
-    else if bytes_eq name (codes "trace") then run_in Trace rows
-    else if bytes_eq name (codes "draw") then run_in Draw rows
+    else if bytes_eq name (codes "trace") then trace_in rows
+    else if bytes_eq name (codes "draw") then draw_in rows
     else if bytes_eq name (codes "explain") then explain_in rows
     else if bytes_eq name (codes "labels") then labels_in rows
     else None
@@ -117,11 +143,12 @@ request_in = option_and_then (λ p. named p.0 p.1)
 -- texts that are lent, as the texts themselves
 abbrev pub plain_request : Request (Bor Text) (Vec (Bor Text) Global) → Asked
 plain_request (Explore file never limit is_merged) = Explore file.now (map (λ text. text.now) never.items) limit is_merged
-plain_request (Ends file process limit) = Ends file.now process limit
-plain_request (Hunt file seed runs steps is_uniform) = Hunt file.now seed runs steps is_uniform
+plain_request (Ends file never process limit) = Ends file.now (map (λ text. text.now) never.items) process limit
+plain_request (Lasso file prefix cycle) = Lasso file.now prefix.now cycle.now
+plain_request (Hunt file never seed runs from steps is_uniform) = Hunt file.now (map (λ text. text.now) never.items) seed runs from steps is_uniform
 plain_request (Runs file times turns) = Runs file.now times turns
-plain_request (Trace file schedule is_code) = Trace file.now schedule.now is_code
-plain_request (Draw file schedule is_code) = Draw file.now schedule.now is_code
+plain_request (Trace file schedule never is_code) = Trace file.now schedule.now (map (λ text. text.now) never.items) is_code
+plain_request (Draw file schedule never is_code) = Draw file.now schedule.now (map (λ text. text.now) never.items) is_code
 plain_request (Explain file schedule) = Explain file.now (option_map (λ text. text.now) schedule)
 plain_request (Labels processes moves) = Labels processes moves.now
 
@@ -134,13 +161,20 @@ rows = (codes "explore" ∷ codes "a" ∷ codes "--limit" ∷ codes "7" ∷ [], 
       codes "explore" ∷ codes "a" ∷ codes "--never=1 < n" ∷ codes "--merged" ∷ codes "--never" ∷ codes "0" ∷ [],
       Explore (codes "a") (codes "1 < n" ∷ codes "0" ∷ []) 1000000 true,
     )
-    ∷ (codes "explore" ∷ codes "a" ∷ codes "--ends" ∷ [], Ends (codes "a") None 1000000)
-    ∷ (codes "explore" ∷ codes "a" ∷ codes "--ends" ∷ codes "2" ∷ [], Ends (codes "a") (Some 2) 1000000)
-    ∷ (codes "explore" ∷ codes "--ends=5" ∷ codes "a" ∷ codes "--limit" ∷ codes "7" ∷ [], Ends (codes "a") (Some 5) 7)
-    ∷ (codes "trace" ∷ codes "a" ∷ codes "0 1*3" ∷ [], Trace (codes "a") (codes "0 1*3") false)
-    ∷ (codes "trace" ∷ codes "-" ∷ codes "@b" ∷ codes "--code" ∷ [], Trace (codes "-") (codes "@b") true)
-    ∷ (codes "draw" ∷ codes "a" ∷ [] ∷ [], Draw (codes "a") [] false)
-    ∷ (codes "draw" ∷ codes "--code" ∷ codes "a" ∷ codes "0" ∷ [], Draw (codes "a") (codes "0") true)
+    ∷ (codes "explore" ∷ codes "a" ∷ codes "--ends" ∷ [], Ends (codes "a") [] None 1000000)
+    ∷ (codes "explore" ∷ codes "a" ∷ codes "--ends" ∷ codes "2" ∷ [], Ends (codes "a") [] (Some 2) 1000000)
+    ∷ (codes "explore" ∷ codes "--ends=5" ∷ codes "a" ∷ codes "--limit" ∷ codes "7" ∷ [], Ends (codes "a") [] (Some 5) 7)
+    ∷ (codes "explore" ∷ codes "a" ∷ codes "--never" ∷ codes "n" ∷ codes "--ends" ∷ [], Ends (codes "a") (codes "n" ∷ []) None 1000000)
+    ∷ (codes "lasso" ∷ codes "a" ∷ codes "0 1" ∷ codes "@b" ∷ [], Lasso (codes "a") (codes "0 1") (codes "@b"))
+    ∷ (codes "trace" ∷ codes "a" ∷ codes "0 1*3" ∷ [], Trace (codes "a") (codes "0 1*3") [] false)
+    ∷ (
+      codes "trace" ∷ codes "--never" ∷ codes "n" ∷ codes "a" ∷ codes "0" ∷ codes "--never=1" ∷ [],
+      Trace (codes "a") (codes "0") (codes "n" ∷ codes "1" ∷ []) false,
+    )
+    ∷ (codes "trace" ∷ codes "-" ∷ codes "@b" ∷ codes "--code" ∷ [], Trace (codes "-") (codes "@b") [] true)
+    ∷ (codes "draw" ∷ codes "a" ∷ [] ∷ [], Draw (codes "a") [] [] false)
+    ∷ (codes "draw" ∷ codes "--code" ∷ codes "a" ∷ codes "0" ∷ [], Draw (codes "a") (codes "0") [] true)
+    ∷ (codes "draw" ∷ codes "a" ∷ codes "0" ∷ codes "--never=n" ∷ [], Draw (codes "a") (codes "0") (codes "n" ∷ []) false)
     ∷ (codes "explain" ∷ codes "a" ∷ [], Explain (codes "a") None)
     ∷ (codes "explain" ∷ codes "a" ∷ codes "0" ∷ [], Explain (codes "a") (Some (codes "0")))
     ∷ (codes "labels" ∷ codes "3" ∷ codes "0 c1" ∷ [], Labels 3 (codes "0 c1"))

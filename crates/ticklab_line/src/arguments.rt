@@ -85,7 +85,7 @@ pub fn ends<'a>(alloc: Global) -> Arg<'a>
         .num_args(0..=1)
         .value_parser(zero_to_five())
         .help(
-            "Asks too whether all processes can still end after every schedule, or process P; not with --merged or --never",
+            "Asks too whether all processes can still end after every schedule, or process P; not with --merged",
         )
 }
 

@@ -4,9 +4,8 @@ ghost use Rattle.clap.specs.Matches.{found_of};
 ghost use Rattle.clap.specs.Walk.{rows_of};
 ghost use Rattle.clap.specs.Simple.{app_of, subcommand_rows_of};
 ghost use Rattle.ticklab_line.specs.CommandLine.{IsCommand, IsLine};
-ghost use Rattle.ticklab_line.specs.Commands.{command_wanted, ends_in, ends_of, explain_app, explain_in, explore_app, explore_in, hunt_app, hunt_in, labels_app, labels_in, limit_in, named, plain_request, plan_in, run_app, run_in, runs_in, schedules_of, ticklab};
+ghost use Rattle.ticklab_line.specs.Commands.{command_wanted, draw_in, draw_of, ends_in, ends_of, explain_app, explain_in, explore_app, explore_in, hunt_app, hunt_in, labels_app, labels_in, lasso_app, lasso_in, limit_in, named, plain_request, plan_of, run_app, runs_in, schedules_of, ticklab, trace_in, trace_of};
 ghost use Rattle.ticklab_line.specs.Commands.{request_in as found_request};
-ghost use Rattle.ticklab_line.specs.declared.commands.Request.TheVariants.{Trace, Draw};
 
 use crate::arguments::{ends, flag, further, length, option, processes, repeated, threads, word};
 use crate::parts::{STATUSES, filed, named, taking, with};
@@ -33,14 +32,23 @@ pub enum Request<T, L> {
     /// The same by single steps, and whether all processes can still end after each schedule, or one of them.
     Ends {
         file: T,
+        never: L,
         process: Option<u8>,
         limit: u32,
     },
-    /// Random schedules of a program.
+    /// A schedule that repeats a part of itself for ever, and who runs on there.
+    Lasso {
+        file: T,
+        prefix: T,
+        cycle: T,
+    },
+    /// Random schedules of a program, from one of them on, and what must never hold.
     Hunt {
         file: T,
+        never: L,
         seed: u64,
         runs: u32,
+        from: u32,
         steps: u32,
         is_uniform: bool,
     },
@@ -50,16 +58,18 @@ pub enum Request<T, L> {
         times: u32,
         turns: u64,
     },
-    /// A run step by step.
+    /// A run step by step, and where what must never hold does.
     Trace {
         file: T,
         schedule: T,
+        never: L,
         is_code: bool,
     },
-    /// A run as a picture.
+    /// A run as a picture, and where what must never hold does.
     Draw {
         file: T,
         schedule: T,
+        never: L,
         is_code: bool,
     },
     /// What is wrong with a program or a code, or with a schedule of it.
@@ -87,6 +97,7 @@ pub fn command_line<'a>(alloc: Global) -> Result<Command<'a>, AllocError>
     ensures { IsLine ticklab result }
 {
     let line = with(Ok(ticklab(alloc)), explore(alloc));
+    let line = with(line, lasso(alloc));
     let line = with(line, hunt(alloc));
     let line = with(
         line,
@@ -135,9 +146,10 @@ fn request_named<'a>(
 {
     match name {
         "explore" => explore_in(alloc, given),
-        "hunt" => Ok(hunt_in(given)),
-        "trace" => Ok(trace_in(given)),
-        "draw" => Ok(draw_in(given)),
+        "lasso" => Ok(lasso_in(given)),
+        "hunt" => hunt_in(alloc, given),
+        "trace" => trace_in(alloc, given),
+        "draw" => draw_in(alloc, given),
         "explain" => Ok(explain_in(given)),
         "labels" => Ok(labels_in(given)),
         _ => Ok(None),
@@ -186,12 +198,10 @@ fn explore<'a>(alloc: Global) -> Result<Command<'a>, AllocError>
 fn explore_in<'a>(alloc: Global, given: &ArgMatches<'a>) -> Result<Option<Lent<'a>>, AllocError>
     ensures { IfOk result (λ found. option_map plain_request found ≡ explore_in (rows_of (found_of given.now))) }
 {
+    let never = list_in(alloc, given, "never")?;
     match texts_in(given, "ends") {
-        Some(texts) => Ok(ends_in(given, texts)),
-        None => {
-            let never = list_in(alloc, given, "never")?;
-            Ok(schedules_of(given, never))
-        }
+        Some(texts) => Ok(ends_in(given, never, texts)),
+        None => Ok(schedules_of(given, never)),
     }
 }
 
@@ -206,21 +216,22 @@ fn schedules_of<'a>(given: &ArgMatches<'a>, never: Vec<&'a str>) -> Option<Lent<
     })
 }
 
-fn ends_in<'a>(given: &ArgMatches<'a>, texts: &[&'a str]) -> Option<Lent<'a>>
-    ensures { option_map plain_request result ≡ ends_in (rows_of (found_of given.now)) (map (λ text. text.now) texts.now) }
+fn ends_in<'a>(given: &ArgMatches<'a>, never: Vec<&'a str>, texts: &[&'a str]) -> Option<Lent<'a>>
+    ensures { option_map plain_request result ≡ ends_in (map (λ text. text.now) never.entry.items) (rows_of (found_of given.now)) (map (λ text. text.now) texts.now) }
 {
     match texts {
-        [] => ends_of(given, None),
-        [process] => ends_of(given, Some(byte(process)?)),
+        [] => ends_of(given, never, None),
+        [process] => ends_of(given, never, Some(byte(process)?)),
         _ => None,
     }
 }
 
-fn ends_of<'a>(given: &ArgMatches<'a>, process: Option<u8>) -> Option<Lent<'a>>
-    ensures { option_map plain_request result ≡ ends_of process (rows_of (found_of given.now)) }
+fn ends_of<'a>(given: &ArgMatches<'a>, never: Vec<&'a str>, process: Option<u8>) -> Option<Lent<'a>>
+    ensures { option_map plain_request result ≡ ends_of (map (λ text. text.now) never.entry.items) process (rows_of (found_of given.now)) }
 {
     Some(Request::Ends {
         file: text_in(given, "file")?,
+        never,
         process,
         limit: limit_in(given)?,
     })
@@ -232,13 +243,51 @@ fn limit_in(given: &ArgMatches<'_>) -> Option<u32>
     number_or(given, "limit", 1_000_000)
 }
 
+fn lasso<'a>(alloc: Global) -> Result<Command<'a>, AllocError>
+    ensures { IsCommand lasso_app result }
+{
+    let lasso = taking(
+        filed(
+            alloc,
+            "lasso",
+            "Says whether a schedule can repeat a part of itself for ever, each process that runs there again and again",
+            PROGRAM,
+        ),
+        word(
+            alloc,
+            "prefix",
+            "PREFIX",
+            "The steps before it, as \"0 1*3 0\", or @ and the file that has them",
+        ),
+    );
+    taking(
+        lasso,
+        word(
+            alloc,
+            "cycle",
+            "CYCLE",
+            "The steps that are repeated, or @ and the file that has them",
+        ),
+    )
+}
+
+fn lasso_in<'a>(given: &ArgMatches<'a>) -> Option<Lent<'a>>
+    ensures { option_map plain_request result ≡ lasso_in (rows_of (found_of given.now)) }
+{
+    Some(Request::Lasso {
+        file: text_in(given, "file")?,
+        prefix: text_in(given, "prefix")?,
+        cycle: text_in(given, "cycle")?,
+    })
+}
+
 fn hunt<'a>(alloc: Global) -> Result<Command<'a>, AllocError>
     ensures { IsCommand hunt_app result }
 {
     let hunt = filed(
         alloc,
         "hunt",
-        "Looks under random schedules for one under which a process traps, and leaves out of it what can be",
+        "Looks under random schedules for one under which a process traps or a line #! never breaks, and leaves out of it what can be",
         PROGRAM,
     );
     let hunt = taking(
@@ -265,6 +314,16 @@ fn hunt<'a>(alloc: Global) -> Result<Command<'a>, AllocError>
         hunt,
         option(
             alloc,
+            "from",
+            "RUN",
+            value_parser!(u32),
+            "The run that is made first, so that a hunt can be divided [default: 0]",
+        ),
+    );
+    let hunt = taking(
+        hunt,
+        option(
+            alloc,
             "steps",
             "N",
             length(),
@@ -279,15 +338,25 @@ fn hunt<'a>(alloc: Global) -> Result<Command<'a>, AllocError>
             "Each step is of any process alike, in place of bursts of steps of one",
         ),
     );
+    let hunt = taking(
+        hunt,
+        repeated(
+            alloc,
+            "never",
+            "EXPR",
+            "Asks too that no state has this property, like a line #! never EXPR of the program; it may be given again",
+        ),
+    );
     taking(hunt, threads(alloc))
 }
 
-fn hunt_in<'a>(given: &ArgMatches<'a>) -> Option<Lent<'a>>
-    ensures { option_map plain_request result ≡ hunt_in (rows_of (found_of given.now)) }
+fn hunt_in<'a>(alloc: Global, given: &ArgMatches<'a>) -> Result<Option<Lent<'a>>, AllocError>
+    ensures { IfOk result (λ found. option_map plain_request found ≡ hunt_in (rows_of (found_of given.now))) }
 {
+    let never = list_in(alloc, given, "never")?;
     match texts_in(given, "threads") {
-        Some(texts) => runs_in(given, texts),
-        None => plan_in(given),
+        Some(texts) => Ok(runs_in(given, texts)),
+        None => Ok(plan_of(given, never)),
     }
 }
 
@@ -304,13 +373,15 @@ fn runs_in<'a>(given: &ArgMatches<'a>, texts: &[&'a str]) -> Option<Lent<'a>>
     }
 }
 
-fn plan_in<'a>(given: &ArgMatches<'a>) -> Option<Lent<'a>>
-    ensures { option_map plain_request result ≡ plan_in (rows_of (found_of given.now)) }
+fn plan_of<'a>(given: &ArgMatches<'a>, never: Vec<&'a str>) -> Option<Lent<'a>>
+    ensures { option_map plain_request result ≡ plan_of (map (λ text. text.now) never.entry.items) (rows_of (found_of given.now)) }
 {
     Some(Request::Hunt {
         file: text_in(given, "file")?,
+        never,
         seed: large_number_or(given, "seed", 0)?,
         runs: number_or(given, "runs", 10_000)?,
+        from: number_or(given, "from", 0)?,
         steps: number_or(given, "steps", 300)?,
         is_uniform: is_set(given, "uniform"),
     })
@@ -329,32 +400,57 @@ fn run<'a>(alloc: Global, name: &'a str, about: &'a str) -> Result<Command<'a>, 
             "Which process makes each step, as \"0 1*3 0\", or @ and the file that has it",
         ),
     );
-    taking(
+    let run = taking(
         run,
         flag(
             alloc,
             "code",
             "Takes the program's code, on bounded labels; the schedule is one of the code",
         ),
+    );
+    taking(
+        run,
+        repeated(
+            alloc,
+            "never",
+            "EXPR",
+            "Marks too where this property holds first, like a line #! never EXPR of the program; it may be given again; not with --code",
+        ),
     )
 }
 
-fn trace_in<'a>(given: &ArgMatches<'a>) -> Option<Lent<'a>>
-    ensures { option_map plain_request result ≡ run_in Trace (rows_of (found_of given.now)) }
+fn trace_in<'a>(alloc: Global, given: &ArgMatches<'a>) -> Result<Option<Lent<'a>>, AllocError>
+    ensures { IfOk result (λ found. option_map plain_request found ≡ trace_in (rows_of (found_of given.now))) }
+{
+    let never = list_in(alloc, given, "never")?;
+    Ok(trace_of(given, never))
+}
+
+fn trace_of<'a>(given: &ArgMatches<'a>, never: Vec<&'a str>) -> Option<Lent<'a>>
+    ensures { option_map plain_request result ≡ trace_of (map (λ text. text.now) never.entry.items) (rows_of (found_of given.now)) }
 {
     Some(Request::Trace {
         file: text_in(given, "file")?,
         schedule: text_in(given, "schedule")?,
+        never,
         is_code: is_set(given, "code"),
     })
 }
 
-fn draw_in<'a>(given: &ArgMatches<'a>) -> Option<Lent<'a>>
-    ensures { option_map plain_request result ≡ run_in Draw (rows_of (found_of given.now)) }
+fn draw_in<'a>(alloc: Global, given: &ArgMatches<'a>) -> Result<Option<Lent<'a>>, AllocError>
+    ensures { IfOk result (λ found. option_map plain_request found ≡ draw_in (rows_of (found_of given.now))) }
+{
+    let never = list_in(alloc, given, "never")?;
+    Ok(draw_of(given, never))
+}
+
+fn draw_of<'a>(given: &ArgMatches<'a>, never: Vec<&'a str>) -> Option<Lent<'a>>
+    ensures { option_map plain_request result ≡ draw_of (map (λ text. text.now) never.entry.items) (rows_of (found_of given.now)) }
 {
     Some(Request::Draw {
         file: text_in(given, "file")?,
         schedule: text_in(given, "schedule")?,
+        never,
         is_code: is_set(given, "code"),
     })
 }

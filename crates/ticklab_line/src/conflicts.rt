@@ -3,7 +3,7 @@ ghost use Rattle.std.specs.Prelude.{◌≡◌, IfOk, map, option_map, string_byt
 ghost use Rattle.clap.specs.Matches.{found_of};
 ghost use Rattle.clap.specs.Walk.{rows_of};
 ghost use Rattle.clap.specs.Simple.{subcommand_rows_of};
-ghost use Rattle.ticklab_line.specs.Conflicts.{beside_ends, conflict_in as conflict_found, conflict_of, conflict_text, ends_conflict, in_order, may_conflict, plan_option, shown, threads_conflict, threads_lead};
+ghost use Rattle.ticklab_line.specs.Conflicts.{code_conflict, conflict_in as conflict_found, conflict_of, conflict_text, ends_conflict, in_order, may_conflict, plan_option, shown, threads_conflict, threads_lead};
 
 use crate::values::{is_set, text_in, texts_in};
 use clap::ArgMatches;
@@ -11,10 +11,14 @@ use std::alloc::{AllocError, Global};
 
 const THREADS: &str = "--threads <TIMES> <TURNS>";
 
-/// Two options that do not go together, as they are shown, and the command that they are of.
+const FILE: &str = " <FILE>";
+
+/// Two options that do not go together, as they are shown, the command that they are of, and the words that it
+/// takes.
 #[derive(Drop)]
 pub struct Conflict<'a> {
     command: &'a str,
+    words: &'a str,
     first: &'a str,
     second: &'a str,
 }
@@ -23,40 +27,47 @@ pub struct Conflict<'a> {
 pub fn conflict_in(matches: &ArgMatches<'_>) -> Option<Conflict<'static>>
     ensures { option_map shown result ≡ conflict_found (subcommand_rows_of matches.now) }
 {
-    let (_name, given) = matches.subcommand()?;
-    conflict_of(given)
+    let (name, given) = matches.subcommand()?;
+    conflict_of(name, given)
 }
 
-fn conflict_of(given: &ArgMatches<'_>) -> Option<Conflict<'static>>
-    ensures { option_map shown result ≡ conflict_of (rows_of (found_of given.now)) }
+fn conflict_of(name: &str, given: &ArgMatches<'_>) -> Option<Conflict<'static>>
+    ensures { option_map shown result ≡ conflict_of name.now (rows_of (found_of given.now)) }
 {
-    match threads_conflict(given) {
-        Some(conflict) => Some(conflict),
-        None => ends_conflict(given),
+    if let Some(conflict) = threads_conflict(given) {
+        return Some(conflict);
     }
+    match ends_conflict(given) {
+        Some(conflict) => Some(conflict),
+        None => code_conflict(name, given),
+    }
+}
+
+// `--code` and `--never` of `trace` or `draw`.
+fn code_conflict(name: &str, given: &ArgMatches<'_>) -> Option<Conflict<'static>>
+    ensures { option_map shown result ≡ code_conflict name.now (rows_of (found_of given.now)) }
+{
+    if is_set(given, "code") && text_in(given, "never").is_some() {
+        return Some(Conflict {
+            command: if name == "draw" { "draw" } else { "trace" },
+            words: " <FILE> <SCHEDULE>",
+            first: "--code",
+            second: "--never <EXPR>",
+        });
+    }
+    None
 }
 
 fn ends_conflict(given: &ArgMatches<'_>) -> Option<Conflict<'static>>
     ensures { option_map shown result ≡ ends_conflict (rows_of (found_of given.now)) }
 {
-    let _texts = texts_in(given, "ends")?;
-    let second = beside_ends(given)?;
-    Some(Conflict {
-        command: "explore",
-        first: "--ends [<P>]",
-        second,
-    })
-}
-
-// The first of the options that don't go with `--ends` and are given, as it is shown.
-fn beside_ends(given: &ArgMatches<'_>) -> Option<&'static str>
-    ensures { option_map (λ option. option.now) result ≡ beside_ends (rows_of (found_of given.now)) }
-{
-    if is_set(given, "merged") {
-        return Some("--merged");
-    }
-    if text_in(given, "never").is_some() {
-        return Some("--never <EXPR>");
+    if texts_in(given, "ends").is_some() && is_set(given, "merged") {
+        return Some(Conflict {
+            command: "explore",
+            words: FILE,
+            first: "--ends [<P>]",
+            second: "--merged",
+        });
     }
     None
 }
@@ -76,12 +87,14 @@ fn in_order(threads_lead: bool, option: &str) -> Conflict<'_>
     if threads_lead {
         return Conflict {
             command: "hunt",
+            words: FILE,
             first: THREADS,
             second: option,
         };
     }
     Conflict {
         command: "hunt",
+        words: FILE,
         first: option,
         second: THREADS,
     }
@@ -97,11 +110,17 @@ fn plan_option(given: &ArgMatches<'_>) -> Option<&'static str>
     if text_in(given, "runs").is_some() {
         return Some("--runs <N>");
     }
+    if text_in(given, "from").is_some() {
+        return Some("--from <RUN>");
+    }
     if text_in(given, "steps").is_some() {
         return Some("--steps <N>");
     }
     if is_set(given, "uniform") {
         return Some("--uniform");
+    }
+    if text_in(given, "never").is_some() {
+        return Some("--never <EXPR>");
     }
     None
 }
@@ -121,7 +140,10 @@ fn threads_lead(given: &ArgMatches<'_>) -> bool
 fn may_conflict(id: &str) -> bool
     ensures { result ≡ may_conflict id.now }
 {
-    matches!(id, "threads" | "seed" | "runs" | "steps" | "uniform")
+    matches!(
+        id,
+        "threads" | "seed" | "runs" | "from" | "steps" | "uniform" | "never"
+    )
 }
 
 /// What is told of them, as `clap` tells it of two of its own.
@@ -136,6 +158,7 @@ pub fn conflict_text(alloc: Global, options: Conflict<'_>) -> Result<String, All
     text.push_str(options.command)?;
     text.push_str(" ")?;
     text.push_str(options.first)?;
-    text.push_str(" <FILE>\n\nFor more information, try '--help'.\n")?;
+    text.push_str(options.words)?;
+    text.push_str("\n\nFor more information, try '--help'.\n")?;
     Ok(text)
 }

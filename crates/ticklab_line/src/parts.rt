@@ -14,9 +14,9 @@ pub const STATUSES: &str = "Exit status: \
 2 the command line is; \
 3 a file could not be read, or the answer not be written; \
 4 memory or a thread was refused; \
-5 explore or hunt found a schedule under which a process traps, or explore one under which a #! never line breaks; \
+5 explore or hunt found a schedule under which a process traps or a #! never line breaks; \
 6 explore met its limit; \
-7 explore --ends found a schedule after which what was asked for can't end. \
+7 explore found a schedule after which what was asked for can't end or never does, or lasso says that it never does. \
 All but the answer is told on standard error.";
 
 // The line with one more command.

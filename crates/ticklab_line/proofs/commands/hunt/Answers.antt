@@ -8,7 +8,10 @@ returns c =
     (c.option.ensures.0 ∙ ap (number_rule _) c.value_parser.ensures, c.option.ensures.1) in
     let runs = c.taking-hunt-2.ensures _ _ seed
     (c.option-2.ensures.0 ∙ ap (number_rule _) c.value_parser-2.ensures, c.option-2.ensures.1) in
-    let steps = c.taking-hunt-3.ensures _ _ runs
-    (c.option-3.ensures.0 ∙ ap (number_rule _) c.length.ensures, c.option-3.ensures.1) in
-    let uniform = c.taking-hunt-4.ensures _ _ steps c.flag.ensures in
-    c.taking.ensures _ _ uniform c.threads.ensures
+    let from = c.taking-hunt-3.ensures _ _ runs
+    (c.option-3.ensures.0 ∙ ap (number_rule _) c.value_parser-3.ensures, c.option-3.ensures.1) in
+    let steps = c.taking-hunt-4.ensures _ _ from
+    (c.option-4.ensures.0 ∙ ap (number_rule _) c.length.ensures, c.option-4.ensures.1) in
+    let uniform = c.taking-hunt-5.ensures _ _ steps c.flag.ensures in
+    let never = c.taking-hunt-6.ensures _ _ uniform c.repeated.ensures in
+    c.taking.ensures _ _ never c.threads.ensures

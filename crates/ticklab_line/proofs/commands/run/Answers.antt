@@ -3,4 +3,5 @@ use Rattle.ticklab_line.proofs.commands.run.Goals as goal
 pub returns : goal.returns
 returns c =
     let schedule = c.taking-run.ensures _ _ c.filed.ensures c.word.ensures in
-    c.taking.ensures _ _ schedule c.flag.ensures
+    let code = c.taking-run-2.ensures _ _ schedule c.flag.ensures in
+    c.taking.ensures _ _ code c.repeated.ensures

@@ -9,6 +9,7 @@ returns c = record {
   explore = λ rest. ((refl, refl), refl);
   ends_merged = (refl, refl);
   one_end_merged = (refl, refl);
-  ends_never = (refl, refl);
+  code_never = (refl, refl);
+  drawn_code_never = (refl, refl);
   all = refl;
 }
