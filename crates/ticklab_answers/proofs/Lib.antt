@@ -2,6 +2,7 @@ pub mod Breaks
 pub mod Carried
 pub mod EndsSearched
 pub mod HuntSearched
+pub mod Looped
 pub mod NeverLines
 pub mod Pictured
 pub mod ProgramFiles
@@ -11,4 +12,5 @@ pub mod Responded
 pub mod Searched
 pub mod Settled
 pub mod Threaded
+pub mod ToldLoops
 pub mod Uncoded

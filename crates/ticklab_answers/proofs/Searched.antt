@@ -1,30 +1,32 @@
 -- What an answer says, from what was explored and what the answer shows of it.
-use Rattle.std.proofs.Common.{◌≡◌, ℕ, Bool, List, [], length, refl, subst}
+use Rattle.std.proofs.Common.{◌≡◌, ◌≤◌, ℕ, Bool, false, List, [], length, refl, subst}
 use Rattle.tick_kinds.specs.Resolution.{resolved}
 use Rattle.searches_states.specs.Watching.{Told, IsWatched}
 use Rattle.searches_explore.specs.Never.{AreToldFor, IfBroken, IfLimit, IfSafe, IfTrapped}
 use Rattle.searches_explore.specs.declared.never_answer.NeverExplored.{NeverExplored}
 use Rattle.searches_explore.specs.declared.never_answer.NeverExplored.TheVariants.{Trapped, Broken, Safe, Limit}
 use Rattle.ticklab_answers.specs.Asking.{AsksNever, TextPlace, places_by}
+use Rattle.ticklab_answers.specs.Ends.{asks_ends}
 use Rattle.ticklab_answers.specs.Exploring.{BrokenBy, IsExplored, IsUnexplored, LimitBy, SafeBy, SeesBy, TrapBy, break_line_by, broken, line_by, safe, trapped, unexplored, unknown}
 use Rattle.ticklab_answers.specs.Responses.{Refuses}
 use Rattle.ticklab_answers.specs.Shown.{Shows, ShowsBroken, ShowsSafe}
 use Rattle.ticklab_answers.specs.declared.response.Response.{Response}
 
 -- of what was explored by steps of this kind, with what must never hold of the program of an input
-module _ (m : Bool) (name : List ℕ) (texts : List (List ℕ)) (limit : ℕ) (input : List ℕ) (asks : AsksNever texts input) (places : List TextPlace)
+module _ (m : Bool) (name : List ℕ) (texts : List (List ℕ)) (limit : ℕ) (input : List ℕ) (asks : AsksNever texts input)
+    (plain : asks_ends m asks.file.asked.ends ≡ false) (places : List TextPlace)
     (same : places ≡ places_by name input asks.file.asked texts) (many : length places ≡ length asks.lines) where
   told_of : (e : NeverExplored) (x : Response) (told : List Told)
       → IfTrapped e (TrapBy m (resolved asks.file.program) asks.lines) → IfBroken e (BrokenBy m (resolved asks.file.program) asks.lines)
       → IfSafe e (SafeBy m (resolved asks.file.program) asks.lines limit) → IfLimit e (LimitBy m (resolved asks.file.program) asks.lines limit)
       → Shows (line_by m) (break_line_by m) input asks.file.program places e x
       → AreToldFor (SeesBy m (resolved asks.file.program) asks.lines) e told → IsExplored m name texts limit input x told
-  told_of (Trapped s) x told traps breaks never full shows some = trapped asks s.items traps some.0 some.1 shows
+  told_of (Trapped s) x told traps breaks never full shows some = trapped asks plain s.items traps some.0 some.1 shows
   told_of (Broken s line v) x told traps breaks never full shows some =
-      broken asks s.items line v breaks some.0 some.1
+      broken asks plain s.items line v breaks some.0 some.1
       (subst (λ (ps : List TextPlace). ShowsBroken (break_line_by m) input asks.file.program ps s.items line v x) same shows)
-  told_of (Safe count) x told traps breaks never full shows all = safe asks count never all (subst (λ (n : ℕ). ShowsSafe n count x) many shows)
-  told_of (Limit count) x told traps breaks never full shows some = unknown asks count full some.0 some.1 shows
+  told_of (Safe count) x told traps breaks never full shows all = safe asks plain count never all (subst (λ (n : ℕ). ShowsSafe n count x) many shows)
+  told_of (Limit count) x told traps breaks never full shows some = unknown asks plain count full some.0 some.1 shows
 
   pub searched : {W : Type 0} (hears : W → ℕ → ℕ → W → Type 0) (before after : W) (e : NeverExplored) (x : Response)
       → IfTrapped e (TrapBy m (resolved asks.file.program) asks.lines) → IfBroken e (BrokenBy m (resolved asks.file.program) asks.lines)

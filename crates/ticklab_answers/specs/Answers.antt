@@ -1,5 +1,5 @@
 -- The answer to the words of a command line: each command, with what it reads, runs and tells.
-use Rattle.std.specs.Prelude.{◌≡◌, ⊤, ℕ, List, Result, Ok, Err, String, Vec, map, string_bytes}
+use Rattle.std.specs.Prelude.{◌≡◌, ⊤, ℕ, List, [], Result, Ok, Err, String, Vec, map, string_bytes}
 use Rattle.std.specs.Global.{Global}
 use Rattle.std.specs.Vec.Iter.{into_iter_items}
 use Rattle.std.specs.declared.io.Error.{Error}
@@ -38,8 +38,8 @@ module _ {F M W : Type 0} (Reads : ReadsOf F) (ReadsInput : ReadsInputOf F) (Ran
   abbrev pub Responds : Asked → Response → Type 0
   Responds (Explore file never limit is_merged) response =
       (ran ≡ rested) × Explores Reads ReadsInput hears before after quiet heard file never limit is_merged response
-  Responds (Ends file process limit) response =
-      (ran ≡ rested) × ExploresEnds Reads ReadsInput hears before after quiet heard file process limit response
+  Responds (Ends file never process limit) response =
+      (ran ≡ rested) × ExploresEnds Reads ReadsInput hears before after quiet heard file never process limit response
   Responds (Hunt file never seed runs from steps is_uniform) response =
       (ran ≡ rested) × (heard ≡ quiet) × Hunts Reads ReadsInput before after file never (plan_of seed runs steps is_uniform) from response
   Responds (Runs file times turns) response = (heard ≡ quiet) × Tallies Reads ReadsInput Ran before after rested ran file times turns response
@@ -66,7 +66,7 @@ module _ {F M W : Type 0} (Reads : ReadsOf F) (ReadsInput : ReadsInputOf F) (Ran
 -- the names of files that a request has
 abbrev pub NamesOf : Asked → List ℕ → Type 0
 NamesOf (Explore file never limit is_merged) name = name ≡ file
-NamesOf (Ends file process limit) name = name ≡ file
+NamesOf (Ends file never process limit) name = name ≡ file
 NamesOf (Hunt file never seed runs from steps is_uniform) name = name ≡ file
 NamesOf (Runs file times turns) name = name ≡ file
 NamesOf (Trace file schedule never is_code) name = IsEither file schedule name

@@ -1,5 +1,5 @@
 -- What `explore` answers, and what a watch is told on the way.
-use Rattle.std.specs.Prelude.{◌≡◌, ℕ, Bool, true, false, List, [], length}
+use Rattle.std.specs.Prelude.{◌≡◌, ℕ, Bool, true, false, List, [], None, length}
 use Rattle.base.specs.Plain.{WholeProgram}
 use Rattle.tick_kinds.specs.Resolution.{resolved}
 use Rattle.language_properties.specs.Properties.{Formula}
@@ -9,6 +9,8 @@ use Rattle.searches_explore.specs.Never.{IsBroken, IsMergedNeverLimit, IsMergedN
 use Rattle.searches_explore.specs.Searching.{Sees}
 use Rattle.searches_explore.specs.Trap.{IsTrap}
 use Rattle.ticklab_answers.specs.Asking.{AsksNever, IsFileRefused, IsProgramFile, TellsOption, lines_in, places_by}
+pub use Rattle.ticklab_answers.specs.Ends.{HearsOf}
+use Rattle.ticklab_answers.specs.Ends.{IsEndsFound, asked_by, asks_ends}
 use Rattle.ticklab_answers.specs.Lines.{shortest_break_line, shortest_line, some_break_line, some_line}
 use Rattle.ticklab_answers.specs.Reading.{AfterFile, ReadsOf, ReadsInputOf}
 use Rattle.ticklab_answers.specs.Responses.{Refuses}
@@ -53,28 +55,31 @@ pub data IsUnexplored (name : List ℕ) (texts : List (List ℕ)) (input report 
   no_option : (is : IsProgramFile input) → TellsOption is.program (lines_in is.asked) texts report → IsUnexplored name texts input report
 
 -- The answer on an input, with these texts of a command line for what must never hold, and what a watch is told on the
--- way. Of a program that is told safe all its states are gone; of an input that is refused nothing is told.
+-- way. Of a program that is told safe all its states are gone; of an input that is refused nothing is told. By single
+-- steps the ends are asked too, where the file says so.
 pub data IsExplored (is_merged : Bool) (name : List ℕ) (texts : List (List ℕ)) (limit : ℕ) (input : List ℕ) (response : Response) (told : List Told) : Type 0 where
-  safe : (asks : AsksNever texts input) (states : ℕ) → SafeBy is_merged (resolved asks.file.program) asks.lines limit states
+  safe : (asks : AsksNever texts input) → asks_ends is_merged asks.file.asked.ends ≡ false
+      → (states : ℕ) → SafeBy is_merged (resolved asks.file.program) asks.lines limit states
       → AreTold (SeesBy is_merged (resolved asks.file.program) asks.lines) states told → ShowsSafe (length asks.lines) states response
       → IsExplored is_merged name texts limit input response told
-  trapped : (asks : AsksNever texts input) (schedule : List ℕ) → TrapBy is_merged (resolved asks.file.program) asks.lines schedule
+  trapped : (asks : AsksNever texts input) → asks_ends is_merged asks.file.asked.ends ≡ false
+      → (schedule : List ℕ) → TrapBy is_merged (resolved asks.file.program) asks.lines schedule
       → (gone : ℕ) → AreTold (SeesBy is_merged (resolved asks.file.program) asks.lines) gone told
       → ShowsTrap (line_by is_merged) input asks.file.program schedule response
       → IsExplored is_merged name texts limit input response told
-  broken : (asks : AsksNever texts input) (schedule : List ℕ) (line : ℕ) (v : Valued)
-      → BrokenBy is_merged (resolved asks.file.program) asks.lines schedule line v
+  broken : (asks : AsksNever texts input) → asks_ends is_merged asks.file.asked.ends ≡ false
+      → (schedule : List ℕ) (line : ℕ) (v : Valued) → BrokenBy is_merged (resolved asks.file.program) asks.lines schedule line v
       → (gone : ℕ) → AreTold (SeesBy is_merged (resolved asks.file.program) asks.lines) gone told
       → ShowsBroken (break_line_by is_merged) input asks.file.program (places_by name input asks.file.asked texts) schedule line v response
       → IsExplored is_merged name texts limit input response told
-  unknown : (asks : AsksNever texts input) (states : ℕ) → LimitBy is_merged (resolved asks.file.program) asks.lines limit states
+  unknown : (asks : AsksNever texts input) → asks_ends is_merged asks.file.asked.ends ≡ false
+      → (states : ℕ) → LimitBy is_merged (resolved asks.file.program) asks.lines limit states
       → (gone : ℕ) → AreTold (SeesBy is_merged (resolved asks.file.program) asks.lines) gone told → ShowsLimit states response
       → IsExplored is_merged name texts limit input response told
+  ends_too : (asks : AsksNever texts input) → asks_ends is_merged asks.file.asked.ends ≡ true
+      → IsEndsFound input asks.file.program asks.lines (places_by name input asks.file.asked texts) (asked_by asks.file.asked.ends None) limit response told
+      → IsExplored is_merged name texts limit input response told
   unexplored : Refuses 1 (IsUnexplored name texts input) response → told ≡ [] → IsExplored is_merged name texts limit input response told
-
--- what a watch was told, by what it is for it to be told two numbers, of the watch before and after
-abbrev pub HearsOf : Type 0 → Type 1
-HearsOf W = W → ℕ → ℕ → W → Type 0
 
 -- the file is read, and the watch hears of the search
 abbrev pub Explores : {F W : Type 0} → ReadsOf F → ReadsInputOf F → HearsOf W → F → F → W → W → List ℕ → List (List ℕ) → ℕ → Bool → Response → Type 0

@@ -8,8 +8,10 @@ pub mod Exploring
 pub mod Faults
 pub mod Hunting
 pub mod Labels
+pub mod Lasso
 pub mod Laws
 pub mod Lines
+pub mod Loops
 pub mod Reading
 pub mod Responses
 pub mod Runs

@@ -1,14 +1,15 @@
 -- Lines of the answers.
-use Rattle.std.specs.Prelude.{◌++◌, ◌-◌, ◌==◌, if◌then◌else◌, min, ℕ, List, [], ◌∷◌, Ok, Err, codes, string_bytes}
+use Rattle.std.specs.Prelude.{◌++◌, ◌-◌, ◌==◌, if◌then◌else◌, min, ℕ, ◌+◌, Bool, true, false, not, List, [], ◌∷◌, Ok, Err, codes, string_bytes}
 use Rattle.std.specs.Fmt.{decimal}
+use Rattle.std.specs.List.{list_any}
 use Rattle.base.specs.Lines.{line_end}
 use Rattle.language_properties.specs.Values.{Valued}
 use Rattle.language_schedules.specs.Written.{schedule_text}
 use Rattle.language_schedules.specs.declared.schedule.ScheduleFault.{ScheduleFault}
 use Rattle.language_schedules.specs.declared.schedule.ScheduleFault.TheVariants.{BadItem, NoSuchProcess, TooLong, NoMemory}
 use Rattle.tick_play.specs.Lines.{trap_text}
-use Rattle.searches_states.specs.declared.ending.MustStop.{MustStop}
-use Rattle.searches_states.specs.declared.ending.MustStop.TheVariants.{All, One}
+use Rattle.searches_states.specs.declared.must_stop.MustStop.{MustStop}
+use Rattle.searches_states.specs.declared.must_stop.MustStop.TheVariants.{All, Each}
 use Rattle.searches_hunt.specs.declared.plan.Plan.{Plan}
 use Rattle.searches_hunt.specs.declared.tallying.counting.Counted.{Counted}
 
@@ -65,20 +66,6 @@ safe_line lines states = safe_text lines ++ codes " under any schedule (" ++ sta
 abbrev pub limit_line : ℕ → List ℕ
 limit_line states = codes "there are more than " ++ states_text states ++ codes ": nothing is said of all schedules\n"
 
--- who is asked for, that they can always end, that they can't any more, and that there is no such process
-abbrev pub asked_text : MustStop → List ℕ
-asked_text All = codes "all processes"
-asked_text (One p) = codes "process " ++ decimal p
-
-abbrev pub can_end_line : MustStop → ℕ → List ℕ
-can_end_line asked states = asked_text asked ++ codes " can still end after every schedule (" ++ states_text states ++ codes ")\n"
-
-abbrev pub stuck_line : MustStop → List ℕ
-stuck_line asked = codes "after this schedule no further steps end " ++ asked_text asked ++ codes ", and after each shorter one some do:"
-
-abbrev pub no_process_line : ℕ → List ℕ
-no_process_line p = codes "--ends: error: there is no process " ++ decimal p ++ codes "\n"
-
 -- how many runs of a plan there are from this one on, of which the last is 4294967294; and what they are
 abbrev pub runs_from : Plan → ℕ → ℕ
 runs_from plan from = min plan.runs (4294967295 - from)
@@ -123,3 +110,94 @@ count_text times counted = decimal counted.times ++ codes " of " ++ runs_text ti
 abbrev pub count_texts : ℕ → List Counted → List ℕ
 count_texts times [] = []
 count_texts times (counted ∷ counts) = count_text times counted ++ count_texts times counts
+
+-- The lines of `explore --ends`.
+
+-- the numbers, counted from this one, at which there is a `true`
+abbrev pub marked : ℕ → List Bool → List ℕ
+marked p [] = []
+marked p (true ∷ marks) = p ∷ marked (p + 1) marks
+marked p (false ∷ marks) = marked (p + 1) marks
+
+-- a number, and these others behind commas and the last behind `and`
+abbrev pub numbers_text : ℕ → List ℕ → List ℕ
+numbers_text p [] = decimal p
+numbers_text p (q ∷ []) = decimal p ++ codes " and " ++ decimal q
+numbers_text p (q ∷ r ∷ more) = decimal p ++ codes ", " ++ numbers_text q (r ∷ more)
+
+abbrev pub processes_text : List ℕ → List ℕ
+processes_text [] = codes "no process"
+processes_text (p ∷ []) = codes "process " ++ decimal p
+processes_text (p ∷ q ∷ more) = codes "processes " ++ numbers_text p (q ∷ more)
+
+-- who is asked for
+abbrev pub asked_text : MustStop → List ℕ
+asked_text All = codes "all processes"
+asked_text (Each marks) = processes_text (marked 0 marks)
+
+abbrev pub is_nobody : MustStop → Bool
+is_nobody All = false
+is_nobody (Each marks) = not (list_any (λ mark. mark) marks)
+
+-- The first lines. Before what is found of the ends stands what `explore` finds: nothing is wrong, and so many lines
+-- `#! never` don't break.
+abbrev pub quiet_text : ℕ → List ℕ
+quiet_text lines = safe_text lines ++ codes " under any schedule; "
+
+-- they can always end; and they do, where each process that runs steps again and again
+abbrev pub ends_text : MustStop → List ℕ
+ends_text asked =
+    if is_nobody asked then codes "no process is asked whether it can end"
+    else (asked_text asked ++ codes " can still end after every schedule, and will if each that runs steps again and again")
+
+abbrev pub ends_line : ℕ → MustStop → ℕ → List ℕ
+ends_line lines asked states = quiet_text lines ++ ends_text asked ++ codes " (" ++ states_text states ++ codes ")\n"
+
+-- the same, where it isn't known whether they do
+abbrev pub can_end_line : ℕ → MustStop → ℕ → List ℕ
+can_end_line lines asked states =
+    quiet_text lines ++ asked_text asked ++ codes " can still end after every schedule (" ++ states_text states
+    ++ codes "); of those in which each that runs steps again and again nothing was found out\n"
+
+-- they can always end, and under an endless schedule they don't
+abbrev pub endless_line : ℕ → MustStop → List ℕ
+endless_line lines asked =
+    quiet_text lines ++ asked_text asked
+    ++ codes " can still end after every schedule, but not under this one, in which each that runs steps again and again:"
+
+-- they can't end any more
+abbrev pub stuck_line : ℕ → MustStop → List ℕ
+stuck_line lines asked =
+    quiet_text lines ++ codes "after this schedule no further steps end " ++ asked_text asked ++ codes ", and after each shorter one some do:"
+
+-- the steps that lead on to those that repeat for ever
+abbrev pub lead_in_line : List ℕ
+lead_in_line = codes "then these steps:"
+
+-- whether somebody writes in the steps that repeat for ever
+abbrev pub cycle_line : Bool → List ℕ
+cycle_line true = codes "then these again and again, in which they write and never get on:"
+cycle_line false = codes "then these again and again, in which nobody writes:"
+
+-- there is no such process
+abbrev pub no_process_line : ℕ → List ℕ
+no_process_line p = codes "--ends: error: there is no process " ++ decimal p ++ codes "\n"
+
+-- The lines of `lasso`.
+
+-- round the loop these processes run for ever
+abbrev pub loop_line : List ℕ → List ℕ
+loop_line running = codes "it is a loop of " ++ processes_text running ++ codes " that never stops, and it begins after these steps:"
+
+abbrev pub stopped_line : List ℕ
+stopped_line = codes "it is no loop: after PREFIX no process runs that has to end\n"
+
+abbrev pub left_out_line : ℕ → List ℕ
+left_out_line p = codes "it is no loop: process " ++ decimal p ++ codes " runs after PREFIX and makes no step of CYCLE\n"
+
+abbrev pub open_line : List ℕ
+open_line = codes "it is no loop: CYCLE leads to another state than PREFIX does\n"
+
+-- a program that is too long for it
+abbrev pub long_line : List ℕ
+long_line = codes "there are more than 268435455 statements: nothing is said of the loop\n"

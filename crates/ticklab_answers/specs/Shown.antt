@@ -1,18 +1,19 @@
 -- What `explore` and `hunt` show of the program that an input is. A schedule is told as that of a trap.
-use Rattle.std.specs.Prelude.{◌≡◌, ◌++◌, ℕ, List, length, slice_get, Some}
+use Rattle.std.specs.Prelude.{◌≡◌, ◌++◌, ℕ, List, [], length, slice_get, Some}
 use Rattle.base.specs.Plain.{Name, WholeProgram}
 use Rattle.language_properties.specs.Values.{Valued}
 use Rattle.searches_explore.specs.declared.never_answer.NeverExplored.{NeverExplored}
 use Rattle.searches_explore.specs.declared.never_answer.NeverExplored.TheVariants.{Trapped, Broken, Safe, Limit}
-use Rattle.searches_explore.specs.declared.ending.EndExplored.{EndExplored}
-use Rattle.searches_explore.specs.declared.ending.EndExplored.TheVariants as E
-use Rattle.searches_states.specs.declared.ending.MustStop.{MustStop}
+use Rattle.searches_explore.specs.declared.end_answer.EndExplored.{EndExplored}
+use Rattle.searches_explore.specs.declared.end_answer.EndExplored.TheVariants as E
+use Rattle.searches_states.specs.declared.must_stop.MustStop.{MustStop}
 use Rattle.searches_hunt.specs.declared.never_answer.NeverHunted.{NeverHunted}
 use Rattle.searches_hunt.specs.declared.never_answer.NeverHunted.TheVariants as H
 use Rattle.searches_hunt.specs.declared.plan.Plan.{Plan}
 use Rattle.ticklab_explain.specs.Questions.{IsPointed}
 use Rattle.ticklab_answers.specs.Asking.{TextPlace}
-use Rattle.ticklab_answers.specs.Lines.{broken_text, can_end_line, limit_line, minimal_break_line, minimal_line, nothing_line, safe_line, shortest_line, stuck_line, trap_lines}
+use Rattle.ticklab_answers.specs.Lines.{broken_text, can_end_line, endless_line, ends_line, limit_line, minimal_break_line, minimal_line, nothing_line, safe_line, shortest_break_line, shortest_line, stuck_line, trap_lines}
+use Rattle.ticklab_answers.specs.Loops.{IsLoopText}
 use Rattle.ticklab_answers.specs.Responses.{Gives}
 use Rattle.ticklab_answers.specs.Runs.{IsStatementTrace}
 use Rattle.ticklab_answers.specs.declared.response.Response.{Response}
@@ -47,12 +48,6 @@ ShowsSafe lines states = Gives 0 (λ out. out ≡ safe_line lines states)
 abbrev pub ShowsLimit : ℕ → Response → Type 0
 ShowsLimit states = Gives 6 (λ out. out ≡ limit_line states)
 
-abbrev pub ShowsCanEnd : MustStop → ℕ → Response → Type 0
-ShowsCanEnd asked states = Gives 0 (λ out. out ≡ can_end_line asked states)
-
-abbrev pub ShowsStuck : MustStop → List ℕ → WholeProgram Name → List ℕ → Response → Type 0
-ShowsStuck asked input a schedule = Gives 7 (IsTrapText (stuck_line asked) input a schedule)
-
 -- no process traps, and none of so many lines breaks, in the runs of this plan from this one on
 abbrev pub ShowsNothing : ℕ → Plan → ℕ → Response → Type 0
 ShowsNothing lines plan from = Gives 0 (λ out. out ≡ nothing_line lines plan from)
@@ -70,8 +65,29 @@ ShowsHunt input a places plan from (H.Broken run schedule line v) response =
     ShowsBroken minimal_break_line input a places schedule.items line v response
 ShowsHunt input a places plan from H.Nothing response = ShowsNothing (length places) plan from response
 
-abbrev pub ShowsEnds : MustStop → List ℕ → WholeProgram Name → EndExplored → Response → Type 0
-ShowsEnds asked input a (E.Trapped schedule) response = ShowsTrap shortest_line input a schedule.items response
-ShowsEnds asked input a (E.Stuck schedule states) response = ShowsStuck asked input a schedule.items response
-ShowsEnds asked input a (E.Ends states) response = ShowsCanEnd asked states response
-ShowsEnds asked input a (E.Limit states) response = ShowsLimit states response
+-- Of so many lines that must never hold none breaks.
+
+abbrev pub ShowsStuck : ℕ → MustStop → List ℕ → WholeProgram Name → List ℕ → List ℕ → List ℕ → Response → Type 0
+ShowsStuck lines asked input a schedule lead_in cycle = Gives 7 (IsLoopText (stuck_line lines asked) input a schedule lead_in cycle)
+
+abbrev pub ShowsEndless : ℕ → MustStop → List ℕ → WholeProgram Name → List ℕ → List ℕ → Response → Type 0
+ShowsEndless lines asked input a prefix cycle = Gives 7 (IsLoopText (endless_line lines asked) input a prefix [] cycle)
+
+abbrev pub ShowsAllEnd : ℕ → MustStop → ℕ → Response → Type 0
+ShowsAllEnd lines asked states = Gives 0 (λ out. out ≡ ends_line lines asked states)
+
+abbrev pub ShowsCanEnd : ℕ → MustStop → ℕ → Response → Type 0
+ShowsCanEnd lines asked states = Gives 0 (λ out. out ≡ can_end_line lines asked states)
+
+-- the lines that must never hold stand at these places
+abbrev pub ShowsEnds : MustStop → List ℕ → WholeProgram Name → List TextPlace → EndExplored → Response → Type 0
+ShowsEnds asked input a places (E.Trapped schedule) response = ShowsTrap shortest_line input a schedule.items response
+ShowsEnds asked input a places (E.Broken schedule line v) response =
+    ShowsBroken shortest_break_line input a places schedule.items line v response
+ShowsEnds asked input a places (E.Stuck schedule lead_in cycle states) response =
+    ShowsStuck (length places) asked input a schedule.items lead_in.items cycle.items response
+ShowsEnds asked input a places (E.Endless prefix cycle states) response =
+    ShowsEndless (length places) asked input a prefix.items cycle.items response
+ShowsEnds asked input a places (E.Ends states) response = ShowsAllEnd (length places) asked states response
+ShowsEnds asked input a places (E.CanEnd states) response = ShowsCanEnd (length places) asked states response
+ShowsEnds asked input a places (E.Limit states) response = ShowsLimit states response

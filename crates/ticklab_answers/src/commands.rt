@@ -10,6 +10,7 @@ mod explaining;
 mod exploring;
 mod hunting;
 mod labels;
+mod lasso;
 mod tallying;
 mod told_run;
 mod tracing;
@@ -24,6 +25,7 @@ pub use explaining::explained;
 pub use exploring::explored;
 pub use hunting::{hunted, plan_of};
 pub use labels::labelled;
+pub use lasso::lassoed;
 use std::alloc::Global;
 use std::env::Args;
 use std::io;
@@ -59,10 +61,14 @@ pub fn response_to<F: Files, M: Runner, W: Progress>(
         Line::Request(
             Request::Ends {
                 file,
+                never,
                 process,
                 limit,
             },
-        ) => explored_ends(alloc, files, progress, file, process, limit),
+        ) => {
+            let never = never.as_slice();
+            explored_ends(alloc, files, progress, file, never, process, limit)
+        }
         Line::Request(
             Request::Hunt {
                 file,

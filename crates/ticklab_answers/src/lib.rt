@@ -25,7 +25,9 @@ mod stop;
 mod trapping;
 mod writing;
 
-pub use commands::{drawn, explained, explored, explored_ends, hunted, labelled, tallied, traced};
+pub use commands::{
+    drawn, explained, explored, explored_ends, hunted, labelled, lassoed, tallied, traced,
+};
 pub use ending::ended;
 pub use fault::{AnswerFault, LabFault};
 pub use files::MOST_BYTES;

@@ -21,13 +21,15 @@ pub struct Response {
 pub const DONE: u8 = 0;
 /// An input is refused.
 pub const REFUSED: u8 = 1;
+/// What is given is no loop.
+pub const NO_LOOP: u8 = 1;
 /// The command line is refused.
 const REFUSED_LINE: u8 = 2;
 /// A schedule was found under which a process traps.
 pub const TRAPPED: u8 = 5;
 /// There are more states than were to be seen.
 pub const LIMIT: u8 = 6;
-/// A schedule was found after which the processes asked for can't end any more.
+/// A schedule was found after which the processes asked for can't end any more, or a loop in which they don't.
 pub const STUCK: u8 = 7;
 
 /// An answer on standard output.

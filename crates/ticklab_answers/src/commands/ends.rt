@@ -1,47 +1,65 @@
 //! `ticklab explore --ends`.
-ghost use Rattle.std.specs.Prelude.{◌≡◌, ◌<◌, ◌++◌, All, IfErr, IfOk, OnOk, string_bytes};
+ghost use Rattle.std.specs.Prelude.{◌≡◌, ◌<◌, All, IfErr, IfOk, None, length, map};
 ghost use Rattle.tick_kinds.specs.Resolution.{resolved};
-ghost use Rattle.searches_states.specs.Ending.{IsAskedOf};
 ghost use Rattle.searches_states.specs.Watching.{IsWatched};
-ghost use Rattle.searches_explore.specs.Ending.{IfStuck, explore_answer};
-ghost use Rattle.searches_explore.specs.Searching.{IfTrapped};
+ghost use Rattle.searches_explore.specs.Ending.{IfEndless, IfLoop, IfStuck, never_answer};
+ghost use Rattle.searches_explore.specs.Lines.{lines_of};
+ghost use Rattle.searches_explore.specs.Never.{IfBroken, IfFault};
 ghost use Rattle.ticketc_refusals.specs.Refusals.{SpelledIn};
-ghost use Rattle.ticklab_answers.specs.Ends.{ExploresEnds, IsEndsExplored, IsEndsRefused, IsPast, asked_by};
+ghost use Rattle.ticklab_answers.specs.Asking.{place_of, texts_of};
+ghost use Rattle.ticklab_answers.specs.Ends.{ExploresEnds, IsEndsExplored, IsEndsFound, IsEndsRefused, IsPast, IsThere, asked_by, asks_ends};
 ghost use Rattle.ticklab_answers.specs.Faults.{IsOfFile};
-ghost use Rattle.ticklab_answers.specs.Lines.{asked_text, can_end_line, no_process_line, stuck_line};
 ghost use Rattle.ticklab_answers.specs.Shown.{ShowsEnds};
 ghost use Rattle.ticklab_answers.specs.Stops.{IfRefused};
 
-use crate::commands::exploring::{SHORTEST, limit_line};
-use crate::counts::push_many;
+mod loops;
+mod wording;
+
+use crate::asking::{NeverLines, never_lines};
+use crate::commands::exploring;
+use crate::commands::exploring::limit_line;
 use crate::fault::LabFault;
 use crate::files::bytes_of;
 use crate::host::Files;
 use crate::progress::Progress;
 use crate::reading::spelled_program_of;
-use crate::response::{DONE, LIMIT, Response, STUCK, TRAPPED, answer, settled};
+use crate::response::{DONE, LIMIT, Response, STUCK, answer, settled};
 use crate::stop::NoAnswer;
-use crate::trapping::trap_text;
-use base::{NoMemory, push_number};
-use searches_explore::{EndExplored, MustStop, Watch, explore_ends};
-use std::alloc::{AllocError, Global};
+use base::{NoMemory, set_at};
+use language_questions::Ends;
+pub use loops::loop_text;
+use searches_explore::{EndExplored, MustStop, NeverExplored, Watch, explore_ends};
+use std::alloc::Global;
 use ticketc_refusals::SpelledProgram;
+pub use wording::push_processes;
+use wording::{can_end_line, endless_line, ends_line, no_process_line, stuck_line};
 
-/// Whether all processes of the program can still end after every schedule, or this one, as far as the program has
-/// at most `limit` states. The watch is told how far the search is.
+/// Whether those processes of the program end that its file asks, or this one: after every schedule, whether they still
+/// can, and whether they do where each process that runs steps again and again; as far as the program has at most
+/// `limit` states. A trap is told first, and a line `#! never` of the file that breaks, or one of these texts that are
+/// the same. The watch is told how far the search is.
 pub fn explored_ends<F: Files, W: Progress>(
     alloc: Global,
     files: &mut F,
     progress: &mut W,
     file: &str,
+    never: &[&str],
     process: Option<u8>,
     limit: u32,
 ) -> Result<Response, LabFault>
-    ensures ok { IfOk result (ExploresEnds F.Reads F.ReadsInput W.hears files.old files.new progress.old progress.new file.now process limit) }
+    ensures ok { IfOk result (ExploresEnds F.Reads F.ReadsInput W.hears files.old files.new progress.old progress.new file.now (texts_of never.now) process limit) }
     ensures err { IfErr result (IsOfFile file.now) }
 {
     let input = bytes_of(alloc, files, file)?;
-    let searched = all_ends(alloc, file, input.as_slice(), process, limit, progress);
+    let searched = all_ends(
+        alloc,
+        file,
+        never,
+        input.as_slice(),
+        process,
+        limit,
+        progress,
+    );
     let response = settled(alloc, searched)?;
     progress.end();
     Ok(response)
@@ -50,29 +68,75 @@ pub fn explored_ends<F: Files, W: Progress>(
 fn all_ends<W: Watch>(
     alloc: Global,
     name: &str,
+    never: &[&str],
     input: &[u8],
     process: Option<u8>,
     limit: u32,
     watch: &mut W,
 ) -> Result<Response, NoAnswer>
-    ensures ok { IfOk result (λ response. IsWatched W.hears watch.old watch.new (IsEndsExplored name.now process limit input.now response)) }
-    ensures refused { IfErr result (λ stop. IfRefused stop (λ report. IsEndsRefused name.now process input.now report × (watch.old ≡ watch.new))) }
+    ensures ok { IfOk result (λ response. IsWatched W.hears watch.old watch.new (IsEndsExplored name.now (texts_of never.now) process limit input.now response)) }
+    ensures refused { IfErr result (λ stop. IfRefused stop (λ report. IsEndsRefused name.now (texts_of never.now) process input.now report × (watch.old ≡ watch.new))) }
 {
-    let (spelled, _questions) = spelled_program_of(alloc, name, input)?;
-    let asked = asked_of(alloc, process, spelled.program.processes())?;
-    let explored = explore_ends(alloc, &spelled.program, asked, limit, watch)?;
-    Ok(shown(alloc, asked, &spelled, input, &explored)?)
+    let (spelled, questions) = spelled_program_of(alloc, name, input)?;
+    let asked = asked_of(alloc, questions.ends, process, spelled.program.processes())?;
+    let lines = never_lines(alloc, name, input, &spelled.program, questions, never)?;
+    Ok(ends_found(alloc, asked, &spelled, input, &lines, limit, watch)?)
 }
 
-// Who is asked for, of so many processes.
-fn asked_of(alloc: Global, process: Option<u8>, n: u8) -> Result<MustStop, NoAnswer>
-    ensures asked { IfOk result (λ asked. asked ≡ asked_by process) }
-    ensures in_range { IfOk result (IsAskedOf n) }
+/// What is found where these processes are asked for, and these lines must never hold.
+pub fn ends_found<W: Watch>(
+    alloc: Global,
+    asked: MustStop,
+    spelled: &SpelledProgram,
+    input: &[u8],
+    lines: &NeverLines<'_>,
+    limit: u32,
+    watch: &mut W,
+) -> Result<Response, NoMemory>
+    requires program { SpelledIn input.now spelled.now }
+    requires as_many { length lines.now.properties.items ≡ length lines.now.places.items }
+    ensures { IfOk result (λ response. IsWatched W.hears watch.old watch.new (IsEndsFound input.now spelled.now.program (lines_of lines.now.properties.items) (map place_of lines.now.places.items) asked limit response)) }
+{
+    let explored = explore_ends(
+        alloc,
+        &spelled.program,
+        lines.properties.as_slice(),
+        asked,
+        limit,
+        watch,
+    )?;
+    let response = shown(alloc, asked, spelled, input, lines, explored)?;
+    Ok(response)
+}
+
+/// Whether the search of `explore` asks for ends too, where a file says this of them.
+pub fn asks_ends(is_merged: bool, ends: Option<Ends>) -> bool
+    ensures { result ≡ asks_ends is_merged ends }
+{
+    match ends {
+        Some(Ends::All | Ends::Each(_)) => !is_merged,
+        Some(Ends::Nobody) | None => false,
+    }
+}
+
+// Who is asked for, of so many processes; a file says this of it.
+fn asked_of(
+    alloc: Global,
+    ends: Option<Ends>,
+    process: Option<u8>,
+    n: u8,
+) -> Result<MustStop, NoAnswer>
+    ensures asked { IfOk result (λ asked. asked ≡ asked_by ends process) }
+    ensures there { IfOk result (λ asked. IsThere n process) }
     ensures refused { IfErr result (λ stop. IfRefused stop (IsPast n process)) }
 {
     match process {
-        None => Ok(MustStop::All),
-        Some(process) if process < n => Ok(MustStop::One(process)),
+        None => Ok(asked_in(ends)),
+        Some(process) if process < n => {
+            let mut marks = [false; 6];
+            set_at(&mut marks, usize::from(process), true);
+            Ok(MustStop::Each(marks))
+        }
         Some(process) => {
             let line = no_process_line(alloc, process)?;
             Err(NoAnswer::Refused(line.into_bytes()))
@@ -80,73 +144,75 @@ fn asked_of(alloc: Global, process: Option<u8>, n: u8) -> Result<MustStop, NoAns
     }
 }
 
-// The answer that tells what was explored.
+/// Who is asked for by a file.
+pub fn asked_in(ends: Option<Ends>) -> MustStop
+    ensures { result ≡ asked_by ends None }
+{
+    match ends {
+        Some(Ends::Each(marks)) => MustStop::Each(marks),
+        Some(Ends::Nobody) => MustStop::Each([false; 6]),
+        Some(Ends::All) | None => MustStop::All,
+    }
+}
+
+// The answer that tells what was explored. What `explore` would find it tells in the same way.
 fn shown(
     alloc: Global,
     asked: MustStop,
     spelled: &SpelledProgram,
     input: &[u8],
-    explored: &EndExplored,
+    lines: &NeverLines<'_>,
+    explored: EndExplored,
 ) -> Result<Response, NoMemory>
-    requires trapped { IfTrapped (explore_answer explored.now) (All (λ p. p < (resolved spelled.now.program).processes)) }
-    requires stuck { IfStuck explored.now (All (λ p. p < (resolved spelled.now.program).processes)) }
+    requires fault { IfFault (never_answer explored) (All (λ p. p < (resolved spelled.now.program).processes)) }
+    requires line { IfBroken (never_answer explored) (λ schedule line v. line < length lines.now.places.items) }
+    requires stuck { IfStuck explored (All (λ p. p < (resolved spelled.now.program).processes)) }
+    requires loops { IfLoop explored (λ schedule lead_in cycle. All (λ p. p < (resolved spelled.now.program).processes) lead_in × All (λ p. p < (resolved spelled.now.program).processes) cycle) }
+    requires endless { IfEndless explored (λ prefix cycle. All (λ p. p < (resolved spelled.now.program).processes) prefix × All (λ p. p < (resolved spelled.now.program).processes) cycle) }
     requires program { SpelledIn input.now spelled.now }
-    ensures { IfOk result (ShowsEnds asked input.now spelled.now.program explored.now) }
+    ensures { IfOk result (ShowsEnds asked input.now spelled.now.program (map place_of lines.now.places.items) explored) }
 {
     match explored {
-        EndExplored::Ends { states } => {
-            Ok(answer(alloc, DONE, can_end_line(alloc, asked, *states)?))
+        EndExplored::Trapped(schedule) => {
+            let found = NeverExplored::Trapped(schedule);
+            exploring::shown(alloc, false, spelled, input, lines, &found)
         }
-        EndExplored::Stuck { schedule, .. } => {
-            let found = stuck_line(alloc, asked)?;
-            let text = trap_text(alloc, &found, spelled, input, schedule.as_slice())?;
+        EndExplored::Broken {
+            schedule,
+            line,
+            value,
+        } => {
+            let found = NeverExplored::Broken {
+                schedule,
+                line,
+                value,
+            };
+            exploring::shown(alloc, false, spelled, input, lines, &found)
+        }
+        EndExplored::Stuck {
+            schedule,
+            lead_in,
+            cycle,
+            ..
+        } => {
+            let found = stuck_line(alloc, lines.places.len(), asked)?;
+            let steps = schedule.as_slice();
+            let text = loop_text(alloc, &found, spelled, input, steps, &lead_in, &cycle)?;
             Ok(answer(alloc, STUCK, text))
         }
-        EndExplored::Trapped(schedule) => {
-            let text = trap_text(alloc, SHORTEST, spelled, input, schedule.as_slice())?;
-            Ok(answer(alloc, TRAPPED, text))
+        EndExplored::Endless { prefix, cycle, .. } => {
+            let found = endless_line(alloc, lines.places.len(), asked)?;
+            let text = loop_text(alloc, &found, spelled, input, &prefix, &[], &cycle)?;
+            Ok(answer(alloc, STUCK, text))
         }
-        EndExplored::Limit { states } => Ok(answer(alloc, LIMIT, limit_line(alloc, *states)?)),
-    }
-}
-
-fn push_asked(text: &mut String, asked: MustStop) -> Result<(), AllocError>
-    ensures { OnOk result (string_bytes text.new ≡ string_bytes text.old ++ asked_text asked) }
-{
-    match asked {
-        MustStop::All => text.push_str("all processes"),
-        MustStop::One(process) => {
-            text.push_str("process ")?;
-            push_number(text, u64::from(process))
+        EndExplored::Ends { states } => {
+            let line = ends_line(alloc, lines.places.len(), asked, states)?;
+            Ok(answer(alloc, DONE, line))
         }
+        EndExplored::CanEnd { states } => {
+            let line = can_end_line(alloc, lines.places.len(), asked, states)?;
+            Ok(answer(alloc, DONE, line))
+        }
+        EndExplored::Limit { states } => Ok(answer(alloc, LIMIT, limit_line(alloc, states)?)),
     }
-}
-
-fn can_end_line(alloc: Global, asked: MustStop, states: u32) -> Result<String, AllocError>
-    ensures { IfOk result (λ line. string_bytes line ≡ can_end_line asked states) }
-{
-    let mut line = String::new(alloc);
-    push_asked(&mut line, asked)?;
-    line.push_str(" can still end after every schedule (")?;
-    push_many(&mut line, states, "state", "states")?;
-    line.push_str(")\n")?;
-    Ok(line)
-}
-
-fn stuck_line(alloc: Global, asked: MustStop) -> Result<String, AllocError>
-    ensures { IfOk result (λ line. string_bytes line ≡ stuck_line asked) }
-{
-    let mut line = String::from_str(alloc, "after this schedule no further steps end ")?;
-    push_asked(&mut line, asked)?;
-    line.push_str(", and after each shorter one some do:")?;
-    Ok(line)
-}
-
-fn no_process_line(alloc: Global, process: u8) -> Result<String, AllocError>
-    ensures { IfOk result (λ line. string_bytes line ≡ no_process_line process) }
-{
-    let mut line = String::from_str(alloc, "--ends: error: there is no process ")?;
-    push_number(&mut line, u64::from(process))?;
-    line.push_str("\n")?;
-    Ok(line)
 }

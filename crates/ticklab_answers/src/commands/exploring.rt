@@ -14,6 +14,7 @@ ghost use Rattle.ticklab_answers.specs.Stops.{IfRefused};
 ghost use Rattle.ticklab_answers.specs.prover.Searches.{IsSearchedBy};
 
 use crate::asking::{NeverLines, PropertyPlace, never_lines};
+use crate::commands::ends::{asked_in, asks_ends, ends_found};
 use crate::counts::push_many;
 use crate::fault::LabFault;
 use crate::files::bytes_of;
@@ -43,8 +44,9 @@ const SOME_BREAK: &str = "a #! never line breaks under this schedule:";
 
 /// Whether a process of the program traps under some schedule, or a line `#! never` of the file breaks or one of
 /// these texts that are the same, as far as the program has at most `limit` states. The watch is told how far the
-/// search is. By merged steps the private ones of a process go with the step before them: there are fewer states,
-/// and a schedule that is found need not be a shortest one.
+/// search is. Where a line `#! ends` of the file names somebody, what comes of that is asked too. By merged steps the
+/// private ones of a process go with the step before them: there are fewer states, a schedule that is found need not
+/// be a shortest one, and no ends are asked.
 pub fn explored<F: Files, W: Progress>(
     alloc: Global,
     files: &mut F,
@@ -78,7 +80,13 @@ fn all_schedules<W: Watch>(
     ensures refused { IfErr result (λ stop. IfRefused stop (λ report. IsUnexplored name.now (texts_of never.now) input.now report × (watch.old ≡ watch.new))) }
 {
     let (spelled, questions) = spelled_program_of(alloc, name, input)?;
+    let ends = questions.ends;
     let lines = never_lines(alloc, name, input, &spelled.program, questions, never)?;
+    if asks_ends(is_merged, ends) {
+        let asked = asked_in(ends);
+        let response = ends_found(alloc, asked, &spelled, input, &lines, limit, watch)?;
+        return Ok(response);
+    }
     let explored = explored_by(
         alloc,
         &spelled.program,
@@ -109,8 +117,8 @@ fn explored_by<W: Watch>(
     Ok(explored)
 }
 
-// The answer that tells what was explored.
-fn shown(
+/// The answer that tells what was explored.
+pub fn shown(
     alloc: Global,
     is_merged: bool,
     spelled: &SpelledProgram,

@@ -1,5 +1,6 @@
 use Rattle.std.proofs.Common.{ℕ, List, subst}
 use Rattle.searches_states.specs.Watching.{IsWatched}
+use Rattle.ticklab_answers.specs.Asking.{texts_of}
 use Rattle.ticklab_answers.specs.Ends.{IsEndsExplored}
 use Rattle.ticklab_answers.proofs.EndsSearched.{ends_unwatched}
 use Rattle.ticklab_answers.proofs.Settled.{settled_with}
@@ -11,8 +12,8 @@ returns-clause-ok g c =
       c.in_ok-input.input.items,
       c.in_ok-input.ensures.ok,
       subst (λ (input : List ℕ). IsWatched g.W.Watch.hears c.args.progress.now c.all_ends-searched.new.watch
-          (IsEndsExplored c.args.file.now c.args.process c.args.limit input c.in_ok-response.response)) c.as_slice.ensures.value
+          (IsEndsExplored c.args.file.now (texts_of c.args.never.now) c.args.process c.args.limit input c.in_ok-response.response)) c.as_slice.ensures.value
           (settled_with c.all_ends-searched.result c.in_ok-response.response (λ x h. h)
-          (ends_unwatched g.W.Watch.hears _ _ c.args.file.now c.args.process c.args.limit c.as_slice.result.now)
+          (ends_unwatched g.W.Watch.hears _ _ c.args.file.now (texts_of c.args.never.now) c.args.process c.args.limit c.as_slice.result.now)
           searched.ok searched.refused c.in_ok-response.ensures),
     )

@@ -1,4 +1,4 @@
-use Rattle.std.proofs.Common.{◌≡◌, ◌∙◌, ℕ, ◌<◌, List, length, map, refl, subst, sym}
+use Rattle.std.proofs.Common.{◌≡◌, ◌∙◌, ℕ, ◌<◌, List, None, length, map, refl, subst, sym}
 use Rattle.std.proofs.lemmas.List.{length-map}
 use Rattle.language_properties.specs.Properties.{formula_of}
 use Rattle.language_properties.specs.declared.property.Property.{Property}
@@ -6,9 +6,11 @@ use Rattle.language_questions.specs.Lines.{asked_of}
 use Rattle.tick_kinds.specs.Resolution.{resolved}
 use Rattle.searches_explore.specs.Lines.{lines_of}
 use Rattle.searches_explore.specs.Never.{IfBroken}
-use Rattle.ticklab_answers.specs.Asking.{IsFileRefused, TellsOption, lines_in, place_of, texts_of}
-use Rattle.ticklab_answers.specs.Exploring.{IsUnexplored, no_file, no_option}
+use Rattle.ticklab_answers.specs.Asking.{IsFileRefused, TellsOption, lines_in, place_of, places_by, texts_of}
+use Rattle.ticklab_answers.specs.Ends.{asked_by}
+use Rattle.ticklab_answers.specs.Exploring.{IsExplored, IsUnexplored, ends_too, no_file, no_option}
 use Rattle.ticklab_answers.specs.prover.Searches.{IsSearchedBy}
+use Rattle.ticklab_answers.proofs.EndsSearched.{found_by}
 use Rattle.ticklab_answers.proofs.ProgramFiles.{file_of}
 use Rattle.ticklab_answers.proofs.Searched.{searched}
 use Rattle.ticklab_answers.proofs.Settled.{refused_as, stopped_by}
@@ -40,6 +42,24 @@ returns-in_err-lines-clause-refused g c =
     stopped_by Q _ c.from_residual-in_err-lines.result c.from_residual-in_err-lines.ensures.1
     (refused_as {P = TellsOption p (lines_in asked) texts} {Q = Q} _ (λ report told. (no_option file told, refl)) c.in_err-lines.ensures.refused)
 
+pub returns-then-asks_ends-clause-ok : goal.returns-then-asks_ends-clause-ok
+returns-then-asks_ends-clause-ok g c =
+    let name = c.args.name.now in
+    let input = c.args.input.now in
+    let texts = texts_of c.args.never.now in
+    let p = c.in_ok-spelled.spelled.program in
+    let asked = asked_of c.in_ok-spelled.questions in
+    let held = c.in_ok-lines.lines in
+    found_by g.W.Watch.hears _ _ input p (lines_of held.properties.items) (map place_of held.places.items) (places_by name input asked texts)
+    c.asked_in-asked.result (asked_by asked.ends None) c.args.limit c.in_ok-response.response
+    (IsExplored c.args.is_merged name texts c.args.limit input c.in_ok-response.response)
+    c.in_ok-lines.ensures.places c.asked_in-asked.ensures
+    (λ told found. ends_too (record {
+      file = record { program = p; is = c.in_ok-spelled.ensures.spelled.0; asked = asked; asks = c.in_ok-spelled.ensures.questions };
+      lines = lines_of held.properties.items;
+      read = c.in_ok-lines.ensures.read;
+    }) (sym c.asks_ends.ensures ∙ c.if-asks_ends.true) found) c.in_ok-response.ensures
+
 pub returns-clause-ok : goal.returns-clause-ok
 returns-clause-ok g c =
     let p = c.in_ok-spelled.spelled.program in
@@ -53,5 +73,5 @@ returns-clause-ok g c =
       file = record { program = p; is = c.in_ok-spelled.ensures.spelled.0; asked = asked_of questions; asks = c.in_ok-spelled.ensures.questions };
       lines = lines_of held.properties.items;
       read = c.in_ok-lines.ensures.read;
-    }) (map place_of held.places.items) c.in_ok-lines.ensures.places many g.W.Watch.hears _ _
+    }) (sym c.asks_ends.ensures ∙ c.if-asks_ends.false) (map place_of held.places.items) c.in_ok-lines.ensures.places many g.W.Watch.hears _ _
     c.in_ok-explored.explored c.in_ok-shown.field-0 e.trapped e.broken e.safe e.at_limit c.in_ok-shown.ensures e.watched
