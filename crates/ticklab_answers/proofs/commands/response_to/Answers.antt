@@ -34,7 +34,7 @@ returns-in-Request-Hunt-clause-ok g c =
       refl,
       refl,
       subst (λ (plan : Plan). Hunts g.F.Files.Reads g.F.Files.ReadsInput c.args.files.now c.hunted.new.files asked.file.now (map (λ text. text.now) asked.never.items) plan asked.from x) c.plan_of-plan.ensures
-          (subst (λ (never : List (Bor (List ℕ))). Hunts g.F.Files.Reads g.F.Files.ReadsInput c.args.files.now c.hunted.new.files asked.file.now (texts_of never) c.plan_of-plan.result asked.from x) c.as_slice-never-2.ensures.value h),
+          (subst (λ (never : List (Bor (List ℕ))). Hunts g.F.Files.Reads g.F.Files.ReadsInput c.args.files.now c.hunted.new.files asked.file.now (texts_of never) c.plan_of-plan.result asked.from x) c.as_slice-never-in-Request-Hunt.ensures.value h),
     ))
 
 pub returns-in-Request-Hunt-clause-err : goal.returns-in-Request-Hunt-clause-err
