@@ -1,4 +1,5 @@
 pub mod Carried
+pub mod CarriedEnds
 pub mod EndsSearched
 pub mod Looped
 pub mod NeverLines

@@ -1,5 +1,5 @@
 -- The answer to the words of a command line: each command, with what it reads, runs and tells.
-use Rattle.std.specs.Prelude.{◌≡◌, ⊤, ℕ, List, [], Result, Ok, Err, String, Vec, map, string_bytes}
+use Rattle.std.specs.Prelude.{◌≡◌, ⊤, ℕ, List, Result, Ok, Err, String, Vec, map, string_bytes}
 use Rattle.std.specs.Global.{Global}
 use Rattle.std.specs.Vec.Iter.{into_iter_items}
 use Rattle.std.specs.declared.io.Error.{Error}
@@ -8,13 +8,14 @@ use Rattle.ticklab_line.specs.Commands.{Asked, plain_request}
 use Rattle.ticklab_line.specs.Lines.{Answers}
 use Rattle.ticklab_line.specs.declared.asking.Line.{Line}
 use Rattle.ticklab_line.specs.declared.asking.Line.TheVariants as line
-use Rattle.ticklab_line.specs.declared.commands.Request.TheVariants.{Explore, Ends, Hunt, Runs, Trace, Draw, Explain, Labels}
+use Rattle.ticklab_line.specs.declared.commands.Request.TheVariants.{Explore, Ends, Lasso, Hunt, Runs, Trace, Draw, Explain, Labels}
 use Rattle.ticklab_answers.specs.Ends.{ExploresEnds}
 use Rattle.ticklab_answers.specs.Explanations.{Explains}
 use Rattle.ticklab_answers.specs.Exploring.{Explores, HearsOf}
 use Rattle.ticklab_answers.specs.Faults.{IsEither, IsOneOf}
 use Rattle.ticklab_answers.specs.Hunting.{Hunts, plan_of}
 use Rattle.ticklab_answers.specs.Labels.{DrawsLabels}
+use Rattle.ticklab_answers.specs.Lasso.{IsOfThree, Lassoes}
 use Rattle.ticklab_answers.specs.Reading.{ReadsOf, ReadsInputOf}
 use Rattle.ticklab_answers.specs.Responses.{Gives, Refuses}
 use Rattle.ticklab_answers.specs.Runs.{Draws, Traces}
@@ -38,14 +39,16 @@ module _ {F M W : Type 0} (Reads : ReadsOf F) (ReadsInput : ReadsInputOf F) (Ran
   abbrev pub Responds : Asked → Response → Type 0
   Responds (Explore file never limit is_merged) response =
       (ran ≡ rested) × Explores Reads ReadsInput hears before after quiet heard file never limit is_merged response
-  Responds (Ends file process limit) response =
-      (ran ≡ rested) × ExploresEnds Reads ReadsInput hears before after quiet heard file [] process limit response
-  Responds (Hunt file seed runs steps is_uniform) response =
+  Responds (Ends file never process limit) response =
+      (ran ≡ rested) × ExploresEnds Reads ReadsInput hears before after quiet heard file never process limit response
+  Responds (Lasso file prefix cycle) response =
+      (ran ≡ rested) × (heard ≡ quiet) × Lassoes Reads ReadsInput before after file prefix cycle response
+  Responds (Hunt file never seed runs from steps is_uniform) response =
       (ran ≡ rested) × (heard ≡ quiet) × Hunts Reads ReadsInput before after file (plan_of seed runs steps is_uniform) response
   Responds (Runs file times turns) response = (heard ≡ quiet) × Tallies Reads ReadsInput Ran before after rested ran file times turns response
-  Responds (Trace file schedule is_code) response =
+  Responds (Trace file schedule never is_code) response =
       (ran ≡ rested) × (heard ≡ quiet) × Traces Reads ReadsInput before after file schedule is_code response
-  Responds (Draw file schedule is_code) response =
+  Responds (Draw file schedule never is_code) response =
       (ran ≡ rested) × (heard ≡ quiet) × Draws Reads ReadsInput before after file schedule is_code response
   Responds (Explain file schedule) response = (ran ≡ rested) × (heard ≡ quiet) × Explains Reads ReadsInput before after file schedule response
   Responds (Labels processes moves) response = (ran ≡ rested) × (heard ≡ quiet) × (after ≡ before) × DrawsLabels processes moves response
@@ -66,11 +69,12 @@ module _ {F M W : Type 0} (Reads : ReadsOf F) (ReadsInput : ReadsInputOf F) (Ran
 -- the names of files that a request has
 abbrev pub NamesOf : Asked → List ℕ → Type 0
 NamesOf (Explore file never limit is_merged) name = name ≡ file
-NamesOf (Ends file process limit) name = name ≡ file
-NamesOf (Hunt file seed runs steps is_uniform) name = name ≡ file
+NamesOf (Ends file never process limit) name = name ≡ file
+NamesOf (Lasso file prefix cycle) name = IsOfThree file prefix cycle name
+NamesOf (Hunt file never seed runs from steps is_uniform) name = name ≡ file
 NamesOf (Runs file times turns) name = name ≡ file
-NamesOf (Trace file schedule is_code) name = IsEither file schedule name
-NamesOf (Draw file schedule is_code) name = IsEither file schedule name
+NamesOf (Trace file schedule never is_code) name = IsEither file schedule name
+NamesOf (Draw file schedule never is_code) name = IsEither file schedule name
 NamesOf (Explain file schedule) name = IsOneOf file schedule name
 NamesOf (Labels processes moves) name = ⊥
 

@@ -61,10 +61,21 @@ pub fn response_to<F: Files, M: Runner, W: Progress>(
         Line::Request(
             Request::Ends {
                 file,
+                never,
                 process,
                 limit,
             },
-        ) => explored_ends(alloc, files, progress, file, &[], process, limit),
+        ) => {
+            let never = never.as_slice();
+            explored_ends(alloc, files, progress, file, never, process, limit)
+        }
+        Line::Request(
+            Request::Lasso {
+                file,
+                prefix,
+                cycle,
+            },
+        ) => lassoed(alloc, files, file, prefix, cycle),
         Line::Request(
             Request::Hunt {
                 file,
@@ -72,6 +83,7 @@ pub fn response_to<F: Files, M: Runner, W: Progress>(
                 runs,
                 steps,
                 is_uniform,
+                ..
             },
         ) => hunted(alloc, files, file, plan_of(seed, runs, steps, is_uniform)),
         Line::Request(Request::Runs { file, times, turns }) => {
@@ -82,6 +94,7 @@ pub fn response_to<F: Files, M: Runner, W: Progress>(
                 file,
                 schedule,
                 is_code,
+                ..
             },
         ) => traced(alloc, files, file, schedule, is_code),
         Line::Request(
@@ -89,6 +102,7 @@ pub fn response_to<F: Files, M: Runner, W: Progress>(
                 file,
                 schedule,
                 is_code,
+                ..
             },
         ) => drawn(alloc, files, file, schedule, is_code),
         Line::Request(Request::Explain { file, schedule }) => {
