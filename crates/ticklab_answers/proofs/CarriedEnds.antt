@@ -1,6 +1,5 @@
 -- The code can end where the program can, and is stuck where the program is.
-use Rattle.std.proofs.Common.{◌≡◌, ◌∙◌, ◌&&◌, ◌++◌, ℕ, zero, suc, Bool, true, List, ap, if◌then◌else◌, refl, slice_index_or, sym}
-use Rattle.base.specs.Plain.{WholeProgram}
+use Rattle.std.proofs.Common.{◌≡◌, ◌∙◌, ◌&&◌, ◌++◌, ℕ, zero, suc, Bool, true, ap, if◌then◌else◌, refl, slice_index_or, sym}
 use Rattle.base.specs.declared.status.Status.{Status}
 use Rattle.base.specs.declared.status.Status.TheVariants as T
 use Rattle.tick_source.specs.Source.{SourceState, source, statuses_of}
@@ -8,7 +7,6 @@ use Rattle.tick_sim.specs.Ends as S
 use Rattle.tick_sim.proofs.Offered.{ends_law}
 use Rattle.searches_states.specs.Ending.{has_ended, is_asked}
 use Rattle.searches_states.specs.declared.must_stop.MustStop.{MustStop}
-use Rattle.searches_explore.specs.Ending as E
 use Rattle.searches_explore.specs.Explored.{has_stopped, is_stop}
 use Rattle.ticklab_answers.specs.Laws.{CodeEndsLaw}
 
