@@ -51,22 +51,25 @@ class Judge:
             (f"process {every[-1]}", every[-1:], (f"--ends={every[-1]}",)),
         ):
             status, output = self.ask(words, text)
-            if not is_ending(graph, graph.stuck(asked), who, status, output):
+            if not is_ending(graph, asked, who, status, output):
                 wrong.append(f"whether {who} can still end: found {shown(status, output)}")
         return wrong
 
 
-def is_ending(graph, stuck, who, status, output):
-    """That an answer is right: nobody is stuck anywhere, or the schedule is a shortest one to where somebody is."""
+def is_ending(graph, asked, who, status, output):
+    """That an answer is right: nobody is stuck anywhere or goes on under a fair schedule, or what is told of it fits."""
+    stuck = graph.stuck(asked)
+    if not stuck and not graph.goes_on(asked):
+        return (status, output) == told.ends(who, len(graph.depth))
+    found = told.looped((told.STUCK_HEAD if stuck else told.ENDLESS_HEAD).format(who), output)
+    if status != told.STUCK or found is None:
+        return False
+    schedule, lead_in, cycle, is_quiet = found
+    if not graph.can_follow(schedule + lead_in + cycle) or not graph.is_loop(schedule + lead_in, cycle, asked, is_quiet):
+        return False
     if not stuck:
-        return (status, output) == told.can_end(who, len(graph.depth))
-    schedule, _ = told.trapped(told.STUCK_HEAD.format(who), output)
-    return (
-        status == told.STUCK
-        and output.startswith(told.STUCK_HEAD.format(who) + "\n")
-        and graph.led(schedule) in stuck
-        and len(schedule) == min(graph.depth[state] for state in stuck)
-    )
+        return not lead_in
+    return graph.led(schedule) in stuck and len(schedule) == min(graph.depth[state] for state in stuck)
 
 
 class Asked:

@@ -4,7 +4,13 @@ import re
 SAFE, TRAPPED, MORE, STUCK = 0, 5, 6, 7
 SHORTEST = "a process traps under this schedule, and under no shorter one:"
 TRAPS = "a process traps under this schedule:"
-STUCK_HEAD = "after this schedule no further steps end {}, and after each shorter one some do:"
+QUIET = "no process traps under any schedule; "
+STUCK_HEAD = QUIET + "after this schedule no further steps end {}, and after each shorter one some do:"
+ENDLESS_HEAD = (
+    QUIET + "{} can still end after every schedule, but not under this one, in which each that runs steps again and again:"
+)
+LEAD_IN = "then these steps:"
+CYCLE = re.compile("then these again and again, in which (?:they write and never get on|(nobody writes)):")
 ITEM = re.compile(r"([0-5])(?:\*([1-9][0-9]*))?")
 LINE = re.compile(r" *([1-9][0-9]*)  P([0-5]) .*?(?:\| trap ([A-Z][a-z]+))?")
 
@@ -13,25 +19,51 @@ def safe(states):
     return SAFE, f"no process traps under any schedule ({states} states)\n"
 
 
-def can_end(who, states):
-    return SAFE, f"{who} can still end after every schedule ({states} states)\n"
+def ends(who, states):
+    text = f"{who} can still end after every schedule, and will if each that runs steps again and again"
+    return SAFE, f"{QUIET}{text} ({states} states)\n"
 
 
 def more(limit):
     return MORE, f"there are more than {limit} state{'' if limit == 1 else 's'}: nothing is said of all schedules\n"
 
 
-def trapped(head, output):
-    """The schedule below such a head, and the trap of the last step that is told.
+def told_steps(lines):
+    """The schedule that is the first of some lines, and the trap of the last step that the others tell.
 
     There is none where the steps that are told aren't those of the schedule, or one before the last is told to trap.
     """
-    first, written, *lines = [*output.split("\n"), ""]
-    items, steps = [ITEM.fullmatch(item) for item in written.split()], [LINE.fullmatch(line) for line in lines[:-2]]
-    if first != head or None in items or None in steps:
+    items, steps = [ITEM.fullmatch(item) for item in lines[0].split()], [LINE.fullmatch(line) for line in lines[1:]]
+    if None in items or None in steps:
         return [], None
     schedule = [int(item[1]) for item in items for _ in range(int(item[2] or 1))]
     traps = [step[3] for step in steps]
     if [(int(step[1]), int(step[2])) for step in steps] != list(enumerate(schedule, 1)) or any(traps[:-1]):
         return [], None
     return schedule, traps[-1] if traps else None
+
+
+def trapped(head, output):
+    """The schedule below such a head, and the trap of the last step that is told."""
+    first, *lines = [*output.split("\n"), ""]
+    return told_steps(lines[:-2]) if first == head else ([], None)
+
+
+def looped(head, output):
+    """The schedule below such a head, the steps that lead on, those that repeat, and whether nobody writes in these.
+
+    There is none where it isn't told so.
+    """
+    first, *lines = output.split("\n")[:-1] or [""]
+    ends = [at for at, line in enumerate(lines) if CYCLE.fullmatch(line)]
+    if first != head or len(ends) != 1:
+        return None
+    before = lines[: ends[0]]
+    at = before.index(LEAD_IN) if LEAD_IN in before else len(before)
+    parts = [before[:at], before[at + 1 :] or [""], lines[ends[0] + 1 :]]
+    if not all(parts):
+        return None
+    found = [told_steps(part) for part in parts]
+    if any(trap for _, trap in found):
+        return None
+    return (*(steps for steps, _ in found), bool(CYCLE.fullmatch(lines[ends[0]])[1]))

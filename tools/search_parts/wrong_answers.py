@@ -18,15 +18,25 @@ def with_schedule(change):
 
 
 def with_way(change):
-    """Tells another schedule to where processes can't end any more."""
+    """Tells another schedule to where processes can't end any more, or other steps there."""
     def changed(status, output):
-        if status != told.STUCK:
+        head = output.split("\n")[0]
+        if status != told.STUCK or (found := told.looped(head, output)) is None:
             return status, output
-        head, _, *lines = output.split("\n")
-        schedule = change(told.trapped(head, output)[0])
-        return status, "\n".join([head, " ".join(map(str, schedule)), *lines[:len(schedule)], ""])
+        *parts, is_quiet = change(*found)
+        heads = (head, told.LEAD_IN, f"then these again and again, in which {QUIET if is_quiet else WRITES}:")
+        return status, "".join(section(*it) for it in zip(heads, parts) if it[1] or it[0] != told.LEAD_IN)
 
     return changed
+
+
+QUIET, WRITES = "nobody writes", "they write and never get on"
+
+
+def section(head, steps):
+    """Steps under a head, and a line for each."""
+    lines = [f"{number:4}  P{process}     1:1    end" for number, process in enumerate(steps, 1)]
+    return "".join(line + "\n" for line in [head, " ".join(map(str, steps)), *lines])
 
 
 def with_output(pattern, new):
@@ -77,6 +87,10 @@ CASES = (
     ("those who can end are told not to", with_output("can still end", "can't end")),
     ("those who can't end are told to", with_status(told.STUCK, told.SAFE)),
     ("another is told than was asked for", with_output("process 0", "process 1")),
-    ("a way to where none ends lacks its last step", with_way(lambda schedule: schedule[:-1])),
-    ("a way to where none ends is of other processes", with_way(lambda schedule: [it ^ 1 for it in schedule])),
+    ("a way to where none ends lacks its last step", with_way(lambda way, *rest: (way[:-1], *rest))),
+    ("a way to where none ends is of other processes", with_way(lambda way, *rest: ([it ^ 1 for it in way], *rest))),
+    ("what repeats lacks its last step", with_way(lambda way, on, cycle, quiet: (way, on, cycle[:-1], quiet))),
+    ("what repeats is of one process", with_way(lambda way, on, cycle, quiet: (way, on, cycle[:1] * 20, quiet))),
+    ("what writes is told not to", with_way(lambda way, on, cycle, quiet: (way, on, cycle, True))),
+    ("those who go on are told to end", with_output("but not under this one.*(?s:.*)", "and will")),
 )

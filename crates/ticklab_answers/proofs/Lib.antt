@@ -1,5 +1,6 @@
 pub mod Breaks
 pub mod Carried
+pub mod CarriedEnds
 pub mod EndsSearched
 pub mod HuntSearched
 pub mod Looped

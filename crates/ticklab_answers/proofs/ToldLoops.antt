@@ -1,5 +1,5 @@
 -- The text about steps that repeat for ever, from its parts.
-use Rattle.std.proofs.Common.{◌≡◌, ◌∙◌, ◌++◌, ◌+◌, ℕ, List, arith, drop, length, length-append, refl, take}
+use Rattle.std.proofs.Common.{◌≡◌, ◌++◌, ◌+◌, ℕ, List, arith, drop, length, length-append, refl, take}
 use Rattle.std.specs.List.{list_any}
 use Rattle.base.specs.Plain.{Name, WholeProgram}
 use Rattle.ticklab_trace.specs.Places.{Standing}

@@ -1,5 +1,5 @@
 -- The answer to the words of a command line: each command, with what it reads, runs and tells.
-use Rattle.std.specs.Prelude.{◌≡◌, ⊤, ℕ, List, [], Result, Ok, Err, String, Vec, map, string_bytes}
+use Rattle.std.specs.Prelude.{◌≡◌, ⊤, ℕ, List, Result, Ok, Err, String, Vec, map, string_bytes}
 use Rattle.std.specs.Global.{Global}
 use Rattle.std.specs.Vec.Iter.{into_iter_items}
 use Rattle.std.specs.declared.io.Error.{Error}
@@ -8,13 +8,14 @@ use Rattle.ticklab_line.specs.Commands.{Asked, plain_request}
 use Rattle.ticklab_line.specs.Lines.{Answers}
 use Rattle.ticklab_line.specs.declared.asking.Line.{Line}
 use Rattle.ticklab_line.specs.declared.asking.Line.TheVariants as line
-use Rattle.ticklab_line.specs.declared.commands.Request.TheVariants.{Explore, Ends, Hunt, Runs, Trace, Draw, Explain, Labels}
+use Rattle.ticklab_line.specs.declared.commands.Request.TheVariants.{Explore, Ends, Lasso, Hunt, Runs, Trace, Draw, Explain, Labels}
 use Rattle.ticklab_answers.specs.Ends.{ExploresEnds}
 use Rattle.ticklab_answers.specs.Explanations.{Explains}
 use Rattle.ticklab_answers.specs.Exploring.{Explores, HearsOf}
 use Rattle.ticklab_answers.specs.Faults.{IsEither, IsOneOf}
 use Rattle.ticklab_answers.specs.Hunting.{Hunts, plan_of}
 use Rattle.ticklab_answers.specs.Labels.{DrawsLabels}
+use Rattle.ticklab_answers.specs.Lasso.{IsOfThree, Lassoes}
 use Rattle.ticklab_answers.specs.Reading.{ReadsOf, ReadsInputOf}
 use Rattle.ticklab_answers.specs.Responses.{Gives, Refuses}
 use Rattle.ticklab_answers.specs.Runs.{Draws, Traces}
@@ -40,6 +41,8 @@ module _ {F M W : Type 0} (Reads : ReadsOf F) (ReadsInput : ReadsInputOf F) (Ran
       (ran ≡ rested) × Explores Reads ReadsInput hears before after quiet heard file never limit is_merged response
   Responds (Ends file never process limit) response =
       (ran ≡ rested) × ExploresEnds Reads ReadsInput hears before after quiet heard file never process limit response
+  Responds (Lasso file prefix cycle) response =
+      (ran ≡ rested) × (heard ≡ quiet) × Lassoes Reads ReadsInput before after file prefix cycle response
   Responds (Hunt file never seed runs from steps is_uniform) response =
       (ran ≡ rested) × (heard ≡ quiet) × Hunts Reads ReadsInput before after file never (plan_of seed runs steps is_uniform) from response
   Responds (Runs file times turns) response = (heard ≡ quiet) × Tallies Reads ReadsInput Ran before after rested ran file times turns response
@@ -67,6 +70,7 @@ module _ {F M W : Type 0} (Reads : ReadsOf F) (ReadsInput : ReadsInputOf F) (Ran
 abbrev pub NamesOf : Asked → List ℕ → Type 0
 NamesOf (Explore file never limit is_merged) name = name ≡ file
 NamesOf (Ends file never process limit) name = name ≡ file
+NamesOf (Lasso file prefix cycle) name = IsOfThree file prefix cycle name
 NamesOf (Hunt file never seed runs from steps is_uniform) name = name ≡ file
 NamesOf (Runs file times turns) name = name ≡ file
 NamesOf (Trace file schedule never is_code) name = IsEither file schedule name

@@ -8,9 +8,13 @@ use Rattle.base.specs.Plain.{WholeProgram}
 use Rattle.tick_source.specs.Source.{source}
 use Rattle.tick_lower.specs.Lowered.{lowered, lowered_sizes}
 use Rattle.tick_sim.specs.Maps.{up}
+use Rattle.tick_sim.specs.Ends as S
 use Rattle.tick_sim.specs.Laws.{seen_of_code}
 use Rattle.tick_merge.specs.Runs.{IsWholeRun}
 use Rattle.threads_source.specs.Laws.{code_of}
+use Rattle.searches_states.specs.Ending.{is_asked}
+use Rattle.searches_states.specs.declared.must_stop.MustStop.{MustStop}
+use Rattle.searches_explore.specs.Ending as E
 use Rattle.searches_explore.specs.Explored.{is_trap, has_trapped}
 use Rattle.searches_explore.specs.Searching.{NeverTraps}
 
@@ -27,3 +31,11 @@ pub record CodeLaw : Type 0 where
 abbrev pub ThreadsLaw : Type 0
 ThreadsLaw = (a : WholeProgram ℕ) → NeverTraps a → (turns outs : ℕ) (o : RunObservables) → IsWholeRun (code_of a) turns outs o
     → (p : ℕ) (trap : Trap) → slice_get o.ends p ≡ Some (Trapped trap) → ⊥
+
+-- Of those processes that are asked for: where they can always end in a program, they can in its code. Where they can't
+-- end any more in the program, they can't in the code after the schedule that leads through the same. Nothing says that
+-- they do end in the code.
+pub record CodeEndsLaw : Type 0 where
+  pub always : (a : WholeProgram ℕ) (asked : MustStop) → E.CanAlwaysEnd a asked → S.CanAlwaysEnd a.processes (is_asked asked) (S.code_statuses a)
+  pub stuck : (a : WholeProgram ℕ) (asked : MustStop) (schedule : List ℕ) → E.IsStuck a asked schedule
+      → S.IsStuck a.processes (is_asked asked) (S.code_statuses a) (up (lowered_sizes a) (lowered a) schedule)

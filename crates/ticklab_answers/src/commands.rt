@@ -70,6 +70,13 @@ pub fn response_to<F: Files, M: Runner, W: Progress>(
             explored_ends(alloc, files, progress, file, never, process, limit)
         }
         Line::Request(
+            Request::Lasso {
+                file,
+                prefix,
+                cycle,
+            },
+        ) => lassoed(alloc, files, file, prefix, cycle),
+        Line::Request(
             Request::Hunt {
                 file,
                 never,

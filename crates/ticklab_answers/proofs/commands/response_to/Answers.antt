@@ -4,8 +4,11 @@ use Rattle.ticklab_line.specs.declared.asking.Line.TheVariants as line
 use Rattle.ticklab_line.specs.declared.commands.Request.TheVariants as request
 use Rattle.ticklab_answers.specs.Asking.{texts_of}
 use Rattle.searches_hunt.specs.declared.plan.Plan.{Plan}
+use Rattle.ticklab_answers.specs.Ends.{ExploresEnds}
 use Rattle.ticklab_answers.specs.Exploring.{Explores}
+use Rattle.ticklab_answers.specs.Faults.{IsEither}
 use Rattle.ticklab_answers.specs.Hunting.{Hunts}
+use Rattle.ticklab_answers.specs.Lasso.{IsOfThree}
 use Rattle.ticklab_answers.proofs.Responded.{failed, responded}
 use Rattle.ticklab_answers.proofs.commands.response_to.Goals as goal
 
@@ -52,13 +55,13 @@ returns-in-Request-Runs-clause-err g c =
 
 pub returns-in-Request-Trace-clause-ok : goal.returns-in-Request-Trace-clause-ok
 returns-in-Request-Trace-clause-ok g c =
-    responded c.args.given c.in_ok-words.words c.as_slice.result.now c.in_ok-file.field-0 (line.Request (request.Trace c.in-Request-Trace.file c.in-Request-Trace.schedule c.in-Request-Trace.is_code))
+    responded c.args.given c.in_ok-words.words c.as_slice.result.now c.in_ok-file.field-0 (line.Request (request.Trace c.in-Request-Trace.file c.in-Request-Trace.schedule _ c.in-Request-Trace.is_code))
     c.in_ok-words.ensures.ok c.as_slice.ensures.value c.in_ok-file.ensures (c.in-Request-Trace.is ∙ ap line.Request c.in-Request-Trace.field-0-is)
     g.F.Files.Reads g.F.Files.ReadsInput g.M.Runner.Ran g.W.Watch.hears _ _ _ _ _ _ c.traced.result c.traced.ensures.ok (λ x h. (refl, refl, h))
 
 pub returns-in-Request-Draw-clause-ok : goal.returns-in-Request-Draw-clause-ok
 returns-in-Request-Draw-clause-ok g c =
-    responded c.args.given c.in_ok-words.words c.as_slice.result.now c.in_ok-file.field-0 (line.Request (request.Draw c.in-Request-Draw.file c.in-Request-Draw.schedule c.in-Request-Draw.is_code))
+    responded c.args.given c.in_ok-words.words c.as_slice.result.now c.in_ok-file.field-0 (line.Request (request.Draw c.in-Request-Draw.file c.in-Request-Draw.schedule _ c.in-Request-Draw.is_code))
     c.in_ok-words.ensures.ok c.as_slice.ensures.value c.in_ok-file.ensures (c.in-Request-Draw.is ∙ ap line.Request c.in-Request-Draw.field-0-is)
     g.F.Files.Reads g.F.Files.ReadsInput g.M.Runner.Ran g.W.Watch.hears _ _ _ _ _ _ c.drawn.result c.drawn.ensures.ok (λ x h. (refl, refl, h))
 
@@ -68,8 +71,43 @@ returns-in-Request-Labels-clause-ok g c =
     c.in_ok-words.ensures.ok c.as_slice.ensures.value c.in_ok-file.ensures (c.in-Request-Labels.is ∙ ap line.Request c.in-Request-Labels.field-0-is)
     g.F.Files.Reads g.F.Files.ReadsInput g.M.Runner.Ran g.W.Watch.hears _ _ _ _ _ _ c.labelled.result c.labelled.ensures.ok (λ x h. (refl, refl, refl, h))
 
+pub returns-in-Request-Ends-clause-ok : goal.returns-in-Request-Ends-clause-ok
+returns-in-Request-Ends-clause-ok g c =
+    let asked = c.in-Request-Ends in
+    responded c.args.given c.in_ok-words.words c.as_slice.result.now c.in_ok-file.field-0 (line.Request (request.Ends asked.file asked.never asked.process asked.limit))
+    c.in_ok-words.ensures.ok c.as_slice.ensures.value c.in_ok-file.ensures (asked.is ∙ ap line.Request asked.field-0-is)
+    g.F.Files.Reads g.F.Files.ReadsInput g.M.Runner.Ran g.W.Watch.hears _ _ _ _ _ _ c.explored_ends.result c.explored_ends.ensures.ok
+    (λ x h. (refl, subst (λ (never : List (Bor (List ℕ))). ExploresEnds g.F.Files.Reads g.F.Files.ReadsInput g.W.Watch.hears c.args.files.now c.explored_ends.new.files c.args.progress.now c.explored_ends.new.progress asked.file.now (texts_of never) asked.process asked.limit x) c.as_slice-never-in-Request-Ends.ensures.value h))
+
 pub returns-in-Request-Ends-clause-err : goal.returns-in-Request-Ends-clause-err
 returns-in-Request-Ends-clause-err g c =
-    failed c.args.given c.in_ok-words.words c.as_slice.result.now c.in_ok-file.field-0 (line.Request (request.Ends c.in-Request-Ends.file c.in-Request-Ends.process c.in-Request-Ends.limit))
-    c.in_ok-words.ensures.ok c.as_slice.ensures.value c.in_ok-file.ensures (c.in-Request-Ends.is ∙ ap line.Request c.in-Request-Ends.field-0-is)
-    (λ name. name ≡ c.in-Request-Ends.file.now) c.explored_ends.result c.explored_ends.ensures.err (λ name same. same)
+    let asked = c.in-Request-Ends in
+    failed c.args.given c.in_ok-words.words c.as_slice.result.now c.in_ok-file.field-0 (line.Request (request.Ends asked.file asked.never asked.process asked.limit))
+    c.in_ok-words.ensures.ok c.as_slice.ensures.value c.in_ok-file.ensures (asked.is ∙ ap line.Request asked.field-0-is)
+    (λ name. name ≡ asked.file.now) c.explored_ends.result c.explored_ends.ensures.err (λ name same. same)
+
+pub returns-in-Request-Lasso-clause-ok : goal.returns-in-Request-Lasso-clause-ok
+returns-in-Request-Lasso-clause-ok g c =
+    let asked = c.in-Request-Lasso in
+    responded c.args.given c.in_ok-words.words c.as_slice.result.now c.in_ok-file.field-0 (line.Request (request.Lasso asked.file asked.prefix asked.cycle))
+    c.in_ok-words.ensures.ok c.as_slice.ensures.value c.in_ok-file.ensures (asked.is ∙ ap line.Request asked.field-0-is)
+    g.F.Files.Reads g.F.Files.ReadsInput g.M.Runner.Ran g.W.Watch.hears _ _ _ _ _ _ c.lassoed.result c.lassoed.ensures.ok (λ x h. (refl, refl, h))
+
+pub returns-in-Request-Lasso-clause-err : goal.returns-in-Request-Lasso-clause-err
+returns-in-Request-Lasso-clause-err g c =
+    let asked = c.in-Request-Lasso in
+    failed c.args.given c.in_ok-words.words c.as_slice.result.now c.in_ok-file.field-0 (line.Request (request.Lasso asked.file asked.prefix asked.cycle))
+    c.in_ok-words.ensures.ok c.as_slice.ensures.value c.in_ok-file.ensures (asked.is ∙ ap line.Request asked.field-0-is)
+    (IsOfThree asked.file.now asked.prefix.now asked.cycle.now) c.lassoed.result c.lassoed.ensures.err (λ name named. named)
+
+pub returns-in-Request-Trace-clause-err : goal.returns-in-Request-Trace-clause-err
+returns-in-Request-Trace-clause-err g c =
+    failed c.args.given c.in_ok-words.words c.as_slice.result.now c.in_ok-file.field-0 (line.Request (request.Trace c.in-Request-Trace.file c.in-Request-Trace.schedule _ c.in-Request-Trace.is_code))
+    c.in_ok-words.ensures.ok c.as_slice.ensures.value c.in_ok-file.ensures (c.in-Request-Trace.is ∙ ap line.Request c.in-Request-Trace.field-0-is)
+    (IsEither c.in-Request-Trace.file.now c.in-Request-Trace.schedule.now) c.traced.result c.traced.ensures.err (λ name named. named)
+
+pub returns-in-Request-Draw-clause-err : goal.returns-in-Request-Draw-clause-err
+returns-in-Request-Draw-clause-err g c =
+    failed c.args.given c.in_ok-words.words c.as_slice.result.now c.in_ok-file.field-0 (line.Request (request.Draw c.in-Request-Draw.file c.in-Request-Draw.schedule _ c.in-Request-Draw.is_code))
+    c.in_ok-words.ensures.ok c.as_slice.ensures.value c.in_ok-file.ensures (c.in-Request-Draw.is ∙ ap line.Request c.in-Request-Draw.field-0-is)
+    (IsEither c.in-Request-Draw.file.now c.in-Request-Draw.schedule.now) c.drawn.result c.drawn.ensures.err (λ name named. named)

@@ -1,7 +1,4 @@
-use Rattle.std.proofs.Common.{◌≡◌, ◌∙◌, ℕ, List, None, subst, sym}
 use Rattle.language_questions.specs.Lines.{asked_of}
-use Rattle.tick_kinds.specs.Resolution.{resolved}
-use Rattle.ticklab_answers.specs.Ends.{asked_by}
 use Rattle.ticklab_answers.specs.Lasso.{IsUnchecked, file_refused}
 use Rattle.ticklab_answers.proofs.Looped.{checked_by, cycle_unread, lasso_told, prefix_unread}
 use Rattle.ticklab_answers.proofs.ProgramFiles.{file_of}
