@@ -93,7 +93,7 @@ fn push_steps(
     ensures { OnOk result (string_bytes text.new ≡ string_bytes text.old ++ steps_text program.now (map told_standing spots.now) words.now schedule.now steps.now) }
 {
     let written = write_schedule(alloc, schedule)?;
-    let trace = source_trace(alloc, program, spots, steps)?;
+    let trace = source_trace(alloc, program, spots, 0, steps)?;
     text.push_str(words)?;
     text.push_str("\n")?;
     text.push_str(&written)?;
