@@ -11,7 +11,14 @@ use ticklab_answers::{Response, drawn};
 static SCHEDULE: &str = "1 0*4 1";
 
 fn drawn_of(alloc: Global, name: &str, bytes: &[u8]) -> Answered {
-    drawn(alloc, &mut OneFile { name, bytes }, name, SCHEDULE, false)
+    drawn(
+        alloc,
+        &mut OneFile { name, bytes },
+        name,
+        SCHEDULE,
+        &[],
+        false,
+    )
 }
 
 // What goes out where it is done and nothing is told.

@@ -101,7 +101,10 @@ pub fn response_to<F: Files, M: Runner, W: Progress>(
                 never,
                 is_code,
             },
-        ) => traced(alloc, files, file, schedule, never.as_slice(), is_code),
+        ) => {
+            let never = never.as_slice();
+            traced(alloc, files, file, schedule, never, is_code)
+        }
         Line::Request(
             Request::Draw {
                 file,
@@ -109,7 +112,10 @@ pub fn response_to<F: Files, M: Runner, W: Progress>(
                 never,
                 is_code,
             },
-        ) => drawn(alloc, files, file, schedule, never.as_slice(), is_code),
+        ) => {
+            let never = never.as_slice();
+            drawn(alloc, files, file, schedule, never, is_code)
+        }
         Line::Request(Request::Explain { file, schedule }) => {
             explained(alloc, files, file, schedule)
         }

@@ -9,6 +9,7 @@ use Rattle.ticklab_answers.specs.Exploring.{Explores}
 use Rattle.ticklab_answers.specs.Faults.{IsEither}
 use Rattle.ticklab_answers.specs.Hunting.{Hunts}
 use Rattle.ticklab_answers.specs.Lasso.{IsOfThree}
+use Rattle.ticklab_answers.specs.Runs.{Draws, Traces}
 use Rattle.ticklab_answers.proofs.Responded.{failed, responded}
 use Rattle.ticklab_answers.proofs.commands.response_to.Goals as goal
 
@@ -55,16 +56,31 @@ returns-in-Request-Runs-clause-err g c =
 
 pub returns-in-Request-Trace-clause-ok : goal.returns-in-Request-Trace-clause-ok
 returns-in-Request-Trace-clause-ok g c =
-    responded c.args.given c.in_ok-words.words c.as_slice.result.now c.in_ok-file.field-0 (line.Request (request.Trace c.in-Request-Trace.file c.in-Request-Trace.schedule _ c.in-Request-Trace.is_code))
+    let asked = c.in-Request-Trace in
+    responded c.args.given c.in_ok-words.words c.as_slice.result.now c.in_ok-file.field-0 (line.Request (request.Trace asked.file asked.schedule asked.never asked.is_code))
+    c.in_ok-words.ensures.ok c.as_slice.ensures.value c.in_ok-file.ensures (asked.is ∙ ap line.Request asked.field-0-is)
+    g.F.Files.Reads g.F.Files.ReadsInput g.M.Runner.Ran g.W.Watch.hears _ _ _ _ _ _ c.traced.result c.traced.ensures.ok
+    (λ x h. (refl, refl, subst (λ (never : List (Bor (List ℕ))). Traces g.F.Files.Reads g.F.Files.ReadsInput c.args.files.now c.traced.new.files asked.file.now asked.schedule.now (texts_of never) asked.is_code x) c.as_slice-never-in-Request-Trace.ensures.value h))
+
+pub returns-in-Request-Trace-clause-err : goal.returns-in-Request-Trace-clause-err
+returns-in-Request-Trace-clause-err g c =
+    failed c.args.given c.in_ok-words.words c.as_slice.result.now c.in_ok-file.field-0 (line.Request (request.Trace c.in-Request-Trace.file c.in-Request-Trace.schedule _ c.in-Request-Trace.is_code))
     c.in_ok-words.ensures.ok c.as_slice.ensures.value c.in_ok-file.ensures (c.in-Request-Trace.is ∙ ap line.Request c.in-Request-Trace.field-0-is)
-    g.F.Files.Reads g.F.Files.ReadsInput g.M.Runner.Ran g.W.Watch.hears _ _ _ _ _ _ c.traced.result c.traced.ensures.ok (λ x h. (refl, refl, h))
+    (IsEither c.in-Request-Trace.file.now c.in-Request-Trace.schedule.now) c.traced.result c.traced.ensures.err (λ name named. named)
 
 pub returns-in-Request-Draw-clause-ok : goal.returns-in-Request-Draw-clause-ok
 returns-in-Request-Draw-clause-ok g c =
-    responded c.args.given c.in_ok-words.words c.as_slice.result.now c.in_ok-file.field-0 (line.Request (request.Draw c.in-Request-Draw.file c.in-Request-Draw.schedule _ c.in-Request-Draw.is_code))
-    c.in_ok-words.ensures.ok c.as_slice.ensures.value c.in_ok-file.ensures (c.in-Request-Draw.is ∙ ap line.Request c.in-Request-Draw.field-0-is)
-    g.F.Files.Reads g.F.Files.ReadsInput g.M.Runner.Ran g.W.Watch.hears _ _ _ _ _ _ c.drawn.result c.drawn.ensures.ok (λ x h. (refl, refl, h))
+    let asked = c.in-Request-Draw in
+    responded c.args.given c.in_ok-words.words c.as_slice.result.now c.in_ok-file.field-0 (line.Request (request.Draw asked.file asked.schedule asked.never asked.is_code))
+    c.in_ok-words.ensures.ok c.as_slice.ensures.value c.in_ok-file.ensures (asked.is ∙ ap line.Request asked.field-0-is)
+    g.F.Files.Reads g.F.Files.ReadsInput g.M.Runner.Ran g.W.Watch.hears _ _ _ _ _ _ c.drawn.result c.drawn.ensures.ok
+    (λ x h. (refl, refl, subst (λ (never : List (Bor (List ℕ))). Draws g.F.Files.Reads g.F.Files.ReadsInput c.args.files.now c.drawn.new.files asked.file.now asked.schedule.now (texts_of never) asked.is_code x) c.as_slice-never-in-Request-Draw.ensures.value h))
 
+pub returns-in-Request-Draw-clause-err : goal.returns-in-Request-Draw-clause-err
+returns-in-Request-Draw-clause-err g c =
+    failed c.args.given c.in_ok-words.words c.as_slice.result.now c.in_ok-file.field-0 (line.Request (request.Draw c.in-Request-Draw.file c.in-Request-Draw.schedule _ c.in-Request-Draw.is_code))
+    c.in_ok-words.ensures.ok c.as_slice.ensures.value c.in_ok-file.ensures (c.in-Request-Draw.is ∙ ap line.Request c.in-Request-Draw.field-0-is)
+    (IsEither c.in-Request-Draw.file.now c.in-Request-Draw.schedule.now) c.drawn.result c.drawn.ensures.err (λ name named. named)
 pub returns-in-Request-Labels-clause-ok : goal.returns-in-Request-Labels-clause-ok
 returns-in-Request-Labels-clause-ok g c =
     responded c.args.given c.in_ok-words.words c.as_slice.result.now c.in_ok-file.field-0 (line.Request (request.Labels c.in-Request-Labels.processes c.in-Request-Labels.moves))
@@ -100,14 +116,3 @@ returns-in-Request-Lasso-clause-err g c =
     c.in_ok-words.ensures.ok c.as_slice.ensures.value c.in_ok-file.ensures (asked.is ∙ ap line.Request asked.field-0-is)
     (IsOfThree asked.file.now asked.prefix.now asked.cycle.now) c.lassoed.result c.lassoed.ensures.err (λ name named. named)
 
-pub returns-in-Request-Trace-clause-err : goal.returns-in-Request-Trace-clause-err
-returns-in-Request-Trace-clause-err g c =
-    failed c.args.given c.in_ok-words.words c.as_slice.result.now c.in_ok-file.field-0 (line.Request (request.Trace c.in-Request-Trace.file c.in-Request-Trace.schedule _ c.in-Request-Trace.is_code))
-    c.in_ok-words.ensures.ok c.as_slice.ensures.value c.in_ok-file.ensures (c.in-Request-Trace.is ∙ ap line.Request c.in-Request-Trace.field-0-is)
-    (IsEither c.in-Request-Trace.file.now c.in-Request-Trace.schedule.now) c.traced.result c.traced.ensures.err (λ name named. named)
-
-pub returns-in-Request-Draw-clause-err : goal.returns-in-Request-Draw-clause-err
-returns-in-Request-Draw-clause-err g c =
-    failed c.args.given c.in_ok-words.words c.as_slice.result.now c.in_ok-file.field-0 (line.Request (request.Draw c.in-Request-Draw.file c.in-Request-Draw.schedule _ c.in-Request-Draw.is_code))
-    c.in_ok-words.ensures.ok c.as_slice.ensures.value c.in_ok-file.ensures (c.in-Request-Draw.is ∙ ap line.Request c.in-Request-Draw.field-0-is)
-    (IsEither c.in-Request-Draw.file.now c.in-Request-Draw.schedule.now) c.drawn.result c.drawn.ensures.err (λ name named. named)
