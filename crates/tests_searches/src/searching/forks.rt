@@ -55,6 +55,10 @@ impl Machine for Forks {
         *place == self.bad
     }
 
+    fn is_bad_beside(&self, _before: &u32, after: &u32) -> bool {
+        self.is_bad(after)
+    }
+
     fn has_stopped(&self, place: &u32, _process: u8) -> bool {
         *place == 2
     }

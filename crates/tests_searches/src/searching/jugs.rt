@@ -62,6 +62,10 @@ impl Machine for Jugs {
         jugs.0 == self.measured || jugs.1 == self.measured
     }
 
+    fn is_bad_beside(&self, _before: &(u8, u8), after: &(u8, u8)) -> bool {
+        self.is_bad(after)
+    }
+
     fn has_stopped(&self, _state: &(u8, u8), _process: u8) -> bool {
         false
     }

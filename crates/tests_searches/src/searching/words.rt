@@ -55,6 +55,10 @@ impl Machine for Counting {
         false
     }
 
+    fn is_bad_beside(&self, _before: &Vec<u32>, after: &Vec<u32>) -> bool {
+        self.is_bad(after)
+    }
+
     fn has_stopped(&self, _state: &Vec<u32>, _process: u8) -> bool {
         false
     }
