@@ -81,6 +81,7 @@ returns-in-Request-Draw-clause-err g c =
     failed c.args.given c.in_ok-words.words c.as_slice.result.now c.in_ok-file.field-0 (line.Request (request.Draw c.in-Request-Draw.file c.in-Request-Draw.schedule _ c.in-Request-Draw.is_code))
     c.in_ok-words.ensures.ok c.as_slice.ensures.value c.in_ok-file.ensures (c.in-Request-Draw.is ∙ ap line.Request c.in-Request-Draw.field-0-is)
     (IsEither c.in-Request-Draw.file.now c.in-Request-Draw.schedule.now) c.drawn.result c.drawn.ensures.err (λ name named. named)
+
 pub returns-in-Request-Labels-clause-ok : goal.returns-in-Request-Labels-clause-ok
 returns-in-Request-Labels-clause-ok g c =
     responded c.args.given c.in_ok-words.words c.as_slice.result.now c.in_ok-file.field-0 (line.Request (request.Labels c.in-Request-Labels.processes c.in-Request-Labels.moves))
@@ -115,4 +116,3 @@ returns-in-Request-Lasso-clause-err g c =
     failed c.args.given c.in_ok-words.words c.as_slice.result.now c.in_ok-file.field-0 (line.Request (request.Lasso asked.file asked.prefix asked.cycle))
     c.in_ok-words.ensures.ok c.as_slice.ensures.value c.in_ok-file.ensures (asked.is ∙ ap line.Request asked.field-0-is)
     (IsOfThree asked.file.now asked.prefix.now asked.cycle.now) c.lassoed.result c.lassoed.ensures.err (λ name named. named)
-
