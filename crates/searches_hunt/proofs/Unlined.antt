@@ -1,5 +1,5 @@
 -- Without lines a fault is a trap, and a process that has trapped stays so.
-use Rattle.std.proofs.Common.{◌≡◌, ◌<◌, ◌≤◌, ℕ, List, [], length, take, drop, refl, sym, ◌∙◌, ap, arith}
+use Rattle.std.proofs.Common.{◌<◌, ℕ, List, [], length, take, drop, sym, ◌∙◌, ap, arith}
 use Rattle.std.proofs.lemmas.List.{take-append-drop, take_all}
 use Rattle.std.proofs.lemmas.Option.{none-some}
 use Rattle.base.specs.Plain.{WholeProgram}

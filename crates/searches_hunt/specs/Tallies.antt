@@ -1,7 +1,7 @@
 -- How often each outcome of some runs came, and in what order these counts are told.
-use Rattle.std.specs.Prelude.{◌≡◌, ◌≢◌, ◌≤◌, ℕ, List, [], ◌∷◌, String, map, string_bytes, string_cmp, string_eq}
+use Rattle.std.specs.Prelude.{◌≡◌, ◌≢◌, ◌≤◌, List, [], ◌∷◌, String, map, string_bytes, string_cmp, string_eq}
 use Rattle.std.specs.Global.{Global}
-use Rattle.std.specs.List.{All, AllPairs, Contains, count_by}
+use Rattle.std.specs.List.{All, AllPairs, count_by}
 use Rattle.std.specs.declared.cmp.Ordering.TheVariants.{Less}
 use Rattle.base.specs.Observables.{RunObservables}
 use Rattle.tick_play.specs.Outcome.{outcome_lines}

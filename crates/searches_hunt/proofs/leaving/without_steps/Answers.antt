@@ -1,4 +1,4 @@
-use Rattle.std.proofs.Common.{[], sym, subst, take, arith}
+use Rattle.std.proofs.Common.{[], sym, subst, arith}
 use Rattle.std.proofs.lemmas.List.{take_all}
 use Rattle.searches_hunt.specs.prover.Parts.{IsLeft}
 use Rattle.searches_hunt.proofs.Left.{left_all, left_on}
