@@ -17,6 +17,7 @@ use crate::tried::Tried;
 use crate::trying::steps_to_fault;
 use base::NoMemory;
 use language_properties::Property;
+use searches_explore::first_broken;
 use std::alloc::Global;
 use tick_kinds::Program;
 
@@ -39,17 +40,11 @@ fn shrunk(
 }
 
 // The program after this schedule.
-fn led_to<'a>(
-    alloc: Global,
-    program: &'a Program,
-    lines: &'a [Property],
-    schedule: &[u8],
-) -> Result<Tried<'a>, NoMemory>
+fn led_to<'a>(alloc: Global, program: &'a Program, schedule: &[u8]) -> Result<Tried<'a>, NoMemory>
     requires { All (λ p. p < (resolved program.now).processes) schedule.now }
-    ensures led { IfOk result (λ t. t.machine ≡ source (resolved program.now) schedule.now) }
-    ensures lines { IfOk result (λ t. t.lines.now ≡ lines.now) }
+    ensures { IfOk result (λ t. t.machine ≡ source (resolved program.now) schedule.now) }
 {
-    let mut tried = Tried::new(alloc, program, lines)?;
+    let mut tried = Tried::new(alloc, program)?;
     for &p in schedule {
         tried.step(p)?;
     }
@@ -71,11 +66,11 @@ fn told(
     ensures trapped { IfOk result (λ h. IfTrapped h (IsMinimalTrapped (resolved program.now) (lines_of lines.now))) }
     ensures broken { IfOk result (λ h. IfBroken h (IsMinimalBroken (resolved program.now) (lines_of lines.now))) }
 {
-    let tried = led_to(alloc, program, lines, &schedule)?;
+    let tried = led_to(alloc, program, &schedule)?;
     if tried.has_trapped() {
         return Ok(NeverHunted::Trapped { run, schedule });
     }
-    match tried.first_broken() {
+    match first_broken(&tried, lines) {
         Some((line, value)) => Ok(NeverHunted::Broken {
             run,
             schedule,

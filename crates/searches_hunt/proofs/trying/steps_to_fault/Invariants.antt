@@ -7,5 +7,4 @@ use Rattle.searches_hunt.proofs.trying.steps_to_fault.Given as goal
 abbrev pub invariant-loop-made : goal.invariant-loop-made
 invariant-loop-made l =
     IsAfter (resolved l.program) (lines_of l.lines) l.plan l.run l.made l.tried.machine l.drawing
-    × (l.tried.lines.now ≡ l.lines)
-    × (l.tried.processes ≡ (resolved l.program).processes)
+    × (l.tried.processes ≡ l.n)
