@@ -3,7 +3,7 @@ use crate::asking::asked_for;
 use std::test::Fail;
 use tests_shared::is_same;
 
-static ASKED: [(&[&str], &str); 15] = [
+static ASKED: [(&[&str], &str); 17] = [
     (
         &["explore", "a.tick"],
         "Explore { file: \"a.tick\", never: [], limit: 1000000, is_merged: false }",
@@ -21,8 +21,16 @@ static ASKED: [(&[&str], &str); 15] = [
         "Explore { file: \"a\", never: [\"n\", \"1 < n\"], limit: 1000000, is_merged: false }",
     ),
     (
+        &["explore", "a", "--never", "n", "--ends", "2"],
+        "Ends { file: \"a\", never: [\"n\"], process: Some(2), limit: 1000000 }",
+    ),
+    (
+        &["lasso", "a", "0 1", "@b"],
+        "Lasso { file: \"a\", prefix: \"0 1\", cycle: \"@b\" }",
+    ),
+    (
         &["hunt", "a"],
-        "Hunt { file: \"a\", seed: 0, runs: 10000, steps: 300, is_uniform: false }",
+        "Hunt { file: \"a\", never: [], seed: 0, runs: 10000, from: 0, steps: 300, is_uniform: false }",
     ),
     (
         &[
@@ -35,8 +43,11 @@ static ASKED: [(&[&str], &str); 15] = [
             "--steps",
             "10000000",
             "--uniform",
+            "--from=7",
+            "--never",
+            "n",
         ],
-        "Hunt { file: \"a\", seed: 18446744073709551615, runs: 3, steps: 10000000, is_uniform: true }",
+        "Hunt { file: \"a\", never: [\"n\"], seed: 18446744073709551615, runs: 3, from: 7, steps: 10000000, is_uniform: true }",
     ),
     (
         &["hunt", "--threads", "7", "1000000000", "a"],
@@ -44,19 +55,19 @@ static ASKED: [(&[&str], &str); 15] = [
     ),
     (
         &["trace", "a", "0 1*3"],
-        "Trace { file: \"a\", schedule: \"0 1*3\", is_code: false }",
+        "Trace { file: \"a\", schedule: \"0 1*3\", never: [], is_code: false }",
     ),
     (
         &["trace", "--code", "a", "@b"],
-        "Trace { file: \"a\", schedule: \"@b\", is_code: true }",
+        "Trace { file: \"a\", schedule: \"@b\", never: [], is_code: true }",
     ),
     (
-        &["draw", "a", ""],
-        "Draw { file: \"a\", schedule: \"\", is_code: false }",
+        &["draw", "a", "", "--never", "1"],
+        "Draw { file: \"a\", schedule: \"\", never: [\"1\"], is_code: false }",
     ),
     (
         &["draw", "a", "0", "--code"],
-        "Draw { file: \"a\", schedule: \"0\", is_code: true }",
+        "Draw { file: \"a\", schedule: \"0\", never: [], is_code: true }",
     ),
     (&["explain", "a"], "Explain { file: \"a\", schedule: None }"),
     (
