@@ -5,7 +5,7 @@
 -- (`drawn_first`). What a loop knows after so many steps is `IsAfter`; `steps_on` says that it holds after one more.
 -- The difficulty is small: a number of steps is at most that of the run or not, and each case is a line.
 -- Read `drawn_first` and `steps_on` first.
-use Rattle.std.proofs.Common.{◌≡◌, ⊎_elim, ℕ, zero, suc, ◌+◌, ◌-◌, ◌<◌, ◌≤◌, true, false, List, [], ◌∷◌, ◌++◌, length, take, refl, sym, ◌∙◌, ap, arith}
+use Rattle.std.proofs.Common.{◌≡◌, ⊎_elim, ℕ, zero, suc, ◌+◌, ◌-◌, ◌<◌, ◌≤◌, false, List, [], ◌∷◌, ◌++◌, length, take, refl, sym, ◌∙◌, ap, arith}
 use Rattle.std.proofs.lemmas.List.{take_all, take_at}
 use Rattle.base.specs.Plain.{WholeProgram}
 use Rattle.language_properties.specs.Properties.{Formula}
@@ -83,6 +83,14 @@ module _ (a : WholeProgram ℕ) (plan : Plan) (run : ℕ) where
       ∙ ap (source a) (sym (drawn_more plan.mode a.processes k d))
       ∙ ap (λ i. first_steps a plan run i) (sym next)
 
+  -- what a step makes of how far the run has come
+  pub made_on : (lines : List Formula) (k p : ℕ) (s s' : SourceState) (d d' : Drawing) → IsAfter a lines plan run k s d
+      → d' ≡ next_drawing plan.mode a.processes d → p ≡ d'.process → s' ≡ source_step a.processes p s → s' ≡ first_steps a plan run (k + 1)
+  made_on lines k p s s' d d' before drew is step =
+      let next : d' ≡ next_drawing plan.mode a.processes (drawing_after plan.mode a.processes k (start_drawing plan.seed run)) =
+      drew ∙ ap (next_drawing plan.mode a.processes) before.drew in
+      one_more k s s' before.made (step ∙ ap (λ q. source_step a.processes q s) (is ∙ ap (λ e. e.process) next))
+
   pub faultless_start : (lines : List Formula) → is_fault lines (source_start a) ≡ false → IsFaultlessTo a lines plan run 0
   faultless_start lines none k h = ap (λ j. is_fault lines (first_steps a plan run j)) (let e : k ≡ 0 = omega arith in e) ∙ none
 
@@ -93,33 +101,18 @@ module _ (a : WholeProgram ℕ) (plan : Plan) (run : ℕ) where
       (λ above. ap (λ i. is_fault lines (first_steps a plan run i)) (let e : j ≡ k + 1 = omega arith in e) ∙ now)
       (most_or_more j k)
 
-  -- A step more of the run, of a program of `n` processes.
-  module _ (lines : List Formula) (k p n : ℕ) (s s' : SourceState) (d d' : Drawing) (before : IsAfter a lines plan run k s d) (processes : n ≡ a.processes)
-      (drew : d' ≡ next_drawing plan.mode n d) (is : p ≡ d'.process) (step : s' ≡ source_step n p s) where
-    drawn_on : d' ≡ next_drawing plan.mode a.processes (drawing_after plan.mode a.processes k (start_drawing plan.seed run))
-    drawn_on = drew ∙ ap (λ m. next_drawing plan.mode m d) processes ∙ ap (next_drawing plan.mode a.processes) before.drew
-
-    made_on : s' ≡ first_steps a plan run (k + 1)
-    made_on =
-        one_more k s s' before.made
-        (step ∙ ap (λ m. source_step m p s) processes ∙ ap (λ q. source_step a.processes q s) (is ∙ ap (λ e. e.process) drawn_on))
-
-    -- after which there is a fault
-    pub fault_on : k < plan.steps → is_fault lines s' ≡ true → FaultsWithin a lines plan run (k + 1)
-    fault_on inside fault = record { within = omega (arith, inside); fault = ap (is_fault lines) (sym made_on) ∙ fault }
-
-    -- after which there is none,
-    none_on : is_fault lines s' ≡ false → IsFaultlessTo a lines plan run (k + 1)
-    none_on none = faultless_on lines k before.faultless (ap (is_fault lines) (sym made_on) ∙ none)
-
-    pub steps_on : d'.process < n → is_fault lines s' ≡ false → IsAfter a lines plan run (k + 1) s' d'
-    steps_on below none = record {
-      made = made_on;
-      drew = drawn_on ∙ sym (after_more plan.mode a.processes k (start_drawing plan.seed run))
-          ∙ ap (λ i. drawing_after plan.mode a.processes i (start_drawing plan.seed run)) (let e : suc k ≡ k + 1 = omega arith in e);
-      faultless = none_on none;
-      process = omega (arith, below, processes);
-    }
+  pub steps_on : (lines : List Formula) (k p : ℕ) (s s' : SourceState) (d d' : Drawing) → IsAfter a lines plan run k s d
+      → d' ≡ next_drawing plan.mode a.processes d → p ≡ d'.process → s' ≡ source_step a.processes p s
+      → d'.process < a.processes → is_fault lines s' ≡ false → IsAfter a lines plan run (k + 1) s' d'
+  steps_on lines k p s s' d d' before drew is step below none =
+      let made = made_on lines k p s s' d d' before drew is step in
+      record {
+        made = made;
+        drew = drew ∙ ap (next_drawing plan.mode a.processes) before.drew ∙ sym (after_more plan.mode a.processes k (start_drawing plan.seed run))
+            ∙ ap (λ i. drawing_after plan.mode a.processes i (start_drawing plan.seed run)) (let e : suc k ≡ k + 1 = omega arith in e);
+        faultless = faultless_on lines k before.faultless (ap (is_fault lines) (sym made) ∙ none);
+        process = below;
+      }
 
   -- the first steps are part of the run
   pub part_of_run : (k : ℕ) → k ≤ plan.steps → IsPartOf (drawn plan.mode a.processes k (start_drawing plan.seed run)) (random_schedule plan a.processes run)
@@ -174,12 +167,3 @@ module _ (a : WholeProgram ℕ) (plan : Plan) (run : ℕ) where
       (none j)
       (λ above. ap (is_fault lines) (stopped_first k j s (omega arith) is idle ∙ is) ∙ none k (omega arith))
       (most_or_more j k))
-
-  -- after a step without a fault nothing more happens
-  pub stopped_on : (lines : List Formula) (k p n : ℕ) (s s' : SourceState) (d d' : Drawing) → IsAfter a lines plan run k s d → n ≡ a.processes
-      → d' ≡ next_drawing plan.mode n d → p ≡ d'.process → s' ≡ source_step n p s → is_fault lines s' ≡ false
-      → ((schedule : List ℕ) → source_run n schedule s' ≡ s') → IsFaultless a lines (random_schedule plan a.processes run)
-  stopped_on lines k p n s s' d d' before processes drew is step none idle =
-      stopped_whole lines (k + 1) s' (made_on lines k p n s s' d d' before processes drew is step)
-      (none_on lines k p n s s' d d' before processes drew is step none)
-      (λ schedule. ap (λ m. source_run m schedule s') (sym processes) ∙ idle schedule)

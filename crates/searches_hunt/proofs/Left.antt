@@ -1,6 +1,5 @@
 -- What is left of a schedule, as items are left out.
-use Rattle.std.proofs.Common.{◌≡◌, ◌⊎◌, ⊎_elim, get_or, ℕ, zero, suc, ◌+◌, ◌-◌, ◌<◌, ◌≤◌, List, [], ◌∷◌, ◌++◌, length, take, drop, map, replicate, refl, sym, ◌∙◌, ap, subst, arith, length-append, Option, Some, None, Result, IfOk, IfSome, IfNone, MatchOption}
-use Rattle.std.proofs.lemmas.Result.{IfOk-weaker}
+use Rattle.std.proofs.Common.{◌≡◌, ◌⊎◌, ⊎_elim, get_or, ℕ, zero, suc, ◌+◌, ◌-◌, ◌<◌, ◌≤◌, List, [], ◌∷◌, ◌++◌, length, take, drop, map, replicate, refl, sym, ◌∙◌, ap, subst, arith, length-append, Option, Some, None, IfSome, IfNone, MatchOption}
 use Rattle.std.specs.Prelude.{slice_get}
 use Rattle.std.proofs.lemmas.Option.{same_Some}
 use Rattle.std.specs.List.{All}
@@ -202,13 +201,9 @@ some_at P o x is h = subst (λ q. IfSome q P) is h
 pub none_at : {X : Type 0} (P : Type 0) (o : Option X) → o ≡ None → IfNone o P → P
 none_at P o is h = subst (λ q. IfNone q P) is h
 
-some_of : {X : Type 0} (A : Type 0) (B C : X → Type 0) → ((x : X) → B x → C x) → (o : Option X) → MatchOption o A B → IfSome o C
+pub some_of : {X : Type 0} (A : Type 0) (B C : X → Type 0) → ((x : X) → B x → C x) → (o : Option X) → MatchOption o A B → IfSome o C
 some_of A B C f None h = tt
 some_of A B C f (Some x) h = f x h
-
-pub some_from : {X E : Type 0} (result : Result (Option X) E) (A : Type 0) (B C : X → Type 0) → ((x : X) → B x → C x)
-    → IfOk result (λ o. MatchOption o A B) → IfOk result (λ o. IfSome o C)
-some_from result A B C f = IfOk-weaker result (λ o. MatchOption o A B) (λ o. IfSome o C) (some_of A B C f)
 
 pub none_of : {X : Type 0} (A C : Type 0) (B : X → Type 0) → (A → C) → (o : Option X) → MatchOption o A B → IfNone o C
 none_of A C B f None h = f h

@@ -1,5 +1,6 @@
 mod Runs
 mod Left
+mod Asked
 mod Drawings
 mod Replayed
 mod Told

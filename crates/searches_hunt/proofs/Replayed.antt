@@ -1,5 +1,5 @@
 -- A schedule that is run step by step: where it leads, what of it was noted, and that there was no fault so far.
-use Rattle.std.proofs.Common.{◌≡◌, ◌⊎◌, inl, inr, ⊎_elim, ℕ, ◌+◌, ◌<◌, ◌≤◌, true, false, List, [], ◌∷◌, ◌++◌, length, take, get_or, sym, ◌∙◌, ap, subst, arith}
+use Rattle.std.proofs.Common.{◌≡◌, ◌⊎◌, inl, inr, ⊎_elim, ℕ, ◌+◌, ◌<◌, ◌≤◌, true, false, List, [], ◌∷◌, ◌++◌, length, take, get_or, sym, ◌∙◌, ap, arith}
 use Rattle.std.specs.List.{All}
 use Rattle.std.proofs.lemmas.List.{take_all, take_more}
 use Rattle.base.specs.Plain.{WholeProgram}
@@ -8,7 +8,7 @@ use Rattle.tick_source.specs.Source.{SourceState, source, source_start, source_s
 use Rattle.searches_explore.specs.Lines.{is_fault}
 use Rattle.searches_hunt.specs.Never.{IsFaultless}
 use Rattle.searches_hunt.specs.prover.Parts.{IsFaultOf, IsLeft}
-use Rattle.searches_hunt.proofs.Left.{left_all, left_first, left_lawful, left_on}
+use Rattle.searches_hunt.proofs.Left.{left_first, left_lawful, left_on}
 use Rattle.searches_hunt.proofs.Runs.{most_or_more, run_append}
 
 module _ (a : WholeProgram ℕ) where
@@ -17,41 +17,24 @@ module _ (a : WholeProgram ℕ) where
       → s' ≡ source a (schedule ++ p ∷ [])
   led_on schedule p s s' is step = step ∙ ap (source_step a.processes p) is ∙ sym (run_append a.processes schedule (p ∷ []) (source_start a))
 
+  pub step_taken : (schedule : List ℕ) (i : ℕ) (s s' : SourceState) → i < length schedule → s ≡ source a (take i schedule)
+      → s' ≡ source_step a.processes (get_or schedule i 0) s → s' ≡ source a (take (i + 1) schedule)
+  step_taken schedule i s s' inside is step =
+      led_on (take i schedule) (get_or schedule i 0) s s' is step ∙ ap (source a) (sym (take_more schedule i 0 inside))
+
   -- it is noted, or it did nothing
   abbrev pub IsNoted : ℕ → List ℕ → List ℕ → SourceState → SourceState → Type 0
   IsNoted p made made' s s' = (made' ≡ made ++ p ∷ []) ⊎ ((made' ≡ made) × (s' ≡ s))
 
-  -- What was noted of so many steps leads to where all of them lead.
-  pub record IsReplayed (schedule : List ℕ) (i : ℕ) (made : List ℕ) (s : SourceState) : Type 0 where
-    pub whole : s ≡ source a (take i schedule)
-    pub led : s ≡ source a made
-    pub left : IsLeft made (take i schedule)
+  pub noted_leads : (p : ℕ) (made made' : List ℕ) (s s' : SourceState) → s ≡ source a made → s' ≡ source_step a.processes p s
+      → IsNoted p made made' s s' → s' ≡ source a made'
+  noted_leads p made made' s s' is step = ⊎_elim
+      (λ noted. led_on made p s s' is step ∙ ap (source a) (sym noted))
+      (λ (same, idle). idle ∙ is ∙ ap (source a) (sym same))
 
-  pub replayed_none : (schedule made : List ℕ) (s : SourceState) → s ≡ source_start a → made ≡ [] → IsReplayed schedule 0 made s
-  replayed_none schedule made s start none = record {
-    whole = start;
-    led = start ∙ ap (source a) (sym none);
-    left = subst (λ l. IsLeft l []) (sym none) (left_all []);
-  }
-
-  -- the next step of a schedule, of a program of `n` processes
-  module _ (schedule : List ℕ) (i n : ℕ) (s s' : SourceState) (inside : i < length schedule) (processes : n ≡ a.processes)
-      (step : s' ≡ source_step n (get_or schedule i 0) s) where
-    taken : s' ≡ source_step a.processes (get_or schedule i 0) s
-    taken = step ∙ ap (λ m. source_step m (get_or schedule i 0) s) processes
-
-    pub step_taken : s ≡ source a (take i schedule) → s' ≡ source a (take (i + 1) schedule)
-    step_taken is = led_on (take i schedule) (get_or schedule i 0) s s' is taken ∙ ap (source a) (sym (take_more schedule i 0 inside))
-
-    pub replayed_more : (made made' : List ℕ) → IsReplayed schedule i made s → IsNoted (get_or schedule i 0) made made' s s'
-        → IsReplayed schedule (i + 1) made' s'
-    replayed_more made made' is noted = record {
-      whole = step_taken is.whole;
-      led = ⊎_elim
-          (λ more. led_on made (get_or schedule i 0) s s' is.led taken ∙ ap (source a) (sym more))
-          (λ (same, idle). idle ∙ is.led ∙ ap (source a) (sym same)) noted;
-      left = left_on i made made' schedule inside is.left (⊎_elim inl (λ (same, idle). inr same) noted);
-    }
+  pub noted_left : (schedule : List ℕ) (i : ℕ) (made made' : List ℕ) (s s' : SourceState) → i < length schedule → IsLeft made (take i schedule)
+      → IsNoted (get_or schedule i 0) made made' s s' → IsLeft made' (take (i + 1) schedule)
+  noted_left schedule i made made' s s' inside left noted = left_on i made made' schedule inside left (⊎_elim inl (λ (same, idle). inr same) noted)
 
   module _ (lines : List Formula) (schedule : List ℕ) where
     -- no fault after so many steps, nor before
@@ -72,11 +55,11 @@ module _ (a : WholeProgram ℕ) where
         (most_or_more k i)
 
     -- a fault of what was noted
-    pub fault_noted : (i : ℕ) (made : List ℕ) (s : SourceState) → All (λ p. p < a.processes) schedule → IsReplayed schedule i made s
-        → is_fault lines s ≡ true → IsFaultOf a lines schedule made
-    fault_noted i made s lawful is fault =
-        let of_all = left_first i made schedule is.left in
+    pub fault_noted : (i : ℕ) (made : List ℕ) (s : SourceState) → All (λ p. p < a.processes) schedule → IsLeft made (take i schedule)
+        → s ≡ source a made → is_fault lines s ≡ true → IsFaultOf a lines schedule made
+    fault_noted i made s lawful left is fault =
+        let of_all = left_first i made schedule left in
         record {
-          fault = record { lawful = left_lawful (λ p. p < a.processes) made schedule of_all lawful; fault = ap (is_fault lines) (sym is.led) ∙ fault };
+          fault = record { lawful = left_lawful (λ p. p < a.processes) made schedule of_all lawful; fault = ap (is_fault lines) (sym is) ∙ fault };
           left = of_all;
         }

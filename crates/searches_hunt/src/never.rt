@@ -17,7 +17,6 @@ use crate::tried::Tried;
 use crate::trying::steps_to_fault;
 use base::NoMemory;
 use language_properties::Property;
-use searches_explore::first_broken;
 use std::alloc::Global;
 use tick_kinds::Program;
 
@@ -40,11 +39,17 @@ fn shrunk(
 }
 
 // The program after this schedule.
-fn led_to<'a>(alloc: Global, program: &'a Program, schedule: &[u8]) -> Result<Tried<'a>, NoMemory>
+fn led_to<'a>(
+    alloc: Global,
+    program: &'a Program,
+    lines: &'a [Property],
+    schedule: &[u8],
+) -> Result<Tried<'a>, NoMemory>
     requires { All (λ p. p < (resolved program.now).processes) schedule.now }
-    ensures { IfOk result (λ t. t.machine ≡ source (resolved program.now) schedule.now) }
+    ensures led { IfOk result (λ t. t.machine ≡ source (resolved program.now) schedule.now) }
+    ensures lines { IfOk result (λ t. t.lines.now ≡ lines.now) }
 {
-    let mut tried = Tried::new(alloc, program)?;
+    let mut tried = Tried::new(alloc, program, lines)?;
     for &p in schedule {
         tried.step(p)?;
     }
@@ -66,11 +71,11 @@ fn told(
     ensures trapped { IfOk result (λ h. IfTrapped h (IsMinimalTrapped (resolved program.now) (lines_of lines.now))) }
     ensures broken { IfOk result (λ h. IfBroken h (IsMinimalBroken (resolved program.now) (lines_of lines.now))) }
 {
-    let tried = led_to(alloc, program, &schedule)?;
+    let tried = led_to(alloc, program, lines, &schedule)?;
     if tried.has_trapped() {
         return Ok(NeverHunted::Trapped { run, schedule });
     }
-    match first_broken(&tried, lines) {
+    match tried.first_broken() {
         Some((line, value)) => Ok(NeverHunted::Broken {
             run,
             schedule,

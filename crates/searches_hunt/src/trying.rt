@@ -30,15 +30,15 @@ pub fn steps_to_fault(
         (FaultsWithin (resolved program.now) (lines_of lines.now) plan run)) }
 {
     let n = program.processes();
-    let mut tried = Tried::new(alloc, program)?;
-    if tried.is_fault(lines, Status::Running) {
+    let mut tried = Tried::new(alloc, program, lines)?;
+    if tried.is_fault(Status::Running) {
         return Ok(Some(0));
     }
     let mut drawing = Drawing::new(plan.seed, run);
     for made in 0..plan.steps {
         let p = drawing.step(plan.mode, n);
         let status = tried.step(p)?;
-        if tried.is_fault(lines, status) {
+        if tried.is_fault(status) {
             return Ok(Some(made + 1));
         }
         if let Status::Ended = status {
@@ -52,25 +52,21 @@ pub fn steps_to_fault(
 
 // Makes a step of process `p` and notes it, but not where the process has stopped: then it does nothing. Answers
 // whether there is a fault now.
-fn advance(
-    tried: &mut Tried<'_>,
-    lines: &[Property],
-    made: &mut Vec<u8>,
-    p: u8,
-) -> Result<bool, NoMemory>
+fn advance(tried: &mut Tried<'_>, made: &mut Vec<u8>, p: u8) -> Result<bool, NoMemory>
     requires process { p < tried.old.processes }
-    requires none { is_fault (lines_of lines.now) tried.old.machine ≡ false }
+    requires none { is_fault (lines_of tried.old.lines.now) tried.old.machine ≡ false }
     ensures next { IfOk result (λ b. tried.new.machine ≡ source_step tried.old.processes p tried.old.machine) }
     ensures noted { IfOk result (λ b. (made.new.items ≡ made.old.items ++ p ∷ [])
         ⊎ ((made.new.items ≡ made.old.items) × (tried.new.machine ≡ tried.old.machine))) }
-    ensures fault { IfOk result (λ b. b ≡ is_fault (lines_of lines.now) tried.new.machine) }
+    ensures fault { IfOk result (λ b. b ≡ is_fault (lines_of tried.old.lines.now) tried.new.machine) }
+    ensures lines { tried.new.lines ≡ tried.old.lines }
     ensures processes { tried.new.processes ≡ tried.old.processes }
 {
     match tried.status(p) {
         Status::Running => {
             let status = tried.step(p)?;
             made.push(p)?;
-            Ok(tried.is_fault(lines, status))
+            Ok(tried.is_fault(status))
         }
         _ => Ok(false),
     }
@@ -88,13 +84,13 @@ pub fn to_fault(
         (IsFaultless (resolved program.now) (lines_of lines.now) schedule.now)
         (λ made. IsFaultOf (resolved program.now) (lines_of lines.now) schedule.now made.items)) }
 {
-    let mut tried = Tried::new(alloc, program)?;
+    let mut tried = Tried::new(alloc, program, lines)?;
     let mut made = Vec::with_capacity(alloc, schedule.len())?;
-    if tried.is_fault(lines, Status::Running) {
+    if tried.is_fault(Status::Running) {
         return Ok(Some(made));
     }
     for &p in schedule {
-        if advance(&mut tried, lines, &mut made, p)? {
+        if advance(&mut tried, &mut made, p)? {
             return Ok(Some(made));
         }
     }

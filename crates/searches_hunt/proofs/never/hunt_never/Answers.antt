@@ -1,15 +1,15 @@
-use Rattle.std.proofs.Common.{◌≤◌, length, arith}
+use Rattle.std.proofs.Common.{◌≡◌, ◌≤◌, length, arith}
 use Rattle.std.proofs.lemmas.Option.{MatchOption-at_some}
 use Rattle.std.proofs.lemmas.Result.{IfOk-weaker}
 use Rattle.tick_kinds.specs.Resolution.{resolved}
 use Rattle.searches_explore.specs.Lines.{lines_of}
 use Rattle.searches_hunt.specs.Draws.{start_drawing, random_schedule}
 use Rattle.searches_hunt.specs.Hunts.{IsPartOf}
-use Rattle.searches_hunt.specs.Never.{IfNothing, IsFaultless, IsFirstFault, NoRunFaults}
+use Rattle.searches_hunt.specs.Never.{IfFault, IfNothing, IsFaultless, IsFirstFault, NoRunFaults}
 use Rattle.searches_hunt.specs.prover.Tries.{FaultsWithin}
 use Rattle.searches_hunt.proofs.Left.{part_short}
 use Rattle.searches_hunt.proofs.Drawings.{drawn_length, fault_whole}
-use Rattle.searches_hunt.proofs.Told.{never_nothing, told_turn}
+use Rattle.searches_hunt.proofs.Told.{fault_turn, never_nothing}
 use Rattle.searches_hunt.proofs.never.hunt_never.Goals as goal
 
 pub loop-run-init : goal.loop-run-init
@@ -33,7 +33,8 @@ returns-in-Some-clause-first c =
       found = fault_whole a plan run lines c.in-Some.steps tried;
       earlier = c.loop-run.invariant;
     } in
-    told_turn c.told.result run schedule (λ r s. IsFirstFault a lines plan c.args.from r) is c.told.ensures.fault
+    IfOk-weaker c.told.result (λ h. IfFault h (λ r s. (r ≡ run) × (s ≡ schedule))) (λ h. IfFault h (λ r s. IsFirstFault a lines plan c.args.from r))
+    (fault_turn run schedule (λ r s. IsFirstFault a lines plan c.args.from r) is) c.told.ensures.fault
 
 pub returns-in-Some-clause-part : goal.returns-in-Some-clause-part
 returns-in-Some-clause-part c =
@@ -41,7 +42,8 @@ returns-in-Some-clause-part c =
     let plan = c.args.plan in
     let run = c.loop-run.run in
     let schedule = c.in_ok-schedule.schedule.items in
-    told_turn c.told.result run schedule (λ r s. IsPartOf s (random_schedule plan a.processes r)) c.in_ok-schedule.ensures.part c.told.ensures.fault
+    IfOk-weaker c.told.result (λ h. IfFault h (λ r s. (r ≡ run) × (s ≡ schedule))) (λ h. IfFault h (λ r s. IsPartOf s (random_schedule plan a.processes r)))
+    (fault_turn run schedule (λ r s. IsPartOf s (random_schedule plan a.processes r)) c.in_ok-schedule.ensures.part) c.told.ensures.fault
 
 pub returns-in-Some-clause-short : goal.returns-in-Some-clause-short
 returns-in-Some-clause-short c =
@@ -52,7 +54,8 @@ returns-in-Some-clause-short c =
     let whole = random_schedule plan a.processes run in
     let short : length schedule ≤ plan.steps =
     omega (arith, part_short schedule whole c.in_ok-schedule.ensures.part, drawn_length plan.mode a.processes plan.steps (start_drawing plan.seed run)) in
-    told_turn c.told.result run schedule (λ r s. length s ≤ plan.steps) short c.told.ensures.fault
+    IfOk-weaker c.told.result (λ h. IfFault h (λ r s. (r ≡ run) × (s ≡ schedule))) (λ h. IfFault h (λ r s. length s ≤ plan.steps))
+    (fault_turn run schedule (λ r s. length s ≤ plan.steps) short) c.told.ensures.fault
 
 pub returns-in-Some-clause-nothing : goal.returns-in-Some-clause-nothing
 returns-in-Some-clause-nothing c =

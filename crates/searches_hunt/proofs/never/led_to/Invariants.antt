@@ -7,5 +7,6 @@ use Rattle.searches_hunt.proofs.never.led_to.Given as goal
 abbrev pub invariant-loop-p : goal.invariant-loop-p
 invariant-loop-p l = record {
   led : l.tried.machine ≡ source (resolved l.program) (take l.p-index l.schedule);
+  lines : l.tried.lines.now ≡ l.lines;
   processes : l.tried.processes ≡ (resolved l.program).processes;
 }

@@ -8,7 +8,7 @@ use Rattle.searches_hunt.proofs.never.told.Goals as goal
 pub returns-then-has_trapped : goal.returns-then-has_trapped
 returns-then-has_trapped c =
     let a = resolved c.args.program.now in
-    let led = c.in_ok-tried.ensures ∙ ap (source a) c.deref.ensures.value in
+    let led = c.in_ok-tried.ensures.led ∙ ap (source a) c.deref.ensures.value in
     record {
       fault = (refl, refl);
       found = tt;
@@ -23,7 +23,8 @@ returns-then-has_trapped c =
 pub returns-in-Some : goal.returns-in-Some
 returns-in-Some c =
     let a = resolved c.args.program.now in
-    let led = c.in_ok-tried.ensures ∙ ap (source a) c.deref.ensures.value in
+    let schedule = c.args.schedule.items in
+    let led = c.in_ok-tried.ensures.led ∙ ap (source a) c.deref.ensures.value in
     record {
       fault = (refl, refl);
       found = tt;
@@ -32,7 +33,8 @@ returns-in-Some c =
         broken = record {
           lawful = c.requires.fault.lawful;
           untrapped = ap has_trapped (sym led) ∙ sym c.has_trapped.ensures ∙ c.if-has_trapped.false;
-          first = subst (λ s. IsFirstBroken (lines_of c.args.lines.now) s c.in-Some.line c.in-Some.value) led c.in-Some.ensures.broken;
+          first = subst (λ ls. IsFirstBroken (lines_of ls) (source a schedule) c.in-Some.line c.in-Some.value) c.in_ok-tried.ensures.lines
+              (subst (λ s. IsFirstBroken (lines_of c.in_ok-tried.tried.lines.now) s c.in-Some.line c.in-Some.value) led c.in-Some.ensures.broken);
         };
         needed = c.requires.needed;
       };

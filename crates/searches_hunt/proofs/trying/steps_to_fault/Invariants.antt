@@ -7,4 +7,5 @@ use Rattle.searches_hunt.proofs.trying.steps_to_fault.Given as goal
 abbrev pub invariant-loop-made : goal.invariant-loop-made
 invariant-loop-made l =
     IsAfter (resolved l.program) (lines_of l.lines) l.plan l.run l.made l.tried.machine l.drawing
-    × (l.tried.processes ≡ l.n)
+    × (l.tried.lines.now ≡ l.lines)
+    × (l.tried.processes ≡ (resolved l.program).processes)

@@ -1,0 +1,23 @@
+use Rattle.std.proofs.Common.{sym, subst}
+use Rattle.tick_kinds.specs.Resolution.{resolved}
+use Rattle.searches_explore.specs.Lines.{lines_of}
+use Rattle.searches_hunt.specs.prover.Parts.{IsFaultOf}
+use Rattle.searches_hunt.proofs.Left.{fault_all, fault_seen, some_at}
+use Rattle.searches_hunt.proofs.shrinking.without_steps_of.Goals as goal
+use Rattle.searches_hunt.proofs.shrinking.without_steps_of.Goals.{in-Some, in-None}
+
+pub pieces-init : goal.pieces-init
+pieces-init c = fault_all (resolved c.args.program.now) (lines_of c.args.lines.now) c.args.schedule.items c.requires
+
+pub pieces-preserved : goal.pieces-preserved
+pieces-preserved c =
+    let a = resolved c.args.program.now in
+    let lines = lines_of c.args.lines.now in
+    let whole = c.args.schedule.items in
+    let seen = c.deref-in-pieces-2.result.now in
+    elim c.match-branch-3.branch [
+      | in-Some w ↦ subst (λ v. IsFaultOf a lines whole v.items) (sym w.kept-is)
+          (fault_seen a lines whole c.pieces.kept.items seen w.in-Some.left.items c.pieces.invariant c.deref-in-pieces-2.ensures.value
+          (some_at (λ made. IsFaultOf a lines seen made.items) c.in_ok-left.field-0 w.in-Some.left w.in-Some.is c.in_ok-left.ensures.fault))
+      | in-None w ↦ subst (λ v. IsFaultOf a lines whole v.items) (sym w.kept-is) c.pieces.invariant
+    ]

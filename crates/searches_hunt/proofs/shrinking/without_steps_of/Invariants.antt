@@ -1,0 +1,11 @@
+use Rattle.std.proofs.Common.{◌-◌, length}
+use Rattle.tick_kinds.specs.Resolution.{resolved}
+use Rattle.searches_explore.specs.Lines.{lines_of}
+use Rattle.searches_hunt.specs.prover.Parts.{IsFaultOf}
+use Rattle.searches_hunt.proofs.shrinking.without_steps_of.Given as goal
+
+abbrev pub invariant-pieces : goal.invariant-pieces
+invariant-pieces l = IsFaultOf (resolved l.program) (lines_of l.lines) l.fn.schedule.items l.kept.items
+
+abbrev pub decreases-pieces : goal.decreases-pieces
+decreases-pieces l = length l.kept.items - l.at
