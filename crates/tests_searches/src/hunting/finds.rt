@@ -1,7 +1,9 @@
 //! Faults that are found, each by a schedule that needs all its steps.
 
-use crate::examples;
-use crate::hunting::programs::{ALONE, SERVICE_WITH_FAULT, SIX};
+use crate::hunting::programs::{
+    ALONE, BAKERY_WITH_FAULT, DECISION_WITH_FAULT, MULTI_WRITER_REGISTER_WITH_FAULT,
+    QUEUE_WITH_FAULT, SERVICE_WITH_FAULT, SIX,
+};
 use crate::hunting::replay::{needs_all, traps};
 use searches_hunt::{Hunted, Mode, Plan, hunt};
 use std::alloc::Global;
@@ -30,9 +32,9 @@ fn is_found(alloc: Global, text: &str, mode: Mode) -> Result<(), Fail> {
 
 fn each_fault(alloc: Global, mode: Mode) -> Result<(), Fail> {
     for text in [
-        examples::QUEUE_WITH_FAULT,
-        examples::BAKERY_WITH_FAULT,
-        examples::DECISION_WITH_FAULT,
+        QUEUE_WITH_FAULT,
+        BAKERY_WITH_FAULT,
+        DECISION_WITH_FAULT,
         SERVICE_WITH_FAULT,
         ALONE,
         SIX,
@@ -45,11 +47,7 @@ fn each_fault(alloc: Global, mode: Mode) -> Result<(), Fail> {
 #[test]
 fn faults_by_bursts(rt: HostRuntime) -> Result<(), Fail> {
     each_fault(rt.alloc(), Mode::Bursts)?;
-    is_found(
-        rt.alloc(),
-        examples::MULTI_WRITER_REGISTER_WITH_FAULT,
-        Mode::Bursts,
-    )
+    is_found(rt.alloc(), MULTI_WRITER_REGISTER_WITH_FAULT, Mode::Bursts)
 }
 
 #[test]

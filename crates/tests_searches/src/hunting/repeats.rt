@@ -1,7 +1,6 @@
 //! The same plan has the same answer, and another seed or mode tries other schedules.
 
-use crate::examples::QUEUE_WITH_FAULT;
-use crate::hunting::programs::SERVICE_WITH_FAULT;
+use crate::hunting::programs::{QUEUE_WITH_FAULT, SERVICE_WITH_FAULT};
 use searches_hunt::{Hunted, Mode, Plan, hunt};
 use std::test::Fail;
 use tests_shared::{accepted, holds, is_same};
