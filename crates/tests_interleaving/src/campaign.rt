@@ -1,7 +1,7 @@
 //! Programs on threads with random delays: each outcome is one of those that the machine finds.
 
 use crate::every::{every_outcome, is_among};
-use crate::programs::{PROGRAMS, Small, code_of};
+use crate::programs::{Small, Tried, code_of, try_each};
 use crate::random::Random;
 use code_machine::{Ask, Code};
 use std::alloc::{AllocError, Global};
@@ -84,37 +84,19 @@ fn run_delayed<R: AllocGlobal + Threads + Wait>(
     Ok(run(rt, rt.alloc(), code, gates, small.1, small.2)?)
 }
 
-fn are_among<R: AllocGlobal + Threads + Wait>(
-    rt: &R,
-    code: &Code,
-    small: &Small,
-    seed: u64,
-    all: &[RunOutcome],
-) -> Result<(), Fail> {
-    for number in 0..RUNS {
-        let outcome = run_delayed(rt, code, small, seed.wrapping_add(number))?;
-        holds(is_among(&outcome, all), small.0)?;
-    }
-    Ok(())
-}
-
-fn comes_to_one_of_all<R: AllocGlobal + Threads + Wait>(
-    rt: &R,
-    small: &Small,
-    seed: u64,
-) -> Result<(), Fail> {
+fn comes_to_one_of_all<R: AllocGlobal + Threads + Wait>(rt: &R, tried: Tried) -> Result<(), Fail> {
+    let small = tried.small();
     let code = code_of(rt.alloc(), small)?;
     let all = every_outcome(rt.alloc(), &code, small)?;
     is_same(&all.len(), &small.3)?;
-    are_among(rt, &code, small, seed, &all)
+    for seed in tried.seeds {
+        let outcome = run_delayed(rt, &code, small, seed)?;
+        holds(is_among(&outcome, &all), (small.0, seed))?;
+    }
+    Ok(())
 }
 
 #[test]
 fn each_outcome_is_one_of_all(rt: HostRuntime) -> Result<(), Fail> {
-    let mut seed = SEED;
-    for small in &PROGRAMS {
-        comes_to_one_of_all(&rt, small, seed)?;
-        seed = seed.wrapping_add(RUNS);
-    }
-    Ok(())
+    try_each(SEED, RUNS, |tried| comes_to_one_of_all(&rt, tried))
 }

@@ -3,8 +3,7 @@
 
 use crate::in_order::run_in_order;
 use crate::orders::any_order;
-use crate::programs::{PROGRAMS, Small, code_of};
-use code_machine::Code;
+use crate::programs::{Tried, code_of, try_each};
 use std::sync::Wait;
 use std::test::Fail;
 use std::thread::Threads;
@@ -14,26 +13,18 @@ const SEED: u64 = 20_260_801;
 
 const ORDERS: u64 = 100;
 
-fn keeps_orders<R: AllocGlobal + Threads + Wait>(
-    rt: &R,
-    code: &Code,
-    small: &Small,
-    seed: u64,
-) -> Result<(), Fail> {
-    for number in 0..ORDERS {
-        let ordered = any_order(rt.alloc(), code, small, seed.wrapping_add(number))?;
-        let (found, _history) = run_in_order(rt, code, small, &ordered.order)?;
-        is_same(&found, &ordered.outcome)?;
+fn keeps_orders<R: AllocGlobal + Threads + Wait>(rt: &R, tried: Tried) -> Result<(), Fail> {
+    let small = tried.small();
+    let code = code_of(rt.alloc(), small)?;
+    for seed in tried.seeds {
+        let ordered = any_order(rt.alloc(), &code, small, seed)?;
+        let (found, _history) = run_in_order(rt, &code, small, &ordered.order)?;
+        is_same(&(small.0, seed, &found), &(small.0, seed, &ordered.outcome))?;
     }
     Ok(())
 }
 
 #[test]
 fn each_order_has_its_outcome(rt: HostRuntime) -> Result<(), Fail> {
-    let mut seed = SEED;
-    for small in &PROGRAMS {
-        keeps_orders(&rt, &code_of(rt.alloc(), small)?, small, seed)?;
-        seed = seed.wrapping_add(ORDERS);
-    }
-    Ok(())
+    try_each(SEED, ORDERS, |tried| keeps_orders(&rt, tried))
 }

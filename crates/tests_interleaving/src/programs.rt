@@ -1,5 +1,6 @@
 use code_machine::Code;
 use std::alloc::Global;
+use std::ops::Range;
 use std::test::Fail;
 use tests_shared::Checked;
 use tick_lower::lower;
@@ -12,6 +13,36 @@ pub type Small = (&'static str, u64, u32, usize);
 /// The code of the program.
 pub fn code_of(alloc: Global, small: &Small) -> Result<Code, Fail> {
     Ok(lower(alloc, &Checked::new(alloc, small.0)?.program)?)
+}
+
+/// A place of `PROGRAMS`, and the seeds that the program there is tried with.
+#[derive(Drop)]
+pub struct Tried {
+    place: usize,
+    pub seeds: Range<u64>,
+}
+
+impl Tried {
+    pub fn small(&self) -> &'static Small {
+        &PROGRAMS[self.place % PROGRAMS.len()]
+    }
+}
+
+/// Tries each program with so many seeds of its own. The first seed of all is given.
+pub fn try_each<F: Fn(Tried) -> Result<(), Fail>>(
+    first: u64,
+    count: u64,
+    tries: F,
+) -> Result<(), Fail>
+    requires { F.IsAlwaysCallable tries }
+{
+    let mut start = first;
+    for place in 0..PROGRAMS.len() {
+        let seeds = start..start.wrapping_add(count);
+        tries(Tried { place, seeds })?;
+        start = start.wrapping_add(count);
+    }
+    Ok(())
 }
 
 pub static PROGRAMS: [Small; 15] = [

@@ -9,7 +9,7 @@ ghost use Rattle.tick_lower.specs.Lowered.{lowered, lowered_sizes};
 use crate::in_order::run_in_order;
 use crate::orders::any_order;
 use crate::played::Played;
-use crate::programs::{PROGRAMS, Small};
+use crate::programs::{Small, Tried, try_each};
 use code_machine::Code;
 use std::alloc::Global;
 use std::sync::Wait;
@@ -75,26 +75,17 @@ fn is_one_run<R: AllocGlobal + Threads + Wait>(
     has_report(alloc, program, code, &steps)
 }
 
-fn are_runs<R: AllocGlobal + Threads + Wait>(
-    rt: &R,
-    program: &Program,
-    small: &Small,
-    seed: u64,
-) -> Result<(), Fail> {
-    let code = lower(rt.alloc(), program)?;
-    for number in 0..ORDERS {
-        is_one_run(rt, program, &code, small, seed.wrapping_add(number))?;
+fn are_runs<R: AllocGlobal + Threads + Wait>(rt: &R, tried: Tried) -> Result<(), Fail> {
+    let small = tried.small();
+    let checked = Checked::new(rt.alloc(), small.0)?;
+    let code = lower(rt.alloc(), &checked.program)?;
+    for seed in tried.seeds {
+        is_one_run(rt, &checked.program, &code, small, seed)?;
     }
     Ok(())
 }
 
 #[test]
 fn each_recorded_run_is_one_of_code_and_program(rt: HostRuntime) -> Result<(), Fail> {
-    let mut seed = SEED;
-    for small in &PROGRAMS {
-        let checked = Checked::new(rt.alloc(), small.0)?;
-        are_runs(&rt, &checked.program, small, seed)?;
-        seed = seed.wrapping_add(ORDERS);
-    }
-    Ok(())
+    try_each(SEED, ORDERS, |tried| are_runs(&rt, tried))
 }

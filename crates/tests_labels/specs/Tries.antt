@@ -4,7 +4,7 @@ use Rattle.word_core.specs.History.{Memory, memory_of, IsLegal}
 use Rattle.word_core.specs.declared.history.Shared.{Shared}
 use Rattle.word_core.specs.declared.history.SharedAct.{SharedAct}
 use Rattle.word_core.specs.declared.history.SharedAct.TheVariants.{Load, Won, Lost, Read, Write, Clear}
-use Rattle.stamp_table.specs.Passes.{PassView, Holds, mine}
+use Rattle.stamp_table.specs.Passes.{TableView, PassView, Holds, mine}
 
 -- how many of the steps are exchanges that won
 abbrev pub wins_by : SharedAct → ℕ → ℕ
@@ -18,6 +18,14 @@ wins_by (Clear old) more = more
 abbrev pub wins : List Shared → ℕ
 wins [] = 0
 wins (s ∷ steps) = wins_by s.act (wins steps)
+
+-- a pass of the table that holds the process
+abbrev pub IsOf : TableView → ℕ → PassView → Type 0
+IsOf t p pass = (pass.table ≡ t) × Holds pass.held p
+
+-- steps that were made with a pass leave it of the same table, with the same processes
+abbrev pub Stays : PassView → PassView → Type 0
+Stays old new = (new.table ≡ old.table) × (new.held ≡ old.held)
 
 -- a pass holds the process, and has seen this many of its exchanges win
 pub record Ran (pass : PassView) (p won : ℕ) : Type 0 where

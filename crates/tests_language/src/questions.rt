@@ -113,10 +113,13 @@ fn quantifier_text(quantifier: Quantifier) -> &'static str {
     }
 }
 
-fn junction_text(junction: Junction) -> &'static str {
-    match junction {
-        Junction::And => " and ",
-        Junction::Or => " or ",
+// What stands between the two parts of a property.
+fn sign_of(property: &Property) -> &'static str {
+    match property {
+        Property::Binary(_, op, _) => op.text(),
+        Property::Joined(_, Junction::And, _) => "and",
+        Property::Joined(_, Junction::Or, _) => "or",
+        _ => "",
     }
 }
 
@@ -154,19 +157,12 @@ fn push(text: &mut String, property: &Property) -> Result<(), AllocError> {
             push(text, second)?;
             text.push_str("]")
         }
-        Property::Binary(left, op, right) => {
+        Property::Binary(left, _, right) | Property::Joined(left, _, right) => {
             text.push_str("(")?;
             push(text, left)?;
             text.push_str(" ")?;
-            text.push_str(op.text())?;
+            text.push_str(sign_of(property))?;
             text.push_str(" ")?;
-            push(text, right)?;
-            text.push_str(")")
-        }
-        Property::Joined(left, by, right) => {
-            text.push_str("(")?;
-            push(text, left)?;
-            text.push_str(junction_text(*by))?;
             push(text, right)?;
             text.push_str(")")
         }
@@ -185,27 +181,45 @@ fn push(text: &mut String, property: &Property) -> Result<(), AllocError> {
     }
 }
 
-// The tree of a question, or its fault.
-fn answer(alloc: Global, asked: Result<Property, QuestionFault>) -> Result<String, Fail> {
-    match asked {
-        Ok(property) => {
+// What was read, as a text that is pushed so, or its fault.
+fn told<T: Drop, F: Fn(&mut String, &T) -> Result<(), AllocError>>(
+    alloc: Global,
+    read: Result<T, QuestionFault>,
+    push: F,
+) -> Result<String, Fail>
+    requires { F.IsAlwaysCallable push }
+{
+    match read {
+        Ok(read) => {
             let mut text = String::new(alloc);
-            push(&mut text, &property)?;
+            push(&mut text, &read)?;
             Ok(text)
         }
         Err(fault) => Ok(format!(in alloc; "{fault}")?),
     }
 }
 
-fn has(alloc: Global, program: &Program, text: &str, wanted: &str) -> Result<(), Fail> {
-    let found = answer(alloc, never_of(alloc, program, text))?;
-    is_same(&(text, found.as_str()), &(text, wanted))
+// What a text is read as.
+#[derive(Clone, Copy)]
+enum Read {
+    Question,
+    File,
 }
 
-fn have(alloc: Global, rows: &[(&str, &str)]) -> Result<(), Fail> {
+// The tree of a question, or all that a file asks; or the fault.
+fn answer(alloc: Global, program: &Program, read: Read, text: &str) -> Result<String, Fail> {
+    match read {
+        Read::Question => told(alloc, never_of(alloc, program, text), push),
+        Read::File => told(alloc, questions_of(alloc, program, text), push_all),
+    }
+}
+
+// Each text, read so, has its answer.
+fn have(alloc: Global, read: Read, rows: &[(&str, &str)]) -> Result<(), Fail> {
     let checked = Checked::new(alloc, PROGRAM)?;
     for &(text, wanted) in rows {
-        has(alloc, &checked.program, text, wanted)?;
+        let found = answer(alloc, &checked.program, read, text)?;
+        is_same(&(text, found.as_str()), &(text, wanted))?;
     }
     Ok(())
 }
@@ -217,36 +231,33 @@ fn in_brackets(alloc: Global, count: usize) -> Result<String, AllocError> {
 }
 
 #[test]
-fn reads_questions(rt: HostRuntime) -> Result<(), Fail> {
-    have(rt.alloc(), &TREES)
-}
-
-#[test]
-fn tells_the_first_fault(rt: HostRuntime) -> Result<(), Fail> {
-    have(rt.alloc(), &FAULTS)
-}
-
-#[test]
 fn levels_are_counted(rt: HostRuntime) -> Result<(), Fail> {
     let alloc = rt.alloc();
-    let checked = Checked::new(alloc, PROGRAM)?;
     let most = in_brackets(alloc, 64)?;
-    has(alloc, &checked.program, most.as_str(), "7")?;
     let deeper = in_brackets(alloc, 65)?;
-    let fault = "the question is nested too deeply at bytes 64..65";
-    has(alloc, &checked.program, deeper.as_str(), fault)
+    let rows = [
+        (most.as_str(), "7"),
+        (
+            deeper.as_str(),
+            "the question is nested too deeply at bytes 64..65",
+        ),
+    ];
+    have(alloc, Read::Question, &rows)
 }
 
 #[test]
 fn links_are_counted(rt: HostRuntime) -> Result<(), Fail> {
     let alloc = rt.alloc();
-    let checked = Checked::new(alloc, PROGRAM)?;
     let most = repeated(alloc, "1", " or 0", 64, "+")?;
-    let fault = "no question goes on with bytes 321..322";
-    has(alloc, &checked.program, most.as_str(), fault)?;
     let longer = repeated(alloc, "1", " or 0", 65, "")?;
-    let fault = "the question is nested too deeply at bytes 322..324";
-    has(alloc, &checked.program, longer.as_str(), fault)
+    let rows = [
+        (most.as_str(), "no question goes on with bytes 321..322"),
+        (
+            longer.as_str(),
+            "the question is nested too deeply at bytes 322..324",
+        ),
+    ];
+    have(alloc, Read::Question, &rows)
 }
 
 // So many links, and then a number in so many brackets.
@@ -259,13 +270,13 @@ fn linked(alloc: Global, links: usize, brackets: usize) -> Result<String, AllocE
 #[test]
 fn links_are_levels(rt: HostRuntime) -> Result<(), Fail> {
     let alloc = rt.alloc();
-    let checked = Checked::new(alloc, PROGRAM)?;
     let most = linked(alloc, 32, 32)?;
+    let checked = Checked::new(alloc, PROGRAM)?;
     let read = never_of(alloc, &checked.program, most.as_str());
     holds(read.is_ok(), "32 links and 32 brackets")?;
     let deeper = linked(alloc, 32, 33)?;
     let fault = "the question is nested too deeply at bytes 192..193";
-    has(alloc, &checked.program, deeper.as_str(), fault)
+    have(alloc, Read::Question, &[(deeper.as_str(), fault)])
 }
 
 // At most 8 quantifiers stand within one another.
@@ -279,11 +290,6 @@ static QUANTIFIERS: [(&str, &str); 2] = [
         "the question is nested too deeply at bytes 56..59",
     ),
 ];
-
-#[test]
-fn quantifiers_are_counted(rt: HostRuntime) -> Result<(), Fail> {
-    have(rt.alloc(), &QUANTIFIERS)
-}
 
 // Files, and what their lines ask: properties with the spans of their texts, and who has to end.
 static FILES: [(&str, &str); 9] = [
@@ -381,35 +387,20 @@ fn push_all(text: &mut String, questions: &Questions) -> Result<(), AllocError> 
     push_ends(text, questions.ends)
 }
 
-// What a file asks, or its fault.
-fn asked(alloc: Global, questions: Result<Questions, QuestionFault>) -> Result<String, Fail> {
-    match questions {
-        Ok(questions) => {
-            let mut text = String::new(alloc);
-            push_all(&mut text, &questions)?;
-            Ok(text)
-        }
-        Err(fault) => Ok(format!(in alloc; "{fault}")?),
-    }
-}
-
-fn ask(alloc: Global, files: &[(&str, &str)]) -> Result<(), Fail> {
-    let checked = Checked::new(alloc, PROGRAM)?;
-    for &(text, wanted) in files {
-        let found = asked(alloc, questions_of(alloc, &checked.program, text))?;
-        is_same(&(text, found.as_str()), &(text, wanted))?;
+#[test]
+fn reads_questions(rt: HostRuntime) -> Result<(), Fail> {
+    for rows in [&TREES[..], &FAULTS, &QUANTIFIERS] {
+        have(rt.alloc(), Read::Question, rows)?;
     }
     Ok(())
 }
 
 #[test]
-fn reads_lines(rt: HostRuntime) -> Result<(), Fail> {
-    ask(rt.alloc(), &FILES)
-}
-
-#[test]
-fn tells_the_first_fault_of_a_file(rt: HostRuntime) -> Result<(), Fail> {
-    ask(rt.alloc(), &FILE_FAULTS)
+fn reads_files(rt: HostRuntime) -> Result<(), Fail> {
+    for rows in [&FILES[..], &FILE_FAULTS] {
+        have(rt.alloc(), Read::File, rows)?;
+    }
+    Ok(())
 }
 
 // 1,000,000 bytes, of which the last line asks something.
@@ -418,6 +409,6 @@ fn long_files_are_read(rt: HostRuntime) -> Result<(), Fail> {
     let alloc = rt.alloc();
     let checked = Checked::new(alloc, PROGRAM)?;
     let file = repeated(alloc, "", "# comment\n", 99_999, "#! never 1")?;
-    let found = asked(alloc, questions_of(alloc, &checked.program, file.as_str()))?;
+    let found = answer(alloc, &checked.program, Read::File, file.as_str())?;
     is_same(&found.as_str(), &"999999..1000000 1; -")
 }

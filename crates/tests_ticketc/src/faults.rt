@@ -19,15 +19,11 @@ use tick_syntax::TextFault;
 use ticketc_answers::EngineFault;
 use ticketc_io::EndFault;
 
-// That this is the text of the fault.
-fn tells<F: Display>(alloc: Global, fault: &F, text: &str) -> Result<(), Fail> {
-    let told = format!(in alloc; "{fault}")?;
-    holds(told.as_str() == text, text)
-}
-
-fn all_tell<F: Display>(alloc: Global, faults: &[(F, &str)]) -> Result<(), Fail> {
+// That these are the texts of faults of a kind.
+fn tell<F: Display>(alloc: Global, kind: &str, faults: &[(F, &str)]) -> Result<(), Fail> {
     for (fault, text) in faults {
-        tells(alloc, fault, text)?;
+        let told = format!(in alloc; "{fault}")?;
+        holds(told.as_str() == *text, (kind, *text))?;
     }
     Ok(())
 }
@@ -58,11 +54,6 @@ static TEXT_FAULTS: [(TextFault, &str); 7] = [
     ),
     (TextFault::NoMemory, "out of memory"),
 ];
-
-#[test]
-fn text_faults(rt: HostRuntime) -> Result<(), Fail> {
-    all_tell(rt.alloc(), &TEXT_FAULTS)
-}
 
 static KIND_FAULTS: [(KindFault, &str); 8] = [
     (
@@ -108,22 +99,12 @@ static KIND_FAULTS: [(KindFault, &str); 8] = [
     (KindFault::NoMemory, "out of memory"),
 ];
 
-#[test]
-fn kind_faults(rt: HostRuntime) -> Result<(), Fail> {
-    all_tell(rt.alloc(), &KIND_FAULTS)
-}
-
 static SCHEDULE_FAULTS: [(ScheduleFault, &str); 4] = [
     (ScheduleFault::BadItem(5), "bad item at 5"),
     (ScheduleFault::NoSuchProcess(6), "no such process at 6"),
     (ScheduleFault::TooLong, "too many steps"),
     (ScheduleFault::NoMemory, "out of memory"),
 ];
-
-#[test]
-fn schedule_faults(rt: HostRuntime) -> Result<(), Fail> {
-    all_tell(rt.alloc(), &SCHEDULE_FAULTS)
-}
 
 static CODE_FAULTS: [(CodeFault, &str); 10] = [
     (CodeFault::Empty, "the code is empty"),
@@ -150,16 +131,10 @@ static CODE_FAULTS: [(CodeFault, &str); 10] = [
     (CodeFault::NoMemory, "out of memory"),
 ];
 
-#[test]
-fn code_faults(rt: HostRuntime) -> Result<(), Fail> {
-    all_tell(rt.alloc(), &CODE_FAULTS)
-}
-
-#[test]
-fn lower_faults(rt: HostRuntime) -> Result<(), Fail> {
-    tells(rt.alloc(), &LowerFault::TooLong, "the code is too long")?;
-    tells(rt.alloc(), &LowerFault::NoMemory, "out of memory")
-}
+static LOWER_FAULTS: [(LowerFault, &str); 2] = [
+    (LowerFault::TooLong, "the code is too long"),
+    (LowerFault::NoMemory, "out of memory"),
+];
 
 static MERGE_FAULTS: [(MergeFault, &str); 3] = [
     (MergeFault::NotLegal(4), "step 4 can't come next"),
@@ -170,21 +145,11 @@ static MERGE_FAULTS: [(MergeFault, &str); 3] = [
     (MergeFault::NoMemory, "out of memory"),
 ];
 
-#[test]
-fn merge_faults(rt: HostRuntime) -> Result<(), Fail> {
-    all_tell(rt.alloc(), &MERGE_FAULTS)
-}
-
 static END_FAULTS: [(EndFault, &str); 3] = [
     (EndFault::Read, "reading failed"),
     (EndFault::Write, "writing failed"),
     (EndFault::Memory, "out of memory"),
 ];
-
-#[test]
-fn end_faults(rt: HostRuntime) -> Result<(), Fail> {
-    all_tell(rt.alloc(), &END_FAULTS)
-}
 
 static ENGINE_FAULTS: [(EngineFault, &str); 4] = [
     (EngineFault::Read, "reading failed"),
@@ -193,15 +158,25 @@ static ENGINE_FAULTS: [(EngineFault, &str); 4] = [
     (EngineFault::Thread, "no thread could be started"),
 ];
 
-#[test]
-fn engine_faults(rt: HostRuntime) -> Result<(), Fail> {
-    all_tell(rt.alloc(), &ENGINE_FAULTS)
-}
+static RUN_FAULTS: [(RunFault, &str); 2] = [
+    (RunFault::NoMemory, "out of memory"),
+    (RunFault::NoThread, "no thread"),
+];
+
+static OPEN_FAULTS: [(OpenFault, &str); 1] = [(OpenFault::NoMemory, "out of memory")];
 
 #[test]
-fn faults_of_memory_and_threads(rt: HostRuntime) -> Result<(), Fail> {
-    tells(rt.alloc(), &NoMemory, "out of memory")?;
-    tells(rt.alloc(), &OpenFault::NoMemory, "out of memory")?;
-    tells(rt.alloc(), &RunFault::NoMemory, "out of memory")?;
-    tells(rt.alloc(), &RunFault::NoThread, "no thread")
+fn each_fault(rt: HostRuntime) -> Result<(), Fail> {
+    let alloc = rt.alloc();
+    tell(alloc, "TextFault", &TEXT_FAULTS)?;
+    tell(alloc, "KindFault", &KIND_FAULTS)?;
+    tell(alloc, "ScheduleFault", &SCHEDULE_FAULTS)?;
+    tell(alloc, "CodeFault", &CODE_FAULTS)?;
+    tell(alloc, "LowerFault", &LOWER_FAULTS)?;
+    tell(alloc, "MergeFault", &MERGE_FAULTS)?;
+    tell(alloc, "EndFault", &END_FAULTS)?;
+    tell(alloc, "EngineFault", &ENGINE_FAULTS)?;
+    tell(alloc, "RunFault", &RUN_FAULTS)?;
+    tell(alloc, "OpenFault", &OPEN_FAULTS)?;
+    tell(alloc, "NoMemory", &[(NoMemory, "out of memory")])
 }

@@ -108,194 +108,121 @@ impl Progress for Nobody {
     fn end(&self) {}
 }
 
-// The words after the program's name, whether standard output fails, the status, what is written to both
-// outputs, and how often a file and standard input are read.
-type Row = (
-    &'static [&'static str],
-    bool,
-    u8,
-    &'static str,
-    &'static str,
-    u32,
-    u32,
-);
+type TestHost = Host<Shelf, Paper, Paper>;
 
-const OUT: &str = "   1  P0     1:20   out 7;                           | out 7\n";
-
-static ROWS: [Row; 16] = [
-    (
-        &["explore", "out"],
-        false,
-        0,
-        "no process traps under any schedule (3 states)\n",
-        "",
-        1,
-        0,
-    ),
-    (&["trace", "out", "0"], false, 0, OUT, "", 1, 0),
-    (&["trace", "out", "@once"], false, 0, OUT, "", 2, 0),
-    (
-        &["trace", "-", "@once"],
-        false,
-        0,
-        "   1  P0     1:20   out 8;                           | out 8\n",
-        "",
-        1,
-        1,
-    ),
-    (
-        &["explain", "out", "@twice"],
-        false,
-        0,
-        "out: nothing is wrong, nor with the schedule\n",
-        "",
-        2,
-        0,
-    ),
-    (
-        &["explore", "none"],
-        false,
-        1,
-        "",
-        "none:1:1: error: expected `processes`, found the name `x`\n  |\n1 | x\n  | ^\nhint: a program begins with `processes 2;`\nticketc: refused 5 Unexpected 0 1\n",
-        1,
-        0,
-    ),
-    (
-        &["nothing"],
-        false,
-        2,
-        "",
-        "error: unrecognized subcommand 'nothing'\n\nUsage: ticklab <COMMAND>\n\nFor more information, try '--help'.\n",
-        0,
-        0,
-    ),
-    (
-        &["explore", "away"],
-        false,
-        3,
-        "",
-        "ticklab: away: entity not found\n",
-        1,
-        0,
-    ),
-    (
-        &["explore", ""],
-        false,
-        3,
-        "",
-        "ticklab: : entity not found\n",
-        1,
-        0,
-    ),
-    (
-        &["trace", "out", "@away"],
-        false,
-        3,
-        "",
-        "ticklab: away: entity not found\n",
-        2,
-        0,
-    ),
-    (
-        &["trace", "out", "@bytes"],
-        false,
-        3,
-        "",
-        "ticklab: bytes: no UTF-8\n",
-        2,
-        0,
-    ),
-    (
-        &["trace", "out", "0"],
-        true,
-        3,
-        "",
-        "ticklab: broken pipe\n",
-        1,
-        0,
-    ),
-    (&["--help"], true, 3, "", "ticklab: broken pipe\n", 0, 0),
-    (
-        &["hunt", "out", "--threads", "1", "5"],
-        false,
-        4,
-        "",
-        "ticklab: no thread\n",
-        1,
-        0,
-    ),
-    (
-        &["explore", "trap"],
-        false,
-        5,
-        "a process traps under this schedule, and under no shorter one:\n0\n   1  P0     1:27   x = (1 / 0);                     | trap Zero\n",
-        "",
-        1,
-        0,
-    ),
-    (
-        &["explore", "out", "--limit", "1"],
-        false,
-        6,
-        "there are more than 1 state: nothing is said of all schedules\n",
-        "",
-        1,
-        0,
-    ),
-];
-
-fn line(alloc: Global, words: &[&str]) -> Result<Args, AllocError> {
-    let mut line = Vec::new(alloc);
-    line.push(String::from_str(alloc, "ticklab")?)?;
-    for word in words {
-        line.push(String::from_str(alloc, word)?)?;
-    }
-    Ok(line.into_iter())
-}
-
-fn ends_so(alloc: Global, row: &Row) -> Result<bool, AllocError> {
-    let (words, is_torn, status, out, err, files, inputs) = *row;
-    let given = line(alloc, words)?;
-    let mut host = Host {
+fn host(alloc: Global, is_torn: bool) -> TestHost {
+    Host {
         files: Shelf {
             files: 0,
             inputs: 0,
         },
         out: Paper::new(alloc, is_torn),
         err: Paper::new(alloc, false),
+    }
+}
+
+// What is written to standard output, or to standard error. Nothing is written to the other one.
+type Said<'a> = Result<&'a str, &'a str>;
+
+fn has_said(host: &TestHost, said: Said<'_>) -> bool {
+    let (out, err) = match said {
+        Ok(text) => (text, ""),
+        Err(text) => ("", text),
     };
+    host.out.bytes.as_slice() == out.as_bytes() && host.err.bytes.as_slice() == err.as_bytes()
+}
+
+// The words after the program's name with a blank between them, whether standard output fails, the status,
+// what is written, and how often a file and standard input are read.
+type Row<'a> = (&'a str, bool, u8, Said<'a>, (u32, u32));
+
+const NO_TRAP: &str = "no process traps under any schedule (3 states)\n";
+
+const OUT_7: &str = "   1  P0     1:20   out 7;                           | out 7\n";
+
+const OUT_8: &str = "   1  P0     1:20   out 8;                           | out 8\n";
+
+const NOTHING_WRONG: &str = "out: nothing is wrong, nor with the schedule\n";
+
+const NO_PROGRAM: &str =
+    "none:1:1: error: expected `processes`, found the name `x`\n  |\n1 | x\n  | ^\nhint: a program begins with `processes 2;`\nticketc: refused 5 Unexpected 0 1\n";
+
+const NO_COMMAND: &str =
+    "error: unrecognized subcommand 'nothing'\n\nUsage: ticklab <COMMAND>\n\nFor more information, try '--help'.\n";
+
+const NO_THREAD: &str = "ticklab: no thread\n";
+
+const TRAPS: &str =
+    "a process traps under this schedule, and under no shorter one:\n0\n   1  P0     1:27   x = (1 / 0);                     | trap Zero\n";
+
+const TOO_MANY: &str = "there are more than 1 state: nothing is said of all schedules\n";
+
+static ROWS: [Row<'static>; 10] = [
+    ("explore out", false, 0, Ok(NO_TRAP), (1, 0)),
+    ("trace out 0", false, 0, Ok(OUT_7), (1, 0)),
+    ("trace out @once", false, 0, Ok(OUT_7), (2, 0)),
+    ("trace - @once", false, 0, Ok(OUT_8), (1, 1)),
+    ("explain out @twice", false, 0, Ok(NOTHING_WRONG), (2, 0)),
+    ("explore none", false, 1, Err(NO_PROGRAM), (1, 0)),
+    ("nothing", false, 2, Err(NO_COMMAND), (0, 0)),
+    ("hunt out --threads 1 5", false, 4, Err(NO_THREAD), (1, 0)),
+    ("explore trap", false, 5, Ok(TRAPS), (1, 0)),
+    ("explore out --limit 1", false, 6, Ok(TOO_MANY), (1, 0)),
+];
+
+// Of rows that end with 3: the words, whether standard output fails, what is told behind the program's name,
+// and how often a file is read.
+static FAILING: [(&str, bool, &str, u32); 6] = [
+    ("explore away", false, "away: entity not found", 1),
+    // an empty word
+    ("explore ", false, ": entity not found", 1),
+    ("trace out @away", false, "away: entity not found", 2),
+    ("trace out @bytes", false, "bytes: no UTF-8", 2),
+    ("trace out 0", true, "broken pipe", 1),
+    ("--help", true, "broken pipe", 0),
+];
+
+fn line(alloc: Global, words: &str) -> Result<Args, AllocError> {
+    let mut line = Vec::new(alloc);
+    line.push(String::from_str(alloc, "ticklab")?)?;
+    for word in words.split(' ') {
+        line.push(String::from_str(alloc, word)?)?;
+    }
+    Ok(line.into_iter())
+}
+
+fn ends_so(alloc: Global, row: &Row<'_>) -> Result<(), Fail> {
+    let (words, is_torn, status, said, reads) = *row;
+    let given = line(alloc, words)?;
+    let mut host = host(alloc, is_torn);
     let found = ended(alloc, &mut host, &mut NoThreads, &mut Nobody, Ok(given));
-    Ok(
-        found == ExitCode::from(status)
-            && host.out.bytes.as_slice() == out.as_bytes()
-            && host.err.bytes.as_slice() == err.as_bytes()
-            && (host.files.files, host.files.inputs) == (files, inputs),
-    )
+    let is_so = found == ExitCode::from(status)
+        && has_said(&host, said)
+        && (host.files.files, host.files.inputs) == reads;
+    holds(is_so, (words, is_torn, status))
 }
 
 #[test]
 fn each_status(rt: HostRuntime) -> Result<(), Fail> {
     for row in &ROWS {
-        holds(ends_so(rt.alloc(), row)?, (row.0, row.2))?;
+        ends_so(rt.alloc(), row)?;
+    }
+    for &(words, is_torn, told, files) in &FAILING {
+        let told = format!(in rt.alloc(); "ticklab: {told}\n")?;
+        let said = Err(told.as_str());
+        ends_so(rt.alloc(), &(words, is_torn, 3, said, (files, 0)))?;
     }
     Ok(())
 }
 
 #[test]
 fn no_words(rt: HostRuntime) -> Result<(), Fail> {
-    let alloc = rt.alloc();
-    let mut host = Host {
-        files: Shelf {
-            files: 0,
-            inputs: 0,
-        },
-        out: Paper::new(alloc, false),
-        err: Paper::new(alloc, false),
-    };
+    let mut host = host(rt.alloc(), false);
     let none = Err(Error::from(ErrorKind::InvalidData));
-    let found = ended(alloc, &mut host, &mut NoThreads, &mut Nobody, none);
-    let told = "ticklab: the command line: invalid data\n";
-    let is_so = host.out.bytes.is_empty() && host.err.bytes.as_slice() == told.as_bytes();
-    holds(found == ExitCode::from(2) && is_so, "no words")
+    let found = ended(rt.alloc(), &mut host, &mut NoThreads, &mut Nobody, none);
+    let said = Err("ticklab: the command line: invalid data\n");
+    holds(
+        found == ExitCode::from(2) && has_said(&host, said),
+        "no words",
+    )
 }

@@ -71,33 +71,36 @@ fn comes_along(
     goes(&mut process_of(alloc, &code, p)?, &code, rows)
 }
 
+// What a call comes to: a step that nobody sees, or one that asks for the write of process 2.
+const SILENT: Option<Advance> = Some(Advance::Silent);
+
+const ASKS_TO_WRITE: Option<Advance> = Some(Advance::Ask(Ask::Put(0, 2)));
+
+// Or a step that a process made.
+const OUT_7: Option<Advance> = Some(Advance::Did(Event {
+    process: 0,
+    act: Act::Out(7),
+}));
+
+const END_OF_0: Option<Advance> = Some(Advance::Did(Event {
+    process: 0,
+    act: Act::End,
+}));
+
+const WRITE: Option<Advance> = Some(Advance::Did(Event {
+    process: 2,
+    act: Act::Put(0, 2),
+}));
+
+const END_OF_2: Option<Advance> = Some(Advance::Did(Event {
+    process: 2,
+    act: Act::End,
+}));
+
 const SEVEN: [(Call, Told); 4] = [
-    (
-        Call::Advance,
-        (Some(Instr::Push(7)), false, Some(Advance::Silent)),
-    ),
-    (
-        Call::Advance,
-        (
-            Some(Instr::Out),
-            true,
-            Some(Advance::Did(Event {
-                process: 0,
-                act: Act::Out(7),
-            })),
-        ),
-    ),
-    (
-        Call::Advance,
-        (
-            Some(Instr::Halt),
-            false,
-            Some(Advance::Did(Event {
-                process: 0,
-                act: Act::End,
-            })),
-        ),
-    ),
+    (Call::Advance, (Some(Instr::Push(7)), false, SILENT)),
+    (Call::Advance, (Some(Instr::Out), true, OUT_7)),
+    (Call::Advance, (Some(Instr::Halt), false, END_OF_0)),
     (Call::Advance, (None, false, Some(Advance::Stopped))),
 ];
 
@@ -110,37 +113,10 @@ const PUTS_ITS_NUMBER: [Instr; 3] = [Instr::Me, Instr::Put(0), Instr::Halt];
 
 // Process 2 asks for its write until it is answered, once.
 const ASKED: [(Call, Told); 5] = [
-    (
-        Call::Advance,
-        (Some(Instr::Me), false, Some(Advance::Silent)),
-    ),
-    (
-        Call::Advance,
-        (
-            Some(Instr::Put(0)),
-            false,
-            Some(Advance::Ask(Ask::Put(0, 2))),
-        ),
-    ),
-    (
-        Call::Advance,
-        (
-            Some(Instr::Put(0)),
-            false,
-            Some(Advance::Ask(Ask::Put(0, 2))),
-        ),
-    ),
-    (
-        Call::Answer,
-        (
-            Some(Instr::Put(0)),
-            false,
-            Some(Advance::Did(Event {
-                process: 2,
-                act: Act::Put(0, 2),
-            })),
-        ),
-    ),
+    (Call::Advance, (Some(Instr::Me), false, SILENT)),
+    (Call::Advance, (Some(Instr::Put(0)), false, ASKS_TO_WRITE)),
+    (Call::Advance, (Some(Instr::Put(0)), false, ASKS_TO_WRITE)),
+    (Call::Answer, (Some(Instr::Put(0)), false, WRITE)),
     (Call::Answer, (Some(Instr::Halt), false, None)),
 ];
 
@@ -151,26 +127,9 @@ fn asks_until_it_is_answered(rt: HostRuntime) -> Result<(), Fail> {
 
 // What process 2 makes of `PUTS_ITS_NUMBER`, one instruction after the other.
 const MADE: [(Call, Told); 4] = [
-    (Call::Make, (Some(Instr::Me), false, Some(Advance::Silent))),
-    (
-        Call::Make,
-        (
-            Some(Instr::Put(0)),
-            false,
-            Some(Advance::Ask(Ask::Put(0, 2))),
-        ),
-    ),
-    (
-        Call::Make,
-        (
-            Some(Instr::Halt),
-            false,
-            Some(Advance::Did(Event {
-                process: 2,
-                act: Act::End,
-            })),
-        ),
-    ),
+    (Call::Make, (Some(Instr::Me), false, SILENT)),
+    (Call::Make, (Some(Instr::Put(0)), false, ASKS_TO_WRITE)),
+    (Call::Make, (Some(Instr::Halt), false, END_OF_2)),
     (Call::Make, (None, false, None)),
 ];
 

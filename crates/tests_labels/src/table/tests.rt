@@ -1,5 +1,6 @@
 ghost use Rattle.std.specs.Prelude.{◌≡◌, ◌≤◌, ◌<◌, ℕ, All, IfOk};
 ghost use Rattle.stamp_table.specs.Passes.{Holds};
+ghost use Rattle.tests_labels.specs.Tries.{IsOf, Stays};
 
 use crate::table::threads::all_try;
 use crate::table::trying::try_once;
@@ -107,14 +108,10 @@ fn a_label_given_up(rt: HostRuntime) -> Result<(), Fail> {
 
 // The third process tries to stamp, and then the second: whether both won.
 fn both_try(table: &StampTable, two: &mut Pass, one: &mut Pass) -> bool
-    requires two_here { two.old.table ≡ table.now }
-    requires two_held { Holds two.old.held 2 }
-    requires one_here { one.old.table ≡ table.now }
-    requires one_held { Holds one.old.held 1 }
-    ensures two_here { two.new.table ≡ table.now }
-    ensures two_held { two.new.held ≡ two.old.held }
-    ensures one_here { one.new.table ≡ table.now }
-    ensures one_held { one.new.held ≡ one.old.held }
+    requires two { IsOf table.now 2 two.old }
+    requires one { IsOf table.now 1 one.old }
+    ensures two { Stays two.old two.new }
+    ensures one { Stays one.old one.new }
 {
     let first = try_once(table, two, 2);
     try_once(table, one, 1) && first
@@ -129,18 +126,12 @@ fn comes_back(
     two: &mut Pass,
 ) -> ([u64; 2], [bool; 8])
     requires three { table.now.n ≡ 3 }
-    requires zero_here { zero.old.table ≡ table.now }
-    requires zero_held { Holds zero.old.held 0 }
-    requires one_here { one.old.table ≡ table.now }
-    requires one_held { Holds one.old.held 1 }
-    requires two_here { two.old.table ≡ table.now }
-    requires two_held { Holds two.old.held 2 }
-    ensures zero_here { zero.new.table ≡ table.now }
-    ensures zero_held { zero.new.held ≡ zero.old.held }
-    ensures one_here { one.new.table ≡ table.now }
-    ensures one_held { one.new.held ≡ one.old.held }
-    ensures two_here { two.new.table ≡ table.now }
-    ensures two_held { two.new.held ≡ two.old.held }
+    requires zero { IsOf table.now 0 zero.old }
+    requires one { IsOf table.now 1 one.old }
+    requires two { IsOf table.now 2 two.old }
+    ensures zero { Stays zero.old zero.new }
+    ensures one { Stays one.old one.new }
+    ensures two { Stays two.old two.new }
 {
     let zero_won = try_once(table, zero, 0);
     let one_won = try_once(table, one, 1);

@@ -21,12 +21,8 @@ pub fn word_agrees(plain: &Plain, word: &LabelWord) -> Result<(), Fail> {
 fn is_told(plain: &Plain, word: &LabelWord, i: u8) -> bool
     requires { i < length word.now }
 {
-    for j in 0..word.n() {
-        if word.older(i, j) != (plain.ticket(i) < plain.ticket(j)) {
-            return false;
-        }
-    }
-    is_same_label(word.label(i), plain.label(i))
+    (0..word.n()).all(|j| word.older(i, j) == plain.is_older(i, j))
+        && is_same_label(word.label(i), plain.label(i))
         && word.held(i) == (plain.ticket(i) > 0)
         && word.rank(i) == plain.rank(i)
 }
@@ -42,12 +38,9 @@ pub fn tickets_agree(plain: &Plain, tickets: &Tickets) -> Result<(), Fail> {
 fn is_ticket(plain: &Plain, tickets: &Tickets, i: u8) -> bool
     requires { i < length tickets.now }
 {
-    for j in 0..tickets.count() {
-        if tickets.older(i, j) != (plain.ticket(i) < plain.ticket(j)) {
-            return false;
-        }
-    }
-    tickets.held(i) == (plain.ticket(i) > 0) && tickets.ranks()[usize::from(i)] == plain.rank(i)
+    (0..tickets.count()).all(|j| tickets.older(i, j) == plain.is_older(i, j))
+        && tickets.held(i) == (plain.ticket(i) > 0)
+        && tickets.ranks()[usize::from(i)] == plain.rank(i)
 }
 
 fn is_same_label(label: Option<Label>, wanted: Option<Digits>) -> bool {

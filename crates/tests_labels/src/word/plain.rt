@@ -29,6 +29,11 @@ impl Plain {
         self.tickets[usize::from(process) % PROCESSES]
     }
 
+    /// Whether the first process holds a smaller ticket than the second.
+    pub fn is_older(&self, process: u8, other: u8) -> bool {
+        self.ticket(process) < self.ticket(other)
+    }
+
     pub fn label(&self, process: u8) -> Option<Digits> {
         self.labels[usize::from(process) % PROCESSES]
     }
@@ -37,7 +42,7 @@ impl Plain {
     pub fn rank(&self, process: u8) -> u8 {
         let mut rank = 0u8;
         for other in 0..self.n {
-            if self.ticket(other) < self.ticket(process) {
+            if self.is_older(other, process) {
                 rank = rank.saturating_add(1);
             }
         }

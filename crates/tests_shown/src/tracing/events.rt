@@ -1,9 +1,6 @@
 //! The steps against the machines: the same events, for the same processes, in the same order.
 
-use crate::tracing::programs::{
-    ALIKE, CLEARS, CLEARS_SCHEDULE, QUEUE, QUEUE_SCHEDULE, STAMPS, STAMPS_SCHEDULE, TRAPS,
-    TRAPS_SCHEDULE,
-};
+use crate::tracing::programs::RUNS;
 use base::{Act, Event};
 use std::alloc::Global;
 use std::test::Fail;
@@ -11,20 +8,23 @@ use tests_shared::{accepted, is_same};
 use tick_lower::lower;
 use ticklab_trace::{code_steps, source_steps};
 
-// That the steps are of these processes, and that what they do is these events.
-fn same_acts(steps: &[(u8, Option<Act>)], schedule: &[u8], events: &[Event]) -> Result<(), Fail> {
+// That the steps of a program are of these processes, and that what they do is these events.
+fn same_acts(
+    text: &str,
+    steps: &[(u8, Option<Act>)],
+    schedule: &[u8],
+    events: &[Event],
+) -> Result<(), Fail> {
     let mut told = events.iter();
     for (step, p) in steps.iter().zip(schedule) {
-        is_same(&step.0, p)?;
+        is_same(&(text, step.0), &(text, *p))?;
         if let Some(act) = step.1 {
-            is_same(
-                &told.next().map(|event| (event.process, event.act)),
-                &Some((*p, act)),
-            )?;
+            let event = told.next().map(|event| (event.process, event.act));
+            is_same(&(text, event), &(text, Some((*p, act))))?;
         }
     }
-    is_same(&steps.len(), &schedule.len())?;
-    is_same(&told.next().is_none(), &true)
+    is_same(&(text, steps.len()), &(text, schedule.len()))?;
+    is_same(&(text, told.next().is_none()), &(text, true))
 }
 
 fn agree(alloc: Global, text: &str, schedule: &[u8]) -> Result<(), Fail> {
@@ -39,7 +39,7 @@ fn agree(alloc: Global, text: &str, schedule: &[u8]) -> Result<(), Fail> {
     for step in &steps {
         acts.push((step.process, step.act))?;
     }
-    same_acts(acts.as_slice(), schedule, outcome.events.as_slice())
+    same_acts(text, acts.as_slice(), schedule, outcome.events.as_slice())
 }
 
 fn code_agrees(alloc: Global, text: &str, schedule: &[u8]) -> Result<(), Fail> {
@@ -55,25 +55,16 @@ fn code_agrees(alloc: Global, text: &str, schedule: &[u8]) -> Result<(), Fail> {
     for step in &steps {
         acts.push((step.process, step.act))?;
     }
-    same_acts(acts.as_slice(), schedule, outcome.events.as_slice())
+    same_acts(text, acts.as_slice(), schedule, outcome.events.as_slice())
 }
 
 #[test]
 fn same_events(rt: HostRuntime) -> Result<(), Fail> {
-    agree(rt.alloc(), QUEUE, &QUEUE_SCHEDULE)?;
-    agree(rt.alloc(), TRAPS, &TRAPS_SCHEDULE)?;
-    agree(rt.alloc(), CLEARS, &CLEARS_SCHEDULE)?;
-    agree(rt.alloc(), STAMPS, &STAMPS_SCHEDULE)?;
-    agree(rt.alloc(), ALIKE, &[0; 9])
-}
-
-#[test]
-fn same_events_of_code(rt: HostRuntime) -> Result<(), Fail> {
-    code_agrees(rt.alloc(), QUEUE, &QUEUE_SCHEDULE)?;
-    code_agrees(rt.alloc(), TRAPS, &TRAPS_SCHEDULE)?;
-    code_agrees(rt.alloc(), CLEARS, &CLEARS_SCHEDULE)?;
-    code_agrees(rt.alloc(), STAMPS, &STAMPS_SCHEDULE)?;
-    code_agrees(rt.alloc(), ALIKE, &[0; 30])
+    for (text, schedule, of_code) in &RUNS {
+        agree(rt.alloc(), text, schedule)?;
+        code_agrees(rt.alloc(), text, of_code)?;
+    }
+    Ok(())
 }
 
 #[test]

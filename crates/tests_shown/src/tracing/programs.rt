@@ -1,6 +1,15 @@
-//! Programs that are traced, each with a schedule.
+//! Programs that are traced, with schedules.
 
-pub static QUEUE: &str = "\
+/// The programs, each with a schedule of its own and one of its code.
+pub static RUNS: [(&str, &[u8], &[u8]); 5] = [
+    (QUEUE, QUEUE_SCHEDULE, QUEUE_SCHEDULE),
+    (TRAPS, TRAPS_SCHEDULE, TRAPS_SCHEDULE),
+    (CLEARS, CLEARS_SCHEDULE, CLEARS_SCHEDULE),
+    (STAMPS, STAMPS_SCHEDULE, STAMPS_SCHEDULE),
+    (ALIKE, &[0; 9], &[0; 30]),
+];
+
+const QUEUE: &str = "\
 # First come, first served: a process goes in when nobody who came before it still waits.
 processes 2;
 var other, before;
@@ -22,12 +31,12 @@ begin
 end
 ";
 
-pub static QUEUE_SCHEDULE: [u8; 44] = [
+const QUEUE_SCHEDULE: &[u8] = &[
     1, 1, 0, 0, 0, 0, 0, 0, 0, 0, 0, 0, 0, 0, 0, 0, 0, 1, 1, 1, 1, 1, 1, 1, 1, 1, 1, 1, 1, 1, 1, 1,
     1, 1, 1, 0, 0, 0, 0, 0, 0, 0, 0, 0,
 ];
 
-pub static TRAPS: &str = "\
+const TRAPS: &str = "\
 processes 4;
 var x;
 reg r;
@@ -41,9 +50,9 @@ begin
 end
 ";
 
-pub static TRAPS_SCHEDULE: [u8; 15] = [0, 0, 0, 1, 1, 1, 2, 2, 2, 2, 3, 3, 3, 3, 3];
+const TRAPS_SCHEDULE: &[u8] = &[0, 0, 0, 1, 1, 1, 2, 2, 2, 2, 3, 3, 3, 3, 3];
 
-pub static CLEARS: &str = "\
+const CLEARS: &str = "\
 processes 2;
 var mine, theirs;
 scan s, t;
@@ -58,9 +67,9 @@ begin
 end
 ";
 
-pub static CLEARS_SCHEDULE: [u8; 10] = [0, 1, 0, 0, 0, 0, 0, 0, 0, 0];
+const CLEARS_SCHEDULE: &[u8] = &[0, 1, 0, 0, 0, 0, 0, 0, 0, 0];
 
-pub static STAMPS: &str = "\
+const STAMPS: &str = "\
 processes 2;
 reg r;
 begin
@@ -70,9 +79,9 @@ begin
 end
 ";
 
-pub static STAMPS_SCHEDULE: [u8; 14] = [0, 1, 0, 1, 0, 1, 1, 1, 1, 0, 0, 0, 0, 0];
+const STAMPS_SCHEDULE: &[u8] = &[0, 1, 0, 1, 0, 1, 1, 1, 1, 0, 0, 0, 0, 0];
 
-pub static ALIKE: &str = "\
+const ALIKE: &str = "\
 processes 1;
 begin
   stamp;

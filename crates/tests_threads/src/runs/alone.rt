@@ -13,7 +13,7 @@ const TWO_OUTPUTS: &str = "tickcode 1 1 0 0 0\nPush 1\nOut\nPush 2\nOut\nHalt\n"
 
 const TRAPS: &str = "tickcode 1 1 0 0 0\nPush 7\nOut\nPush 0\nPush 1\nBin -\nOut\nHalt\n";
 
-static TURNS: [Row; 5] = [
+static ROWS: [Row; 15] = [
     (
         COUNTS_TO_TWO,
         1,
@@ -26,15 +26,7 @@ static TURNS: [Row; 5] = [
     (COUNTS_TO_TWO, 1, 24, 4, &[&[2]], &[RunEnd::TurnsSpent]),
     (COUNTS_TO_TWO, 1, 23, 4, &[&[]], &[RunEnd::TurnsSpent]),
     (COUNTS_TO_TWO, 1, 0, 4, &[&[]], &[RunEnd::TurnsSpent]),
-];
-
-#[test]
-fn turns_are_counted(rt: HostRuntime) -> Result<(), Fail> {
-    come_to(&rt, &TURNS)
-}
-
-// Turns count before outputs.
-static OUTPUTS: [Row; 7] = [
+    // turns count before outputs
     (TWO_OUTPUTS, 1, 2, 1, &[&[1]], &[RunEnd::TurnsSpent]),
     (TWO_OUTPUTS, 1, 3, 1, &[&[1]], &[RunEnd::TurnsSpent]),
     (TWO_OUTPUTS, 1, 4, 1, &[&[1]], &[RunEnd::OutputsFull]),
@@ -42,21 +34,13 @@ static OUTPUTS: [Row; 7] = [
     (TWO_OUTPUTS, 1, 5, 2, &[&[1, 2]], &[RunEnd::Ended]),
     (TWO_OUTPUTS, 1, 1, 0, &[&[]], &[RunEnd::TurnsSpent]),
     (TWO_OUTPUTS, 1, 2, 0, &[&[]], &[RunEnd::OutputsFull]),
-];
-
-#[test]
-fn outputs_are_counted(rt: HostRuntime) -> Result<(), Fail> {
-    come_to(&rt, &OUTPUTS)
-}
-
-// A process that was stopped has spent neither its turns nor its outputs.
-static TRAPPED: [Row; 3] = [
+    // a process that was stopped has spent neither its turns nor its outputs
     (TRAPS, 1, 4, 4, &[&[7]], &[RunEnd::TurnsSpent]),
     (TRAPS, 1, 5, 1, &[&[7]], &[RunEnd::Trapped(Trap::Below)]),
     (TRAPS, 1, 6, 0, &[&[]], &[RunEnd::OutputsFull]),
 ];
 
 #[test]
-fn a_trap_is_told(rt: HostRuntime) -> Result<(), Fail> {
-    come_to(&rt, &TRAPPED)
+fn goes_as_far_as_it_may(rt: HostRuntime) -> Result<(), Fail> {
+    come_to(&rt, &ROWS)
 }

@@ -100,7 +100,7 @@ fn comes_to<R: AllocGlobal + Threads + Wait>(rt: &R, row: &Row) -> Result<(), Fa
         ends,
         registers: &[],
     };
-    holds(is_one_of(&outcome, &[wanted]), text)
+    holds(is_one_of(&outcome, &[wanted]), (text, turns, outs))
 }
 
 /// That each row is so.

@@ -79,7 +79,7 @@ fn stamps<A: AllocGlobal + Threads + Wait>(rt: &A, kind: ErrorKind, row: &Row) -
     let (reads, writes) = row.calls;
     holds(
         ending.is(row.status, row.written) && ending.has_calls(reads, writes),
-        row.written,
+        (kind, row.reading, row.writing, row.step),
     )
 }
 
@@ -155,20 +155,27 @@ static GOING_ON: [Row; 4] = [
     },
 ];
 
+// That each row is so where the calls fail in this way.
+fn come_to<A: AllocGlobal + Threads + Wait>(
+    rt: &A,
+    kind: ErrorKind,
+    rows: &[Row],
+) -> Result<(), Fail> {
+    for row in rows {
+        stamps(rt, kind, row)?;
+    }
+    Ok(())
+}
+
 #[test]
 fn failing_calls(rt: HostRuntime) -> Result<(), Fail> {
     for kind in &KINDS {
-        for row in &FAILING {
-            stamps(&rt, *kind, row)?;
-        }
+        come_to(&rt, *kind, &FAILING)?;
     }
     Ok(())
 }
 
 #[test]
 fn interrupted_calls(rt: HostRuntime) -> Result<(), Fail> {
-    for row in &GOING_ON {
-        stamps(&rt, ErrorKind::Interrupted, row)?;
-    }
-    Ok(())
+    come_to(&rt, ErrorKind::Interrupted, &GOING_ON)
 }

@@ -45,30 +45,24 @@ pub fn drawn(
 }
 
 /// The picture of the run of a text under a schedule.
-pub fn drawn_run(alloc: Global, title: &str, text: &str, schedule: &str) -> Result<Vec<u8>, Fail> {
-    let program = accepted(alloc, text)?;
-    let marks = marked(alloc, &program, schedule)?;
-    drawn(alloc, title, &program, &marks, None)
-}
-
-/// The same with what must never hold and does.
-pub fn drawn_never(
+pub fn drawn_run(
     alloc: Global,
+    title: &str,
     text: &str,
     schedule: &str,
-    never: NeverMark<'_>,
+    never: Option<NeverMark<'_>>,
 ) -> Result<Vec<u8>, Fail> {
     let program = accepted(alloc, text)?;
     let marks = marked(alloc, &program, schedule)?;
-    drawn(alloc, "never", &program, &marks, Some(never))
+    drawn(alloc, title, &program, &marks, never)
 }
 
 /// The same of its code.
-pub fn drawn_code(alloc: Global, text: &str, schedule: &str) -> Result<Vec<u8>, Fail> {
+pub fn drawn_code(alloc: Global, title: &str, text: &str, schedule: &str) -> Result<Vec<u8>, Fail> {
     let program = accepted(alloc, text)?;
     let code = lower(alloc, &program)?;
     let marks = code_marked(alloc, &code, schedule)?;
-    drawn(alloc, "code", &program, &marks, None)
+    drawn(alloc, title, &program, &marks, None)
 }
 
 /// The bytes as a text.

@@ -1,6 +1,6 @@
 //! Programs whose runs are drawn.
 
-pub static TWO_WORDS: &str = "\
+pub const TWO_WORDS: &str = "\
 processes 2;
 var seen, first;
 scan tickets;
@@ -18,7 +18,7 @@ begin
 end
 ";
 
-pub static DIVIDED: &str = "\
+pub const DIVIDED: &str = "\
 processes 2;
 var other;
 reg inside;
@@ -29,14 +29,14 @@ begin
 end
 ";
 
-pub static STAMPED: &str = "\
+pub const STAMPED: &str = "\
 processes 2;
 begin
   stamp;
 end
 ";
 
-pub static COUNTED: &str = "\
+pub const COUNTED: &str = "\
 processes 6;
 var i;
 reg r;
