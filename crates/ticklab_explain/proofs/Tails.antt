@@ -1,5 +1,5 @@
 -- What the tails of a list of tokens say, from one to the next.
-use Rattle.std.proofs.Common.{◌≡◌, ◌∙◌, ◌<◌, ◌≤◌, ◌+◌, ◌-◌, ℕ, List, [], ◌∷◌, ap, arith, get_or, length, take, drop, refl, sym, if◌then◌else◌}
+use Rattle.std.proofs.Common.{◌≡◌, ◌∙◌, ◌<◌, ◌+◌, ◌-◌, ℕ, List, ◌∷◌, ap, arith, get_or, length, take, drop, refl, sym, if◌then◌else◌}
 use Rattle.std.proofs.lemmas.List.{drop_more, length-drop, take_all}
 use Rattle.base.specs.Plain.{nowhere}
 use Rattle.tick_syntax.specs.declared.token.Sort.TheVariants as K

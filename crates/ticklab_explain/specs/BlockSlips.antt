@@ -1,6 +1,5 @@
 -- Slips with blocks.
 use Rattle.std.specs.Prelude.{not, ◌&&◌, ◌||◌, List, [], ◌∷◌, codes, Option, is_some}
-use Rattle.std.specs.Option.{option_or}
 use Rattle.ticklab_explain.specs.Facts.{begins_simple, ends_block}
 use Rattle.ticklab_explain.specs.Following.{is_one_of}
 use Rattle.ticklab_explain.specs.Parts.{has}
@@ -14,19 +13,14 @@ use Rattle.ticklab_explain.specs.declared.quote.Quote.TheVariants as W
 use Rattle.ticklab_explain.specs.declared.rewrite.Rewrite.TheVariants as R
 use Rattle.ticklab_explain.specs.declared.wanted.Wanted.{Wanted}
 
--- of `else`
-unfoldable pub else_slip : Setting → List Wanted → Option Hint
-else_slip s wanted = first_that_fits (
+-- of `else`, and then of braces
+unfoldable pub block_slip : Setting → List Wanted → Option Hint
+block_slip s wanted = first_that_fits (
     (is (here s) (codes "if") && (is (before s 1) (codes "else") && has s (P.OperandAfter 1)), Rewriting R.ElseIf)
     ∷ (is (here s) (codes "if") && is (before s 1) (codes "else"), Fixed A.NoElseIf)
     ∷ (is_one_of (here s) (codes "elif" ∷ codes "elseif" ∷ codes "elsif" ∷ []) && (wants wanted (codes "else") && has s (P.OperandAfter 1)), Rewriting R.ElseIf)
     ∷ (is (here s) (codes "else") && (wants wanted (codes "stamp") && not (is_some (open_brace s))), Fixed A.ElseAlone)
-    ∷ [])
-
--- of braces
-unfoldable pub brace_slip : Setting → List Wanted → Option Hint
-brace_slip s wanted = first_that_fits (
-    (is_some (open_brace s) && (ends_block s && wants wanted (codes "}")), Quoting W.BraceIsOpen)
+    ∷ (is_some (open_brace s) && (ends_block s && wants wanted (codes "}")), Quoting W.BraceIsOpen)
     ∷ (is (here s) (codes "}") && (not (is_some (open_brace s)) && (wants wanted (codes "end") && is (after s 1) [])), Fixed A.EndIsMissing)
     ∷ (is (here s) (codes "}") && (not (is_some (open_brace s)) && (wants wanted (codes "stamp") || wants wanted (codes "else"))), Fixed A.NothingToClose)
     ∷ (is (here s) (codes "{") && wants wanted (codes "stamp"), Fixed A.NoFreeBlock)
@@ -40,6 +34,3 @@ body_slip s wanted = first_that_fits (
     ∷ (wants wanted (codes "{") && (begins_simple s && has s P.ToSemicolon), Rewriting R.InBraces)
     ∷ (wants wanted (codes "{") && (is_name_here s || is_keyword_here s), Fixed A.BlockInBraces)
     ∷ [])
-
-unfoldable pub block_slip : Setting → List Wanted → Option Hint
-block_slip s wanted = option_or (else_slip s wanted) (brace_slip s wanted)

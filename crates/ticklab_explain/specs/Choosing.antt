@@ -1,5 +1,5 @@
 -- Which hint is told: that of the first rule that fits.
-use Rattle.std.specs.Prelude.{ℕ, ◌==◌, nat_eq, Bool, true, false, not, ◌&&◌, ◌||◌, List, [], ◌∷◌, codes, length, Option, Some, None, is_some, is_none, slice_index, if◌then◌else◌}
+use Rattle.std.specs.Prelude.{ℕ, ◌==◌, nat_eq, true, not, ◌&&◌, ◌||◌, List, [], ◌∷◌, codes, length, Option, Some, None, is_some, is_none, slice_index, if◌then◌else◌}
 use Rattle.std.specs.List.{starts_with, ends_with}
 use Rattle.std.specs.Option.{option_or}
 use Rattle.code_core.specs.declared.fault.CodeFault.{CodeFault}
@@ -14,20 +14,18 @@ use Rattle.tick_syntax.specs.declared.fault.TextFault.{TextFault}
 use Rattle.tick_syntax.specs.declared.fault.TextFault.TheVariants as T
 use Rattle.ticklab_explain.specs.BlockSlips.{block_slip, body_slip}
 use Rattle.ticklab_explain.specs.CallSlips.{call_slip}
-use Rattle.ticklab_explain.specs.DeclarationSlips.{declaration_slip}
 use Rattle.ticklab_explain.specs.Conditions.{has_one_of, item}
 use Rattle.ticklab_explain.specs.Facts.{begins_comment, begins_with, ends_statement}
 use Rattle.ticklab_explain.specs.Following.{is_one_of}
 use Rattle.ticklab_explain.specs.Hints.{first_declaration, is_section}
 use Rattle.ticklab_explain.specs.OperandSlips.{operand_slip}
 use Rattle.ticklab_explain.specs.Parts.{has}
-use Rattle.ticklab_explain.specs.Rules.{first_that_fits, is, is_keyword_here, is_name_before, is_name_here, wants}
+use Rattle.ticklab_explain.specs.Rules.{first_that_fits, is, is_keyword_here, is_name_after, is_name_before, is_name_here, wants}
 use Rattle.ticklab_explain.specs.StatementSlips.{other_slip, statement_slip}
-use Rattle.ticklab_explain.specs.Settings.{Setting, about, after, before, has_begun, here, shortened, sort_here, touches}
+use Rattle.ticklab_explain.specs.Settings.{Setting, about, after, before, has_begun, here, sort_here, touches}
 use Rattle.ticklab_explain.specs.declared.advice.Advice.TheVariants as A
 use Rattle.ticklab_explain.specs.declared.hint.Hint.{Hint}
-use Rattle.ticklab_explain.specs.declared.hint.Hint.TheVariants.{Fixed, Naming, Quoting, Rewriting}
-use Rattle.ticklab_explain.specs.declared.name_hint.NameHint.TheVariants as H
+use Rattle.ticklab_explain.specs.declared.hint.Hint.TheVariants.{DeclaredNames, Fixed, ProcessCount, Quoting, Rewriting}
 use Rattle.ticklab_explain.specs.declared.part.Part.TheVariants as P
 use Rattle.ticklab_explain.specs.declared.quote.Quote.TheVariants as W
 use Rattle.ticklab_explain.specs.declared.rewrite.Rewrite.TheVariants as R
@@ -66,6 +64,19 @@ keyword_slip s wanted = first_that_fits (
     (is_keyword_here s && wants wanted (codes "x"), Quoting W.Keyword)
     ∷ (is_one_of (here s) (codes "stamp" ∷ codes "clear" ∷ []) && (wants wanted (codes "me") || wants wanted (codes "get")), Quoting W.NoValue)
     ∷ (is_one_of (here s) givers && wants wanted (codes "me"), Quoting W.OwnStatement)
+    ∷ [])
+
+-- of names before `begin`, and of sections
+unfoldable pub declaration_slip : Setting → List Wanted → Option Hint
+declaration_slip s wanted = first_that_fits (
+    (wants wanted (codes ",") && is_name_here s, Rewriting R.CommaBetween)
+    ∷ (wants wanted (codes ",") && is (here s) (codes "="), Fixed A.AllBeginAsZero)
+    ∷ (wants wanted (codes ",") && is (here s) (codes "-"), Fixed A.NameLetters)
+    ∷ (wants wanted (codes "x") && (is (here s) (codes ";") && is (before s 1) (codes ",")), Fixed A.NoLastComma)
+    ∷ (wants wanted (codes "x") && (not (has_begun s) && (has s (P.OperandAfter 0) && not (is_keyword_here s))), Fixed A.NameBegins)
+    ∷ (wants wanted (codes "var") && (is_name_here s && (is_name_after s 1 && is (after s 2) (codes ";"))), Rewriting R.DeclaredByVar)
+    ∷ (wants wanted (codes "begin") && (is_name_here s && is_name_after s 1), Fixed A.SectionWords)
+    ∷ (wants wanted (codes "processes") || wants wanted (codes "0"), Fixed A.ProgramBegins)
     ∷ [])
 
 -- of what the place wants first
@@ -133,20 +144,15 @@ compared_slip s = first_that_fits (
     ∷ (is (about s) (codes "!"), Quoting W.NotSign)
     ∷ [])
 
--- a number in brackets after a name
-unfoldable pub index_slip : Setting → Option Hint
-index_slip s = first_that_fits (
+-- a number in brackets after a name, a colon, and a point
+unfoldable pub mark_slip : Setting → Option Hint
+mark_slip s = first_that_fits (
     (is (about s) (codes "[") && (not (has_begun s) && is_name_before s 1), Rewriting R.Sized)
     ∷ (is (about s) (codes "[") && (is (before s 2) (codes "put") && is_name_before s 1), Rewriting R.PutOwn)
     ∷ (is (about s) (codes "[") && (is_one_of (before s 2) (codes ";" ∷ codes "begin" ∷ codes "{" ∷ codes "}" ∷ []) && is_name_before s 1), Rewriting R.PutOwn)
     ∷ (is (about s) (codes "[") && (is (before s 2) (codes "get") && is_name_before s 1), Rewriting R.GetIndexed)
     ∷ (is (about s) (codes "["), Quoting W.Indexed)
-    ∷ [])
-
--- a colon, and a point
-unfoldable pub point_slip : Setting → Option Hint
-point_slip s = first_that_fits (
-    (is (about s) (codes ":") && (slice_index s.text s.span.end == 61), Fixed A.Assigns)
+    ∷ (is (about s) (codes ":") && (slice_index s.text s.span.end == 61), Fixed A.Assigns)
     ∷ (is (about s) (codes ":") && is (before s 1) (codes "processes"), Fixed A.ProgramBegins)
     ∷ (is (about s) (codes ":") && not (has_begun s), Fixed A.NoTypes)
     ∷ (is (about s) (codes ":"), Fixed A.BlockInBraces)
@@ -169,8 +175,7 @@ other_sign_slip s = first_that_fits (
 
 -- of a character that begins no token
 unfoldable pub character_slip : Setting → Option Hint
-character_slip s =
-    option_or (compared_slip s) (option_or (index_slip s) (option_or (point_slip s) (other_sign_slip s)))
+character_slip s = option_or (compared_slip s) (option_or (mark_slip s) (other_sign_slip s))
 
 abbrev pub text_hint : Setting → List Wanted → TextFault → Option Hint
 text_hint s wanted T.TextTooLong = None
@@ -185,7 +190,7 @@ unfoldable pub unknown_slip : Setting → Option Hint
 unknown_slip s = first_that_fits (
     (is (about s) (codes "true"), Fixed A.TrueIsOne)
     ∷ (is (about s) (codes "false"), Fixed A.FalseIsZero)
-    ∷ (true, Naming H.Declared)
+    ∷ (true, DeclaredNames)
     ∷ [])
 
 -- of a name in the place of another: one hint where it is assigned, else another
@@ -202,7 +207,7 @@ variable_slip s = first_that_fits (
 
 -- where the first kind is wanted, and the second found
 abbrev pub kind_slip : Setting → Kind → Kind → Option Hint
-kind_slip s K.Variable K.Register = assigned_slip s (Naming H.WrittenByPut) (Naming H.ReadByGet)
+kind_slip s K.Variable K.Register = assigned_slip s (Quoting W.WrittenByPut) (Quoting W.ReadByGet)
 kind_slip s K.Variable K.Variable = Some (Fixed A.LookAtScan)
 kind_slip s K.Variable K.Scan = assigned_slip s (Rewriting R.ScanTarget) (Fixed A.LookAtScan)
 kind_slip s K.Scan found = assigned_slip s (Fixed A.IntoScan) (Fixed A.ScanFirst)
@@ -242,7 +247,7 @@ item_slip s = first_that_fits (
 
 abbrev pub schedule_hint : Setting → ScheduleFault → Option Hint
 schedule_hint s (S.BadItem place) = item_slip s
-schedule_hint s (S.NoSuchProcess place) = Some (Naming H.ProcessCount)
+schedule_hint s (S.NoSuchProcess place) = Some ProcessCount
 schedule_hint s S.TooLong = Some (Fixed A.LongestSchedule)
 schedule_hint s S.NoMemory = None
 

@@ -1,5 +1,5 @@
 -- What each hint says.
-use Rattle.std.specs.Prelude.{ℕ, ◌==◌, Bool, true, false, ◌&&◌, ◌||◌, List, [], ◌∷◌, ◌++◌, codes, length, Option, Some, None, if◌then◌else◌}
+use Rattle.std.specs.Prelude.{ℕ, Bool, true, false, ◌&&◌, ◌||◌, List, [], ◌∷◌, ◌++◌, codes, Option, Some, None, if◌then◌else◌}
 use Rattle.std.specs.Fmt.{decimal}
 use Rattle.std.specs.Str.{bytes_eq}
 use Rattle.base.specs.declared.span.Span.{Span}
@@ -10,10 +10,8 @@ use Rattle.ticklab_explain.specs.Rewrites.{rewrite_text}
 use Rattle.ticklab_explain.specs.Settings.{Setting, about, after, before, front_end, here, is_name, open_brace, text_at}
 use Rattle.ticklab_explain.specs.declared.advice.Advice.{Advice}
 use Rattle.ticklab_explain.specs.declared.advice.Advice.TheVariants as A
-use Rattle.ticklab_explain.specs.declared.name_hint.NameHint.{NameHint}
-use Rattle.ticklab_explain.specs.declared.name_hint.NameHint.TheVariants as N
 use Rattle.ticklab_explain.specs.declared.hint.Hint.{Hint}
-use Rattle.ticklab_explain.specs.declared.hint.Hint.TheVariants.{Fixed, Naming, Quoting, Rewriting}
+use Rattle.ticklab_explain.specs.declared.hint.Hint.TheVariants.{DeclaredNames, Fixed, ProcessCount, Quoting, Rewriting}
 use Rattle.ticklab_explain.specs.declared.quote.Quote.{Quote}
 use Rattle.ticklab_explain.specs.declared.quote.Quote.TheVariants as W
 use Rattle.ticklab_explain.specs.declared.piece.Piece.{Piece}
@@ -171,13 +169,6 @@ piece_text s Q.Statement = statement_of (here s)
 piece_text s Q.StatementBefore = statement_of (before s 1)
 piece_text s (Q.Tokens part) = quoted s part
 
--- those that quote names
-abbrev pub name_hint_text : Setting → NameHint → List ℕ
-name_hint_text s N.ProcessCount = joined (codes "processes are counted from 0, and there are " ∷ decimal s.processes ∷ [])
-name_hint_text s N.Declared = declared_names s
-name_hint_text s N.WrittenByPut = joined (codes "a register is written by `put " ∷ about s ∷ codes " " ∷ after s 2 ∷ codes ";`" ∷ [])
-name_hint_text s N.ReadByGet = joined (codes "read it first: `x = get " ∷ about s ∷ codes " me;`" ∷ [])
-
 -- those that quote the text about the place
 abbrev pub quote_text : Setting → Quote → List ℕ
 quote_text s W.Greater =
@@ -206,6 +197,8 @@ quote_text s W.GetWantsProcess =
 quote_text s W.NoThen = joined (codes "there is no `" ∷ here s ∷ codes "`: a block begins with `{`" ∷ [])
 quote_text s W.NoCall = joined (codes "operands stand without brackets and commas: `" ∷ statement_of (before s 1) ∷ codes "`" ∷ [])
 quote_text s W.NoFunctions = joined (codes "`" ∷ before s 1 ∷ codes "` can't be called: there are no functions" ∷ [])
+quote_text s W.WrittenByPut = joined (codes "a register is written by `put " ∷ about s ∷ codes " " ∷ after s 2 ∷ codes ";`" ∷ [])
+quote_text s W.ReadByGet = joined (codes "read it first: `x = get " ∷ about s ∷ codes " me;`" ∷ [])
 quote_text s W.DeclaredFirst = joined (codes "`" ∷ about s ∷ codes "` was declared here first" ∷ [])
 quote_text s W.BraceIsOpen = codes "this `{` is not closed"
 quote_text s W.SemicolonIsMissing = joined (codes "a `;` is missing after `" ∷ before s 1 ∷ codes "`" ∷ [])
@@ -219,13 +212,15 @@ quote_span s _ = None
 
 abbrev pub hint_text : Setting → Hint → List ℕ
 hint_text s (Fixed advice) = advice_text advice
-hint_text s (Naming hint) = name_hint_text s hint
+hint_text s ProcessCount = joined (codes "processes are counted from 0, and there are " ∷ decimal s.processes ∷ [])
+hint_text s DeclaredNames = declared_names s
 hint_text s (Quoting quote) = quote_text s quote
 hint_text s (Rewriting rewrite) = rewrite_text s rewrite
 
 -- the other place that a hint speaks of
 abbrev pub hint_span : Setting → Hint → Option Span
 hint_span s (Fixed advice) = None
-hint_span s (Naming hint) = None
+hint_span s ProcessCount = None
+hint_span s DeclaredNames = None
 hint_span s (Quoting quote) = quote_span s quote
 hint_span s (Rewriting rewrite) = None

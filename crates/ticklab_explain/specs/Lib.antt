@@ -12,7 +12,6 @@ pub mod Facts
 pub mod Conditions
 pub mod BlockSlips
 pub mod CallSlips
-pub mod DeclarationSlips
 pub mod OperandSlips
 pub mod StatementSlips
 pub mod Choosing

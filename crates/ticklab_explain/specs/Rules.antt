@@ -1,5 +1,5 @@
 -- Rules, of which the first that fits gives the hint, and what they ask.
-use Rattle.std.specs.Prelude.{ℕ, ◌-◌, ◌+◌, nat_lt, Bool, true, false, List, [], ◌∷◌, codes, Option, Some, None, slice_get, if◌then◌else◌}
+use Rattle.std.specs.Prelude.{ℕ, ◌-◌, ◌+◌, nat_lt, Bool, false, List, [], ◌∷◌, Option, Some, None, slice_get, if◌then◌else◌}
 use Rattle.std.specs.List.{list_any}
 use Rattle.std.specs.Option.{option_map_or}
 use Rattle.std.specs.Str.{bytes_eq}

@@ -23,42 +23,23 @@ declaring = codes "let" ∷ codes "int" ∷ codes "bool" ∷ codes "local" ∷ c
 abbrev pub signs : List (List ℕ)
 signs = codes "+" ∷ codes "-" ∷ []
 
--- of `for`
-unfoldable pub for_slip : Setting → List Wanted → Option Hint
-for_slip s wanted = first_that_fits (
-    (is (before s 1) (codes "for") && (wants wanted (codes "=") && is_name_here s), Rewriting R.ForName)
-    ∷ (is (before s 1) (codes "for") && (wants wanted (codes "=") && (is (here s) (codes "(") && is_name_after s 1)), Rewriting R.ForBracket)
-    ∷ (is (before s 1) (codes "for") && wants wanted (codes "="), Fixed A.NoFor)
-    ∷ [])
-
 -- an operand stands where `=` is wanted
 abbrev pub has_operand : Setting → List Wanted → Bool
 has_operand s wanted = wants wanted (codes "=") && has s (P.OperandAfter 0)
 
--- of words of other languages that say what has to hold
-unfoldable pub assert_slip : Setting → List Wanted → Option Hint
-assert_slip s wanted = first_that_fits (
-    (is_one_of (before s 1) (codes "assert" ∷ codes "require" ∷ []) && has_operand s wanted, Rewriting R.Assert)
-    ∷ [])
-
--- of words of other languages that give a value out
-unfoldable pub print_slip : Setting → List Wanted → Option Hint
-print_slip s wanted = first_that_fits (
-    (is_one_of (before s 1) printing && (wants wanted (codes "=") && (has s (P.OperandAfter 0) && (is (here s) (codes "(") && is (after s 2) (codes ")")))), Rewriting R.PrintInner)
+-- of words of other languages: of `for`, and of those that say what has to hold, that give a value out, that
+-- declare a name, and that leave a loop or a program
+unfoldable pub word_slip : Setting → List Wanted → Option Hint
+word_slip s wanted = first_that_fits (
+    (is (before s 1) (codes "for") && (wants wanted (codes "=") && is_name_here s), Rewriting R.ForName)
+    ∷ (is (before s 1) (codes "for") && (wants wanted (codes "=") && (is (here s) (codes "(") && is_name_after s 1)), Rewriting R.ForBracket)
+    ∷ (is (before s 1) (codes "for") && wants wanted (codes "="), Fixed A.NoFor)
+    ∷ (is_one_of (before s 1) (codes "assert" ∷ codes "require" ∷ []) && has_operand s wanted, Rewriting R.Assert)
+    ∷ (is_one_of (before s 1) printing && (wants wanted (codes "=") && (has s (P.OperandAfter 0) && (is (here s) (codes "(") && is (after s 2) (codes ")")))), Rewriting R.PrintInner)
     ∷ (is_one_of (before s 1) printing && has_operand s wanted, Rewriting R.Print)
-    ∷ [])
-
--- of words of other languages that declare a name
-unfoldable pub declared_slip : Setting → List Wanted → Option Hint
-declared_slip s wanted = first_that_fits (
-    (is_one_of (before s 1) declaring && (wants wanted (codes "=") && (is_name_here s && (is (after s 1) (codes "=") && has s P.ToSemicolon))), Rewriting R.DeclaredAbove)
+    ∷ (is_one_of (before s 1) declaring && (wants wanted (codes "=") && (is_name_here s && (is (after s 1) (codes "=") && has s P.ToSemicolon))), Rewriting R.DeclaredAbove)
     ∷ (is_one_of (before s 1) declaring && (wants wanted (codes "=") && is_name_here s), Fixed A.DeclareBefore)
-    ∷ [])
-
--- of words that leave a loop or a program
-unfoldable pub leaving_slip : Setting → List Wanted → Option Hint
-leaving_slip s wanted = first_that_fits (
-    (is_one_of (before s 1) (codes "break" ∷ codes "continue" ∷ []) && wants wanted (codes "="), Fixed A.LoopEnds)
+    ∷ (is_one_of (before s 1) (codes "break" ∷ codes "continue" ∷ []) && wants wanted (codes "="), Fixed A.LoopEnds)
     ∷ (is_one_of (before s 1) (codes "return" ∷ codes "exit" ∷ codes "halt" ∷ codes "stop" ∷ []) && wants wanted (codes "="), Fixed A.ProcessEnds)
     ∷ [])
 
@@ -84,10 +65,7 @@ begin_slip s wanted = first_that_fits (
     ∷ [])
 
 unfoldable pub statement_slip : Setting → List Wanted → Option Hint
-statement_slip s wanted =
-    option_or (for_slip s wanted) (option_or (assert_slip s wanted) (option_or (print_slip s wanted)
-    (option_or (declared_slip s wanted) (option_or (leaving_slip s wanted) (option_or (step_slip s wanted)
-    (begin_slip s wanted))))))
+statement_slip s wanted = option_or (word_slip s wanted) (option_or (step_slip s wanted) (begin_slip s wanted))
 
 -- of another word where a statement begins
 unfoldable pub other_slip : Setting → List Wanted → Option Hint

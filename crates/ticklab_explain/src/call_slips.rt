@@ -9,7 +9,7 @@ use crate::condition::Condition::{
 };
 use crate::fact::Fact::Name;
 use crate::hint::Hint::{Fixed, Quoting, Rewriting};
-use crate::hint::{Hint, first_that_fits};
+use crate::hint::{Hint, first_rule};
 use crate::part::Part::OperandAfter;
 use crate::quote::Quote;
 use crate::rewrite::Rewrite;
@@ -31,28 +31,12 @@ pub fn call_slip(scene: &Scene, wanted: &[Wanted]) -> Option<Hint>
 fn round_slip(scene: &Scene, wanted: &[Wanted]) -> Option<Hint>
     ensures { result ≡ round_slip (setting scene.now) wanted.now }
 {
-    first_that_fits(
-        scene,
-        wanted,
-        &[
-            (
-                &[Here("("), BeforeOneOf(1, &["stamp", "clear"])],
-                Rewriting(Rewrite::NoArguments),
-            ),
-            (
-                &[Here("("), Before(1, "scan"), Before(2, "=")],
-                Rewriting(Rewrite::PlainScan),
-            ),
-            (
-                &[Is(Name), Before(1, "scan"), Before(2, "="), After(1, ";")],
-                Rewriting(Rewrite::PlainScan),
-            ),
-            (
-                &[Here("("), Wants(";"), NameBefore(1)],
-                Quoting(Quote::NoFunctions),
-            ),
-            (&[Here(","), Wants("me")], Fixed(Advice::NoCommas)),
-        ],
+    first_rule!(scene, wanted;
+        Here("("), BeforeOneOf(1, &["stamp", "clear"]) => Rewriting(Rewrite::NoArguments);
+        Here("("), Before(1, "scan"), Before(2, "=") => Rewriting(Rewrite::PlainScan);
+        Is(Name), Before(1, "scan"), Before(2, "="), After(1, ";") => Rewriting(Rewrite::PlainScan);
+        Here("("), Wants(";"), NameBefore(1) => Quoting(Quote::NoFunctions);
+        Here(","), Wants("me") => Fixed(Advice::NoCommas);
     )
 }
 
@@ -61,37 +45,13 @@ fn round_slip(scene: &Scene, wanted: &[Wanted]) -> Option<Hint>
 fn comma_slip(scene: &Scene, wanted: &[Wanted]) -> Option<Hint>
     ensures { result ≡ comma_slip (setting scene.now) wanted.now }
 {
-    first_that_fits(
-        scene,
-        wanted,
-        &[
-            (
-                &[
-                    Here("("),
-                    BeforeOneOf(1, &["get", "held", "put"]),
-                    After(2, ","),
-                    After(4, ")"),
-                ],
-                Rewriting(Rewrite::CallOfTwo),
-            ),
-            (
-                &[
-                    Here("("),
-                    Before(1, "older"),
-                    After(2, ","),
-                    After(4, ","),
-                    After(6, ")"),
-                ],
-                Rewriting(Rewrite::CallOfThree),
-            ),
-            (
-                &[
-                    Here("("),
-                    BeforeOneOf(1, &["get", "held", "older", "copy", "put"]),
-                ],
-                Quoting(Quote::NoCall),
-            ),
-        ],
+    first_rule!(scene, wanted;
+        Here("("), BeforeOneOf(1, &["get", "held", "put"]), After(2, ","), After(4, ")")
+            => Rewriting(Rewrite::CallOfTwo);
+        Here("("), Before(1, "older"), After(2, ","), After(4, ","), After(6, ")")
+            => Rewriting(Rewrite::CallOfThree);
+        Here("("), BeforeOneOf(1, &["get", "held", "older", "copy", "put"])
+            => Quoting(Quote::NoCall);
     )
 }
 
@@ -100,35 +60,13 @@ fn comma_slip(scene: &Scene, wanted: &[Wanted]) -> Option<Hint>
 fn lack_slip(scene: &Scene, wanted: &[Wanted]) -> Option<Hint>
     ensures { result ≡ lack_slip (setting scene.now) wanted.now }
 {
-    first_that_fits(
-        scene,
-        wanted,
-        &[
-            (
-                &[Here(";"), Wants("me"), Before(2, "held")],
-                Rewriting(Rewrite::HeldWantsProcess),
-            ),
-            (
-                &[Here(";"), Wants("me"), Before(2, "older")],
-                Rewriting(Rewrite::OlderWantsBoth),
-            ),
-            (
-                &[Here(";"), Wants("me"), Before(3, "older")],
-                Rewriting(Rewrite::OlderWantsSecond),
-            ),
-            (
-                &[Here(";"), Wants("me"), Before(2, "put")],
-                Rewriting(Rewrite::PutWantsValue),
-            ),
-            (
-                &[Wants("x"), Before(1, "older")],
-                Fixed(Advice::OlderWantsScan),
-            ),
-            (
-                &[Wants("x"), Before(1, "held")],
-                Fixed(Advice::HeldWantsScan),
-            ),
-        ],
+    first_rule!(scene, wanted;
+        Here(";"), Wants("me"), Before(2, "held") => Rewriting(Rewrite::HeldWantsProcess);
+        Here(";"), Wants("me"), Before(2, "older") => Rewriting(Rewrite::OlderWantsBoth);
+        Here(";"), Wants("me"), Before(3, "older") => Rewriting(Rewrite::OlderWantsSecond);
+        Here(";"), Wants("me"), Before(2, "put") => Rewriting(Rewrite::PutWantsValue);
+        Wants("x"), Before(1, "older") => Fixed(Advice::OlderWantsScan);
+        Wants("x"), Before(1, "held") => Fixed(Advice::HeldWantsScan);
     )
 }
 
@@ -137,37 +75,12 @@ fn lack_slip(scene: &Scene, wanted: &[Wanted]) -> Option<Hint>
 fn put_slip(scene: &Scene, wanted: &[Wanted]) -> Option<Hint>
     ensures { result ≡ put_slip (setting scene.now) wanted.now }
 {
-    first_that_fits(
-        scene,
-        wanted,
-        &[
-            (
-                &[
-                    Here("="),
-                    Wants("me"),
-                    Before(2, "put"),
-                    Has(OperandAfter(1)),
-                ],
-                Rewriting(Rewrite::PutPlain),
-            ),
-            (
-                &[
-                    Wants("x"),
-                    Before(1, "put"),
-                    Has(OperandAfter(0)),
-                    NameAfter(1),
-                ],
-                Rewriting(Rewrite::RegisterFirst),
-            ),
-            (
-                &[
-                    Wants(";"),
-                    Before(3, "put"),
-                    Has(OperandAfter(0)),
-                    NotAfter(1, "="),
-                ],
-                Rewriting(Rewrite::OwnRegister),
-            ),
-        ],
+    first_rule!(scene, wanted;
+        Here("="), Wants("me"), Before(2, "put"), Has(OperandAfter(1))
+            => Rewriting(Rewrite::PutPlain);
+        Wants("x"), Before(1, "put"), Has(OperandAfter(0)), NameAfter(1)
+            => Rewriting(Rewrite::RegisterFirst);
+        Wants(";"), Before(3, "put"), Has(OperandAfter(0)), NotAfter(1, "=")
+            => Rewriting(Rewrite::OwnRegister);
     )
 }

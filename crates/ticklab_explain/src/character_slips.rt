@@ -1,13 +1,13 @@
 // Common slips with characters that begin no token.
 ghost use Rattle.std.specs.Prelude.{◌≡◌};
-ghost use Rattle.ticklab_explain.specs.Choosing.{character_slip, compared_slip, index_slip, other_sign_slip, point_slip};
+ghost use Rattle.ticklab_explain.specs.Choosing.{character_slip, compared_slip, mark_slip, other_sign_slip};
 ghost use Rattle.ticklab_explain.specs.Settings.{setting};
 
 use crate::advice::Advice;
 use crate::condition::Condition::{About, AboutOneOf, Before, BeforeOneOf, Is, NameBefore, Not};
 use crate::fact::Fact::{BeforeEquals, Begun, Utf16};
 use crate::hint::Hint::{Fixed, Quoting, Rewriting};
-use crate::hint::{Hint, first_that_fits};
+use crate::hint::{Hint, first_rule};
 use crate::quote::Quote;
 use crate::rewrite::Rewrite;
 use crate::scene::Scene;
@@ -17,7 +17,7 @@ use crate::scene::Scene;
 pub fn character_slip(scene: &Scene) -> Option<Hint>
     ensures { result ≡ character_slip (setting scene.now) }
 {
-    compared_slip(scene).or(index_slip(scene).or(point_slip(scene).or(other_sign_slip(scene))))
+    compared_slip(scene).or(mark_slip(scene).or(other_sign_slip(scene)))
 }
 
 // Signs between two operands, and before one.
@@ -25,81 +25,36 @@ pub fn character_slip(scene: &Scene) -> Option<Hint>
 fn compared_slip(scene: &Scene) -> Option<Hint>
     ensures { result ≡ compared_slip (setting scene.now) }
 {
-    first_that_fits(
-        scene,
-        &[],
-        &[
-            (&[About(">"), Before(1, "<")], Fixed(Advice::DiffersSign)),
-            (&[About(">"), Is(BeforeEquals)], Quoting(Quote::AtLeast)),
-            (&[About(">")], Quoting(Quote::Greater)),
-            (&[About("≥")], Quoting(Quote::AtLeastSign)),
-            (&[About("&")], Quoting(Quote::Both)),
-            (&[About("|")], Quoting(Quote::Either)),
-            (&[About("!")], Quoting(Quote::NotSign)),
-        ],
+    first_rule!(scene, &[];
+        About(">"), Before(1, "<") => Fixed(Advice::DiffersSign);
+        About(">"), Is(BeforeEquals) => Quoting(Quote::AtLeast);
+        About(">") => Quoting(Quote::Greater);
+        About("≥") => Quoting(Quote::AtLeastSign);
+        About("&") => Quoting(Quote::Both);
+        About("|") => Quoting(Quote::Either);
+        About("!") => Quoting(Quote::NotSign);
     )
 }
 
-// A number in brackets after a name.
-#[tactic(auto, unfolding(crate::specs::Choosing::index_slip))]
-fn index_slip(scene: &Scene) -> Option<Hint>
-    ensures { result ≡ index_slip (setting scene.now) }
+// A number in brackets after a name, a colon, and a point.
+#[tactic(auto, unfolding(crate::specs::Choosing::mark_slip))]
+fn mark_slip(scene: &Scene) -> Option<Hint>
+    ensures { result ≡ mark_slip (setting scene.now) }
 {
-    first_that_fits(
-        scene,
-        &[],
-        &[
-            (
-                &[About("["), Not(Begun), NameBefore(1)],
-                Rewriting(Rewrite::Sized),
-            ),
-            (
-                &[About("["), Before(2, "put"), NameBefore(1)],
-                Rewriting(Rewrite::PutOwn),
-            ),
-            (
-                &[
-                    About("["),
-                    BeforeOneOf(2, &[";", "begin", "{", "}"]),
-                    NameBefore(1),
-                ],
-                Rewriting(Rewrite::PutOwn),
-            ),
-            (
-                &[About("["), Before(2, "get"), NameBefore(1)],
-                Rewriting(Rewrite::GetIndexed),
-            ),
-            (&[About("[")], Quoting(Quote::Indexed)),
-        ],
-    )
-}
-
-// A colon, and a point.
-#[tactic(auto, unfolding(crate::specs::Choosing::point_slip))]
-fn point_slip(scene: &Scene) -> Option<Hint>
-    ensures { result ≡ point_slip (setting scene.now) }
-{
-    first_that_fits(
-        scene,
-        &[],
-        &[
-            (&[About(":"), Is(BeforeEquals)], Fixed(Advice::Assigns)),
-            (
-                &[About(":"), Before(1, "processes")],
-                Fixed(Advice::ProgramBegins),
-            ),
-            (&[About(":"), Not(Begun)], Fixed(Advice::NoTypes)),
-            (&[About(":")], Fixed(Advice::BlockInBraces)),
-            (
-                &[About("."), Before(1, "end")],
-                Fixed(Advice::NothingFollows),
-            ),
-            (
-                &[About("."), Before(4, "for"), NameBefore(3)],
-                Rewriting(Rewrite::ForRange),
-            ),
-            (&[About(".")], Fixed(Advice::NoDot)),
-        ],
+    first_rule!(scene, &[];
+        About("["), Not(Begun), NameBefore(1) => Rewriting(Rewrite::Sized);
+        About("["), Before(2, "put"), NameBefore(1) => Rewriting(Rewrite::PutOwn);
+        About("["), BeforeOneOf(2, &[";", "begin", "{", "}"]), NameBefore(1)
+            => Rewriting(Rewrite::PutOwn);
+        About("["), Before(2, "get"), NameBefore(1) => Rewriting(Rewrite::GetIndexed);
+        About("[") => Quoting(Quote::Indexed);
+        About(":"), Is(BeforeEquals) => Fixed(Advice::Assigns);
+        About(":"), Before(1, "processes") => Fixed(Advice::ProgramBegins);
+        About(":"), Not(Begun) => Fixed(Advice::NoTypes);
+        About(":") => Fixed(Advice::BlockInBraces);
+        About("."), Before(1, "end") => Fixed(Advice::NothingFollows);
+        About("."), Before(4, "for"), NameBefore(3) => Rewriting(Rewrite::ForRange);
+        About(".") => Fixed(Advice::NoDot);
     )
 }
 
@@ -107,18 +62,14 @@ fn point_slip(scene: &Scene) -> Option<Hint>
 fn other_sign_slip(scene: &Scene) -> Option<Hint>
     ensures { result ≡ other_sign_slip (setting scene.now) }
 {
-    first_that_fits(
-        scene,
-        &[],
-        &[
-            (&[AboutOneOf(&["\"", "'"])], Fixed(Advice::NoStrings)),
-            (&[About("≤")], Fixed(Advice::AtMostSign)),
-            (&[About("≠")], Fixed(Advice::DiffersSign)),
-            (&[AboutOneOf(&["×", "·"])], Fixed(Advice::TimesSign)),
-            (&[About("÷")], Fixed(Advice::DividesSign)),
-            (&[AboutOneOf(&["−", "–"])], Fixed(Advice::MinusSign)),
-            (&[About("\u{feff}")], Fixed(Advice::ByteOrderMark)),
-            (&[Is(Utf16)], Fixed(Advice::Utf16)),
-        ],
+    first_rule!(scene, &[];
+        AboutOneOf(&["\"", "'"]) => Fixed(Advice::NoStrings);
+        About("≤") => Fixed(Advice::AtMostSign);
+        About("≠") => Fixed(Advice::DiffersSign);
+        AboutOneOf(&["×", "·"]) => Fixed(Advice::TimesSign);
+        About("÷") => Fixed(Advice::DividesSign);
+        AboutOneOf(&["−", "–"]) => Fixed(Advice::MinusSign);
+        About("\u{feff}") => Fixed(Advice::ByteOrderMark);
+        Is(Utf16) => Fixed(Advice::Utf16);
     )
 }

@@ -8,9 +8,8 @@ use crate::character_slips::character_slip;
 use crate::condition::Condition::{About, After, Before, Has, Is, ItemBegins, ItemEnds, ItemHas};
 use crate::fact::Fact::Declared;
 use crate::grammar_slips::slip;
-use crate::hint::Hint::{Fixed, Naming, Quoting, Rewriting};
-use crate::hint::{Hint, first_that_fits};
-use crate::name_hint::NameHint;
+use crate::hint::Hint::{DeclaredNames, Fixed, ProcessCount, Quoting, Rewriting};
+use crate::hint::{Hint, first_rule};
 use crate::part::Part::OperandAfter;
 use crate::quote::Quote;
 use crate::rewrite::Rewrite;
@@ -64,10 +63,8 @@ fn kinds_hint(scene: &Scene, fault: KindFault) -> Option<Hint>
 fn twice_slip(scene: &Scene) -> Option<Hint>
     ensures { result ≡ twice_slip (setting scene.now) }
 {
-    first_that_fits(
-        scene,
-        &[],
-        &[(&[Is(Declared)], Quoting(Quote::DeclaredFirst))],
+    first_rule!(scene, &[];
+        Is(Declared) => Quoting(Quote::DeclaredFirst);
     )
 }
 
@@ -75,14 +72,10 @@ fn twice_slip(scene: &Scene) -> Option<Hint>
 fn unknown_slip(scene: &Scene) -> Option<Hint>
     ensures { result ≡ unknown_slip (setting scene.now) }
 {
-    first_that_fits(
-        scene,
-        &[],
-        &[
-            (&[About("true")], Fixed(Advice::TrueIsOne)),
-            (&[About("false")], Fixed(Advice::FalseIsZero)),
-            (&[], Naming(NameHint::Declared)),
-        ],
+    first_rule!(scene, &[];
+        About("true") => Fixed(Advice::TrueIsOne);
+        About("false") => Fixed(Advice::FalseIsZero);
+        => DeclaredNames;
     )
 }
 
@@ -92,8 +85,8 @@ fn kind_slip(scene: &Scene, wanted: Kind, found: Kind) -> Option<Hint>
     match (wanted, found) {
         (Kind::Variable, Kind::Register) => assigned_slip(
             scene,
-            Naming(NameHint::WrittenByPut),
-            Naming(NameHint::ReadByGet),
+            Quoting(Quote::WrittenByPut),
+            Quoting(Quote::ReadByGet),
         ),
         (Kind::Variable, Kind::Scan) => assigned_slip(
             scene,
@@ -114,7 +107,10 @@ fn kind_slip(scene: &Scene, wanted: Kind, found: Kind) -> Option<Hint>
 fn assigned_slip(scene: &Scene, assigned: Hint, read: Hint) -> Option<Hint>
     ensures { result ≡ assigned_slip (setting scene.now) assigned read }
 {
-    first_that_fits(scene, &[], &[(&[After(1, "=")], assigned), (&[], read)])
+    first_rule!(scene, &[];
+        After(1, "=") => assigned;
+        => read;
+    )
 }
 
 // Of a variable in the place of a register.
@@ -122,20 +118,10 @@ fn assigned_slip(scene: &Scene, assigned: Hint, read: Hint) -> Option<Hint>
 fn variable_slip(scene: &Scene) -> Option<Hint>
     ensures { result ≡ variable_slip (setting scene.now) }
 {
-    first_that_fits(
-        scene,
-        &[],
-        &[
-            (
-                &[Before(1, "put"), Has(OperandAfter(1))],
-                Rewriting(Rewrite::AssignedVariable),
-            ),
-            (
-                &[Before(1, "get"), Before(2, "=")],
-                Rewriting(Rewrite::ReadVariable),
-            ),
-            (&[], Fixed(Advice::GetAndPut)),
-        ],
+    first_rule!(scene, &[];
+        Before(1, "put"), Has(OperandAfter(1)) => Rewriting(Rewrite::AssignedVariable);
+        Before(1, "get"), Before(2, "=") => Rewriting(Rewrite::ReadVariable);
+        => Fixed(Advice::GetAndPut);
     )
 }
 
@@ -154,7 +140,7 @@ fn schedule_hint(scene: &Scene, fault: ScheduleFault) -> Option<Hint>
 {
     match fault {
         ScheduleFault::BadItem(_) => item_slip(scene),
-        ScheduleFault::NoSuchProcess(_) => Some(Naming(NameHint::ProcessCount)),
+        ScheduleFault::NoSuchProcess(_) => Some(ProcessCount),
         ScheduleFault::TooLong => Some(Fixed(Advice::LongestSchedule)),
         ScheduleFault::NoMemory => None,
     }
@@ -164,20 +150,16 @@ fn schedule_hint(scene: &Scene, fault: ScheduleFault) -> Option<Hint>
 fn item_slip(scene: &Scene) -> Option<Hint>
     ensures { result ≡ item_slip (setting scene.now) }
 {
-    first_that_fits(
-        scene,
-        &[],
-        &[
-            (&[ItemHas(b"()")], Fixed(Advice::NoGroups)),
-            (&[ItemHas(b",;")], Fixed(Advice::Blanks)),
-            (&[ItemBegins("#")], Fixed(Advice::NoComments)),
-            (&[ItemBegins("-")], Fixed(Advice::CountedFromZero)),
-            (&[ItemBegins("c")], Fixed(Advice::NoClears)),
-            (&[ItemBegins("*")], Fixed(Advice::NoBlankAtStar)),
-            (&[ItemEnds("*")], Fixed(Advice::NoBlankAtStar)),
-            (&[ItemEnds("*0")], Fixed(Advice::OneStepAtLeast)),
-            (&[ItemHas(b"x")], Fixed(Advice::StarRepeats)),
-            (&[], Fixed(Advice::OnlyDigits)),
-        ],
+    first_rule!(scene, &[];
+        ItemHas(b"()") => Fixed(Advice::NoGroups);
+        ItemHas(b",;") => Fixed(Advice::Blanks);
+        ItemBegins("#") => Fixed(Advice::NoComments);
+        ItemBegins("-") => Fixed(Advice::CountedFromZero);
+        ItemBegins("c") => Fixed(Advice::NoClears);
+        ItemBegins("*") => Fixed(Advice::NoBlankAtStar);
+        ItemEnds("*") => Fixed(Advice::NoBlankAtStar);
+        ItemEnds("*0") => Fixed(Advice::OneStepAtLeast);
+        ItemHas(b"x") => Fixed(Advice::StarRepeats);
+        => Fixed(Advice::OnlyDigits);
     )
 }

@@ -1,13 +1,20 @@
 // The names that a program declares.
 ghost use Rattle.std.specs.Prelude.{◌≡◌, ◌++◌, OnOk, codes, false, if◌then◌else◌, string_bytes, true};
-ghost use Rattle.ticklab_explain.specs.Hints.{declared_in, declared_names, no_names, section_name};
+ghost use Rattle.ticklab_explain.specs.Hints.{declared_in, declared_names, is_section, no_names, section_name};
 ghost use Rattle.ticklab_explain.specs.Settings.{setting};
 
-use crate::fact::is_section;
 use crate::scene::{Scene, is_name, text_at};
 use crate::words::beside;
 use crate::writing::Added;
 use tick_syntax::token::Token;
+
+/// Whether a word begins a section.
+#[tactic(auto, unfolding(crate::specs::Hints::is_section))]
+pub fn is_section(word: &str) -> bool
+    ensures { result ≡ is_section word.now }
+{
+    (word == "var") | (word == "scan") | (word == "reg")
+}
 
 /// Adds the names that are declared, by sections.
 #[tactic(auto, unfolding(crate::specs::Hints::declared_names))]

@@ -5,8 +5,8 @@ ghost use Rattle.ticklab_explain.specs.Hints.{piece_text};
 ghost use Rattle.ticklab_explain.specs.Following.{expectation, found, joint, listed, opening};
 ghost use Rattle.ticklab_explain.specs.Settings.{Setting, here, setting, sort_here};
 
-use crate::piece::Piece::{Here, Words};
-use crate::piece::{Piece, push_pieces};
+use crate::piece::Piece::Here;
+use crate::piece::{Piece, pieces, push_pieces};
 use crate::scene::Scene;
 use crate::wanted::Wanted;
 use crate::writing::Added;
@@ -66,20 +66,10 @@ fn found(sort: Option<Sort>) -> &'static [Piece]
     ensures { (s : Setting) → flat_map (piece_text s) result.now ≡ found sort (here s) }
 {
     match sort {
-        None => &TEXT_END,
-        Some(Sort::Name) => &NAME,
-        Some(Sort::Num(_)) => &NUMBER,
-        Some(Sort::Keyword) => &KEYWORD,
-        Some(Sort::Sign) => &SIGN,
+        None => pieces!("the end of the text"),
+        Some(Sort::Name) => pieces!("the name `" [Here] "`"),
+        Some(Sort::Num(_)) => pieces!("the number `" [Here] "`"),
+        Some(Sort::Keyword) => pieces!("the keyword `" [Here] "`"),
+        Some(Sort::Sign) => pieces!("`" [Here] "`"),
     }
 }
-
-static TEXT_END: [Piece; 1] = [Words("the end of the text")];
-
-static NAME: [Piece; 3] = [Words("the name `"), Here, Words("`")];
-
-static NUMBER: [Piece; 3] = [Words("the number `"), Here, Words("`")];
-
-static KEYWORD: [Piece; 3] = [Words("the keyword `"), Here, Words("`")];
-
-static SIGN: [Piece; 3] = [Words("`"), Here, Words("`")];

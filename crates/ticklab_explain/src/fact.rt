@@ -1,9 +1,9 @@
 // What may be so at a place, whatever is wanted there.
 ghost use Rattle.std.specs.Prelude.{◌≡◌};
 ghost use Rattle.ticklab_explain.specs.Facts.{begins_comment, begins_simple, begins_with, ends_block, ends_statement, is_so};
-ghost use Rattle.ticklab_explain.specs.Hints.{is_section};
 ghost use Rattle.ticklab_explain.specs.Settings.{setting};
 
+use crate::declared::is_section;
 use crate::scene::{Scene, byte_at};
 use crate::wanted::is_one_of;
 
@@ -71,14 +71,6 @@ impl Fact {
             Fact::Declared => scene.first_declaration().is_some(),
         }
     }
-}
-
-/// Whether a word begins a section.
-#[tactic(auto, unfolding(crate::specs::Hints::is_section))]
-pub fn is_section(word: &str) -> bool
-    ensures { result ≡ is_section word.now }
-{
-    (word == "var") | (word == "scan") | (word == "reg")
 }
 
 #[tactic(auto, unfolding(crate::specs::Facts::begins_comment))]

@@ -1,20 +1,24 @@
 // Common slips at a token where no program goes on, known by the tokens around the place.
 ghost use Rattle.std.specs.Prelude.{◌≡◌};
-ghost use Rattle.ticklab_explain.specs.Choosing.{foreign_slip, keyword_slip, missing_slip, place_slip, sign_hint, slip, whole_slip, word_hint};
+ghost use Rattle.ticklab_explain.specs.Choosing.{declaration_slip, foreign_slip, keyword_slip, missing_slip, operator_slip, place_slip, sign_hint, sign_slip, slip, whole_slip, word_hint};
 ghost use Rattle.ticklab_explain.specs.Settings.{setting};
 
 use crate::advice::Advice;
 use crate::block_slips::{block_slip, body_slip};
 use crate::call_slips::call_slip;
-use crate::condition::Condition::{Before, Here, HereOneOf, Is, NotBefore, Wants, WantsEither};
-use crate::declaration_slips::declaration_slip;
-use crate::fact::Fact::{AtEnd, AtStart, Empty, EndsStatement, Keyword, Name, Section, Touches};
-use crate::hint::Hint::{Fixed, Quoting};
-use crate::hint::{Hint, first_that_fits};
+use crate::condition::Condition::{
+    After, Before, Has, Here, HereOneOf, Is, NameAfter, Not, NotBefore, Wants, WantsEither,
+};
+use crate::fact::Fact::{
+    AtEnd, AtStart, Begun, Comment, Empty, EndsStatement, Keyword, Name, Section, Touches,
+};
+use crate::hint::Hint::{Fixed, Quoting, Rewriting};
+use crate::hint::{Hint, first_rule};
 use crate::operand_slips::operand_slip;
+use crate::part::Part::OperandAfter;
 use crate::quote::Quote;
+use crate::rewrite::Rewrite;
 use crate::scene::Scene;
-use crate::sign_slips::{operator_slip, sign_slip};
 use crate::statement_slips::{other_slip, statement_slip};
 use crate::wanted::Wanted;
 
@@ -49,18 +53,11 @@ fn sign_hint(scene: &Scene, wanted: &[Wanted]) -> Option<Hint>
 fn whole_slip(scene: &Scene, wanted: &[Wanted]) -> Option<Hint>
     ensures { result ≡ whole_slip (setting scene.now) wanted.now }
 {
-    first_that_fits(
-        scene,
-        wanted,
-        &[
-            (&[Is(Empty)], Fixed(Advice::EmptyText)),
-            (&[Is(AtStart), Here("tickcode")], Fixed(Advice::CodeText)),
-            (&[Before(1, "end")], Fixed(Advice::NothingFollows)),
-            (
-                &[Is(AtEnd), WantsEither("end", "=")],
-                Fixed(Advice::EndIsMissing),
-            ),
-        ],
+    first_rule!(scene, wanted;
+        Is(Empty) => Fixed(Advice::EmptyText);
+        Is(AtStart), Here("tickcode") => Fixed(Advice::CodeText);
+        Before(1, "end") => Fixed(Advice::NothingFollows);
+        Is(AtEnd), WantsEither("end", "=") => Fixed(Advice::EndIsMissing);
     )
 }
 
@@ -69,18 +66,14 @@ fn whole_slip(scene: &Scene, wanted: &[Wanted]) -> Option<Hint>
 fn foreign_slip(scene: &Scene) -> Option<Hint>
     ensures { result ≡ foreign_slip (setting scene.now) }
 {
-    first_that_fits(
-        scene,
-        &[],
-        &[
-            (&[Before(1, "not")], Quoting(Quote::NotWord)),
-            (&[Before(1, "await")], Quoting(Quote::Await)),
-            (&[Before(1, "and")], Fixed(Advice::NoAnd)),
-            (&[Here("const")], Fixed(Advice::NoConstants)),
-            (&[Here("and")], Fixed(Advice::NoAnd)),
-            (&[Here("or")], Fixed(Advice::NoOr)),
-            (&[Here("mod")], Fixed(Advice::RemainderSign)),
-        ],
+    first_rule!(scene, &[];
+        Before(1, "not") => Quoting(Quote::NotWord);
+        Before(1, "await") => Quoting(Quote::Await);
+        Before(1, "and") => Fixed(Advice::NoAnd);
+        Here("const") => Fixed(Advice::NoConstants);
+        Here("and") => Fixed(Advice::NoAnd);
+        Here("or") => Fixed(Advice::NoOr);
+        Here("mod") => Fixed(Advice::RemainderSign);
     )
 }
 
@@ -89,23 +82,28 @@ fn foreign_slip(scene: &Scene) -> Option<Hint>
 fn keyword_slip(scene: &Scene, wanted: &[Wanted]) -> Option<Hint>
     ensures { result ≡ keyword_slip (setting scene.now) wanted.now }
 {
-    first_that_fits(
-        scene,
-        wanted,
-        &[
-            (&[Is(Keyword), Wants("x")], Quoting(Quote::Keyword)),
-            (
-                &[HereOneOf(&["stamp", "clear"]), WantsEither("me", "get")],
-                Quoting(Quote::NoValue),
-            ),
-            (
-                &[
-                    HereOneOf(&["older", "held", "get", "scan", "copy"]),
-                    Wants("me"),
-                ],
-                Quoting(Quote::OwnStatement),
-            ),
-        ],
+    first_rule!(scene, wanted;
+        Is(Keyword), Wants("x") => Quoting(Quote::Keyword);
+        HereOneOf(&["stamp", "clear"]), WantsEither("me", "get") => Quoting(Quote::NoValue);
+        HereOneOf(&["older", "held", "get", "scan", "copy"]), Wants("me")
+            => Quoting(Quote::OwnStatement);
+    )
+}
+
+// Names before `begin`, and sections.
+#[tactic(auto, unfolding(crate::specs::Choosing::declaration_slip))]
+fn declaration_slip(scene: &Scene, wanted: &[Wanted]) -> Option<Hint>
+    ensures { result ≡ declaration_slip (setting scene.now) wanted.now }
+{
+    first_rule!(scene, wanted;
+        Wants(","), Is(Name) => Rewriting(Rewrite::CommaBetween);
+        Wants(","), Here("=") => Fixed(Advice::AllBeginAsZero);
+        Wants(","), Here("-") => Fixed(Advice::NameLetters);
+        Wants("x"), Here(";"), Before(1, ",") => Fixed(Advice::NoLastComma);
+        Wants("x"), Not(Begun), Has(OperandAfter(0)), Not(Keyword) => Fixed(Advice::NameBegins);
+        Wants("var"), Is(Name), NameAfter(1), After(2, ";") => Rewriting(Rewrite::DeclaredByVar);
+        Wants("begin"), Is(Name), NameAfter(1) => Fixed(Advice::SectionWords);
+        WantsEither("processes", "0") => Fixed(Advice::ProgramBegins);
     )
 }
 
@@ -114,17 +112,38 @@ fn keyword_slip(scene: &Scene, wanted: &[Wanted]) -> Option<Hint>
 fn place_slip(scene: &Scene, wanted: &[Wanted]) -> Option<Hint>
     ensures { result ≡ place_slip (setting scene.now) wanted.now }
 {
-    first_that_fits(
-        scene,
-        wanted,
-        &[
-            (
-                &[Wants("me"), Before(2, "get")],
-                Quoting(Quote::GetWantsProcess),
-            ),
-            (&[Wants("begin"), Is(Section)], Fixed(Advice::SectionOrder)),
-            (&[Wants("begin")], Fixed(Advice::BeginIsMissing)),
-        ],
+    first_rule!(scene, wanted;
+        Wants("me"), Before(2, "get") => Quoting(Quote::GetWantsProcess);
+        Wants("begin"), Is(Section) => Fixed(Advice::SectionOrder);
+        Wants("begin") => Fixed(Advice::BeginIsMissing);
+    )
+}
+
+// An equals sign or an operator that no program has there.
+#[tactic(auto, unfolding(crate::specs::Choosing::operator_slip))]
+fn operator_slip(scene: &Scene, wanted: &[Wanted]) -> Option<Hint>
+    ensures { result ≡ operator_slip (setting scene.now) wanted.now }
+{
+    first_rule!(scene, wanted;
+        Is(Comment) => Fixed(Advice::CommentSign);
+        Here("=="), Wants("=") => Fixed(Advice::OneEqualsAssigns);
+        Here("="), Wants("+") => Fixed(Advice::TwoEqualsCompare);
+        HereOneOf(&["+", "-", "*", "/", "%"]), Wants("="), After(1, "="), Has(OperandAfter(2))
+            => Rewriting(Rewrite::AssignedInPlace);
+        Here("-"), WantsEither("get", "me") => Fixed(Advice::NoNegatives);
+    )
+}
+
+// Other signs.
+#[tactic(auto, unfolding(crate::specs::Choosing::sign_slip))]
+fn sign_slip(scene: &Scene, wanted: &[Wanted]) -> Option<Hint>
+    ensures { result ≡ sign_slip (setting scene.now) wanted.now }
+{
+    first_rule!(scene, wanted;
+        Here(";"), Wants("stamp"), Before(1, "}") => Fixed(Advice::NoSemicolonAfterBlock);
+        Here(";"), Wants("stamp") => Fixed(Advice::NoEmptyStatement);
+        Here(";"), Wants("x"), Not(Begun) => Fixed(Advice::NoEmptySection);
+        Here(","), Wants(";") => Fixed(Advice::SemicolonForComma);
     )
 }
 
@@ -133,18 +152,8 @@ fn place_slip(scene: &Scene, wanted: &[Wanted]) -> Option<Hint>
 fn missing_slip(scene: &Scene, wanted: &[Wanted]) -> Option<Hint>
     ensures { result ≡ missing_slip (setting scene.now) wanted.now }
 {
-    first_that_fits(
-        scene,
-        wanted,
-        &[
-            (
-                &[Wants(";"), Is(Name), Is(Touches), NotBefore(1, ")")],
-                Fixed(Advice::DecimalDigits),
-            ),
-            (
-                &[Wants(";"), Is(EndsStatement)],
-                Quoting(Quote::SemicolonIsMissing),
-            ),
-        ],
+    first_rule!(scene, wanted;
+        Wants(";"), Is(Name), Is(Touches), NotBefore(1, ")") => Fixed(Advice::DecimalDigits);
+        Wants(";"), Is(EndsStatement) => Quoting(Quote::SemicolonIsMissing);
     )
 }

@@ -6,13 +6,13 @@ ghost use Rattle.ticklab_explain.specs.Settings.{setting};
 
 use crate::advice::Advice;
 use crate::condition::{Condition, fit};
-use crate::name_hint::NameHint;
+use crate::declared::push_declared_names;
 use crate::piece::push_pieces;
 use crate::quote::Quote;
 use crate::rewrite::Rewrite;
 use crate::scene::Scene;
 use crate::wanted::Wanted;
-use crate::writing::Added;
+use crate::writing::{Added, push_number};
 use base::span::Span;
 
 /// What may help.
@@ -20,8 +20,10 @@ use base::span::Span;
 pub enum Hint {
     /// In words that are always the same.
     Fixed(Advice),
-    /// In words that quote names.
-    Naming(NameHint),
+    /// How many processes there are.
+    ProcessCount,
+    /// Which names are declared.
+    DeclaredNames,
     /// In words that quote the text about the place.
     Quoting(Quote),
     /// In words that say what to write in its place.
@@ -35,7 +37,13 @@ impl Hint {
     {
         match self {
             Hint::Fixed(advice) => text.push_str(advice.text()),
-            Hint::Naming(hint) => hint.push(text, scene),
+            Hint::ProcessCount => push_number(
+                text,
+                "processes are counted from 0, and there are ",
+                usize::from(scene.processes),
+                "",
+            ),
+            Hint::DeclaredNames => push_declared_names(text, scene),
             Hint::Quoting(quote) => push_pieces(text, scene, quote.pieces()),
             Hint::Rewriting(rewrite) => push_pieces(text, scene, rewrite.pieces()),
         }
@@ -46,7 +54,7 @@ impl Hint {
         ensures { result ≡ hint_span (setting scene.now) self }
     {
         match self {
-            Hint::Fixed(_) | Hint::Naming(_) | Hint::Rewriting(_) => None,
+            Hint::Fixed(_) | Hint::ProcessCount | Hint::DeclaredNames | Hint::Rewriting(_) => None,
             Hint::Quoting(quote) => quote.span(scene),
         }
     }
@@ -66,3 +74,12 @@ pub fn first_that_fits(scene: &Scene, wanted: &[Wanted], rules: &[Rule]) -> Opti
     }
     None
 }
+
+// Of rules, each of which is conditions and a hint, the hint of the first whose conditions all hold.
+macro_rules! first_rule {
+    ($scene:expr, $wanted:expr; $($($condition:expr),* => $hint:expr;)*) => {
+        $crate::hint::first_that_fits($scene, $wanted, &[$((&[$($condition),*], $hint)),*])
+    };
+}
+
+pub(crate) use first_rule;

@@ -4,8 +4,8 @@ ghost use Rattle.ticklab_explain.specs.Messages.{character_message, code_message
 ghost use Rattle.ticklab_explain.specs.Settings.{about, setting};
 
 use crate::expectation::push_expectation;
-use crate::piece::Piece::{About, Words};
-use crate::piece::{Piece, push_pieces};
+use crate::piece::Piece::About;
+use crate::piece::{pieces, push_pieces};
 use crate::scene::{Scene, is_text, shortened};
 use crate::wanted::Wanted;
 use crate::writing::{Added, push_all, push_number};
@@ -56,30 +56,24 @@ fn push_character(text: &mut String, scene: &Scene) -> Added
     ensures { OnOk result (string_bytes text.new ≡ string_bytes text.old ++ character_message (setting scene.now)) }
 {
     if is_text(scene.text) {
-        push_pieces(text, scene, &NO_TOKEN)
+        push_pieces(text, scene, pieces!("no token begins with `" [About] "`"))
     } else {
         text.push_str("these bytes are no UTF-8")
     }
 }
-
-static NO_TOKEN: [Piece; 3] = [Words("no token begins with `"), About, Words("`")];
 
 fn push_kinds(text: &mut String, scene: &Scene, fault: KindFault) -> Added
     ensures { OnOk result (string_bytes text.new ≡ string_bytes text.old ++ kinds_message (setting scene.now) fault) }
 {
     match fault {
         KindFault::Processes(_) => text.push_str("the number of processes is out of range"),
-        KindFault::Twice(_) => push_pieces(text, scene, &TWICE),
-        KindFault::Unknown(_) => push_pieces(text, scene, &UNKNOWN),
+        KindFault::Twice(_) => push_pieces(text, scene, pieces!("`" [About] "` is declared twice")),
+        KindFault::Unknown(_) => push_pieces(text, scene, pieces!("`" [About] "` is not declared")),
         KindFault::WrongKind { wanted, found, .. } => push_wrong_kind(text, scene, wanted, found),
         KindFault::TooMany(_) => text.push_str("one name more than there may be of its kind"),
         KindFault::NoMemory => Ok(()),
     }
 }
-
-static TWICE: [Piece; 3] = [Words("`"), About, Words("` is declared twice")];
-
-static UNKNOWN: [Piece; 3] = [Words("`"), About, Words("` is not declared")];
 
 fn push_wrong_kind(text: &mut String, scene: &Scene, wanted: Kind, found: Kind) -> Added
     ensures { OnOk result (string_bytes text.new ≡ string_bytes text.old ++ wrong_kind (about (setting scene.now)) wanted found) }

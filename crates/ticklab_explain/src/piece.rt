@@ -36,6 +36,15 @@ pub enum Piece {
     Tokens(Part),
 }
 
+// The pieces of a text: words, with what is quoted in brackets between them.
+macro_rules! pieces {
+    ($first:literal $([$quoted:expr] $words:literal)*) => {
+        &[$crate::piece::Piece::Words($first) $(, $quoted, $crate::piece::Piece::Words($words))*]
+    };
+}
+
+pub(crate) use pieces;
+
 impl Piece {
     fn push(self, text: &mut String, scene: &Scene) -> Added
         ensures { OnOk result (string_bytes text.new ≡ string_bytes text.old ++ piece_text (setting scene.now) self) }
@@ -79,11 +88,11 @@ fn or<'a>(word: &'a str, other: &'a str) -> &'a str
 fn meaning(keyword: &str) -> &'static str
     ensures { result.now ≡ meaning keyword.now }
 {
-    let rows = [
-        ("n", ", the number of processes"),
-        ("me", ", the number of the process itself"),
-    ];
-    beside(&rows, keyword, "")
+    match keyword {
+        "n" => ", the number of processes",
+        "me" => ", the number of the process itself",
+        _ => "",
+    }
 }
 
 // A statement of a keyword that has operands, or gives a scan.

@@ -4,10 +4,10 @@ ghost use Rattle.std.specs.List.{flat_map};
 ghost use Rattle.ticklab_explain.specs.Hints.{piece_text, quote_span, quote_text};
 ghost use Rattle.ticklab_explain.specs.Settings.{Setting, setting};
 
-use crate::piece::Piece;
 use crate::piece::Piece::{
-    About, Before, Here, Left, Meaning, Right, Statement, StatementBefore, Words,
+    About, After, Before, Here, Left, Meaning, Right, Statement, StatementBefore,
 };
+use crate::piece::{Piece, pieces};
 use crate::scene::Scene;
 use base::span::Span;
 
@@ -31,6 +31,8 @@ pub enum Quote {
     NoThen,
     NoCall,
     NoFunctions,
+    WrittenByPut,
+    ReadByGet,
     DeclaredFirst,
     BraceIsOpen,
     SemicolonIsMissing,
@@ -42,26 +44,51 @@ impl Quote {
         ensures { (s : Setting) → flat_map (piece_text s) result.now ≡ quote_text s self }
     {
         match self {
-            Quote::Greater => &GREATER,
-            Quote::AtLeast => &AT_LEAST,
-            Quote::AtLeastSign => &AT_LEAST_SIGN,
-            Quote::Both => &BOTH,
-            Quote::Either => &EITHER,
-            Quote::NotSign => &NOT_SIGN,
-            Quote::Indexed => &INDEXED,
-            Quote::NotWord => &NOT_WORD,
-            Quote::Await => &AWAIT,
-            Quote::Keyword => &KEYWORD,
-            Quote::KeywordBefore => &KEYWORD_BEFORE,
-            Quote::NoValue => &NO_VALUE,
-            Quote::OwnStatement => &OWN_STATEMENT,
-            Quote::GetWantsProcess => &GET_WANTS_PROCESS,
-            Quote::NoThen => &NO_THEN,
-            Quote::NoCall => &NO_CALL,
-            Quote::NoFunctions => &NO_FUNCTIONS,
-            Quote::DeclaredFirst => &DECLARED_FIRST,
-            Quote::BraceIsOpen => &BRACE_IS_OPEN,
-            Quote::SemicolonIsMissing => &SEMICOLON_IS_MISSING,
+            Quote::Greater =>
+                pieces!("there is no `>`: write `(" [Right("y")] " < " [Left("x")] ")`"),
+            Quote::AtLeast =>
+                pieces!("there is no `>=`: write `(" [Right("y")] " <= " [Left("x")] ")`"),
+            Quote::AtLeastSign =>
+                pieces!("there is no `≥`: write `(" [Right("y")] " <= " [Left("x")] ")`"),
+            Quote::Both => pieces!(
+                "there is no `&&`: of values that are 0 or 1 write `(" [Left("x")]
+                " * " [Right("y")] ")`"
+            ),
+            Quote::Either => pieces!(
+                "there is no `||`: of values that are 0 or 1 write `((" [Left("x")]
+                " + " [Right("y")] ") != 0)`"
+            ),
+            Quote::NotSign => pieces!("there is no `!`: write `(" [Right("x")] " == 0)`"),
+            Quote::Indexed => pieces!(
+                "a register is read by a statement of its own: `x = get " [Left("r")]
+                " " [Right("me")] ";`"
+            ),
+            Quote::NotWord => pieces!("there is no `not`: write `(" [Here] " == 0)`"),
+            Quote::Await => pieces!(
+                "there is no `await`: wait in a loop, `while (" [Here] " == 0) { " [Here]
+                " = get r e; }`"
+            ),
+            Quote::Keyword =>
+                pieces!("`" [Here] "` is a keyword" [Meaning] ": choose another name"),
+            Quote::KeywordBefore => pieces!("`" [Before(1)] "` is a keyword: choose another name"),
+            Quote::NoValue => pieces!("`" [Here] "` gives no value: write `" [Here] ";`"),
+            Quote::OwnStatement =>
+                pieces!("`" [Here] "` is a statement of its own: `" [Statement] "`"),
+            Quote::GetWantsProcess => pieces!(
+                "`get " [Before(1)] "` wants the process whose register is read: `get " [Before(1)]
+                " me`"
+            ),
+            Quote::NoThen => pieces!("there is no `" [Here] "`: a block begins with `{`"),
+            Quote::NoCall =>
+                pieces!("operands stand without brackets and commas: `" [StatementBefore] "`"),
+            Quote::NoFunctions =>
+                pieces!("`" [Before(1)] "` can't be called: there are no functions"),
+            Quote::WrittenByPut =>
+                pieces!("a register is written by `put " [About] " " [After(2)] ";`"),
+            Quote::ReadByGet => pieces!("read it first: `x = get " [About] " me;`"),
+            Quote::DeclaredFirst => pieces!("`" [About] "` was declared here first"),
+            Quote::BraceIsOpen => pieces!("this `{` is not closed"),
+            Quote::SemicolonIsMissing => pieces!("a `;` is missing after `" [Before(1)] "`"),
         }
     }
 
@@ -80,133 +107,3 @@ impl Quote {
         }
     }
 }
-
-static GREATER: [Piece; 5] = [
-    Words("there is no `>`: write `("),
-    Right("y"),
-    Words(" < "),
-    Left("x"),
-    Words(")`"),
-];
-
-static AT_LEAST: [Piece; 5] = [
-    Words("there is no `>=`: write `("),
-    Right("y"),
-    Words(" <= "),
-    Left("x"),
-    Words(")`"),
-];
-
-static AT_LEAST_SIGN: [Piece; 5] = [
-    Words("there is no `≥`: write `("),
-    Right("y"),
-    Words(" <= "),
-    Left("x"),
-    Words(")`"),
-];
-
-static BOTH: [Piece; 5] = [
-    Words("there is no `&&`: of values that are 0 or 1 write `("),
-    Left("x"),
-    Words(" * "),
-    Right("y"),
-    Words(")`"),
-];
-
-static EITHER: [Piece; 5] = [
-    Words("there is no `||`: of values that are 0 or 1 write `(("),
-    Left("x"),
-    Words(" + "),
-    Right("y"),
-    Words(") != 0)`"),
-];
-
-static NOT_SIGN: [Piece; 3] = [
-    Words("there is no `!`: write `("),
-    Right("x"),
-    Words(" == 0)`"),
-];
-
-static INDEXED: [Piece; 5] = [
-    Words("a register is read by a statement of its own: `x = get "),
-    Left("r"),
-    Words(" "),
-    Right("me"),
-    Words(";`"),
-];
-
-static NOT_WORD: [Piece; 3] = [Words("there is no `not`: write `("), Here, Words(" == 0)`")];
-
-static AWAIT: [Piece; 5] = [
-    Words("there is no `await`: wait in a loop, `while ("),
-    Here,
-    Words(" == 0) { "),
-    Here,
-    Words(" = get r e; }`"),
-];
-
-static KEYWORD: [Piece; 5] = [
-    Words("`"),
-    Here,
-    Words("` is a keyword"),
-    Meaning,
-    Words(": choose another name"),
-];
-
-static KEYWORD_BEFORE: [Piece; 3] = [
-    Words("`"),
-    Before(1),
-    Words("` is a keyword: choose another name"),
-];
-
-static NO_VALUE: [Piece; 5] = [
-    Words("`"),
-    Here,
-    Words("` gives no value: write `"),
-    Here,
-    Words(";`"),
-];
-
-static OWN_STATEMENT: [Piece; 5] = [
-    Words("`"),
-    Here,
-    Words("` is a statement of its own: `"),
-    Statement,
-    Words("`"),
-];
-
-static GET_WANTS_PROCESS: [Piece; 5] = [
-    Words("`get "),
-    Before(1),
-    Words("` wants the process whose register is read: `get "),
-    Before(1),
-    Words(" me`"),
-];
-
-static NO_THEN: [Piece; 3] = [
-    Words("there is no `"),
-    Here,
-    Words("`: a block begins with `{`"),
-];
-
-static NO_CALL: [Piece; 3] = [
-    Words("operands stand without brackets and commas: `"),
-    StatementBefore,
-    Words("`"),
-];
-
-static NO_FUNCTIONS: [Piece; 3] = [
-    Words("`"),
-    Before(1),
-    Words("` can't be called: there are no functions"),
-];
-
-static DECLARED_FIRST: [Piece; 3] = [Words("`"), About, Words("` was declared here first")];
-
-static BRACE_IS_OPEN: [Piece; 1] = [Words("this `{` is not closed")];
-
-static SEMICOLON_IS_MISSING: [Piece; 3] = [
-    Words("a `;` is missing after `"),
-    Before(1),
-    Words("`"),
-];

@@ -1,6 +1,6 @@
 // The place of a refusal in its text.
 ghost use Rattle.std.specs.Prelude.{◌≡◌, ◌≤◌, length};
-ghost use Rattle.ticklab_explain.specs.Settings.{AreBlanksAfter, AreBlanksBefore, AreTokens, IsSetting, IsWordAfter, IsWordBefore, IsWordEnd, IsWordStart, behind, index_from, is_doubled, is_compared, is_word_byte, read_part, setting, text_part};
+ghost use Rattle.ticklab_explain.specs.Settings.{AreBlanksAfter, AreBlanksBefore, AreTokens, IsSetting, IsWordEnd, IsWordStart, behind, index_from, is_doubled, is_compared, is_word_byte, read_part, setting, text_part};
 
 use crate::scene::{Scene, as_text, byte_at, text_at};
 use crate::spot::{span_at, spot_of};
@@ -20,13 +20,15 @@ pub fn scene_of<'a>(
     ensures { IsSetting processes text.now refusal (setting result) }
 {
     let span = span_at(text, spot_of(refusal)).unwrap_or(Span { start: 0, end: 0 });
+    let before = blank_start(text, span.start.min(text.len()));
+    let after = blank_end(text, behind(text, span).min(text.len()));
     Scene {
         text,
         tokens,
         span,
         at: index_from(span.start, tokens),
-        left: word_before(text, span.start),
-        right: word_after(text, behind(text, span)),
+        left: as_text(&text[word_start(text, before)..before]),
+        right: as_text(&text[after..word_end(text, after)]),
         processes,
     }
 }
@@ -96,15 +98,6 @@ fn is_word_byte(byte: u8) -> bool
     byte.is_ascii_alphabetic() | byte.is_ascii_digit() | (byte == b'_')
 }
 
-// The name or number right before a place, with blanks between; nothing where another thing stands.
-fn word_before(text: &[u8], at: usize) -> &str
-    ensures { IsWordBefore text.now at result.now }
-{
-    let end = blank_start(text, at.min(text.len()));
-    let start = word_start(text, end);
-    as_text(&text[start..end])
-}
-
 // Where the blanks before a place begin.
 fn blank_start(text: &[u8], at: usize) -> usize
     requires { at ≤ length text.now }
@@ -117,24 +110,18 @@ fn blank_start(text: &[u8], at: usize) -> usize
     start
 }
 
+// Where the name or number begins that ends at a place; this place where another thing stands.
 fn word_start(text: &[u8], at: usize) -> usize
     requires { at ≤ length text.now }
     ensures { IsWordStart text.now at result }
 {
-    let mut start = at;
-    while start > 0 && at - start < 64 && is_word_byte(text[start - 1]) {
-        start -= 1;
+    let least = at.saturating_sub(64);
+    for start in (least..at).rev() {
+        if !is_word_byte(text[start]) {
+            return start + 1;
+        }
     }
-    start
-}
-
-// The name or number right after a place.
-fn word_after(text: &[u8], at: usize) -> &str
-    ensures { IsWordAfter text.now at result.now }
-{
-    let start = blank_end(text, at.min(text.len()));
-    let end = word_end(text, start);
-    as_text(&text[start..end])
+    least
 }
 
 // Where the blanks from a place on end.
@@ -149,13 +136,16 @@ fn blank_end(text: &[u8], at: usize) -> usize
     end
 }
 
+// Where the name or number ends that begins at a place; this place where another thing stands.
 fn word_end(text: &[u8], at: usize) -> usize
     requires { at ≤ length text.now }
     ensures { IsWordEnd text.now at result }
 {
-    let mut end = at;
-    while end < text.len() && end - at < 64 && is_word_byte(text[end]) {
-        end += 1;
+    let most = text.len().min(at + 64);
+    for end in at..most {
+        if !is_word_byte(text[end]) {
+            return end;
+        }
     }
-    end
+    most
 }

@@ -13,7 +13,9 @@ returns c =
       is_found = subst P c.spot_of.ensures c.span_at.ensures;
       same_span = c.unwrap_or-span.ensures;
       same_at = c.index_from.ensures;
-      is_left = c.word_before.ensures;
-      is_right = rw c.behind.ensures at c.word_after.ensures;
+      is_left =
+          (c.blank_start-before.result, c.word_start.result, rw c.min.ensures at c.blank_start-before.ensures, c.word_start.ensures, c.as_text.ensures);
+      is_right =
+          (c.blank_end-after.result, c.word_end.result, rw c.behind.ensures at (rw c.min-2.ensures at c.blank_end-after.ensures), c.word_end.ensures, c.as_text-2.ensures);
       same_processes = refl;
     }

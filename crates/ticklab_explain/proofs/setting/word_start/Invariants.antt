@@ -1,11 +1,6 @@
-use Rattle.std.proofs.Common.{◌≡◌, ℕ, ◌<◌, ◌≤◌, ◌+◌, get_or, true}
+use Rattle.std.proofs.Common.{◌≡◌, ℕ, ◌<◌, ◌≤◌, get_or, true}
 use Rattle.ticklab_explain.specs.Settings.{is_word_byte}
 use Rattle.ticklab_explain.proofs.setting.word_start.Given as goal
 
 abbrev pub invariant-loop-start : goal.invariant-loop-start
-invariant-loop-start l =
-    (l.start ≤ l.at) × (l.at ≤ l.start + 64)
-    × ((k : ℕ) → l.start ≤ k → k < l.at → is_word_byte (get_or l.text k 0) ≡ true)
-
-abbrev pub decreases-loop-start : goal.decreases-loop-start
-decreases-loop-start l = l.start
+invariant-loop-start l = (k : ℕ) → l.start ≤ k → k < l.at → is_word_byte (get_or l.text k 0) ≡ true
