@@ -1,5 +1,5 @@
--- Titles, names of rows and the text of what must never hold open no tag. Two pictures of the same marks have as many `<`,
--- whatever these are (`markup_law`).
+-- Titles, names of rows and the text of what must never hold open no tag. Two pictures of the same marks in the same columns
+-- have as many `<`, whatever these are (`markup_law`).
 -- The idea. The two pictures are the same pieces but for escaped texts. An escaped text has no `<`
 -- (`none_in`). Texts with as many `<`, joined in turn, have as many (`joined`). So the page goes piece by
 -- piece from the name of a row (`at_row`) to the whole picture (`picture_alike`).
@@ -10,19 +10,20 @@
 use Rattle.std.proofs.Common.{◌≡◌, ◌∙◌, ap, sym, refl, arith, zero-add, ℕ, zero, suc, ◌+◌, Bool, true, false, if◌then◌else◌, List, [], ◌∷◌, ◌++◌, codes, length, Option, None, Some}
 use Rattle.std.specs.Prelude.{◌==◌, ◌||◌, nat_lt, option_map, slice_get}
 use Rattle.std.specs.Fmt.{decimal}
-use Rattle.std.specs.List.{flat_map}
 use Rattle.base.specs.declared.event.Act.{Act}
 use Rattle.base.specs.declared.event.Act.TheVariants as A
+use Rattle.ticklab_draw.specs.declared.columns.Column.{Column}
 use Rattle.ticklab_draw.specs.declared.mark.Mark.{Mark}
 use Rattle.ticklab_draw.specs.declared.mark.Sight.{Sight}
 use Rattle.ticklab_draw.specs.declared.mark.Sight.TheVariants as S
 use Rattle.ticklab_draw.specs.declared.shapes.Shape.TheVariants.{Put, Get}
+use Rattle.ticklab_draw.specs.Columns.{columns}
 use Rattle.ticklab_draw.specs.Escapes.{escaped, escaped_byte}
-use Rattle.ticklab_draw.specs.Laws.{MarkupLaw, openings, reworded}
-use Rattle.ticklab_draw.specs.Layout.{above_y, band_foot, band_top, behind_x, is_far, last_band, page_height}
+use Rattle.ticklab_draw.specs.Laws.{MarkupLaw, RenamedLaw, openings, reworded}
+use Rattle.ticklab_draw.specs.Layout.{above_y, band_foot, band_top, behind_x, column_at, column_behind, last_column, page_height}
 use Rattle.ticklab_draw.specs.Legend.{legend_text}
 use Rattle.ticklab_draw.specs.Never.{Broken, dashed_line, marks_within, moment_text, never_behind, never_label, never_text, never_title, value_text}
-use Rattle.ticklab_draw.specs.Pictures.{about, group_head, group_text, groups_text, heading, page_head, page_size, picture, title_element, titled, under_text}
+use Rattle.ticklab_draw.specs.Pictures.{about, file_name, group_head, group_text, groups_text, heading, page_head, page_size, picture, picture_in, title_element, titled, under_text}
 use Rattle.ticklab_draw.specs.Shapes.{above, below, beside, drawn, drawn_as, label, outline, shape_of, words_text}
 use Rattle.ticklab_draw.specs.Style.{backdrop, sheet}
 use Rattle.ticklab_draw.specs.Words.{act_text, origin_text, row_as, row_text, sentence, sight_text}
@@ -124,83 +125,90 @@ module _ (n : ℕ) (rows renamed : List (List ℕ)) (e : length rows ≡ length 
   unfolding label
   label_alike head style alike = joined (joined (both (head ++ style ++ codes ">")) alike) (both (codes "</text>"))
 
-  put_drawn : (far : Bool) {w v : List ℕ} → Alike w v → Alike (drawn_as Put far w) (drawn_as Put far v)
+  put_drawn : {w v : List ℕ} → Alike w v → Alike (drawn_as Put w) (drawn_as Put v)
   unfolding outline words_text
-  put_drawn far alike = joined (both (outline Put 0)) (label_alike (above far) [] alike)
+  put_drawn alike = joined (both (outline Put 0)) (label_alike above [] alike)
 
-  get_drawn : (far : Bool) {w v : List ℕ} → Alike w v → Alike (drawn_as Get far w) (drawn_as Get far v)
+  get_drawn : {w v : List ℕ} → Alike w v → Alike (drawn_as Get w) (drawn_as Get v)
   unfolding outline words_text
-  get_drawn far alike = joined (both (outline Get 0)) (label_alike (below far) [] alike)
+  get_drawn alike = joined (both (outline Get 0)) (label_alike below [] alike)
 
-  act_drawn : (far : Bool) (p : ℕ) (act : Act)
-      → Alike (drawn_as (shape_of (S.Act act)) far (beside n rows p (S.Act act))) (drawn_as (shape_of (S.Act act)) far (beside n renamed p (S.Act act)))
-  act_drawn far p (A.Put r v) = put_drawn far (put_alike r v)
-  act_drawn far p (A.Get r i v) = get_drawn far (read_alike r i v)
-  act_drawn far p A.Stamp = both _
-  act_drawn far p A.Clear = both _
-  act_drawn far p (A.Scan ranks) = both _
-  act_drawn far p (A.Older i j answer) = both _
-  act_drawn far p (A.Held i answer) = both _
-  act_drawn far p (A.Out v) = both _
-  act_drawn far p (A.Trap trap) = both _
-  act_drawn far p A.End = both _
+  act_drawn : (p : ℕ) (act : Act)
+      → Alike (drawn_as (shape_of (S.Act act)) (beside n rows p (S.Act act))) (drawn_as (shape_of (S.Act act)) (beside n renamed p (S.Act act)))
+  act_drawn p (A.Put r v) = put_drawn (put_alike r v)
+  act_drawn p (A.Get r i v) = get_drawn (read_alike r i v)
+  act_drawn p A.Stamp = both _
+  act_drawn p A.Clear = both _
+  act_drawn p (A.Scan ranks) = both _
+  act_drawn p (A.Older i j answer) = both _
+  act_drawn p (A.Held i answer) = both _
+  act_drawn p (A.Out v) = both _
+  act_drawn p (A.Trap trap) = both _
+  act_drawn p A.End = both _
 
-  sight_drawn : (far : Bool) (p : ℕ) (sight : Sight)
-      → Alike (drawn_as (shape_of sight) far (beside n rows p sight)) (drawn_as (shape_of sight) far (beside n renamed p sight))
-  sight_drawn far p (S.Act act) = act_drawn far p act
-  sight_drawn far p (S.Get r i v put) = get_drawn far (read_alike r i v)
-  sight_drawn far p (S.Stamp held) = both _
-  sight_drawn far p (S.Clear held) = both _
-  sight_drawn far p (S.Lost held) = both _
+  sight_drawn : (p : ℕ) (sight : Sight)
+      → Alike (drawn_as (shape_of sight) (beside n rows p sight)) (drawn_as (shape_of sight) (beside n renamed p sight))
+  sight_drawn p (S.Act act) = act_drawn p act
+  sight_drawn p (S.Get r i v put) = get_drawn (read_alike r i v)
+  sight_drawn p (S.Stamp held) = both _
+  sight_drawn p (S.Clear held) = both _
+  sight_drawn p (S.Lost held) = both _
 
-  drawn_alike : (at : ℕ) (m : Mark) → Alike (drawn n rows at m) (drawn n renamed at m)
+  drawn_alike : (m : Mark) → Alike (drawn n rows m) (drawn n renamed m)
   unfolding drawn
-  drawn_alike at m = sight_drawn (is_far at) m.process m.sight
+  drawn_alike m = sight_drawn m.process m.sight
 
-  group_alike : (at : ℕ) (m : Mark) → Alike (group_text n rows at m) (group_text n renamed at m)
+  group_alike : (c : Column) (at : ℕ) (m : Mark) → Alike (group_text n rows c at m) (group_text n renamed c at m)
   unfolding group_text
-  group_alike at m =
-      joined (joined (joined (joined (both (group_head n at m.process)) (sentence_alike m)) (both (codes "</title>"))) (drawn_alike at m)) (both (codes "</g>\n"))
+  group_alike c at m =
+      joined (joined (joined (joined (both (group_head n c at m.process)) (sentence_alike m)) (both (codes "</title>"))) (drawn_alike m)) (both (codes "</g>\n"))
 
-  groups_alike : (at : ℕ) (marks : List Mark) → Alike (groups_text n rows at marks) (groups_text n renamed at marks)
-  groups_alike at [] = both []
-  groups_alike at (m ∷ marks) = joined (group_alike at m) (groups_alike (at + 1) marks)
+  groups_alike : (columns : List Column) (at : ℕ) (marks : List Mark)
+      → Alike (groups_text n rows columns at marks) (groups_text n renamed columns at marks)
+  groups_alike columns at [] = both []
+  groups_alike columns at (m ∷ marks) = joined (group_alike (column_at columns at) at m) (groups_alike columns (at + 1) marks)
 
 titled_alike : (before title other after : List ℕ) → Alike (titled before title after) (titled before other after)
 unfolding titled
 titled_alike before title other after = joined (joined (both before) (texts title other)) (both after)
 
-head_alike : (title other : List ℕ) (n count : ℕ) → Alike (page_head title n count) (page_head other n count)
+head_alike : (title other : List ℕ) (n last count : ℕ) → Alike (page_head title n last count) (page_head other n last count)
 unfolding page_head title_element
-head_alike title other n count =
-    joined (joined (both (page_size (page_height n count))) (titled_alike (codes "<title id=\"title\">") title other (codes "</title>\n"))) (both (about n count))
+head_alike title other n last count =
+    joined (joined (both (page_size (page_height n last))) (titled_alike (codes "<title id=\"title\">") title other (codes "</title>\n"))) (both (about n count))
 
 heading_alike : (title other : List ℕ) → Alike (heading title) (heading other)
 unfolding heading
 heading_alike title other =
-    joined (both (sheet ++ backdrop)) (titled_alike (codes "<text class=\"title\" x=\"16\" y=\"26\">") title other (codes "</text>\n"))
+    joined (both (sheet ++ backdrop)) (titled_alike (codes "<text class=\"title\" x=\"16\" y=\"26\">") (file_name title) (file_name other) (codes "</text>\n"))
 
 never_titled : (b : Broken) (text : List ℕ) → Alike (never_title b) (never_title (reworded text b))
 unfolding never_title
 never_titled b text =
     joined (joined (joined (joined (both (codes "<g id=\"never\"><title>" ++ moment_text b.steps ++ codes ": ")) (texts b.text text)) (both (codes " must never hold, and "))) (both (value_text b.value))) (both (codes "</title>"))
 
-behind_alike : (n count : ℕ) (b : Broken) (text : List ℕ) → Alike (never_behind n count b) (never_behind n count (reworded text b))
+behind_alike : (n : ℕ) (c : Column) (b : Broken) (text : List ℕ) → Alike (never_behind n c b) (never_behind n c (reworded text b))
 unfolding never_behind
-behind_alike n count b text =
-    joined (joined (never_titled b text) (both (dashed_line (behind_x count) (band_top n (last_band count)) (band_foot n (last_band count))))) (both (never_label (behind_x count) (above_y n (last_band count)) b.number))
+behind_alike n c b text =
+    joined (joined (never_titled b text) (both (dashed_line (behind_x c) (band_top n c.band) (band_foot n c.band)))) (both (never_label (behind_x c) (above_y n c.band) b.number))
 
-never_alike : (n : ℕ) (marks : List Mark) (broken : Option Broken) (text : List ℕ)
-    → Alike (never_text n marks broken) (never_text n marks (option_map (reworded text) broken))
-never_alike n marks None text = both []
-never_alike n marks (Some b) text = behind_alike n (marks_within b.steps marks) b text
+never_alike : (n : ℕ) (columns : List Column) (marks : List Mark) (broken : Option Broken) (text : List ℕ)
+    → Alike (never_text n columns marks broken) (never_text n columns marks (option_map (reworded text) broken))
+never_alike n columns marks None text = both []
+never_alike n columns marks (Some b) text = behind_alike n (column_behind columns (marks_within b.steps marks)) b text
 
-picture_alike : (title other : List ℕ) (n : ℕ) (rows renamed : List (List ℕ)) (marks : List Mark) (broken : Option Broken) (text : List ℕ)
+picture_alike : (columns : List Column) (title other : List ℕ) (n : ℕ) (rows renamed : List (List ℕ)) (marks : List Mark) (broken : Option Broken) (text : List ℕ)
     → length rows ≡ length renamed
-    → Alike (picture title n rows marks broken) (picture other n renamed marks (option_map (reworded text) broken))
-unfolding picture
-picture_alike title other n rows renamed marks broken text e =
-    joined (joined (joined (joined (joined (head_alike title other n (length marks)) (heading_alike title other)) (never_alike n marks broken text)) (both (under_text n marks))) (groups_alike n rows renamed e 0 marks)) (both (legend_text n (length marks)))
+    → Alike (picture_in columns title n rows marks broken) (picture_in columns other n renamed marks (option_map (reworded text) broken))
+unfolding picture_in
+picture_alike columns title other n rows renamed marks broken text e =
+    joined (joined (joined (joined (joined (head_alike title other n (last_column columns).band (length marks)) (heading_alike title other)) (never_alike n columns marks broken text)) (both (under_text n columns marks))) (groups_alike n rows renamed e columns 0 marks)) (both (legend_text n (last_column columns).band))
 
 pub markup_law : MarkupLaw
-markup_law title other n rows renamed marks broken text e = (picture_alike title other n rows renamed marks broken text e).same
+markup_law columns title other n rows renamed marks broken text e = (picture_alike columns title other n rows renamed marks broken text e).same
+
+pub renamed_law : RenamedLaw
+unfolding picture
+renamed_law title other n rows renamed marks broken text e same =
+    ap (λ (cs : List Column). openings (picture_in cs title n rows marks broken)) same
+    ∙ markup_law (columns n renamed marks) title other n rows renamed marks broken text e

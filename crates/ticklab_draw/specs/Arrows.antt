@@ -1,52 +1,52 @@
--- Arrows from puts to the gets that read them.
-use Rattle.std.specs.Prelude.{ℕ, ◌+◌, ◌-◌, ◌/◌, ◌==◌, if◌then◌else◌, List, [], ◌++◌, codes, slice_get, Option, Some, None}
+-- Arrows from puts to the gets that read them. They go where no text stands: in the gutters between columns, and on tracks
+-- between two lanes.
+use Rattle.std.specs.Prelude.{ℕ, ◌+◌, ◌-◌, ◌==◌, nat_lt, if◌then◌else◌, List, [], ◌++◌, codes, slice_get, Option, Some, None}
+use Rattle.ticklab_draw.specs.declared.columns.Column.{Column}
 use Rattle.ticklab_draw.specs.declared.mark.Mark.{Mark}
 use Rattle.ticklab_draw.specs.declared.mark.Sight.{Sight}
 use Rattle.ticklab_draw.specs.declared.mark.Sight.TheVariants as S
-use Rattle.ticklab_draw.specs.Layout.{arrow_end, arrow_start, mark_x, mark_y, stub_y}
+use Rattle.ticklab_draw.specs.Layout.{column_at, from_y, in_x, lane_y, leave_x, out_x, reach_x, way_y}
 use Rattle.ticklab_draw.specs.Steps.{step_text}
 use Rattle.ticklab_draw.specs.Writing.{one_number, two_numbers}
 
--- within a lane an arrow goes round the marks between its ends
-unfoldable pub bend : ℕ → ℕ → ℕ → ℕ → List ℕ
-bend x start to end =
-    if start == end then two_numbers (codes "Q") ((x + to) / 2) (codes " ") (start + 36) (codes " ") else codes "L"
+-- on the way to the right, from one height to another at this place, round both corners
+unfoldable pub turn : ℕ → ℕ → ℕ → List ℕ
+turn x y to =
+    if y == to then []
+    else if nat_lt y to then two_numbers (codes "H") (x - 4) (codes "q4 0 4 4V") (to - 4) (codes "q0 4 4 4")
+    else two_numbers (codes "H") (x - 4) (codes "q4 0 4 -4V") (to + 4) (codes "q0 -4 4 -4")
 
--- from one mark to another
-unfoldable pub line_text : ℕ → ℕ → ℕ → ℕ → List ℕ
-line_text x start to end =
-    two_numbers (codes "<path class=\"arrow\" d=\"M") x (codes " ") (arrow_start start end) [] ++ bend x start to end
-    ++ two_numbers [] to (codes " ") (arrow_end start end) (codes "\"/>\n")
+-- From the put of process `q`, the mark of this place, to the get of process `p` in another column of its band: out of the
+-- sign into the gutter behind its column, there to the height of the way, along it to the gutter before the get, there to the
+-- lane, and to the sign.
+unfoldable pub route_text : ℕ → ℕ → Column → ℕ → Column → ℕ → List ℕ
+route_text n from c q d p =
+    two_numbers (codes "<path class=\"arrow\" d=\"M") (leave_x c) (codes " ") (lane_y n c.band q) []
+    ++ turn (out_x c) (lane_y n c.band q) (way_y n from c q d p) ++ turn (in_x d) (way_y n from c q d p) (lane_y n c.band p)
+    ++ one_number (codes "H") (reach_x d) (codes "\"/>\n")
 
--- a short one from above, from the words on
-unfoldable pub stub_line : ℕ → ℕ → ℕ → List ℕ
-stub_line x y end =
-    two_numbers (codes "<path class=\"arrow\" d=\"M") x (codes " ") (y + 2) (codes "V") ++ one_number [] (end - 8) (codes "\"/>")
+-- what stands for it at a get whose put is of an earlier band
+unfoldable pub from_text : ℕ → Column → ℕ → ℕ → List ℕ
+from_text n d p step = step_text d.x (from_y n d.band p) (codes "from step ") step
 
--- an arrow to a get from a put of an earlier band, which is told by its step
-unfoldable pub stub_text : ℕ → ℕ → ℕ → ℕ → List ℕ
-stub_text n at p step =
-    stub_line (mark_x at) (stub_y n at p) (mark_y n at p) ++ step_text (mark_x at) (stub_y n at p) (codes "from step ") step
-
--- an arrow to the get of process `p` at this place from the put at another
-unfoldable pub arrow_from : ℕ → ℕ → ℕ → ℕ → Mark → List ℕ
-arrow_from n at p from put =
-    if from / 14 == at / 14 then line_text (mark_x from) (mark_y n from put.process) (mark_x at) (mark_y n at p)
-    else stub_text n at p put.step
+-- to the get of process `p` in a column from the put in that of another place
+unfoldable pub arrow_from : ℕ → ℕ → Column → Column → ℕ → Mark → List ℕ
+arrow_from n from c d p put =
+    if c.band == d.band then route_text n from c put.process d p else from_text n d p put.step
 
 -- the put that is read, by its place
 abbrev pub read_from : Sight → Option ℕ
 read_from (S.Get r i v put) = put
 read_from sight = None
 
-abbrev pub arrow_of : ℕ → ℕ → ℕ → ℕ → Option Mark → List ℕ
-arrow_of n at p from None = []
-arrow_of n at p from (Some put) = arrow_from n at p from put
+abbrev pub arrow_of : ℕ → List Column → Column → ℕ → ℕ → Option Mark → List ℕ
+arrow_of n columns d p from None = []
+arrow_of n columns d p from (Some put) = arrow_from n from (column_at columns from) d p put
 
-abbrev pub arrow_by : ℕ → ℕ → ℕ → List Mark → Option ℕ → List ℕ
-arrow_by n at p marks None = []
-arrow_by n at p marks (Some from) = arrow_of n at p from (slice_get marks from)
+abbrev pub arrow_by : ℕ → List Column → Column → ℕ → List Mark → Option ℕ → List ℕ
+arrow_by n columns d p marks None = []
+arrow_by n columns d p marks (Some from) = arrow_of n columns d p from (slice_get marks from)
 
--- the arrow to a mark, where it is a get of what one of these marks put
-abbrev pub arrow_text : ℕ → ℕ → Mark → List Mark → List ℕ
-arrow_text n at m marks = arrow_by n at m.process marks (read_from m.sight)
+-- the arrow to a mark in its column, where it is a get of what one of these marks put
+abbrev pub arrow_text : ℕ → List Column → Column → Mark → List Mark → List ℕ
+arrow_text n columns d m marks = arrow_by n columns d m.process marks (read_from m.sight)

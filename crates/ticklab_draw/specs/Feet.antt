@@ -1,13 +1,14 @@
 -- What stands below the lanes for each mark: the number of its step and, if the order of tickets changed, a
 -- line through all lanes and the new order. Arrows lead from puts to gets.
-use Rattle.std.specs.Prelude.{ℕ, ◌+◌, ◌/◌, List, [], ◌∷◌, ◌++◌, codes}
+use Rattle.std.specs.Prelude.{ℕ, ◌+◌, List, [], ◌∷◌, ◌++◌, codes}
+use Rattle.ticklab_draw.specs.declared.columns.Column.{Column}
 use Rattle.ticklab_draw.specs.declared.mark.Mark.{Mark}
 use Rattle.ticklab_draw.specs.declared.mark.Sight.{Sight}
 use Rattle.ticklab_draw.specs.declared.mark.Sight.TheVariants as S
 use Rattle.ticklab_draw.specs.declared.mark.Holdings.{Holdings}
 use Rattle.ticklab_draw.specs.Arrows.{arrow_text}
 use Rattle.ticklab_draw.specs.Colours.{colour, stroke}
-use Rattle.ticklab_draw.specs.Layout.{band_foot, band_top, mark_x, order_y, step_y}
+use Rattle.ticklab_draw.specs.Layout.{band_foot, band_top, column_at, order_y, step_y}
 use Rattle.ticklab_draw.specs.Orders.{holders, order_words}
 use Rattle.ticklab_draw.specs.Steps.{step_text}
 use Rattle.ticklab_draw.specs.Writing.{one_number, two_numbers}
@@ -23,22 +24,24 @@ order_at x y p ps =
     two_numbers (codes "<text class=\"order\" x=\"") x (codes "\" y=\"") y (codes "\" color=\"") ++ colour p ++ codes "\">"
     ++ order_words ps ++ codes "</text>\n"
 
--- process `p` changed the order to this
-unfoldable pub order_text : ℕ → ℕ → ℕ → Holdings → List ℕ
-order_text n at p held =
-    when_line (mark_x at) (band_top n (at / 14)) (band_foot n (at / 14)) p ++ order_at (mark_x at) (order_y n at) p (holders held)
+-- process `p` changed the order to this, in this column
+unfoldable pub order_text : ℕ → Column → ℕ → Holdings → List ℕ
+order_text n c p held =
+    when_line c.x (band_top n c.band) (band_foot n c.band) p ++ order_at c.x (order_y n c.band) p (holders held)
 
 -- a stamp and a clear change the order
-abbrev pub change_text : ℕ → ℕ → ℕ → Sight → List ℕ
-change_text n at p (S.Stamp held) = order_text n at p held
-change_text n at p (S.Clear held) = order_text n at p held
-change_text n at p sight = []
+abbrev pub change_text : ℕ → Column → ℕ → Sight → List ℕ
+change_text n c p (S.Stamp held) = order_text n c p held
+change_text n c p (S.Clear held) = order_text n c p held
+change_text n c p sight = []
 
-unfoldable pub foot_text : ℕ → ℕ → Mark → List Mark → List ℕ
-foot_text n at m marks =
-    step_text (mark_x at) (step_y n at) [] m.step ++ change_text n at m.process m.sight ++ arrow_text n at m marks
+-- a mark in its column, one of these columns
+unfoldable pub foot_text : ℕ → List Column → Column → Mark → List Mark → List ℕ
+foot_text n columns c m marks =
+    step_text c.x (step_y n c.band) [] m.step ++ change_text n c m.process m.sight ++ arrow_text n columns c m marks
 
 -- those of these marks, the first of which has this place among all
-abbrev pub feet_text : ℕ → List Mark → ℕ → List Mark → List ℕ
-feet_text n marks at [] = []
-feet_text n marks at (m ∷ rest) = foot_text n at m marks ++ feet_text n marks (at + 1) rest
+abbrev pub feet_text : ℕ → List Column → List Mark → ℕ → List Mark → List ℕ
+feet_text n columns marks at [] = []
+feet_text n columns marks at (m ∷ rest) =
+    foot_text n columns (column_at columns at) m marks ++ feet_text n columns marks (at + 1) rest

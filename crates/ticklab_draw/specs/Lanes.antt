@@ -1,20 +1,22 @@
--- The lanes of each band, with the names of the processes; and how each process ended, beside its last lane.
+-- The lanes of each band, as long as its columns need, with the names of the processes; and how each process ended,
+-- beside its last lane.
 use Rattle.std.specs.Prelude.{ℕ, zero, suc, ◌+◌, ◌==◌, if◌then◌else◌, List, [], ◌∷◌, ◌++◌, codes}
 use Rattle.base.specs.declared.event.Act.{Act}
 use Rattle.base.specs.declared.event.Act.TheVariants as A
 use Rattle.base.specs.declared.status.Status.{Status}
 use Rattle.base.specs.declared.status.Status.TheVariants as T
 use Rattle.tick_play.specs.Lines.{trap_text}
+use Rattle.ticklab_draw.specs.declared.columns.Column.{Column}
 use Rattle.ticklab_draw.specs.declared.mark.Mark.{Mark}
 use Rattle.ticklab_draw.specs.declared.mark.Sight.{Sight}
 use Rattle.ticklab_draw.specs.declared.mark.Sight.TheVariants as S
 use Rattle.ticklab_draw.specs.Colours.{colour, stroke}
-use Rattle.ticklab_draw.specs.Layout.{band_foot, lane_y}
-use Rattle.ticklab_draw.specs.Writing.{one_number}
+use Rattle.ticklab_draw.specs.Layout.{beside_x, edge, end_x, lane_y, order_y, step_y}
+use Rattle.ticklab_draw.specs.Writing.{one_number, two_numbers}
 
--- the line of a process at this height, in its colour
-unfoldable pub lane_line : ℕ → ℕ → List ℕ
-lane_line y p = stroke (codes "<path class=\"lane\"") p ++ one_number (codes " d=\"M50 ") y (codes "H896\"/>")
+-- the line of a process at this height up to this place, in its colour
+unfoldable pub lane_line : ℕ → ℕ → ℕ → List ℕ
+lane_line y end p = stroke (codes "<path class=\"lane\"") p ++ one_number (codes " d=\"M50 ") y (codes "H") ++ one_number [] end (codes "\"/>")
 
 -- its name, in its colour
 unfoldable pub lane_name : ℕ → ℕ → List ℕ
@@ -22,27 +24,29 @@ lane_name y p =
     one_number (codes "<text class=\"name\" x=\"16\" y=\"") y (codes "\" color=\"") ++ colour p
     ++ one_number (codes "\">P") p (codes "</text>\n")
 
-unfoldable pub lane_text : ℕ → ℕ → List ℕ
-lane_text y p = lane_line y p ++ lane_name (y + 5) p
+unfoldable pub lane_text : ℕ → ℕ → ℕ → List ℕ
+lane_text y end p = lane_line y end p ++ lane_name (y + 5) p
 
--- the lanes of the processes below `p`
-abbrev pub lanes_text : ℕ → ℕ → ℕ → List ℕ
-lanes_text n band zero = []
-lanes_text n band (suc p) = lanes_text n band p ++ lane_text (lane_y n band p) p
+-- the lanes of the processes below `p` in the band that ends with this column
+abbrev pub lanes_text : ℕ → Column → ℕ → List ℕ
+lanes_text n c zero = []
+lanes_text n c (suc p) = lanes_text n c p ++ lane_text (lane_y n c.band p) (end_x c) p
 
 -- words at the left edge
 unfoldable pub caption : ℕ → List ℕ → List ℕ
 caption y words = one_number (codes "<text class=\"left\" x=\"16\" y=\"") y (codes "\">") ++ words ++ codes "</text>\n"
 
--- a band: the lanes of all processes, and what stands below them
-unfoldable pub band_text : ℕ → ℕ → List ℕ
-band_text n band =
-    lanes_text n band n ++ caption (band_foot n band + 10) (codes "order") ++ caption (band_foot n band + 40) (codes "step")
+-- the band that ends with this column: the lanes of all processes, and what stands below them
+unfoldable pub band_text : ℕ → Column → List ℕ
+band_text n c = lanes_text n c n ++ caption (order_y n c.band) (codes "order") ++ caption (step_y n c.band) (codes "step")
 
--- the bands before this one
-abbrev pub bands_text : ℕ → ℕ → List ℕ
-bands_text n zero = []
-bands_text n (suc band) = bands_text n band ++ band_text n band
+-- the bands from that of this column on, behind which these stand
+abbrev pub bands_from : ℕ → Column → List Column → List ℕ
+bands_from n c [] = band_text n c
+bands_from n c (d ∷ columns) = (if c.band == d.band then [] else band_text n c) ++ bands_from n d columns
+
+abbrev pub bands_text : ℕ → List Column → List ℕ
+bands_text n columns = bands_from n edge columns
 
 -- how a process stands after an act, and after what a mark shows
 abbrev pub ended_by : Status → Act → Status
@@ -72,12 +76,12 @@ end_words T.Running = codes "running"
 end_words T.Ended = codes "ended"
 end_words (T.Trapped trap) = codes "trap " ++ trap_text trap
 
--- a status at this height
-unfoldable pub end_text : ℕ → Status → List ℕ
-end_text y status =
-    end_style status ++ one_number (codes " x=\"903\" y=\"") y (codes "\">") ++ end_words status ++ codes "</text>\n"
+-- a status at this place
+unfoldable pub end_text : ℕ → ℕ → Status → List ℕ
+end_text x y status =
+    end_style status ++ two_numbers (codes " x=\"") x (codes "\" y=\"") y (codes "\">") ++ end_words status ++ codes "</text>\n"
 
--- those of the processes below `p`, beside the lanes of a band
-abbrev pub ends_text : ℕ → ℕ → List Mark → ℕ → List ℕ
-ends_text n band marks zero = []
-ends_text n band marks (suc p) = ends_text n band marks p ++ end_text (lane_y n band p + 4) (end_of p marks)
+-- those of the processes below `p`, beside the lanes that end with this column
+abbrev pub ends_text : ℕ → Column → List Mark → ℕ → List ℕ
+ends_text n c marks zero = []
+ends_text n c marks (suc p) = ends_text n c marks p ++ end_text (beside_x c) (lane_y n c.band p + 4) (end_of p marks)

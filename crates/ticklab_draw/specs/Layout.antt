@@ -1,14 +1,70 @@
--- Where things stand on the page: 14 marks in a band, each in the lane of its process. `Lanes`, `Feet`,
--- `Arrows`, `Shapes` and `Never` say what is shown there, without these numbers.
-use Rattle.std.specs.Prelude.{ℕ, ◌+◌, ◌-◌, ◌*◌, ◌/◌, ◌%◌, ◌==◌, max, nat_lt, Bool, if◌then◌else◌}
+-- Where things stand on the page: each mark in a column of its own, in the lane of its process. Bands of columns
+-- stand one below the other. `Columns`, `Lanes`, `Feet`, `Arrows`, `Shapes` and `Never` say what is shown there,
+-- without these numbers.
+use Rattle.std.specs.Prelude.{ℕ, ◌+◌, ◌-◌, ◌*◌, ◌/◌, ◌%◌, ◌==◌, max, nat_lt, if◌then◌else◌, List, length, slice_get, Option, Some, None}
+use Rattle.ticklab_draw.specs.declared.columns.Column.{Column}
 
--- the place of the last band of so many marks, counted from 0
-abbrev pub last_band : ℕ → ℕ
-last_band count = (count - 1) / 14
+-- the place where the lanes of the first band begin, as a column that has no width
+abbrev pub edge : Column
+edge = record { band = 0; x = 50; half = 0 }
+
+-- where a column begins and ends
+abbrev pub left_x : Column → ℕ
+left_x c = c.x - c.half
+
+abbrev pub right_x : Column → ℕ
+right_x c = c.x + c.half
+
+-- The column behind another, so wide on each side. A gutter lies between both. Where it would pass the end of the
+-- band, it is the first of the next one.
+abbrev pub next_column : Column → ℕ → Column
+next_column c half =
+    if nat_lt 880 (right_x c + 14 + 2 * half) then record { band = c.band + 1; x = 64 + half; half = half }
+    else record { band = c.band; x = right_x c + 14 + half; half = half }
+
+-- the column of the mark of this place, counted from 0, and the last one
+abbrev pub column_or : Option Column → Column
+column_or None = edge
+column_or (Some c) = c
+
+abbrev pub column_at : List Column → ℕ → Column
+column_at columns at = column_or (slice_get columns at)
+
+abbrev pub last_column : List Column → Column
+last_column columns = column_at columns (length columns - 1)
+
+-- that of the last of so many marks
+abbrev pub column_behind : List Column → ℕ → Column
+column_behind columns count = if count == 0 then edge else column_at columns (count - 1)
+
+-- in the gutter behind a column: an arrow that leaves it, a line behind it, and the end of the lanes; and how a process
+-- ended, beside them
+abbrev pub out_x : Column → ℕ
+out_x c = right_x c + 4
+
+abbrev pub behind_x : Column → ℕ
+behind_x c = right_x c + 7
+
+abbrev pub end_x : Column → ℕ
+end_x c = right_x c + 14
+
+abbrev pub beside_x : Column → ℕ
+beside_x c = right_x c + 21
+
+-- in the gutter before a column: an arrow that comes to it
+abbrev pub in_x : Column → ℕ
+in_x c = left_x c - 4
+
+-- where an arrow leaves a sign, and where it comes to one
+abbrev pub leave_x : Column → ℕ
+leave_x c = c.x + 9
+
+abbrev pub reach_x : Column → ℕ
+reach_x c = c.x - 9
 
 -- the height of a band of `n` lanes
 abbrev pub band_height : ℕ → ℕ
-band_height n = 92 * n + 64
+band_height n = 92 * n + 52
 
 -- how far from the top a band of `n` lanes begins
 abbrev pub band_top : ℕ → ℕ → ℕ
@@ -20,45 +76,40 @@ band_foot n band = band_top n band + 92 * n
 
 -- the lane of process `p`
 abbrev pub lane_y : ℕ → ℕ → ℕ → ℕ
-lane_y n band p = band_top n band + 46 + 92 * p
+lane_y n band p = band_top n band + 52 + 92 * p
 
--- the mark of this place, counted from 0: how far from the left
-abbrev pub mark_x : ℕ → ℕ
-mark_x at = 86 + 60 * (at % 14)
-
--- and how far from the top, where it is of process `p` of `n`
-abbrev pub mark_y : ℕ → ℕ → ℕ → ℕ
-mark_y n at p = lane_y n (at / 14) p
-
--- the words of every other mark stand farther off, so that those of neighbours keep apart
-abbrev pub is_far : ℕ → Bool
-is_far at = at % 2 == 1
-
--- below the lanes of its band: the order of tickets
+-- below the lanes of a band: the order of tickets, and the number of the step
 abbrev pub order_y : ℕ → ℕ → ℕ
-order_y n at = band_foot n (at / 14) + (if is_far at then 23 else 10)
+order_y n band = band_foot n band + 10
 
--- and the number of the step
 abbrev pub step_y : ℕ → ℕ → ℕ
-step_y n at = band_foot n (at / 14) + 40
+step_y n band = band_foot n band + 28
 
--- a line behind so many marks, and words above the lanes of a band
-abbrev pub behind_x : ℕ → ℕ
-behind_x count = if count == 0 then 56 else mark_x (count - 1) + 30
-
+-- words above the lanes of a band
 abbrev pub above_y : ℕ → ℕ → ℕ
 above_y n band = band_top n band - 3
 
--- where an arrow from one height to another begins and ends, just outside of its marks
-abbrev pub arrow_start : ℕ → ℕ → ℕ
-arrow_start start end = if nat_lt end start then start - 9 else start + 9
+-- below the words of a mark: from which step of an earlier band its value is
+abbrev pub from_y : ℕ → ℕ → ℕ → ℕ
+from_y n band p = lane_y n band p + 33
 
-abbrev pub arrow_end : ℕ → ℕ → ℕ
-arrow_end start end = if nat_lt start end then end - 9 else end + 9
+-- The lane above which an arrow from process `q` to process `p` goes, on the side from which it comes; and how far above
+-- it. There are six tracks, by the place of the put.
+abbrev pub track_lane : ℕ → ℕ → ℕ
+track_lane q p = if nat_lt p q then p + 1 else p
 
--- the words above an arrow that comes from an earlier band
-abbrev pub stub_y : ℕ → ℕ → ℕ → ℕ
-stub_y n at p = mark_y n at p - (if is_far at then 29 else 20)
+abbrev pub track_y : ℕ → ℕ → ℕ → ℕ → ℕ
+track_y n band lane from = lane_y n band lane - (32 + 3 * (from % 6))
+
+-- the height at which an arrow goes from the put of process `q`, the mark of this place, to the get of process `p` in another
+-- column: a track, or the lane of the get where that is the next column
+abbrev pub way_y : ℕ → ℕ → Column → ℕ → Column → ℕ → ℕ
+way_y n from c q d p =
+    if left_x d == end_x c then lane_y n c.band p else track_y n c.band (track_lane q p) from
+
+-- half the width of so many letters
+abbrev pub letters_half : ℕ → ℕ
+letters_half letters = (7 * letters + 1) / 2
 
 -- half the width of a stamp's field, in which so many letters stand
 abbrev pub field_half : ℕ → ℕ
@@ -73,4 +124,4 @@ flag_middle letters = 5 + (7 * letters) / 2
 
 -- as high as all bands, and the legend below them
 abbrev pub page_height : ℕ → ℕ → ℕ
-page_height n count = band_top n (last_band count + 1) + 60
+page_height n last = band_top n (last + 1) + 68

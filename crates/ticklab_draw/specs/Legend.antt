@@ -10,7 +10,7 @@ abbrev pub sign : Shape → List ℕ
 sign Put = 226 ∷ 150 ∷ 160 ∷ []  -- ■
 sign Get = 226 ∷ 150 ∷ 161 ∷ []  -- □
 sign Stamp = 226 ∷ 151 ∷ 143 ∷ []  -- ●
-sign Clear = 226 ∷ 138 ∷ 150 ∷ []  -- ⊖
+sign Clear = 226 ∷ 150 ∷ 189 ∷ []  -- ▽
 sign Scan = 226 ∷ 151 ∷ 139 ∷ []  -- ○
 sign Yes = 226 ∷ 151 ∷ 134 ∷ []  -- ◆
 sign No = 226 ∷ 151 ∷ 135 ∷ []  -- ◇
@@ -32,10 +32,13 @@ first_legend =
 unfoldable pub second_legend : List ℕ
 second_legend =
     sign Scan ++ codes " scan, with ranks" ++ dot ++ sign Yes ++ codes " yes, " ++ sign No ++ codes " no to a question" ++ dot
-    ++ sign Out ++ codes " a value given out" ++ dot ++ sign Trap ++ codes " trap" ++ dot ++ sign End ++ codes " end" ++ dot
-    ++ sign Lost ++ codes " a lost exchange" ++ dot ++ codes "step: its number in the schedule"
+    ++ sign Out ++ codes " a value given out" ++ dot ++ sign Trap ++ codes " trap" ++ dot ++ sign End ++ codes " end"
 
--- both lines, at the foot of the page of so many marks, and the end of the picture
+unfoldable pub third_legend : List ℕ
+third_legend = sign Lost ++ codes " a lost exchange" ++ dot ++ codes "step: its number in the schedule"
+
+-- all lines, at the foot of the page with this last band, and the end of the picture
 unfoldable pub legend_text : ℕ → ℕ → List ℕ
-legend_text n count =
-    caption (page_height n count - 42) first_legend ++ caption (page_height n count - 22) second_legend ++ codes "</svg>\n"
+legend_text n last =
+    caption (page_height n last - 62) first_legend ++ caption (page_height n last - 42) second_legend
+    ++ caption (page_height n last - 22) third_legend ++ codes "</svg>\n"

@@ -5,10 +5,11 @@ use Rattle.std.specs.Fmt.{decimal}
 use Rattle.std.specs.List.{count_by}
 use Rattle.base.specs.declared.status.Trap.{Trap}
 use Rattle.tick_play.specs.Lines.{trap_text}
+use Rattle.ticklab_draw.specs.declared.columns.Column.{Column}
 use Rattle.ticklab_draw.specs.declared.mark.Mark.{Mark}
 use Rattle.ticklab_draw.specs.declared.never.NeverMark.{NeverMark}
 use Rattle.ticklab_draw.specs.Escapes.{escaped}
-use Rattle.ticklab_draw.specs.Layout.{above_y, band_foot, band_top, behind_x, last_band}
+use Rattle.ticklab_draw.specs.Layout.{above_y, band_foot, band_top, behind_x, column_behind}
 use Rattle.ticklab_draw.specs.Writing.{one_number, two_numbers}
 
 -- After so many steps the property of this text comes to this. It has a number where there are several.
@@ -56,13 +57,13 @@ unfoldable pub never_label : ℕ → ℕ → Option ℕ → List ℕ
 never_label x y number =
     two_numbers (codes "<text class=\"step\" x=\"") x (codes "\" y=\"") y (codes "\">") ++ never_words number ++ codes "</text></g>\n"
 
--- the mark behind so many others, in their last band
-unfoldable pub never_behind : ℕ → ℕ → Broken → List ℕ
-never_behind n count b =
-    never_title b ++ dashed_line (behind_x count) (band_top n (last_band count)) (band_foot n (last_band count))
-    ++ never_label (behind_x count) (above_y n (last_band count)) b.number
+-- the mark in the gutter behind a column
+unfoldable pub never_behind : ℕ → Column → Broken → List ℕ
+never_behind n c b =
+    never_title b ++ dashed_line (behind_x c) (band_top n c.band) (band_foot n c.band)
+    ++ never_label (behind_x c) (above_y n c.band) b.number
 
 -- the mark among these, where there is one
-abbrev pub never_text : ℕ → List Mark → Option Broken → List ℕ
-never_text n marks None = []
-never_text n marks (Some b) = never_behind n (marks_within b.steps marks) b
+abbrev pub never_text : ℕ → List Column → List Mark → Option Broken → List ℕ
+never_text n columns marks None = []
+never_text n columns marks (Some b) = never_behind n (column_behind columns (marks_within b.steps marks)) b

@@ -1,13 +1,15 @@
 -- A run as SVG, to the byte: a page with its title, its style, the mark of what must never hold, lanes with
 -- what stands below them, a group for each mark in order, and the legend. The title, the names of rows and the text of what
 -- must never hold are written as `Escapes` says.
-use Rattle.std.specs.Prelude.{ℕ, ◌+◌, List, [], ◌∷◌, ◌++◌, codes, length, Option}
+use Rattle.std.specs.Prelude.{ℕ, ◌+◌, ◌==◌, if◌then◌else◌, List, [], ◌∷◌, ◌++◌, codes, length, Option}
+use Rattle.ticklab_draw.specs.declared.columns.Column.{Column}
 use Rattle.ticklab_draw.specs.declared.mark.Mark.{Mark}
 use Rattle.ticklab_draw.specs.Colours.{colour}
+use Rattle.ticklab_draw.specs.Columns.{columns}
 use Rattle.ticklab_draw.specs.Escapes.{escaped}
 use Rattle.ticklab_draw.specs.Feet.{feet_text}
 use Rattle.ticklab_draw.specs.Lanes.{bands_text, ends_text}
-use Rattle.ticklab_draw.specs.Layout.{last_band, mark_x, mark_y, page_height}
+use Rattle.ticklab_draw.specs.Layout.{column_at, lane_y, last_column, page_height}
 use Rattle.ticklab_draw.specs.Legend.{legend_text}
 use Rattle.ticklab_draw.specs.Never.{Broken, never_text}
 use Rattle.ticklab_draw.specs.Shapes.{drawn}
@@ -21,18 +23,20 @@ group_name at = one_number (codes "<g id=\"mark-") (at + 1) (codes "\" color=\""
 unfoldable pub group_place : ℕ → ℕ → List ℕ
 group_place x y = two_numbers (codes "\" transform=\"translate(") x (codes " ") y (codes ")\"><title>")
 
--- the head of the group of the mark of this place, which is of process `p` of `n`: its name, its colour, and where it stands
-unfoldable pub group_head : ℕ → ℕ → ℕ → List ℕ
-group_head n at p = group_name at ++ colour p ++ group_place (mark_x at) (mark_y n at p)
+-- the head of the group of the mark of this place and column, which is of process `p` of `n`: its name, its colour, and where
+-- it stands
+unfoldable pub group_head : ℕ → Column → ℕ → ℕ → List ℕ
+group_head n c at p = group_name at ++ colour p ++ group_place c.x (lane_y n c.band p)
 
 -- a mark: its place, what it shows in words, and what is drawn of it
-unfoldable pub group_text : ℕ → List (List ℕ) → ℕ → Mark → List ℕ
-group_text n rows at m = group_head n at m.process ++ sentence n rows m ++ codes "</title>" ++ drawn n rows at m ++ codes "</g>\n"
+unfoldable pub group_text : ℕ → List (List ℕ) → Column → ℕ → Mark → List ℕ
+group_text n rows c at m = group_head n c at m.process ++ sentence n rows m ++ codes "</title>" ++ drawn n rows m ++ codes "</g>\n"
 
 -- a group for each of these marks, in order, the first of which has this place
-abbrev pub groups_text : ℕ → List (List ℕ) → ℕ → List Mark → List ℕ
-groups_text n rows at [] = []
-groups_text n rows at (m ∷ marks) = group_text n rows at m ++ groups_text n rows (at + 1) marks
+abbrev pub groups_text : ℕ → List (List ℕ) → List Column → ℕ → List Mark → List ℕ
+groups_text n rows columns at [] = []
+groups_text n rows columns at (m ∷ marks) =
+    group_text n rows (column_at columns at) at m ++ groups_text n rows columns (at + 1) marks
 
 -- an element so high, and as much of what is drawn in it
 unfoldable pub page_element : ℕ → List ℕ
@@ -55,21 +59,33 @@ title_element title = titled (codes "<title id=\"title\">") title (codes "</titl
 unfoldable pub about : ℕ → ℕ → List ℕ
 about n count = two_numbers (codes "<desc id=\"about\">") count (codes " marks of a run; processes: ") n (codes "</desc>\n")
 
--- the page, its title and what it is of
-unfoldable pub page_head : List ℕ → ℕ → ℕ → List ℕ
-page_head title n count = page_size (page_height n count) ++ title_element title ++ about n count
+-- the page with this last band, its title and what it is of
+unfoldable pub page_head : List ℕ → ℕ → ℕ → ℕ → List ℕ
+page_head title n last count = page_size (page_height n last) ++ title_element title ++ about n count
 
--- the style, and the title once more, which is seen
+-- the last part of a path
+abbrev pub name_from : List ℕ → List ℕ → List ℕ
+name_from name [] = name
+name_from name (byte ∷ bytes) = name_from (if byte == 47 then bytes else name) bytes
+
+unfoldable pub file_name : List ℕ → List ℕ
+file_name path = name_from path path
+
+-- the style; and the last part of the title, which is seen
 unfoldable pub heading : List ℕ → List ℕ
-heading title = sheet ++ backdrop ++ titled (codes "<text class=\"title\" x=\"16\" y=\"26\">") title (codes "</text>\n")
+heading title = sheet ++ backdrop ++ titled (codes "<text class=\"title\" x=\"16\" y=\"26\">") (file_name title) (codes "</text>\n")
 
 -- what stands under the marks: lanes, how each process ended, and steps, orders and arrows
-unfoldable pub under_text : ℕ → List Mark → List ℕ
-under_text n marks =
-    bands_text n (last_band (length marks) + 1) ++ ends_text n (last_band (length marks)) marks n ++ feet_text n marks 0 marks
+unfoldable pub under_text : ℕ → List Column → List Mark → List ℕ
+under_text n columns marks =
+    bands_text n columns ++ ends_text n (last_column columns) marks n ++ feet_text n columns marks 0 marks
+
+-- the picture in these columns
+unfoldable pub picture_in : List Column → List ℕ → ℕ → List (List ℕ) → List Mark → Option Broken → List ℕ
+picture_in columns title n rows marks broken =
+    page_head title n (last_column columns).band (length marks) ++ heading title ++ never_text n columns marks broken
+    ++ under_text n columns marks ++ groups_text n rows columns 0 marks ++ legend_text n (last_column columns).band
 
 -- the picture of these marks of a run of `n` processes, whose rows have these names, and of what must never hold and does
 unfoldable pub picture : List ℕ → ℕ → List (List ℕ) → List Mark → Option Broken → List ℕ
-picture title n rows marks broken =
-    page_head title n (length marks) ++ heading title ++ never_text n marks broken ++ under_text n marks
-    ++ groups_text n rows 0 marks ++ legend_text n (length marks)
+picture title n rows marks broken = picture_in (columns n rows marks) title n rows marks broken

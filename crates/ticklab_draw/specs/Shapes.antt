@@ -1,5 +1,5 @@
 -- What is drawn where a mark stands: its shape, which its act decides, and the words beside it.
-use Rattle.std.specs.Prelude.{ℕ, ◌==◌, ◌*◌, nat_lt, Bool, if◌then◌else◌, List, [], ◌++◌, codes, length, map, take, slice_index}
+use Rattle.std.specs.Prelude.{ℕ, ◌==◌, ◌*◌, nat_lt, if◌then◌else◌, List, [], ◌++◌, codes, length, map, take, slice_index}
 use Rattle.std.specs.Fmt.{decimal}
 use Rattle.base.specs.Lines.{spaced}
 use Rattle.word_core.specs.Stamps.{Labels, label_at}
@@ -12,7 +12,7 @@ use Rattle.ticklab_draw.specs.declared.mark.Holdings.{Holdings}
 use Rattle.ticklab_draw.specs.declared.mark.Holdings.TheVariants as H
 use Rattle.ticklab_draw.specs.declared.shapes.Shape.{Shape}
 use Rattle.ticklab_draw.specs.declared.shapes.Shape.TheVariants.{Put, Get, Stamp, Clear, Scan, Yes, No, Out, Trap, End, Lost}
-use Rattle.ticklab_draw.specs.Layout.{field_half, flag_middle, flag_width, is_far}
+use Rattle.ticklab_draw.specs.Layout.{field_half, flag_middle, flag_width}
 use Rattle.ticklab_draw.specs.Words.{answer_text, label_text, row_text}
 use Rattle.ticklab_draw.specs.Writing.{one_number}
 use Rattle.tick_play.specs.Lines.{trap_text}
@@ -83,7 +83,7 @@ unfoldable pub outline : Shape → ℕ → List ℕ
 outline Put letters = codes "<rect class=\"f\" x=\"-7\" y=\"-7\" width=\"14\" height=\"14\"/>"
 outline Get letters = codes "<rect class=\"o\" x=\"-6\" y=\"-6\" width=\"12\" height=\"12\"/>"
 outline Stamp letters = field (field_half letters)
-outline Clear letters = codes "<circle class=\"o\" r=\"8\"/><path class=\"l\" d=\"M-8 0H8\"/>"
+outline Clear letters = codes "<path class=\"o\" d=\"M-9 -7H9L0 9Z\"/>"
 outline Scan letters = codes "<circle class=\"o\" r=\"8\"/>"
 outline Yes letters = codes "<path class=\"f\" d=\"M-8 0L0 -8L8 0L0 8Z\"/>"
 outline No letters = codes "<path class=\"o\" d=\"M-8 0L0 -8L8 0L0 8Z\"/>"
@@ -92,12 +92,12 @@ outline Trap letters = codes "<path class=\"x\" d=\"M-8 -8L8 8M8 -8L-8 8\"/>"
 outline End letters = codes "<rect class=\"f\" x=\"-2\" y=\"-11\" width=\"5\" height=\"22\"/>"
 outline Lost letters = codes "<circle class=\"o\" r=\"7\" stroke-dasharray=\"3 2.5\"/>"
 
--- above and below a shape, near it or farther off
-abbrev pub above : Bool → List ℕ
-above far = if far then codes "<text y=\"-27\"" else codes "<text y=\"-14\""
+-- above and below a shape
+abbrev pub above : List ℕ
+above = codes "<text y=\"-14\""
 
-abbrev pub below : Bool → List ℕ
-below far = if far then codes "<text y=\"36\"" else codes "<text y=\"23\""
+abbrev pub below : List ℕ
+below = codes "<text y=\"21\""
 
 -- words where the text's head says, in this style
 unfoldable pub label : List ℕ → List ℕ → List ℕ → List ℕ
@@ -107,23 +107,23 @@ unfoldable pub flag_label : List ℕ → List ℕ
 flag_label words = one_number (codes "<text class=\"on\" x=\"") (flag_middle (length words)) (codes "\" y=\"-16\">") ++ words ++ codes "</text>"
 
 -- where the words of each shape stand
-unfoldable pub words_text : Shape → Bool → List ℕ → List ℕ
-words_text Put far words = label (above far) [] words
-words_text Get far words = label (below far) [] words
-words_text Stamp far words = label (codes "<text class=\"in\" y=\"4\"") [] words
-words_text Clear far words = []
-words_text Scan far words = label (below far) (codes " class=\"strong\"") words
-words_text Yes far words = label (below far) [] words
-words_text No far words = label (below far) [] words
-words_text Out far words = flag_label words
-words_text Trap far words = label (above far) (codes " class=\"trap\"") words
-words_text End far words = []
-words_text Lost far words = []
+unfoldable pub words_text : Shape → List ℕ → List ℕ
+words_text Put words = label above [] words
+words_text Get words = label below [] words
+words_text Stamp words = label (codes "<text class=\"in\" y=\"4\"") [] words
+words_text Clear words = []
+words_text Scan words = label below (codes " class=\"strong\"") words
+words_text Yes words = label below [] words
+words_text No words = label below [] words
+words_text Out words = flag_label words
+words_text Trap words = label above (codes " class=\"trap\"") words
+words_text End words = []
+words_text Lost words = []
 
 -- a shape and its words
-abbrev pub drawn_as : Shape → Bool → List ℕ → List ℕ
-drawn_as shape far words = outline shape (length words) ++ words_text shape far words
+abbrev pub drawn_as : Shape → List ℕ → List ℕ
+drawn_as shape words = outline shape (length words) ++ words_text shape words
 
--- what is drawn of the mark of this place, of one of `n` processes, where rows have these names
-unfoldable pub drawn : ℕ → List (List ℕ) → ℕ → Mark → List ℕ
-drawn n rows at m = drawn_as (shape_of m.sight) (is_far at) (beside n rows m.process m.sight)
+-- what is drawn of a mark of one of `n` processes, where rows have these names
+unfoldable pub drawn : ℕ → List (List ℕ) → Mark → List ℕ
+drawn n rows m = drawn_as (shape_of m.sight) (beside n rows m.process m.sight)

@@ -1,21 +1,15 @@
 // Arrows from puts to the gets that read them.
 ghost use Rattle.std.specs.Prelude.{◌≡◌, ◌++◌, ◌<◌, ◌^◌, OnOk};
-ghost use Rattle.ticklab_draw.specs.Arrows.{arrow_by, arrow_from, arrow_of, arrow_text, bend, line_text, read_from, stub_line, stub_text};
+ghost use Rattle.ticklab_draw.specs.Arrows.{arrow_by, arrow_from, arrow_of, from_text, read_from, route_text, turn};
 ghost use Rattle.ticklab_draw.specs.Steps.{step_text};
 
-use crate::layout::{arrow_end, arrow_start, band_of, mark_x, mark_y, stub_y};
+use crate::columns::Column;
+use crate::layout::{column_at, from_y, in_x, lane_y, leave_x, out_x, reach_x, way_y};
 use crate::mark::{Mark, Sight};
-use crate::writing::{Added, push, push_one, push_two};
+use crate::writing::{Added, push_one, push_two};
 
-/// Adds the arrow to a mark, where it is a get of what one of these marks put.
-pub fn push_arrow(out: &mut Vec<u8>, n: u8, at: usize, mark: &Mark, marks: &[Mark]) -> Added
-    ensures { OnOk result (out.new.items ≡ out.old.items ++ arrow_text n at mark.now marks.now) }
-{
-    push_arrow_by(out, n, at, mark.process, marks, read_from(mark.sight))
-}
-
-// The put that is read, by its place.
-fn read_from(sight: Sight) -> Option<usize>
+/// The put that is read, by its place among the marks.
+pub fn read_from(sight: Sight) -> Option<usize>
     ensures { result ≡ read_from sight }
 {
     match sight {
@@ -24,18 +18,20 @@ fn read_from(sight: Sight) -> Option<usize>
     }
 }
 
-fn push_arrow_by(
+/// Adds the arrow to a get of process `p` in its column from the put of this place, where one is read.
+pub fn push_arrow(
     out: &mut Vec<u8>,
     n: u8,
-    at: usize,
+    columns: &[Column],
+    column: Column,
     p: u8,
     marks: &[Mark],
     place: Option<usize>,
 ) -> Added
-    ensures { OnOk result (out.new.items ≡ out.old.items ++ arrow_by n at p marks.now place) }
+    ensures { OnOk result (out.new.items ≡ out.old.items ++ arrow_by n columns.now column p marks.now place) }
 {
     match place {
-        Some(from) => push_arrow_of(out, n, at, p, from, marks.get(from).copied()),
+        Some(from) => push_arrow_of(out, n, columns, column, p, from, marks.get(from).copied()),
         None => Ok(()),
     }
 }
@@ -43,81 +39,99 @@ fn push_arrow_by(
 fn push_arrow_of(
     out: &mut Vec<u8>,
     n: u8,
-    at: usize,
+    columns: &[Column],
+    column: Column,
     p: u8,
     from: usize,
     found: Option<Mark>,
 ) -> Added
-    ensures { OnOk result (out.new.items ≡ out.old.items ++ arrow_of n at p from found) }
+    ensures { OnOk result (out.new.items ≡ out.old.items ++ arrow_of n columns.now column p from found) }
 {
     match found {
-        Some(put) => push_arrow_from(out, n, at, p, from, &put),
+        Some(put) => push_arrow_from(out, n, from, column_at(columns, from), column, p, &put),
         None => Ok(()),
     }
 }
 
-// To the get of process `p` at its place from the put at another.
+// To the get of process `p` in its column from the put in that of another place.
 #[tactic(auto, unfolding(crate::specs::Arrows::arrow_from))]
-fn push_arrow_from(out: &mut Vec<u8>, n: u8, at: usize, p: u8, from: usize, put: &Mark) -> Added
-    ensures { OnOk result (out.new.items ≡ out.old.items ++ arrow_from n at p from put.now) }
+fn push_arrow_from(
+    out: &mut Vec<u8>,
+    n: u8,
+    from: usize,
+    start: Column,
+    column: Column,
+    p: u8,
+    put: &Mark,
+) -> Added
+    ensures { OnOk result (out.new.items ≡ out.old.items ++ arrow_from n from start column p put.now) }
 {
-    if band_of(from) == band_of(at) {
-        let (start, end) = (mark_y(n, from, put.process), mark_y(n, at, p));
-        push_line(out, mark_x(from), start, mark_x(at), end)
+    if start.band == column.band {
+        push_route(out, n, from, start, put.process, column, p)
     } else {
-        push_stub(out, n, at, p, put.step)
+        push_from(out, n, column, p, put.step)
     }
 }
 
-#[tactic(auto, unfolding(crate::specs::Arrows::line_text))]
-fn push_line(out: &mut Vec<u8>, x: u64, start: u128, to: u64, end: u128) -> Added
-    requires left { x < 1000 }
-    requires right { to < 1000 }
-    requires start_high { 46 < start }
-    requires start_low { start < 2 ^ 90 }
-    requires end_high { 46 < end }
-    requires end_low { end < 2 ^ 90 }
-    ensures { OnOk result (out.new.items ≡ out.old.items ++ line_text x start to end) }
+// What stands for it at a get whose put is of an earlier band.
+#[tactic(auto, unfolding(crate::specs::Arrows::from_text))]
+fn push_from(out: &mut Vec<u8>, n: u8, column: Column, p: u8, step: usize) -> Added
+    ensures { OnOk result (out.new.items ≡ out.old.items ++ from_text n column p step) }
 {
-    let begin = "<path class=\"arrow\" d=\"M";
-    push_two(out, begin, x, " ", arrow_start(start, end), "")?;
-    push_bend(out, x, start, to, end)?;
-    push_two(out, "", to, " ", arrow_end(start, end), "\"/>\n")
+    let y = from_y(n, column.band, p);
+    push_step(out, u64::from(column.x), y, "from step ", step)
 }
 
-// Within a lane an arrow goes round the marks between its ends.
-#[tactic(auto, unfolding(crate::specs::Arrows::bend))]
-fn push_bend(out: &mut Vec<u8>, x: u64, start: u128, to: u64, end: u128) -> Added
-    requires left { x < 1000 }
-    requires right { to < 1000 }
-    requires low { start < 2 ^ 90 }
-    ensures { OnOk result (out.new.items ≡ out.old.items ++ bend x start to end) }
+// Within a band: out of the sign into the gutter behind its column, there to the height of the way, along it to
+// the gutter before the get, there to the lane, and to the sign.
+#[tactic(auto, unfolding(crate::specs::Arrows::route_text))]
+fn push_route(
+    out: &mut Vec<u8>,
+    n: u8,
+    from: usize,
+    start: Column,
+    q: u8,
+    column: Column,
+    p: u8,
+) -> Added
+    ensures { OnOk result (out.new.items ≡ out.old.items ++ route_text n from start q column p) }
 {
-    if start == end {
-        push_two(out, "Q", (x + to) / 2, " ", start + 36, " ")
+    let (y, end) = (lane_y(n, start.band, q), lane_y(n, start.band, p));
+    let way = way_y(n, from, start, q, column, p);
+    push_two(
+        out,
+        "<path class=\"arrow\" d=\"M",
+        leave_x(start),
+        " ",
+        y,
+        "",
+    )?;
+    push_turn(out, out_x(start), y, way)?;
+    push_turn(out, in_x(column), way, end)?;
+    push_one(out, "H", u128::from(reach_x(column)), "\"/>\n")
+}
+
+// On the way to the right, from one height to another at this place, round both corners.
+#[tactic(auto, unfolding(crate::specs::Arrows::turn))]
+fn push_turn(out: &mut Vec<u8>, x: u64, y: u128, to: u128) -> Added
+    requires { to < 2 ^ 90 }
+    ensures { OnOk result (out.new.items ≡ out.old.items ++ turn x y to) }
+{
+    let left = x.saturating_sub(4);
+    if y == to {
+        Ok(())
+    } else if y < to {
+        push_two(
+            out,
+            "H",
+            left,
+            "q4 0 4 4V",
+            to.saturating_sub(4),
+            "q0 4 4 4",
+        )
     } else {
-        push(out, "L")
+        push_two(out, "H", left, "q4 0 4 -4V", to + 4, "q0 -4 4 -4")
     }
-}
-
-// To a get whose put stands in an earlier band, which is told by its step.
-#[tactic(auto, unfolding(crate::specs::Arrows::stub_text))]
-fn push_stub(out: &mut Vec<u8>, n: u8, at: usize, p: u8, step: usize) -> Added
-    ensures { OnOk result (out.new.items ≡ out.old.items ++ stub_text n at p step) }
-{
-    let y = stub_y(n, at, p);
-    push_stub_line(out, mark_x(at), y, mark_y(n, at, p))?;
-    push_step(out, mark_x(at), y, "from step ", step)
-}
-
-#[tactic(auto, unfolding(crate::specs::Arrows::stub_line))]
-fn push_stub_line(out: &mut Vec<u8>, x: u64, y: u128, end: u128) -> Added
-    requires low { y < 2 ^ 90 }
-    requires high { 46 < end }
-    ensures { OnOk result (out.new.items ≡ out.old.items ++ stub_line x y end) }
-{
-    push_two(out, "<path class=\"arrow\" d=\"M", x, " ", y + 2, "V")?;
-    push_one(out, "", end - 8, "\"/>")
 }
 
 /// Adds the number of a step after these words.

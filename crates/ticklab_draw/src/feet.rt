@@ -3,20 +3,27 @@
 ghost use Rattle.std.specs.Prelude.{◌≡◌, ◌++◌, OnOk};
 ghost use Rattle.ticklab_draw.specs.Feet.{change_text, feet_text, foot_text, order_at, order_text, when_line};
 
-use crate::arrows::{push_arrow, push_step};
+use crate::arrows::{push_arrow, push_step, read_from};
 use crate::colours::{push_colour, push_stroke};
-use crate::layout::{band_foot, band_of, band_top, mark_x, order_y, step_y};
+use crate::columns::Column;
+use crate::layout::{band_foot, band_top, column_at, order_y, step_y};
 use crate::mark::{Holdings, Mark, Sight};
 use crate::orders::{holders, push_order_words};
 use crate::writing::{Added, push, push_one, push_two};
 use std::alloc::Global;
 
-/// Adds what stands below the lanes for each of these marks.
-pub fn push_feet(alloc: Global, out: &mut Vec<u8>, n: u8, marks: &[Mark]) -> Added
-    ensures { OnOk result (out.new.items ≡ out.old.items ++ feet_text n marks.now 0 marks.now) }
+/// Adds what stands below the lanes for each of these marks, which have these columns.
+pub fn push_feet(
+    alloc: Global,
+    out: &mut Vec<u8>,
+    n: u8,
+    columns: &[Column],
+    marks: &[Mark],
+) -> Added
+    ensures { OnOk result (out.new.items ≡ out.old.items ++ feet_text n columns.now marks.now 0 marks.now) }
 {
     for (at, mark) in marks.iter().enumerate() {
-        push_foot(alloc, out, n, at, mark, marks)?;
+        push_foot(alloc, out, n, columns, column_at(columns, at), mark, marks)?;
     }
     Ok(())
 }
@@ -26,35 +33,52 @@ fn push_foot(
     alloc: Global,
     out: &mut Vec<u8>,
     n: u8,
-    at: usize,
+    columns: &[Column],
+    column: Column,
     mark: &Mark,
     marks: &[Mark],
 ) -> Added
-    ensures { OnOk result (out.new.items ≡ out.old.items ++ foot_text n at mark.now marks.now) }
+    ensures { OnOk result (out.new.items ≡ out.old.items ++ foot_text n columns.now column mark.now marks.now) }
 {
-    push_step(out, mark_x(at), step_y(n, at), "", mark.step)?;
-    push_change(alloc, out, n, at, mark.process, mark.sight)?;
-    push_arrow(out, n, at, mark, marks)
+    let (x, y) = (u64::from(column.x), step_y(n, column.band));
+    push_step(out, x, y, "", mark.step)?;
+    push_change(alloc, out, n, column, mark.process, mark.sight)?;
+    let place = read_from(mark.sight);
+    push_arrow(out, n, columns, column, mark.process, marks, place)
 }
 
-fn push_change(alloc: Global, out: &mut Vec<u8>, n: u8, at: usize, p: u8, sight: Sight) -> Added
-    ensures { OnOk result (out.new.items ≡ out.old.items ++ change_text n at p sight) }
+fn push_change(
+    alloc: Global,
+    out: &mut Vec<u8>,
+    n: u8,
+    column: Column,
+    p: u8,
+    sight: Sight,
+) -> Added
+    ensures { OnOk result (out.new.items ≡ out.old.items ++ change_text n column p sight) }
 {
     match sight {
-        Sight::Stamp(held) => push_order(alloc, out, n, at, p, held),
-        Sight::Clear(held) => push_order(alloc, out, n, at, p, held),
+        Sight::Stamp(held) => push_order(alloc, out, n, column, p, held),
+        Sight::Clear(held) => push_order(alloc, out, n, column, p, held),
         _ => Ok(()),
     }
 }
 
 #[tactic(auto, unfolding(crate::specs::Feet::order_text))]
-fn push_order(alloc: Global, out: &mut Vec<u8>, n: u8, at: usize, p: u8, held: Holdings) -> Added
-    ensures { OnOk result (out.new.items ≡ out.old.items ++ order_text n at p held) }
+fn push_order(
+    alloc: Global,
+    out: &mut Vec<u8>,
+    n: u8,
+    column: Column,
+    p: u8,
+    held: Holdings,
+) -> Added
+    ensures { OnOk result (out.new.items ≡ out.old.items ++ order_text n column p held) }
 {
     let found = holders(alloc, &held)?;
-    let band = band_of(at);
-    push_when(out, mark_x(at), band_top(n, band), band_foot(n, band), p)?;
-    push_order_at(out, mark_x(at), order_y(n, at), p, &found)
+    let (x, band) = (u64::from(column.x), column.band);
+    push_when(out, x, band_top(n, band), band_foot(n, band), p)?;
+    push_order_at(out, x, order_y(n, band), p, &found)
 }
 
 // The line through all lanes where an order changed.

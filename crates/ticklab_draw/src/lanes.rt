@@ -1,57 +1,72 @@
 // The lanes of all bands, and how each process ended.
-ghost use Rattle.std.specs.Prelude.{◌≡◌, ◌++◌, ◌<◌, ◌^◌, OnOk};
+ghost use Rattle.std.specs.Prelude.{◌≡◌, ◌==◌, ◌++◌, ◌<◌, ◌^◌, [], OnOk, if◌then◌else◌};
 ghost use Rattle.ticklab_draw.specs.Lanes.{band_text, bands_text, caption, end_of, end_style, end_text, end_words, ended, ended_by, ends_text, lane_line, lane_name, lane_text, lanes_text};
 
 use crate::colours::{push_colour, push_stroke};
-use crate::layout::{band_foot, lane_y};
+use crate::columns::Column;
+use crate::layout::{EDGE, beside_x, end_x, lane_y, order_y, step_y};
 use crate::mark::{Mark, Sight};
-use crate::writing::{Added, push, push_one};
+use crate::writing::{Added, push, push_one, push_two};
 use base::{Act, Status};
 use tick_play::trap_name;
 
-/// Adds so many bands.
-pub fn push_bands(out: &mut Vec<u8>, n: u8, bands: usize) -> Added
-    ensures { OnOk result (out.new.items ≡ out.old.items ++ bands_text n bands) }
+/// Adds the bands of these columns.
+pub fn push_bands(out: &mut Vec<u8>, n: u8, columns: &[Column]) -> Added
+    ensures { OnOk result (out.new.items ≡ out.old.items ++ bands_text n columns.now) }
 {
-    for band in 0..bands {
-        push_band(out, n, band)?;
+    let mut last = EDGE;
+    for &column in columns {
+        push_ended_band(out, n, last, column)?;
+        last = column;
     }
-    Ok(())
+    push_band(out, n, last)
+}
+
+// The band that ends with a column, where the next one is of another.
+fn push_ended_band(out: &mut Vec<u8>, n: u8, last: Column, next: Column) -> Added
+    ensures { OnOk result (out.new.items ≡ out.old.items ++ (if last.band == next.band then [] else band_text n last)) }
+{
+    if last.band == next.band {
+        Ok(())
+    } else {
+        push_band(out, n, last)
+    }
 }
 
 #[tactic(auto, unfolding(crate::specs::Lanes::band_text))]
-fn push_band(out: &mut Vec<u8>, n: u8, band: usize) -> Added
-    ensures { OnOk result (out.new.items ≡ out.old.items ++ band_text n band) }
+fn push_band(out: &mut Vec<u8>, n: u8, last: Column) -> Added
+    ensures { OnOk result (out.new.items ≡ out.old.items ++ band_text n last) }
 {
-    push_lanes(out, n, band)?;
-    push_caption(out, band_foot(n, band) + 10, "order")?;
-    push_caption(out, band_foot(n, band) + 40, "step")
+    push_lanes(out, n, last)?;
+    push_caption(out, order_y(n, last.band), "order")?;
+    push_caption(out, step_y(n, last.band), "step")
 }
 
-fn push_lanes(out: &mut Vec<u8>, n: u8, band: usize) -> Added
-    ensures { OnOk result (out.new.items ≡ out.old.items ++ lanes_text n band n) }
+fn push_lanes(out: &mut Vec<u8>, n: u8, last: Column) -> Added
+    ensures { OnOk result (out.new.items ≡ out.old.items ++ lanes_text n last n) }
 {
     for p in 0..n {
-        push_lane(out, lane_y(n, band, p), p)?;
+        push_lane(out, lane_y(n, last.band, p), end_x(last), p)?;
     }
     Ok(())
 }
 
 #[tactic(auto, unfolding(crate::specs::Lanes::lane_text))]
-fn push_lane(out: &mut Vec<u8>, y: u128, p: u8) -> Added
+fn push_lane(out: &mut Vec<u8>, y: u128, end: u64, p: u8) -> Added
     requires { y < 2 ^ 90 }
-    ensures { OnOk result (out.new.items ≡ out.old.items ++ lane_text y p) }
+    ensures { OnOk result (out.new.items ≡ out.old.items ++ lane_text y end p) }
 {
-    push_lane_line(out, y, p)?;
+    push_lane_line(out, y, end, p)?;
     push_lane_name(out, y + 5, p)
 }
 
 #[tactic(auto, unfolding(crate::specs::Lanes::lane_line))]
-fn push_lane_line(out: &mut Vec<u8>, y: u128, p: u8) -> Added
-    ensures { OnOk result (out.new.items ≡ out.old.items ++ lane_line y p) }
+fn push_lane_line(out: &mut Vec<u8>, y: u128, end: u64, p: u8) -> Added
+    ensures { OnOk result (out.new.items ≡ out.old.items ++ lane_line y end p) }
 {
     push_stroke(out, "<path class=\"lane\"", p)?;
-    push_one(out, " d=\"M50 ", y, "H896\"/>")
+    push_one(out, " d=\"M50 ", y, "H")?;
+    push_one(out, "", u128::from(end), "\"/>")
 }
 
 #[tactic(auto, unfolding(crate::specs::Lanes::lane_name))]
@@ -73,12 +88,13 @@ pub fn push_caption(out: &mut Vec<u8>, y: u128, words: &str) -> Added
     push(out, "</text>\n")
 }
 
-/// Adds how each process stands after these marks, beside its lane of a band.
-pub fn push_ends(out: &mut Vec<u8>, n: u8, band: usize, marks: &[Mark]) -> Added
-    ensures { OnOk result (out.new.items ≡ out.old.items ++ ends_text n band marks.now n) }
+/// Adds how each process stands after these marks, beside its lane, which ends with this column.
+pub fn push_ends(out: &mut Vec<u8>, n: u8, last: Column, marks: &[Mark]) -> Added
+    ensures { OnOk result (out.new.items ≡ out.old.items ++ ends_text n last marks.now n) }
 {
     for p in 0..n {
-        push_end(out, lane_y(n, band, p) + 4, end_of(p, marks))?;
+        let y = lane_y(n, last.band, p) + 4;
+        push_end(out, beside_x(last), y, end_of(p, marks))?;
     }
     Ok(())
 }
@@ -115,11 +131,11 @@ fn ended_by(status: Status, act: Act) -> Status
 }
 
 #[tactic(auto, unfolding(crate::specs::Lanes::end_text))]
-fn push_end(out: &mut Vec<u8>, y: u128, status: Status) -> Added
-    ensures { OnOk result (out.new.items ≡ out.old.items ++ end_text y status) }
+fn push_end(out: &mut Vec<u8>, x: u64, y: u128, status: Status) -> Added
+    ensures { OnOk result (out.new.items ≡ out.old.items ++ end_text x y status) }
 {
     push(out, end_style(status))?;
-    push_one(out, " x=\"903\" y=\"", y, "\">")?;
+    push_two(out, " x=\"", x, "\" y=\"", y, "\">")?;
     push_end_words(out, status)?;
     push(out, "</text>\n")
 }

@@ -1,12 +1,13 @@
 //! What holds of all pictures, and of all frames.
 
-ghost use Rattle.ticklab_draw.specs.Laws.{MarkupLaw};
+ghost use Rattle.ticklab_draw.specs.Laws.{MarkupLaw, RenamedLaw};
 ghost use Rattle.ticklab_draw.specs.labels.Laws.{FramesLaw};
 
-/// No title, no name of a row and no text of what must never hold opens a tag: a picture has as many `<` whatever
-/// they are.
+/// No title, no name of a row and no text of what must never hold opens a tag: in whatever columns, a picture has as
+/// many `<` whatever they are.
 pub fn law_markup()
-    ensures { MarkupLaw }
+    ensures in_columns { MarkupLaw }
+    ensures renamed { RenamedLaw }
 {}
 
 /// Frame `k` has the labels after the first `k` moves, and the order that it shows is that of the

@@ -1,53 +1,159 @@
 // Where things stand on the page. Bands of columns stand one below the other, each with all lanes.
-ghost use Rattle.std.specs.Prelude.{◌≡◌, ◌*◌, ◌+◌, ◌/◌, ◌<◌, ◌^◌};
-ghost use Rattle.ticklab_draw.specs.Layout.{above_y, arrow_end, arrow_start, band_foot, band_height, band_top, behind_x, field_half, flag_middle, flag_width, is_far, lane_y, last_band, mark_x, mark_y, order_y, page_height, step_y, stub_y};
+ghost use Rattle.std.specs.Prelude.{◌≡◌, ◌*◌, ◌+◌, ◌-◌, ◌<◌, ◌≤◌, ◌^◌};
+ghost use Rattle.ticklab_draw.specs.Layout.{above_y, band_foot, band_height, band_top, behind_x, beside_x, column_at, column_behind, edge, end_x, field_half, flag_middle, flag_width, from_y, in_x, lane_y, last_column, leave_x, left_x, letters_half, next_column, order_y, out_x, page_height, reach_x, right_x, step_y, track_lane, track_y, way_y};
 
-/// How many marks a band has.
-const COLUMNS: usize = 14;
+use crate::columns::Column;
 
-/// The band in which the mark of this place stands.
-pub fn band_of(at: usize) -> usize
-    ensures { result ≡ at / 14 }
+/// Where the lanes of the first band begin: a column that has no width.
+pub const EDGE: Column = Column {
+    band: 0,
+    x: 50,
+    half: 0,
+};
+
+// How far a band reaches at most, and how wide a gutter between two columns is.
+const BAND_END: u16 = 880;
+
+const GUTTER: u16 = 14;
+
+/// The column behind another, so wide on each side: in the same band where it ends there.
+pub fn next_column(column: Column, half: u16) -> Column
+    requires right { column.x + column.half ≤ 880 }
+    requires wide { half ≤ 380 }
+    requires few { column.band < 2 ^ 64 - 1 }
+    ensures next { result ≡ next_column column half }
+    ensures right { result.x + result.half ≤ 880 }
+    ensures few { result.band ≤ column.band + 1 }
 {
-    at / COLUMNS
+    let left = column.x + column.half + GUTTER;
+    if BAND_END < left + 2 * half {
+        Column {
+            band: column.band + 1,
+            x: EDGE.x + GUTTER + half,
+            half,
+        }
+    } else {
+        Column {
+            band: column.band,
+            x: left + half,
+            half,
+        }
+    }
 }
 
-/// The last band of so many marks.
-pub fn last_band(count: usize) -> usize
-    ensures { result ≡ last_band count }
+/// The column of the mark of this place.
+pub fn column_at(columns: &[Column], at: usize) -> Column
+    ensures { result ≡ column_at columns.now at }
 {
-    count.saturating_sub(1) / COLUMNS
+    match columns.get(at) {
+        Some(column) => *column,
+        None => EDGE,
+    }
 }
 
-/// How far from the left the mark of this place stands.
-pub fn mark_x(at: usize) -> u64
-    ensures place { result ≡ mark_x at }
-    ensures low { result < 1000 }
+/// The last of all columns.
+pub fn last_column(columns: &[Column]) -> Column
+    ensures { result ≡ last_column columns.now }
 {
-    86 + 60 * (at % COLUMNS) as u64
+    column_at(columns, columns.len().saturating_sub(1))
 }
 
-/// How far from the top the mark of this place stands, in the lane of process `p` of `n`.
-pub fn mark_y(n: u8, at: usize, p: u8) -> u128
-    ensures place { result ≡ mark_y n at p }
-    ensures high { 46 < result }
-    ensures low { result < 2 ^ 90 }
+/// The column of the last of so many marks.
+pub fn column_behind(columns: &[Column], count: usize) -> Column
+    ensures { result ≡ column_behind columns.now count }
 {
-    lane_y(n, band_of(at), p)
+    if count == 0 {
+        EDGE
+    } else {
+        column_at(columns, count - 1)
+    }
+}
+
+/// How far from the left an arrow stands that leaves a column.
+pub fn out_x(column: Column) -> u64
+    ensures { result ≡ out_x column }
+{
+    right_x(column) + 4
+}
+
+/// How far from the left a line behind a column stands.
+pub fn behind_x(column: Column) -> u64
+    ensures { result ≡ behind_x column }
+{
+    right_x(column) + 7
+}
+
+/// How far from the left the lanes of a band end whose last column this is.
+pub fn end_x(column: Column) -> u64
+    ensures { result ≡ end_x column }
+{
+    right_x(column) + 14
+}
+
+/// How far from the left words beside those lanes stand.
+pub fn beside_x(column: Column) -> u64
+    ensures { result ≡ beside_x column }
+{
+    right_x(column) + 21
+}
+
+fn right_x(column: Column) -> u64
+    ensures right { result ≡ right_x column }
+    ensures low { result < 2 ^ 20 }
+{
+    u64::from(column.x) + u64::from(column.half)
+}
+
+/// How far from the left an arrow stands that comes to a column.
+pub fn in_x(column: Column) -> u64
+    ensures { result ≡ in_x column }
+{
+    left_x(column).saturating_sub(4)
+}
+
+fn left_x(column: Column) -> u64
+    ensures { result ≡ left_x column }
+{
+    u64::from(column.x).saturating_sub(u64::from(column.half))
+}
+
+/// Where an arrow leaves the sign in a column.
+pub fn leave_x(column: Column) -> u64
+    ensures { result ≡ leave_x column }
+{
+    u64::from(column.x) + 9
+}
+
+/// Where an arrow comes to it.
+pub fn reach_x(column: Column) -> u64
+    ensures { result ≡ reach_x column }
+{
+    u64::from(column.x).saturating_sub(9)
 }
 
 /// How far from the top the lane of process `p` of `n` stands in a band.
 pub fn lane_y(n: u8, band: usize, p: u8) -> u128
     ensures place { result ≡ lane_y n band p }
-    ensures high { 46 < result }
+    ensures high { 90 < result }
     ensures low { result < 2 ^ 90 }
 {
-    band_top(n, band) + 46 + 92 * u128::from(p)
+    lane_from(n, band, u128::from(p))
+}
+
+// The same of a lane that may be the one below the last.
+fn lane_from(n: u8, band: usize, lane: u128) -> u128
+    requires { lane < 2 ^ 16 }
+    ensures place { result ≡ lane_y n band lane }
+    ensures high { 90 < result }
+    ensures low { result < 2 ^ 90 }
+{
+    band_top(n, band) + 52 + 92 * lane
 }
 
 /// How far from the top a band of `n` lanes begins.
 pub fn band_top(n: u8, band: usize) -> u128
     ensures place { result ≡ band_top n band }
+    ensures high { 44 ≤ result }
     ensures low { result < 2 ^ 85 }
 {
     44 + (band as u128) * band_height(n)
@@ -65,39 +171,21 @@ fn band_height(n: u8) -> u128
     ensures height { result ≡ band_height n }
     ensures low { result < 2 ^ 16 }
 {
-    92 * u128::from(n) + 64
+    92 * u128::from(n) + 52
 }
 
-/// Whether the words of the mark of this place stand farther off, as those of every other mark do.
-pub fn is_far(at: usize) -> bool
-    ensures { result ≡ is_far at }
+/// How far from the top the order of tickets stands in a band.
+pub fn order_y(n: u8, band: usize) -> u128
+    ensures { result ≡ order_y n band }
 {
-    at % 2 == 1
+    band_foot(n, band) + 10
 }
 
-/// How far from the top the order of tickets stands at the mark of this place.
-pub fn order_y(n: u8, at: usize) -> u128
-    ensures { result ≡ order_y n at }
+/// How far from the top the numbers of steps stand in a band.
+pub fn step_y(n: u8, band: usize) -> u128
+    ensures { result ≡ step_y n band }
 {
-    band_foot(n, band_of(at)) + if is_far(at) { 23 } else { 10 }
-}
-
-/// How far from the top the number of the step stands at the mark of this place.
-pub fn step_y(n: u8, at: usize) -> u128
-    ensures { result ≡ step_y n at }
-{
-    band_foot(n, band_of(at)) + 40
-}
-
-/// How far from the left a line behind so many marks stands.
-pub fn behind_x(count: usize) -> u64
-    ensures { result ≡ behind_x count }
-{
-    if count == 0 {
-        56
-    } else {
-        mark_x(count - 1) + 30
-    }
+    band_foot(n, band) + 28
 }
 
 /// How far from the top words above the lanes of a band stand.
@@ -107,30 +195,51 @@ pub fn above_y(n: u8, band: usize) -> u128
     band_top(n, band) - 3
 }
 
-/// Where an arrow from one height to another begins, just outside of its mark.
-pub fn arrow_start(start: u128, end: u128) -> u128
-    requires high { 46 < start }
-    requires low { start < 2 ^ 90 }
-    ensures { result ≡ arrow_start start end }
+/// How far from the top it stands of which step of an earlier band the value is that process `p` reads.
+pub fn from_y(n: u8, band: usize, p: u8) -> u128
+    ensures { result ≡ from_y n band p }
 {
-    if end < start { start - 9 } else { start + 9 }
+    lane_y(n, band, p) + 33
 }
 
-/// Where it ends.
-pub fn arrow_end(start: u128, end: u128) -> u128
-    requires high { 46 < end }
-    requires low { end < 2 ^ 90 }
-    ensures { result ≡ arrow_end start end }
-{
-    if start < end { end - 9 } else { end + 9 }
-}
-
-/// How far from the top the words of an arrow from an earlier band stand.
-pub fn stub_y(n: u8, at: usize, p: u8) -> u128
-    ensures place { result ≡ stub_y n at p }
+/// How far from the top an arrow goes that leads from the put of process `q`, at its place and column, to the get of
+/// process `p` in another column.
+pub fn way_y(n: u8, from: usize, start: Column, q: u8, column: Column, p: u8) -> u128
+    ensures way { result ≡ way_y n from start q column p }
     ensures low { result < 2 ^ 90 }
 {
-    mark_y(n, at, p) - if is_far(at) { 29 } else { 20 }
+    if left_x(column) == end_x(start) {
+        lane_y(n, start.band, p)
+    } else {
+        track_y(n, start.band, q, p, from)
+    }
+}
+
+fn track_y(n: u8, band: usize, q: u8, p: u8, from: usize) -> u128
+    ensures track { result ≡ track_y n band (track_lane q p) from }
+    ensures low { result < 2 ^ 90 }
+{
+    lane_from(n, band, track_lane(q, p)) - (32 + 3 * (from % 6) as u128)
+}
+
+// The lane above which it goes.
+fn track_lane(q: u8, p: u8) -> u128
+    ensures lane { result ≡ track_lane q p }
+    ensures low { result < 2 ^ 16 }
+{
+    if p < q {
+        u128::from(p) + 1
+    } else {
+        u128::from(p)
+    }
+}
+
+/// Half the width of so many letters.
+pub fn letters_half(letters: u128) -> u128
+    requires { letters < 2 ^ 90 }
+    ensures { result ≡ letters_half letters }
+{
+    (7 * letters + 1) / 2
 }
 
 /// Half the width of a stamp's field, in which so many letters stand.
@@ -155,9 +264,9 @@ pub fn flag_middle(letters: usize) -> u128
     5 + 7 * letters as u128 / 2
 }
 
-/// As high as all bands, and the legend below them.
-pub fn page_height(n: u8, count: usize) -> u128
-    ensures { result ≡ page_height n count }
+/// As high as all bands up to the last, and the legend below them.
+pub fn page_height(n: u8, last: usize) -> u128
+    ensures { result ≡ page_height n last }
 {
-    band_top(n, last_band(count) + 1) + 60
+    44 + (last as u128 + 1) * band_height(n) + 68
 }

@@ -9,6 +9,7 @@
 mod arrows;
 mod beside;
 mod colours;
+mod columns;
 mod feet;
 mod holding;
 mod labels;

@@ -3,7 +3,8 @@ ghost use Rattle.std.specs.Prelude.{◌≡◌, ◌++◌, OnOk, codes, option_map
 ghost use Rattle.std.specs.Fmt.{decimal};
 ghost use Rattle.ticklab_draw.specs.Never.{broken_of, dashed_line, dashes, marks_within, moment_text, never_behind, never_label, never_text, never_title, never_words, value_text};
 
-use crate::layout::{above_y, band_foot, band_top, behind_x, last_band};
+use crate::columns::Column;
+use crate::layout::{above_y, band_foot, band_top, behind_x, column_behind};
 use crate::mark::Mark;
 use crate::writing::{Added, push, push_escaped_bytes, push_number, push_one, push_two};
 use base::Trap;
@@ -23,11 +24,20 @@ pub struct NeverMark<'a> {
 }
 
 /// Adds the mark among those of a run of `n` processes, where there is one.
-pub fn push_never(out: &mut Vec<u8>, n: u8, marks: &[Mark], never: Option<NeverMark<'_>>) -> Added
-    ensures { OnOk result (out.new.items ≡ out.old.items ++ never_text n marks.now (option_map broken_of never.entry)) }
+pub fn push_never(
+    out: &mut Vec<u8>,
+    n: u8,
+    columns: &[Column],
+    marks: &[Mark],
+    never: Option<NeverMark<'_>>,
+) -> Added
+    ensures { OnOk result (out.new.items ≡ out.old.items ++ never_text n columns.now marks.now (option_map broken_of never.entry)) }
 {
     match never {
-        Some(never) => push_never_behind(out, n, marks_within(never.steps, marks), never),
+        Some(never) => {
+            let count = marks_within(never.steps, marks);
+            push_never_behind(out, n, column_behind(columns, count), never)
+        }
         None => Ok(()),
     }
 }
@@ -45,14 +55,15 @@ fn marks_within(steps: usize, marks: &[Mark]) -> usize
     count
 }
 
+// In the gutter behind a column.
 #[tactic(auto, unfolding(crate::specs::Never::never_behind))]
-fn push_never_behind(out: &mut Vec<u8>, n: u8, count: usize, never: NeverMark<'_>) -> Added
-    ensures { OnOk result (out.new.items ≡ out.old.items ++ never_behind n count (broken_of never.entry)) }
+fn push_never_behind(out: &mut Vec<u8>, n: u8, column: Column, never: NeverMark<'_>) -> Added
+    ensures { OnOk result (out.new.items ≡ out.old.items ++ never_behind n column (broken_of never.entry)) }
 {
-    let band = last_band(count);
+    let (x, band) = (behind_x(column), column.band);
     push_never_title(out, never)?;
-    push_dashed_line(out, behind_x(count), band_top(n, band), band_foot(n, band))?;
-    push_never_label(out, behind_x(count), above_y(n, band), never.number)
+    push_dashed_line(out, x, band_top(n, band), band_foot(n, band))?;
+    push_never_label(out, x, above_y(n, band), never.number)
 }
 
 // When it holds, how it reads, and what it comes to.

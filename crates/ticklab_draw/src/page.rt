@@ -2,26 +2,27 @@
 ghost use Rattle.std.specs.Prelude.{◌≡◌, ◌++◌, IfOk, OnOk, option_map};
 ghost use Rattle.ticklab_draw.specs.Never.{broken_of};
 ghost use Rattle.ticklab_draw.specs.Words.{names};
-ghost use Rattle.ticklab_draw.specs.Pictures.{about, group_head, group_name, group_place, group_text, groups_text, heading, page_element, page_head, page_size, page_view, picture, title_element, titled, under_text};
+ghost use Rattle.ticklab_draw.specs.Pictures.{about, file_name, group_head, group_name, group_place, group_text, groups_text, heading, page_element, page_head, page_size, page_view, picture, picture_in, title_element, titled, under_text};
 
 use crate::colours::push_colour;
+use crate::columns::{Column, columns};
 use crate::feet::push_feet;
 use crate::lanes::{push_bands, push_ends};
-use crate::layout::{last_band, mark_x, mark_y, page_height};
+use crate::layout::{column_at, lane_y, last_column, page_height};
 use crate::legend::push_legend;
 use crate::mark::Mark;
 use crate::never::{NeverMark, push_never};
 use crate::shapes::push_drawn;
 use crate::style::{backdrop, sheet};
 use crate::words::{Cast, push_sentence};
-use crate::writing::{Added, push, push_escaped, push_one, push_two};
+use crate::writing::{Added, push, push_escaped_bytes, push_one, push_two};
 use base::NoMemory;
 use base::tree::Named;
 use std::alloc::Global;
 
 /// The marks of a run of `processes` processes as SVG. Rows of registers have these names, and `r` with
-/// its number where there is none. The title is read out, and stands above the picture. What must never hold
-/// has a mark where it does.
+/// its number where there is none. The title is read out, and what it has behind its last `/` stands above the picture.
+/// What must never hold has a mark where it does.
 #[tactic(auto, unfolding(crate::specs::Pictures::picture))]
 pub fn picture(
     alloc: Global,
@@ -37,22 +38,40 @@ pub fn picture(
         processes,
         registers,
     };
+    let columns = columns(alloc, cast, marks)?;
     let mut out = Vec::new(alloc);
-    push_page(&mut out, title, processes, marks.len())?;
-    push_heading(&mut out, title)?;
-    push_never(&mut out, processes, marks, never)?;
-    push_under(alloc, &mut out, processes, marks)?;
-    push_groups(alloc, &mut out, cast, marks)?;
-    push_legend(&mut out, processes, marks.len())?;
+    push_picture(alloc, &mut out, &columns, title, cast, marks, never)?;
     Ok(out)
+}
+
+// The picture in these columns.
+#[tactic(auto, unfolding(crate::specs::Pictures::picture_in))]
+fn push_picture(
+    alloc: Global,
+    out: &mut Vec<u8>,
+    columns: &[Column],
+    title: &str,
+    cast: Cast<'_>,
+    marks: &[Mark],
+    never: Option<NeverMark<'_>>,
+) -> Added
+    ensures { OnOk result (out.new.items ≡ out.old.items ++ picture_in columns.now title.now cast.entry.processes (names cast.entry.registers.now) marks.now (option_map broken_of never.entry)) }
+{
+    let (n, last) = (cast.processes, last_column(columns).band);
+    push_page(out, title, n, last, marks.len())?;
+    push_heading(out, title)?;
+    push_never(out, n, columns, marks, never)?;
+    push_under(alloc, out, n, columns, marks)?;
+    push_groups(alloc, out, cast, columns, marks)?;
+    push_legend(out, n, last)
 }
 
 // The page, its title and what it is of, for who sees it and for who has it read out.
 #[tactic(auto, unfolding(crate::specs::Pictures::page_head))]
-fn push_page(out: &mut Vec<u8>, title: &str, n: u8, count: usize) -> Added
-    ensures { OnOk result (out.new.items ≡ out.old.items ++ page_head title.now n count) }
+fn push_page(out: &mut Vec<u8>, title: &str, n: u8, last: usize, count: usize) -> Added
+    ensures { OnOk result (out.new.items ≡ out.old.items ++ page_head title.now n last count) }
 {
-    push_size(out, page_height(n, count))?;
+    push_size(out, page_height(n, last))?;
     push_title(out, title)?;
     push_about(out, n, count)
 }
@@ -88,16 +107,16 @@ fn push_page_view(out: &mut Vec<u8>, height: u128) -> Added
 fn push_title(out: &mut Vec<u8>, title: &str) -> Added
     ensures { OnOk result (out.new.items ≡ out.old.items ++ title_element title.now) }
 {
-    push_titled(out, "<title id=\"title\">", title, "</title>\n")
+    push_titled(out, "<title id=\"title\">", title.as_bytes(), "</title>\n")
 }
 
 // The title between pieces of markup.
 #[tactic(auto, unfolding(crate::specs::Pictures::titled))]
-fn push_titled(out: &mut Vec<u8>, before: &str, title: &str, after: &str) -> Added
+fn push_titled(out: &mut Vec<u8>, before: &str, title: &[u8], after: &str) -> Added
     ensures { OnOk result (out.new.items ≡ out.old.items ++ titled before.now title.now after.now) }
 {
     push(out, before)?;
-    push_escaped(out, title)?;
+    push_escaped_bytes(out, title)?;
     push(out, after)
 }
 
@@ -115,7 +134,7 @@ fn push_about(out: &mut Vec<u8>, n: u8, count: usize) -> Added
     )
 }
 
-// The style, and the title once more, which is seen.
+// The style; and the last part of the title, which is seen.
 #[tactic(auto, unfolding(crate::specs::Pictures::heading))]
 fn push_heading(out: &mut Vec<u8>, title: &str) -> Added
     ensures { OnOk result (out.new.items ≡ out.old.items ++ heading title.now) }
@@ -123,49 +142,75 @@ fn push_heading(out: &mut Vec<u8>, title: &str) -> Added
     push(out, sheet())?;
     push(out, backdrop())?;
     let before = "<text class=\"title\" x=\"16\" y=\"26\">";
-    push_titled(out, before, title, "</text>\n")
+    push_titled(out, before, file_name(title.as_bytes()), "</text>\n")
+}
+
+// The last part of a path.
+#[tactic(auto, unfolding(crate::specs::Pictures::file_name))]
+fn file_name(path: &[u8]) -> &[u8]
+    ensures { result.now ≡ file_name path.now }
+{
+    let mut start = 0;
+    for (at, byte) in path.iter().enumerate() {
+        if *byte == b'/' {
+            start = at + 1;
+        }
+    }
+    &path[start..]
 }
 
 // What stands under the marks: lanes, how each process ended, and steps, orders and arrows.
 #[tactic(auto, unfolding(crate::specs::Pictures::under_text))]
-fn push_under(alloc: Global, out: &mut Vec<u8>, n: u8, marks: &[Mark]) -> Added
-    ensures { OnOk result (out.new.items ≡ out.old.items ++ under_text n marks.now) }
+fn push_under(alloc: Global, out: &mut Vec<u8>, n: u8, columns: &[Column], marks: &[Mark]) -> Added
+    ensures { OnOk result (out.new.items ≡ out.old.items ++ under_text n columns.now marks.now) }
 {
-    let last = last_band(marks.len());
-    push_bands(out, n, last + 1)?;
-    push_ends(out, n, last, marks)?;
-    push_feet(alloc, out, n, marks)
+    push_bands(out, n, columns)?;
+    push_ends(out, n, last_column(columns), marks)?;
+    push_feet(alloc, out, n, columns, marks)
 }
 
 // A group for each mark, in order.
-fn push_groups(alloc: Global, out: &mut Vec<u8>, cast: Cast<'_>, marks: &[Mark]) -> Added
-    ensures { OnOk result (out.new.items ≡ out.old.items ++ groups_text cast.entry.processes (names cast.entry.registers.now) 0 marks.now) }
+fn push_groups(
+    alloc: Global,
+    out: &mut Vec<u8>,
+    cast: Cast<'_>,
+    columns: &[Column],
+    marks: &[Mark],
+) -> Added
+    ensures { OnOk result (out.new.items ≡ out.old.items ++ groups_text cast.entry.processes (names cast.entry.registers.now) columns.now 0 marks.now) }
 {
     for (at, mark) in marks.iter().enumerate() {
-        push_group(alloc, out, cast, at, mark)?;
+        push_group(alloc, out, cast, column_at(columns, at), at, mark)?;
     }
     Ok(())
 }
 
 // A mark: where it stands, what it shows in words, and what is drawn of it.
 #[tactic(auto, unfolding(crate::specs::Pictures::group_text))]
-fn push_group(alloc: Global, out: &mut Vec<u8>, cast: Cast<'_>, at: usize, mark: &Mark) -> Added
-    ensures { OnOk result (out.new.items ≡ out.old.items ++ group_text cast.entry.processes (names cast.entry.registers.now) at mark.now) }
+fn push_group(
+    alloc: Global,
+    out: &mut Vec<u8>,
+    cast: Cast<'_>,
+    column: Column,
+    at: usize,
+    mark: &Mark,
+) -> Added
+    ensures { OnOk result (out.new.items ≡ out.old.items ++ group_text cast.entry.processes (names cast.entry.registers.now) column at mark.now) }
 {
-    push_group_head(out, cast.processes, at, mark.process)?;
+    push_group_head(out, cast.processes, column, at, mark.process)?;
     push_sentence(out, cast, mark)?;
     push(out, "</title>")?;
-    push_drawn(alloc, out, cast, at, mark)?;
+    push_drawn(alloc, out, cast, mark)?;
     push(out, "</g>\n")
 }
 
 #[tactic(auto, unfolding(crate::specs::Pictures::group_head))]
-fn push_group_head(out: &mut Vec<u8>, n: u8, at: usize, p: u8) -> Added
-    ensures { OnOk result (out.new.items ≡ out.old.items ++ group_head n at p) }
+fn push_group_head(out: &mut Vec<u8>, n: u8, column: Column, at: usize, p: u8) -> Added
+    ensures { OnOk result (out.new.items ≡ out.old.items ++ group_head n column at p) }
 {
     push_group_name(out, at)?;
     push_colour(out, p)?;
-    push_group_place(out, mark_x(at), mark_y(n, at, p))
+    push_group_place(out, u64::from(column.x), lane_y(n, column.band, p))
 }
 
 #[tactic(auto, unfolding(crate::specs::Pictures::group_name))]

@@ -4,7 +4,7 @@ ghost use Rattle.ticklab_draw.specs.Words.{names};
 ghost use Rattle.ticklab_draw.specs.Shapes.{above, act_shape, answer_shape, below, drawn, field, flag, flag_label, label, outline, shape_of, words_text};
 
 use crate::beside::beside;
-use crate::layout::{field_half, flag_middle, flag_width, is_far};
+use crate::layout::{field_half, flag_middle, flag_width};
 use crate::mark::{Mark, Sight};
 use crate::words::Cast;
 use crate::writing::{Added, push, push_one};
@@ -27,18 +27,19 @@ pub enum Shape {
     Lost,
 }
 
-/// Adds what is drawn of the mark of this place.
+/// Adds what is drawn of a mark.
 #[tactic(auto, unfolding(crate::specs::Shapes::drawn))]
-pub fn push_drawn(alloc: Global, out: &mut Vec<u8>, cast: Cast<'_>, at: usize, mark: &Mark) -> Added
-    ensures { OnOk result (out.new.items ≡ out.old.items ++ drawn cast.entry.processes (names cast.entry.registers.now) at mark.now) }
+pub fn push_drawn(alloc: Global, out: &mut Vec<u8>, cast: Cast<'_>, mark: &Mark) -> Added
+    ensures { OnOk result (out.new.items ≡ out.old.items ++ drawn cast.entry.processes (names cast.entry.registers.now) mark.now) }
 {
     let words = beside(alloc, cast, mark)?;
     let shape = shape_of(mark.sight);
     push_outline(out, shape, words.len())?;
-    push_words(out, shape, is_far(at), &words)
+    push_words(out, shape, &words)
 }
 
-fn shape_of(sight: Sight) -> Shape
+/// The shape of what a mark shows.
+pub fn shape_of(sight: Sight) -> Shape
     ensures { result ≡ shape_of sight }
 {
     match sight {
@@ -87,10 +88,7 @@ fn push_outline(out: &mut Vec<u8>, shape: Shape, letters: usize) -> Added
             "<rect class=\"o\" x=\"-6\" y=\"-6\" width=\"12\" height=\"12\"/>",
         ),
         Shape::Stamp => push_field(out, field_half(letters)),
-        Shape::Clear => push(
-            out,
-            "<circle class=\"o\" r=\"8\"/><path class=\"l\" d=\"M-8 0H8\"/>",
-        ),
+        Shape::Clear => push(out, "<path class=\"o\" d=\"M-9 -7H9L0 9Z\"/>"),
         Shape::Scan => push(out, "<circle class=\"o\" r=\"8\"/>"),
         Shape::Yes => push(out, "<path class=\"f\" d=\"M-8 0L0 -8L8 0L0 8Z\"/>"),
         Shape::No => push(out, "<path class=\"o\" d=\"M-8 0L0 -8L8 0L0 8Z\"/>"),
@@ -127,42 +125,34 @@ fn push_flag(out: &mut Vec<u8>, width: u128) -> Added
 }
 
 #[tactic(auto, unfolding(crate::specs::Shapes::words_text))]
-fn push_words(out: &mut Vec<u8>, shape: Shape, far: bool, words: &[u8]) -> Added
-    ensures { OnOk result (out.new.items ≡ out.old.items ++ words_text shape far words.now) }
+fn push_words(out: &mut Vec<u8>, shape: Shape, words: &[u8]) -> Added
+    ensures { OnOk result (out.new.items ≡ out.old.items ++ words_text shape words.now) }
 {
     match shape {
-        Shape::Put => push_label(out, above(far), "", words),
-        Shape::Get => push_label(out, below(far), "", words),
+        Shape::Put => push_label(out, above(), "", words),
+        Shape::Get => push_label(out, below(), "", words),
         Shape::Stamp => push_label(out, "<text class=\"in\" y=\"4\"", "", words),
         Shape::Clear => Ok(()),
-        Shape::Scan => push_label(out, below(far), " class=\"strong\"", words),
-        Shape::Yes => push_label(out, below(far), "", words),
-        Shape::No => push_label(out, below(far), "", words),
+        Shape::Scan => push_label(out, below(), " class=\"strong\"", words),
+        Shape::Yes => push_label(out, below(), "", words),
+        Shape::No => push_label(out, below(), "", words),
         Shape::Out => push_flag_label(out, words),
-        Shape::Trap => push_label(out, above(far), " class=\"trap\"", words),
+        Shape::Trap => push_label(out, above(), " class=\"trap\"", words),
         Shape::End => Ok(()),
         Shape::Lost => Ok(()),
     }
 }
 
-fn above(far: bool) -> &'static str
-    ensures { result.now ≡ above far }
+fn above() -> &'static str
+    ensures { result.now ≡ above }
 {
-    if far {
-        "<text y=\"-27\""
-    } else {
-        "<text y=\"-14\""
-    }
+    "<text y=\"-14\""
 }
 
-fn below(far: bool) -> &'static str
-    ensures { result.now ≡ below far }
+fn below() -> &'static str
+    ensures { result.now ≡ below }
 {
-    if far {
-        "<text y=\"36\""
-    } else {
-        "<text y=\"23\""
-    }
+    "<text y=\"21\""
 }
 
 #[tactic(auto, unfolding(crate::specs::Shapes::label))]

@@ -1,5 +1,5 @@
 // Adds texts and numbers to a picture.
-ghost use Rattle.std.specs.Prelude.{◌≡◌, ◌++◌, OnOk};
+ghost use Rattle.std.specs.Prelude.{◌≡◌, ◌++◌, OnOk, length};
 ghost use Rattle.std.specs.Fmt.{decimal};
 ghost use Rattle.std.specs.List.{flat_map};
 ghost use Rattle.ticklab_draw.specs.Escapes.{escaped, escaped_byte};
@@ -23,6 +23,13 @@ pub fn push_number(out: &mut Vec<u8>, number: u64) -> Added
     ensures { OnOk result (out.new.items ≡ out.old.items ++ decimal number) }
 {
     push(out, Buffer::new().format(number))
+}
+
+/// How many digits a number has.
+pub fn digits(number: u64) -> usize
+    ensures { result ≡ length (decimal number) }
+{
+    Buffer::new().format(number).len()
 }
 
 /// Adds the digits of a great number.
