@@ -37,7 +37,7 @@ static ROWS: [Row; 8] = [
         marks: 15,
         pieces: &[
             "<title id=\"title\">Two words</title>\n<desc id=\"about\">15 marks of a run; processes: 2</desc>",
-            "<g id=\"mark-1\" color=\"#0b2a4a\" transform=\"translate(86 90)\"><title>step 1: P0 puts word := 7</title>",
+            "<g id=\"mark-1\" color=\"#0b2a4a\" transform=\"translate(96 96)\"><title>step 1: P0 puts word := 7</title>",
             "<title>step 2: P0 stamps: tickets 1 0</title>",
             "<title>step 5: P1 gets word[0] = 7, put by mark 1</title>",
             "<title>step 8: P0 scans: ranks 0 1</title>",
@@ -46,7 +46,7 @@ static ROWS: [Row; 8] = [
             "<title>step 12: P0 clears: tickets 0 2</title>",
             "<title>step 13: P0 gives out 1</title>",
             "<title>step 14: P0 ends</title>",
-            "<g id=\"mark-15\" color=\"#7a3a0c\" transform=\"translate(86 430)\">",
+            "<g id=\"mark-15\" color=\"#7a3a0c\" transform=\"translate(214 424)\">",
             ">0&lt;1</text>",
             ">1</text>",
             ">ended</text>",
@@ -90,8 +90,8 @@ static ROWS: [Row; 8] = [
         marks: 6,
         pieces: &[
             "\n<g id=\"never\"><title>after step 4: 1 &lt; inside[0] must never hold, and its value is 7</title>",
-            "</title><path fill=\"none\" stroke=\"#666\" stroke-dasharray=\"5 4\" d=\"M296 44V228\"/>",
-            "/><text class=\"step\" x=\"296\" y=\"41\">never 2</text></g>\n<path class=\"lane\" ",
+            "</title><path fill=\"none\" stroke=\"#666\" stroke-dasharray=\"5 4\" d=\"M453 44V228\"/>",
+            "/><text class=\"step\" x=\"453\" y=\"41\">never 2</text></g>\n<path class=\"lane\" ",
         ],
     },
     // at the start
@@ -108,7 +108,7 @@ static ROWS: [Row; 8] = [
         marks: 2,
         pieces: &[
             ">at the start: 1 / inside[0] must never hold, and it traps with Zero</title>",
-            "d=\"M56 44V228\"/><text class=\"step\" x=\"56\" y=\"41\">never</text></g>\n",
+            "d=\"M57 44V228\"/><text class=\"step\" x=\"57\" y=\"41\">never</text></g>\n",
         ],
     },
     // no steps
