@@ -2,7 +2,7 @@
 use Rattle.std.proofs.Common.{◌≡◌, ℕ, List, sym, subst}
 use Rattle.searches_hunt.specs.declared.never_answer.NeverHunted.{NeverHunted}
 use Rattle.searches_hunt.specs.declared.never_answer.NeverHunted.TheVariants.{Trapped, Broken, Nothing}
-use Rattle.searches_hunt.specs.Never.{IfFault, IfNothing}
+use Rattle.searches_hunt.specs.Never.{IfFault}
 
 -- of the run and the schedule of a fault
 pub fault_turn : (run : ℕ) (schedule : List ℕ) (P : ℕ → List ℕ → Type 0) → P run schedule → (h : NeverHunted)
@@ -10,8 +10,3 @@ pub fault_turn : (run : ℕ) (schedule : List ℕ) (P : ℕ → List ℕ → Typ
 fault_turn run schedule P p (Trapped r s) (is_run, is) = subst (λ q. P q s.items) (sym is_run) (subst (P run) (sym is) p)
 fault_turn run schedule P p (Broken r s line v) (is_run, is) = subst (λ q. P q s.items) (sym is_run) (subst (P run) (sym is) p)
 fault_turn run schedule P p Nothing said = tt
-
-pub never_nothing : (P : Type 0) (h : NeverHunted) → IfNothing h ⊥ → IfNothing h P
-never_nothing P (Trapped r s) said = tt
-never_nothing P (Broken r s line v) said = tt
-never_nothing P Nothing said = absurd said

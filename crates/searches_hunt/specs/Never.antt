@@ -1,5 +1,5 @@
 -- What the answer of a hunt with lines that must never hold says of the program's runs on whole-number tickets.
-use Rattle.std.specs.Prelude.{◌≡◌, ◌+◌, ◌<◌, ◌≤◌, ℕ, true, false, List, length, take}
+use Rattle.std.specs.Prelude.{◌≡◌, ◌+◌, ◌<◌, ◌≤◌, ℕ, true, false, List, Option, MatchOption, length, take}
 use Rattle.std.specs.List.{All}
 use Rattle.base.specs.Plain.{WholeProgram}
 use Rattle.language_properties.specs.Properties.{Formula}
@@ -57,6 +57,10 @@ module _ (a : WholeProgram ℕ) (lines : List Formula) where
   -- the schedule of none of the runs has one
   abbrev pub NoRunFaults : Plan → ℕ → Type 0
   NoRunFaults plan from = (run : ℕ) → IsRunFrom plan from run → IsFaultless (random_schedule plan a.processes run)
+
+  -- what is told of the runs: that none has one, or the first that has
+  abbrev pub TellsFirst : Plan → ℕ → Option ℕ → Type 0
+  TellsFirst plan from told = MatchOption told (NoRunFaults plan from) (IsFirstFault plan from)
 
 -- a statement about the answer, for each kind of answer
 abbrev pub IfTrapped : NeverHunted → (List ℕ → Type 0) → Type 0

@@ -13,6 +13,7 @@ use crate::drawing::draw;
 use crate::never_answer::NeverHunted;
 use crate::plan::Plan;
 use crate::shrinking::shrink;
+use crate::trials::{InTurn, Trials};
 use crate::tried::Tried;
 use crate::trying::steps_to_fault;
 use base::NoMemory;
@@ -86,10 +87,37 @@ fn told(
     }
 }
 
-/// Runs the program under one random schedule after the other, until a process traps or a line is broken: the runs
-/// of the plan from this one on. A line is a property that must never hold: it is broken where its value isn't 0, or
+/// Runs the program under random schedules until a process traps or a line is broken: the runs of the plan from this
+/// one on, which `trials` tries. A line is a property that must never hold: it is broken where its value isn't 0, or
 /// its evaluation traps. Lines are asked at the start and after each step. A trap is told before a broken line. A
 /// run ends where all processes have stopped.
+pub fn hunt_by<T: Trials>(
+    trials: &T,
+    alloc: Global,
+    program: &Program,
+    lines: &[Property],
+    plan: Plan,
+    from: u32,
+) -> Result<NeverHunted, NoMemory>
+    ensures first { IfOk result (λ h. IfFault h (λ run schedule. IsFirstFault (resolved program.now) (lines_of lines.now) plan from run)) }
+    ensures trapped { IfOk result (λ h. IfTrapped h (IsMinimalTrapped (resolved program.now) (lines_of lines.now))) }
+    ensures broken { IfOk result (λ h. IfBroken h (IsMinimalBroken (resolved program.now) (lines_of lines.now))) }
+    ensures part { IfOk result (λ h. IfFault h (λ run schedule.
+        IsPartOf schedule (random_schedule plan (resolved program.now).processes run))) }
+    ensures short { IfOk result (λ h. IfFault h (λ run schedule. length schedule ≤ plan.steps)) }
+    ensures nothing { IfOk result (λ h. IfNothing h (NoRunFaults (resolved program.now) (lines_of lines.now) plan from)) }
+{
+    let Some(run) = trials.first_fault(alloc, program, lines, plan, from)? else {
+        return Ok(NeverHunted::Nothing);
+    };
+    let Some(steps) = steps_to_fault(alloc, program, lines, plan, run)? else {
+        unreachable!()
+    };
+    let schedule = shrunk(alloc, program, lines, plan, run, steps)?;
+    told(alloc, program, lines, run, schedule)
+}
+
+/// Hunts as `hunt_by` does, and tries one run after the other.
 pub fn hunt_never(
     alloc: Global,
     program: &Program,
@@ -105,11 +133,5 @@ pub fn hunt_never(
     ensures short { IfOk result (λ h. IfFault h (λ run schedule. length schedule ≤ plan.steps)) }
     ensures nothing { IfOk result (λ h. IfNothing h (NoRunFaults (resolved program.now) (lines_of lines.now) plan from)) }
 {
-    for run in from..from.saturating_add(plan.runs) {
-        if let Some(steps) = steps_to_fault(alloc, program, lines, plan, run)? {
-            let schedule = shrunk(alloc, program, lines, plan, run, steps)?;
-            return told(alloc, program, lines, run, schedule);
-        }
-    }
-    Ok(NeverHunted::Nothing)
+    hunt_by(&InTurn, alloc, program, lines, plan, from)
 }

@@ -5,6 +5,7 @@ mod asked;
 mod drawn;
 mod judged;
 mod known;
+mod merged;
 mod slow;
 mod stepping;
 mod sweeps;

@@ -8,3 +8,4 @@ mod lines;
 mod programs;
 mod repeats;
 mod replay;
+mod side_by_side;

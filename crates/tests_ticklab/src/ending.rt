@@ -3,6 +3,7 @@ use crate::reading::first_of;
 use base::RunOutcome;
 use code_core::Code;
 use searches_explore::Watch;
+use searches_hunt::InTurn;
 use std::alloc::{AllocError, Global};
 use std::env::Args;
 use std::io;
@@ -195,7 +196,14 @@ fn ends_so(alloc: Global, row: &Row<'_>) -> Result<(), Fail> {
     let (words, is_torn, status, said, reads) = *row;
     let given = line(alloc, words)?;
     let mut host = host(alloc, is_torn);
-    let found = ended(alloc, &mut host, &mut NoThreads, &mut Nobody, Ok(given));
+    let found = ended(
+        alloc,
+        &mut host,
+        &mut NoThreads,
+        &InTurn,
+        &mut Nobody,
+        Ok(given),
+    );
     let is_so = found == ExitCode::from(status)
         && has_said(&host, said)
         && (host.files.files, host.files.inputs) == reads;
@@ -219,7 +227,14 @@ fn each_status(rt: HostRuntime) -> Result<(), Fail> {
 fn no_words(rt: HostRuntime) -> Result<(), Fail> {
     let mut host = host(rt.alloc(), false);
     let none = Err(Error::from(ErrorKind::InvalidData));
-    let found = ended(rt.alloc(), &mut host, &mut NoThreads, &mut Nobody, none);
+    let found = ended(
+        rt.alloc(),
+        &mut host,
+        &mut NoThreads,
+        &InTurn,
+        &mut Nobody,
+        none,
+    );
     let said = Err("ticklab: the command line: invalid data\n");
     holds(
         found == ExitCode::from(2) && has_said(&host, said),

@@ -22,7 +22,11 @@ static ASKED: [(&[&str], &str); 17] = [
     ),
     (
         &["explore", "a", "--never", "n", "--ends", "2"],
-        "Ends { file: \"a\", never: [\"n\"], process: Some(2), limit: 1000000 }",
+        "Ends { file: \"a\", never: [\"n\"], process: Some(2), limit: 1000000, is_merged: false }",
+    ),
+    (
+        &["explore", "a", "--merged", "--ends"],
+        "Ends { file: \"a\", never: [], process: None, limit: 1000000, is_merged: true }",
     ),
     (
         &["lasso", "a", "0 1", "@b"],
@@ -30,7 +34,7 @@ static ASKED: [(&[&str], &str); 17] = [
     ),
     (
         &["hunt", "a"],
-        "Hunt { file: \"a\", never: [], seed: 0, runs: 10000, from: 0, steps: 300, is_uniform: false }",
+        "Hunt { file: \"a\", never: [], seed: 0, runs: 10000, from: 0, steps: 300, is_uniform: false, jobs: 64 }",
     ),
     (
         &[
@@ -43,11 +47,13 @@ static ASKED: [(&[&str], &str); 17] = [
             "--steps",
             "10000000",
             "--uniform",
+            "--jobs",
+            "4",
             "--from=7",
             "--never",
             "n",
         ],
-        "Hunt { file: \"a\", never: [\"n\"], seed: 18446744073709551615, runs: 3, from: 7, steps: 10000000, is_uniform: true }",
+        "Hunt { file: \"a\", never: [\"n\"], seed: 18446744073709551615, runs: 3, from: 7, steps: 10000000, is_uniform: true, jobs: 4 }",
     ),
     (
         &["hunt", "--threads", "7", "1000000000", "a"],

@@ -10,6 +10,7 @@ mod progress;
 
 use crate::files::HostFiles;
 use crate::progress::HostProgress;
+use searches_parallel::OnProcessors;
 use std::env::args;
 use std::process::ExitCode;
 use tick_run::OnThreads;
@@ -24,6 +25,7 @@ fn main(rt: HostRuntime) -> ExitCode {
             err: rt.stderr(),
         },
         &mut OnThreads::new(&rt),
+        &OnProcessors::new(&rt),
         &mut HostProgress::new(&rt),
         args(&rt),
     )

@@ -1,6 +1,6 @@
 -- What must never hold: the lines of a file, of which the code holds properties and places apart, and the texts of a
 -- command line; and what a schedule that is found and a line that breaks are at least.
-use Rattle.std.proofs.Common.{◌≡◌, ◌∙◌, ◌++◌, ◌<◌, ◌+◌, ℕ, List, [], ◌∷◌, length, map, drop, get_or, refl, ap, sym, subst, arith, drop-cons, add-one, Some}
+use Rattle.std.proofs.Common.{◌≡◌, ◌∙◌, ◌++◌, ◌<◌, ◌+◌, ℕ, Bool, true, false, List, [], ◌∷◌, length, map, drop, get_or, refl, ap, sym, subst, arith, drop-cons, add-one, Some}
 use Rattle.std.specs.Prelude.{slice_get}
 use Rattle.std.specs.Borrow.{Bor}
 use Rattle.std.specs.List.{All}
@@ -13,12 +13,12 @@ use Rattle.language_properties.specs.Properties.{Formula, formula_of}
 use Rattle.language_properties.specs.Values.{Valued}
 use Rattle.language_questions.specs.declared.questions.NeverLine.{NeverLine}
 use Rattle.searches_explore.specs.Lines.{IsFirstBroken, lines_of}
-use Rattle.searches_explore.specs.Never.{IfBroken, IfFault, IfTrapped, IsBroken, IsShortestBroken, IsShortestTrapped}
-use Rattle.searches_explore.specs.Trap.{IsTrap}
+use Rattle.searches_explore.specs.Never.{IfBroken, IfFault, IfTrapped}
 use Rattle.tick_source.specs.Source.{SourceState}
 use Rattle.searches_explore.specs.declared.never_answer.NeverExplored.{NeverExplored}
 use Rattle.searches_explore.specs.declared.never_answer.NeverExplored.TheVariants.{Trapped, Broken, Safe, Limit}
 use Rattle.ticklab_answers.specs.Asking.{TellsOption, TellsText, TextPlace, option_then, options_after, place_of, text_place, texts_of}
+use Rattle.ticklab_answers.specs.Exploring.{BrokenBy, TrapBy}
 use Rattle.ticklab_answers.specs.declared.asking.PropertyPlace.{PropertyPlace}
 
 -- what is taken apart are the lines
@@ -63,27 +63,24 @@ module _ (a : WholeProgram ℕ) (lines : List Property) where
   line_within s line v first =
       subst (λ (count : ℕ). line < count) (length-map lines formula_of) (slice_get_within (lines_of lines) line first.formula first.there)
 
-  pub shortest_lawful : (e : NeverExplored) → IfTrapped e (IsShortestTrapped a (lines_of lines)) → IfBroken e (IsShortestBroken a (lines_of lines))
+  -- by single steps or by merged ones
+  pub lawful_by : (m : Bool) (e : NeverExplored) → IfTrapped e (TrapBy m a (lines_of lines)) → IfBroken e (BrokenBy m a (lines_of lines))
       → IfFault e (All (λ p. p < a.processes))
-  shortest_lawful (Trapped schedule) traps breaks = traps.lawful
-  shortest_lawful (Broken schedule line v) traps breaks = breaks.broken.lawful
-  shortest_lawful (Safe states) traps breaks = tt
-  shortest_lawful (Limit states) traps breaks = tt
+  lawful_by false (Trapped schedule) traps breaks = traps.lawful
+  lawful_by true (Trapped schedule) traps breaks = traps.lawful
+  lawful_by false (Broken schedule line v) traps breaks = breaks.broken.lawful
+  lawful_by true (Broken schedule line v) traps breaks = breaks.lawful
+  lawful_by m (Safe states) traps breaks = tt
+  lawful_by m (Limit states) traps breaks = tt
 
-  pub some_lawful : (e : NeverExplored) → IfTrapped e (IsTrap a) → IfBroken e (IsBroken a (lines_of lines)) → IfFault e (All (λ p. p < a.processes))
-  some_lawful (Trapped schedule) traps breaks = traps.lawful
-  some_lawful (Broken schedule line v) traps breaks = breaks.lawful
-  some_lawful (Safe states) traps breaks = tt
-  some_lawful (Limit states) traps breaks = tt
+  pub within_by : (m : Bool) (e : NeverExplored) → IfBroken e (BrokenBy m a (lines_of lines)) → IfBroken e (λ schedule line v. line < length lines)
+  within_by m (Trapped schedule) breaks = tt
+  within_by false (Broken schedule line v) breaks = line_within _ line v breaks.broken.first
+  within_by true (Broken schedule line v) breaks = line_within _ line v breaks.first
+  within_by m (Safe states) breaks = tt
+  within_by m (Limit states) breaks = tt
 
-  pub shortest_within : (e : NeverExplored) → IfBroken e (IsShortestBroken a (lines_of lines)) → IfBroken e (λ schedule line v. line < length lines)
-  shortest_within (Trapped schedule) breaks = tt
-  shortest_within (Broken schedule line v) breaks = line_within _ line v breaks.broken.first
-  shortest_within (Safe states) breaks = tt
-  shortest_within (Limit states) breaks = tt
-
-  pub some_within : (e : NeverExplored) → IfBroken e (IsBroken a (lines_of lines)) → IfBroken e (λ schedule line v. line < length lines)
-  some_within (Trapped schedule) breaks = tt
-  some_within (Broken schedule line v) breaks = line_within _ line v breaks.first
-  some_within (Safe states) breaks = tt
-  some_within (Limit states) breaks = tt
+-- what holds of the number of the properties, as a slice has them, holds of that of their places
+pub as_many_as : (P : ℕ → Type 0) (slice properties : List Property) (places : List PropertyPlace) → slice ≡ properties
+    → length properties ≡ length places → P (length slice) → P (length places)
+as_many_as P slice properties places same many held = subst P many (subst (λ (lines : List Property). P (length lines)) same held)

@@ -1,10 +1,17 @@
 -- A settled answer is what was answered, or tells the report of a refusal.
-use Rattle.std.proofs.Common.{◌≡◌, ℕ, List, Result, Ok, Err, IfOk, IfErr, IsErrAnd, MatchResult, subst, sym}
-use Rattle.ticklab_answers.specs.Responses.{Refuses}
+use Rattle.std.proofs.Common.{◌≡◌, ℕ, List, [], Result, Ok, Err, IfOk, IfErr, IsErrAnd, MatchResult, subst, sym}
+use Rattle.std.specs.Prelude.{Vec}
+use Rattle.std.specs.Global.{Global}
+use Rattle.ticklab_answers.specs.Responses.{Gives, Refuses}
 use Rattle.ticklab_answers.specs.Stops.{IfRefused, IsRefusal, TellsReport}
 use Rattle.ticklab_answers.specs.declared.response.Response.{Response}
 use Rattle.ticklab_answers.specs.declared.stop.NoAnswer.{NoAnswer}
 use Rattle.ticklab_answers.specs.declared.stop.NoAnswer.TheVariants.{Refused, Fault}
+
+-- what goes out is what the answer was made of
+pub gives_of : {P : List ℕ → Type 0} {number : ℕ} (x : Response) (out : Vec ℕ Global) → x.status ≡ number → x.told.items ≡ [] → x.out ≡ out → P out.items
+    → Gives number P x
+gives_of {P} x out status told same held = record { status = status; quiet = told; out = subst (λ (o : Vec ℕ Global). P o.items) (sym same) held }
 
 refuses_by : {Q : List ℕ → Type 0} (x : Response) (report : List ℕ) → TellsReport x report → Q report → Refuses 1 Q x
 refuses_by {Q} x report t told = record { status = t.status; nothing = t.nothing; told = subst Q (sym t.told) told }

@@ -39,11 +39,11 @@ module _ {F M W : Type 0} (Reads : ReadsOf F) (ReadsInput : ReadsInputOf F) (Ran
   abbrev pub Responds : Asked → Response → Type 0
   Responds (Explore file never limit is_merged) response =
       (ran ≡ rested) × Explores Reads ReadsInput hears before after quiet heard file never limit is_merged response
-  Responds (Ends file never process limit) response =
-      (ran ≡ rested) × ExploresEnds Reads ReadsInput hears before after quiet heard file never process limit response
+  Responds (Ends file never process limit is_merged) response =
+      (ran ≡ rested) × ExploresEnds Reads ReadsInput hears before after quiet heard file never process limit is_merged response
   Responds (Lasso file prefix cycle) response =
       (ran ≡ rested) × (heard ≡ quiet) × Lassoes Reads ReadsInput before after file prefix cycle response
-  Responds (Hunt file never seed runs from steps is_uniform) response =
+  Responds (Hunt file never seed runs from steps is_uniform jobs) response =
       (ran ≡ rested) × (heard ≡ quiet) × Hunts Reads ReadsInput before after file never (plan_of seed runs steps is_uniform) from response
   Responds (Runs file times turns) response = (heard ≡ quiet) × Tallies Reads ReadsInput Ran before after rested ran file times turns response
   Responds (Trace file schedule never is_code) response =
@@ -69,9 +69,9 @@ module _ {F M W : Type 0} (Reads : ReadsOf F) (ReadsInput : ReadsInputOf F) (Ran
 -- the names of files that a request has
 abbrev pub NamesOf : Asked → List ℕ → Type 0
 NamesOf (Explore file never limit is_merged) name = name ≡ file
-NamesOf (Ends file never process limit) name = name ≡ file
+NamesOf (Ends file never process limit is_merged) name = name ≡ file
 NamesOf (Lasso file prefix cycle) name = IsOfThree file prefix cycle name
-NamesOf (Hunt file never seed runs from steps is_uniform) name = name ≡ file
+NamesOf (Hunt file never seed runs from steps is_uniform jobs) name = name ≡ file
 NamesOf (Runs file times turns) name = name ≡ file
 NamesOf (Trace file schedule never is_code) name = IsEither file schedule name
 NamesOf (Draw file schedule never is_code) name = IsEither file schedule name

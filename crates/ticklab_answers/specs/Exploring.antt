@@ -1,53 +1,16 @@
 -- What `explore` answers, and what a watch is told on the way.
 use Rattle.std.specs.Prelude.{◌≡◌, ℕ, Bool, true, false, List, [], None, length}
-use Rattle.base.specs.Plain.{WholeProgram}
 use Rattle.tick_kinds.specs.Resolution.{resolved}
-use Rattle.language_properties.specs.Properties.{Formula}
 use Rattle.language_properties.specs.Values.{Valued}
 use Rattle.searches_states.specs.Watching.{Told, AreTold, IsWatched}
-use Rattle.searches_explore.specs.Never.{IsBroken, IsMergedNeverLimit, IsMergedNeverSafe, IsNeverLimit, IsNeverSafe, IsShortestBroken, IsShortestTrapped, SeesNeverMerged}
-use Rattle.searches_explore.specs.Searching.{Sees}
-use Rattle.searches_explore.specs.Trap.{IsTrap}
 use Rattle.ticklab_answers.specs.Asking.{AsksNever, IsFileRefused, IsProgramFile, TellsOption, lines_in, places_by}
+pub use Rattle.ticklab_answers.specs.BySteps.{BrokenBy, LimitBy, SafeBy, SeesBy, TrapBy, break_line_by, line_by}
 pub use Rattle.ticklab_answers.specs.Ends.{HearsOf}
 use Rattle.ticklab_answers.specs.Ends.{IsEndsFound, asked_by, asks_ends}
-use Rattle.ticklab_answers.specs.Lines.{shortest_break_line, shortest_line, some_break_line, some_line}
 use Rattle.ticklab_answers.specs.Reading.{AfterFile, ReadsOf, ReadsInputOf}
 use Rattle.ticklab_answers.specs.Responses.{Refuses}
 use Rattle.ticklab_answers.specs.Shown.{ShowsBroken, ShowsLimit, ShowsSafe, ShowsTrap}
 use Rattle.ticklab_answers.specs.declared.response.Response.{Response}
-
--- By single steps or by merged ones: which schedule is shown, and how it is called; what holds of the limit and of the
--- number of states that is told where none traps, and where there are more; and how many states were seen when so many
--- of them were gone. The lines are those that must never hold.
-
-abbrev pub TrapBy : Bool → WholeProgram ℕ → List Formula → List ℕ → Type 0
-TrapBy false a lines = IsShortestTrapped a lines
-TrapBy true a lines = IsTrap a
-
-abbrev pub BrokenBy : Bool → WholeProgram ℕ → List Formula → List ℕ → ℕ → Valued → Type 0
-BrokenBy false = IsShortestBroken
-BrokenBy true = IsBroken
-
-abbrev pub line_by : Bool → List ℕ
-line_by false = shortest_line
-line_by true = some_line
-
-abbrev pub break_line_by : Bool → List ℕ
-break_line_by false = shortest_break_line
-break_line_by true = some_break_line
-
-abbrev pub SafeBy : Bool → WholeProgram ℕ → List Formula → ℕ → ℕ → Type 0
-SafeBy false = IsNeverSafe
-SafeBy true = IsMergedNeverSafe
-
-abbrev pub LimitBy : Bool → WholeProgram ℕ → List Formula → ℕ → ℕ → Type 0
-LimitBy false = IsNeverLimit
-LimitBy true = IsMergedNeverLimit
-
-abbrev pub SeesBy : Bool → WholeProgram ℕ → List Formula → ℕ → ℕ → Type 0
-SeesBy false a lines = Sees a
-SeesBy true a lines = SeesNeverMerged a lines
 
 -- The report of an input that isn't explored: of its file first, then of these texts of a command line.
 pub data IsUnexplored (name : List ℕ) (texts : List (List ℕ)) (input report : List ℕ) : Type 0 where
@@ -55,29 +18,29 @@ pub data IsUnexplored (name : List ℕ) (texts : List (List ℕ)) (input report 
   no_option : (is : IsProgramFile input) → TellsOption is.program (lines_in is.asked) texts report → IsUnexplored name texts input report
 
 -- The answer on an input, with these texts of a command line for what must never hold, and what a watch is told on the
--- way. Of a program that is told safe all its states are gone; of an input that is refused nothing is told. By single
--- steps the ends are asked too, where the file says so.
+-- way. Of a program that is told safe all its states are gone; of an input that is refused nothing is told. Ends are
+-- asked too, where the file says so.
 pub data IsExplored (is_merged : Bool) (name : List ℕ) (texts : List (List ℕ)) (limit : ℕ) (input : List ℕ) (response : Response) (told : List Told) : Type 0 where
-  safe : (asks : AsksNever texts input) → asks_ends is_merged asks.file.asked.ends ≡ false
+  safe : (asks : AsksNever texts input) → asks_ends asks.file.asked.ends ≡ false
       → (states : ℕ) → SafeBy is_merged (resolved asks.file.program) asks.lines limit states
       → AreTold (SeesBy is_merged (resolved asks.file.program) asks.lines) states told → ShowsSafe (length asks.lines) states response
       → IsExplored is_merged name texts limit input response told
-  trapped : (asks : AsksNever texts input) → asks_ends is_merged asks.file.asked.ends ≡ false
+  trapped : (asks : AsksNever texts input) → asks_ends asks.file.asked.ends ≡ false
       → (schedule : List ℕ) → TrapBy is_merged (resolved asks.file.program) asks.lines schedule
       → (gone : ℕ) → AreTold (SeesBy is_merged (resolved asks.file.program) asks.lines) gone told
       → ShowsTrap (line_by is_merged) input asks.file.program schedule response
       → IsExplored is_merged name texts limit input response told
-  broken : (asks : AsksNever texts input) → asks_ends is_merged asks.file.asked.ends ≡ false
+  broken : (asks : AsksNever texts input) → asks_ends asks.file.asked.ends ≡ false
       → (schedule : List ℕ) (line : ℕ) (v : Valued) → BrokenBy is_merged (resolved asks.file.program) asks.lines schedule line v
       → (gone : ℕ) → AreTold (SeesBy is_merged (resolved asks.file.program) asks.lines) gone told
       → ShowsBroken (break_line_by is_merged) input asks.file.program (places_by name input asks.file.asked texts) schedule line v response
       → IsExplored is_merged name texts limit input response told
-  unknown : (asks : AsksNever texts input) → asks_ends is_merged asks.file.asked.ends ≡ false
+  unknown : (asks : AsksNever texts input) → asks_ends asks.file.asked.ends ≡ false
       → (states : ℕ) → LimitBy is_merged (resolved asks.file.program) asks.lines limit states
       → (gone : ℕ) → AreTold (SeesBy is_merged (resolved asks.file.program) asks.lines) gone told → ShowsLimit states response
       → IsExplored is_merged name texts limit input response told
-  ends_too : (asks : AsksNever texts input) → asks_ends is_merged asks.file.asked.ends ≡ true
-      → IsEndsFound input asks.file.program asks.lines (places_by name input asks.file.asked texts) (asked_by asks.file.asked.ends None) limit response told
+  ends_too : (asks : AsksNever texts input) → asks_ends asks.file.asked.ends ≡ true
+      → IsEndsFound is_merged input asks.file.program asks.lines (places_by name input asks.file.asked texts) (asked_by asks.file.asked.ends None) limit response told
       → IsExplored is_merged name texts limit input response told
   unexplored : Refuses 1 (IsUnexplored name texts input) response → told ≡ [] → IsExplored is_merged name texts limit input response told
 

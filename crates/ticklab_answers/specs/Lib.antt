@@ -1,6 +1,7 @@
 pub mod Answers
 pub mod Asking
 pub mod Breaking
+pub mod BySteps
 pub mod Codes
 pub mod Ends
 pub mod Explanations

@@ -153,11 +153,17 @@ ends_text asked =
 abbrev pub ends_line : ℕ → MustStop → ℕ → List ℕ
 ends_line lines asked states = quiet_text lines ++ ends_text asked ++ codes " (" ++ states_text states ++ codes ")\n"
 
+-- why it isn't known whether they do: endless schedules are asked for by single steps alone
+abbrev pub unknown_text : Bool → List ℕ
+unknown_text false = codes "found out"
+unknown_text true = codes "asked"
+
 -- the same, where it isn't known whether they do
-abbrev pub can_end_line : ℕ → MustStop → ℕ → List ℕ
-can_end_line lines asked states =
-    quiet_text lines ++ asked_text asked ++ codes " can still end after every schedule (" ++ states_text states
-    ++ codes "); of those in which each that runs steps again and again nothing was found out\n"
+abbrev pub can_end_line : Bool → ℕ → MustStop → ℕ → List ℕ
+can_end_line is_merged lines asked states =
+    if is_nobody asked then ends_line lines asked states
+    else (quiet_text lines ++ asked_text asked ++ codes " can still end after every schedule (" ++ states_text states
+    ++ codes "); of those in which each that runs steps again and again nothing was " ++ unknown_text is_merged ++ codes "\n")
 
 -- they can always end, and under an endless schedule they don't
 abbrev pub endless_line : ℕ → MustStop → List ℕ
@@ -165,10 +171,15 @@ endless_line lines asked =
     quiet_text lines ++ asked_text asked
     ++ codes " can still end after every schedule, but not under this one, in which each that runs steps again and again:"
 
+-- whether the schedule is a shortest
+abbrev pub shorter_text : Bool → List ℕ
+shorter_text false = codes ", and after each shorter one some do:"
+shorter_text true = codes ":"
+
 -- they can't end any more
-abbrev pub stuck_line : ℕ → MustStop → List ℕ
-stuck_line lines asked =
-    quiet_text lines ++ codes "after this schedule no further steps end " ++ asked_text asked ++ codes ", and after each shorter one some do:"
+abbrev pub stuck_line : Bool → ℕ → MustStop → List ℕ
+stuck_line is_merged lines asked =
+    quiet_text lines ++ codes "after this schedule no further steps end " ++ asked_text asked ++ shorter_text is_merged
 
 -- the steps that lead on to those that repeat for ever
 abbrev pub lead_in_line : List ℕ

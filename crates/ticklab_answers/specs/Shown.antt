@@ -1,5 +1,5 @@
 -- What `explore` and `hunt` show of the program that an input is. A schedule is told as that of a trap.
-use Rattle.std.specs.Prelude.{◌≡◌, ◌++◌, ℕ, List, [], length, slice_get, Some}
+use Rattle.std.specs.Prelude.{◌≡◌, ◌++◌, ℕ, Bool, List, [], length, slice_get, Some}
 use Rattle.base.specs.Plain.{Name, WholeProgram}
 use Rattle.language_properties.specs.Values.{Valued}
 use Rattle.searches_explore.specs.declared.never_answer.NeverExplored.{NeverExplored}
@@ -12,7 +12,8 @@ use Rattle.searches_hunt.specs.declared.never_answer.NeverHunted.TheVariants as 
 use Rattle.searches_hunt.specs.declared.plan.Plan.{Plan}
 use Rattle.ticklab_explain.specs.Questions.{IsPointed}
 use Rattle.ticklab_answers.specs.Asking.{TextPlace}
-use Rattle.ticklab_answers.specs.Lines.{broken_text, can_end_line, endless_line, ends_line, limit_line, minimal_break_line, minimal_line, nothing_line, safe_line, shortest_break_line, shortest_line, stuck_line, trap_lines}
+use Rattle.ticklab_answers.specs.BySteps.{break_line_by, line_by}
+use Rattle.ticklab_answers.specs.Lines.{broken_text, can_end_line, endless_line, ends_line, limit_line, minimal_break_line, minimal_line, nothing_line, safe_line, stuck_line, trap_lines}
 use Rattle.ticklab_answers.specs.Loops.{IsLoopText}
 use Rattle.ticklab_answers.specs.Responses.{Gives}
 use Rattle.ticklab_answers.specs.Runs.{IsStatementTrace}
@@ -67,8 +68,8 @@ ShowsHunt input a places plan from H.Nothing response = ShowsNothing (length pla
 
 -- Of so many lines that must never hold none breaks.
 
-abbrev pub ShowsStuck : ℕ → MustStop → List ℕ → WholeProgram Name → List ℕ → List ℕ → List ℕ → Response → Type 0
-ShowsStuck lines asked input a schedule lead_in cycle = Gives 7 (IsLoopText (stuck_line lines asked) input a schedule lead_in cycle)
+abbrev pub ShowsStuck : Bool → ℕ → MustStop → List ℕ → WholeProgram Name → List ℕ → List ℕ → List ℕ → Response → Type 0
+ShowsStuck is_merged lines asked input a schedule lead_in cycle = Gives 7 (IsLoopText (stuck_line is_merged lines asked) input a schedule lead_in cycle)
 
 abbrev pub ShowsEndless : ℕ → MustStop → List ℕ → WholeProgram Name → List ℕ → List ℕ → Response → Type 0
 ShowsEndless lines asked input a prefix cycle = Gives 7 (IsLoopText (endless_line lines asked) input a prefix [] cycle)
@@ -76,18 +77,18 @@ ShowsEndless lines asked input a prefix cycle = Gives 7 (IsLoopText (endless_lin
 abbrev pub ShowsAllEnd : ℕ → MustStop → ℕ → Response → Type 0
 ShowsAllEnd lines asked states = Gives 0 (λ out. out ≡ ends_line lines asked states)
 
-abbrev pub ShowsCanEnd : ℕ → MustStop → ℕ → Response → Type 0
-ShowsCanEnd lines asked states = Gives 0 (λ out. out ≡ can_end_line lines asked states)
+abbrev pub ShowsCanEnd : Bool → ℕ → MustStop → ℕ → Response → Type 0
+ShowsCanEnd is_merged lines asked states = Gives 0 (λ out. out ≡ can_end_line is_merged lines asked states)
 
 -- the lines that must never hold stand at these places
-abbrev pub ShowsEnds : MustStop → List ℕ → WholeProgram Name → List TextPlace → EndExplored → Response → Type 0
-ShowsEnds asked input a places (E.Trapped schedule) response = ShowsTrap shortest_line input a schedule.items response
-ShowsEnds asked input a places (E.Broken schedule line v) response =
-    ShowsBroken shortest_break_line input a places schedule.items line v response
-ShowsEnds asked input a places (E.Stuck schedule lead_in cycle states) response =
-    ShowsStuck (length places) asked input a schedule.items lead_in.items cycle.items response
-ShowsEnds asked input a places (E.Endless prefix cycle states) response =
+abbrev pub ShowsEnds : Bool → MustStop → List ℕ → WholeProgram Name → List TextPlace → EndExplored → Response → Type 0
+ShowsEnds is_merged asked input a places (E.Trapped schedule) response = ShowsTrap (line_by is_merged) input a schedule.items response
+ShowsEnds is_merged asked input a places (E.Broken schedule line v) response =
+    ShowsBroken (break_line_by is_merged) input a places schedule.items line v response
+ShowsEnds is_merged asked input a places (E.Stuck schedule lead_in cycle states) response =
+    ShowsStuck is_merged (length places) asked input a schedule.items lead_in.items cycle.items response
+ShowsEnds is_merged asked input a places (E.Endless prefix cycle states) response =
     ShowsEndless (length places) asked input a prefix.items cycle.items response
-ShowsEnds asked input a places (E.Ends states) response = ShowsAllEnd (length places) asked states response
-ShowsEnds asked input a places (E.CanEnd states) response = ShowsCanEnd (length places) asked states response
-ShowsEnds asked input a places (E.Limit states) response = ShowsLimit states response
+ShowsEnds is_merged asked input a places (E.Ends states) response = ShowsAllEnd (length places) asked states response
+ShowsEnds is_merged asked input a places (E.CanEnd states) response = ShowsCanEnd is_merged (length places) asked states response
+ShowsEnds is_merged asked input a places (E.Limit states) response = ShowsLimit states response

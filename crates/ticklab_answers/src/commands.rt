@@ -1,8 +1,9 @@
 //! The answer to the words of a command line: each command reads its files and makes its answer.
 ghost use Rattle.std.specs.Prelude.{◌≡◌, IfErr, IfOk};
 ghost use Rattle.std.specs.Vec.Iter.{into_iter_items};
-ghost use Rattle.ticklab_answers.specs.Answers.{GivesWords, IsOfWordsOrFile, RespondsToWords};
-ghost use Rattle.ticklab_answers.specs.Faults.{IsOfWords};
+ghost use Rattle.ticklab_line.specs.Commands.{plain_request};
+ghost use Rattle.ticklab_answers.specs.Answers.{GivesWords, IsOfWordsOrFile, NamesOf, Responds, RespondsToWords};
+ghost use Rattle.ticklab_answers.specs.Faults.{IsOfFileThat, IsOfWords};
 
 mod drawing;
 mod ends;
@@ -26,19 +27,22 @@ pub use exploring::explored;
 pub use hunting::{hunted, plan_of};
 pub use labels::labelled;
 pub use lasso::lassoed;
+use searches_hunt::Trials;
 use std::alloc::Global;
 use std::env::Args;
 use std::io;
 pub use tallying::tallied;
 use tick_merge::Runner;
 use ticklab_line::{Line, Request, asked};
-pub use tracing::{source_text, traced};
+pub use tracing::{source_text, spots_in, traced};
 
-/// The answer to the words of the command line. Runs of a code are made by the runner alone.
-pub fn response_to<F: Files, M: Runner, W: Progress>(
+/// The answer to the words of the command line. Runs of a code are made by the runner alone, and random ones of a program
+/// are tried by `trials`.
+pub fn response_to<F: Files, M: Runner, T: Trials, W: Progress>(
     alloc: Global,
     files: &mut F,
     runner: &mut M,
+    trials: &T,
     progress: &mut W,
     given: io::Result<Args>,
 ) -> Result<Response, LabFault>
@@ -47,81 +51,83 @@ pub fn response_to<F: Files, M: Runner, W: Progress>(
 {
     let words = words_of(alloc, given)?;
     match asked(alloc, words.as_slice())? {
-        Line::Request(
-            Request::Explore {
-                file,
-                never,
-                limit,
-                is_merged,
-            },
-        ) => {
-            let never = never.as_slice();
-            explored(alloc, files, progress, file, never, limit, is_merged)
-        }
-        Line::Request(
-            Request::Ends {
-                file,
-                never,
-                process,
-                limit,
-            },
-        ) => {
-            let never = never.as_slice();
-            explored_ends(alloc, files, progress, file, never, process, limit)
-        }
-        Line::Request(
-            Request::Lasso {
-                file,
-                prefix,
-                cycle,
-            },
-        ) => lassoed(alloc, files, file, prefix, cycle),
-        Line::Request(
-            Request::Hunt {
-                file,
-                never,
-                seed,
-                runs,
-                from,
-                steps,
-                is_uniform,
-            },
-        ) => {
-            let never = never.as_slice();
-            let plan = plan_of(seed, runs, steps, is_uniform);
-            hunted(alloc, files, file, never, plan, from)
-        }
-        Line::Request(Request::Runs { file, times, turns }) => {
-            tallied(alloc, files, runner, file, times, turns)
-        }
-        Line::Request(
-            Request::Trace {
-                file,
-                schedule,
-                never,
-                is_code,
-            },
-        ) => {
-            let never = never.as_slice();
-            traced(alloc, files, file, schedule, never, is_code)
-        }
-        Line::Request(
-            Request::Draw {
-                file,
-                schedule,
-                never,
-                is_code,
-            },
-        ) => {
-            let never = never.as_slice();
-            drawn(alloc, files, file, schedule, never, is_code)
-        }
-        Line::Request(Request::Explain { file, schedule }) => {
-            explained(alloc, files, file, schedule)
-        }
-        Line::Request(Request::Labels { processes, moves }) => labelled(alloc, processes, moves),
+        Line::Request(request) => answered(alloc, files, runner, trials, progress, request),
         Line::Help(text) => Ok(help(alloc, text)),
         Line::Refused(text) => Ok(no_command(alloc, text)),
+    }
+}
+
+fn answered<F: Files, M: Runner, T: Trials, W: Progress>(
+    alloc: Global,
+    files: &mut F,
+    runner: &mut M,
+    trials: &T,
+    progress: &mut W,
+    request: Request<&str, Vec<&str>>,
+) -> Result<Response, LabFault>
+    ensures ok { IfOk result (Responds F.Reads F.ReadsInput M.Ran W.hears files.old files.new runner.old runner.new progress.old progress.new (plain_request request.entry)) }
+    ensures err { IfErr result (IsOfFileThat (NamesOf (plain_request request.entry))) }
+{
+    match request {
+        Request::Explore {
+            file,
+            never,
+            limit,
+            is_merged,
+        } => explored(alloc, files, progress, file, &never, limit, is_merged),
+        Request::Ends {
+            file,
+            never,
+            process,
+            limit,
+            is_merged,
+        } => {
+            let never = never.as_slice();
+            explored_ends(
+                alloc, files, progress, file, never, process, limit, is_merged,
+            )
+        }
+        Request::Lasso {
+            file,
+            prefix,
+            cycle,
+        } => lassoed(alloc, files, file, prefix, cycle),
+        Request::Hunt {
+            file,
+            never,
+            seed,
+            runs,
+            from,
+            steps,
+            is_uniform,
+            jobs,
+        } => {
+            let plan = plan_of(seed, runs, steps, is_uniform);
+            hunted(
+                alloc,
+                files,
+                &trials.with_jobs(jobs),
+                file,
+                &never,
+                plan,
+                from,
+            )
+        }
+        Request::Runs { file, times, turns } => tallied(alloc, files, runner, file, times, turns),
+        Request::Trace {
+            file,
+            schedule,
+            never,
+            is_code,
+        } => traced(alloc, files, file, schedule, &never, is_code),
+        Request::Draw {
+            file,
+            schedule,
+            never,
+            is_code,
+        } => drawn(alloc, files, file, schedule, &never, is_code),
+        Request::Explain { file, schedule } => explained(alloc, files, file, schedule),
+        Request::Labels { processes, moves } => labelled(alloc, processes, moves),
     }
 }
 

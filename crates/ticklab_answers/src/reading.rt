@@ -1,25 +1,28 @@
 //! From the bytes or the text that was read to a program, a schedule, a code, or moves.
-ghost use Rattle.std.specs.Prelude.{◌≡◌, ◌<◌, All, Err, IfErr, IfOk, Ok, string_bytes};
+ghost use Rattle.std.specs.Prelude.{◌≡◌, ◌<◌, All, Err, IfErr, IfOk, Ok, length, map, string_bytes};
 ghost use Rattle.language_schedules.specs.Moves.{moves_of as moves_spelled, mover};
 ghost use Rattle.language_schedules.specs.Schedule.{schedule_of as schedule_spelled};
-ghost use Rattle.ticketc_refusals.specs.Refusals.{IsProgramRefused, IsScheduleRefused, ProgramIn, SpelledIn};
+ghost use Rattle.ticketc_refusals.specs.Refusals.{IsProgramRefused, IsScheduleRefused, SpelledIn};
 ghost use Rattle.ticklab_explain.specs.Reports.{Tells, TellsFor};
 ghost use Rattle.language_questions.specs.Lines.{asked_of, questions_in};
-ghost use Rattle.ticklab_answers.specs.Asking.{IsFileRefused, IsOf};
+ghost use Rattle.searches_explore.specs.Lines.{lines_of};
+ghost use Rattle.ticklab_answers.specs.Asking.{IsFileRefused, IsOf, place_of, texts_of};
 ghost use Rattle.ticklab_answers.specs.Codes.{HasCode, HasNoCode, program_code};
+ghost use Rattle.ticklab_answers.specs.Exploring.{IsUnexplored};
 ghost use Rattle.ticklab_answers.specs.Lines.{spelling_line};
 ghost use Rattle.ticklab_answers.specs.Stops.{IfRefused};
+ghost use Rattle.ticklab_answers.specs.prover.Asked.{IsAsked};
 
-use crate::asking::questions_asked;
+use crate::asking::{NeverLines, never_lines, questions_asked};
 use crate::fault::AnswerFault;
 use crate::stop::NoAnswer;
 use code_core::Code;
-use language_questions::Questions;
+use language_questions::{Ends, Questions};
 use language_schedules::{Move, ScheduleFault, read_moves, read_schedule};
 use std::alloc::{AllocError, Global};
 use tick_kinds::Program;
 use tick_lower::{LowerFault, lower};
-use ticketc_refusals::{SpelledProgram, program_in, program_with_tokens};
+use ticketc_refusals::{SpelledProgram, program_with_tokens};
 use ticklab_explain::{explain_refusal, explain_schedule};
 
 /// The program of a file whose lines can be read, with this name.
@@ -27,12 +30,43 @@ pub fn program_of(alloc: Global, name: &str, input: &[u8]) -> Result<Program, No
     ensures ok { IfOk result (IsOf input.now) }
     ensures refused { IfErr result (λ stop. IfRefused stop (IsFileRefused name.now input.now)) }
 {
-    let program = accepted_program(alloc, name, input)?;
-    let _questions = questions_asked(alloc, name, input, &program)?;
-    Ok(program)
+    let (spelled, _questions) = spelled_program_of(alloc, name, input)?;
+    Ok(spelled.program)
 }
 
-/// The same with the tokens of its text, and what the lines ask.
+/// The program of a file, and what must never hold of it.
+#[derive(Drop)]
+pub struct AskedProgram<'a> {
+    pub spelled: SpelledProgram,
+    /// Who is asked whether they end, where the file says it.
+    pub ends: Option<Ends>,
+    pub lines: NeverLines<'a>,
+}
+
+/// The program of a file whose lines can be read, with this name, and what must never hold of it: what its lines say, and
+/// then these texts of the command line.
+pub fn asked_program<'a>(
+    alloc: Global,
+    name: &'a str,
+    input: &'a [u8],
+    never: &'a [&'a str],
+) -> Result<AskedProgram<'a>, NoAnswer>
+    ensures spelled { IfOk result (λ asked. SpelledIn input.now asked.spelled) }
+    ensures asks { IfOk result (λ asked. IsAsked name.now (texts_of never.now) input.now asked.spelled.program asked.ends (lines_of asked.lines.properties.items) (map place_of asked.lines.places.items)) }
+    ensures as_many { IfOk result (λ asked. length asked.lines.properties.items ≡ length asked.lines.places.items) }
+    ensures refused { IfErr result (λ stop. IfRefused stop (IsUnexplored name.now (texts_of never.now) input.now)) }
+{
+    let (spelled, questions) = spelled_program_of(alloc, name, input)?;
+    let ends = questions.ends;
+    let lines = never_lines(alloc, name, input, &spelled.program, questions, never)?;
+    Ok(AskedProgram {
+        spelled,
+        ends,
+        lines,
+    })
+}
+
+/// The program of a file whose lines can be read, with the tokens of its text, and what the lines ask.
 pub fn spelled_program_of(
     alloc: Global,
     name: &str,
@@ -47,21 +81,7 @@ pub fn spelled_program_of(
     Ok((spelled, questions))
 }
 
-// The accepted program that an input is; `name` is that of its file.
-fn accepted_program(alloc: Global, name: &str, input: &[u8]) -> Result<Program, NoAnswer>
-    ensures ok { IfOk result (ProgramIn input.now) }
-    ensures refused { IfErr result (λ stop. IfRefused stop (Tells (IsProgramRefused input.now) name.now input.now)) }
-{
-    match program_in(alloc, input)? {
-        Ok(program) => Ok(program),
-        Err(refusal) => {
-            let report = explain_refusal(alloc, name, input, refusal)?;
-            Err(NoAnswer::Refused(report))
-        }
-    }
-}
-
-// The same with the tokens of its text.
+// The accepted program that an input is, with the tokens of its text; `name` is that of its file.
 fn accepted_spelling(alloc: Global, name: &str, input: &[u8]) -> Result<SpelledProgram, NoAnswer>
     ensures ok { IfOk result (SpelledIn input.now) }
     ensures refused { IfErr result (λ stop. IfRefused stop (Tells (IsProgramRefused input.now) name.now input.now)) }

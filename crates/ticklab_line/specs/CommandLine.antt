@@ -32,8 +32,11 @@ repeated_rule name = record (new_rule name) { long = Some name; value_names = 1;
 abbrev pub up_to : ℕ → ValueParser
 up_to most = Signed (pos 0) (pos most)
 
+abbrev pub from_one_to : ℕ → ValueParser
+from_one_to most = Signed (pos 1) (pos most)
+
 abbrev pub processes_rule : Rule
-processes_rule = record (word_rule (codes "processes")) { parser = Some (Signed (pos 1) (pos 6)) }
+processes_rule = record (word_rule (codes "processes")) { parser = Some (from_one_to 6) }
 
 -- `--ends`, and `--ends P`
 abbrev pub ends_rule : Rule

@@ -7,7 +7,7 @@ use Rattle.std.specs.Option.{option_map_or}
 use Rattle.clap.specs.Walk.{Row, Text, all_of, first_of}
 use Rattle.clap.specs.Simple.{App, new_app, on_top, with_rule}
 use Rattle.clap.specs.declared.builder.value_parser.ValueParser.TheVariants.{Unsigned}
-use Rattle.ticklab_line.specs.CommandLine.{ends_rule, flag_rule, further_rule, number_rule, processes_rule, repeated_rule, threads_rule, up_to, with_app, with_file, word_rule}
+use Rattle.ticklab_line.specs.CommandLine.{ends_rule, flag_rule, from_one_to, further_rule, number_rule, processes_rule, repeated_rule, threads_rule, up_to, with_app, with_file, word_rule}
 use Rattle.ticklab_line.specs.Found.{for_file, for_number, for_number_or, is_set, list_of, number_of, number_or}
 use Rattle.ticklab_line.specs.declared.commands.Request.{Request}
 use Rattle.ticklab_line.specs.declared.commands.Request.TheVariants.{Explore, Ends, Lasso, Hunt, Runs, Trace, Draw, Explain, Labels}
@@ -27,11 +27,12 @@ abbrev pub lasso_app : App
 lasso_app = with_rule (with_rule (with_file (codes "lasso")) (word_rule (codes "prefix"))) (word_rule (codes "cycle"))
 
 abbrev pub hunt_app : App
-hunt_app = with_rule (with_rule (with_rule (with_rule (with_rule (with_rule (with_rule (with_file (codes "hunt"))
+hunt_app = with_rule (with_rule (with_rule (with_rule (with_rule (with_rule (with_rule (with_rule (with_file (codes "hunt"))
     (number_rule (codes "seed") (Unsigned 0 18446744073709551615)))
     (number_rule (codes "runs") (up_to 4294967295)))
     (number_rule (codes "from") (up_to 4294967295)))
     (number_rule (codes "steps") (up_to 10000000)))
+    (number_rule (codes "jobs") (from_one_to 64)))
     (flag_rule (codes "uniform")))
     (repeated_rule (codes "never")))
     threads_rule
@@ -70,7 +71,7 @@ schedules_in rows = schedules_of (list_of (codes "never") rows) rows
 
 abbrev pub ends_of : List Text → Option ℕ → List Row → Option Asked
 ends_of never process rows = for_file rows (λ file. for_number_or 32 (codes "limit") 1000000 rows (λ limit.
-    Some (Ends file never process limit)))
+    Some (Ends file never process limit (is_set (codes "merged") rows))))
 
 -- no text after `--ends`, or one
 abbrev pub ends_in : List Text → List Row → List Text → Option Asked
@@ -89,8 +90,8 @@ lasso_in rows = for_file rows (λ file. option_and_then (λ prefix.
 abbrev pub plan_of : List Text → List Row → Option Asked
 plan_of never rows = for_file rows (λ file. for_number_or 64 (codes "seed") 0 rows (λ seed.
     for_number_or 32 (codes "runs") 10000 rows (λ runs. for_number_or 32 (codes "from") 0 rows (λ from.
-    for_number_or 32 (codes "steps") 300 rows (λ steps.
-    Some (Hunt file never seed runs from steps (is_set (codes "uniform") rows)))))))
+    for_number_or 32 (codes "steps") 300 rows (λ steps. for_number_or 32 (codes "jobs") 64 rows (λ jobs.
+    Some (Hunt file never seed runs from steps (is_set (codes "uniform") rows) jobs)))))))
 
 abbrev pub plan_in : List Row → Option Asked
 plan_in rows = plan_of (list_of (codes "never") rows) rows
@@ -143,9 +144,9 @@ request_in = option_and_then (λ p. named p.0 p.1)
 -- texts that are lent, as the texts themselves
 abbrev pub plain_request : Request (Bor Text) (Vec (Bor Text) Global) → Asked
 plain_request (Explore file never limit is_merged) = Explore file.now (map (λ text. text.now) never.items) limit is_merged
-plain_request (Ends file never process limit) = Ends file.now (map (λ text. text.now) never.items) process limit
+plain_request (Ends file never process limit is_merged) = Ends file.now (map (λ text. text.now) never.items) process limit is_merged
 plain_request (Lasso file prefix cycle) = Lasso file.now prefix.now cycle.now
-plain_request (Hunt file never seed runs from steps is_uniform) = Hunt file.now (map (λ text. text.now) never.items) seed runs from steps is_uniform
+plain_request (Hunt file never seed runs from steps is_uniform jobs) = Hunt file.now (map (λ text. text.now) never.items) seed runs from steps is_uniform jobs
 plain_request (Runs file times turns) = Runs file.now times turns
 plain_request (Trace file schedule never is_code) = Trace file.now schedule.now (map (λ text. text.now) never.items) is_code
 plain_request (Draw file schedule never is_code) = Draw file.now schedule.now (map (λ text. text.now) never.items) is_code
@@ -161,10 +162,12 @@ rows = (codes "explore" ∷ codes "a" ∷ codes "--limit" ∷ codes "7" ∷ [], 
       codes "explore" ∷ codes "a" ∷ codes "--never=1 < n" ∷ codes "--merged" ∷ codes "--never" ∷ codes "0" ∷ [],
       Explore (codes "a") (codes "1 < n" ∷ codes "0" ∷ []) 1000000 true,
     )
-    ∷ (codes "explore" ∷ codes "a" ∷ codes "--ends" ∷ [], Ends (codes "a") [] None 1000000)
-    ∷ (codes "explore" ∷ codes "a" ∷ codes "--ends" ∷ codes "2" ∷ [], Ends (codes "a") [] (Some 2) 1000000)
-    ∷ (codes "explore" ∷ codes "--ends=5" ∷ codes "a" ∷ codes "--limit" ∷ codes "7" ∷ [], Ends (codes "a") [] (Some 5) 7)
-    ∷ (codes "explore" ∷ codes "a" ∷ codes "--never" ∷ codes "n" ∷ codes "--ends" ∷ [], Ends (codes "a") (codes "n" ∷ []) None 1000000)
+    ∷ (codes "explore" ∷ codes "a" ∷ codes "--ends" ∷ [], Ends (codes "a") [] None 1000000 false)
+    ∷ (codes "explore" ∷ codes "a" ∷ codes "--ends" ∷ codes "2" ∷ [], Ends (codes "a") [] (Some 2) 1000000 false)
+    ∷ (codes "explore" ∷ codes "--ends=5" ∷ codes "a" ∷ codes "--limit" ∷ codes "7" ∷ [], Ends (codes "a") [] (Some 5) 7 false)
+    ∷ (codes "explore" ∷ codes "a" ∷ codes "--never" ∷ codes "n" ∷ codes "--ends" ∷ [], Ends (codes "a") (codes "n" ∷ []) None 1000000 false)
+    ∷ (codes "explore" ∷ codes "a" ∷ codes "--merged" ∷ codes "--ends" ∷ [], Ends (codes "a") [] None 1000000 true)
+    ∷ (codes "explore" ∷ codes "a" ∷ codes "--ends" ∷ codes "0" ∷ codes "--merged" ∷ [], Ends (codes "a") [] (Some 0) 1000000 true)
     ∷ (codes "lasso" ∷ codes "a" ∷ codes "0 1" ∷ codes "@b" ∷ [], Lasso (codes "a") (codes "0 1") (codes "@b"))
     ∷ (codes "trace" ∷ codes "a" ∷ codes "0 1*3" ∷ [], Trace (codes "a") (codes "0 1*3") [] false)
     ∷ (

@@ -1,5 +1,5 @@
--- Which options do not go together: of `hunt` `--threads`, and each option of a hunt by random schedules; of `explore`
--- `--ends` and `--merged`; of `trace` and `draw` `--code` and `--never`.
+-- Which options do not go together: of `hunt` `--threads`, and each option of a hunt by random schedules; of `trace` and
+-- `draw` `--code` and `--never`.
 use Rattle.std.specs.Prelude.{Bool, true, false, List, ◌++◌, ◌&&◌, ◌||◌, Option, Some, None, codes, bytes_eq, map}
 use Rattle.std.specs.Prelude.{if◌then◌else◌, find, is_some, option_and_then, option_map}
 use Rattle.std.specs.Option.{option_map_or}
@@ -16,7 +16,8 @@ pub record Shown : Type 0 where
 
 abbrev pub is_of_plan : Text → Bool
 is_of_plan id = bytes_eq id (codes "seed") || (bytes_eq id (codes "runs")
-    || (bytes_eq id (codes "from") || (bytes_eq id (codes "steps") || (bytes_eq id (codes "uniform") || bytes_eq id (codes "never")))))
+    || (bytes_eq id (codes "from") || (bytes_eq id (codes "steps") || (bytes_eq id (codes "jobs")
+    || (bytes_eq id (codes "uniform") || bytes_eq id (codes "never"))))))
 
 -- the first option of a plan that is given, as it is shown
 abbrev pub plan_option : List Row → Option Text
@@ -25,6 +26,7 @@ plan_option rows =
     else if is_given (codes "runs") rows then Some (codes "--runs <N>")
     else if is_given (codes "from") rows then Some (codes "--from <RUN>")
     else if is_given (codes "steps") rows then Some (codes "--steps <N>")
+    else if is_given (codes "jobs") rows then Some (codes "--jobs <N>")
     else if is_set (codes "uniform") rows then Some (codes "--uniform")
     else if is_given (codes "never") rows then Some (codes "--never <EXPR>")
     else None
@@ -49,12 +51,6 @@ abbrev pub threads_conflict : List Row → Option Shown
 threads_conflict rows = if is_some (all_of (codes "threads") rows)
     then option_map (in_order (threads_lead (map (λ r. r.id) rows))) (plan_option rows) else None
 
-abbrev pub ends_and_merged : Shown
-ends_and_merged = record { command = codes "explore"; words = codes " <FILE>"; first = codes "--ends [<P>]"; second = codes "--merged" }
-
-abbrev pub ends_conflict : List Row → Option Shown
-ends_conflict rows = if is_some (all_of (codes "ends") rows) && is_set (codes "merged") rows then Some ends_and_merged else None
-
 -- of a command of this name
 abbrev pub code_and_never : Text → Shown
 code_and_never name = record {
@@ -71,7 +67,6 @@ code_conflict name rows = if is_set (codes "code") rows && is_given (codes "neve
 abbrev pub conflict_of : Text → List Row → Option Shown
 conflict_of name rows =
     if is_some (threads_conflict rows) then threads_conflict rows
-    else if is_some (ends_conflict rows) then ends_conflict rows
     else code_conflict name rows
 
 abbrev pub conflict_in : Option (Text × List Row) → Option Shown

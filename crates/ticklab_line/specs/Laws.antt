@@ -5,7 +5,7 @@ use Rattle.clap.specs.Kinds.{Kinds}
 use Rattle.clap.specs.declared.error.kind.ErrorKind.TheVariants as kind
 use Rattle.ticklab_line.specs.Commands.{Asked, request_in, rows}
 use Rattle.ticklab_line.specs.Lines.{command_in, faults}
-use Rattle.ticklab_line.specs.Conflicts.{Shown, code_and_never, conflict_in, ends_and_merged}
+use Rattle.ticklab_line.specs.Conflicts.{Shown, code_and_never, conflict_in}
 use Rattle.ticklab_line.specs.declared.commands.Request.TheVariants.{Explore, Hunt, Runs}
 
 abbrev pub line : List Text → List Text
@@ -29,8 +29,6 @@ read words = (faults (line words), conflict_in (command_in (line words)), reques
 
 pub record CommandsLaw : Type 0 where
   pub explore : (rest : Text) → Asks (codes "explore" ∷ (97 ∷ rest) ∷ []) (Explore (97 ∷ rest) [] 1000000 false)
-  pub ends_merged : IsTaken (codes "explore" ∷ codes "a" ∷ codes "--merged" ∷ codes "--ends" ∷ []) (Some ends_and_merged)
-  pub one_end_merged : IsTaken (codes "explore" ∷ codes "a" ∷ codes "--ends" ∷ codes "0" ∷ codes "--merged" ∷ []) (Some ends_and_merged)
   pub code_never : IsTaken (codes "trace" ∷ codes "a" ∷ codes "0" ∷ codes "--never=1" ∷ codes "--code" ∷ []) (Some (code_and_never (codes "trace")))
   pub drawn_code_never : IsTaken (codes "draw" ∷ codes "--code" ∷ codes "a" ∷ codes "0" ∷ codes "--never" ∷ codes "n" ∷ []) (Some (code_and_never (codes "draw")))
   pub all : map (λ row. read row.0) rows ≡ map (λ row. ([], None, Some row.1)) rows
@@ -51,18 +49,20 @@ abbrev pub shown_threads : Text
 shown_threads = codes "--threads <TIMES> <TURNS>"
 
 pub record HuntsLaw : Type 0 where
-  pub plain : HuntsBy [] (Hunt (codes "a") [] 0 10000 0 300 false)
-  pub seed : HuntsBy (codes "--seed" ∷ codes "18446744073709551615" ∷ []) (Hunt (codes "a") [] 18446744073709551615 10000 0 300 false)
-  pub runs : HuntsBy (codes "--runs" ∷ codes "2" ∷ []) (Hunt (codes "a") [] 0 2 0 300 false)
-  pub from : HuntsBy (codes "--from" ∷ codes "7" ∷ []) (Hunt (codes "a") [] 0 10000 7 300 false)
-  pub steps : HuntsBy (codes "--steps" ∷ codes "2" ∷ []) (Hunt (codes "a") [] 0 10000 0 2 false)
-  pub uniform : HuntsBy (codes "--uniform" ∷ []) (Hunt (codes "a") [] 0 10000 0 300 true)
-  pub never : HuntsBy (codes "--never" ∷ codes "n" ∷ codes "--never=1" ∷ []) (Hunt (codes "a") (codes "n" ∷ codes "1" ∷ []) 0 10000 0 300 false)
+  pub plain : HuntsBy [] (Hunt (codes "a") [] 0 10000 0 300 false 64)
+  pub seed : HuntsBy (codes "--seed" ∷ codes "18446744073709551615" ∷ []) (Hunt (codes "a") [] 18446744073709551615 10000 0 300 false 64)
+  pub runs : HuntsBy (codes "--runs" ∷ codes "2" ∷ []) (Hunt (codes "a") [] 0 2 0 300 false 64)
+  pub from : HuntsBy (codes "--from" ∷ codes "7" ∷ []) (Hunt (codes "a") [] 0 10000 7 300 false 64)
+  pub steps : HuntsBy (codes "--steps" ∷ codes "2" ∷ []) (Hunt (codes "a") [] 0 10000 0 2 false 64)
+  pub jobs : HuntsBy (codes "--jobs" ∷ codes "4" ∷ []) (Hunt (codes "a") [] 0 10000 0 300 false 4)
+  pub uniform : HuntsBy (codes "--uniform" ∷ []) (Hunt (codes "a") [] 0 10000 0 300 true 64)
+  pub never : HuntsBy (codes "--never" ∷ codes "n" ∷ codes "--never=1" ∷ []) (Hunt (codes "a") (codes "n" ∷ codes "1" ∷ []) 0 10000 0 300 false 64)
   pub threads_alone : HuntsBy (threads []) (Runs (codes "a") 5 9)
   pub threads_seed : Conflicts (threads (codes "--seed" ∷ codes "0" ∷ [])) shown_threads (codes "--seed <N>")
   pub threads_runs_given : Conflicts (threads (codes "--runs=10000" ∷ [])) shown_threads (codes "--runs <N>")
   pub threads_from : Conflicts (threads (codes "--from=0" ∷ [])) shown_threads (codes "--from <RUN>")
   pub threads_steps : Conflicts (threads (codes "--steps" ∷ codes "5" ∷ [])) shown_threads (codes "--steps <N>")
+  pub threads_jobs : Conflicts (threads (codes "--jobs" ∷ codes "2" ∷ [])) shown_threads (codes "--jobs <N>")
   pub threads_uniform : Conflicts (threads (codes "--uniform" ∷ [])) shown_threads (codes "--uniform")
   pub threads_never : Conflicts (threads (codes "--never" ∷ codes "n" ∷ [])) shown_threads (codes "--never <EXPR>")
   pub steps_threads : Conflicts (codes "--steps" ∷ codes "5" ∷ threads []) (codes "--steps <N>") shown_threads

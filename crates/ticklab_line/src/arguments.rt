@@ -1,7 +1,7 @@
 //! The arguments of commands, as they are described to `clap`.
 ghost use Rattle.std.specs.Prelude.{◌≡◌, codes, pos};
 ghost use Rattle.clap.specs.declared.builder.value_parser.ValueParser.TheVariants.{Signed, Unsigned};
-ghost use Rattle.ticklab_line.specs.CommandLine.{IsWord, ends_rule, flag_rule, further_rule, number_rule, processes_rule, repeated_rule, threads_rule, up_to, word_rule};
+ghost use Rattle.ticklab_line.specs.CommandLine.{IsWord, ends_rule, flag_rule, from_one_to, further_rule, number_rule, processes_rule, repeated_rule, threads_rule, up_to, word_rule};
 
 use clap::builder::ValueParser;
 use clap::{Arg, ArgAction, value_parser};
@@ -75,6 +75,13 @@ pub fn length<'a>() -> ValueParser<'a>
     value_parser!(u32).range(0..=10_000_000)
 }
 
+/// How many schedules of a hunt are tried side by side.
+pub fn jobs<'a>() -> ValueParser<'a>
+    ensures { result ≡ from_one_to 64 }
+{
+    value_parser!(u32).range(1..=64)
+}
+
 /// Alone, or with a process.
 pub fn ends<'a>(alloc: Global) -> Arg<'a>
     ensures { IsWord ends_rule result }
@@ -84,9 +91,7 @@ pub fn ends<'a>(alloc: Global) -> Arg<'a>
         .value_name("P")
         .num_args(0..=1)
         .value_parser(zero_to_five())
-        .help(
-            "Asks too whether all processes can still end after every schedule, or process P; not with --merged",
-        )
+        .help("Asks too whether all processes can still end after every schedule, or process P")
 }
 
 fn zero_to_five<'a>() -> ValueParser<'a>
@@ -96,7 +101,7 @@ fn zero_to_five<'a>() -> ValueParser<'a>
 }
 
 fn one_to_six<'a>() -> ValueParser<'a>
-    ensures { result ≡ Signed (pos 1) (pos 6) }
+    ensures { result ≡ from_one_to 6 }
 {
     value_parser!(u8).range(1..=6)
 }

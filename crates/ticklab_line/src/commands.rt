@@ -7,7 +7,9 @@ ghost use Rattle.ticklab_line.specs.CommandLine.{IsCommand, IsLine};
 ghost use Rattle.ticklab_line.specs.Commands.{command_wanted, draw_in, draw_of, ends_in, ends_of, explain_app, explain_in, explore_app, explore_in, hunt_app, hunt_in, labels_app, labels_in, lasso_app, lasso_in, limit_in, named, plain_request, plan_of, run_app, runs_in, schedules_of, ticklab, trace_in, trace_of};
 ghost use Rattle.ticklab_line.specs.Commands.{request_in as found_request};
 
-use crate::arguments::{ends, flag, further, length, option, processes, repeated, threads, word};
+use crate::arguments::{
+    ends, flag, further, jobs, length, option, processes, repeated, threads, word,
+};
 use crate::parts::{STATUSES, filed, named, taking, with};
 use crate::values::{
     byte, byte_in, is_set, large_number, large_number_or, list_in, number, number_or, text_in,
@@ -29,12 +31,13 @@ pub enum Request<T, L> {
         limit: u32,
         is_merged: bool,
     },
-    /// The same by single steps, and whether all processes can still end after each schedule, or one of them.
+    /// The same, and whether all processes can still end after each schedule, or one of them.
     Ends {
         file: T,
         never: L,
         process: Option<u8>,
         limit: u32,
+        is_merged: bool,
     },
     /// A schedule that repeats a part of itself for ever, and who runs on there.
     Lasso {
@@ -42,7 +45,8 @@ pub enum Request<T, L> {
         prefix: T,
         cycle: T,
     },
-    /// Random schedules of a program, from one of them on, and what must never hold.
+    /// Random schedules of a program, from one of them on, and what must never hold; so many runs are tried side by
+    /// side.
     Hunt {
         file: T,
         never: L,
@@ -51,6 +55,7 @@ pub enum Request<T, L> {
         from: u32,
         steps: u32,
         is_uniform: bool,
+        jobs: u32,
     },
     /// Runs on threads of a program's code: how many, and the turns of each process.
     Runs {
@@ -229,11 +234,13 @@ fn ends_in<'a>(given: &ArgMatches<'a>, never: Vec<&'a str>, texts: &[&'a str]) -
 fn ends_of<'a>(given: &ArgMatches<'a>, never: Vec<&'a str>, process: Option<u8>) -> Option<Lent<'a>>
     ensures { option_map plain_request result ≡ ends_of (map (λ text. text.now) never.entry.items) process (rows_of (found_of given.now)) }
 {
+    let is_merged = is_set(given, "merged");
     Some(Request::Ends {
         file: text_in(given, "file")?,
         never,
         process,
         limit: limit_in(given)?,
+        is_merged,
     })
 }
 
@@ -332,6 +339,16 @@ fn hunt<'a>(alloc: Global) -> Result<Command<'a>, AllocError>
     );
     let hunt = taking(
         hunt,
+        option(
+            alloc,
+            "jobs",
+            "N",
+            jobs(),
+            "How many schedules are tried side by side, 1 to 64 [default: as many as there are processors]",
+        ),
+    );
+    let hunt = taking(
+        hunt,
         flag(
             alloc,
             "uniform",
@@ -384,6 +401,7 @@ fn plan_of<'a>(given: &ArgMatches<'a>, never: Vec<&'a str>) -> Option<Lent<'a>>
         from: number_or(given, "from", 0)?,
         steps: number_or(given, "steps", 300)?,
         is_uniform: is_set(given, "uniform"),
+        jobs: number_or(given, "jobs", 64)?,
     })
 }
 

@@ -3,7 +3,7 @@ ghost use Rattle.std.specs.Prelude.{◌≡◌, IfOk, map, option_map, string_byt
 ghost use Rattle.clap.specs.Matches.{found_of};
 ghost use Rattle.clap.specs.Walk.{rows_of};
 ghost use Rattle.clap.specs.Simple.{subcommand_rows_of};
-ghost use Rattle.ticklab_line.specs.Conflicts.{code_conflict, conflict_in as conflict_found, conflict_of, conflict_text, ends_conflict, in_order, may_conflict, plan_option, shown, threads_conflict, threads_lead};
+ghost use Rattle.ticklab_line.specs.Conflicts.{code_conflict, conflict_in as conflict_found, conflict_of, conflict_text, in_order, may_conflict, plan_option, shown, threads_conflict, threads_lead};
 
 use crate::values::{is_set, text_in, texts_in};
 use clap::ArgMatches;
@@ -37,10 +37,7 @@ fn conflict_of(name: &str, given: &ArgMatches<'_>) -> Option<Conflict<'static>>
     if let Some(conflict) = threads_conflict(given) {
         return Some(conflict);
     }
-    match ends_conflict(given) {
-        Some(conflict) => Some(conflict),
-        None => code_conflict(name, given),
-    }
+    code_conflict(name, given)
 }
 
 // `--code` and `--never` of `trace` or `draw`.
@@ -53,20 +50,6 @@ fn code_conflict(name: &str, given: &ArgMatches<'_>) -> Option<Conflict<'static>
             words: " <FILE> <SCHEDULE>",
             first: "--code",
             second: "--never <EXPR>",
-        });
-    }
-    None
-}
-
-fn ends_conflict(given: &ArgMatches<'_>) -> Option<Conflict<'static>>
-    ensures { option_map shown result ≡ ends_conflict (rows_of (found_of given.now)) }
-{
-    if texts_in(given, "ends").is_some() && is_set(given, "merged") {
-        return Some(Conflict {
-            command: "explore",
-            words: FILE,
-            first: "--ends [<P>]",
-            second: "--merged",
         });
     }
     None
@@ -116,6 +99,9 @@ fn plan_option(given: &ArgMatches<'_>) -> Option<&'static str>
     if text_in(given, "steps").is_some() {
         return Some("--steps <N>");
     }
+    if text_in(given, "jobs").is_some() {
+        return Some("--jobs <N>");
+    }
     if is_set(given, "uniform") {
         return Some("--uniform");
     }
@@ -142,7 +128,7 @@ fn may_conflict(id: &str) -> bool
 {
     matches!(
         id,
-        "threads" | "seed" | "runs" | "from" | "steps" | "uniform" | "never"
+        "threads" | "seed" | "runs" | "from" | "steps" | "jobs" | "uniform" | "never"
     )
 }
 

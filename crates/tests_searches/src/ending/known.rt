@@ -2,12 +2,13 @@
 ghost use Rattle.std.specs.Prelude.{◌<◌, All, IfOk};
 ghost use Rattle.tick_kinds.specs.Resolution.{resolved};
 
+use super::merged::{explored_merged, is_said_alike};
 use searches_explore::{
     EndExplored, LassoAnswer, MustStop, NoMemory, Unwatched, explore_ends, explore_lasso,
 };
 use std::alloc::Global;
 use std::test::Fail;
-use tests_shared::{accepted, is_same};
+use tests_shared::{accepted, holds, is_same};
 use tick_kinds::Program;
 
 // What each process of a program does. Each says that it wants to enter, and waits until the other doesn't.
@@ -77,8 +78,8 @@ fn explored(alloc: Global, program: &Program, asked: MustStop) -> Result<EndExpl
 }
 
 // What is told, and how many steps lead to where nothing leads on to an end.
-fn told(alloc: Global, program: &Program, asked: MustStop) -> Result<(&'static str, usize), Fail> {
-    Ok(match explored(alloc, program, asked)? {
+fn kind_of(found: &EndExplored) -> (&'static str, usize) {
+    match found {
         EndExplored::Trapped(..) => ("trapped", 0),
         EndExplored::Broken { .. } => ("broken", 0),
         EndExplored::Stuck { schedule, .. } => ("stuck", schedule.len()),
@@ -86,7 +87,15 @@ fn told(alloc: Global, program: &Program, asked: MustStop) -> Result<(&'static s
         EndExplored::Ends { .. } => ("ends", 0),
         EndExplored::CanEnd { .. } => ("can end", 0),
         EndExplored::Limit { .. } => ("limit", 0),
-    })
+    }
+}
+
+// The same of a program. By merged steps it is told alike.
+fn told(alloc: Global, program: &Program, asked: MustStop) -> Result<(&'static str, usize), Fail> {
+    let found = explored(alloc, program, asked)?;
+    let merged = explored_merged(alloc, program, &[], asked, 100_000)?;
+    holds(is_said_alike(&found, &merged), "by merged steps")?;
+    Ok(kind_of(&found))
 }
 
 // The same of two processes that do this.

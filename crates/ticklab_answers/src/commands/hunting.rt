@@ -11,18 +11,18 @@ ghost use Rattle.ticklab_answers.specs.Lines.{from_text, nothing_line, plan_text
 ghost use Rattle.ticklab_answers.specs.Shown.{ShowsHunt};
 ghost use Rattle.ticklab_answers.specs.Stops.{IfRefused};
 
-use crate::asking::{NeverLines, never_lines};
-use crate::commands::exploring::{safe_text, with_line};
+use crate::asking::NeverLines;
+use crate::commands::exploring::safe_text;
 use crate::counts::push_many;
 use crate::fault::LabFault;
 use crate::files::bytes_of;
 use crate::host::Files;
-use crate::reading::spelled_program_of;
-use crate::response::{DONE, Response, TRAPPED, answer, output, settled};
+use crate::reading::asked_program;
+use crate::response::{DONE, Response, answer, settled};
 use crate::stop::NoAnswer;
-use crate::trapping::trap_text;
+use crate::trapping::{broken_shown, trap_shown};
 use base::{NoMemory, push_number};
-use searches_hunt::{Mode, NeverHunted, Plan, hunt_never};
+use searches_hunt::{Mode, NeverHunted, Plan, Trials, hunt_by};
 use std::alloc::{AllocError, Global};
 use ticketc_refusals::SpelledProgram;
 
@@ -50,10 +50,11 @@ pub fn plan_of(seed: u64, runs: u32, steps: u32, is_uniform: bool) -> Plan
 }
 
 /// Whether a process of the program traps under a schedule of the plan, from this run on, or a line `#! never` of the
-/// file breaks or one of these texts that are the same.
-pub fn hunted<F: Files>(
+/// file breaks or one of these texts that are the same. `trials` tries the runs.
+pub fn hunted<F: Files, T: Trials>(
     alloc: Global,
     files: &mut F,
+    trials: &T,
     file: &str,
     never: &[&str],
     plan: Plan,
@@ -63,12 +64,13 @@ pub fn hunted<F: Files>(
     ensures err { IfErr result (IsOfFile file.now) }
 {
     let input = bytes_of(alloc, files, file)?;
-    let hunted = random_schedules(alloc, file, never, input.as_slice(), plan, from);
+    let hunted = random_schedules(alloc, trials, file, never, input.as_slice(), plan, from);
     Ok(settled(alloc, hunted)?)
 }
 
-fn random_schedules(
+fn random_schedules<T: Trials>(
     alloc: Global,
+    trials: &T,
     name: &str,
     never: &[&str],
     input: &[u8],
@@ -78,11 +80,15 @@ fn random_schedules(
     ensures ok { IfOk result (IsHunted name.now (texts_of never.now) plan from input.now) }
     ensures refused { IfErr result (λ stop. IfRefused stop (IsUnexplored name.now (texts_of never.now) input.now)) }
 {
-    let (spelled, questions) = spelled_program_of(alloc, name, input)?;
-    let lines = never_lines(alloc, name, input, &spelled.program, questions, never)?;
+    let asked = match asked_program(alloc, name, input, never) {
+        Ok(asked) => asked,
+        Err(stop) => return Err(stop),
+    };
+    let spelled = &asked.spelled;
+    let lines = &asked.lines;
     let properties = lines.properties.as_slice();
-    let hunted = hunt_never(alloc, &spelled.program, properties, plan, from)?;
-    Ok(shown(alloc, &spelled, input, &lines, plan, from, &hunted)?)
+    let hunted = hunt_by(trials, alloc, &spelled.program, properties, plan, from)?;
+    Ok(shown(alloc, spelled, input, lines, plan, from, &hunted)?)
 }
 
 // The answer that tells what the hunt came to.
@@ -102,8 +108,7 @@ fn shown(
 {
     match hunted {
         NeverHunted::Trapped { schedule, .. } => {
-            let text = trap_text(alloc, MINIMAL, spelled, input, schedule.as_slice())?;
-            Ok(answer(alloc, TRAPPED, text))
+            trap_shown(alloc, MINIMAL, spelled, input, schedule)
         }
         NeverHunted::Broken {
             schedule,
@@ -111,9 +116,8 @@ fn shown(
             value,
             ..
         } => {
-            let traced = trap_text(alloc, MINIMAL_BREAK, spelled, input, schedule.as_slice())?;
-            let out = with_line(alloc, traced, &lines.places[*line], *value)?;
-            Ok(output(alloc, TRAPPED, out))
+            let found = MINIMAL_BREAK;
+            broken_shown(alloc, found, spelled, input, lines, schedule, *line, *value)
         }
         NeverHunted::Nothing => {
             let line = nothing_line(alloc, lines.places.len(), plan, from)?;

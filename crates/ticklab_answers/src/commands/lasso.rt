@@ -7,12 +7,12 @@ ghost use Rattle.ticklab_answers.specs.Lasso.{IsChecked, IsOfThree, IsUnchecked,
 ghost use Rattle.ticklab_answers.specs.Lines.{left_out_line, loop_line};
 ghost use Rattle.ticklab_answers.specs.Stops.{IfRefused};
 
-use crate::commands::ends::{asked_in, loop_text, push_processes};
+use crate::commands::ends::{asked_in, loop_shown, push_processes};
 use crate::fault::LabFault;
 use crate::files::{bytes_of, text_of};
 use crate::host::Files;
 use crate::reading::{schedule_of, spelled_program_of};
-use crate::response::{LIMIT, NO_LOOP, Response, STUCK, answer, settled};
+use crate::response::{LIMIT, NO_LOOP, Response, answer, settled};
 use crate::stop::NoAnswer;
 use base::{NoMemory, push_number};
 use searches_explore::{LassoAnswer, explore_lasso};
@@ -86,8 +86,7 @@ fn shown(
     match found {
         Some(LassoAnswer::Lasso(running)) => {
             let line = loop_line(alloc, running.as_slice())?;
-            let text = loop_text(alloc, &line, spelled, input, prefix, &[], cycle)?;
-            Ok(answer(alloc, STUCK, text))
+            loop_shown(alloc, &line, spelled, input, prefix, &[], cycle)
         }
         Some(LassoAnswer::AllStopped) => {
             let line = String::from_str(alloc, STOPPED)?;

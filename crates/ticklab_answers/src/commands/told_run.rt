@@ -7,20 +7,18 @@ ghost use Rattle.ticklab_answers.specs.Asking.{place_of, texts_of};
 ghost use Rattle.ticklab_answers.specs.Codes.{IsCodeless};
 ghost use Rattle.ticklab_answers.specs.Faults.{IsEither, IsOfFileThat};
 ghost use Rattle.ticklab_answers.specs.Responses.{Gives};
-ghost use Rattle.ticklab_answers.specs.Stops.{IfRefused};
 ghost use Rattle.ticklab_answers.specs.Runs.{IsRun, IsTold, IsToldWith, IsUnrun, TellsRun};
+ghost use Rattle.ticklab_answers.specs.Stops.{IfRefused};
 
-use crate::asking::{NeverLines, never_lines};
 use crate::commands::drawing::picture_of;
 use crate::commands::tracing::trace_of;
 use crate::fault::LabFault;
 use crate::files::{bytes_of, text_of};
 use crate::host::Files;
-use crate::reading::{schedule_of, spelled_program_of};
+use crate::reading::{AskedProgram, asked_program, schedule_of};
 use crate::response::{DONE, Response, output, settled};
 use crate::stop::NoAnswer;
 use std::alloc::Global;
-use ticketc_refusals::SpelledProgram;
 
 /// How a run is told.
 #[derive(Clone, Copy)]
@@ -72,19 +70,14 @@ fn run_told(
     ensures ok { IfOk result (Gives 0 (IsRun (IsTold telling is_code name.now (texts_of never.now) input.now) schedule.now)) }
     ensures refused { IfErr result (λ stop. IfRefused stop (IsUnrun name.now (texts_of never.now) input.now from.now schedule.now is_code)) }
 {
-    let (spelled, questions) = spelled_program_of(alloc, name, input)?;
-    let lines = never_lines(alloc, name, input, &spelled.program, questions, never)?;
-    let steps = schedule_of(alloc, from, schedule, spelled.program.processes())?;
-    let out = telling_of(
-        alloc,
-        telling,
-        is_code,
-        name,
-        &spelled,
-        input,
-        &lines,
-        steps.as_slice(),
-    )?;
+    let asked = match asked_program(alloc, name, input, never) {
+        Ok(asked) => asked,
+        Err(stop) => return Err(stop),
+    };
+    let n = asked.spelled.program.processes();
+    let steps = schedule_of(alloc, from, schedule, n)?;
+    let steps = steps.as_slice();
+    let out = telling_of(alloc, telling, is_code, name, &asked, input, steps)?;
     Ok(output(alloc, DONE, out))
 }
 
@@ -93,17 +86,18 @@ fn telling_of(
     telling: Telling,
     is_code: bool,
     name: &str,
-    spelled: &SpelledProgram,
+    asked: &AskedProgram<'_>,
     input: &[u8],
-    lines: &NeverLines<'_>,
     schedule: &[u8],
 ) -> Result<Vec<u8>, NoAnswer>
-    requires lines { length lines.now.properties.items ≡ length lines.now.places.items }
-    requires schedule { All (λ p. p < (resolved spelled.now.program).processes) schedule.now }
-    requires program { SpelledIn input.now spelled.now }
-    ensures ok { IfOk result (λ out. IsToldWith telling is_code name.now (lines_of lines.now.properties.items) (map place_of lines.now.places.items) input.now spelled.now.program schedule.now out.items) }
-    ensures refused { IfErr result (λ stop. IfRefused stop (IsCodeless is_code name.now spelled.now.program)) }
+    requires lines { length asked.now.lines.properties.items ≡ length asked.now.lines.places.items }
+    requires schedule { All (λ p. p < (resolved asked.now.spelled.program).processes) schedule.now }
+    requires program { SpelledIn input.now asked.now.spelled }
+    ensures ok { IfOk result (λ out. IsToldWith telling is_code name.now (lines_of asked.now.lines.properties.items) (map place_of asked.now.lines.places.items) input.now asked.now.spelled.program schedule.now out.items) }
+    ensures refused { IfErr result (λ stop. IfRefused stop (IsCodeless is_code name.now asked.now.spelled.program)) }
 {
+    let spelled = &asked.spelled;
+    let lines = &asked.lines;
     match telling {
         Telling::Trace => trace_of(alloc, name, spelled, input, lines, schedule, is_code),
         Telling::Picture => { picture_of(alloc, name, &spelled.program, lines, schedule, is_code) },

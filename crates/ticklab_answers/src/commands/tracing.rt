@@ -12,13 +12,13 @@ ghost use Rattle.ticklab_answers.specs.Stops.{IfRefused};
 
 use crate::asking::{NeverLines, PropertyPlace};
 use crate::breaking::{Break, first_break};
-use crate::commands::exploring::with_line;
 use crate::commands::told_run::{Telling, told};
 use crate::fault::LabFault;
 use crate::host::Files;
 use crate::reading::code_of;
 use crate::response::Response;
 use crate::stop::NoAnswer;
+use crate::trapping::with_line;
 use base::NoMemory;
 use std::alloc::Global;
 use std::str;
@@ -110,7 +110,7 @@ fn broken_trace(
     let steps = source_steps(alloc, program, schedule)?;
     let (before, after) = steps.split_at(broken.steps);
     let text = source_trace(alloc, program, spots.as_slice(), 0, before)?;
-    let mut out = with_line(alloc, text, place, broken.value)?;
+    let mut out = with_line(alloc, text.into_bytes(), place, broken.value)?;
     let rest = source_trace(alloc, program, spots.as_slice(), broken.steps, after)?;
     out.extend_from_slice(rest.as_bytes())?;
     Ok(out)
@@ -133,8 +133,8 @@ pub fn source_text(
     source_trace(alloc, program, spots.as_slice(), 0, steps.as_slice())
 }
 
-// Where the statements of the program stand that this input is.
-fn spots_in<'a>(
+/// Where the statements of the program stand that this input is.
+pub fn spots_in<'a>(
     alloc: Global,
     spelled: &SpelledProgram,
     input: &'a [u8],

@@ -3,21 +3,23 @@ ghost use Rattle.std.specs.Prelude.{◌≡◌, ◌<◌, ◌++◌, All, IfOk, OnO
 ghost use Rattle.std.specs.List.{list_any};
 ghost use Rattle.tick_kinds.specs.Resolution.{resolved};
 ghost use Rattle.ticketc_refusals.specs.Refusals.{SpelledIn};
-ghost use Rattle.ticklab_trace.specs.Places.{Stand, told_standing};
+ghost use Rattle.ticklab_trace.specs.Places.{told_standing};
 ghost use Rattle.ticklab_answers.specs.Lines.{cycle_line};
 ghost use Rattle.ticklab_answers.specs.Loops.{IsLoopText, is_write, lead_in_text, steps_text};
+ghost use Rattle.ticklab_answers.specs.Responses.{Gives};
 
+use crate::commands::spots_in;
+use crate::response::{Response, STUCK, answer};
 use base::{Act, NoMemory};
 use language_schedules::write_schedule;
 use std::alloc::Global;
-use std::str;
 use tick_kinds::Program;
 use ticketc_refusals::SpelledProgram;
-use ticklab_trace::{StatementPlace, StatementStep, places, source_steps, source_trace};
+use ticklab_trace::{StatementPlace, StatementStep, source_steps, source_trace};
 
 /// How a schedule was found, and what repeats for ever after it, with what each step does: the steps that lead there,
 /// where there are some, and then those that lead back.
-pub fn loop_text(
+pub fn loop_shown(
     alloc: Global,
     found: &str,
     spelled: &SpelledProgram,
@@ -25,12 +27,12 @@ pub fn loop_text(
     schedule: &[u8],
     lead_in: &[u8],
     cycle: &[u8],
-) -> Result<String, NoMemory>
+) -> Result<Response, NoMemory>
     requires schedule { All (λ p. p < (resolved spelled.now.program).processes) schedule.now }
     requires lead_in { All (λ p. p < (resolved spelled.now.program).processes) lead_in.now }
     requires cycle { All (λ p. p < (resolved spelled.now.program).processes) cycle.now }
     requires program { SpelledIn input.now spelled.now }
-    ensures { IfOk result (λ text. IsLoopText found.now input.now spelled.now.program schedule.now lead_in.now cycle.now (string_bytes text)) }
+    ensures { IfOk result (Gives 7 (IsLoopText found.now input.now spelled.now.program schedule.now lead_in.now cycle.now)) }
 {
     let program = &spelled.program;
     let spots = spots_in(alloc, spelled, input)?;
@@ -51,22 +53,7 @@ pub fn loop_text(
         cycle,
         third,
     )?;
-    Ok(text)
-}
-
-// Where the statements of the program stand that this input is.
-fn spots_in<'a>(
-    alloc: Global,
-    spelled: &SpelledProgram,
-    input: &'a [u8],
-) -> Result<Vec<StatementPlace<'a>>, NoMemory>
-    requires { SpelledIn input.now spelled.now }
-    ensures { IfOk result (λ spots. Stand input.now spelled.now.program spots.items) }
-{
-    let Ok(text) = str::from_utf8(input) else {
-        unreachable!()
-    };
-    places(alloc, &spelled.program, text, spelled.tokens.as_slice())
+    Ok(answer(alloc, STUCK, text))
 }
 
 // One after the other.

@@ -1,7 +1,7 @@
 //! The lines of the answers to `explore --ends`.
 ghost use Rattle.std.specs.Prelude.{◌≡◌, ◌≤◌, ◌+◌, ◌++◌, IfOk, OnOk, length, string_bytes};
 ghost use Rattle.std.specs.List.{list_any};
-ghost use Rattle.ticklab_answers.specs.Lines.{asked_text, can_end_line, endless_line, ends_line, ends_text, is_nobody, marked, no_process_line, numbers_text, processes_text, quiet_text, stuck_line};
+ghost use Rattle.ticklab_answers.specs.Lines.{asked_text, can_end_line, endless_line, ends_line, ends_text, is_nobody, marked, no_process_line, numbers_text, processes_text, quiet_text, shorter_text, stuck_line, unknown_text};
 
 use crate::commands::exploring::safe_text;
 use crate::counts::push_many;
@@ -131,20 +131,30 @@ fn push_ends(alloc: Global, text: &mut String, asked: MustStop) -> Result<(), Al
 /// They can always end; whether they do isn't known.
 pub fn can_end_line(
     alloc: Global,
+    is_merged: bool,
     lines: usize,
     asked: MustStop,
     states: u32,
 ) -> Result<String, AllocError>
-    ensures { IfOk result (λ line. string_bytes line ≡ can_end_line lines asked states) }
+    ensures { IfOk result (λ line. string_bytes line ≡ can_end_line is_merged lines asked states) }
 {
+    if is_nobody(asked) {
+        return ends_line(alloc, lines, asked, states);
+    }
     let mut line = quiet(alloc, lines)?;
     push_asked(alloc, &mut line, asked)?;
     line.push_str(" can still end after every schedule (")?;
     push_many(&mut line, states, "state", "states")?;
-    line.push_str(
-        "); of those in which each that runs steps again and again nothing was found out\n",
-    )?;
+    line.push_str("); of those in which each that runs steps again and again nothing was ")?;
+    line.push_str(unknown_text(is_merged))?;
+    line.push_str("\n")?;
     Ok(line)
+}
+
+fn unknown_text(is_merged: bool) -> &'static str
+    ensures { result.now ≡ unknown_text is_merged }
+{
+    if is_merged { "asked" } else { "found out" }
 }
 
 /// They can always end, and under a schedule they don't.
@@ -160,14 +170,30 @@ pub fn endless_line(alloc: Global, lines: usize, asked: MustStop) -> Result<Stri
 }
 
 /// They can't end any more.
-pub fn stuck_line(alloc: Global, lines: usize, asked: MustStop) -> Result<String, AllocError>
-    ensures { IfOk result (λ line. string_bytes line ≡ stuck_line lines asked) }
+pub fn stuck_line(
+    alloc: Global,
+    is_merged: bool,
+    lines: usize,
+    asked: MustStop,
+) -> Result<String, AllocError>
+    ensures { IfOk result (λ line. string_bytes line ≡ stuck_line is_merged lines asked) }
 {
     let mut line = quiet(alloc, lines)?;
     line.push_str("after this schedule no further steps end ")?;
     push_asked(alloc, &mut line, asked)?;
-    line.push_str(", and after each shorter one some do:")?;
+    line.push_str(shorter_text(is_merged))?;
     Ok(line)
+}
+
+// Whether the schedule is a shortest.
+fn shorter_text(is_merged: bool) -> &'static str
+    ensures { result.now ≡ shorter_text is_merged }
+{
+    if is_merged {
+        ":"
+    } else {
+        ", and after each shorter one some do:"
+    }
 }
 
 /// There is no such process.

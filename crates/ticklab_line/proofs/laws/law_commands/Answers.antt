@@ -7,8 +7,6 @@ pub returns : goal.returns
 unfolding clap_on_literals faults command_in
 returns c = record {
   explore = λ rest. ((refl, refl), refl);
-  ends_merged = (refl, refl);
-  one_end_merged = (refl, refl);
   code_never = (refl, refl);
   drawn_code_never = (refl, refl);
   all = refl;

@@ -12,8 +12,8 @@ returns-clause-ok g c =
       c.in_ok-input.input.items,
       c.in_ok-input.ensures.ok,
       subst (λ (input : List ℕ). IsWatched g.W.Watch.hears c.args.progress.now c.all_ends-searched.new.watch
-          (IsEndsExplored c.args.file.now (texts_of c.args.never.now) c.args.process c.args.limit input c.in_ok-response.response)) c.as_slice.ensures.value
-          (settled_with c.all_ends-searched.result c.in_ok-response.response (λ x h. h)
-          (ends_unwatched g.W.Watch.hears _ _ c.args.file.now (texts_of c.args.never.now) c.args.process c.args.limit c.as_slice.result.now)
-          searched.ok searched.refused c.in_ok-response.ensures),
+          (IsEndsExplored c.args.is_merged c.args.file.now (texts_of c.args.never.now) c.args.process c.args.limit input c.in_ok-ended.field-0)) c.as_slice.ensures.value
+          (settled_with c.all_ends-searched.result c.in_ok-ended.field-0 (λ x h. h)
+          (ends_unwatched g.W.Watch.hears _ _ c.args.is_merged c.args.file.now (texts_of c.args.never.now) c.args.process c.args.limit c.as_slice.result.now)
+          searched.ok searched.refused c.in_ok-ended.ensures),
     )

@@ -1,5 +1,6 @@
-use Rattle.std.proofs.Common.{◌∙◌, ap, subst, sym}
-use Rattle.ticklab_answers.specs.Explanations.{IsExplained, explained, taken}
+use Rattle.std.proofs.Common.{◌∙◌}
+use Rattle.ticklab_answers.specs.Explanations.{explained, taken}
+use Rattle.ticklab_answers.proofs.Settled.{gives_of}
 use Rattle.ticklab_answers.proofs.commands.explaining.input_explained.Goals as goal
 
 pub returns-in_ok-text-in-Ok : goal.returns-in_ok-text-in-Ok
@@ -12,8 +13,4 @@ returns-in_ok-text-in-Ok c =
 
 pub returns-in-Err : goal.returns-in-Err
 returns-in-Err c =
-    explained (record {
-      status = c.output.ensures.status;
-      quiet = c.output.ensures.told;
-      out = subst (IsExplained c.args.name.now c.args.input.now) (sym (ap (λ out. out.items) c.output.ensures.out)) (rw c.in-Err.is at c.in_ok-_n.ensures);
-    })
+    explained (gives_of c.output.result _ c.output.ensures.status c.output.ensures.told c.output.ensures.out (rw c.in-Err.is at c.in_ok-_n.ensures))

@@ -1,6 +1,6 @@
-use Rattle.std.proofs.Common.{ap, subst, sym}
 use Rattle.std.proofs.lemmas.Result.{IfOk-weaker}
-use Rattle.ticklab_answers.specs.Explanations.{ExplainsBoth, ExplainsSchedule, IsExplained, input_explained, input_taken}
+use Rattle.ticklab_answers.specs.Explanations.{ExplainsBoth, ExplainsSchedule, input_explained, input_taken}
+use Rattle.ticklab_answers.proofs.Settled.{gives_of}
 use Rattle.ticklab_answers.proofs.commands.explaining.schedule_explained.Goals as goal
 
 pub returns-in-Ok : goal.returns-in-Ok
@@ -12,8 +12,4 @@ returns-in-Ok c =
 
 pub returns-in-Err : goal.returns-in-Err
 returns-in-Err c =
-    input_explained (record {
-      status = c.output.ensures.status;
-      quiet = c.output.ensures.told;
-      out = subst (IsExplained c.args.name.now c.args.input.now) (sym (ap (λ out. out.items) c.output.ensures.out)) (rw c.in-Err.is at c.in_ok-n.ensures);
-    })
+    input_explained (gives_of c.output.result _ c.output.ensures.status c.output.ensures.told c.output.ensures.out (rw c.in-Err.is at c.in_ok-n.ensures))

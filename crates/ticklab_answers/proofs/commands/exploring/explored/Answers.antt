@@ -13,8 +13,8 @@ returns-clause-ok g c =
       c.in_ok-input.input.items,
       c.in_ok-input.ensures.ok,
       subst (λ (input : List ℕ). IsWatched g.W.Watch.hears c.args.progress.now c.all_schedules-searched.new.watch
-          (IsExplored c.args.is_merged c.args.file.now texts c.args.limit input c.in_ok-response.response)) c.as_slice-bytes.ensures.value
-          (settled_with c.all_schedules-searched.result c.in_ok-response.response (λ x h. h)
+          (IsExplored c.args.is_merged c.args.file.now texts c.args.limit input c.in_ok-ended.field-0)) c.as_slice-bytes.ensures.value
+          (settled_with c.all_schedules-searched.result c.in_ok-ended.field-0 (λ x h. h)
           (unwatched g.W.Watch.hears _ _ c.args.is_merged c.args.file.now texts c.args.limit c.as_slice-bytes.result.now)
-          searched.ok searched.refused c.in_ok-response.ensures),
+          searched.ok searched.refused c.in_ok-ended.ensures),
     )

@@ -1,0 +1,54 @@
+ghost use Rattle.std.specs.Prelude.{IfOk};
+ghost use Rattle.tick_kinds.specs.Resolution.{resolved};
+ghost use Rattle.searches_explore.specs.Lines.{lines_of};
+ghost use Rattle.searches_hunt.specs.Never.{TellsFirst};
+
+use crate::plan::Plan;
+use crate::trying::steps_to_fault;
+use base::NoMemory;
+use language_properties::Property;
+use std::alloc::Global;
+use tick_kinds::Program;
+
+/// Tries runs of a plan. Each run stands alone, so it doesn't matter in which order they are tried.
+pub trait Trials: Drop + Sized {
+    /// The same, that tries at most so many runs at once; 0 counts as 1.
+    fn with_jobs(&self, jobs: u32) -> Self;
+
+    /// The first run of the plan, from this one on, under which a process traps or a line is broken.
+    fn first_fault(
+        &self,
+        alloc: Global,
+        program: &Program,
+        lines: &[Property],
+        plan: Plan,
+        from: u32,
+    ) -> Result<Option<u32>, NoMemory>
+        ensures { IfOk result (TellsFirst (resolved program.now) (lines_of lines.now) plan from) };
+}
+
+/// Tries one run after the other.
+#[derive(Clone, Copy)]
+pub struct InTurn;
+
+impl Trials for InTurn {
+    fn with_jobs(&self, _jobs: u32) -> InTurn {
+        InTurn
+    }
+
+    fn first_fault(
+        &self,
+        alloc: Global,
+        program: &Program,
+        lines: &[Property],
+        plan: Plan,
+        from: u32,
+    ) -> Result<Option<u32>, NoMemory> {
+        for run in from..from.saturating_add(plan.runs) {
+            if let Some(_) = steps_to_fault(alloc, program, lines, plan, run)? {
+                return Ok(Some(run));
+            }
+        }
+        Ok(None)
+    }
+}

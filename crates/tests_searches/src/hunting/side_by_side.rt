@@ -1,0 +1,130 @@
+//! Runs that are tried side by side tell what they tell in turn, whatever the number of threads.
+
+use crate::hunting::programs::{BOTH_INSIDE, QUEUE_WITH_FAULT, SERVICE_WITH_FAULT, WRITTEN};
+use searches_hunt::{InTurn, Mode, NoMemory, Plan, Trials, hunt_by};
+use searches_parallel::OnProcessors;
+use std::alloc::Global;
+use std::test::Fail;
+use std::thread::Threads;
+use tests_shared::{accepted, holds, is_same};
+use tick_kinds::Program;
+
+const JOBS: [u8; 6] = [0, 1, 2, 3, 4, 7];
+
+fn plan(mode: Mode, runs: u32) -> Plan {
+    Plan {
+        seed: 1,
+        runs,
+        steps: 300,
+        mode,
+    }
+}
+
+// The first run with a fault. Where memory was refused it is asked once more, so that these tests also pass where any
+// one growth of a hunt is refused: no answer changes in place of the error.
+fn told<T: Trials>(
+    trials: &T,
+    alloc: Global,
+    program: &Program,
+    plan: Plan,
+    from: u32,
+) -> Result<Option<u32>, NoMemory> {
+    match trials.first_fault(alloc, program, &[], plan, from) {
+        Err(NoMemory) => trials.first_fault(alloc, program, &[], plan, from),
+        answer => answer,
+    }
+}
+
+// The run that is told in turn, which is told by each number of threads.
+fn told_by_all<R: AllocGlobal + Threads + Sync>(
+    rt: &R,
+    program: &Program,
+    plan: Plan,
+    from: u32,
+) -> Result<Option<u32>, Fail> {
+    let alloc = rt.alloc();
+    let run = told(&InTurn, alloc, program, plan, from)?;
+    for jobs in JOBS {
+        is_same(
+            &told(&OnProcessors { rt, jobs }, alloc, program, plan, from)?,
+            &run,
+        )?;
+    }
+    Ok(run)
+}
+
+// A fault is told where its run is the last, and none where the runs end before it.
+fn is_told_at_the_end<R: AllocGlobal + Threads + Sync>(
+    rt: &R,
+    text: &str,
+    mode: Mode,
+    from: u32,
+) -> Result<(), Fail> {
+    let program = accepted(rt.alloc(), text)?;
+    let Some(run) = told_by_all(rt, &program, plan(mode, 2_000), from)? else {
+        return Err("no trap was found")?;
+    };
+    let before = run.saturating_sub(from);
+    is_same(&told_by_all(rt, &program, plan(mode, before), from)?, &None)?;
+    let with_it = before.saturating_add(1);
+    is_same(
+        &told_by_all(rt, &program, plan(mode, with_it), from)?,
+        &Some(run),
+    )
+}
+
+#[test]
+fn threads_tell_the_same(rt: HostRuntime) -> Result<(), Fail> {
+    for mode in [Mode::Bursts, Mode::Uniform] {
+        is_told_at_the_end(&rt, QUEUE_WITH_FAULT, mode, 0)?;
+        is_told_at_the_end(&rt, SERVICE_WITH_FAULT, mode, 500)?;
+    }
+    Ok(())
+}
+
+#[test]
+fn hunts_find_the_same(rt: HostRuntime) -> Result<(), Fail> {
+    let program = accepted(rt.alloc(), SERVICE_WITH_FAULT)?;
+    for from in [0, 100, 1_000] {
+        let plan = plan(Mode::Uniform, 1_000);
+        let found = hunt_by(&InTurn, rt.alloc(), &program, &[], plan, from)?;
+        for jobs in JOBS {
+            let trials = OnProcessors { rt: &rt, jobs };
+            is_same(
+                &hunt_by(&trials, rt.alloc(), &program, &[], plan, from)?,
+                &found,
+            )?;
+        }
+    }
+    Ok(())
+}
+
+// The answers of parts, in order, are that of the whole.
+#[test]
+fn parts_side_by_side(rt: HostRuntime) -> Result<(), Fail> {
+    let program = accepted(rt.alloc(), WRITTEN)?;
+    for from in 0..6 {
+        let whole = told_by_all(&rt, &program, plan(Mode::Uniform, 9), from)?;
+        for first in 0..9u32 {
+            let mut run = told_by_all(&rt, &program, plan(Mode::Uniform, first), from)?;
+            if run.is_none() {
+                let rest = plan(Mode::Uniform, 9u32.saturating_sub(first));
+                run = told_by_all(&rt, &program, rest, from.saturating_add(first))?;
+            }
+            holds(run == whole, (from, first))?;
+        }
+    }
+    Ok(())
+}
+
+#[test]
+fn last_runs_side_by_side(rt: HostRuntime) -> Result<(), Fail> {
+    let program = accepted(rt.alloc(), BOTH_INSIDE)?;
+    for from in [u32::MAX, 4_294_967_294, 4_294_967_000] {
+        is_same(
+            &told_by_all(&rt, &program, plan(Mode::Uniform, u32::MAX), from)?,
+            &None,
+        )?;
+    }
+    Ok(())
+}
