@@ -1,13 +1,16 @@
 -- What is left of a schedule, as items are left out.
 use Rattle.std.proofs.Common.{◌≡◌, ◌⊎◌, ⊎_elim, get_or, ℕ, zero, suc, ◌+◌, ◌-◌, ◌<◌, ◌≤◌, List, [], ◌∷◌, ◌++◌, length, take, drop, map, replicate, refl, sym, ◌∙◌, ap, subst, arith, length-append, Option, Some, None, IfSome, IfNone, MatchOption}
-use Rattle.std.specs.Prelude.{slice_get}
+use Rattle.std.specs.Prelude.{Result, Vec, IfOk, slice_get}
+use Rattle.std.specs.Global.{Global}
 use Rattle.std.proofs.lemmas.Option.{same_Some}
+use Rattle.std.proofs.lemmas.Result.{IfOk-weaker}
 use Rattle.std.specs.List.{All}
 use Rattle.std.proofs.lemmas.List.{take-append-drop, length-drop, length-take-le, take_at, drop_at, drop-drop, append-nil, take_more}
 use Rattle.std.proofs.lemmas.List.Elements.{All-append, All-cons, All-drop, All-head, All-tail, All-take}
 use Rattle.base.specs.Plain.{WholeProgram}
 use Rattle.language_properties.specs.Properties.{Formula}
 use Rattle.searches_hunt.specs.Hunts.{without, left_of, IsPartOf}
+use Rattle.searches_hunt.specs.Never.{IsFaultless}
 use Rattle.searches_hunt.specs.prover.Parts.{IsLeft, no_items, one_out, one_kept, IsFault, IsFaultOf}
 
 pub part_all : (schedule : List ℕ) → IsPartOf schedule schedule
@@ -204,6 +207,13 @@ none_at P o is h = subst (λ q. IfNone q P) is h
 pub some_of : {X : Type 0} (A : Type 0) (B C : X → Type 0) → ((x : X) → B x → C x) → (o : Option X) → MatchOption o A B → IfSome o C
 some_of A B C f None h = tt
 some_of A B C f (Some x) h = f x h
+
+-- what follows of the steps to a fault of what is left
+pub fault_left : {E : Type 0} (a : WholeProgram ℕ) (lines : List Formula) (rest : List ℕ) (told : Result (Option (Vec ℕ Global)) E)
+    (P : Vec ℕ Global → Type 0) → ((made : Vec ℕ Global) → IsFaultOf a lines rest made.items → P made)
+    → IfOk told (λ o. MatchOption o (IsFaultless a lines rest) (λ made. IsFaultOf a lines rest made.items)) → IfOk told (λ o. IfSome o P)
+fault_left a lines rest told P f is =
+    IfOk-weaker told _ _ (some_of (IsFaultless a lines rest) (λ made. IsFaultOf a lines rest made.items) P f) is
 
 pub none_of : {X : Type 0} (A C : Type 0) (B : X → Type 0) → (A → C) → (o : Option X) → MatchOption o A B → IfNone o C
 none_of A C B f None h = f h

@@ -4,9 +4,10 @@ ghost use Rattle.searches_hunt.specs.Draws.{random_schedule};
 ghost use Rattle.searches_hunt.specs.Hunts.{IsMinimalTrap, IsFirstTrap, IsPartOf, NoRunTraps, IfFound, IfNothing};
 
 use crate::answer::Hunted;
-use crate::never::hunt_never;
+use crate::never::hunt_by;
 use crate::never_answer::NeverHunted;
 use crate::plan::Plan;
+use crate::trials::InTurn;
 use base::NoMemory;
 use std::alloc::Global;
 use tick_kinds::Program;
@@ -30,7 +31,7 @@ pub fn hunt(alloc: Global, program: &Program, plan: Plan) -> Result<Hunted, NoMe
     if runs_of(plan) == 0 {
         return Ok(Hunted::Nothing);
     }
-    match hunt_never(alloc, program, &[], plan, 0)? {
+    match hunt_by(&InTurn, alloc, program, &[], plan, 0)? {
         NeverHunted::Trapped { run, schedule } => Ok(Hunted::Found { run, schedule }),
         NeverHunted::Broken { run, schedule, .. } => Ok(Hunted::Found { run, schedule }),
         NeverHunted::Nothing => Ok(Hunted::Nothing),

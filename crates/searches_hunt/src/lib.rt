@@ -2,9 +2,9 @@
 //!
 //! `hunt` tries random schedules until a process traps. It gives the first schedule under which one does, and
 //! leaves out the steps that the trap doesn't need. The schedules that it tries follow from the `Plan` alone,
-//! so the same plan always has the same answer. `hunt_never` also asks in each state for properties that must
-//! never hold, and begins at any run of the plan. `hunt_by` does too, and its caller says by `Trials` how the runs
-//! are tried: `InTurn` tries one after the other.
+//! so the same plan always has the same answer. `hunt_by` also asks in each state for properties that must never
+//! hold, and begins at any run of the plan. Its caller says by `Trials` how the runs are tried: `InTurn` tries one
+//! after the other.
 //! `tally` has a code run on threads many times, and counts how often each outcome comes.
 //! Start with `hunt`.
 #![tactic(auto)]
@@ -26,7 +26,7 @@ pub use answer::Hunted;
 pub use base::{NoMemory, Trap};
 pub use hunting::hunt;
 pub use language_properties::Property;
-pub use never::{hunt_by, hunt_never};
+pub use never::hunt_by;
 pub use never_answer::NeverHunted;
 pub use plan::{Mode, Plan};
 pub use tallying::{Counted, tally};

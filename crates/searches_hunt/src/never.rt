@@ -13,7 +13,7 @@ use crate::drawing::draw;
 use crate::never_answer::NeverHunted;
 use crate::plan::Plan;
 use crate::shrinking::shrink;
-use crate::trials::{InTurn, Trials};
+use crate::trials::Trials;
 use crate::tried::Tried;
 use crate::trying::steps_to_fault;
 use base::NoMemory;
@@ -115,23 +115,4 @@ pub fn hunt_by<T: Trials>(
     };
     let schedule = shrunk(alloc, program, lines, plan, run, steps)?;
     told(alloc, program, lines, run, schedule)
-}
-
-/// Hunts as `hunt_by` does, and tries one run after the other.
-pub fn hunt_never(
-    alloc: Global,
-    program: &Program,
-    lines: &[Property],
-    plan: Plan,
-    from: u32,
-) -> Result<NeverHunted, NoMemory>
-    ensures first { IfOk result (λ h. IfFault h (λ run schedule. IsFirstFault (resolved program.now) (lines_of lines.now) plan from run)) }
-    ensures trapped { IfOk result (λ h. IfTrapped h (IsMinimalTrapped (resolved program.now) (lines_of lines.now))) }
-    ensures broken { IfOk result (λ h. IfBroken h (IsMinimalBroken (resolved program.now) (lines_of lines.now))) }
-    ensures part { IfOk result (λ h. IfFault h (λ run schedule.
-        IsPartOf schedule (random_schedule plan (resolved program.now).processes run))) }
-    ensures short { IfOk result (λ h. IfFault h (λ run schedule. length schedule ≤ plan.steps)) }
-    ensures nothing { IfOk result (λ h. IfNothing h (NoRunFaults (resolved program.now) (lines_of lines.now) plan from)) }
-{
-    hunt_by(&InTurn, alloc, program, lines, plan, from)
 }

@@ -35,12 +35,42 @@ fn fewer(
     to_fault(alloc, program, lines, rest)
 }
 
-// Leaves out each piece of so many items without which there still is a fault, from the front on.
+// What is left without the items from this place on, so many of all or, with those between, of one process; and
+// where the next begin.
+fn without_piece(
+    alloc: Global,
+    schedule: &[u8],
+    at: usize,
+    of: Option<u8>,
+    size: usize,
+) -> Result<(usize, Vec<u8>), NoMemory>
+    requires place { at < length schedule.now }
+    requires size { 0 < size }
+    ensures next { IfOk result (λ r. at < r.0) }
+    ensures left { IfOk result (λ r. IsLeft r.1.items schedule.now) }
+{
+    match of {
+        Some(p) => {
+            let to = place_after(schedule, at, p, size);
+            let rest = without_steps(alloc, schedule, p, at, to)?;
+            Ok((to, rest))
+        }
+        None => {
+            let to = at + usize::min(size, schedule.len() - at);
+            let rest = without(alloc, schedule, at, to)?;
+            Ok((to, rest))
+        }
+    }
+}
+
+// Leaves out each piece without which there still is a fault, from the front on: so many items at once, of all or of
+// one process.
 fn without_pieces(
     alloc: Global,
     program: &Program,
     lines: &[Property],
     schedule: Vec<u8>,
+    of: Option<u8>,
     size: usize,
 ) -> Result<Vec<u8>, NoMemory>
     requires fault { IsFault (resolved program.now) (lines_of lines.now) schedule.items }
@@ -50,33 +80,7 @@ fn without_pieces(
     let mut kept = schedule;
     let mut at = 0;
     'pieces: while at < kept.len() {
-        let to = at + usize::min(size, kept.len() - at);
-        let rest = without(alloc, &kept, at, to)?;
-        match fewer(alloc, program, lines, &kept, &rest)? {
-            Some(left) => kept = left,
-            None => at = to,
-        }
-    }
-    Ok(kept)
-}
-
-// The same of the steps of process `p`, so many of them at once.
-fn without_steps_of(
-    alloc: Global,
-    program: &Program,
-    lines: &[Property],
-    schedule: Vec<u8>,
-    p: u8,
-    size: usize,
-) -> Result<Vec<u8>, NoMemory>
-    requires { IsFault (resolved program.now) (lines_of lines.now) schedule.items }
-    ensures { IfOk result (λ kept. IsFaultOf (resolved program.now) (lines_of lines.now) schedule.items kept.items) }
-{
-    let mut kept = schedule;
-    let mut at = 0;
-    'pieces: while at < kept.len() {
-        let to = place_after(&kept, at, p, size);
-        let rest = without_steps(alloc, &kept, p, at, to)?;
+        let (to, rest) = without_piece(alloc, &kept, at, of, size)?;
         match fewer(alloc, program, lines, &kept, &rest)? {
             Some(left) => kept = left,
             None => at = to,
@@ -122,9 +126,9 @@ fn of_each(
 {
     let mut kept = schedule;
     for p in 0..program.processes() {
-        kept = without_steps_of(alloc, program, lines, kept, p, size)?;
+        kept = without_pieces(alloc, program, lines, kept, Some(p), size)?;
     }
-    without_pieces(alloc, program, lines, kept, size)
+    without_pieces(alloc, program, lines, kept, None, size)
 }
 
 // Whether the item before this place is the same: to leave out the one or the other comes to the same.

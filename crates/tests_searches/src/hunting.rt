@@ -9,3 +9,15 @@ mod programs;
 mod repeats;
 mod replay;
 mod side_by_side;
+
+use searches_hunt::{Mode, Plan};
+
+// Runs of 300 steps.
+fn plan(seed: u64, runs: u32, mode: Mode) -> Plan {
+    Plan {
+        seed,
+        runs,
+        steps: 300,
+        mode,
+    }
+}

@@ -1,12 +1,12 @@
 -- What an answer of `explore --ends` says, from what was explored and what the answer shows of it.
-use Rattle.std.proofs.Common.{◌≡◌, ◌<◌, ℕ, Bool, true, false, List, [], All, Option, refl, subst}
+use Rattle.std.proofs.Common.{◌≡◌, ◌<◌, ℕ, Bool, true, false, List, [], All, Option, refl, subst, sym}
 use Rattle.base.specs.Plain.{Name, WholeProgram}
 use Rattle.language_properties.specs.Properties.{Formula}
 use Rattle.language_properties.specs.declared.property.Property.{Property}
 use Rattle.tick_kinds.specs.Resolution.{resolved}
 use Rattle.searches_states.specs.Watching.{Told, IsWatched}
 use Rattle.searches_states.specs.declared.must_stop.MustStop.{MustStop}
-use Rattle.searches_explore.specs.Ending.{GoesOn, IfEndless, IfEnds, IfLoop, IfStuck, IsEndlessBy, IsLoopAfter, never_answer}
+use Rattle.searches_explore.specs.Ending.{CanAlwaysEnd, EndsIfFair, GoesOn, IfCanEnd, IfEndless, IfEnds, IfLoop, IfStuck, IsEndlessBy, IsLoopAfter, never_answer}
 use Rattle.searches_explore.specs.Lines.{lines_of}
 use Rattle.searches_explore.specs.Never.{AreToldFor}
 use Rattle.searches_explore.specs.declared.end_answer.EndExplored.{EndExplored}
@@ -17,7 +17,7 @@ use Rattle.ticklab_answers.specs.Ends.{HearsOf, IsEndsExplored, IsEndsFound, IsE
 use Rattle.ticklab_answers.specs.Responses.{Refuses}
 use Rattle.ticklab_answers.specs.Shown.{ShowsEnds}
 use Rattle.ticklab_answers.specs.declared.response.Response.{Response}
-use Rattle.ticklab_answers.specs.prover.Searches.{AreEndsSearchedBy}
+use Rattle.ticklab_answers.specs.prover.Searches.{AreEndsSearchedBy, IsSearchedBy}
 
 module _ (m : Bool) (a : WholeProgram ℕ) (asked : MustStop) where
   stuck_by : (k : Bool) (s : List ℕ) → StuckBy k a asked s → All (λ p. p < a.processes) s
@@ -81,6 +81,16 @@ ends_as P Q (Endless prefix cycle count) f is = tt
 ends_as P Q (Ends count) f is = f is
 ends_as P Q (CanEnd count) f is = tt
 ends_as P Q (Limit count) f is = tt
+
+-- the search was by steps of this kind
+pub ends_searched_as : (m n : Bool) → n ≡ m → (a : WholeProgram ℕ) (lines : List Property) (asked : MustStop) (limit : ℕ) {W : Type 0} (hears : HearsOf W)
+    (before after : W) (e : EndExplored) → IsSearchedBy m a lines limit hears before after (never_answer e) → IfStuck e (StuckBy m a asked)
+    → IfLoop e (IsLoopAfter a) → IfCanEnd e (CanAlwaysEnd a asked)
+    → IfEndless e (λ prefix cycle. (m ≡ false) × IsEndlessBy a asked prefix cycle × GoesOn a asked prefix cycle)
+    → IfEnds e ((m ≡ false) × EndsIfFair a asked) → AreEndsSearchedBy n a lines asked limit hears before after e
+ends_searched_as m n same a lines asked limit hears before after e never blocked loops can for_ever fair =
+    subst (λ (k : Bool). AreEndsSearchedBy k a lines asked limit hears before after e) (sym same)
+    (record { never = never; blocked = blocked; loops = loops; can = can; endless = for_ever; ends = fair })
 
 module _ (m : Bool) (input : List ℕ) (a : WholeProgram Name) (lines : List Property) (places : List TextPlace) (asked : MustStop) (limit : ℕ)
     {W : Type 0} (hears : HearsOf W) (before after : W) where

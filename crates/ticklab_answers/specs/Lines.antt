@@ -155,8 +155,7 @@ ends_line lines asked states = quiet_text lines ++ ends_text asked ++ codes " ("
 
 -- why it isn't known whether they do: endless schedules are asked for by single steps alone
 abbrev pub unknown_text : Bool → List ℕ
-unknown_text false = codes "found out"
-unknown_text true = codes "asked"
+unknown_text is_merged = if is_merged then codes "asked" else codes "found out"
 
 -- the same, where it isn't known whether they do
 abbrev pub can_end_line : Bool → ℕ → MustStop → ℕ → List ℕ
@@ -173,8 +172,7 @@ endless_line lines asked =
 
 -- whether the schedule is a shortest
 abbrev pub shorter_text : Bool → List ℕ
-shorter_text false = codes ", and after each shorter one some do:"
-shorter_text true = codes ":"
+shorter_text is_merged = if is_merged then codes ":" else codes ", and after each shorter one some do:"
 
 -- they can't end any more
 abbrev pub stuck_line : Bool → ℕ → MustStop → List ℕ

@@ -2,10 +2,8 @@
 ghost use Rattle.std.specs.Prelude.{◌<◌, All, IfOk};
 ghost use Rattle.tick_kinds.specs.Resolution.{resolved};
 
-use super::merged::{explored_merged, is_said_alike};
-use searches_explore::{
-    EndExplored, LassoAnswer, MustStop, NoMemory, Unwatched, explore_ends, explore_lasso,
-};
+use super::merged::{Search, Steps, is_said_alike};
+use searches_explore::{EndExplored, LassoAnswer, MustStop, NoMemory, explore_lasso};
 use std::alloc::Global;
 use std::test::Fail;
 use tests_shared::{accepted, holds, is_same};
@@ -69,11 +67,12 @@ fn program_of(alloc: Global, processes: &str, acts: &str) -> Result<Program, Fai
     accepted(alloc, text.as_str())
 }
 
-// Where a growth was refused, it is asked once more.
-fn explored(alloc: Global, program: &Program, asked: MustStop) -> Result<EndExplored, NoMemory> {
-    match explore_ends(alloc, program, &[], asked, 100_000, &mut Unwatched) {
-        Err(NoMemory) => explore_ends(alloc, program, &[], asked, 100_000, &mut Unwatched),
-        found => found,
+fn search_of(program: &Program, asked: MustStop) -> Search<'_> {
+    Search {
+        program,
+        lines: &[],
+        asked,
+        limit: 100_000,
     }
 }
 
@@ -92,8 +91,9 @@ fn kind_of(found: &EndExplored) -> (&'static str, usize) {
 
 // The same of a program. By merged steps it is told alike.
 fn told(alloc: Global, program: &Program, asked: MustStop) -> Result<(&'static str, usize), Fail> {
-    let found = explored(alloc, program, asked)?;
-    let merged = explored_merged(alloc, program, &[], asked, 100_000)?;
+    let search = search_of(program, asked);
+    let found = search.found(alloc, Steps::Single)?;
+    let merged = search.found(alloc, Steps::Merged)?;
     holds(is_said_alike(&found, &merged), "by merged steps")?;
     Ok(kind_of(&found))
 }
@@ -203,7 +203,10 @@ fn a_lasso_and_why_others_are_none(rt: HostRuntime) -> Result<(), Fail> {
 fn what_is_found_is_a_lasso(rt: HostRuntime) -> Result<(), Fail> {
     let alloc = rt.alloc();
     let program = program_of(alloc, "2", BOTH_GIVE_WAY)?;
-    let EndExplored::Endless { prefix, cycle, .. } = explored(alloc, &program, MustStop::All)?
+    let EndExplored::Endless { prefix, cycle, .. } = search_of(&program, MustStop::All).found(
+        alloc,
+        Steps::Single,
+    )?
     else {
         return Err(Fail::new(format_args!("it isn't endless")));
     };

@@ -5,24 +5,50 @@ use super::drawn::Drawn;
 use super::slow::Slow;
 use super::stepping::{some_trapped, words_after};
 use super::sweeps::{can_end, is_stuck, nearest_unmarked};
-use searches_explore::{EndExplored, MustStop, NoMemory, Property, Unwatched, explore_ends_merged};
+use searches_explore::{
+    EndExplored, MustStop, NoMemory, Property, Unwatched, explore_ends, explore_ends_merged,
+};
 use std::alloc::Global;
 use std::test::Fail;
 use tick_kinds::Program;
 
-/// What merged steps come to. Where a growth was refused, it is asked once more.
-pub fn explored_merged(
-    alloc: Global,
-    program: &Program,
-    lines: &[Property],
-    asked: MustStop,
-    limit: u32,
-) -> Result<EndExplored, NoMemory> {
-    match explore_ends_merged(alloc, program, lines, asked, limit, &mut Unwatched) {
-        Err(NoMemory) => {
-            explore_ends_merged(alloc, program, lines, asked, limit, &mut Unwatched)
+/// The steps of a search for ends.
+#[derive(Clone, Copy)]
+pub enum Steps {
+    Single,
+    Merged,
+}
+
+/// A search for ends.
+pub struct Search<'a> {
+    pub program: &'a Program,
+    pub lines: &'a [Property],
+    pub asked: MustStop,
+    pub limit: u32,
+}
+
+impl Search<'_> {
+    fn once(&self, alloc: Global, steps: Steps) -> Result<EndExplored, NoMemory> {
+        let Search {
+            program,
+            lines,
+            asked,
+            limit,
+        } = *self;
+        match steps {
+            Steps::Single => explore_ends(alloc, program, lines, asked, limit, &mut Unwatched),
+            Steps::Merged => {
+                explore_ends_merged(alloc, program, lines, asked, limit, &mut Unwatched)
+            }
         }
-        found => found,
+    }
+
+    /// What is found. Where a growth was refused, it is asked once more.
+    pub fn found(&self, alloc: Global, steps: Steps) -> Result<EndExplored, NoMemory> {
+        match self.once(alloc, steps) {
+            Err(NoMemory) => self.once(alloc, steps),
+            found => found,
+        }
     }
 }
 
@@ -62,30 +88,25 @@ fn is_fewer(slow: &Slow, states: u32) -> bool {
     !slow.is_faulty && (slow.is_full || states as usize <= slow.len())
 }
 
+/// A drawn program, with what is asked of it, and what the slow search saw.
+pub struct Case<'a> {
+    pub program: &'a Drawn,
+    pub lines: &'a [Line],
+    pub asked: MustStop,
+    pub slow: &'a Slow,
+}
+
 /// Whether this is so of the program. Where the slow search didn't see all, it can't say whether something is stuck.
-pub fn is_right_merged(
-    alloc: Global,
-    program: &Drawn,
-    lines: &[Line],
-    asked: MustStop,
-    slow: &Slow,
-    found: &EndExplored,
-) -> Result<bool, Fail> {
-    let marks = can_end(alloc, slow, asked)?;
+pub fn is_right_merged(alloc: Global, case: &Case<'_>, found: &EndExplored) -> Result<bool, Fail> {
+    let slow = case.slow;
+    let marks = can_end(alloc, slow, case.asked)?;
     Ok(match found {
         EndExplored::Trapped(schedule) | EndExplored::Broken { schedule, .. } => {
             (slow.is_faulty || slow.is_full)
-                && is_fault_after(alloc, program, lines, schedule, found)?
+                && is_fault_after(alloc, case.program, case.lines, schedule, found)?
         }
-        EndExplored::Stuck {
-            schedule,
-            lead_in,
-            cycle,
-            states,
-        } => {
-            is_fewer(slow, *states)
-                && (slow.is_full || is_stuck(alloc, slow, &marks, schedule, lead_in, cycle)?)
-        }
+        EndExplored::Stuck { states, .. } => is_fewer(slow, *states)
+            && (slow.is_full || is_stuck(alloc, slow, &marks, found)?),
         EndExplored::CanEnd { states } => is_fewer(slow, *states)
             && (slow.is_full || nearest_unmarked(slow, &marks).is_none()),
         EndExplored::Limit { .. } => slow.is_full,

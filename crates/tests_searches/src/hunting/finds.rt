@@ -1,28 +1,20 @@
 //! Faults that are found, each by a schedule that needs all its steps.
 
+use crate::hunting::plan;
 use crate::hunting::programs::{
     ALONE, BAKERY_WITH_FAULT, DECISION_WITH_FAULT, MULTI_WRITER_REGISTER_WITH_FAULT,
     QUEUE_WITH_FAULT, SERVICE_WITH_FAULT, SIX,
 };
 use crate::hunting::replay::{needs_all, traps};
-use searches_hunt::{Hunted, Mode, Plan, hunt};
+use searches_hunt::{Hunted, Mode, hunt};
 use std::alloc::Global;
 use std::test::Fail;
 use tests_shared::{accepted, holds};
 
-fn plan(mode: Mode, runs: u32) -> Plan {
-    Plan {
-        seed: 1,
-        runs,
-        steps: 300,
-        mode,
-    }
-}
-
 // The fault of a program is found, by a schedule that is minimal.
 fn is_found(alloc: Global, text: &str, mode: Mode) -> Result<(), Fail> {
     let program = accepted(alloc, text)?;
-    let Hunted::Found { run, schedule } = hunt(alloc, &program, plan(mode, 2_000))? else {
+    let Hunted::Found { run, schedule } = hunt(alloc, &program, plan(1, 2_000, mode))? else {
         return Err("no trap was found")?;
     };
     holds(run < 2_000, run)?;

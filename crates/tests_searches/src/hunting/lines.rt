@@ -2,7 +2,9 @@
 
 use crate::hunting::programs::{BOTH_INSIDE, WRITTEN};
 use language_properties::{Junction, Question};
-use searches_hunt::{Hunted, Mode, NeverHunted, NoMemory, Plan, Property, Trap, hunt, hunt_never};
+use searches_hunt::{
+    Hunted, InTurn, Mode, NeverHunted, NoMemory, Plan, Property, Trap, hunt, hunt_by,
+};
 use std::alloc::Global;
 use std::test::Fail;
 use tests_shared::{accepted, holds, is_same};
@@ -42,7 +44,7 @@ fn second_line_is_broken(rt: HostRuntime) -> Result<(), Fail> {
         line,
         value,
         ..
-    } = hunt_never(alloc, &program, &lines, plan(1_000), 0)?
+    } = hunt_by(&InTurn, alloc, &program, &lines, plan(1_000), 0)?
     else {
         return Err("no line was broken")?;
     };
@@ -62,7 +64,7 @@ fn line_that_traps_breaks_at_the_start(rt: HostRuntime) -> Result<(), Fail> {
     let alloc = rt.alloc();
     let program = accepted(alloc, BOTH_INSIDE)?;
     let lines = [register_of(alloc, 2)?];
-    let found = hunt_never(alloc, &program, &lines, plan(10), 7)?;
+    let found = hunt_by(&InTurn, alloc, &program, &lines, plan(10), 7)?;
     is_same(
         &found,
         &NeverHunted::Broken {
@@ -79,7 +81,14 @@ fn trap_is_told_first(rt: HostRuntime) -> Result<(), Fail> {
     let alloc = rt.alloc();
     let program = accepted(alloc, WRITTEN)?;
     let lines = [Property::Of(Question::Trapped, Box::new(alloc, Property::Number(1))?)];
-    let NeverHunted::Trapped { run, schedule } = hunt_never(alloc, &program, &lines, plan(100), 0)?
+    let NeverHunted::Trapped { run, schedule } = hunt_by(
+        &InTurn,
+        alloc,
+        &program,
+        &lines,
+        plan(100),
+        0,
+    )?
     else {
         return Err("no trap was found")?;
     };
@@ -100,11 +109,12 @@ fn parts(rt: HostRuntime) -> Result<(), Fail> {
     let alloc = rt.alloc();
     let program = accepted(alloc, WRITTEN)?;
     for from in 0..6 {
-        let whole = hunt_never(alloc, &program, &[], plan(9), from)?;
+        let whole = hunt_by(&InTurn, alloc, &program, &[], plan(9), from)?;
         for first in 0..9u32 {
-            let mut told = hunt_never(alloc, &program, &[], plan(first), from)?;
+            let mut told = hunt_by(&InTurn, alloc, &program, &[], plan(first), from)?;
             if told == NeverHunted::Nothing {
-                told = hunt_never(
+                told = hunt_by(
+                    &InTurn,
                     alloc,
                     &program,
                     &[],
@@ -123,11 +133,11 @@ fn last_runs(rt: HostRuntime) -> Result<(), Fail> {
     let alloc = rt.alloc();
     let program = accepted(alloc, BOTH_INSIDE)?;
     is_same(
-        &hunt_never(alloc, &program, &[], plan(u32::MAX), u32::MAX)?,
+        &hunt_by(&InTurn, alloc, &program, &[], plan(u32::MAX), u32::MAX)?,
         &NeverHunted::Nothing,
     )?;
     is_same(
-        &hunt_never(alloc, &program, &[], plan(2), 4_294_967_294)?,
+        &hunt_by(&InTurn, alloc, &program, &[], plan(2), 4_294_967_294)?,
         &NeverHunted::Nothing,
     )
 }

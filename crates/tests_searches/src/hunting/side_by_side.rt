@@ -1,5 +1,6 @@
 //! Runs that are tried side by side tell what they tell in turn, whatever the number of threads.
 
+use crate::hunting::plan;
 use crate::hunting::programs::{BOTH_INSIDE, QUEUE_WITH_FAULT, SERVICE_WITH_FAULT, WRITTEN};
 use searches_hunt::{InTurn, Mode, NoMemory, Plan, Trials, hunt_by};
 use searches_parallel::OnProcessors;
@@ -10,15 +11,6 @@ use tests_shared::{accepted, holds, is_same};
 use tick_kinds::Program;
 
 const JOBS: [u8; 6] = [0, 1, 2, 3, 4, 7];
-
-fn plan(mode: Mode, runs: u32) -> Plan {
-    Plan {
-        seed: 1,
-        runs,
-        steps: 300,
-        mode,
-    }
-}
 
 // The first run with a fault. Where memory was refused it is asked once more, so that these tests also pass where any
 // one growth of a hunt is refused: no answer changes in place of the error.
@@ -61,14 +53,17 @@ fn is_told_at_the_end<R: AllocGlobal + Threads + Sync>(
     from: u32,
 ) -> Result<(), Fail> {
     let program = accepted(rt.alloc(), text)?;
-    let Some(run) = told_by_all(rt, &program, plan(mode, 2_000), from)? else {
+    let Some(run) = told_by_all(rt, &program, plan(1, 2_000, mode), from)? else {
         return Err("no trap was found")?;
     };
     let before = run.saturating_sub(from);
-    is_same(&told_by_all(rt, &program, plan(mode, before), from)?, &None)?;
+    is_same(
+        &told_by_all(rt, &program, plan(1, before, mode), from)?,
+        &None,
+    )?;
     let with_it = before.saturating_add(1);
     is_same(
-        &told_by_all(rt, &program, plan(mode, with_it), from)?,
+        &told_by_all(rt, &program, plan(1, with_it, mode), from)?,
         &Some(run),
     )
 }
@@ -86,7 +81,7 @@ fn threads_tell_the_same(rt: HostRuntime) -> Result<(), Fail> {
 fn hunts_find_the_same(rt: HostRuntime) -> Result<(), Fail> {
     let program = accepted(rt.alloc(), SERVICE_WITH_FAULT)?;
     for from in [0, 100, 1_000] {
-        let plan = plan(Mode::Uniform, 1_000);
+        let plan = plan(1, 1_000, Mode::Uniform);
         let found = hunt_by(&InTurn, rt.alloc(), &program, &[], plan, from)?;
         for jobs in JOBS {
             let trials = OnProcessors { rt: &rt, jobs };
@@ -104,11 +99,11 @@ fn hunts_find_the_same(rt: HostRuntime) -> Result<(), Fail> {
 fn parts_side_by_side(rt: HostRuntime) -> Result<(), Fail> {
     let program = accepted(rt.alloc(), WRITTEN)?;
     for from in 0..6 {
-        let whole = told_by_all(&rt, &program, plan(Mode::Uniform, 9), from)?;
+        let whole = told_by_all(&rt, &program, plan(1, 9, Mode::Uniform), from)?;
         for first in 0..9u32 {
-            let mut run = told_by_all(&rt, &program, plan(Mode::Uniform, first), from)?;
+            let mut run = told_by_all(&rt, &program, plan(1, first, Mode::Uniform), from)?;
             if run.is_none() {
-                let rest = plan(Mode::Uniform, 9u32.saturating_sub(first));
+                let rest = plan(1, 9u32.saturating_sub(first), Mode::Uniform);
                 run = told_by_all(&rt, &program, rest, from.saturating_add(first))?;
             }
             holds(run == whole, (from, first))?;
@@ -122,7 +117,7 @@ fn last_runs_side_by_side(rt: HostRuntime) -> Result<(), Fail> {
     let program = accepted(rt.alloc(), BOTH_INSIDE)?;
     for from in [u32::MAX, 4_294_967_294, 4_294_967_000] {
         is_same(
-            &told_by_all(&rt, &program, plan(Mode::Uniform, u32::MAX), from)?,
+            &told_by_all(&rt, &program, plan(1, u32::MAX, Mode::Uniform), from)?,
             &None,
         )?;
     }

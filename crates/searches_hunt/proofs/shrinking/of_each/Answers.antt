@@ -18,5 +18,5 @@ returns c =
     let lines = lines_of c.args.lines.now in
     let whole = c.args.schedule.items in
     let kept = c.loop-p.kept.items in
-    IfOk-weaker c.without_pieces.result (λ s. IsFaultOf a lines kept s.items) (λ s. IsFaultOf a lines whole s.items)
-    (λ s of_kept. fault_again a lines whole kept s.items c.loop-p.invariant of_kept) c.without_pieces.ensures
+    IfOk-weaker c.without_pieces-2.result (λ s. IsFaultOf a lines kept s.items) (λ s. IsFaultOf a lines whole s.items)
+    (λ s of_kept. fault_again a lines whole kept s.items c.loop-p.invariant of_kept) c.without_pieces-2.ensures

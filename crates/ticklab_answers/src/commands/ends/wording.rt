@@ -1,7 +1,7 @@
 //! The lines of the answers to `explore --ends`.
-ghost use Rattle.std.specs.Prelude.{◌≡◌, ◌≤◌, ◌+◌, ◌++◌, IfOk, OnOk, length, string_bytes};
+ghost use Rattle.std.specs.Prelude.{◌≡◌, if◌then◌else◌, ◌≤◌, ◌+◌, ◌++◌, IfOk, OnOk, length, string_bytes};
 ghost use Rattle.std.specs.List.{list_any};
-ghost use Rattle.ticklab_answers.specs.Lines.{asked_text, can_end_line, endless_line, ends_line, ends_text, is_nobody, marked, no_process_line, numbers_text, processes_text, quiet_text, shorter_text, stuck_line, unknown_text};
+ghost use Rattle.ticklab_answers.specs.Lines.{asked_text, can_end_line, endless_line, ends_line, ends_text, is_nobody, marked, no_process_line, numbers_text, processes_text, quiet_text, stuck_line};
 
 use crate::commands::exploring::safe_text;
 use crate::counts::push_many;
@@ -146,15 +146,15 @@ pub fn can_end_line(
     line.push_str(" can still end after every schedule (")?;
     push_many(&mut line, states, "state", "states")?;
     line.push_str("); of those in which each that runs steps again and again nothing was ")?;
-    line.push_str(unknown_text(is_merged))?;
+    line.push_str(either(is_merged, "asked", "found out"))?;
     line.push_str("\n")?;
     Ok(line)
 }
 
-fn unknown_text(is_merged: bool) -> &'static str
-    ensures { result.now ≡ unknown_text is_merged }
+fn either(first: bool, one: &'static str, other: &'static str) -> &'static str
+    ensures { result.now ≡ (if first then one.now else other.now) }
 {
-    if is_merged { "asked" } else { "found out" }
+    if first { one } else { other }
 }
 
 /// They can always end, and under a schedule they don't.
@@ -181,19 +181,8 @@ pub fn stuck_line(
     let mut line = quiet(alloc, lines)?;
     line.push_str("after this schedule no further steps end ")?;
     push_asked(alloc, &mut line, asked)?;
-    line.push_str(shorter_text(is_merged))?;
+    line.push_str(either(is_merged, ":", ", and after each shorter one some do:"))?;
     Ok(line)
-}
-
-// Whether the schedule is a shortest.
-fn shorter_text(is_merged: bool) -> &'static str
-    ensures { result.now ≡ shorter_text is_merged }
-{
-    if is_merged {
-        ":"
-    } else {
-        ", and after each shorter one some do:"
-    }
 }
 
 /// There is no such process.
