@@ -38,11 +38,14 @@ class Judge:
             else:
                 wrong += asked.no_trap(found[-1].states)
         if not found[0].traps and found[0].states <= min(limits[0], MOST_STATES_OF_ENDS):
-            wrong += self.ends(program, text)
+            wrong += self.ends(program, text, found[1].states)
         return found, wrong
 
-    def ends(self, program, text):
-        """What is answered otherwise of whether all processes can still end, and the first, and the last."""
+    def ends(self, program, text, merged):
+        """What is answered otherwise of whether all processes can still end, and the first, and the last.
+
+        By merged steps, between which there are so many states, only that is asked.
+        """
         graph, every = Graph(program), range(program.processes)
         wrong = []
         for who, asked, words in (
@@ -53,6 +56,9 @@ class Judge:
             status, output = self.ask(words, text)
             if not is_ending(graph, asked, who, status, output):
                 wrong.append(f"whether {who} can still end: found {shown(status, output)}")
+            status, output = self.ask((*words, "--merged"), text)
+            if not is_merged_ending(graph, asked, who, merged, status, output):
+                wrong.append(f"whether {who} can still end, by merged steps: found {shown(status, output)}")
         return wrong
 
 
@@ -62,14 +68,29 @@ def is_ending(graph, asked, who, status, output):
     if not stuck and not graph.goes_on(asked):
         return (status, output) == told.ends(who, len(graph.depth))
     found = told.looped((told.STUCK_HEAD if stuck else told.ENDLESS_HEAD).format(who), output)
-    if status != told.STUCK or found is None:
+    if status != told.STUCK or not is_loop(graph, asked, found):
         return False
-    schedule, lead_in, cycle, is_quiet = found
-    if not graph.can_follow(schedule + lead_in + cycle) or not graph.is_loop(schedule + lead_in, cycle, asked, is_quiet):
-        return False
+    schedule, lead_in, *_ = found
     if not stuck:
         return not lead_in
     return graph.led(schedule) in stuck and len(schedule) == min(graph.depth[state] for state in stuck)
+
+
+def is_merged_ending(graph, asked, who, states, status, output):
+    """That an answer by merged steps is right: nobody is stuck anywhere, or what is told of it fits."""
+    stuck = graph.stuck(asked)
+    if not stuck:
+        return (status, output) == told.can_end(who, states)
+    found = told.looped(told.STUCK_MERGED_HEAD.format(who), output)
+    return status == told.STUCK and is_loop(graph, asked, found) and graph.led(found[0]) in stuck
+
+
+def is_loop(graph, asked, found):
+    """That what is told to repeat can follow the schedule and the steps that lead on, and is a loop."""
+    if found is None:
+        return False
+    schedule, lead_in, cycle, is_quiet = found
+    return graph.can_follow(schedule + lead_in + cycle) and graph.is_loop(schedule + lead_in, cycle, asked, is_quiet)
 
 
 class Asked:

@@ -6,6 +6,7 @@ SHORTEST = "a process traps under this schedule, and under no shorter one:"
 TRAPS = "a process traps under this schedule:"
 QUIET = "no process traps under any schedule; "
 STUCK_HEAD = QUIET + "after this schedule no further steps end {}, and after each shorter one some do:"
+STUCK_MERGED_HEAD = QUIET + "after this schedule no further steps end {}:"
 ENDLESS_HEAD = (
     QUIET + "{} can still end after every schedule, but not under this one, in which each that runs steps again and again:"
 )
@@ -22,6 +23,11 @@ def safe(states):
 def ends(who, states):
     text = f"{who} can still end after every schedule, and will if each that runs steps again and again"
     return SAFE, f"{QUIET}{text} ({states} states)\n"
+
+
+def can_end(who, states):
+    text = f"{who} can still end after every schedule ({states} states)"
+    return SAFE, f"{QUIET}{text}; of those in which each that runs steps again and again nothing was asked\n"
 
 
 def more(limit):

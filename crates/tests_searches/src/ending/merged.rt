@@ -20,6 +20,7 @@ pub enum Steps {
 }
 
 /// A search for ends.
+#[derive(Clone, Copy)]
 pub struct Search<'a> {
     pub program: &'a Program,
     pub lines: &'a [Property],
@@ -89,6 +90,7 @@ fn is_fewer(slow: &Slow, states: u32) -> bool {
 }
 
 /// A drawn program, with what is asked of it, and what the slow search saw.
+#[derive(Clone, Copy)]
 pub struct Case<'a> {
     pub program: &'a Drawn,
     pub lines: &'a [Line],
