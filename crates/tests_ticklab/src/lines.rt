@@ -3,7 +3,7 @@ use crate::asking::asked_for;
 use std::test::Fail;
 use tests_shared::is_same;
 
-static ASKED: [(&[&str], &str); 17] = [
+static ASKED: [(&[&str], &str); 18] = [
     (
         &["explore", "a.tick"],
         "Explore { file: \"a.tick\", never: [], limit: 1000000, is_merged: false }",
