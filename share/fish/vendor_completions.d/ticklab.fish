@@ -13,7 +13,7 @@ complete -c ticklab -n 'test (count (commandline -opc)) -eq 1' -a help -d 'Print
 complete -c ticklab -n 'contains -- explore (commandline -opc)[2]' -l limit -x -d 'Gives up where there are more states than this [default: 1000000]'
 complete -c ticklab -n 'contains -- explore (commandline -opc)[2]' -l merged -d 'Takes the private steps of a process with the step before them: far fewer states, and a schedule that need not be a shortest one'
 complete -c ticklab -n 'contains -- explore (commandline -opc)[2]' -l never -x -d 'Asks too whether no state has this property, like a line #! never EXPR of the program; it may be given again'
-complete -c ticklab -n 'contains -- explore (commandline -opc)[2]' -l ends -x -d 'Asks too whether all processes can still end after every schedule, or process P; not with --merged'
+complete -c ticklab -n 'contains -- explore (commandline -opc)[2]' -l ends -x -d 'Asks too whether all processes can still end after every schedule, or process P'
 complete -c ticklab -n 'contains -- explore (commandline -opc)[2]' -s h -l help -d 'Print help'
 complete -c ticklab -n 'contains -- explore (commandline -opc)[2]' -F
 complete -c ticklab -n 'contains -- lasso (commandline -opc)[2]' -s h -l help -d 'Print help'
@@ -22,6 +22,7 @@ complete -c ticklab -n 'contains -- hunt (commandline -opc)[2]' -l seed -x -d 'W
 complete -c ticklab -n 'contains -- hunt (commandline -opc)[2]' -l runs -x -d 'How many schedules there are at most [default: 10000]'
 complete -c ticklab -n 'contains -- hunt (commandline -opc)[2]' -l from -x -d 'The run that is made first, so that a hunt can be divided [default: 0]'
 complete -c ticklab -n 'contains -- hunt (commandline -opc)[2]' -l steps -x -d 'How many steps a schedule has at most [default: 300]'
+complete -c ticklab -n 'contains -- hunt (commandline -opc)[2]' -l jobs -x -d 'How many schedules are tried side by side, 1 to 64 [default: as many as there are processors]'
 complete -c ticklab -n 'contains -- hunt (commandline -opc)[2]' -l uniform -d 'Each step is of any process alike, in place of bursts of steps of one'
 complete -c ticklab -n 'contains -- hunt (commandline -opc)[2]' -l never -x -d 'Asks too that no state has this property, like a line #! never EXPR of the program; it may be given again'
 complete -c ticklab -n 'contains -- hunt (commandline -opc)[2]' -l threads -x -d 'Runs the code on threads instead, so many times, each process for at most so many turns; and prints how often each outcome came'
