@@ -1,12 +1,14 @@
 //! `tests_searches` tests the searches through states and programs, and the hunt through random schedules.
 //!
-//! `searching` has small machines whose answers are known. `exploring` tests what a watch is told of an
+//! `collapsed` tests how states are kept. `searching` has small machines whose answers are known. `exploring` tests what a watch is told of an
 //! exploration. `ending` compares what `explore_ends` answers on drawn programs with a slow search, and has known
 //! programs. `fairness` does the same with drawn machines. `hunting` tests hunts through programs. `examples` has texts
 //! of programs. What `explore` answers on programs stands in `answers/states.txt`.
 //! Start with `searching`.
 #![tactic(auto)]
 
+#[cfg(test)]
+mod collapsed;
 #[cfg(test)]
 mod ending;
 #[cfg(test)]

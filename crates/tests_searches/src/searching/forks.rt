@@ -1,6 +1,5 @@
 //! Two processes at a fork: one way leads to an end, the other to a place from which nobody leads on.
-ghost use Rattle.std.specs.Prelude.{◌≡◌, ◌<◌, ◌==◌, ℕ, nat_lt, if◌then◌else◌};
-ghost use Rattle.std.proofs.lemmas.Bool.{eqb-true};
+ghost use Rattle.std.specs.Prelude.{◌≡◌, ◌<◌, ◌==◌, ℕ, length, nat_lt, if◌then◌else◌, slice_index};
 ghost use Rattle.tests_searches.specs.Machines.{forked, idle_within, nobody_else, stays_within};
 
 use searches_states::{EndSearched, Machine, MustStop, NoMemory, Unwatched, search_ends};
@@ -14,15 +13,17 @@ struct Forks {
 }
 
 impl Machine for Forks {
-    type State = u32;
-
     ghost Value = { ℕ };
 
-    ghost view = { λ forks place. place };
+    ghost view = { λ forks words. slice_index words 0 };
 
-    ghost fits = { λ forks place. place < 4 };
+    ghost fits = { λ forks words. (length words ≡ 1) × (slice_index words 0 < 4) };
 
     ghost processes = { λ forks. 2 };
+
+    ghost shared_words = { λ forks. 1 };
+
+    ghost own_words = { λ forks. 0 };
 
     ghost next = { λ forks p place. if nat_lt p 2 then forked p place else place };
 
@@ -30,37 +31,45 @@ impl Machine for Forks {
 
     ghost stopped = { λ forks p place. place == 2 };
 
-    ghost same = { λ forks x y e. eqb-true x y e };
+    ghost fits_whole = { λ forks words fits. fits.0 };
 
     ghost others_idle = { λ forks p place idle. nobody_else 2 p (forked p place) place idle };
 
     ghost stays_stopped = { λ forks p q place stopped. stays_within q place stopped };
 
-    ghost stopped_idle = { λ forks p place fits stopped. idle_within p place stopped };
+    ghost stopped_idle = { λ forks p words fits stopped. idle_within p (slice_index words 0) stopped };
 
     fn processes(&self) -> u8 {
         2
     }
 
-    fn step(&self, _alloc: Global, place: &u32, process: u8) -> Result<u32, NoMemory> {
-        Ok(match (process, *place) {
+    fn shared_words(&self) -> u16 {
+        1
+    }
+
+    fn own_words(&self) -> u16 {
+        0
+    }
+
+    fn step(&self, words: &mut [u32], process: u8) {
+        words[0] = match (process, words[0]) {
             (0, 0) => 1,
             (_, 0) => 3,
             (0, 1) => 2,
             (_, same) => same,
-        })
+        };
     }
 
-    fn is_bad(&self, place: &u32) -> bool {
-        *place == self.bad
+    fn is_bad(&self, words: &[u32]) -> bool {
+        words[0] == self.bad
     }
 
-    fn is_bad_beside(&self, _before: &u32, after: &u32) -> bool {
+    fn is_bad_beside(&self, _before: &[u32], after: &[u32]) -> bool {
         self.is_bad(after)
     }
 
-    fn has_stopped(&self, place: &u32, _process: u8) -> bool {
-        *place == 2
+    fn has_stopped(&self, words: &[u32], _process: u8) -> bool {
+        words[0] == 2
     }
 }
 
@@ -68,12 +77,12 @@ impl Machine for Forks {
 fn searched(alloc: Global, forks: &Forks, start: u32, limit: u32) -> Result<EndSearched, NoMemory>
     requires { start < 4 }
 {
-    match search_ends(alloc, forks, MustStop::All, start, limit, &mut Unwatched) {
+    match search_ends(alloc, forks, MustStop::All, &[start], limit, &mut Unwatched) {
         Err(NoMemory) => search_ends(
             alloc,
             forks,
             MustStop::Each([false, true, false, false, false, false]),
-            start,
+            &[start],
             limit,
             &mut Unwatched,
         ),

@@ -1,7 +1,7 @@
 //! Two jugs that hold three and five: to measure four takes six steps and no fewer. Two jugs that hold even
 //! numbers never measure five.
-ghost use Rattle.std.specs.Prelude.{◌≡◌, ◌<◌, ◌≤◌, ◌==◌, ◌&&◌, ◌||◌, ℕ, Bool, false, nat_lt, if◌then◌else◌};
-ghost use Rattle.tests_searches.specs.Machines.{poured, nobody_else, none_stops, same_jugs};
+ghost use Rattle.std.specs.Prelude.{◌≡◌, ◌<◌, ◌≤◌, ◌==◌, ◌&&◌, ◌||◌, ℕ, Bool, false, length, nat_lt, if◌then◌else◌, slice_index};
+ghost use Rattle.tests_searches.specs.Machines.{poured, nobody_else, none_stops};
 
 use searches_states::{Machine, NoMemory, Searched, Unwatched, search};
 use std::alloc::Global;
@@ -10,21 +10,23 @@ use tests_shared::{holds, is_same};
 
 #[derive(Clone, Copy, Debug)]
 struct Jugs {
-    left: u8,
-    right: u8,
-    measured: u8,
+    left: u32,
+    right: u32,
+    measured: u32,
 }
 
 impl Machine for Jugs {
-    type State = (u8, u8);
-
     ghost Value = { ℕ × ℕ };
 
-    ghost view = { λ machine jugs. jugs };
+    ghost view = { λ machine words. (slice_index words 0, slice_index words 1) };
 
-    ghost fits = { λ machine jugs. (jugs.0 ≤ machine.left) × (jugs.1 ≤ machine.right) };
+    ghost fits = { λ machine words. (length words ≡ 2) × (slice_index words 0 ≤ machine.left) × (slice_index words 1 ≤ machine.right) };
 
     ghost processes = { λ machine. 6 };
+
+    ghost shared_words = { λ machine. 2 };
+
+    ghost own_words = { λ machine. 0 };
 
     ghost next = { λ machine p jugs. if nat_lt p 6 then poured machine.left machine.right p jugs else jugs };
 
@@ -32,7 +34,7 @@ impl Machine for Jugs {
 
     ghost stopped = { λ machine p value. false };
 
-    ghost same = { λ machine x y e. same_jugs x y e };
+    ghost fits_whole = { λ machine words fits. fits.0 };
 
     ghost others_idle = { λ machine p jugs idle. nobody_else 6 p (poured machine.left machine.right p jugs) jugs idle };
 
@@ -44,43 +46,53 @@ impl Machine for Jugs {
         6
     }
 
-    fn step(&self, _alloc: Global, jugs: &(u8, u8), process: u8) -> Result<(u8, u8), NoMemory> {
-        let (left, right) = *jugs;
+    fn shared_words(&self) -> u16 {
+        2
+    }
+
+    fn own_words(&self) -> u16 {
+        0
+    }
+
+    fn step(&self, jugs: &mut [u32], process: u8) {
+        let (left, right) = (jugs[0], jugs[1]);
         let to_right = left.min(self.right - right);
         let to_left = right.min(self.left - left);
-        Ok(match process {
+        let (left, right) = match process {
             0 => (self.left, right),
             1 => (left, self.right),
             2 => (0, right),
             3 => (left, 0),
             4 => (left - to_right, right + to_right),
             _ => (left + to_left, right - to_left),
-        })
+        };
+        jugs[0] = left;
+        jugs[1] = right;
     }
 
-    fn is_bad(&self, jugs: &(u8, u8)) -> bool {
-        jugs.0 == self.measured || jugs.1 == self.measured
+    fn is_bad(&self, jugs: &[u32]) -> bool {
+        jugs[0] == self.measured || jugs[1] == self.measured
     }
 
-    fn is_bad_beside(&self, _before: &(u8, u8), after: &(u8, u8)) -> bool {
+    fn is_bad_beside(&self, _before: &[u32], after: &[u32]) -> bool {
         self.is_bad(after)
     }
 
-    fn has_stopped(&self, _state: &(u8, u8), _process: u8) -> bool {
+    fn has_stopped(&self, _jugs: &[u32], _process: u8) -> bool {
         false
     }
 }
 
 // Where a growth was refused, it is asked once more.
 fn searched(alloc: Global, jugs: &Jugs, limit: u32) -> Result<Searched, NoMemory> {
-    match search(alloc, jugs, (0, 0), limit, &mut Unwatched) {
-        Err(NoMemory) => search(alloc, jugs, (0, 0), limit, &mut Unwatched),
+    match search(alloc, jugs, &[0, 0], limit, &mut Unwatched) {
+        Err(NoMemory) => search(alloc, jugs, &[0, 0], limit, &mut Unwatched),
         found => found,
     }
 }
 
 // So much is measured by jugs that hold so much.
-fn measuring(measured: u8, left: u8, right: u8) -> Jugs {
+fn measuring(measured: u32, left: u32, right: u32) -> Jugs {
     Jugs {
         left,
         right,
