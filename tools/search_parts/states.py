@@ -6,10 +6,11 @@ NOTHING_LEFT, ENDED = (), None
 
 
 class Shared(NamedTuple):
-    """The tickets of the processes, and the register rows."""
+    """The tickets of the processes, the register rows, and what each process may still do."""
 
     tickets: tuple
     rows: tuple
+    may: tuple
 
 
 class Own(NamedTuple):
@@ -26,7 +27,24 @@ def begun(program):
     none = (0,) * program.processes
     way = (0,) if program.statements else NOTHING_LEFT
     owns = [Own(me, way, (0,) * program.variables, (none,) * program.scans) for me in range(program.processes)]
-    return Shared(none, (none,) * program.rows), owns
+    may = (still(program, way),) * program.processes
+    return Shared(none, (none,) * program.rows, may), owns
+
+
+def behind(way):
+    return (*way[:-1], way[-1] + 1)
+
+
+def still(program, way):
+    """What the statements do that may still come from a way on: of which rows, and with tickets."""
+    found = set()
+    while way:
+        *front, first = way
+        found.update(program.does(front, first))
+        way = way[:-2]
+        if way and program.statements[way].word == "if":
+            way = behind(way)
+    return frozenset(found)
 
 
 def replaced(values, place, value):

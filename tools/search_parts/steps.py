@@ -2,8 +2,8 @@
 from typing import NamedTuple
 
 from . import statements
-from .states import ENDED, NOTHING_LEFT
-from .values import Trap
+from .states import ENDED, NOTHING_LEFT, behind, replaced, still
+from .values import Trap, values_of
 
 # What no other process sees, besides the end; and how many such steps a merged one takes along.
 PRIVATE = {"=", "copy", "older", "held", "out", "if", "while"}
@@ -25,9 +25,10 @@ def single(program, own, shared):
     if own.way == NOTHING_LEFT:
         return Step(own._replace(way=ENDED), shared, None, 1)
     try:
-        return Step(*moved(program, own, shared), None, 1)
+        own, shared = moved(program, own, shared)
     except Trap as trap:
         return Step(own, shared, str(trap), 1)
+    return Step(own, shared._replace(may=replaced(shared.may, own.me, still(program, own.way))), None, 1)
 
 
 def moved(program, own, shared):
@@ -39,10 +40,6 @@ def moved(program, own, shared):
         own, shared = statements.done(statement, own, shared)
     way = behind(own.way) if block is None else (*own.way, block, 0)
     return own._replace(way=settled(program, way)), shared
-
-
-def behind(way):
-    return (*way[:-1], way[-1] + 1)
 
 
 def settled(program, way):
@@ -57,15 +54,40 @@ def settled(program, way):
 def merged(program, own, shared):
     step = single(program, own, shared)
     for _ in range(MOST_PRIVATE):
-        if step.trap or not is_private(program, step.own):
+        if step.trap or not is_private(program, step.own, step.shared):
             break
         following = single(program, step.own, step.shared)
         step = following._replace(length=step.length + 1)
     return step
 
 
-def is_private(program, own):
-    """That a process has a next step, and that no other sees it."""
+def is_private(program, own, shared):
+    """That a process has a next step, and that no other sees it any more or changes what it does."""
     if own.way in (NOTHING_LEFT, ENDED):
         return own.way == NOTHING_LEFT
-    return program.statements[own.way].word in PRIVATE
+    statement = program.statements[own.way]
+    return statement.word in PRIVATE or met_by(statement, own, shared).isdisjoint(others(own, shared))
+
+
+def others(own, shared):
+    """What other processes may still do."""
+    return set().union(*(may for process, may in enumerate(shared.may) if process != own.me))
+
+
+def met_by(statement, own, shared):
+    """What others may do that sees the step or changes what it does."""
+    if statement.word == "get":
+        return read_by(statement, own, shared)
+    if statement.word == "put":
+        return {("get", *statement.names)}
+    return {("change",)} if statement.word == "scan" else {("change",), ("scan",)}
+
+
+def read_by(statement, own, shared):
+    """The write of what is read, where the process that has it is another and may still write it."""
+    try:
+        [process] = values_of(statement.expressions, own, len(shared.tickets))
+    except Trap:
+        return set()
+    may = shared.may[process] if process < len(shared.may) and process != own.me else set()
+    return may & {("put", statement.names[1])}

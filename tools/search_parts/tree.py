@@ -28,6 +28,23 @@ class Program:
         self.processes, (self.variables, self.scans, self.rows) = processes, counts
         self.statements = dict(with_ways(body))
 
+    def does(self, front, first):
+        """What the statements of a block do from one of them on, and those inside."""
+        count = len(front)
+        for way, statement in self.statements.items():
+            if list(way[:count]) == front and len(way) > count and way[count] >= first:
+                yield from deed(statement)
+
+
+def deed(statement):
+    """What a statement does by which others can tell, or by which it can tell what they do."""
+    if statement.word in ("get", "put"):
+        yield statement.word, statement.names[-1]
+    elif statement.word in ("stamp", "clear"):
+        yield ("change",)
+    elif statement.word == "scan":
+        yield ("scan",)
+
 
 def with_ways(block, front=()):
     for number, statement in enumerate(block):

@@ -5,6 +5,7 @@ RIGHT_SECTION, RIGHT_BEGUN = tree.Reader.section, states.begun
 RIGHT_DONE, RIGHT_BLOCK = statements.done, statements.block_after
 RIGHT_SETTLED, RIGHT_FURTHER = steps.settled, searching.further
 RIGHT_SINGLE, RIGHT_MERGED, RIGHT_PRIVATE = steps.single, steps.merged, steps.is_private
+RIGHT_MET = steps.met_by
 RIGHT_FOLLOWING = ending.Graph.following
 
 
@@ -160,13 +161,28 @@ def following_without_last(graph, state):
     return [*list(RIGHT_FOLLOWING(graph, state))[:-1], state]
 
 
-def is_private_statement(program, own):
-    return own.way != states.NOTHING_LEFT and RIGHT_PRIVATE(program, own)
+def is_private_statement(program, own, shared):
+    return own.way != states.NOTHING_LEFT and RIGHT_PRIVATE(program, own, shared)
+
+
+def still_without_loops(program, way):
+    """Who is in a loop doesn't come to what stands before."""
+    found = set()
+    while way:
+        *front, first = way
+        found.update(program.does(front, first))
+        way = states.behind(way[:-2]) if way[:-2] else ()
+    return frozenset(found)
+
+
+def met_by_others(words):
+    """Of these statements others are met by something else."""
+    return lambda statement, own, shared: words.get(statement.word) or RIGHT_MET(statement, own, shared)
 
 
 def merged_behind_shared(program, own, shared):
     """A first step that is private takes none along."""
-    makes = RIGHT_SINGLE if steps.is_private(program, own) else RIGHT_MERGED
+    makes = RIGHT_SINGLE if steps.is_private(program, own, shared) else RIGHT_MERGED
     return makes(program, own, shared)
 
 
@@ -241,6 +257,13 @@ CASES = (
     ("no end is taken along", steps, "is_private", is_private_statement),
     ("`get` is private", steps, "PRIVATE", {*steps.PRIVATE, "get"}),
     ("`scan` is private", steps, "PRIVATE", {*steps.PRIVATE, "scan"}),
+    ("nobody else does anything any more", steps, "others", lambda own, shared: set()),
+    ("who is in a loop doesn't come to what stands before", steps, "still", still_without_loops),
+    ("`put` is met by `put`", steps, "met_by", met_by_others({"put": {("put", 0), ("put", 1)}})),
+    ("`scan` is met by `scan`", steps, "met_by", met_by_others({"scan": {("scan",)}})),
+    ("`stamp` isn't met by `scan`", steps, "met_by", met_by_others({"stamp": {("change",)}})),
+    ("`clear` isn't met by `stamp`", steps, "met_by", met_by_others({"clear": {("scan",)}})),
+    ("`get` of what nobody has is met", steps, "read_by", lambda statement, own, shared: {("put", statement.names[1])}),
     *((f"`{word}` is shared", steps, "PRIVATE", steps.PRIVATE - {word}) for word in sorted(steps.PRIVATE)),
     ("a private step takes none along", steps, "merged", merged_behind_shared),
     ("the next shared step is taken along", steps, "merged", merged_with_next),

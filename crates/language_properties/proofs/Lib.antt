@@ -3,4 +3,4 @@ pub mod Counting
 mod Examples
 pub mod Offered
 pub mod ValueLaws
-pub mod WithoutStatuses
+pub mod Asking

@@ -2,5 +2,5 @@ pub mod Properties
 pub mod Values
 pub mod Seen
 pub mod Laws
-pub mod WithoutStatuses
+pub mod Asking
 pub mod prover

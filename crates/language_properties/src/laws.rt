@@ -1,6 +1,6 @@
 // What holds of all properties.
 ghost use Rattle.language_properties.specs.Laws.{AlikeLaw, ValuesLaw};
-ghost use Rattle.language_properties.specs.WithoutStatuses.{StatuslessLaw};
+ghost use Rattle.language_properties.specs.Asking.{UnaskedLaw};
 
 /// `not (not e)` is 1 where `e` isn't 0; `e or f` is `not ((not e) and (not f))`; `some p: e` is
 /// `not (all p: not e)`.
@@ -16,8 +16,8 @@ pub fn law_alike()
     ensures { AlikeLaw }
 {}
 
-/// A property that doesn't ask who has ended or trapped has the same value whoever has.
-#[tactic(auto, using(crate::proofs::WithoutStatuses::statusless_law))]
-pub fn law_statusless()
-    ensures { StatuslessLaw }
+/// A property that doesn't ask for a part of what is seen has the same value whatever that part is.
+#[tactic(auto, using(crate::proofs::Asking::unasked_law))]
+pub fn law_unasked()
+    ensures { UnaskedLaw }
 {}

@@ -6,12 +6,13 @@
 //! Start with `Property`.
 #![tactic(auto)]
 
+mod asks;
 pub mod laws;
 mod property;
-mod statusless;
 mod value;
 mod visible;
 
+pub use asks::Part;
 pub use base::{Op, Status, Trap};
 pub use property::{Junction, Property, Quantifier, Question};
 pub use visible::Visible;
