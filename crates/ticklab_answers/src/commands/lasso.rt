@@ -9,7 +9,7 @@ ghost use Rattle.ticklab_answers.specs.Stops.{IfRefused};
 
 use crate::commands::ends::{asked_in, loop_shown, push_processes};
 use crate::fault::LabFault;
-use crate::files::{bytes_of, text_of};
+use crate::files::{bytes_of, is_input, reads_input, text_of};
 use crate::host::Files;
 use crate::reading::{schedule_of, spelled_program_of};
 use crate::response::{LIMIT, NO_LOOP, Response, answer, settled};
@@ -38,8 +38,9 @@ pub fn lassoed<F: Files>(
     ensures err { IfErr result (IsOfFileThat (IsOfThree file.now prefix.now cycle.now)) }
 {
     let input = bytes_of(alloc, files, file)?;
-    let (first_from, first) = text_of(alloc, files, prefix)?;
-    let (second_from, second) = text_of(alloc, files, cycle)?;
+    let (first_from, first) = text_of(alloc, files, prefix, is_input(file))?;
+    let is_read = is_input(file) || reads_input(prefix);
+    let (second_from, second) = text_of(alloc, files, cycle, is_read)?;
     let bytes = input.as_slice();
     let answered = checked(alloc, file, bytes, first_from, &first, second_from, &second);
     Ok(settled(alloc, answered)?)

@@ -11,18 +11,18 @@ use Rattle.ticklab_answers.proofs.commands.told_run.run_told.Goals as goal
 pub returns-in-Err-clause-refused : goal.returns-in-Err-clause-refused
 returns-in-Err-clause-refused c =
     refused_as {P = IsUnexplored c.args.name.now (texts_of c.args.never.now) c.args.input.now}
-    {Q = IsUnrun c.args.name.now (texts_of c.args.never.now) c.args.input.now c.args.from.now c.args.schedule.now c.args.is_code} c.in-Err.stop
-    (unexplored_unrun _ _ _ c.args.from.now c.args.schedule.now c.args.is_code) c.in-Err.ensures.refused
+    {Q = IsUnrun c.args.name.now (texts_of c.args.never.now) c.args.input.now c.args.from.now c.args.schedule.now c.args.side} c.in-Err.stop
+    (unexplored_unrun _ _ _ c.args.from.now c.args.schedule.now c.args.side) c.in-Err.ensures.refused
 
-pub returns-in_err-steps-clause-refused : goal.returns-in_err-steps-clause-refused
-returns-in_err-steps-clause-refused c =
-    schedule_unrun c.in-Ok.ensures.asks c.args.from.now c.args.schedule.now c.args.is_code c.processes-n.result c.processes-n.ensures.count
-    c.from_residual.result _ c.from_residual.ensures.1 c.in_err-steps.ensures.refused
+pub returns-in_err-given-clause-refused : goal.returns-in_err-given-clause-refused
+returns-in_err-given-clause-refused c =
+    schedule_unrun c.in-Ok.ensures.asks c.args.from.now c.args.schedule.now c.args.side c.processes-n.result c.processes-n.ensures.count
+    c.from_residual.result _ c.from_residual.ensures.1 c.in_err-given.ensures.refused
 
 pub returns-in_err-out-clause-refused : goal.returns-in_err-out-clause-refused
 returns-in_err-out-clause-refused c =
-    code_unrun c.in-Ok.ensures.asks c.args.from.now c.args.schedule.now c.args.is_code c.processes-n.result c.processes-n.ensures.count
-    c.from_residual-in_err-out.result _ c.from_residual-in_err-out.ensures.1 c.in_ok-steps.steps.items c.in_ok-steps.ensures.ok c.in_err-out.ensures.refused
+    code_unrun c.in-Ok.ensures.asks c.args.from.now c.args.schedule.now c.args.side c.processes-n.result c.processes-n.ensures.count
+    c.from_residual-in_err-out.result _ c.from_residual-in_err-out.ensures.1 c.in_ok-given.steps.items c.in_ok-given.ensures.ok c.in_err-out.ensures.refused
 
 pub returns-clause-ok : goal.returns-clause-ok
 returns-clause-ok c =
@@ -37,9 +37,9 @@ returns-clause-ok c =
     record {
       status = c.output.ensures.status;
       quiet = c.output.ensures.told;
-      out = run_by (IsTold c.args.telling c.args.is_code name texts input) (asks_of known) c.args.schedule.now
-          c.processes-n.result c.processes-n.ensures.count c.in_ok-steps.steps.items given c.in_ok-steps.ensures.ok
+      out = run_by (IsTold c.args.telling c.args.side name texts input) (asks_of known) c.args.schedule.now
+          c.processes-n.result c.processes-n.ensures.count c.in_ok-given.steps.items given c.in_ok-given.ensures.ok
           c.as_slice-steps.ensures.value out _ (ap (λ out. out.items) c.output.ensures.out)
-          (subst (λ (places : List TextPlace). IsToldWith c.args.telling c.args.is_code name lines places input p given out)
+          (subst (λ (places : List TextPlace). IsToldWith c.args.telling c.args.side name lines places input p given out)
           known.stand c.in_ok-out.ensures.ok);
     }
