@@ -46,10 +46,10 @@ module _ {F M W : Type 0} (Reads : ReadsOf F) (ReadsInput : ReadsInputOf F) (Ran
   Responds (Hunt file never seed runs from steps is_uniform jobs) response =
       (ran ≡ rested) × (heard ≡ quiet) × Hunts Reads ReadsInput before after file never (plan_of seed runs steps is_uniform) from response
   Responds (Runs file times turns) response = (heard ≡ quiet) × Tallies Reads ReadsInput Ran before after rested ran file times turns response
-  Responds (Trace file schedule never is_code) response =
-      (ran ≡ rested) × (heard ≡ quiet) × Traces Reads ReadsInput before after file schedule never is_code response
-  Responds (Draw file schedule never is_code) response =
-      (ran ≡ rested) × (heard ≡ quiet) × Draws Reads ReadsInput before after file schedule never is_code response
+  Responds (Trace file schedule never side) response =
+      (ran ≡ rested) × (heard ≡ quiet) × Traces Reads ReadsInput before after file schedule never side response
+  Responds (Draw file schedule never side) response =
+      (ran ≡ rested) × (heard ≡ quiet) × Draws Reads ReadsInput before after file schedule never side response
   Responds (Explain file schedule) response = (ran ≡ rested) × (heard ≡ quiet) × Explains Reads ReadsInput before after file schedule response
   Responds (Labels processes moves) response = (ran ≡ rested) × (heard ≡ quiet) × (after ≡ before) × DrawsLabels processes moves response
 
@@ -73,8 +73,8 @@ NamesOf (Ends file never process limit is_merged) name = name ≡ file
 NamesOf (Lasso file prefix cycle) name = IsOfThree file prefix cycle name
 NamesOf (Hunt file never seed runs from steps is_uniform jobs) name = name ≡ file
 NamesOf (Runs file times turns) name = name ≡ file
-NamesOf (Trace file schedule never is_code) name = IsEither file schedule name
-NamesOf (Draw file schedule never is_code) name = IsEither file schedule name
+NamesOf (Trace file schedule never side) name = IsEither file schedule name
+NamesOf (Draw file schedule never side) name = IsEither file schedule name
 NamesOf (Explain file schedule) name = IsOneOf file schedule name
 NamesOf (Labels processes moves) name = ⊥
 

@@ -1,5 +1,6 @@
 -- Why there is no answer, and the exit status that tells it.
-use Rattle.std.specs.Prelude.{◌≡◌, ◌⊎◌, ⊤, ℕ, List, ◌∷◌, Option, Some, None, string_bytes}
+use Rattle.std.specs.Prelude.{◌≡◌, ◌⊎◌, ⊤, ℕ, List, Option, Some, None, string_bytes}
+use Rattle.ticklab_answers.specs.Reading.{schedule_file}
 use Rattle.ticklab_answers.specs.declared.fault.LabFault.{LabFault}
 use Rattle.ticklab_answers.specs.declared.fault.LabFault.TheVariants.{Words, Unread, Host, Answer}
 
@@ -26,13 +27,13 @@ IsOfFileThat P (Answer fault) = ⊤
 abbrev pub IsOfFile : List ℕ → LabFault → Type 0
 IsOfFile file = IsOfFileThat (λ name. name ≡ file)
 
--- the file that a schedule is in, after an `@`
+-- the file that a schedule is in
 abbrev pub IsOfSchedule : List ℕ → LabFault → Type 0
-IsOfSchedule schedule = IsOfFileThat (λ name. schedule ≡ 64 ∷ name)
+IsOfSchedule schedule = IsOfFileThat (λ name. schedule_file schedule ≡ Some name)
 
 -- a file, or the one that a schedule is in
 abbrev pub IsEither : List ℕ → List ℕ → List ℕ → Type 0
-IsEither file schedule name = (name ≡ file) ⊎ (schedule ≡ 64 ∷ name)
+IsEither file schedule name = (name ≡ file) ⊎ (schedule_file schedule ≡ Some name)
 
 abbrev pub IsOneOf : List ℕ → Option (List ℕ) → List ℕ → Type 0
 IsOneOf file None name = name ≡ file

@@ -1,5 +1,5 @@
 -- What `lasso` answers: whether a cycle after a prefix, both schedules of a program, can be gone round for ever.
-use Rattle.std.specs.Prelude.{◌≡◌, ◌<◌, ◌⊎◌, ℕ, List, [], ◌∷◌, Option, Some, None, Ok}
+use Rattle.std.specs.Prelude.{◌≡◌, ◌<◌, ◌⊎◌, ◌||◌, ℕ, List, [], Option, Some, None, Ok}
 use Rattle.base.specs.Plain.{Name, WholeProgram}
 use Rattle.tick_kinds.specs.Resolution.{resolved}
 use Rattle.tick_source.specs.Source.{source}
@@ -19,7 +19,7 @@ use Rattle.ticklab_answers.specs.Ends.{asked_by}
 use Rattle.ticklab_answers.specs.Faults.{IsEither}
 use Rattle.ticklab_answers.specs.Lines.{left_out_line, long_line, loop_line, open_line, stopped_line}
 use Rattle.ticklab_answers.specs.Loops.{IsLoopText}
-use Rattle.ticklab_answers.specs.Reading.{IsRead, IsSchedule, ReadsOf, ReadsInputOf}
+use Rattle.ticklab_answers.specs.Reading.{IsRead, IsSchedule, ReadsOf, ReadsInputOf, is_input, reads_input, schedule_file}
 use Rattle.ticklab_answers.specs.Responses.{Gives, Refuses}
 use Rattle.ticklab_answers.specs.declared.response.Response.{Response}
 
@@ -76,10 +76,10 @@ pub data ChecksLasso (name input first_from first second_from second : List ℕ)
 abbrev pub Lassoes : {F : Type 0} → ReadsOf F → ReadsInputOf F → F → F → List ℕ → List ℕ → List ℕ → Response → Type 0
 Lassoes {F} Reads ReadsInput before after file prefix cycle response =
     (input : List ℕ) × (opened : F) × IsRead Reads ReadsInput before file input opened
-    × (first_from : List ℕ) × (first : List ℕ) × (between : F) × IsSchedule Reads ReadsInput opened between prefix first_from first
-    × (second_from : List ℕ) × (second : List ℕ) × IsSchedule Reads ReadsInput between after cycle second_from second
+    × (first_from : List ℕ) × (first : List ℕ) × (between : F) × IsSchedule Reads ReadsInput (is_input file) opened between prefix first_from first
+    × (second_from : List ℕ) × (second : List ℕ) × IsSchedule Reads ReadsInput (is_input file || reads_input prefix) between after cycle second_from second
     × ChecksLasso file input first_from first second_from second response
 
 -- a file, or one that the prefix or the cycle is in
 abbrev pub IsOfThree : List ℕ → List ℕ → List ℕ → List ℕ → Type 0
-IsOfThree file prefix cycle name = IsEither file prefix name ⊎ (cycle ≡ 64 ∷ name)
+IsOfThree file prefix cycle name = IsEither file prefix name ⊎ (schedule_file cycle ≡ Some name)

@@ -1,8 +1,52 @@
 -- What is read: the bytes of a file or of standard input, and the schedule that a command line gives.
-use Rattle.std.specs.Prelude.{◌≡◌, ◌<◌, ℕ, Bool, true, false, List, ◌∷◌, codes, bytes_eq, length}
+use Rattle.std.specs.Prelude.{◌≡◌, ◌<◌, ◌+◌, ◌==◌, ◌&&◌, ℕ, Bool, true, false, List, [], ◌∷◌, Option, Some, None, codes, bytes_eq, drop, eqb, length, take, if◌then◌else◌}
+use Rattle.std.specs.List.{ends_with, position}
+use Rattle.std.specs.Option.{option_map_or}
 
-abbrev pub BeginsWithAt : List ℕ → Type 0
-BeginsWithAt text = (name : List ℕ) × (text ≡ 64 ∷ name)
+-- the name that follows an @
+abbrev pub after_at : List ℕ → Option (List ℕ)
+after_at [] = None
+after_at (byte ∷ name) = if eqb byte 64 then Some name else None
+
+-- the file that has the schedule, where the command line does not give it itself; it is standard input where the name
+-- is `-`
+abbrev pub schedule_file : List ℕ → Option (List ℕ)
+schedule_file given = if bytes_eq given (codes "-") then Some given else after_at given
+
+-- whether standard input is read for the file of this name, and for the schedule
+abbrev pub is_input : List ℕ → Bool
+is_input name = bytes_eq name (codes "-")
+
+abbrev pub is_input_or_none : Option (List ℕ) → Bool
+is_input_or_none None = false
+is_input_or_none (Some name) = is_input name
+
+abbrev pub reads_input : List ℕ → Bool
+reads_input given = is_input_or_none (schedule_file given)
+
+abbrev pub is_newline : ℕ → Bool
+is_newline byte = byte == 10
+
+abbrev pub line_before : Option ℕ → List ℕ → List ℕ
+line_before None text = text
+line_before (Some at) text = take at text
+
+-- a text up to its first newline
+abbrev pub first_line : List ℕ → List ℕ
+first_line text = line_before (position is_newline text) text
+
+abbrev pub line_behind : Option ℕ → List ℕ → Option (List ℕ)
+line_behind None text = None
+line_behind (Some at) text = if ends_with eqb (take at text) (codes ":") then Some (first_line (drop (at + 1) text)) else None
+
+-- The line of an answer that has its schedule: the second, where the first ends in a colon.
+abbrev pub schedule_line : List ℕ → Option (List ℕ)
+schedule_line text = line_behind (position is_newline text) text
+
+-- The schedule in a text: that line with the newline before it, so that places in it are those of the text; or else all of
+-- the text.
+abbrev pub schedule_in : List ℕ → List ℕ
+schedule_in text = option_map_or (λ line. 10 ∷ line) (schedule_line text) text
 
 -- what files are before one of a name is read, how many of its bytes are read at most, these, and what files are after
 abbrev pub ReadsOf : Type 0 → Type 1
@@ -23,10 +67,12 @@ module _ {F : Type 0} (Reads : ReadsOf F) (ReadsInput : ReadsInputOf F) where
   abbrev pub IsRead : F → List ℕ → List ℕ → F → Type 0
   IsRead before name bytes after = (length bytes < 67108864) × IsReadOnce (bytes_eq name (codes "-")) before name bytes after
 
-  -- what is given is the text itself, or an `@` and the file that has it; a refusal names where the text is from
-  pub data IsSchedule (before after : F) (given from text : List ℕ) : Type 0 where
-    itself : (BeginsWithAt given → ⊥) → after ≡ before → from ≡ codes "SCHEDULE" → text ≡ given → IsSchedule before after given from text
-    in_file : given ≡ 64 ∷ from → IsRead before from text after → IsSchedule before after given from text
+  -- What is given is the schedule itself, or says which file has it. Standard input is not read where it was read before.
+  -- A refusal names where the schedule is from.
+  pub data IsSchedule (is_input_read : Bool) (before after : F) (given from text : List ℕ) : Type 0 where
+    itself : schedule_file given ≡ None → after ≡ before → from ≡ codes "SCHEDULE" → text ≡ given → IsSchedule is_input_read before after given from text
+    in_file : (bytes : List ℕ) → schedule_file given ≡ Some from → (is_input_read && is_input from) ≡ false → IsRead before from bytes after
+        → text ≡ schedule_in bytes → IsSchedule is_input_read before after given from text
 
   -- the bytes of a file have P, and nothing else is read
   abbrev pub AfterFile : F → F → List ℕ → (List ℕ → Type 0) → Type 0
@@ -36,4 +82,4 @@ module _ {F : Type 0} (Reads : ReadsOf F) (ReadsInput : ReadsInputOf F) where
   abbrev pub AfterBoth : F → F → List ℕ → List ℕ → (List ℕ → List ℕ → List ℕ → Type 0) → Type 0
   AfterBoth before after file schedule P =
       (input : List ℕ) × (between : F) × IsRead before file input between
-      × (from : List ℕ) × (text : List ℕ) × IsSchedule between after schedule from text × P input from text
+      × (from : List ℕ) × (text : List ℕ) × IsSchedule (is_input file) between after schedule from text × P input from text

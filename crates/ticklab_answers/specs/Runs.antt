@@ -19,6 +19,9 @@ use Rattle.ticklab_trace.specs.TraceText.{instruction_lines, statement_lines}
 use Rattle.ticklab_draw.specs.Marks.{marks_of_code, program_marks}
 use Rattle.ticklab_draw.specs.Never.{Broken}
 use Rattle.ticklab_draw.specs.Pictures.{picture}
+use Rattle.tick_sim.specs.Maps.{up}
+use Rattle.ticklab_line.specs.declared.commands.Side.{Side}
+use Rattle.ticklab_line.specs.declared.commands.Side.TheVariants.{Program, Code, Lifted}
 use Rattle.ticklab_answers.specs.Asking.{AsksNever, IsFileRefused, IsProgramFile, TellsOption, TextPlace, lines_in, places_by}
 use Rattle.ticklab_answers.specs.Breaking.{IsFirstBreak, IsMarked, NeverBreaks}
 use Rattle.ticklab_answers.specs.Codes.{HasCode, IsCodeless, program_code}
@@ -30,29 +33,40 @@ use Rattle.ticklab_answers.specs.declared.commands.told_run.Telling.{Telling}
 use Rattle.ticklab_answers.specs.declared.commands.told_run.Telling.TheVariants.{Trace, Picture}
 use Rattle.ticklab_answers.specs.declared.response.Response.{Response}
 
+-- the schedule under which it runs, where this one is given
+abbrev pub schedule_on : Side → WholeProgram Name → List ℕ → List ℕ
+schedule_on Program a given = given
+schedule_on Code a given = given
+schedule_on Lifted a given = up (program_code a).sizes (program_code a).instructions given
+
+abbrev pub is_of_code : Side → Bool
+is_of_code Program = false
+is_of_code Code = true
+is_of_code Lifted = true
+
 -- The report of a run that isn't made: of the file, these texts of a command line, the schedule or the code, in this order.
-pub data IsUnrun (name : List ℕ) (texts : List (List ℕ)) (input from text : List ℕ) (is_code : Bool) (report : List ℕ) : Type 0 where
-  file_refused : IsFileRefused name input report → IsUnrun name texts input from text is_code report
-  option_refused : (is : IsProgramFile input) → TellsOption is.program (lines_in is.asked) texts report → IsUnrun name texts input from text is_code report
+pub data IsUnrun (name : List ℕ) (texts : List (List ℕ)) (input from text : List ℕ) (side : Side) (report : List ℕ) : Type 0 where
+  file_refused : IsFileRefused name input report → IsUnrun name texts input from text side report
+  option_refused : (is : IsProgramFile input) → TellsOption is.program (lines_in is.asked) texts report → IsUnrun name texts input from text side report
   schedule_refused : (is : IsProgramFile input) → TellsFor is.program.processes (IsScheduleRefused is.program.processes text) from text report
-      → IsUnrun name texts input from text is_code report
+      → IsUnrun name texts input from text side report
   code_refused : (is : IsProgramFile input) (schedule : List ℕ) → schedule_of is.program.processes text ≡ Ok schedule
-      → IsCodeless is_code name is.program report → IsUnrun name texts input from text is_code report
+      → IsCodeless (is_of_code side) name is.program report → IsUnrun name texts input from text side report
 
 -- what is told of a run of the program of an input, with what must never hold of it
 abbrev pub Told : List (List ℕ) → List ℕ → Type 1
 Told texts input = AsksNever texts input → List ℕ → List ℕ → Type 0
 
--- Of the run of the program that the input is, under the schedule that the text spells, this is told.
-pub record IsRun {texts : List (List ℕ)} {input : List ℕ} (P : Told texts input) (text out : List ℕ) : Type 0 where
+-- Of the run of the program that the input is, or of its code, under the schedule that the text spells, this is told.
+pub record IsRun {texts : List (List ℕ)} {input : List ℕ} (side : Side) (P : Told texts input) (text out : List ℕ) : Type 0 where
   pub asks : AsksNever texts input
   pub schedule : List ℕ
   pub spelled : schedule_of asks.file.program.processes text ≡ Ok schedule
-  pub told : P asks schedule out
+  pub told : P asks (schedule_on side asks.file.program schedule) out
 
-pub data AnswersRun {texts : List (List ℕ)} {input : List ℕ} (P : Told texts input) (name from text : List ℕ) (is_code : Bool) (response : Response) : Type 0 where
-  run : Gives 0 (IsRun P text) response → AnswersRun P name from text is_code response
-  unrun : Refuses 1 (IsUnrun name texts input from text is_code) response → AnswersRun P name from text is_code response
+pub data AnswersRun {texts : List (List ℕ)} {input : List ℕ} (side : Side) (P : Told texts input) (name from text : List ℕ) (response : Response) : Type 0 where
+  run : Gives 0 (IsRun side P text) response → AnswersRun side P name from text response
+  unrun : Refuses 1 (IsUnrun name texts input from text side) response → AnswersRun side P name from text response
 
 -- The lines of the steps of the program that the input is, with its statements where they stand there.
 pub record IsStatementTrace (input : List ℕ) (a : WholeProgram Name) (schedule out : List ℕ) : Type 0 where
@@ -113,17 +127,17 @@ abbrev pub IsToldWith : Telling → Bool → List ℕ → List Formula → List 
 IsToldWith Trace is_code name lines places input = IsTrace is_code lines places input
 IsToldWith Picture is_code name lines places input = IsRunPicture is_code lines places name
 
-abbrev pub IsTold : Telling → Bool → (name : List ℕ) (texts : List (List ℕ)) (input : List ℕ) → Told texts input
-IsTold telling is_code name texts input asks =
-    IsToldWith telling is_code name asks.lines (places_by name input asks.file.asked texts) input asks.file.program
+abbrev pub IsTold : Telling → Side → (name : List ℕ) (texts : List (List ℕ)) (input : List ℕ) → Told texts input
+IsTold telling side name texts input asks =
+    IsToldWith telling (is_of_code side) name asks.lines (places_by name input asks.file.asked texts) input asks.file.program
 
-abbrev pub TellsRun : {F : Type 0} → Telling → ReadsOf F → ReadsInputOf F → F → F → List ℕ → List ℕ → List (List ℕ) → Bool → Response → Type 0
-TellsRun telling Reads ReadsInput before after file schedule never is_code response =
+abbrev pub TellsRun : {F : Type 0} → Telling → ReadsOf F → ReadsInputOf F → F → F → List ℕ → List ℕ → List (List ℕ) → Side → Response → Type 0
+TellsRun telling Reads ReadsInput before after file schedule never side response =
     AfterBoth Reads ReadsInput before after file schedule
-    (λ input from text. AnswersRun (IsTold telling is_code file never input) file from text is_code response)
+    (λ input from text. AnswersRun side (IsTold telling side file never input) file from text response)
 
-abbrev pub Traces : {F : Type 0} → ReadsOf F → ReadsInputOf F → F → F → List ℕ → List ℕ → List (List ℕ) → Bool → Response → Type 0
-Traces Reads ReadsInput before after file schedule never is_code response = TellsRun Trace Reads ReadsInput before after file schedule never is_code response
+abbrev pub Traces : {F : Type 0} → ReadsOf F → ReadsInputOf F → F → F → List ℕ → List ℕ → List (List ℕ) → Side → Response → Type 0
+Traces Reads ReadsInput before after file schedule never side response = TellsRun Trace Reads ReadsInput before after file schedule never side response
 
-abbrev pub Draws : {F : Type 0} → ReadsOf F → ReadsInputOf F → F → F → List ℕ → List ℕ → List (List ℕ) → Bool → Response → Type 0
-Draws Reads ReadsInput before after file schedule never is_code response = TellsRun Picture Reads ReadsInput before after file schedule never is_code response
+abbrev pub Draws : {F : Type 0} → ReadsOf F → ReadsInputOf F → F → F → List ℕ → List ℕ → List (List ℕ) → Side → Response → Type 0
+Draws Reads ReadsInput before after file schedule never side response = TellsRun Picture Reads ReadsInput before after file schedule never side response

@@ -118,14 +118,14 @@ fn answered<F: Files, M: Runner, T: Trials, W: Progress>(
             file,
             schedule,
             never,
-            is_code,
-        } => traced(alloc, files, file, schedule, &never, is_code),
+            side,
+        } => traced(alloc, files, file, schedule, &never, side),
         Request::Draw {
             file,
             schedule,
             never,
-            is_code,
-        } => drawn(alloc, files, file, schedule, &never, is_code),
+            side,
+        } => drawn(alloc, files, file, schedule, &never, side),
         Request::Explain { file, schedule } => explained(alloc, files, file, schedule),
         Request::Labels { processes, moves } => labelled(alloc, processes, moves),
     }

@@ -1,12 +1,13 @@
 //! What the program reads: files by their names, and standard input.
-ghost use Rattle.std.specs.Prelude.{◌≡◌, ◌∷◌, ◌<◌, IfErr, IfOk, MatchOption, Ok, string_bytes, vec_len};
+ghost use Rattle.std.specs.Prelude.{◌≡◌, ◌<◌, IfErr, IfOk, IfSome, MatchOption, None, Ok, Some, length, option_map, string_bytes, vec_len};
+ghost use Rattle.std.specs.List.{position};
 ghost use Rattle.ticklab_answers.specs.Faults.{IsOfFile, IsOfHost, IsOfSchedule};
-ghost use Rattle.ticklab_answers.specs.Reading.{BeginsWithAt, IsRead, IsSchedule};
+ghost use Rattle.ticklab_answers.specs.Reading.{IsRead, IsSchedule, first_line, is_input, is_newline, reads_input, schedule_file, schedule_in, schedule_line};
 
 use crate::fault::LabFault;
 use crate::host::Files;
 use anyhow::anyhow;
-use std::alloc::Global;
+use std::alloc::{AllocError, Global};
 use std::io;
 
 /// A file has fewer bytes: more than any program, code or schedule has.
@@ -17,7 +18,7 @@ pub fn bytes_of<F: Files>(alloc: Global, files: &mut F, name: &str) -> Result<Ve
     ensures ok { IfOk result (λ bytes. IsRead F.Reads F.ReadsInput files.old name.now bytes.items files.new) }
     ensures err { IfErr result (IsOfFile name.now) }
 {
-    if name == "-" {
+    if is_input(name) {
         return whole(alloc, name, files.input(alloc, MOST_BYTES));
     }
     whole(alloc, name, files.file(alloc, name, MOST_BYTES))
@@ -47,26 +48,93 @@ fn bounded(read: io::Result<Vec<u8>>) -> Result<Vec<u8>, LabFault>
     Ok(bytes)
 }
 
-/// A schedule, and where it is from: what is given itself, or after an `@` the file that has it.
+/// A schedule, and where it is from: what is given itself, or the file that has it, which may be an answer. Standard
+/// input is not read again.
 pub fn text_of<'a, F: Files>(
     alloc: Global,
     files: &mut F,
     given: &'a str,
+    is_input_read: bool,
 ) -> Result<(&'a str, String), LabFault>
-    ensures ok { IfOk result (λ place. IsSchedule F.Reads F.ReadsInput files.old files.new given.entry.now place.0.now (string_bytes place.1)) }
+    ensures ok { IfOk result (λ place. IsSchedule F.Reads F.ReadsInput is_input_read files.old files.new given.entry.now place.0.now (string_bytes place.1)) }
     ensures err { IfErr result (IsOfSchedule given.entry.now) }
 {
-    match name_after_at(given) {
-        None => Ok(("SCHEDULE", String::from_str(alloc, given)?)),
-        Some(name) => match String::from_utf8(bytes_of(alloc, files, name)?) {
-            Ok(text) => Ok((name, text)),
-            Err(_) => Err(LabFault::Unread(String::from_str(alloc, name)?, anyhow!("no UTF-8"))),
-        },
+    let Some(name) = schedule_file(given) else {
+        return Ok(("SCHEDULE", String::from_str(alloc, given)?));
+    };
+    if is_input_read && is_input(name) {
+        let again = anyhow!("standard input was read already");
+        return Err(LabFault::Unread(String::from_str(alloc, name)?, again));
+    }
+    let bytes = schedule_in(alloc, bytes_of(alloc, files, name)?)?;
+    match String::from_utf8(bytes) {
+        Ok(text) => Ok((name, text)),
+        Err(_) => Err(LabFault::Unread(String::from_str(alloc, name)?, anyhow!("no UTF-8"))),
     }
 }
 
-fn name_after_at(given: &str) -> Option<&str>
-    ensures { MatchOption result (BeginsWithAt given.now → ⊥) (λ name. given.now ≡ 64 ∷ name.now) }
+/// Whether a file of this name is standard input.
+pub fn is_input(name: &str) -> bool
+    ensures { result ≡ is_input name.now }
 {
+    name == "-"
+}
+
+/// Whether standard input is read for this schedule.
+pub fn reads_input(given: &str) -> bool
+    ensures { result ≡ reads_input given.now }
+{
+    match schedule_file(given) {
+        Some(name) => is_input(name),
+        None => false,
+    }
+}
+
+// The file that has the schedule, where it is not given itself.
+fn schedule_file(given: &str) -> Option<&str>
+    ensures { MatchOption result (schedule_file given.now ≡ None) (λ name. schedule_file given.now ≡ Some name.now) }
+{
+    if is_input(given) {
+        return Some(given);
+    }
     given.strip_prefix("@")
+}
+
+// The schedule in the bytes of a file.
+fn schedule_in(alloc: Global, bytes: Vec<u8>) -> Result<Vec<u8>, AllocError>
+    ensures { IfOk result (λ schedule. schedule.items ≡ schedule_in bytes.items) }
+{
+    let Some(line) = schedule_line(bytes.as_slice()) else {
+        return Ok(bytes);
+    };
+    let mut schedule = Vec::from_slice(alloc, b"\n")?;
+    schedule.extend_from_slice(line)?;
+    Ok(schedule)
+}
+
+/// The line of an answer that has its schedule.
+pub fn schedule_line(text: &[u8]) -> Option<&[u8]>
+    ensures { option_map (λ line. line.now) result ≡ schedule_line text.now }
+{
+    let end = newline_in(text)?;
+    if text[..end].ends_with(b":") {
+        return Some(first_line(&text[end + 1..]));
+    }
+    None
+}
+
+fn first_line(text: &[u8]) -> &[u8]
+    ensures { result.now ≡ first_line text.now }
+{
+    match newline_in(text) {
+        Some(end) => &text[..end],
+        None => text,
+    }
+}
+
+fn newline_in(text: &[u8]) -> Option<usize>
+    ensures place { result ≡ position is_newline text.now }
+    ensures within { IfSome result (λ end. end < length text.now) }
+{
+    text.iter().position(|byte| *byte == b'\n')
 }

@@ -11,6 +11,8 @@ use Rattle.ticklab_line.specs.CommandLine.{ends_rule, flag_rule, from_one_to, fu
 use Rattle.ticklab_line.specs.Found.{for_file, for_number, for_number_or, is_set, list_of, number_of, number_or}
 use Rattle.ticklab_line.specs.declared.commands.Request.{Request}
 use Rattle.ticklab_line.specs.declared.commands.Request.TheVariants.{Explore, Ends, Lasso, Hunt, Runs, Trace, Draw, Explain, Labels}
+use Rattle.ticklab_line.specs.declared.commands.Side.{Side}
+use Rattle.ticklab_line.specs.declared.commands.Side.TheVariants.{Program, Code, Lifted}
 
 -- what a command asks for, its texts and its lists of texts as they are
 abbrev pub Asked : Type 0
@@ -39,8 +41,9 @@ hunt_app = with_rule (with_rule (with_rule (with_rule (with_rule (with_rule (wit
 
 -- `trace` and `draw`
 abbrev pub run_app : Text → App
-run_app name = with_rule (with_rule (with_rule (with_file name) (word_rule (codes "schedule")))
+run_app name = with_rule (with_rule (with_rule (with_rule (with_file name) (word_rule (codes "schedule")))
     (flag_rule (codes "code")))
+    (flag_rule (codes "lift")))
     (repeated_rule (codes "never"))
 
 abbrev pub explain_app : App
@@ -105,16 +108,19 @@ runs_in rows texts = None
 abbrev pub hunt_in : List Row → Option Asked
 hunt_in rows = option_map_or (runs_in rows) (all_of (codes "threads") rows) (plan_in rows)
 
+abbrev pub side_in : List Row → Side
+side_in rows = if is_set (codes "lift") rows then Lifted else if is_set (codes "code") rows then Code else Program
+
 abbrev pub trace_of : List Text → List Row → Option Asked
 trace_of never rows = for_file rows (λ file. option_map
-    (λ schedule. Trace file schedule never (is_set (codes "code") rows)) (first_of (codes "schedule") rows))
+    (λ schedule. Trace file schedule never (side_in rows)) (first_of (codes "schedule") rows))
 
 abbrev pub trace_in : List Row → Option Asked
 trace_in rows = trace_of (list_of (codes "never") rows) rows
 
 abbrev pub draw_of : List Text → List Row → Option Asked
 draw_of never rows = for_file rows (λ file. option_map
-    (λ schedule. Draw file schedule never (is_set (codes "code") rows)) (first_of (codes "schedule") rows))
+    (λ schedule. Draw file schedule never (side_in rows)) (first_of (codes "schedule") rows))
 
 abbrev pub draw_in : List Row → Option Asked
 draw_in rows = draw_of (list_of (codes "never") rows) rows
@@ -148,8 +154,8 @@ plain_request (Ends file never process limit is_merged) = Ends file.now (map (λ
 plain_request (Lasso file prefix cycle) = Lasso file.now prefix.now cycle.now
 plain_request (Hunt file never seed runs from steps is_uniform jobs) = Hunt file.now (map (λ text. text.now) never.items) seed runs from steps is_uniform jobs
 plain_request (Runs file times turns) = Runs file.now times turns
-plain_request (Trace file schedule never is_code) = Trace file.now schedule.now (map (λ text. text.now) never.items) is_code
-plain_request (Draw file schedule never is_code) = Draw file.now schedule.now (map (λ text. text.now) never.items) is_code
+plain_request (Trace file schedule never side) = Trace file.now schedule.now (map (λ text. text.now) never.items) side
+plain_request (Draw file schedule never side) = Draw file.now schedule.now (map (λ text. text.now) never.items) side
 plain_request (Explain file schedule) = Explain file.now (option_map (λ text. text.now) schedule)
 plain_request (Labels processes moves) = Labels processes moves.now
 
@@ -169,15 +175,17 @@ rows = (codes "explore" ∷ codes "a" ∷ codes "--limit" ∷ codes "7" ∷ [], 
     ∷ (codes "explore" ∷ codes "a" ∷ codes "--merged" ∷ codes "--ends" ∷ [], Ends (codes "a") [] None 1000000 true)
     ∷ (codes "explore" ∷ codes "a" ∷ codes "--ends" ∷ codes "0" ∷ codes "--merged" ∷ [], Ends (codes "a") [] (Some 0) 1000000 true)
     ∷ (codes "lasso" ∷ codes "a" ∷ codes "0 1" ∷ codes "@b" ∷ [], Lasso (codes "a") (codes "0 1") (codes "@b"))
-    ∷ (codes "trace" ∷ codes "a" ∷ codes "0 1*3" ∷ [], Trace (codes "a") (codes "0 1*3") [] false)
+    ∷ (codes "trace" ∷ codes "a" ∷ codes "0 1*3" ∷ [], Trace (codes "a") (codes "0 1*3") [] Program)
     ∷ (
       codes "trace" ∷ codes "--never" ∷ codes "n" ∷ codes "a" ∷ codes "0" ∷ codes "--never=1" ∷ [],
-      Trace (codes "a") (codes "0") (codes "n" ∷ codes "1" ∷ []) false,
+      Trace (codes "a") (codes "0") (codes "n" ∷ codes "1" ∷ []) Program,
     )
-    ∷ (codes "trace" ∷ codes "-" ∷ codes "@b" ∷ codes "--code" ∷ [], Trace (codes "-") (codes "@b") [] true)
-    ∷ (codes "draw" ∷ codes "a" ∷ [] ∷ [], Draw (codes "a") [] [] false)
-    ∷ (codes "draw" ∷ codes "--code" ∷ codes "a" ∷ codes "0" ∷ [], Draw (codes "a") (codes "0") [] true)
-    ∷ (codes "draw" ∷ codes "a" ∷ codes "0" ∷ codes "--never=n" ∷ [], Draw (codes "a") (codes "0") (codes "n" ∷ []) false)
+    ∷ (codes "trace" ∷ codes "-" ∷ codes "@b" ∷ codes "--code" ∷ [], Trace (codes "-") (codes "@b") [] Code)
+    ∷ (codes "draw" ∷ codes "a" ∷ [] ∷ [], Draw (codes "a") [] [] Program)
+    ∷ (codes "draw" ∷ codes "--code" ∷ codes "a" ∷ codes "0" ∷ [], Draw (codes "a") (codes "0") [] Code)
+    ∷ (codes "draw" ∷ codes "a" ∷ codes "0" ∷ codes "--never=n" ∷ [], Draw (codes "a") (codes "0") (codes "n" ∷ []) Program)
+    ∷ (codes "draw" ∷ codes "a" ∷ codes "-" ∷ codes "--lift" ∷ [], Draw (codes "a") (codes "-") [] Lifted)
+    ∷ (codes "trace" ∷ codes "a" ∷ codes "--lift" ∷ codes "0" ∷ codes "--code" ∷ [], Trace (codes "a") (codes "0") [] Lifted)
     ∷ (codes "explain" ∷ codes "a" ∷ [], Explain (codes "a") None)
     ∷ (codes "explain" ∷ codes "a" ∷ codes "0" ∷ [], Explain (codes "a") (Some (codes "0")))
     ∷ (codes "labels" ∷ codes "3" ∷ codes "0 c1" ∷ [], Labels 3 (codes "0 c1"))

@@ -1,5 +1,5 @@
 -- Which options do not go together: of `hunt` `--threads`, and each option of a hunt by random schedules; of `trace` and
--- `draw` `--code` and `--never`.
+-- `draw` `--never`, and `--code` or `--lift`.
 use Rattle.std.specs.Prelude.{Bool, true, false, List, ◌++◌, ◌&&◌, ◌||◌, Option, Some, None, codes, bytes_eq, map}
 use Rattle.std.specs.Prelude.{if◌then◌else◌, find, is_some, option_and_then, option_map}
 use Rattle.std.specs.Option.{option_map_or}
@@ -52,16 +52,23 @@ threads_conflict rows = if is_some (all_of (codes "threads") rows)
     then option_map (in_order (threads_lead (map (λ r. r.id) rows))) (plan_option rows) else None
 
 -- of a command of this name
-abbrev pub code_and_never : Text → Shown
-code_and_never name = record {
+abbrev pub beside_never : Text → Text → Shown
+beside_never name option = record {
   command = if bytes_eq name (codes "draw") then codes "draw" else codes "trace";
   words = codes " <FILE> <SCHEDULE>";
-  first = codes "--code";
+  first = option;
   second = codes "--never <EXPR>";
 }
 
+-- the option by which a code is taken, as it is shown
+abbrev pub code_option : List Row → Option Text
+code_option rows =
+    if is_set (codes "code") rows then Some (codes "--code")
+    else if is_set (codes "lift") rows then Some (codes "--lift")
+    else None
+
 abbrev pub code_conflict : Text → List Row → Option Shown
-code_conflict name rows = if is_set (codes "code") rows && is_given (codes "never") rows then Some (code_and_never name) else None
+code_conflict name rows = if is_given (codes "never") rows then option_map (beside_never name) (code_option rows) else None
 
 -- two options of a command that do not go together
 abbrev pub conflict_of : Text → List Row → Option Shown

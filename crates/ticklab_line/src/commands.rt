@@ -4,7 +4,7 @@ ghost use Rattle.clap.specs.Matches.{found_of};
 ghost use Rattle.clap.specs.Walk.{rows_of};
 ghost use Rattle.clap.specs.Simple.{app_of, subcommand_rows_of};
 ghost use Rattle.ticklab_line.specs.CommandLine.{IsCommand, IsLine};
-ghost use Rattle.ticklab_line.specs.Commands.{command_wanted, draw_in, draw_of, ends_in, ends_of, explain_app, explain_in, explore_app, explore_in, hunt_app, hunt_in, labels_app, labels_in, lasso_app, lasso_in, limit_in, named, plain_request, plan_of, run_app, runs_in, schedules_of, ticklab, trace_in, trace_of};
+ghost use Rattle.ticklab_line.specs.Commands.{command_wanted, draw_in, draw_of, ends_in, ends_of, explain_app, explain_in, explore_app, explore_in, hunt_app, hunt_in, labels_app, labels_in, lasso_app, lasso_in, limit_in, named, plain_request, plan_of, run_app, runs_in, schedules_of, side_in, ticklab, trace_in, trace_of};
 ghost use Rattle.ticklab_line.specs.Commands.{request_in as found_request};
 
 use crate::arguments::{
@@ -18,9 +18,20 @@ use crate::values::{
 use clap::{ArgMatches, Command, value_parser};
 use std::alloc::{AllocError, Global};
 
+/// What makes the steps of a schedule.
+#[derive(Clone, Copy, PartialEq, Eq, Debug)]
+pub enum Side {
+    /// The program.
+    Program,
+    /// Its code; the schedule is one of the code.
+    Code,
+    /// Its code, under the schedule that `lift` makes of this one of the program.
+    Lifted,
+}
+
 /// A command with what goes with it, its texts and its lists of texts in whatever form they are held. A file is a
-/// name, and `-` is standard input; a schedule is its text, or `@` and the name of the file that has it. Neither is
-/// read yet.
+/// name, and `-` is standard input; a schedule is its text, or `@` and the name of the file that has it, or `-`. Neither
+/// is read yet.
 #[derive(Debug, Drop)]
 pub enum Request<T, L> {
     /// All schedules of a program, as far as it has at most so many states, and what must never hold; merged,
@@ -68,14 +79,14 @@ pub enum Request<T, L> {
         file: T,
         schedule: T,
         never: L,
-        is_code: bool,
+        side: Side,
     },
     /// A run as a picture, and where what must never hold does.
     Draw {
         file: T,
         schedule: T,
         never: L,
-        is_code: bool,
+        side: Side,
     },
     /// What is wrong with a program or a code, or with a schedule of it.
     Explain {
@@ -415,7 +426,7 @@ fn run<'a>(alloc: Global, name: &'a str, about: &'a str) -> Result<Command<'a>, 
             alloc,
             "schedule",
             "SCHEDULE",
-            "Which process makes each step, as \"0 1*3 0\", or @ and the file that has it",
+            "Which process makes each step, as \"0 1*3 0\", or @ and the file that has it or an answer; - for standard input",
         ),
     );
     let run = taking(
@@ -426,15 +437,35 @@ fn run<'a>(alloc: Global, name: &'a str, about: &'a str) -> Result<Command<'a>, 
             "Takes the program's code, on bounded labels; the schedule is one of the code",
         ),
     );
+    let run = taking(
+        run,
+        flag(
+            alloc,
+            "lift",
+            "Takes the code, and a schedule of the program, which is lifted to the code",
+        ),
+    );
     taking(
         run,
         repeated(
             alloc,
             "never",
             "EXPR",
-            "Marks too where this property holds first, like a line #! never EXPR of the program; it may be given again; not with --code",
+            "Marks too where this property holds first, like a line #! never EXPR of the program; it may be given again; not with --code or --lift",
         ),
     )
+}
+
+fn side_in(given: &ArgMatches<'_>) -> Side
+    ensures { result ≡ side_in (rows_of (found_of given.now)) }
+{
+    if is_set(given, "lift") {
+        return Side::Lifted;
+    }
+    if is_set(given, "code") {
+        return Side::Code;
+    }
+    Side::Program
 }
 
 fn trace_in<'a>(alloc: Global, given: &ArgMatches<'a>) -> Result<Option<Lent<'a>>, AllocError>
@@ -451,7 +482,7 @@ fn trace_of<'a>(given: &ArgMatches<'a>, never: Vec<&'a str>) -> Option<Lent<'a>>
         file: text_in(given, "file")?,
         schedule: text_in(given, "schedule")?,
         never,
-        is_code: is_set(given, "code"),
+        side: side_in(given),
     })
 }
 
@@ -469,7 +500,7 @@ fn draw_of<'a>(given: &ArgMatches<'a>, never: Vec<&'a str>) -> Option<Lent<'a>>
         file: text_in(given, "file")?,
         schedule: text_in(given, "schedule")?,
         never,
-        is_code: is_set(given, "code"),
+        side: side_in(given),
     })
 }
 
@@ -488,7 +519,7 @@ fn explain<'a>(alloc: Global) -> Result<Command<'a>, AllocError>
             alloc,
             "schedule",
             "SCHEDULE",
-            "A schedule of it, to be explained too, or @ and the file that has it",
+            "A schedule of it, to be explained too, or @ and the file that has it or an answer",
         ),
     )
 }

@@ -3,7 +3,7 @@ ghost use Rattle.std.specs.Prelude.{◌≡◌, IfOk, map, option_map, string_byt
 ghost use Rattle.clap.specs.Matches.{found_of};
 ghost use Rattle.clap.specs.Walk.{rows_of};
 ghost use Rattle.clap.specs.Simple.{subcommand_rows_of};
-ghost use Rattle.ticklab_line.specs.Conflicts.{code_conflict, conflict_in as conflict_found, conflict_of, conflict_text, in_order, may_conflict, plan_option, shown, threads_conflict, threads_lead};
+ghost use Rattle.ticklab_line.specs.Conflicts.{code_conflict, code_option, conflict_in as conflict_found, conflict_of, conflict_text, in_order, may_conflict, plan_option, shown, threads_conflict, threads_lead};
 
 use crate::values::{is_set, text_in, texts_in};
 use clap::ArgMatches;
@@ -40,17 +40,28 @@ fn conflict_of(name: &str, given: &ArgMatches<'_>) -> Option<Conflict<'static>>
     code_conflict(name, given)
 }
 
-// `--code` and `--never` of `trace` or `draw`.
+// `--code` or `--lift`, and `--never`, of `trace` or `draw`.
 fn code_conflict(name: &str, given: &ArgMatches<'_>) -> Option<Conflict<'static>>
     ensures { option_map shown result ≡ code_conflict name.now (rows_of (found_of given.now)) }
 {
-    if is_set(given, "code") && text_in(given, "never").is_some() {
-        return Some(Conflict {
-            command: if name == "draw" { "draw" } else { "trace" },
-            words: " <FILE> <SCHEDULE>",
-            first: "--code",
-            second: "--never <EXPR>",
-        });
+    let _never = text_in(given, "never")?;
+    let option = code_option(given)?;
+    Some(Conflict {
+        command: if name == "draw" { "draw" } else { "trace" },
+        words: " <FILE> <SCHEDULE>",
+        first: option,
+        second: "--never <EXPR>",
+    })
+}
+
+fn code_option(given: &ArgMatches<'_>) -> Option<&'static str>
+    ensures { option_map (λ option. option.now) result ≡ code_option (rows_of (found_of given.now)) }
+{
+    if is_set(given, "code") {
+        return Some("--code");
+    }
+    if is_set(given, "lift") {
+        return Some("--lift");
     }
     None
 }

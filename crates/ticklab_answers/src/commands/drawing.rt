@@ -24,6 +24,7 @@ use base::span::Span;
 use std::alloc::Global;
 use tick_kinds::Program;
 use ticklab_draw::{Mark, NeverMark, code_marks, marks, picture};
+use ticklab_line::Side;
 
 /// The run of the program under a schedule, or of its code, as a picture. That of a program marks where what must
 /// never hold does first: a line `#! never` of the file, or one of these texts that are the same.
@@ -33,9 +34,9 @@ pub fn drawn<F: Files>(
     file: &str,
     schedule: &str,
     never: &[&str],
-    is_code: bool,
+    side: Side,
 ) -> Result<Response, LabFault>
-    ensures ok { IfOk result (Draws F.Reads F.ReadsInput files.old files.new file.now schedule.now (texts_of never.now) is_code) }
+    ensures ok { IfOk result (Draws F.Reads F.ReadsInput files.old files.new file.now schedule.now (texts_of never.now) side) }
     ensures err { IfErr result (IsOfFileThat (IsEither file.now schedule.now)) }
 {
     told(
@@ -45,7 +46,7 @@ pub fn drawn<F: Files>(
         schedule,
         never,
         Telling::Picture,
-        is_code,
+        side,
     )
 }
 

@@ -6,7 +6,7 @@ ghost use Rattle.ticklab_answers.specs.Faults.{IsOfFileThat, IsOneOf};
 ghost use Rattle.ticklab_answers.specs.Explanations.{Explains, ExplainsBoth, ExplainsInput, ExplainsSchedule, HasProcesses, IsExplained};
 
 use crate::fault::{AnswerFault, LabFault};
-use crate::files::{bytes_of, text_of};
+use crate::files::{bytes_of, is_input, text_of};
 use crate::host::Files;
 use crate::reading::program_of;
 use crate::response::{DONE, REFUSED, Response, answer, output};
@@ -30,7 +30,7 @@ pub fn explained<F: Files>(
     match schedule {
         None => Ok(input_explained(alloc, file, input.as_slice())?),
         Some(schedule) => {
-            let (from, text) = text_of(alloc, files, schedule)?;
+            let (from, text) = text_of(alloc, files, schedule, is_input(file))?;
             Ok(schedule_explained(alloc, file, input.as_slice(), from, &text)?)
         }
     }

@@ -7,18 +7,21 @@ ghost use Rattle.ticklab_answers.specs.Asking.{place_of, texts_of};
 ghost use Rattle.ticklab_answers.specs.Codes.{IsCodeless};
 ghost use Rattle.ticklab_answers.specs.Faults.{IsEither, IsOfFileThat};
 ghost use Rattle.ticklab_answers.specs.Responses.{Gives};
-ghost use Rattle.ticklab_answers.specs.Runs.{IsRun, IsTold, IsToldWith, IsUnrun, TellsRun};
+ghost use Rattle.ticklab_answers.specs.Runs.{IsRun, IsTold, IsToldWith, IsUnrun, TellsRun, is_of_code, schedule_on};
 ghost use Rattle.ticklab_answers.specs.Stops.{IfRefused};
 
 use crate::commands::drawing::picture_of;
 use crate::commands::tracing::trace_of;
 use crate::fault::LabFault;
-use crate::files::{bytes_of, text_of};
+use crate::files::{bytes_of, is_input, text_of};
 use crate::host::Files;
-use crate::reading::{AskedProgram, asked_program, schedule_of};
+use crate::reading::{AskedProgram, asked_program, code_of, schedule_of};
 use crate::response::{DONE, Response, output, settled};
 use crate::stop::NoAnswer;
 use std::alloc::Global;
+use tick_kinds::Program;
+use tick_sim::expand;
+use ticklab_line::Side;
 
 /// How a run is told.
 #[derive(Clone, Copy)]
@@ -36,13 +39,13 @@ pub fn told<F: Files>(
     schedule: &str,
     never: &[&str],
     telling: Telling,
-    is_code: bool,
+    side: Side,
 ) -> Result<Response, LabFault>
-    ensures ok { IfOk result (TellsRun telling F.Reads F.ReadsInput files.old files.new file.now schedule.now (texts_of never.now) is_code) }
+    ensures ok { IfOk result (TellsRun telling F.Reads F.ReadsInput files.old files.new file.now schedule.now (texts_of never.now) side) }
     ensures err { IfErr result (IsOfFileThat (IsEither file.now schedule.now)) }
 {
     let input = bytes_of(alloc, files, file)?;
-    let (from, text) = text_of(alloc, files, schedule)?;
+    let (from, text) = text_of(alloc, files, schedule, is_input(file))?;
     let answered = run_told(
         alloc,
         file,
@@ -51,7 +54,7 @@ pub fn told<F: Files>(
         &text,
         never,
         telling,
-        is_code,
+        side,
     );
     Ok(settled(alloc, answered)?)
 }
@@ -65,20 +68,54 @@ fn run_told(
     schedule: &str,
     never: &[&str],
     telling: Telling,
-    is_code: bool,
+    side: Side,
 ) -> Result<Response, NoAnswer>
-    ensures ok { IfOk result (Gives 0 (IsRun (IsTold telling is_code name.now (texts_of never.now) input.now) schedule.now)) }
-    ensures refused { IfErr result (λ stop. IfRefused stop (IsUnrun name.now (texts_of never.now) input.now from.now schedule.now is_code)) }
+    ensures ok { IfOk result (Gives 0 (IsRun side (IsTold telling side name.now (texts_of never.now) input.now) schedule.now)) }
+    ensures refused { IfErr result (λ stop. IfRefused stop (IsUnrun name.now (texts_of never.now) input.now from.now schedule.now side)) }
 {
     let asked = match asked_program(alloc, name, input, never) {
         Ok(asked) => asked,
         Err(stop) => return Err(stop),
     };
-    let n = asked.spelled.program.processes();
-    let steps = schedule_of(alloc, from, schedule, n)?;
+    let program = &asked.spelled.program;
+    let given = schedule_of(alloc, from, schedule, program.processes())?;
+    let steps = schedule_on(alloc, name, side, program, given)?;
     let steps = steps.as_slice();
+    let is_code = is_of_code(side);
     let out = telling_of(alloc, telling, is_code, name, &asked, input, steps)?;
     Ok(output(alloc, DONE, out))
+}
+
+// The schedule under which this side runs, where this one is given.
+fn schedule_on(
+    alloc: Global,
+    name: &str,
+    side: Side,
+    program: &Program,
+    given: Vec<u8>,
+) -> Result<Vec<u8>, NoAnswer>
+    requires { All (λ p. p < (resolved program.now).processes) given.items }
+    ensures ok { IfOk result (λ steps. steps.items ≡ schedule_on side program.now given.items) }
+    ensures in_range { IfOk result (λ steps. All (λ p. p < (resolved program.now).processes) steps.items) }
+    ensures refused { IfErr result (λ stop. IfRefused stop (IsCodeless (is_of_code side) name.now program.now)) }
+{
+    match side {
+        Side::Program | Side::Code => Ok(given),
+        Side::Lifted => {
+            let code = code_of(alloc, name, program)?;
+            let lifted = expand(alloc, program, &code, given.as_slice())?;
+            Ok(lifted)
+        }
+    }
+}
+
+fn is_of_code(side: Side) -> bool
+    ensures { result ≡ is_of_code side }
+{
+    match side {
+        Side::Program => false,
+        Side::Code | Side::Lifted => true,
+    }
 }
 
 fn telling_of(

@@ -24,6 +24,7 @@ use std::alloc::Global;
 use std::str;
 use tick_kinds::Program;
 use ticketc_refusals::SpelledProgram;
+use ticklab_line::Side;
 use ticklab_trace::{StatementPlace, code_steps, code_trace, places, source_steps, source_trace};
 
 /// A line for each step of the program under a schedule, or of its code. Of the program it shows too where what
@@ -34,12 +35,12 @@ pub fn traced<F: Files>(
     file: &str,
     schedule: &str,
     never: &[&str],
-    is_code: bool,
+    side: Side,
 ) -> Result<Response, LabFault>
-    ensures ok { IfOk result (Traces F.Reads F.ReadsInput files.old files.new file.now schedule.now (texts_of never.now) is_code) }
+    ensures ok { IfOk result (Traces F.Reads F.ReadsInput files.old files.new file.now schedule.now (texts_of never.now) side) }
     ensures err { IfErr result (IsOfFileThat (IsEither file.now schedule.now)) }
 {
-    told(alloc, files, file, schedule, never, Telling::Trace, is_code)
+    told(alloc, files, file, schedule, never, Telling::Trace, side)
 }
 
 /// The lines of the steps; `name` is that of the program's file.
