@@ -1,17 +1,14 @@
 -- What the answer of a hunt says of the program's runs on whole-number tickets.
-use Rattle.std.specs.Prelude.{◌≡◌, ◌+◌, ◌<◌, ℕ, true, false, List, [], ◌∷◌, ◌++◌, length, take, drop}
+use Rattle.std.specs.Prelude.{◌≡◌, ◌<◌, ℕ, true, false, List, [], ◌∷◌, length}
 use Rattle.std.specs.List.{All}
 use Rattle.base.specs.Plain.{WholeProgram}
 use Rattle.tick_source.specs.Source.{source}
 use Rattle.searches_explore.specs.Explored.{has_trapped}
+pub use Rattle.searches_explore.specs.Needed.{without}
 use Rattle.searches_hunt.specs.declared.answer.Hunted.{Hunted}
 use Rattle.searches_hunt.specs.declared.answer.Hunted.TheVariants.{Found, Nothing}
 use Rattle.searches_hunt.specs.declared.plan.Plan.{Plan}
 use Rattle.searches_hunt.specs.Draws.{random_schedule}
-
--- the schedule without the item of this place
-abbrev pub without : ℕ → List ℕ → List ℕ
-without place schedule = take place schedule ++ drop (place + 1) schedule
 
 -- what is left where one item is left out after the other, each by its place among those that are left
 abbrev pub left_of : List ℕ → List ℕ → List ℕ

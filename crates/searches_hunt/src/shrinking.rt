@@ -9,11 +9,17 @@ use crate::leaving::{place_after, without, without_steps};
 use crate::trying::to_fault;
 use base::NoMemory;
 use language_properties::Property;
+use searches_explore::needless_steps;
 use std::alloc::Global;
 use tick_kinds::Program;
 
 /// How many pieces are tried at least before smaller ones are given up.
 const ENOUGH_PIECES: usize = 64;
+
+/// How many steps all tries with pieces of one size may take, and how long a schedule is at most whose items are left
+/// out one by one: a try begins at the start.
+const MOST_STEPS: usize = 8_000_000;
+const SHORT: usize = 2_000;
 
 // What leads to the fault of what is left of a schedule, if it has one and fewer items are left.
 fn fewer(
@@ -89,6 +95,14 @@ fn without_pieces(
     Ok(kept)
 }
 
+// About how many steps the tries of all pieces of a size take.
+fn steps_by(length: usize, size: usize, processes: u8) -> usize
+    requires { 0 < size }
+{
+    let tries = (length / size).saturating_mul(usize::from(processes) + 1);
+    tries.saturating_mul(length)
+}
+
 // Pieces of half the schedule, of a quarter, and so on, of each process and of all, while some can be left out.
 fn in_pieces(
     alloc: Global,
@@ -108,6 +122,9 @@ fn in_pieces(
             return Ok(kept);
         }
         size = usize::min(size, kept.len()) / 2;
+        if size > 0 && steps_by(kept.len(), size, program.processes()) > MOST_STEPS {
+            return Ok(kept);
+        }
     }
     Ok(kept)
 }
@@ -182,6 +199,104 @@ fn without_items(
     Ok(kept)
 }
 
+// What is left without the step of this place, if there is one.
+fn without_place(alloc: Global, schedule: Vec<u8>, place: usize) -> Result<Vec<u8>, NoMemory>
+    ensures { IfOk result (λ rest. IsLeft rest.items schedule.items) }
+{
+    if place >= schedule.len() {
+        return Ok(schedule);
+    }
+    without(alloc, &schedule, place, place + 1)
+}
+
+// What is left without the steps of these places, each a place among those that are left.
+fn without_places(alloc: Global, schedule: &[u8], places: &[usize]) -> Result<Vec<u8>, NoMemory>
+    ensures { IfOk result (λ rest. IsLeft rest.items schedule.now) }
+{
+    let mut rest = Vec::from_slice(alloc, schedule)?;
+    for at in 0..places.len() {
+        rest = without_place(alloc, rest, places[at])?;
+    }
+    Ok(rest)
+}
+
+// Leaves out more and more steps of the process of this place, from there on, while there still is a fault.
+fn without_more(
+    alloc: Global,
+    program: &Program,
+    lines: &[Property],
+    schedule: Vec<u8>,
+    at: usize,
+) -> Result<Vec<u8>, NoMemory>
+    requires { IsFault (resolved program.now) (lines_of lines.now) schedule.items }
+    ensures { IfOk result (λ kept. IsFaultOf (resolved program.now) (lines_of lines.now) schedule.items kept.items) }
+{
+    let mut kept = schedule;
+    let mut size = 2;
+    'more: while at < kept.len() {
+        let p = kept[at];
+        let (_, rest) = without_piece(alloc, &kept, at, Some(p), size)?;
+        match fewer(alloc, program, lines, &kept, &rest)? {
+            Some(left) => {
+                kept = left;
+                size = size.saturating_mul(2);
+            }
+            None => return Ok(kept),
+        }
+    }
+    Ok(kept)
+}
+
+// Leaves out the steps of these places, of which the last is one of a process that may do without more, if there still
+// is a fault; else each item without which there is.
+fn without_needless(
+    alloc: Global,
+    program: &Program,
+    lines: &[Property],
+    schedule: Vec<u8>,
+    places: &[usize],
+) -> Result<Vec<u8>, NoMemory>
+    requires { IsFault (resolved program.now) (lines_of lines.now) schedule.items }
+    ensures left { IfOk result (λ kept. IsFaultOf (resolved program.now) (lines_of lines.now) schedule.items kept.items) }
+    ensures needed { IfOk result (λ kept. length kept.items ≡ length schedule.items
+        → NeedsAll (resolved program.now) (lines_of lines.now) kept.items) }
+{
+    let rest = without_places(alloc, &schedule, places)?;
+    match fewer(alloc, program, lines, &schedule, &rest)? {
+        Some(left) => {
+            let last = places.last().copied().unwrap_or(0);
+            without_more(alloc, program, lines, left, last)
+        }
+        None => without_items(alloc, program, lines, schedule),
+    }
+}
+
+// One pass over the items. If none was left out, the fault needs each. In a long schedule all items are tried at once.
+fn without_some(
+    alloc: Global,
+    program: &Program,
+    lines: &[Property],
+    schedule: Vec<u8>,
+) -> Result<Vec<u8>, NoMemory>
+    requires { IsFault (resolved program.now) (lines_of lines.now) schedule.items }
+    ensures left { IfOk result (λ kept. IsFaultOf (resolved program.now) (lines_of lines.now) schedule.items kept.items) }
+    ensures needed { IfOk result (λ kept. length kept.items ≡ length schedule.items
+        → NeedsAll (resolved program.now) (lines_of lines.now) kept.items) }
+{
+    if schedule.len() <= SHORT {
+        return without_items(alloc, program, lines, schedule);
+    }
+    match needless_steps(alloc, program, lines, &schedule)? {
+        Some(places) => {
+            if places.len() == 0 {
+                return Ok(schedule);
+            }
+            without_needless(alloc, program, lines, schedule, &places)
+        }
+        None => without_items(alloc, program, lines, schedule),
+    }
+}
+
 /// Leaves items out while there still is a fault, until the fault can do without none.
 pub fn shrink(
     alloc: Global,
@@ -198,7 +313,7 @@ pub fn shrink(
     let mut before = kept.len() + 1;
     'passes: while kept.len() < before {
         before = kept.len();
-        kept = without_items(alloc, program, lines, kept)?;
+        kept = without_some(alloc, program, lines, kept)?;
     }
     Ok(kept)
 }

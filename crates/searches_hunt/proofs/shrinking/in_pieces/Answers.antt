@@ -13,3 +13,7 @@ sizes-preserved c =
 pub returns-then-before-size-ge-ENOUGH_PIECES : goal.returns-then-before-size-ge-ENOUGH_PIECES
 returns-then-before-size-ge-ENOUGH_PIECES c =
     fault_again (resolved c.args.program.now) (lines_of c.args.lines.now) c.args.schedule.items c.sizes.kept.items c.in_ok-kept.kept.items c.sizes.invariant c.in_ok-kept.ensures
+
+pub returns-then-steps_by-gt-MOST_STEPS : goal.returns-then-steps_by-gt-MOST_STEPS
+returns-then-steps_by-gt-MOST_STEPS c =
+    fault_again (resolved c.args.program.now) (lines_of c.args.lines.now) c.args.schedule.items c.sizes.kept.items c.in_ok-kept.kept.items c.sizes.invariant c.in_ok-kept.ensures
