@@ -5,6 +5,7 @@
 
 mod finds;
 mod lines;
+mod long;
 mod programs;
 mod repeats;
 mod replay;

@@ -188,3 +188,20 @@ begin
   put waiting 0;
 end
 ";
+
+/// Neither counts on before the other has come as far. It traps where one has come to 201.
+pub static IN_STEP: &str = "\
+processes 2;
+var count, other, left;
+reg counts;
+begin
+  while 1 {
+    other = get counts (1 - me);
+    if (other < count) { } else {
+      count = (count + 1);
+      put counts count;
+      left = (200 - count);
+    }
+  }
+end
+";
