@@ -19,6 +19,7 @@ const ENOUGH_PIECES: usize = 64;
 /// How many steps all tries with pieces of one size may take, and how long a schedule is at most whose items are left
 /// out one by one: a try begins at the start.
 const MOST_STEPS: usize = 8_000_000;
+
 const SHORT: usize = 2_000;
 
 // What leads to the fault of what is left of a schedule, if it has one and fewer items are left.

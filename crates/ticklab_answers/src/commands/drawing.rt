@@ -39,15 +39,7 @@ pub fn drawn<F: Files>(
     ensures ok { IfOk result (Draws F.Reads F.ReadsInput files.old files.new file.now schedule.now (texts_of never.now) side) }
     ensures err { IfErr result (IsOfFileThat (IsEither file.now schedule.now)) }
 {
-    told(
-        alloc,
-        files,
-        file,
-        schedule,
-        never,
-        Telling::Picture,
-        side,
-    )
+    told(alloc, files, file, schedule, never, Telling::Picture, side)
 }
 
 /// The picture; `name` is that of the program's file.
