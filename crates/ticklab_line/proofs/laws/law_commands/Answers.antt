@@ -9,5 +9,7 @@ returns c = record {
   explore = λ rest. ((refl, refl), refl);
   code_never = (refl, refl);
   drawn_code_never = (refl, refl);
+  merged_single = (refl, refl);
+  single_merged = (refl, refl);
   all = refl;
 }
