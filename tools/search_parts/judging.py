@@ -14,11 +14,15 @@ class Kind(NamedTuple):
     words: tuple
     head: str
 
+    @property
+    def is_merged(self):
+        return self.step == "merged"
+
 
 # Of how many states it is asked whether processes can still end.
 MOST_STATES_OF_ENDS = 20000
 
-KINDS = (Kind("single", (), told.SHORTEST), Kind("merged", ("--merged",), told.TRAPS))
+KINDS = (Kind("single", ("--single",), told.SHORTEST), Kind("merged", ("--merged",), told.TRAPS))
 
 
 class Judge:
@@ -37,14 +41,28 @@ class Judge:
                 wrong += asked.trap(found[-1], found[0].steps, lambda schedule: replayed(program, schedule, step))
             else:
                 wrong += asked.no_trap(found[-1].states)
+        wrong += self.first(program, text, found, limits)
         if not found[0].traps and found[0].states <= min(limits[0], MOST_STATES_OF_ENDS):
-            wrong += self.ends(program, text, found[1].states)
+            wrong += self.ends(program, text, found[0].states, found[1].states)
         return found, wrong
 
-    def ends(self, program, text, merged):
+    def first(self, program, text, found, limits):
+        """What is answered otherwise by merged steps first, and by single ones where these find a trap."""
+        limit, merged = limits[1], found[1]
+        words = ("--limit", str(limit))
+        status, output = self.ask(words, text)
+        if merged.traps and self.ask(("--merged", *words), text)[0] == told.TRAPPED:
+            if (status, output) == self.ask(("--single", *words), text) or is_minimal(program, status, output):
+                return []
+        elif (status, output) == self.ask(("--merged", *words), text):
+            return []
+        return [f"merged steps first, limit {limit}: found {shown(status, output)}"]
+
+    def ends(self, program, text, single, merged):
         """What is answered otherwise of whether all processes can still end, and the first, and the last.
 
-        By merged steps, between which there are so many states, only that is asked.
+        By merged steps, between which there are so many states, only that is asked; also where by single steps there are
+        more states than the limit.
         """
         graph, every = Graph(program), range(program.processes)
         wrong = []
@@ -56,6 +74,12 @@ class Judge:
             status, output = self.ask(words, text)
             if not is_ending(graph, asked, who, status, output):
                 wrong.append(f"whether {who} can still end: found {shown(status, output)}")
+            if self.ask((*words, "--single"), text) != (status, output):
+                wrong.append(f"whether {who} can still end: told otherwise by single steps alone")
+            if merged < single:
+                status, output = self.ask((*words, "--limit", str(single - 1)), text)
+                if not is_half(graph, asked, who, merged, single - 1, status, output):
+                    wrong.append(f"whether {who} can still end, of too few states: found {shown(status, output)}")
             status, output = self.ask((*words, "--merged"), text)
             if not is_merged_ending(graph, asked, who, merged, status, output):
                 wrong.append(f"whether {who} can still end, by merged steps: found {shown(status, output)}")
@@ -74,6 +98,24 @@ def is_ending(graph, asked, who, status, output):
     if not stuck:
         return not lead_in
     return graph.led(schedule) in stuck and len(schedule) == min(graph.depth[state] for state in stuck)
+
+
+def is_minimal(program, status, output):
+    """That a schedule is told as one which needs all its steps, and does: where there are too many states."""
+    schedule, trap = told.trapped(told.MINIMAL, output) if status == told.TRAPPED else ([], None)
+    without = [schedule[:at] + schedule[at + 1 :] for at in range(len(schedule))]
+    return (
+        trap is not None
+        and replayed(program, schedule, steps.single) == (len(schedule), trap)
+        and all(replayed(program, other, steps.single) == (len(other), None) for other in without)
+    )
+
+
+def is_half(graph, asked, who, states, limit, status, output):
+    """That an answer by merged steps is right, which is told since by single ones there are more states."""
+    if not graph.stuck(asked):
+        return (status, output) == told.half(who, states, limit)
+    return is_merged_ending(graph, asked, who, states, status, output)
 
 
 def is_merged_ending(graph, asked, who, states, status, output):
@@ -105,10 +147,12 @@ class Asked:
     def no_trap(self, states):
         """What is wrong where no process traps in so many states; with one less for a limit there have to be more."""
         if states > self.limit:
-            return self.first_wrong((self.limit, told.more(self.limit)))
-        return self.first_wrong(
-            (self.limit, told.safe(states)), (states, told.safe(states)), (states - 1, told.more(states - 1))
-        )
+            return self.first_wrong((self.limit, self.more(self.limit)))
+        safe = told.safe(states, self.kind.is_merged)
+        return self.first_wrong((self.limit, safe), (states, safe), (states - 1, self.more(states - 1)))
+
+    def more(self, limit):
+        return told.more(limit, self.kind.is_merged)
 
     def first_wrong(self, *wanted):
         """The first of some answers that is another, with their limits."""
@@ -122,7 +166,7 @@ class Asked:
         """What is wrong where a process traps."""
         status, output = self.answer(self.limit)
         # (there may come to be too many states where the trap is)
-        if found.states > self.limit and (status, output) == told.more(self.limit):
+        if found.states > self.limit and (status, output) == self.more(self.limit):
             return []
         schedule, trap = told.trapped(self.kind.head, output) if status == told.TRAPPED else ([], None)
         length, last = replay(schedule)

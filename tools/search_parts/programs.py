@@ -12,6 +12,7 @@ ROWS = "answers/states.txt"
 LIMIT, LIMIT_OF_MANY, LIMIT_OF_SMALL = 1000000, 50000, 2000
 # The status by which `explore` tells that.
 MORE = 6
+STEPS = {b"--single", b"--merged"}
 
 
 def read(path):
@@ -30,8 +31,9 @@ def known():
     for row in rows:
         text = row.given if row.words[2] == b"-" else read(row.words[2].decode())
         names.setdefault(text, row.where)
-        asked.setdefault((text, b"--merged" in row.words), []).append((greatest(row.words), row.status))
-    limits = {text: [limit(asked.get((text, is_merged))) for is_merged in (False, True)] for text in names}
+        for steps in STEPS & set(row.words):
+            asked.setdefault((text, steps), []).append((greatest(row.words), row.status))
+    limits = {text: [limit(asked.get((text, steps))) for steps in (b"--single", b"--merged")] for text in names}
     return [(name, text, limits[text]) for text, name in names.items()]
 
 

@@ -4,6 +4,7 @@ import re
 SAFE, TRAPPED, MORE, STUCK = 0, 5, 6, 7
 SHORTEST = "a process traps under this schedule, and under no shorter one:"
 TRAPS = "a process traps under this schedule:"
+MINIMAL = "a process traps under this schedule, and where any one step is left out none does:"
 QUIET = "no process traps under any schedule; "
 STUCK_HEAD = QUIET + "after this schedule no further steps end {}, and after each shorter one some do:"
 STUCK_MERGED_HEAD = QUIET + "after this schedule no further steps end {}:"
@@ -16,22 +17,39 @@ ITEM = re.compile(r"([0-5])(?:\*([1-9][0-9]*))?")
 LINE = re.compile(r" *([1-9][0-9]*)  P([0-5]) .*?(?:\| trap ([A-Z][a-z]+))?")
 
 
-def safe(states):
-    return SAFE, f"no process traps under any schedule ({states} states)\n"
+def counted(states, is_merged):
+    """So many states, which between merged steps are told as merged."""
+    return f"{states} {'merged ' * is_merged}state{'s' * (states != 1)}"
+
+
+def safe(states, is_merged):
+    return SAFE, f"no process traps under any schedule ({counted(states, is_merged)})\n"
 
 
 def ends(who, states):
     text = f"{who} can still end after every schedule, and will if each that runs steps again and again"
-    return SAFE, f"{QUIET}{text} ({states} states)\n"
+    return SAFE, f"{QUIET}{text} ({counted(states, False)})\n"
 
 
 def can_end(who, states):
-    text = f"{who} can still end after every schedule ({states} states)"
-    return SAFE, f"{QUIET}{text}; of those in which each that runs steps again and again nothing was asked\n"
+    return SAFE, f"{can_end_text(who, states)}asked\n"
 
 
-def more(limit):
-    return MORE, f"there are more than {limit} state{'' if limit == 1 else 's'}: nothing is said of all schedules\n"
+def can_end_text(who, states):
+    text = f"{who} can still end after every schedule ({counted(states, True)})"
+    return f"{QUIET}{text}; of those in which each that runs steps again and again nothing was "
+
+
+def half(who, states, limit):
+    """What is told of merged steps, where there are more states by single ones than the limit."""
+    more = f"there are more than {counted(limit, False)}\ntry a larger --limit, or fewer processes or rounds\n"
+    return MORE, f"{can_end_text(who, states)}found out: {more}"
+
+
+def more(limit, is_merged):
+    text = f"there are more than {counted(limit, is_merged)}: nothing is said of all schedules\ntry "
+    without = "" if is_merged else "it without --single, "
+    return MORE, f"{text}{without}a larger --limit, hunt, or fewer processes or rounds\n"
 
 
 def told_steps(lines):

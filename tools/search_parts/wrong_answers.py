@@ -45,7 +45,7 @@ def with_output(pattern, new):
 
 def with_states(more):
     """Tells that there are so many more states."""
-    return with_output(r"\d+(?= states\))", lambda it: str(int(it[0]) + more))
+    return with_output(r"\d+(?=(?: merged)? states\))", lambda it: str(int(it[0]) + more))
 
 
 def answered(status, answer):
@@ -66,10 +66,10 @@ RIGHT = with_schedule(lambda schedule, trap: (schedule, trap))
 CASES = (
     ("there is a state more", with_states(1)),
     ("there is a state less", with_states(-1)),
-    ("a trap is taken for none", answered(told.TRAPPED, told.safe(9))),
-    ("a trap is taken for too many states", answered(told.TRAPPED, told.more(9))),
-    ("the limit is met where it isn't", answered(told.SAFE, told.more(9))),
-    ("the limit isn't met where it is", answered(told.MORE, told.safe(9))),
+    ("a trap is taken for none", answered(told.TRAPPED, told.safe(9, False))),
+    ("a trap is taken for too many states", answered(told.TRAPPED, told.more(9, False))),
+    ("the limit is met where it isn't", answered(told.SAFE, told.more(9, False))),
+    ("the limit isn't met where it is", answered(told.MORE, told.safe(9, False))),
     ("a trap has the status of none", with_status(told.TRAPPED, told.SAFE)),
     ("the limit has the status of no trap", with_status(told.MORE, told.SAFE)),
     ("a schedule lacks its first step", with_schedule(lambda schedule, trap: (schedule[1:], trap))),
@@ -80,6 +80,11 @@ CASES = (
     ("a trap has another name", with_schedule(lambda schedule, trap: (schedule, OTHER[trap]))),
     ("a shortest schedule isn't told as one", with_output(told.SHORTEST, told.TRAPS)),
     ("a merged schedule is told as a shortest one", with_output(told.TRAPS, told.SHORTEST)),
+    ("a shortest schedule is told to need all its steps", with_output(told.SHORTEST, told.MINIMAL)),
+    ("merged states aren't told as such", with_output(r" merged (?=states?\))", " ")),
+    ("states are told as merged", with_output(r"(\d+) (?=states?\))", r"\1 merged ")),
+    ("it isn't told what to do at the limit", with_output(r"\ntry .*", "")),
+    ("nothing of all schedules is told at the limit", with_output("nothing was found out.*(?s:.*)", "nothing is said")),
     ("a step isn't told", with_output(r"\n   2 .*", "")),
     ("a step is told of another process", with_output("  P0 ", "  P1 ")),
     ("each step is told to trap", with_output(r"(?m)^( .*?)(?: [|] trap .*)?$", r"\1 | trap Zero")),

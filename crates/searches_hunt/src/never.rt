@@ -57,8 +57,8 @@ fn led_to<'a>(
     Ok(tried)
 }
 
-// What is wrong after this schedule: a process has trapped, or else a line is broken.
-fn told(
+/// What is wrong after this schedule: a process has trapped, or else a line is broken.
+pub fn told(
     alloc: Global,
     program: &Program,
     lines: &[Property],

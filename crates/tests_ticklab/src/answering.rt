@@ -8,40 +8,28 @@ use tests_shared::is_same;
 use ticklab_answers::AnswerFault::NoMemory;
 use ticklab_answers::LabFault::Answer;
 use ticklab_answers::{LabFault, Progress, Response, explored, labelled};
+use ticklab_line::Steps;
 
 pub type Answered = Result<Response, LabFault>;
 
 // The name of the file of each input.
 static NAME: &str = "a.tick";
 
-fn searched<W: Progress>(
+pub fn explored_by<W: Progress>(
     alloc: Global,
     input: &[u8],
     limit: u32,
-    is_merged: bool,
+    steps: Steps,
     watch: &mut W,
 ) -> Answered {
     let mut files = OneFile {
         name: NAME,
         bytes: input,
     };
-    match explored(alloc, &mut files, watch, NAME, &[], limit, is_merged) {
-        Err(Answer(NoMemory)) => explored(alloc, &mut files, watch, NAME, &[], limit, is_merged),
+    match explored(alloc, &mut files, watch, NAME, &[], limit, steps) {
+        Err(Answer(NoMemory)) => explored(alloc, &mut files, watch, NAME, &[], limit, steps),
         answered => answered,
     }
-}
-
-pub fn explored_of<W: Progress>(
-    alloc: Global,
-    input: &[u8],
-    limit: u32,
-    watch: &mut W,
-) -> Answered {
-    searched(alloc, input, limit, false, watch)
-}
-
-pub fn merged_of<W: Progress>(alloc: Global, input: &[u8], limit: u32, watch: &mut W) -> Answered {
-    searched(alloc, input, limit, true, watch)
 }
 
 pub fn labelled_of(alloc: Global, n: u8, moves: &str) -> Answered {

@@ -106,6 +106,10 @@ impl Watch for Nobody {
 }
 
 impl Progress for Nobody {
+    ghost begins = { λ _ _ _. Unit {0} };
+
+    fn begin(&mut self, _is_merged: bool) {}
+
     fn end(&self) {}
 }
 
@@ -137,7 +141,7 @@ fn has_said(host: &TestHost, said: Said<'_>) -> bool {
 // what is written, and how often a file and standard input are read.
 type Row<'a> = (&'a str, bool, u8, Said<'a>, (u32, u32));
 
-const NO_TRAP: &str = "no process traps under any schedule (3 states)\n";
+const NO_TRAP: &str = "no process traps under any schedule (2 merged states)\n";
 
 const OUT_7: &str = "   1  P0     1:20   out 7;                           | out 7\n";
 
@@ -156,7 +160,8 @@ const NO_THREAD: &str = "ticklab: no thread\n";
 const TRAPS: &str =
     "a process traps under this schedule, and under no shorter one:\n0\n   1  P0     1:27   x = (1 / 0);                     | trap Zero\n";
 
-const TOO_MANY: &str = "there are more than 1 state: nothing is said of all schedules\n";
+const TOO_MANY: &str =
+    "there are more than 1 merged state: nothing is said of all schedules\ntry a larger --limit, hunt, or fewer processes or rounds\n";
 
 static ROWS: [Row<'static>; 10] = [
     ("explore out", false, 0, Ok(NO_TRAP), (1, 0)),

@@ -6,27 +6,27 @@ use tests_shared::is_same;
 static ASKED: [(&[&str], &str); 18] = [
     (
         &["explore", "a.tick"],
-        "Explore { file: \"a.tick\", never: [], limit: 1000000, is_merged: false }",
+        "Explore { file: \"a.tick\", never: [], limit: 1000000, steps: MergedFirst }",
     ),
     (
         &["explore", "--limit", "4294967295", "-"],
-        "Explore { file: \"-\", never: [], limit: 4294967295, is_merged: false }",
+        "Explore { file: \"-\", never: [], limit: 4294967295, steps: MergedFirst }",
     ),
     (
         &["explore", "a", "--limit=0", "--merged"],
-        "Explore { file: \"a\", never: [], limit: 0, is_merged: true }",
+        "Explore { file: \"a\", never: [], limit: 0, steps: Merged }",
     ),
     (
         &["explore", "--never", "n", "a", "--never=1 < n"],
-        "Explore { file: \"a\", never: [\"n\", \"1 < n\"], limit: 1000000, is_merged: false }",
+        "Explore { file: \"a\", never: [\"n\", \"1 < n\"], limit: 1000000, steps: MergedFirst }",
     ),
     (
         &["explore", "a", "--never", "n", "--ends", "2"],
-        "Ends { file: \"a\", never: [\"n\"], process: Some(2), limit: 1000000, is_merged: false }",
+        "Ends { file: \"a\", never: [\"n\"], process: Some(2), limit: 1000000, steps: MergedFirst }",
     ),
     (
         &["explore", "a", "--merged", "--ends"],
-        "Ends { file: \"a\", never: [], process: None, limit: 1000000, is_merged: true }",
+        "Ends { file: \"a\", never: [], process: None, limit: 1000000, steps: Merged }",
     ),
     (
         &["lasso", "a", "0 1", "@b"],

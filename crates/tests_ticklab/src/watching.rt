@@ -1,14 +1,17 @@
 //! What a watch is told of a search, and that it changes no answer.
-use crate::answering::{explored_of, is_answer, merged_of};
+use crate::answering::{explored_by, is_answer};
 use searches_explore::Watch;
 use std::alloc::Global;
 use std::test::Fail;
 use tests_shared::is_same;
 use ticklab_answers::Progress;
+use ticklab_line::Steps;
 
-/// What was told last, how often, and whether more each time.
+/// Which searches began, and of the last of them what was told last, how often, and whether more each time.
 #[derive(Drop)]
 struct Notes {
+    merged: u32,
+    single: u32,
     times: u32,
     states: u32,
     gone: u32,
@@ -18,6 +21,8 @@ struct Notes {
 impl Notes {
     fn new() -> Notes {
         Notes {
+            merged: 0,
+            single: 0,
             times: 0,
             states: 0,
             gone: 0,
@@ -43,12 +48,26 @@ impl Watch for Notes {
 }
 
 impl Progress for Notes {
+    ghost begins = { λ before is_merged after. Unit {0} };
+
+    // Numbers are those of the search that began last.
+    fn begin(&mut self, is_merged: bool) {
+        if is_merged {
+            self.merged = self.merged.saturating_add(1);
+        } else {
+            self.single = self.single.saturating_add(1);
+        }
+        self.times = 0;
+        self.states = 0;
+        self.gone = 0;
+    }
+
     fn end(&self) {}
 }
 
 // A process is before its test with each number up to 24, before its assignment with each up to 23, has
 // nothing left, or has ended: 51 states, so three have 51 * 51 * 51.
-static COUNTING: &str = "\
+const COUNTING: &str = "\
 processes 3;
 var x;
 begin
@@ -58,7 +77,7 @@ end
 
 // Between merged steps a process stands at its start, before its `clear` with each number from 1 to 40,
 // or at its end: 42 states, so three have 42 * 42 * 42.
-static CLEARING: &str = "\
+const CLEARING: &str = "\
 processes 3;
 var x;
 begin
@@ -66,32 +85,84 @@ begin
 end
 ";
 
-fn is_safe(alloc: Global, states: u32) -> Result<String, Fail> {
-    Ok(format!(in alloc; "no process traps under any schedule ({states} states)\n")?)
-}
+// After 122 steps each process traps.
+const TRAPPING: &str = "\
+processes 3;
+var x;
+begin
+  while (x < 40) { x = (x + 1); clear; }
+  x = (1 / 0);
+end
+";
 
-fn merged_is_safe(alloc: Global, input: &[u8], notes: &mut Notes, states: u32) -> Result<(), Fail> {
-    let answered = merged_of(alloc, input, 1_000_000, notes);
-    is_answer(answered, 0, &is_safe(alloc, states)?, "")
+const NO_TRAP: &str = "no process traps under any schedule";
+
+// Of a search by single steps, by merged ones, or by both: the input, the first line up to the number of states, which
+// searches began, how often numbers were told of the last, and how many states were gone then.
+type Row = (&'static str, Steps, &'static str, (u32, u32), (u32, u32));
+
+static ROWS: [Row; 5] = [
+    (
+        COUNTING,
+        Steps::Single,
+        "132651 states",
+        (0, 1),
+        (2, 131_072),
+    ),
+    // all its steps are private
+    (COUNTING, Steps::Merged, "8 merged states", (1, 0), (0, 0)),
+    (
+        COUNTING,
+        Steps::MergedFirst,
+        "8 merged states",
+        (1, 0),
+        (0, 0),
+    ),
+    (
+        CLEARING,
+        Steps::Merged,
+        "74088 merged states",
+        (1, 0),
+        (1, 65_536),
+    ),
+    (
+        CLEARING,
+        Steps::MergedFirst,
+        "74088 merged states",
+        (1, 0),
+        (1, 65_536),
+    ),
+];
+
+fn tells(alloc: Global, row: &Row) -> Result<(), Fail> {
+    let (text, steps, states, begun, told) = *row;
+    let mut notes = Notes::new();
+    let answered = explored_by(alloc, text.as_bytes(), 1_000_000, steps, &mut notes);
+    is_answer(
+        answered,
+        0,
+        &format!(in alloc; "{NO_TRAP} ({states})\n")?,
+        "",
+    )?;
+    is_same(&(notes.merged, notes.single), &begun)?;
+    is_same(&notes.told(1_000_000), &(told.0, told.1, true))
 }
 
 #[test]
 fn each_65536_states(rt: HostRuntime) -> Result<(), Fail> {
-    let (alloc, input) = (rt.alloc(), COUNTING.as_bytes());
-    let mut notes = Notes::new();
-    let answered = explored_of(alloc, input, 1_000_000, &mut notes);
-    is_answer(answered, 0, &is_safe(alloc, 132_651)?, "")?;
-    is_same(&notes.told(132_651), &(2, 131_072, true))?;
-    // all its steps are private
-    let mut notes = Notes::new();
-    merged_is_safe(alloc, input, &mut notes, 8)?;
-    is_same(&notes.told(0), &(0, 0, true))
+    for row in &ROWS {
+        tells(rt.alloc(), row)?;
+    }
+    Ok(())
 }
 
+// Merged steps find the trap, and then single ones search.
 #[test]
-fn each_65536_states_of_merged_steps(rt: HostRuntime) -> Result<(), Fail> {
-    let (alloc, input) = (rt.alloc(), CLEARING.as_bytes());
+fn both_searches(rt: HostRuntime) -> Result<(), Fail> {
+    let (alloc, input) = (rt.alloc(), TRAPPING.as_bytes());
     let mut notes = Notes::new();
-    merged_is_safe(alloc, input, &mut notes, 74_088)?;
-    is_same(&notes.told(74_088), &(1, 65_536, true))
+    let answered = explored_by(alloc, input, 1_000_000, Steps::MergedFirst, &mut notes)?;
+    is_same(&answered.status, &5)?;
+    is_same(&(notes.merged, notes.single), &(1, 1))?;
+    is_same(&(notes.gone > 0 && notes.is_more), &true)
 }

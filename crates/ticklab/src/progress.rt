@@ -5,18 +5,24 @@ use searches_explore::Watch;
 use std::io::IsTerminal;
 use ticklab_answers::Progress;
 
-/// A line that is written over while the search goes on.
+/// A line that is written over while a search goes on.
 #[derive(Drop)]
 pub struct HostProgress<'a> {
     rt: &'a HostRuntime,
     is_told: bool,
+    /// The search is by merged steps.
+    is_merged: bool,
 }
 
 impl<'a> HostProgress<'a> {
     pub fn new(rt: &'a HostRuntime) -> HostProgress<'a>
         ensures { result.is_told ≡ false }
     {
-        HostProgress { rt, is_told: false }
+        HostProgress {
+            rt,
+            is_told: false,
+            is_merged: false,
+        }
     }
 }
 
@@ -26,12 +32,25 @@ impl<'a> Watch for HostProgress<'a> {
     fn seen(&mut self, states: u32, gone: u32) {
         if self.rt.stderr().is_terminal() {
             self.is_told = true;
-            let _written = eprint!(self.rt; "\rticklab: {states} states seen, {gone} gone on from");
+            let steps = if self.is_merged { "merged" } else { "single" };
+            let open = states.saturating_sub(gone);
+            let _written = eprint!(self.rt;
+                "\rticklab: {steps} steps: {states} states seen, {open} not yet gone on from          "
+            );
         }
     }
 }
 
 impl<'a> Progress for HostProgress<'a> {
+    ghost begins = { λ before is_merged after. Unit {0} };
+
+    // A second search has a line of its own.
+    fn begin(&mut self, is_merged: bool) {
+        self.end();
+        self.is_told = false;
+        self.is_merged = is_merged;
+    }
+
     // Leaves the line, if there is one.
     fn end(&self) {
         if self.is_told {

@@ -1,23 +1,33 @@
 -- What an answer of `explore --ends` says, from what was explored and what the answer shows of it.
-use Rattle.std.proofs.Common.{◌≡◌, ◌<◌, ℕ, Bool, true, false, List, [], All, Option, refl, subst, sym}
+use Rattle.std.proofs.Common.{◌≡◌, ◌∙◌, ◌++◌, ◌<◌, ℕ, Bool, true, false, List, All, Option, refl, subst, sym}
+use Rattle.std.proofs.lemmas.Bool.{false≢true}
+use Rattle.std.specs.Prelude.{Vec}
+use Rattle.std.specs.Global.{Global}
 use Rattle.base.specs.Plain.{Name, WholeProgram}
 use Rattle.language_properties.specs.Properties.{Formula}
 use Rattle.language_properties.specs.declared.property.Property.{Property}
 use Rattle.tick_kinds.specs.Resolution.{resolved}
-use Rattle.searches_states.specs.Watching.{Told, IsWatched}
+use Rattle.tick_source.specs.Source.{source}
 use Rattle.searches_states.specs.declared.must_stop.MustStop.{MustStop}
+use Rattle.searches_states.specs.declared.searching.Searched.TheVariants.{Found}
 use Rattle.searches_explore.specs.Ending.{CanAlwaysEnd, EndsIfFair, GoesOn, IfCanEnd, IfEndless, IfEnds, IfLoop, IfStuck, IsEndlessBy, IsLoopAfter, never_answer}
-use Rattle.searches_explore.specs.Lines.{lines_of}
-use Rattle.searches_explore.specs.Never.{AreToldFor}
+use Rattle.searches_explore.specs.Lines.{is_fault, lines_of}
+use Rattle.searches_explore.specs.Never.{IfFault, IfLimit, never_searched_of}
+use Rattle.searches_explore.specs.declared.never_answer.NeverExplored.{NeverExplored}
+use Rattle.searches_explore.specs.declared.never_answer.NeverExplored.TheVariants as N
 use Rattle.searches_explore.specs.declared.end_answer.EndExplored.{EndExplored}
 use Rattle.searches_explore.specs.declared.end_answer.EndExplored.TheVariants.{Trapped, Broken, Stuck, Endless, Ends, CanEnd, Limit}
+use Rattle.ticklab_line.specs.declared.commands.Steps.{Steps}
 use Rattle.ticklab_answers.specs.Asking.{IsOf, TextPlace}
-use Rattle.ticklab_answers.specs.BySteps.{SeesBy, StuckBy}
-use Rattle.ticklab_answers.specs.Ends.{HearsOf, IsEndsExplored, IsEndsFound, IsEndsRefused, IsPast, broken, can_end, endless, ends, no_process, stuck, trapped, unexplored, unknown}
-use Rattle.ticklab_answers.specs.Responses.{Refuses}
-use Rattle.ticklab_answers.specs.Shown.{ShowsEnds}
+use Rattle.ticklab_answers.specs.BySteps.{LimitBy, StuckBy}
+use Rattle.ticklab_answers.specs.Ends.{IsEndsFound, IsEndsFoundBy, IsEndsFoundFirst, IsEndsRefused, IsPast, TellsEnds, TellsHalves, TellsMore, can_end, endless, ends, ends_fault, ends_unknown, first_fault, first_quiet, first_unknown, half, more, no_fault, no_process, stuck, stuck_merged}
+use Rattle.ticklab_answers.specs.Found.{IsQuiet, MeetsLimit, TellsShortest}
+use Rattle.ticklab_answers.specs.Hearing.{Heard, HearsOf, IsHeard}
+use Rattle.ticklab_answers.specs.Shown.{ShowsEnds, ShowsHalved}
 use Rattle.ticklab_answers.specs.declared.response.Response.{Response}
-use Rattle.ticklab_answers.specs.prover.Searches.{AreEndsSearchedBy, IsSearchedBy}
+use Rattle.ticklab_answers.specs.prover.Searches.{AreEndsKnownBy, AreEndsSearchedBy, AreHeardFor, IsKnownBy, is_end_limit, states_of}
+use Rattle.ticklab_answers.proofs.Heard.{heard_as, heard_then}
+use Rattle.ticklab_answers.proofs.Searched.{break_told, fault_by, fault_heard, limit_told, meets_limit, quiet_told, told_both, trap_told}
 
 module _ (m : Bool) (a : WholeProgram ℕ) (asked : MustStop) where
   stuck_by : (k : Bool) (s : List ℕ) → StuckBy k a asked s → All (λ p. p < a.processes) s
@@ -84,66 +94,164 @@ ends_as P Q (Limit count) f is = tt
 
 -- the search was by steps of this kind
 pub ends_searched_as : (m n : Bool) → n ≡ m → (a : WholeProgram ℕ) (lines : List Property) (asked : MustStop) (limit : ℕ) {W : Type 0} (hears : HearsOf W)
-    (before after : W) (e : EndExplored) → IsSearchedBy m a lines limit hears before after (never_answer e) → IfStuck e (StuckBy m a asked)
+    (before after : W) (e : EndExplored) → IsKnownBy m a lines limit (never_answer e) → IfStuck e (StuckBy m a asked)
     → IfLoop e (IsLoopAfter a) → IfCanEnd e (CanAlwaysEnd a asked)
     → IfEndless e (λ prefix cycle. (m ≡ false) × IsEndlessBy a asked prefix cycle × GoesOn a asked prefix cycle)
-    → IfEnds e ((m ≡ false) × EndsIfFair a asked) → AreEndsSearchedBy n a lines asked limit hears before after e
-ends_searched_as m n same a lines asked limit hears before after e never blocked loops can for_ever fair =
-    subst (λ (k : Bool). AreEndsSearchedBy k a lines asked limit hears before after e) (sym same)
-    (record { never = never; blocked = blocked; loops = loops; can = can; endless = for_ever; ends = fair })
+    → IfEnds e ((m ≡ false) × EndsIfFair a asked) → IsHeard hears before after (AreHeardFor m a lines (never_answer e))
+    → AreEndsSearchedBy n a lines asked limit hears before after e
+ends_searched_as m n same a lines asked limit hears before after e never blocked loops can for_ever fair watched =
+    subst (λ (k : Bool). AreEndsSearchedBy k a lines asked limit hears before after e) (sym same) (record {
+      known = record { never = never; blocked = blocked; loops = loops; can = can; endless = for_ever; ends = fair };
+      watched = watched;
+    })
 
-module _ (m : Bool) (input : List ℕ) (a : WholeProgram Name) (lines : List Property) (places : List TextPlace) (asked : MustStop) (limit : ℕ)
-    {W : Type 0} (hears : HearsOf W) (before after : W) where
-  told_of : (e : EndExplored) (x : Response) (told : List Told) → AreEndsSearchedBy m (resolved a) lines asked limit hears before after e
-      → ShowsEnds m asked input a places e x → AreToldFor (SeesBy m (resolved a) (lines_of lines)) (never_answer e) told
-      → IsEndsFound m input a (lines_of lines) places asked limit x told
-  told_of (Trapped s) x told found shows some = trapped s.items found.never.trapped some.0 some.1 shows
-  told_of (Broken s line v) x told found shows some = broken s.items line v found.never.broken some.0 some.1 shows
-  told_of (Stuck s lead_in cycle count) x told found shows all =
-      stuck s.items lead_in.items cycle.items count found.blocked found.loops (record { safe = found.never.safe; watched = all }) shows
-  told_of (Endless prefix cycle count) x told found shows all =
-      endless prefix.items cycle.items count found.endless.0 found.can found.endless.1 found.endless.2
-      (record { safe = found.never.safe; watched = all }) shows
-  told_of (Ends count) x told found shows all =
-      ends count found.ends.0 found.can found.ends.1 (record { safe = found.never.safe; watched = all }) shows
-  told_of (CanEnd count) x told found shows all = can_end count found.can (record { safe = found.never.safe; watched = all }) shows
-  told_of (Limit count) x told found shows some = unknown count found.never.at_limit some.0 some.1 shows
+module _ (input : List ℕ) (a : WholeProgram Name) (lines : List Property) (places : List TextPlace) (limit : ℕ) (asked : MustStop) where
+  -- nothing is wrong, and all states were seen
+  told_ends : (m : Bool) (e : EndExplored) (x : Response) (heard : List Heard) → AreEndsKnownBy m (resolved a) lines asked limit e
+      → IfFault (never_answer e) (λ schedule. ⊥) → is_end_limit e ≡ false → ShowsEnds m asked input a places e x
+      → AreHeardFor m (resolved a) lines (never_answer e) heard → TellsEnds input a (lines_of lines) places limit asked m x heard
+  told_ends m (Trapped s) x heard known none seen shows on = absurd none
+  told_ends m (Broken s line v) x heard known none seen shows on = absurd none
+  told_ends m (Stuck s lead_in cycle count) x heard known none seen shows on =
+      stuck s.items lead_in.items cycle.items count known.blocked known.loops
+      (quiet_told input a lines places limit m count heard known.never.safe on) shows
+  told_ends m (Endless prefix cycle count) x heard known none seen shows on =
+      endless prefix.items cycle.items count known.endless.0 known.can known.endless.1 known.endless.2
+      (quiet_told input a lines places limit m count heard known.never.safe on) shows
+  told_ends m (Ends count) x heard known none seen shows on =
+      ends count known.ends.0 known.can known.ends.1 (quiet_told input a lines places limit m count heard known.never.safe on) shows
+  told_ends m (CanEnd count) x heard known none seen shows on =
+      can_end count known.can (quiet_told input a lines places limit m count heard known.never.safe on) shows
+  told_ends m (Limit count) x heard known none seen shows on = absurd (false≢true (sym seen))
 
-  pub ends_searched : (e : EndExplored) (x : Response) → AreEndsSearchedBy m (resolved a) lines asked limit hears before after e
-      → ShowsEnds m asked input a places e x
-      → IsWatched hears before after (IsEndsFound m input a (lines_of lines) places asked limit x)
-  ends_searched e x found shows =
-      let watched = found.never.watched in
-      record {
-        told = watched.told;
-        heard = watched.heard;
-        lawful = told_of e x watched.told found shows watched.lawful;
-      }
+  told_by : (m : Bool) (e : EndExplored) (x : Response) (heard : List Heard) → AreEndsKnownBy m (resolved a) lines asked limit e
+      → ShowsEnds m asked input a places e x → AreHeardFor m (resolved a) lines (never_answer e) heard
+      → IsEndsFoundBy input a (lines_of lines) places limit asked m x heard
+  told_by m (Trapped s) x heard known shows on = ends_fault (trap_told input a lines places limit m s x heard known.never.trapped shows on)
+  told_by m (Broken s line v) x heard known shows on =
+      ends_fault (break_told input a lines places limit m s line v x heard known.never.broken shows on)
+  told_by m (Stuck s lead_in cycle count) x heard known shows on =
+      no_fault (told_ends m (Stuck s lead_in cycle count) x heard known tt refl shows on)
+  told_by m (Endless prefix cycle count) x heard known shows on =
+      no_fault (told_ends m (Endless prefix cycle count) x heard known tt refl shows on)
+  told_by m (Ends count) x heard known shows on = no_fault (told_ends m (Ends count) x heard known tt refl shows on)
+  told_by m (CanEnd count) x heard known shows on = no_fault (told_ends m (CanEnd count) x heard known tt refl shows on)
+  told_by m (Limit count) x heard known shows on =
+      ends_unknown (limit_told input a lines places limit m count x heard known.never.at_limit shows on)
+
+  -- merged steps found nothing wrong, and saw all states
+  module _ (e : EndExplored) (known : AreEndsKnownBy true (resolved a) lines asked limit e) (none : IfFault (never_answer e) (λ schedule. ⊥))
+      (seen : is_end_limit e ≡ false) where
+    quiet_of : (d : EndExplored) → AreEndsKnownBy true (resolved a) lines asked limit d → IfFault (never_answer d) (λ schedule. ⊥)
+        → is_end_limit d ≡ false → (heard : List Heard) → AreHeardFor true (resolved a) lines (never_answer d) heard
+        → IsQuiet true (resolved a) (lines_of lines) limit (states_of d) heard
+    quiet_of (Trapped s) known none seen heard on = absurd none
+    quiet_of (Broken s line v) known none seen heard on = absurd none
+    quiet_of (Stuck s lead_in cycle count) known none seen heard on = quiet_told input a lines places limit true count heard known.never.safe on
+    quiet_of (Endless prefix cycle count) known none seen heard on = quiet_told input a lines places limit true count heard known.never.safe on
+    quiet_of (Ends count) known none seen heard on = quiet_told input a lines places limit true count heard known.never.safe on
+    quiet_of (CanEnd count) known none seen heard on = quiet_told input a lines places limit true count heard known.never.safe on
+    quiet_of (Limit count) known none seen heard on = absurd (false≢true (sym seen))
+
+    never_faults : (d : EndExplored) → AreEndsKnownBy true (resolved a) lines asked limit d → IfFault (never_answer d) (λ schedule. ⊥)
+        → is_end_limit d ≡ false → (schedule : List ℕ) → is_fault (lines_of lines) (source (resolved a) schedule) ≡ false
+    never_faults (Trapped s) known none seen = absurd none
+    never_faults (Broken s line v) known none seen = absurd none
+    never_faults (Stuck s lead_in cycle count) known none seen = known.never.safe.never
+    never_faults (Endless prefix cycle count) known none seen = known.never.safe.never
+    never_faults (Ends count) known none seen = known.never.safe.never
+    never_faults (CanEnd count) known none seen = known.never.safe.never
+    never_faults (Limit count) known none seen = absurd (false≢true (sym seen))
+
+    -- then single steps find no fault either
+    no_other : (d : NeverExplored) → IfFault d (λ schedule. is_fault (lines_of lines) (source (resolved a) schedule) ≡ true) → IfFault d (λ schedule. ⊥)
+    no_other (N.Trapped s) is = false≢true (sym (never_faults e known none seen s.items) ∙ is)
+    no_other (N.Broken s line v) is = false≢true (sym (never_faults e known none seen s.items) ∙ is)
+    no_other (N.Safe count) is = tt
+    no_other (N.Limit count) is = tt
+
+    told_half : (d : EndExplored) → AreEndsKnownBy true (resolved a) lines asked limit d → IfFault (never_answer d) (λ schedule. ⊥)
+        → is_end_limit d ≡ false → (others : ℕ) (x : Response) (heard : List Heard)
+        → MeetsLimit false (resolved a) (lines_of lines) limit others heard → ShowsHalved asked input a places others d x
+        → TellsMore input a (lines_of lines) places limit asked (states_of d) x heard
+    told_half (Trapped s) known none seen others x heard meets shows = absurd none
+    told_half (Broken s line v) known none seen others x heard meets shows = absurd none
+    told_half (Stuck s lead_in cycle count) known none seen others x heard meets shows =
+        stuck_merged s.items lead_in.items cycle.items known.blocked known.loops others meets shows
+    told_half (Endless prefix cycle count) known none seen others x heard meets shows = absurd (false≢true (sym known.endless.0))
+    told_half (Ends count) known none seen others x heard meets shows = absurd (false≢true (sym known.ends.0))
+    told_half (CanEnd count) known none seen others x heard meets shows = half known.can others meets shows
+    told_half (Limit count) known none seen others x heard meets shows = absurd (false≢true (sym seen))
+
+    limit_met : (d : EndExplored) (others : ℕ) → d ≡ Limit others → AreEndsKnownBy false (resolved a) lines asked limit d → (heard : List Heard)
+        → AreHeardFor false (resolved a) lines (never_answer d) heard → MeetsLimit false (resolved a) (lines_of lines) limit others heard
+    limit_met d others is single heard on =
+        meets_limit input a lines places limit false others heard
+        (subst (λ (o : EndExplored). IfLimit (never_answer o) (LimitBy false (resolved a) (lines_of lines) limit)) is single.never.at_limit)
+        (subst (λ (o : EndExplored). AreHeardFor false (resolved a) lines (never_answer o) heard) is on)
+
+    module _ {W : Type 0} (hears : HearsOf W) (before after : W) (d : EndExplored) (x : Response)
+        (single : AreEndsSearchedBy false (resolved a) lines asked limit hears before after d) where
+      pub more_as : is_end_limit d ≡ false → ShowsEnds false asked input a places d x
+          → IsHeard hears before after (TellsMore input a (lines_of lines) places limit asked (states_of e) x)
+      more_as all shows =
+          heard_as hears before after (λ heard on. more (told_ends false d x heard single.known
+          (no_other (never_answer d) (fault_by (resolved a) lines false limit (never_answer d) single.known.never)) all shows on)) single.watched
+
+      pub half_as : (others : ℕ) → d ≡ Limit others → ShowsHalved asked input a places others e x
+          → IsHeard hears before after (TellsMore input a (lines_of lines) places limit asked (states_of e) x)
+      half_as others is shows =
+          heard_as hears before after (λ heard on. told_half e known none seen others x heard (limit_met d others is single.known heard on) shows)
+          single.watched
+
+    pub quiet_first : {W : Type 0} (hears : HearsOf W) (before between after : W) (x : Response)
+        → IsHeard hears before between (AreHeardFor true (resolved a) lines (never_answer e))
+        → IsHeard hears between after (TellsMore input a (lines_of lines) places limit asked (states_of e) x)
+        → IsHeard hears before after (IsEndsFoundFirst input a (lines_of lines) places limit asked x)
+    quiet_first hears before between after x merged single =
+        heard_then hears before between after (λ first more on then. first_quiet (record {
+          states = states_of e;
+          first = first;
+          merged = quiet_of e known none seen first on;
+          more = more;
+          single = then;
+          whole = refl;
+        })) merged single
+
+  module _ {W : Type 0} (hears : HearsOf W) (before after : W) where
+    pub ends_found_as : (m : Bool) (e : EndExplored) (x : Response) → AreEndsSearchedBy m (resolved a) lines asked limit hears before after e
+        → ShowsEnds m asked input a places e x → IsHeard hears before after (IsEndsFoundBy input a (lines_of lines) places limit asked m x)
+    ends_found_as m e x searched shows = heard_as hears before after (λ heard on. told_by m e x heard searched.known shows on) searched.watched
+
+    pub unknown_first : (e : EndExplored) (states : ℕ) (x : Response) → e ≡ Limit states
+        → AreEndsSearchedBy true (resolved a) lines asked limit hears before after e → ShowsEnds true asked input a places e x
+        → IsHeard hears before after (IsEndsFoundFirst input a (lines_of lines) places limit asked x)
+    unknown_first e states x is searched shows =
+        heard_as hears before after (λ heard on. first_unknown (limit_told input a lines places limit true states x heard
+        (subst (λ (o : EndExplored). IfLimit (never_answer o) (LimitBy true (resolved a) (lines_of lines) limit)) is searched.known.never.at_limit)
+        (subst (λ (o : EndExplored). ShowsEnds true asked input a places o x) is shows)
+        (subst (λ (o : EndExplored). AreHeardFor true (resolved a) lines (never_answer o) heard) is on))) searched.watched
+
+    pub fault_first : (between : W) (e : EndExplored) (schedule : Vec ℕ Global) (x : Response)
+        → AreEndsSearchedBy true (resolved a) lines asked limit hears before between e → never_searched_of (never_answer e) ≡ Found schedule
+        → IsHeard hears between after (TellsShortest input a (lines_of lines) places limit x)
+        → IsHeard hears before after (IsEndsFoundFirst input a (lines_of lines) places limit asked x)
+    fault_first between e schedule x searched is single =
+        heard_then hears before between after (λ first more on then. first_fault (told_both input a lines places limit x first more
+        (fault_heard input a lines places limit (never_answer e) schedule first is on) then)) searched.watched single
 
 -- what is found, where the places and who is asked for are these
-pub found_by : {W : Type 0} (hears : W → ℕ → ℕ → W → Type 0) (before after : W) (m : Bool) (input : List ℕ) (a : WholeProgram Name) (lines : List Formula)
-    (places others : List TextPlace) (asked other : MustStop) (limit : ℕ) (x : Response) (P : List Told → Type 0)
-    → places ≡ others → asked ≡ other → ((told : List Told) → IsEndsFound m input a lines others other limit x told → P told)
-    → IsWatched hears before after (IsEndsFound m input a lines places asked limit x) → IsWatched hears before after P
-found_by hears before after m input a lines places others asked other limit x P same_places same_asked f watched = record {
-  told = watched.told;
-  heard = watched.heard;
-  lawful = f watched.told (subst (λ (to : MustStop). IsEndsFound m input a lines others to limit x watched.told) same_asked
-      (subst (λ (at : List TextPlace). IsEndsFound m input a lines at asked limit x watched.told) same_places watched.lawful));
-}
+pub ends_moved : {W : Type 0} (hears : HearsOf W) (before after : W) (steps : Steps) (input : List ℕ) (a : WholeProgram Name) (lines : List Formula)
+    (places others : List TextPlace) (asked other : MustStop) (limit : ℕ) (x : Response) (P : List Heard → Type 0)
+    → places ≡ others → asked ≡ other → ((heard : List Heard) → IsEndsFound input a lines others limit other steps x heard → P heard)
+    → IsHeard hears before after (IsEndsFound input a lines places limit asked steps x) → IsHeard hears before after P
+ends_moved hears before after steps input a lines places others asked other limit x P same_places same_asked f found =
+    heard_as hears before after (λ heard on. f heard
+    (subst (λ (to : MustStop). IsEndsFound input a lines others limit to steps x heard) same_asked
+    (subst (λ (at : List TextPlace). IsEndsFound input a lines at limit asked steps x heard) same_places on))) found
 
 -- the report of a process that there isn't
 pub past_told : {W : Type 0} (before : W) (name : List ℕ) (texts : List (List ℕ)) (process : Option ℕ) (input : List ℕ) (p : WholeProgram Name) → IsOf input p → (n : ℕ) → n ≡ (resolved p).processes
     → (report : List ℕ) → IsPast n process report → IsEndsRefused name texts process input report × (before ≡ before)
 past_told before name texts process input p is n same report past =
     (no_process is.0 (subst (λ q. IsPast (resolved q).processes process report) is.1 (subst (λ k. IsPast k process report) same past)), refl)
-
--- a watch was told nothing of an input that is refused
-pub ends_unwatched : {W : Type 0} (hears : W → ℕ → ℕ → W → Type 0) (before after : W) (m : Bool) (name : List ℕ) (texts : List (List ℕ)) (process : Option ℕ) (limit : ℕ) (input : List ℕ) (x : Response)
-    → Refuses 1 (λ report. IsEndsRefused name texts process input report × (before ≡ after)) x
-    → IsWatched hears before after (IsEndsExplored m name texts process limit input x)
-ends_unwatched hears before after m name texts process limit input x refused = record {
-  told = [];
-  heard = refused.told.1;
-  lawful = unexplored (record { status = refused.status; nothing = refused.nothing; told = refused.told.0 }) refl;
-}

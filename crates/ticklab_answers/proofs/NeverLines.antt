@@ -18,7 +18,7 @@ use Rattle.tick_source.specs.Source.{SourceState}
 use Rattle.searches_explore.specs.declared.never_answer.NeverExplored.{NeverExplored}
 use Rattle.searches_explore.specs.declared.never_answer.NeverExplored.TheVariants.{Trapped, Broken, Safe, Limit}
 use Rattle.ticklab_answers.specs.Asking.{TellsOption, TellsText, TextPlace, option_then, options_after, place_of, text_place, texts_of}
-use Rattle.ticklab_answers.specs.Exploring.{BrokenBy, TrapBy}
+use Rattle.ticklab_answers.specs.BySteps.{BrokenBy, TrapBy}
 use Rattle.ticklab_answers.specs.declared.asking.PropertyPlace.{PropertyPlace}
 
 -- what is taken apart are the lines

@@ -1,72 +1,225 @@
 -- What an answer says, from what was explored and what the answer shows of it.
-use Rattle.std.proofs.Common.{◌≡◌, ℕ, Bool, false, List, [], length, refl, subst, sym}
-use Rattle.base.specs.Plain.{WholeProgram}
+use Rattle.std.proofs.Common.{◌≡◌, ◌∙◌, ◌++◌, ◌<◌, ℕ, Bool, true, false, List, All, ap, length, refl, subst, sym}
+use Rattle.std.proofs.lemmas.Bool.{false≢true, or_right}
+use Rattle.std.proofs.Math.Bool.{true-or}
+use Rattle.std.specs.Prelude.{◌||◌, Vec}
+use Rattle.std.specs.Global.{Global}
+use Rattle.std.proofs.lemmas.List.Folds.{list_any_at}
+use Rattle.std.proofs.lemmas.Option.{get_or_from_slice_get, slice_get_within}
+use Rattle.base.specs.Plain.{Name, WholeProgram}
+use Rattle.language_properties.specs.Properties.{Formula}
+use Rattle.language_properties.specs.Values.{Valued}
 use Rattle.language_properties.specs.declared.property.Property.{Property}
 use Rattle.tick_kinds.specs.Resolution.{resolved}
-use Rattle.searches_states.specs.Watching.{Told, IsWatched}
-use Rattle.searches_explore.specs.Lines.{lines_of}
-use Rattle.searches_explore.specs.Never.{AreToldFor, IfBroken, IfLimit, IfSafe, IfTrapped}
+use Rattle.tick_source.specs.Source.{SourceState, source}
+use Rattle.searches_explore.specs.Explored.{has_trapped}
+use Rattle.searches_explore.specs.Lines.{IsFirstBroken, breaks, is_broken, is_fault, line_value, lines_of}
+use Rattle.searches_states.specs.Answer.{IfFound}
+use Rattle.searches_states.specs.Watching.{AreTold}
+use Rattle.searches_states.specs.declared.searching.Searched.{Searched}
+use Rattle.searches_states.specs.declared.searching.Searched.TheVariants.{Found, Limit as Full, Nowhere}
+use Rattle.searches_explore.specs.Never.{IfBroken, IfFault, IfLimit, IfSafe, IfTrapped, never_searched_of}
 use Rattle.searches_explore.specs.declared.never_answer.NeverExplored.{NeverExplored}
 use Rattle.searches_explore.specs.declared.never_answer.NeverExplored.TheVariants.{Trapped, Broken, Safe, Limit}
-use Rattle.ticklab_answers.specs.Asking.{AsksNever, TextPlace, places_by}
-use Rattle.ticklab_answers.specs.Ends.{asks_ends}
-use Rattle.ticklab_answers.specs.Exploring.{BrokenBy, HearsOf, IsExplored, IsUnexplored, LimitBy, SafeBy, SeesBy, TrapBy, break_line_by, broken, line_by, safe, trapped, unexplored, unknown}
-use Rattle.ticklab_answers.specs.Responses.{Refuses}
-use Rattle.ticklab_answers.specs.Shown.{Shows, ShowsBroken, ShowsSafe}
+use Rattle.searches_hunt.specs.Minimal.{IfBroken as IfBreaks, IfTrapped as IfTraps, schedule_of}
+use Rattle.searches_hunt.specs.Never.{IsMinimalBroken, IsMinimalTrapped}
+use Rattle.searches_hunt.specs.declared.minimal.Minimal.{Minimal}
+use Rattle.searches_hunt.specs.declared.minimal.Minimal.TheVariants as M
+use Rattle.ticklab_answers.specs.Asking.{TextPlace}
+use Rattle.ticklab_answers.specs.BySteps.{BrokenBy, LimitBy, SafeBy, SeesBy, TrapBy}
+use Rattle.ticklab_answers.specs.Found.{IsFoundBy, IsFoundFirst, IsQuiet, MeetsLimit, TellsBoth, TellsFault, TellsLimit, TellsSafe, TellsShortest, broken, fault, first_fault, first_safe, first_unknown, minimal_break, minimal_trap, safe, shortest, trapped, unknown}
+use Rattle.ticklab_answers.specs.Hearing.{Heard, HearsOf, IsHeard, IsSearchHeard}
+use Rattle.ticklab_answers.specs.Shown.{Shows, ShowsMinimal}
 use Rattle.ticklab_answers.specs.declared.response.Response.{Response}
-use Rattle.ticklab_answers.specs.prover.Searches.{IsSearchedBy}
-use Rattle.ticklab_answers.proofs.NeverLines.{lawful_by, within_by}
+use Rattle.ticklab_answers.specs.prover.Searches.{AreHeardFor, IsKnownBy, IsSearchedBy, is_limit}
+use Rattle.ticklab_answers.proofs.Heard.{heard_as, heard_then}
+use Rattle.ticklab_answers.proofs.NeverLines.{lawful_by, line_within, within_by}
 
--- of what was explored by steps of this kind, with what must never hold of the program of an input
-module _ (m : Bool) (name : List ℕ) (texts : List (List ℕ)) (limit : ℕ) (input : List ℕ) (asks : AsksNever texts input)
-    (plain : asks_ends asks.file.asked.ends ≡ false) (places : List TextPlace)
-    (same : places ≡ places_by name input asks.file.asked texts) (many : length places ≡ length asks.lines) where
-  told_of : (e : NeverExplored) (x : Response) (told : List Told)
-      → IfTrapped e (TrapBy m (resolved asks.file.program) asks.lines) → IfBroken e (BrokenBy m (resolved asks.file.program) asks.lines)
-      → IfSafe e (SafeBy m (resolved asks.file.program) asks.lines limit) → IfLimit e (LimitBy m (resolved asks.file.program) asks.lines limit)
-      → Shows (line_by m) (break_line_by m) input asks.file.program places e x
-      → AreToldFor (SeesBy m (resolved asks.file.program) asks.lines) e told → IsExplored m name texts limit input x told
-  told_of (Trapped s) x told traps breaks never full shows some = trapped asks plain s.items traps some.0 some.1 shows
-  told_of (Broken s line v) x told traps breaks never full shows some =
-      broken asks plain s.items line v breaks some.0 some.1
-      (subst (λ (ps : List TextPlace). ShowsBroken (break_line_by m) input asks.file.program ps s.items line v x) same shows)
-  told_of (Safe count) x told traps breaks never full shows all = safe asks plain count never all (subst (λ (n : ℕ). ShowsSafe n count x) many shows)
-  told_of (Limit count) x told traps breaks never full shows some = unknown asks plain count full some.0 some.1 shows
-
-  pub searched : {W : Type 0} (hears : W → ℕ → ℕ → W → Type 0) (before after : W) (e : NeverExplored) (x : Response)
-      → IfTrapped e (TrapBy m (resolved asks.file.program) asks.lines) → IfBroken e (BrokenBy m (resolved asks.file.program) asks.lines)
-      → IfSafe e (SafeBy m (resolved asks.file.program) asks.lines limit) → IfLimit e (LimitBy m (resolved asks.file.program) asks.lines limit)
-      → Shows (line_by m) (break_line_by m) input asks.file.program places e x
-      → IsWatched hears before after (AreToldFor (SeesBy m (resolved asks.file.program) asks.lines) e)
-      → IsWatched hears before after (IsExplored m name texts limit input x)
-  searched hears before after e x traps breaks never full shows watched = record {
-    told = watched.told;
-    heard = watched.heard;
-    lawful = told_of e x watched.told traps breaks never full shows watched.lawful;
-  }
+-- what is known of it
+pub known_as : (m : Bool) (a : WholeProgram ℕ) (lines : List Property) (limit : ℕ) (e : NeverExplored) → IfTrapped e (TrapBy m a (lines_of lines))
+    → IfBroken e (BrokenBy m a (lines_of lines)) → IfSafe e (SafeBy m a (lines_of lines) limit) → IfLimit e (LimitBy m a (lines_of lines) limit)
+    → IsKnownBy m a lines limit e
+known_as m a lines limit e traps breaks never full = record {
+  trapped = traps;
+  broken = breaks;
+  safe = never;
+  at_limit = full;
+  lawful = lawful_by a lines m e traps breaks;
+  within = within_by a lines m e breaks;
+}
 
 -- the search was by steps of this kind
 pub searched_as : (m n : Bool) → n ≡ m → (a : WholeProgram ℕ) (lines : List Property) (limit : ℕ) {W : Type 0} (hears : HearsOf W) (before after : W)
     (e : NeverExplored) → IfTrapped e (TrapBy m a (lines_of lines)) → IfBroken e (BrokenBy m a (lines_of lines))
     → IfSafe e (SafeBy m a (lines_of lines) limit) → IfLimit e (LimitBy m a (lines_of lines) limit)
-    → IsWatched hears before after (AreToldFor (SeesBy m a (lines_of lines)) e) → IsSearchedBy n a lines limit hears before after e
+    → IsHeard hears before after (AreHeardFor m a lines e) → IsSearchedBy n a lines limit hears before after e
 searched_as m n same a lines limit hears before after e traps breaks never full watched =
-    subst (λ (k : Bool). IsSearchedBy k a lines limit hears before after e) (sym same) (record {
-      trapped = traps;
-      broken = breaks;
-      safe = never;
-      at_limit = full;
-      watched = watched;
-      lawful = lawful_by a lines m e traps breaks;
-      within = within_by a lines m e breaks;
-    })
+    subst (λ (k : Bool). IsSearchedBy k a lines limit hears before after e) (sym same)
+    (record { known = known_as m a lines limit e traps breaks never full; watched = watched })
 
--- a watch was told nothing of an input that is refused
-pub unwatched : {W : Type 0} (hears : W → ℕ → ℕ → W → Type 0) (before after : W) (m : Bool) (name : List ℕ) (texts : List (List ℕ)) (limit : ℕ) (input : List ℕ) (x : Response)
-    → Refuses 1 (λ report. IsUnexplored name texts input report × (before ≡ after)) x
-    → IsWatched hears before after (IsExplored m name texts limit input x)
-unwatched hears before after m name texts limit input x refused = record {
-  told = [];
-  heard = refused.told.1;
-  lawful = unexplored (record { status = refused.status; nothing = refused.nothing; told = refused.told.0 }) refl;
-}
+abbrev is_found : Searched → Bool
+is_found (Found schedule) = true
+is_found s = false
+
+not_found : {schedule : Vec ℕ Global} {s : Searched} → is_found s ≡ false → s ≡ Found schedule → ⊥
+not_found none is = false≢true (sym none ∙ ap is_found is)
+
+-- a line that is broken, or a process that traps, is a fault
+first_breaks : (lines : List Formula) (s : SourceState) (line : ℕ) (v : Valued) → IsFirstBroken lines s line v → breaks lines s ≡ true
+first_breaks lines s line v is =
+    list_any_at (λ one. is_broken (line_value s one)) lines line is.formula (slice_get_within lines line is.formula is.there)
+    (ap (λ one. is_broken (line_value s one)) (get_or_from_slice_get lines line is.formula is.formula is.there) ∙ ap is_broken is.valued ∙ is.broken)
+
+module _ (a : WholeProgram ℕ) (lines : List Property) where
+  trap_is_fault : (s : SourceState) → has_trapped s ≡ true → is_fault (lines_of lines) s ≡ true
+  trap_is_fault s is = or_right (breaks (lines_of lines) s) (has_trapped s) is
+
+  break_is_fault : (s : SourceState) (line : ℕ) (v : Valued) → IsFirstBroken (lines_of lines) s line v → is_fault (lines_of lines) s ≡ true
+  break_is_fault s line v is = ap (λ (b : Bool). b || has_trapped s) (first_breaks (lines_of lines) s line v is) ∙ true-or (has_trapped s)
+
+  -- what is found by steps of either kind
+  pub fault_by : (m : Bool) (limit : ℕ) (e : NeverExplored) → IsKnownBy m a lines limit e
+      → IfFault e (λ schedule. is_fault (lines_of lines) (source a schedule) ≡ true)
+  fault_by false limit (Trapped s) known = trap_is_fault (source a s.items) known.trapped.traps
+  fault_by true limit (Trapped s) known = trap_is_fault (source a s.items) known.trapped.traps
+  fault_by false limit (Broken s line v) known = break_is_fault (source a s.items) line v known.broken.broken.first
+  fault_by true limit (Broken s line v) known = break_is_fault (source a s.items) line v known.broken.first
+  fault_by m limit (Safe states) known = tt
+  fault_by m limit (Limit states) known = tt
+
+  -- of what needs all its steps
+  pub minimal_lawful : (k : Minimal) → IfTraps k (IsMinimalTrapped a (lines_of lines)) → IfBreaks k (IsMinimalBroken a (lines_of lines))
+      → All (λ p. p < a.processes) (schedule_of k)
+  minimal_lawful (M.Trapped s) traps breaks = traps.lawful
+  minimal_lawful (M.Broken s line v) traps breaks = breaks.broken.lawful
+
+  pub minimal_within : (k : Minimal) → IfBreaks k (IsMinimalBroken a (lines_of lines)) → IfBreaks k (λ schedule line v. line < length lines)
+  minimal_within (M.Trapped s) breaks = tt
+  minimal_within (M.Broken s line v) breaks = line_within a lines _ line v breaks.broken.first
+
+-- what holds of the schedule of a fault
+pub of_found : (P : List ℕ → Type 0) (e : NeverExplored) (schedule : Vec ℕ Global) → never_searched_of e ≡ Found schedule → IfFault e P → P schedule.items
+of_found P e schedule is held = subst (λ (s : Searched). IfFound s P) is held
+
+module _ (input : List ℕ) (a : WholeProgram Name) (lines : List Property) (places : List TextPlace) (limit : ℕ) where
+  -- so far a search is heard, of which this is known
+  on_the_way : {m : Bool} {e : NeverExplored} {heard : List Heard} (gone : ℕ) (on : AreHeardFor m (resolved a) lines e heard)
+      → AreTold (SeesBy m (resolved a) (lines_of lines)) gone on.told → IsSearchHeard m (resolved a) (lines_of lines) gone heard
+  on_the_way gone on are = record { told = on.told; are = are; whole = on.whole }
+
+  pub trap_told : (m : Bool) (s : Vec ℕ Global) (x : Response) (heard : List Heard) → TrapBy m (resolved a) (lines_of lines) s.items
+      → Shows m input a places (Trapped s) x → AreHeardFor m (resolved a) lines (Trapped s) heard
+      → TellsFault input a (lines_of lines) places limit m x heard
+  trap_told m s x heard traps shows on = trapped s.items traps on.are.0 (on_the_way on.are.0 on on.are.1) shows
+
+  pub break_told : (m : Bool) (s : Vec ℕ Global) (line : ℕ) (v : Valued) (x : Response) (heard : List Heard)
+      → BrokenBy m (resolved a) (lines_of lines) s.items line v
+      → Shows m input a places (Broken s line v) x → AreHeardFor m (resolved a) lines (Broken s line v) heard
+      → TellsFault input a (lines_of lines) places limit m x heard
+  break_told m s line v x heard breaks shows on = broken s.items line v breaks on.are.0 (on_the_way on.are.0 on on.are.1) shows
+
+  pub quiet_told : (m : Bool) (states : ℕ) (heard : List Heard) → SafeBy m (resolved a) (lines_of lines) limit states
+      → AreHeardFor m (resolved a) lines (Safe states) heard → IsQuiet m (resolved a) (lines_of lines) limit states heard
+  quiet_told m states heard never on = record { safe = never; on_the_way = on_the_way states on on.are }
+
+  safe_told : (m : Bool) (states : ℕ) (x : Response) (heard : List Heard) → SafeBy m (resolved a) (lines_of lines) limit states
+      → Shows m input a places (Safe states) x → AreHeardFor m (resolved a) lines (Safe states) heard
+      → TellsSafe input a (lines_of lines) places limit m x heard
+  safe_told m states x heard never shows on = record {
+    states = states;
+    quiet = quiet_told m states heard never on;
+    shown = shows;
+  }
+
+  pub meets_limit : (m : Bool) (states : ℕ) (heard : List Heard) → LimitBy m (resolved a) (lines_of lines) limit states
+      → AreHeardFor m (resolved a) lines (Limit states) heard → MeetsLimit m (resolved a) (lines_of lines) limit states heard
+  meets_limit m states heard full on = record { more = full; gone = on.are.0; on_the_way = on_the_way on.are.0 on on.are.1 }
+
+  pub limit_told : (m : Bool) (states : ℕ) (x : Response) (heard : List Heard) → LimitBy m (resolved a) (lines_of lines) limit states
+      → Shows m input a places (Limit states) x → AreHeardFor m (resolved a) lines (Limit states) heard
+      → TellsLimit input a (lines_of lines) places limit m x heard
+  limit_told m states x heard full shows on = record { states = states; meets = meets_limit m states heard full on; shown = shows }
+
+  told_by : (m : Bool) (e : NeverExplored) (x : Response) (heard : List Heard) → IsKnownBy m (resolved a) lines limit e
+      → Shows m input a places e x → AreHeardFor m (resolved a) lines e heard → IsFoundBy input a (lines_of lines) places limit m x heard
+  told_by m (Trapped s) x heard known shows on = fault (trap_told m s x heard known.trapped shows on)
+  told_by m (Broken s line v) x heard known shows on = fault (break_told m s line v x heard known.broken shows on)
+  told_by m (Safe states) x heard known shows on = safe (safe_told m states x heard known.safe shows on)
+  told_by m (Limit states) x heard known shows on = unknown (limit_told m states x heard known.at_limit shows on)
+
+  told_first : (e : NeverExplored) (x : Response) (heard : List Heard) → IsKnownBy true (resolved a) lines limit e → IfFault e (λ schedule. ⊥)
+      → Shows true input a places e x → AreHeardFor true (resolved a) lines e heard → IsFoundFirst input a (lines_of lines) places limit x heard
+  told_first (Trapped s) x heard known none shows on = absurd none
+  told_first (Broken s line v) x heard known none shows on = absurd none
+  told_first (Safe states) x heard known none shows on = first_safe (safe_told true states x heard known.safe shows on)
+  told_first (Limit states) x heard known none shows on = first_unknown (limit_told true states x heard known.at_limit shows on)
+
+  -- there is a fault
+  module _ (schedule : List ℕ) (wrong : is_fault (lines_of lines) (source (resolved a) schedule) ≡ true) where
+    told_shortest : (e : NeverExplored) (x : Response) (heard : List Heard) → IsKnownBy false (resolved a) lines limit e → is_limit e ≡ false
+        → Shows false input a places e x → AreHeardFor false (resolved a) lines e heard → TellsShortest input a (lines_of lines) places limit x heard
+    told_shortest (Trapped s) x heard known seen shows on = shortest (trap_told false s x heard known.trapped shows on)
+    told_shortest (Broken s line v) x heard known seen shows on = shortest (break_told false s line v x heard known.broken shows on)
+    told_shortest (Safe states) x heard known seen shows on = absurd (false≢true (sym (known.safe.never schedule) ∙ wrong))
+    told_shortest (Limit states) x heard known seen shows on = absurd (false≢true (sym seen))
+
+  told_minimal : (e : NeverExplored) (k : Minimal) (x : Response) (heard : List Heard) → IsKnownBy false (resolved a) lines limit e → is_limit e ≡ true
+      → IfTraps k (IsMinimalTrapped (resolved a) (lines_of lines)) → IfBreaks k (IsMinimalBroken (resolved a) (lines_of lines))
+      → ShowsMinimal input a places k x → AreHeardFor false (resolved a) lines e heard → TellsShortest input a (lines_of lines) places limit x heard
+  told_minimal (Limit states) (M.Trapped s) x heard known full traps breaks shows on =
+      minimal_trap states (meets_limit false states heard known.at_limit on) s.items traps shows
+  told_minimal (Limit states) (M.Broken s line v) x heard known full traps breaks shows on =
+      minimal_break states (meets_limit false states heard known.at_limit on) s.items line v breaks shows
+  told_minimal (Trapped s) k x heard known full traps breaks shows on = absurd (false≢true full)
+  told_minimal (Broken s line v) k x heard known full traps breaks shows on = absurd (false≢true full)
+  told_minimal (Safe states) k x heard known full traps breaks shows on = absurd (false≢true full)
+
+  -- a search that is heard as far as it finds a fault
+  pub fault_heard : (e : NeverExplored) (schedule : Vec ℕ Global) (heard : List Heard) → never_searched_of e ≡ Found schedule
+      → AreHeardFor true (resolved a) lines e heard → (gone : ℕ) × IsSearchHeard true (resolved a) (lines_of lines) gone heard
+  fault_heard (Trapped s) schedule heard is on = (on.are.0, on_the_way on.are.0 on on.are.1)
+  fault_heard (Broken s line v) schedule heard is on = (on.are.0, on_the_way on.are.0 on on.are.1)
+  fault_heard (Safe states) schedule heard is on = absurd (not_found {s = Nowhere states} refl is)
+  fault_heard (Limit states) schedule heard is on = absurd (not_found {s = Full states} refl is)
+
+  -- by merged steps, and then by single ones
+  pub told_both : (x : Response) (first more : List Heard) → (gone : ℕ) × IsSearchHeard true (resolved a) (lines_of lines) gone first
+      → TellsShortest input a (lines_of lines) places limit x more → TellsBoth input a (lines_of lines) places limit x (first ++ more)
+  told_both x first more merged single = record {
+    gone = merged.0;
+    first = first;
+    merged = merged.1;
+    more = more;
+    single = single;
+    whole = refl;
+  }
+
+  module _ {W : Type 0} (hears : HearsOf W) (before after : W) where
+    pub found_as : (m : Bool) (e : NeverExplored) (x : Response) → IsSearchedBy m (resolved a) lines limit hears before after e
+        → Shows m input a places e x → IsHeard hears before after (IsFoundBy input a (lines_of lines) places limit m x)
+    found_as m e x searched shows = heard_as hears before after (λ heard on. told_by m e x heard searched.known shows on) searched.watched
+
+    pub none_first : (e : NeverExplored) (x : Response) → IsSearchedBy true (resolved a) lines limit hears before after e → IfFault e (λ schedule. ⊥)
+        → Shows true input a places e x → IsHeard hears before after (IsFoundFirst input a (lines_of lines) places limit x)
+    none_first e x searched none shows =
+        heard_as hears before after (λ heard on. told_first e x heard searched.known none shows on) searched.watched
+
+    pub shortest_as : (schedule : List ℕ) → is_fault (lines_of lines) (source (resolved a) schedule) ≡ true → (e : NeverExplored) (x : Response)
+        → IsSearchedBy false (resolved a) lines limit hears before after e → is_limit e ≡ false → Shows false input a places e x
+        → IsHeard hears before after (TellsShortest input a (lines_of lines) places limit x)
+    shortest_as schedule wrong e x searched seen shows =
+        heard_as hears before after (λ heard on. told_shortest schedule wrong e x heard searched.known seen shows on) searched.watched
+
+    pub minimal_as : (e : NeverExplored) (k : Minimal) (x : Response) → IsSearchedBy false (resolved a) lines limit hears before after e
+        → is_limit e ≡ true → IfTraps k (IsMinimalTrapped (resolved a) (lines_of lines)) → IfBreaks k (IsMinimalBroken (resolved a) (lines_of lines))
+        → ShowsMinimal input a places k x → IsHeard hears before after (TellsShortest input a (lines_of lines) places limit x)
+    minimal_as e k x searched full traps breaks shows =
+        heard_as hears before after (λ heard on. told_minimal e k x heard searched.known full traps breaks shows on) searched.watched
+
+    pub both_first : (between : W) (e : NeverExplored) (schedule : Vec ℕ Global) (x : Response)
+        → IsSearchedBy true (resolved a) lines limit hears before between e → never_searched_of e ≡ Found schedule
+        → IsHeard hears between after (TellsShortest input a (lines_of lines) places limit x)
+        → IsHeard hears before after (IsFoundFirst input a (lines_of lines) places limit x)
+    both_first between e schedule x searched is single =
+        heard_then hears before between after
+        (λ first more on then. first_fault (told_both x first more (fault_heard e schedule first is on) then)) searched.watched single

@@ -11,8 +11,9 @@ use Rattle.ticklab_line.specs.declared.asking.Line.TheVariants as line
 use Rattle.ticklab_line.specs.declared.commands.Request.TheVariants.{Explore, Ends, Lasso, Hunt, Runs, Trace, Draw, Explain, Labels}
 use Rattle.ticklab_answers.specs.Ends.{ExploresEnds}
 use Rattle.ticklab_answers.specs.Explanations.{Explains}
-use Rattle.ticklab_answers.specs.Exploring.{Explores, HearsOf}
+use Rattle.ticklab_answers.specs.Exploring.{Explores}
 use Rattle.ticklab_answers.specs.Faults.{IsEither, IsOneOf}
+use Rattle.ticklab_answers.specs.Hearing.{HearsOf}
 use Rattle.ticklab_answers.specs.Hunting.{Hunts, plan_of}
 use Rattle.ticklab_answers.specs.Labels.{DrawsLabels}
 use Rattle.ticklab_answers.specs.Lasso.{IsOfThree, Lassoes}
@@ -33,14 +34,14 @@ GivesWords (Ok given) words = words.items ≡ into_iter_items given
 GivesWords (Err error) words = ⊥
 
 -- Files, a runner and a watch are as they are before and after. Nothing is read that the words don't name, the runner
--- makes the runs of `hunt --threads` and no other, and the watch hears of the search of an `explore` and of nothing else.
+-- makes the runs of `hunt --threads` and no other, and the watch hears of the searches of an `explore` and of nothing else.
 module _ {F M W : Type 0} (Reads : ReadsOf F) (ReadsInput : ReadsInputOf F) (Ran : RunsOf M) (hears : HearsOf W)
     (before after : F) (rested ran : M) (quiet heard : W) where
   abbrev pub Responds : Asked → Response → Type 0
-  Responds (Explore file never limit is_merged) response =
-      (ran ≡ rested) × Explores Reads ReadsInput hears before after quiet heard file never limit is_merged response
-  Responds (Ends file never process limit is_merged) response =
-      (ran ≡ rested) × ExploresEnds Reads ReadsInput hears before after quiet heard file never process limit is_merged response
+  Responds (Explore file never limit steps) response =
+      (ran ≡ rested) × Explores Reads ReadsInput hears before after quiet heard file never limit steps response
+  Responds (Ends file never process limit steps) response =
+      (ran ≡ rested) × ExploresEnds Reads ReadsInput hears before after quiet heard file never process limit steps response
   Responds (Lasso file prefix cycle) response =
       (ran ≡ rested) × (heard ≡ quiet) × Lassoes Reads ReadsInput before after file prefix cycle response
   Responds (Hunt file never seed runs from steps is_uniform jobs) response =
@@ -68,8 +69,8 @@ module _ {F M W : Type 0} (Reads : ReadsOf F) (ReadsInput : ReadsInputOf F) (Ran
 
 -- the names of files that a request has
 abbrev pub NamesOf : Asked → List ℕ → Type 0
-NamesOf (Explore file never limit is_merged) name = name ≡ file
-NamesOf (Ends file never process limit is_merged) name = name ≡ file
+NamesOf (Explore file never limit steps) name = name ≡ file
+NamesOf (Ends file never process limit steps) name = name ≡ file
 NamesOf (Lasso file prefix cycle) name = IsOfThree file prefix cycle name
 NamesOf (Hunt file never seed runs from steps is_uniform jobs) name = name ≡ file
 NamesOf (Runs file times turns) name = name ≡ file

@@ -1,26 +1,24 @@
--- What `explore` answers where it asks who ends, and what a watch is told on the way.
-use Rattle.std.specs.Prelude.{◌≡◌, ◌≤◌, ◌<◌, ⊤, ℕ, Bool, true, false, List, [], length, Option, Some, None, replicate, slice_set}
+-- What `explore` answers where it asks who ends, and what a watch hears on the way.
+use Rattle.std.specs.Prelude.{◌≡◌, ◌++◌, ◌≤◌, ◌<◌, ⊤, ℕ, Bool, true, false, List, [], length, Option, Some, None, replicate, slice_set}
 use Rattle.base.specs.Plain.{Name, WholeProgram}
 use Rattle.language_properties.specs.Properties.{Formula}
-use Rattle.language_properties.specs.Values.{Valued}
 use Rattle.language_questions.specs.declared.questions.Ends.{Ends}
 use Rattle.language_questions.specs.declared.questions.Ends.TheVariants as N
 use Rattle.tick_kinds.specs.Resolution.{resolved}
-use Rattle.searches_states.specs.Watching.{Told, AreTold, IsWatched}
 use Rattle.searches_states.specs.declared.must_stop.MustStop.{MustStop}
 use Rattle.searches_states.specs.declared.must_stop.MustStop.TheVariants.{All, Each}
-use Rattle.searches_explore.specs.Ending.{CanAlwaysEnd, EndsIfFair, GoesOn, IsEndlessBy, IsLoopAfter}
+use Rattle.searches_explore.specs.Ending.{CanAlwaysEnd, EndsIfFair, GoesOn, IsEndlessBy, IsLoopAfter, IsStuckAfter}
+use Rattle.ticklab_line.specs.declared.commands.Steps.{Steps}
+use Rattle.ticklab_line.specs.declared.commands.Steps.TheVariants.{MergedFirst, Single, Merged}
 use Rattle.ticklab_answers.specs.Asking.{AsksNever, IsFileRefused, IsProgramFile, TellsOption, TextPlace, lines_in, places_by}
-use Rattle.ticklab_answers.specs.BySteps.{BrokenBy, LimitBy, SafeBy, SeesBy, StuckBy, TrapBy, break_line_by, line_by}
-use Rattle.ticklab_answers.specs.Lines.{no_process_line}
+use Rattle.ticklab_answers.specs.BySteps.{StuckBy}
+use Rattle.ticklab_answers.specs.Found.{IsQuiet, MeetsLimit, TellsBoth, TellsFault, TellsLimit}
+use Rattle.ticklab_answers.specs.Hearing.{Heard, HearsOf, IsHeard}
+use Rattle.ticklab_answers.specs.Lines.{is_nobody, no_process_line}
 use Rattle.ticklab_answers.specs.Reading.{AfterFile, ReadsOf, ReadsInputOf}
 use Rattle.ticklab_answers.specs.Responses.{Refuses}
-use Rattle.ticklab_answers.specs.Shown.{ShowsAllEnd, ShowsBroken, ShowsCanEnd, ShowsEndless, ShowsLimit, ShowsStuck, ShowsTrap}
+use Rattle.ticklab_answers.specs.Shown.{ShowsAllEnd, ShowsCanEnd, ShowsEndless, ShowsHalf, ShowsStuck}
 use Rattle.ticklab_answers.specs.declared.response.Response.{Response}
-
--- what a watch was told, by what it is for it to be told two numbers, of the watch before and after
-abbrev pub HearsOf : Type 0 → Type 1
-HearsOf W = W → ℕ → ℕ → W → Type 0
 
 -- Who is asked for: the process that a command line names; where it names none, those that the line `#! ends` of the
 -- file names; all, where there is no such line.
@@ -56,44 +54,68 @@ pub data IsEndsRefused (name : List ℕ) (texts : List (List ℕ)) (process : Op
   no_option : (is : IsProgramFile input) → IsThere (resolved is.program).processes process
       → TellsOption is.program (lines_in is.asked) texts report → IsEndsRefused name texts process input report
 
--- Nothing is wrong under any schedule, as `explore` says it, there are so many states, and a watch is told of all.
-pub record IsQuietOf (is_merged : Bool) (a : WholeProgram ℕ) (lines : List Formula) (limit states : ℕ) (told : List Told) : Type 0 where
-  pub safe : SafeBy is_merged a lines limit states
-  pub watched : AreTold (SeesBy is_merged a lines) states told
+-- Of the program that an input is, where these lines, which stand at these places, must never hold, and these processes
+-- are asked for; as far as there are at most so many states.
+module _ (input : List ℕ) (a : WholeProgram Name) (lines : List Formula) (places : List TextPlace) (limit : ℕ) (asked : MustStop) where
+  -- Nothing is wrong under any schedule, and this is found of ends. Endless schedules are asked for by single steps alone.
+  pub data TellsEnds (is_merged : Bool) (response : Response) (heard : List Heard) : Type 0 where
+    stuck : (schedule lead_in cycle : List ℕ) (states : ℕ) → StuckBy is_merged (resolved a) asked schedule
+        → IsLoopAfter (resolved a) schedule lead_in cycle → IsQuiet is_merged (resolved a) lines limit states heard
+        → ShowsStuck is_merged (length places) asked input a schedule lead_in cycle response → TellsEnds is_merged response heard
+    endless : (prefix cycle : List ℕ) (states : ℕ) → is_merged ≡ false → CanAlwaysEnd (resolved a) asked → IsEndlessBy (resolved a) asked prefix cycle
+        → GoesOn (resolved a) asked prefix cycle → IsQuiet is_merged (resolved a) lines limit states heard
+        → ShowsEndless (length places) asked input a prefix cycle response → TellsEnds is_merged response heard
+    ends : (states : ℕ) → is_merged ≡ false → CanAlwaysEnd (resolved a) asked → EndsIfFair (resolved a) asked
+        → IsQuiet is_merged (resolved a) lines limit states heard → ShowsAllEnd (length places) asked states response → TellsEnds is_merged response heard
+    can_end : (states : ℕ) → CanAlwaysEnd (resolved a) asked → IsQuiet is_merged (resolved a) lines limit states heard
+        → ShowsCanEnd is_merged (length places) asked states response → TellsEnds is_merged response heard
 
--- What is found of the program that an input is, where these lines, which stand at these places, must never hold, and
--- these processes are asked for; and what a watch is told on the way. A trap or a line that breaks is told first. Endless
--- schedules are asked for by single steps alone.
-pub data IsEndsFound (is_merged : Bool) (input : List ℕ) (a : WholeProgram Name) (lines : List Formula) (places : List TextPlace) (asked : MustStop) (limit : ℕ)
-    (response : Response) (told : List Told) : Type 0 where
-  trapped : (schedule : List ℕ) → TrapBy is_merged (resolved a) lines schedule → (gone : ℕ) → AreTold (SeesBy is_merged (resolved a) lines) gone told
-      → ShowsTrap (line_by is_merged) input a schedule response → IsEndsFound is_merged input a lines places asked limit response told
-  broken : (schedule : List ℕ) (line : ℕ) (v : Valued) → BrokenBy is_merged (resolved a) lines schedule line v
-      → (gone : ℕ) → AreTold (SeesBy is_merged (resolved a) lines) gone told → ShowsBroken (break_line_by is_merged) input a places schedule line v response
-      → IsEndsFound is_merged input a lines places asked limit response told
-  stuck : (schedule lead_in cycle : List ℕ) (states : ℕ) → StuckBy is_merged (resolved a) asked schedule
-      → IsLoopAfter (resolved a) schedule lead_in cycle → IsQuietOf is_merged (resolved a) lines limit states told
-      → ShowsStuck is_merged (length places) asked input a schedule lead_in cycle response → IsEndsFound is_merged input a lines places asked limit response told
-  endless : (prefix cycle : List ℕ) (states : ℕ) → is_merged ≡ false → CanAlwaysEnd (resolved a) asked → IsEndlessBy (resolved a) asked prefix cycle
-      → GoesOn (resolved a) asked prefix cycle → IsQuietOf is_merged (resolved a) lines limit states told
-      → ShowsEndless (length places) asked input a prefix cycle response → IsEndsFound is_merged input a lines places asked limit response told
-  ends : (states : ℕ) → is_merged ≡ false → CanAlwaysEnd (resolved a) asked → EndsIfFair (resolved a) asked
-      → IsQuietOf is_merged (resolved a) lines limit states told
-      → ShowsAllEnd (length places) asked states response → IsEndsFound is_merged input a lines places asked limit response told
-  can_end : (states : ℕ) → CanAlwaysEnd (resolved a) asked → IsQuietOf is_merged (resolved a) lines limit states told
-      → ShowsCanEnd is_merged (length places) asked states response → IsEndsFound is_merged input a lines places asked limit response told
-  unknown : (states : ℕ) → LimitBy is_merged (resolved a) lines limit states → (gone : ℕ) → AreTold (SeesBy is_merged (resolved a) lines) gone told
-      → ShowsLimit states response → IsEndsFound is_merged input a lines places asked limit response told
+  -- By steps of one kind alone. A trap or a line that breaks is told first.
+  pub data IsEndsFoundBy (is_merged : Bool) (response : Response) (heard : List Heard) : Type 0 where
+    ends_unknown : TellsLimit input a lines places limit is_merged response heard → IsEndsFoundBy is_merged response heard
+    ends_fault : TellsFault input a lines places limit is_merged response heard → IsEndsFoundBy is_merged response heard
+    no_fault : TellsEnds is_merged response heard → IsEndsFoundBy is_merged response heard
+
+  -- What is told where merged steps find nothing wrong: of ends what single ones find; where these meet the limit, what
+  -- merged ones do.
+  pub data TellsMore (states : ℕ) (response : Response) (heard : List Heard) : Type 0 where
+    more : TellsEnds false response heard → TellsMore states response heard
+    stuck_merged : (schedule lead_in cycle : List ℕ) → IsStuckAfter (resolved a) asked schedule → IsLoopAfter (resolved a) schedule lead_in cycle
+        → (others : ℕ) → MeetsLimit false (resolved a) lines limit others heard
+        → ShowsStuck true (length places) asked input a schedule lead_in cycle response → TellsMore states response heard
+    half : CanAlwaysEnd (resolved a) asked → (others : ℕ) → MeetsLimit false (resolved a) lines limit others heard
+        → ShowsHalf (length places) asked states others response → TellsMore states response heard
+
+  -- By merged steps, which find nothing wrong, and then by single ones.
+  pub record TellsHalves (response : Response) (heard : List Heard) : Type 0 where
+    pub states : ℕ
+    pub first : List Heard
+    pub merged : IsQuiet true (resolved a) lines limit states first
+    pub more : List Heard
+    pub single : TellsMore states response more
+    pub whole : heard ≡ first ++ more
+
+  -- By merged steps first, and then by single ones; by merged ones alone where these meet the limit, or nobody is asked for.
+  pub data IsEndsFoundFirst (response : Response) (heard : List Heard) : Type 0 where
+    nobody : is_nobody asked ≡ true → IsEndsFoundBy true response heard → IsEndsFoundFirst response heard
+    first_unknown : TellsLimit input a lines places limit true response heard → IsEndsFoundFirst response heard
+    first_fault : TellsBoth input a lines places limit response heard → IsEndsFoundFirst response heard
+    first_quiet : TellsHalves response heard → IsEndsFoundFirst response heard
+
+  abbrev pub IsEndsFound : Steps → Response → List Heard → Type 0
+  IsEndsFound MergedFirst = IsEndsFoundFirst
+  IsEndsFound Single = IsEndsFoundBy false
+  IsEndsFound Merged = IsEndsFoundBy true
 
 -- The answer of `explore --ends` on an input, with these texts of a command line for what must never hold, and what a
--- watch is told on the way. Of an input that is refused nothing is told.
-pub data IsEndsExplored (is_merged : Bool) (name : List ℕ) (texts : List (List ℕ)) (process : Option ℕ) (limit : ℕ) (input : List ℕ) (response : Response) (told : List Told) : Type 0 where
+-- watch hears on the way: nothing of an input that is refused.
+pub data IsEndsExplored (steps : Steps) (name : List ℕ) (texts : List (List ℕ)) (process : Option ℕ) (limit : ℕ) (input : List ℕ) (response : Response) (heard : List Heard) : Type 0 where
   explored : (asks : AsksNever texts input) → IsThere (resolved asks.file.program).processes process
-      → IsEndsFound is_merged input asks.file.program asks.lines (places_by name input asks.file.asked texts) (asked_by asks.file.asked.ends process) limit response told
-      → IsEndsExplored is_merged name texts process limit input response told
-  unexplored : Refuses 1 (IsEndsRefused name texts process input) response → told ≡ [] → IsEndsExplored is_merged name texts process limit input response told
+      → IsEndsFound input asks.file.program asks.lines (places_by name input asks.file.asked texts) limit (asked_by asks.file.asked.ends process) steps response heard
+      → IsEndsExplored steps name texts process limit input response heard
+  unexplored : Refuses 1 (IsEndsRefused name texts process input) response → heard ≡ [] → IsEndsExplored steps name texts process limit input response heard
 
--- the file is read, and the watch hears of the search
-abbrev pub ExploresEnds : {F W : Type 0} → ReadsOf F → ReadsInputOf F → HearsOf W → F → F → W → W → List ℕ → List (List ℕ) → Option ℕ → ℕ → Bool → Response → Type 0
-ExploresEnds Reads ReadsInput hears before after quiet heard file never process limit is_merged response =
-    AfterFile Reads ReadsInput before after file (λ input. IsWatched hears quiet heard (IsEndsExplored is_merged file never process limit input response))
+-- the file is read, and the watch hears of the searches
+abbrev pub ExploresEnds : {F W : Type 0} → ReadsOf F → ReadsInputOf F → HearsOf W → F → F → W → W → List ℕ → List (List ℕ) → Option ℕ → ℕ → Steps → Response → Type 0
+ExploresEnds Reads ReadsInput hears before after quiet heard file never process limit steps response =
+    AfterFile Reads ReadsInput before after file (λ input. IsHeard hears quiet heard (IsEndsExplored steps file never process limit input response))

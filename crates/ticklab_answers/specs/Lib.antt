@@ -7,6 +7,8 @@ pub mod Ends
 pub mod Explanations
 pub mod Exploring
 pub mod Faults
+pub mod Found
+pub mod Hearing
 pub mod Hunting
 pub mod Labels
 pub mod Lasso

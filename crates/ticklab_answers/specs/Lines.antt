@@ -31,8 +31,10 @@ trap_lines found schedule = found ++ line_end ++ schedule_text schedule ++ line_
 unfoldable pub many : ℕ → List ℕ → List ℕ → List ℕ
 many count one more = decimal count ++ codes " " ++ (if count == 1 then one else more)
 
-abbrev pub states_text : ℕ → List ℕ
-states_text count = many count (codes "state") (codes "states")
+-- states between merged steps are told as merged
+abbrev pub states_text : Bool → ℕ → List ℕ
+states_text false count = many count (codes "state") (codes "states")
+states_text true count = many count (codes "merged state") (codes "merged states")
 
 abbrev pub runs_text : ℕ → List ℕ
 runs_text count = many count (codes "run") (codes "runs")
@@ -60,11 +62,19 @@ broken_text (Err trap) = codes "this has no value: it traps with " ++ trap_text 
 abbrev pub safe_text : ℕ → List ℕ
 safe_text lines = if lines == 0 then codes "no process traps" else codes "no process traps and no #! never line breaks"
 
-abbrev pub safe_line : ℕ → ℕ → List ℕ
-safe_line lines states = safe_text lines ++ codes " under any schedule (" ++ states_text states ++ codes ")\n"
+abbrev pub safe_line : Bool → ℕ → ℕ → List ℕ
+safe_line is_merged lines states = safe_text lines ++ codes " under any schedule (" ++ states_text is_merged states ++ codes ")\n"
 
-abbrev pub limit_line : ℕ → List ℕ
-limit_line states = codes "there are more than " ++ states_text states ++ codes ": nothing is said of all schedules\n"
+abbrev pub more_text : Bool → ℕ → List ℕ
+more_text is_merged states = codes "there are more than " ++ states_text is_merged states
+
+-- what may help
+abbrev pub next_line : Bool → List ℕ
+next_line true = codes "try a larger --limit, hunt, or fewer processes or rounds\n"
+next_line false = codes "try it without --single, a larger --limit, hunt, or fewer processes or rounds\n"
+
+abbrev pub limit_line : Bool → ℕ → List ℕ
+limit_line is_merged states = more_text is_merged states ++ codes ": nothing is said of all schedules\n" ++ next_line is_merged
 
 -- how many runs of a plan there are from this one on, of which the last is 4294967294; and what they are
 abbrev pub runs_from : Plan → ℕ → ℕ
@@ -150,19 +160,29 @@ ends_text asked =
     if is_nobody asked then codes "no process is asked whether it can end"
     else (asked_text asked ++ codes " can still end after every schedule, and will if each that runs steps again and again")
 
-abbrev pub ends_line : ℕ → MustStop → ℕ → List ℕ
-ends_line lines asked states = quiet_text lines ++ ends_text asked ++ codes " (" ++ states_text states ++ codes ")\n"
+abbrev pub ends_line : Bool → ℕ → MustStop → ℕ → List ℕ
+ends_line is_merged lines asked states = quiet_text lines ++ ends_text asked ++ codes " (" ++ states_text is_merged states ++ codes ")\n"
 
--- why it isn't known whether they do: endless schedules are asked for by single steps alone
+-- they can always end, and it isn't known whether they do
+abbrev pub can_end_text : Bool → ℕ → MustStop → ℕ → List ℕ
+can_end_text is_merged lines asked states =
+    quiet_text lines ++ asked_text asked ++ codes " can still end after every schedule (" ++ states_text is_merged states
+    ++ codes "); of those in which each that runs steps again and again nothing was "
+
+-- why it isn't: endless schedules are asked for by single steps alone
 abbrev pub unknown_text : Bool → List ℕ
 unknown_text is_merged = if is_merged then codes "asked" else codes "found out"
 
--- the same, where it isn't known whether they do
 abbrev pub can_end_line : Bool → ℕ → MustStop → ℕ → List ℕ
 can_end_line is_merged lines asked states =
-    if is_nobody asked then ends_line lines asked states
-    else (quiet_text lines ++ asked_text asked ++ codes " can still end after every schedule (" ++ states_text states
-    ++ codes "); of those in which each that runs steps again and again nothing was " ++ unknown_text is_merged ++ codes "\n")
+    if is_nobody asked then ends_line is_merged lines asked states
+    else (can_end_text is_merged lines asked states ++ unknown_text is_merged ++ codes "\n")
+
+-- the same of merged steps, where by single ones there are more states than this
+abbrev pub half_line : ℕ → MustStop → ℕ → ℕ → List ℕ
+half_line lines asked states limit =
+    can_end_text true lines asked states ++ codes "found out: " ++ more_text false limit
+    ++ codes "\ntry a larger --limit, or fewer processes or rounds\n"
 
 -- they can always end, and under an endless schedule they don't
 abbrev pub endless_line : ℕ → MustStop → List ℕ

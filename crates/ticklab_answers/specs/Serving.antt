@@ -3,7 +3,7 @@ use Rattle.std.specs.Prelude.{◌≡◌, ℕ, IfOk, List, [], Option, Result, Ok
 use Rattle.std.specs.Io.KnownBytes.{Appends}
 use Rattle.std.specs.declared.io.Error.{Error}
 use Rattle.ticklab_answers.specs.Answers.{GivenWords, RespondsToWords}
-use Rattle.ticklab_answers.specs.Exploring.{HearsOf}
+use Rattle.ticklab_answers.specs.Hearing.{HearsOf}
 use Rattle.ticklab_answers.specs.Faults.{status_of}
 use Rattle.ticklab_answers.specs.Reading.{ReadsOf, ReadsInputOf}
 use Rattle.ticklab_answers.specs.Tallies.{RunsOf}

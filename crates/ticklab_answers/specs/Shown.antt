@@ -1,5 +1,5 @@
 -- What `explore` and `hunt` show of the program that an input is. A schedule is told as that of a trap.
-use Rattle.std.specs.Prelude.{◌≡◌, ◌++◌, ℕ, Bool, List, [], length, slice_get, Some}
+use Rattle.std.specs.Prelude.{◌≡◌, ◌++◌, ℕ, Bool, true, false, List, [], length, slice_get, Some}
 use Rattle.base.specs.Plain.{Name, WholeProgram}
 use Rattle.language_properties.specs.Values.{Valued}
 use Rattle.searches_explore.specs.declared.never_answer.NeverExplored.{NeverExplored}
@@ -7,13 +7,15 @@ use Rattle.searches_explore.specs.declared.never_answer.NeverExplored.TheVariant
 use Rattle.searches_explore.specs.declared.end_answer.EndExplored.{EndExplored}
 use Rattle.searches_explore.specs.declared.end_answer.EndExplored.TheVariants as E
 use Rattle.searches_states.specs.declared.must_stop.MustStop.{MustStop}
+use Rattle.searches_hunt.specs.declared.minimal.Minimal.{Minimal}
+use Rattle.searches_hunt.specs.declared.minimal.Minimal.TheVariants as M
 use Rattle.searches_hunt.specs.declared.never_answer.NeverHunted.{NeverHunted}
 use Rattle.searches_hunt.specs.declared.never_answer.NeverHunted.TheVariants as H
 use Rattle.searches_hunt.specs.declared.plan.Plan.{Plan}
 use Rattle.ticklab_explain.specs.Questions.{IsPointed}
 use Rattle.ticklab_answers.specs.Asking.{TextPlace}
 use Rattle.ticklab_answers.specs.BySteps.{break_line_by, line_by}
-use Rattle.ticklab_answers.specs.Lines.{broken_text, can_end_line, endless_line, ends_line, limit_line, minimal_break_line, minimal_line, nothing_line, safe_line, stuck_line, trap_lines}
+use Rattle.ticklab_answers.specs.Lines.{broken_text, can_end_line, endless_line, ends_line, half_line, limit_line, minimal_break_line, minimal_line, nothing_line, safe_line, stuck_line, trap_lines}
 use Rattle.ticklab_answers.specs.Loops.{IsLoopText}
 use Rattle.ticklab_answers.specs.Responses.{Gives}
 use Rattle.ticklab_answers.specs.Runs.{IsStatementTrace}
@@ -43,22 +45,29 @@ pub record ShowsBroken (found input : List ℕ) (a : WholeProgram Name) (places 
   pub shown : Gives 5 (IsBrokenText found input a schedule place v) response
 
 -- no process traps, and none of so many lines breaks
-abbrev pub ShowsSafe : ℕ → ℕ → Response → Type 0
-ShowsSafe lines states = Gives 0 (λ out. out ≡ safe_line lines states)
+abbrev pub ShowsSafe : Bool → ℕ → ℕ → Response → Type 0
+ShowsSafe is_merged lines states = Gives 0 (λ out. out ≡ safe_line is_merged lines states)
 
-abbrev pub ShowsLimit : ℕ → Response → Type 0
-ShowsLimit states = Gives 6 (λ out. out ≡ limit_line states)
+abbrev pub ShowsLimit : Bool → ℕ → Response → Type 0
+ShowsLimit is_merged states = Gives 6 (λ out. out ≡ limit_line is_merged states)
 
 -- no process traps, and none of so many lines breaks, in the runs of this plan from this one on
 abbrev pub ShowsNothing : ℕ → Plan → ℕ → Response → Type 0
 ShowsNothing lines plan from = Gives 0 (λ out. out ≡ nothing_line lines plan from)
 
--- `trap` and `broken` say how a trap and a line that breaks were found; the lines stand at these places.
-abbrev pub Shows : List ℕ → List ℕ → List ℕ → WholeProgram Name → List TextPlace → NeverExplored → Response → Type 0
-Shows trap broken input a places (Trapped schedule) response = ShowsTrap trap input a schedule.items response
-Shows trap broken input a places (Broken schedule line v) response = ShowsBroken broken input a places schedule.items line v response
-Shows trap broken input a places (Safe states) response = ShowsSafe (length places) states response
-Shows trap broken input a places (Limit states) response = ShowsLimit states response
+-- by steps of one kind; the lines that must never hold stand at these places
+abbrev pub Shows : Bool → List ℕ → WholeProgram Name → List TextPlace → NeverExplored → Response → Type 0
+Shows is_merged input a places (Trapped schedule) response = ShowsTrap (line_by is_merged) input a schedule.items response
+Shows is_merged input a places (Broken schedule line v) response =
+    ShowsBroken (break_line_by is_merged) input a places schedule.items line v response
+Shows is_merged input a places (Safe states) response = ShowsSafe is_merged (length places) states response
+Shows is_merged input a places (Limit states) response = ShowsLimit is_merged states response
+
+-- a schedule that needs all its steps
+abbrev pub ShowsMinimal : List ℕ → WholeProgram Name → List TextPlace → Minimal → Response → Type 0
+ShowsMinimal input a places (M.Trapped schedule) response = ShowsTrap minimal_line input a schedule.items response
+ShowsMinimal input a places (M.Broken schedule line v) response =
+    ShowsBroken minimal_break_line input a places schedule.items line v response
 
 abbrev pub ShowsHunt : List ℕ → WholeProgram Name → List TextPlace → Plan → ℕ → NeverHunted → Response → Type 0
 ShowsHunt input a places plan from (H.Trapped run schedule) response = ShowsTrap minimal_line input a schedule.items response
@@ -75,10 +84,14 @@ abbrev pub ShowsEndless : ℕ → MustStop → List ℕ → WholeProgram Name �
 ShowsEndless lines asked input a prefix cycle = Gives 7 (IsLoopText (endless_line lines asked) input a prefix [] cycle)
 
 abbrev pub ShowsAllEnd : ℕ → MustStop → ℕ → Response → Type 0
-ShowsAllEnd lines asked states = Gives 0 (λ out. out ≡ ends_line lines asked states)
+ShowsAllEnd lines asked states = Gives 0 (λ out. out ≡ ends_line false lines asked states)
 
 abbrev pub ShowsCanEnd : Bool → ℕ → MustStop → ℕ → Response → Type 0
 ShowsCanEnd is_merged lines asked states = Gives 0 (λ out. out ≡ can_end_line is_merged lines asked states)
+
+-- by merged steps they can, and by single ones there are more states than this
+abbrev pub ShowsHalf : ℕ → MustStop → ℕ → ℕ → Response → Type 0
+ShowsHalf lines asked states limit = Gives 6 (λ out. out ≡ half_line lines asked states limit)
 
 -- the lines that must never hold stand at these places
 abbrev pub ShowsEnds : Bool → MustStop → List ℕ → WholeProgram Name → List TextPlace → EndExplored → Response → Type 0
@@ -91,4 +104,9 @@ ShowsEnds is_merged asked input a places (E.Endless prefix cycle states) respons
     ShowsEndless (length places) asked input a prefix.items cycle.items response
 ShowsEnds is_merged asked input a places (E.Ends states) response = ShowsAllEnd (length places) asked states response
 ShowsEnds is_merged asked input a places (E.CanEnd states) response = ShowsCanEnd is_merged (length places) asked states response
-ShowsEnds is_merged asked input a places (E.Limit states) response = ShowsLimit states response
+ShowsEnds is_merged asked input a places (E.Limit states) response = ShowsLimit is_merged states response
+
+-- what merged steps find, where by single ones there are more states than this
+abbrev pub ShowsHalved : MustStop → List ℕ → WholeProgram Name → List TextPlace → ℕ → EndExplored → Response → Type 0
+ShowsHalved asked input a places limit (E.CanEnd states) response = ShowsHalf (length places) asked states limit response
+ShowsHalved asked input a places limit e response = ShowsEnds true asked input a places e response

@@ -4,6 +4,7 @@ ghost use Rattle.std.specs.Vec.Iter.{into_iter_items};
 ghost use Rattle.ticklab_line.specs.Commands.{plain_request};
 ghost use Rattle.ticklab_answers.specs.Answers.{GivesWords, IsOfWordsOrFile, NamesOf, Responds, RespondsToWords};
 ghost use Rattle.ticklab_answers.specs.Faults.{IsOfFileThat, IsOfWords};
+ghost use Rattle.ticklab_answers.specs.Hearing.{hearing};
 
 mod drawing;
 mod ends;
@@ -46,7 +47,7 @@ pub fn response_to<F: Files, M: Runner, T: Trials, W: Progress>(
     progress: &mut W,
     given: io::Result<Args>,
 ) -> Result<Response, LabFault>
-    ensures ok { IfOk result (RespondsToWords F.Reads F.ReadsInput M.Ran W.hears files.old files.new runner.old runner.new progress.old progress.new given) }
+    ensures ok { IfOk result (RespondsToWords F.Reads F.ReadsInput M.Ran (hearing W.begins W.hears) files.old files.new runner.old runner.new progress.old progress.new given) }
     ensures err { IfErr result (IsOfWordsOrFile given) }
 {
     let words = words_of(alloc, given)?;
@@ -65,7 +66,7 @@ fn answered<F: Files, M: Runner, T: Trials, W: Progress>(
     progress: &mut W,
     request: Request<&str, Vec<&str>>,
 ) -> Result<Response, LabFault>
-    ensures ok { IfOk result (Responds F.Reads F.ReadsInput M.Ran W.hears files.old files.new runner.old runner.new progress.old progress.new (plain_request request.entry)) }
+    ensures ok { IfOk result (Responds F.Reads F.ReadsInput M.Ran (hearing W.begins W.hears) files.old files.new runner.old runner.new progress.old progress.new (plain_request request.entry)) }
     ensures err { IfErr result (IsOfFileThat (NamesOf (plain_request request.entry))) }
 {
     match request {
@@ -73,19 +74,17 @@ fn answered<F: Files, M: Runner, T: Trials, W: Progress>(
             file,
             never,
             limit,
-            is_merged,
-        } => explored(alloc, files, progress, file, &never, limit, is_merged),
+            steps,
+        } => explored(alloc, files, progress, file, &never, limit, steps),
         Request::Ends {
             file,
             never,
             process,
             limit,
-            is_merged,
+            steps,
         } => {
             let never = never.as_slice();
-            explored_ends(
-                alloc, files, progress, file, never, process, limit, is_merged,
-            )
+            explored_ends(alloc, files, progress, file, never, process, limit, steps)
         }
         Request::Lasso {
             file,

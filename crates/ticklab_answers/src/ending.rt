@@ -2,6 +2,7 @@
 ghost use Rattle.std.specs.Prelude.{◌≡◌};
 ghost use Rattle.std.specs.Process.{exit_status};
 ghost use Rattle.ticklab_answers.specs.Faults.{status_of};
+ghost use Rattle.ticklab_answers.specs.Hearing.{hearing};
 ghost use Rattle.ticklab_answers.specs.Serving.{Ends, Exits};
 
 use crate::commands::response_to;
@@ -27,7 +28,7 @@ pub fn ended<F: Files, O: Write, T: Write, M: Runner, S: Trials, W: Progress>(
     progress: &mut W,
     given: io::Result<Args>,
 ) -> ExitCode
-    ensures { Exits (Ends F.Reads F.ReadsInput M.Ran W.hears host.old.files host.new.files runner.old runner.new progress.old progress.new (record { out = O.contents host.old.out; err = T.contents host.old.err }) (record { out = O.contents host.new.out; err = T.contents host.new.err }) given) (exit_status result) }
+    ensures { Exits (Ends F.Reads F.ReadsInput M.Ran (hearing W.begins W.hears) host.old.files host.new.files runner.old runner.new progress.old progress.new (record { out = O.contents host.old.out; err = T.contents host.old.err }) (record { out = O.contents host.new.out; err = T.contents host.new.err }) given) (exit_status result) }
 {
     match response_to(alloc, &mut host.files, runner, trials, progress, given) {
         Ok(response) => match told(&mut host.out, &mut host.err, &response) {

@@ -1,7 +1,16 @@
+ghost use Rattle.std.specs.Prelude.{Bool};
+
 use searches_explore::Watch;
 
-/// Who is told how far a search is.
+/// Who is told which search is under way, and how far it is.
 pub trait Progress: Watch {
+    // What it is for it to be told that a search begins, of what is told before and after.
+    ghost begins: { Self → Bool → Self → Type 0 };
+
+    /// A search through all schedules begins, by merged steps or by single ones.
+    fn begin(&mut self, is_merged: bool)
+        ensures { Self.begins self.old is_merged self.new };
+
     /// The search is over, and the answer comes next.
     fn end(&self);
 }

@@ -9,6 +9,8 @@ use Rattle.clap.specs.Simple.{App, new_app, on_top, with_rule}
 use Rattle.clap.specs.declared.builder.value_parser.ValueParser.TheVariants.{Unsigned}
 use Rattle.ticklab_line.specs.CommandLine.{ends_rule, flag_rule, from_one_to, further_rule, number_rule, processes_rule, repeated_rule, threads_rule, up_to, with_app, with_file, word_rule}
 use Rattle.ticklab_line.specs.Found.{for_file, for_number, for_number_or, is_set, list_of, number_of, number_or}
+use Rattle.ticklab_line.specs.declared.commands.Steps.{Steps}
+use Rattle.ticklab_line.specs.declared.commands.Steps.TheVariants.{Merged, MergedFirst, Single}
 use Rattle.ticklab_line.specs.declared.commands.Request.{Request}
 use Rattle.ticklab_line.specs.declared.commands.Request.TheVariants.{Explore, Ends, Lasso, Hunt, Runs, Trace, Draw, Explain, Labels}
 use Rattle.ticklab_line.specs.declared.commands.Side.{Side}
@@ -19,9 +21,10 @@ abbrev pub Asked : Type 0
 Asked = Request Text (List Text)
 
 abbrev pub explore_app : App
-explore_app = with_rule (with_rule (with_rule (with_rule (with_file (codes "explore"))
+explore_app = with_rule (with_rule (with_rule (with_rule (with_rule (with_file (codes "explore"))
     (number_rule (codes "limit") (up_to 4294967295)))
     (flag_rule (codes "merged")))
+    (flag_rule (codes "single")))
     (repeated_rule (codes "never")))
     ends_rule
 
@@ -64,17 +67,24 @@ ticklab = with_app (with_app (with_app (with_app (with_app (with_app (with_app c
 abbrev pub limit_in : List Row → Option ℕ
 limit_in = number_or 32 (codes "limit") 1000000
 
+-- by merged steps first, unless one kind of steps is asked for
+abbrev pub steps_in : List Row → Steps
+steps_in rows =
+    if is_set (codes "merged") rows then Merged
+    else if is_set (codes "single") rows then Single
+    else MergedFirst
+
 -- all schedules, with the texts of what must never hold
 abbrev pub schedules_of : List Text → List Row → Option Asked
 schedules_of never rows = for_file rows (λ file. for_number_or 32 (codes "limit") 1000000 rows (λ limit.
-    Some (Explore file never limit (is_set (codes "merged") rows))))
+    Some (Explore file never limit (steps_in rows))))
 
 abbrev pub schedules_in : List Row → Option Asked
 schedules_in rows = schedules_of (list_of (codes "never") rows) rows
 
 abbrev pub ends_of : List Text → Option ℕ → List Row → Option Asked
 ends_of never process rows = for_file rows (λ file. for_number_or 32 (codes "limit") 1000000 rows (λ limit.
-    Some (Ends file never process limit (is_set (codes "merged") rows))))
+    Some (Ends file never process limit (steps_in rows))))
 
 -- no text after `--ends`, or one
 abbrev pub ends_in : List Text → List Row → List Text → Option Asked
@@ -149,8 +159,8 @@ request_in = option_and_then (λ p. named p.0 p.1)
 
 -- texts that are lent, as the texts themselves
 abbrev pub plain_request : Request (Bor Text) (Vec (Bor Text) Global) → Asked
-plain_request (Explore file never limit is_merged) = Explore file.now (map (λ text. text.now) never.items) limit is_merged
-plain_request (Ends file never process limit is_merged) = Ends file.now (map (λ text. text.now) never.items) process limit is_merged
+plain_request (Explore file never limit steps) = Explore file.now (map (λ text. text.now) never.items) limit steps
+plain_request (Ends file never process limit steps) = Ends file.now (map (λ text. text.now) never.items) process limit steps
 plain_request (Lasso file prefix cycle) = Lasso file.now prefix.now cycle.now
 plain_request (Hunt file never seed runs from steps is_uniform jobs) = Hunt file.now (map (λ text. text.now) never.items) seed runs from steps is_uniform jobs
 plain_request (Runs file times turns) = Runs file.now times turns
@@ -161,19 +171,21 @@ plain_request (Labels processes moves) = Labels processes moves.now
 
 -- words, and what they ask for: each command but `hunt`, with its options and without
 abbrev pub rows : List (List Text × Asked)
-rows = (codes "explore" ∷ codes "a" ∷ codes "--limit" ∷ codes "7" ∷ [], Explore (codes "a") [] 7 false)
-    ∷ (codes "explore" ∷ codes "--merged" ∷ codes "a" ∷ [], Explore (codes "a") [] 1000000 true)
-    ∷ (codes "explore" ∷ codes "--never" ∷ codes "n" ∷ codes "a" ∷ [], Explore (codes "a") (codes "n" ∷ []) 1000000 false)
+rows = (codes "explore" ∷ codes "a" ∷ codes "--limit" ∷ codes "7" ∷ [], Explore (codes "a") [] 7 MergedFirst)
+    ∷ (codes "explore" ∷ codes "--merged" ∷ codes "a" ∷ [], Explore (codes "a") [] 1000000 Merged)
+    ∷ (codes "explore" ∷ codes "a" ∷ codes "--single" ∷ [], Explore (codes "a") [] 1000000 Single)
+    ∷ (codes "explore" ∷ codes "--never" ∷ codes "n" ∷ codes "a" ∷ [], Explore (codes "a") (codes "n" ∷ []) 1000000 MergedFirst)
     ∷ (
       codes "explore" ∷ codes "a" ∷ codes "--never=1 < n" ∷ codes "--merged" ∷ codes "--never" ∷ codes "0" ∷ [],
-      Explore (codes "a") (codes "1 < n" ∷ codes "0" ∷ []) 1000000 true,
+      Explore (codes "a") (codes "1 < n" ∷ codes "0" ∷ []) 1000000 Merged,
     )
-    ∷ (codes "explore" ∷ codes "a" ∷ codes "--ends" ∷ [], Ends (codes "a") [] None 1000000 false)
-    ∷ (codes "explore" ∷ codes "a" ∷ codes "--ends" ∷ codes "2" ∷ [], Ends (codes "a") [] (Some 2) 1000000 false)
-    ∷ (codes "explore" ∷ codes "--ends=5" ∷ codes "a" ∷ codes "--limit" ∷ codes "7" ∷ [], Ends (codes "a") [] (Some 5) 7 false)
-    ∷ (codes "explore" ∷ codes "a" ∷ codes "--never" ∷ codes "n" ∷ codes "--ends" ∷ [], Ends (codes "a") (codes "n" ∷ []) None 1000000 false)
-    ∷ (codes "explore" ∷ codes "a" ∷ codes "--merged" ∷ codes "--ends" ∷ [], Ends (codes "a") [] None 1000000 true)
-    ∷ (codes "explore" ∷ codes "a" ∷ codes "--ends" ∷ codes "0" ∷ codes "--merged" ∷ [], Ends (codes "a") [] (Some 0) 1000000 true)
+    ∷ (codes "explore" ∷ codes "a" ∷ codes "--ends" ∷ [], Ends (codes "a") [] None 1000000 MergedFirst)
+    ∷ (codes "explore" ∷ codes "a" ∷ codes "--ends" ∷ codes "2" ∷ [], Ends (codes "a") [] (Some 2) 1000000 MergedFirst)
+    ∷ (codes "explore" ∷ codes "--ends=5" ∷ codes "a" ∷ codes "--limit" ∷ codes "7" ∷ [], Ends (codes "a") [] (Some 5) 7 MergedFirst)
+    ∷ (codes "explore" ∷ codes "a" ∷ codes "--never" ∷ codes "n" ∷ codes "--ends" ∷ [], Ends (codes "a") (codes "n" ∷ []) None 1000000 MergedFirst)
+    ∷ (codes "explore" ∷ codes "a" ∷ codes "--merged" ∷ codes "--ends" ∷ [], Ends (codes "a") [] None 1000000 Merged)
+    ∷ (codes "explore" ∷ codes "--single" ∷ codes "--ends=1" ∷ codes "a" ∷ [], Ends (codes "a") [] (Some 1) 1000000 Single)
+    ∷ (codes "explore" ∷ codes "a" ∷ codes "--ends" ∷ codes "0" ∷ codes "--merged" ∷ [], Ends (codes "a") [] (Some 0) 1000000 Merged)
     ∷ (codes "lasso" ∷ codes "a" ∷ codes "0 1" ∷ codes "@b" ∷ [], Lasso (codes "a") (codes "0 1") (codes "@b"))
     ∷ (codes "trace" ∷ codes "a" ∷ codes "0 1*3" ∷ [], Trace (codes "a") (codes "0 1*3") [] Program)
     ∷ (

@@ -1,5 +1,5 @@
--- Which options do not go together: of `hunt` `--threads`, and each option of a hunt by random schedules; of `trace` and
--- `draw` `--never`, and `--code` or `--lift`.
+-- Which options do not go together: of `hunt` `--threads`, and each option of a hunt by random schedules; of `explore`
+-- `--merged` and `--single`; of `trace` and `draw` `--never`, and `--code` or `--lift`.
 use Rattle.std.specs.Prelude.{Bool, true, false, List, ◌++◌, ◌&&◌, ◌||◌, Option, Some, None, codes, bytes_eq, map}
 use Rattle.std.specs.Prelude.{if◌then◌else◌, find, is_some, option_and_then, option_map}
 use Rattle.std.specs.Option.{option_map_or}
@@ -51,6 +51,12 @@ abbrev pub threads_conflict : List Row → Option Shown
 threads_conflict rows = if is_some (all_of (codes "threads") rows)
     then option_map (in_order (threads_lead (map (λ r. r.id) rows))) (plan_option rows) else None
 
+abbrev pub merged_and_single : Shown
+merged_and_single = record { command = codes "explore"; words = codes " <FILE>"; first = codes "--merged"; second = codes "--single" }
+
+abbrev pub steps_conflict : List Row → Option Shown
+steps_conflict rows = if is_set (codes "merged") rows && is_set (codes "single") rows then Some merged_and_single else None
+
 -- of a command of this name
 abbrev pub beside_never : Text → Text → Shown
 beside_never name option = record {
@@ -74,6 +80,7 @@ code_conflict name rows = if is_given (codes "never") rows then option_map (besi
 abbrev pub conflict_of : Text → List Row → Option Shown
 conflict_of name rows =
     if is_some (threads_conflict rows) then threads_conflict rows
+    else if is_some (steps_conflict rows) then steps_conflict rows
     else code_conflict name rows
 
 abbrev pub conflict_in : Option (Text × List Row) → Option Shown

@@ -5,8 +5,9 @@ use Rattle.clap.specs.Kinds.{Kinds}
 use Rattle.clap.specs.declared.error.kind.ErrorKind.TheVariants as kind
 use Rattle.ticklab_line.specs.Commands.{Asked, request_in, rows}
 use Rattle.ticklab_line.specs.Lines.{command_in, faults}
-use Rattle.ticklab_line.specs.Conflicts.{Shown, beside_never, conflict_in}
+use Rattle.ticklab_line.specs.Conflicts.{Shown, beside_never, conflict_in, merged_and_single}
 use Rattle.ticklab_line.specs.declared.commands.Request.TheVariants.{Explore, Hunt, Runs}
+use Rattle.ticklab_line.specs.declared.commands.Steps.TheVariants.{MergedFirst}
 
 abbrev pub line : List Text → List Text
 line words = codes "ticklab" ∷ words
@@ -28,10 +29,12 @@ abbrev pub read : List Text → Kinds × Option Shown × Option Asked
 read words = (faults (line words), conflict_in (command_in (line words)), request_in (command_in (line words)))
 
 pub record CommandsLaw : Type 0 where
-  pub explore : (rest : Text) → Asks (codes "explore" ∷ (97 ∷ rest) ∷ []) (Explore (97 ∷ rest) [] 1000000 false)
+  pub explore : (rest : Text) → Asks (codes "explore" ∷ (97 ∷ rest) ∷ []) (Explore (97 ∷ rest) [] 1000000 MergedFirst)
   pub code_never : IsTaken (codes "trace" ∷ codes "a" ∷ codes "0" ∷ codes "--never=1" ∷ codes "--code" ∷ []) (Some (beside_never (codes "trace") (codes "--code")))
   pub drawn_code_never : IsTaken (codes "draw" ∷ codes "--code" ∷ codes "a" ∷ codes "0" ∷ codes "--never" ∷ codes "n" ∷ []) (Some (beside_never (codes "draw") (codes "--code")))
   pub lift_never : IsTaken (codes "draw" ∷ codes "a" ∷ codes "0" ∷ codes "--never" ∷ codes "n" ∷ codes "--lift" ∷ []) (Some (beside_never (codes "draw") (codes "--lift")))
+  pub merged_single : IsTaken (codes "explore" ∷ codes "a" ∷ codes "--merged" ∷ codes "--single" ∷ []) (Some merged_and_single)
+  pub single_merged : IsTaken (codes "explore" ∷ codes "--single" ∷ codes "a" ∷ codes "--ends" ∷ codes "--merged" ∷ []) (Some merged_and_single)
   pub all : map (λ row. read row.0) rows ≡ map (λ row. ([], None, Some row.1)) rows
 
 -- the words after `hunt` and a program ask for this

@@ -4,7 +4,7 @@ ghost use Rattle.clap.specs.Matches.{found_of};
 ghost use Rattle.clap.specs.Walk.{rows_of};
 ghost use Rattle.clap.specs.Simple.{app_of, subcommand_rows_of};
 ghost use Rattle.ticklab_line.specs.CommandLine.{IsCommand, IsLine};
-ghost use Rattle.ticklab_line.specs.Commands.{command_wanted, draw_in, draw_of, ends_in, ends_of, explain_app, explain_in, explore_app, explore_in, hunt_app, hunt_in, labels_app, labels_in, lasso_app, lasso_in, limit_in, named, plain_request, plan_of, run_app, runs_in, schedules_of, side_in, ticklab, trace_in, trace_of};
+ghost use Rattle.ticklab_line.specs.Commands.{command_wanted, draw_in, draw_of, ends_in, ends_of, explain_app, explain_in, explore_app, explore_in, hunt_app, hunt_in, labels_app, labels_in, lasso_app, lasso_in, limit_in, named, plain_request, plan_of, run_app, runs_in, schedules_of, side_in, steps_in, ticklab, trace_in, trace_of};
 ghost use Rattle.ticklab_line.specs.Commands.{request_in as found_request};
 
 use crate::arguments::{
@@ -29,18 +29,27 @@ pub enum Side {
     Lifted,
 }
 
+/// By which steps all schedules are gone through.
+#[derive(Clone, Copy, PartialEq, Eq, Debug)]
+pub enum Steps {
+    /// By merged steps, in which private steps go with the shared one before them; then by single steps too, where
+    /// these tell more.
+    MergedFirst,
+    Single,
+    Merged,
+}
+
 /// A command with what goes with it, its texts and its lists of texts in whatever form they are held. A file is a
 /// name, and `-` is standard input; a schedule is its text, or `@` and the name of the file that has it, or `-`. Neither
 /// is read yet.
 #[derive(Debug, Drop)]
 pub enum Request<T, L> {
-    /// All schedules of a program, as far as it has at most so many states, and what must never hold; merged,
-    /// private steps go with the shared one before them.
+    /// All schedules of a program, as far as it has at most so many states, and what must never hold.
     Explore {
         file: T,
         never: L,
         limit: u32,
-        is_merged: bool,
+        steps: Steps,
     },
     /// The same, and whether all processes can still end after each schedule, or one of them.
     Ends {
@@ -48,7 +57,7 @@ pub enum Request<T, L> {
         never: L,
         process: Option<u8>,
         limit: u32,
-        is_merged: bool,
+        steps: Steps,
     },
     /// A schedule that repeats a part of itself for ever, and who runs on there.
     Lasso {
@@ -178,7 +187,7 @@ fn explore<'a>(alloc: Global) -> Result<Command<'a>, AllocError>
     let explore = filed(
         alloc,
         "explore",
-        "Looks under every schedule for one under which a process traps, the shortest first",
+        "Looks under every schedule for one under which a process traps, and then for a shortest one",
         PROGRAM,
     );
     let explore = taking(
@@ -196,7 +205,15 @@ fn explore<'a>(alloc: Global) -> Result<Command<'a>, AllocError>
         flag(
             alloc,
             "merged",
-            "Takes the private steps of a process with the step before them: far fewer states, and a schedule that need not be a shortest one",
+            "Only takes the private steps of a process with the step before them: far fewer states, and a schedule that need not be a shortest one",
+        ),
+    );
+    let explore = taking(
+        explore,
+        flag(
+            alloc,
+            "single",
+            "Only takes each step by itself: more states, and a shortest schedule; not with --merged",
         ),
     );
     let explore = taking(
@@ -228,8 +245,21 @@ fn schedules_of<'a>(given: &ArgMatches<'a>, never: Vec<&'a str>) -> Option<Lent<
         file: text_in(given, "file")?,
         never,
         limit: limit_in(given)?,
-        is_merged: is_set(given, "merged"),
+        steps: steps_in(given),
     })
+}
+
+// By merged steps first, unless one kind of steps is asked for.
+fn steps_in(given: &ArgMatches<'_>) -> Steps
+    ensures { result ≡ steps_in (rows_of (found_of given.now)) }
+{
+    if is_set(given, "merged") {
+        return Steps::Merged;
+    }
+    if is_set(given, "single") {
+        return Steps::Single;
+    }
+    Steps::MergedFirst
 }
 
 fn ends_in<'a>(given: &ArgMatches<'a>, never: Vec<&'a str>, texts: &[&'a str]) -> Option<Lent<'a>>
@@ -245,13 +275,13 @@ fn ends_in<'a>(given: &ArgMatches<'a>, never: Vec<&'a str>, texts: &[&'a str]) -
 fn ends_of<'a>(given: &ArgMatches<'a>, never: Vec<&'a str>, process: Option<u8>) -> Option<Lent<'a>>
     ensures { option_map plain_request result ≡ ends_of (map (λ text. text.now) never.entry.items) process (rows_of (found_of given.now)) }
 {
-    let is_merged = is_set(given, "merged");
+    let steps = steps_in(given);
     Some(Request::Ends {
         file: text_in(given, "file")?,
         never,
         process,
         limit: limit_in(given)?,
-        is_merged,
+        steps,
     })
 }
 

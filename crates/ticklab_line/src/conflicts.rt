@@ -3,7 +3,7 @@ ghost use Rattle.std.specs.Prelude.{◌≡◌, IfOk, map, option_map, string_byt
 ghost use Rattle.clap.specs.Matches.{found_of};
 ghost use Rattle.clap.specs.Walk.{rows_of};
 ghost use Rattle.clap.specs.Simple.{subcommand_rows_of};
-ghost use Rattle.ticklab_line.specs.Conflicts.{code_conflict, code_option, conflict_in as conflict_found, conflict_of, conflict_text, in_order, may_conflict, plan_option, shown, threads_conflict, threads_lead};
+ghost use Rattle.ticklab_line.specs.Conflicts.{code_conflict, code_option, conflict_in as conflict_found, conflict_of, conflict_text, in_order, may_conflict, plan_option, shown, steps_conflict, threads_conflict, threads_lead};
 
 use crate::values::{is_set, text_in, texts_in};
 use clap::ArgMatches;
@@ -37,7 +37,25 @@ fn conflict_of(name: &str, given: &ArgMatches<'_>) -> Option<Conflict<'static>>
     if let Some(conflict) = threads_conflict(given) {
         return Some(conflict);
     }
+    if let Some(conflict) = steps_conflict(given) {
+        return Some(conflict);
+    }
     code_conflict(name, given)
+}
+
+// `--merged` and `--single` of `explore`.
+fn steps_conflict(given: &ArgMatches<'_>) -> Option<Conflict<'static>>
+    ensures { option_map shown result ≡ steps_conflict (rows_of (found_of given.now)) }
+{
+    if is_set(given, "merged") && is_set(given, "single") {
+        return Some(Conflict {
+            command: "explore",
+            words: FILE,
+            first: "--merged",
+            second: "--single",
+        });
+    }
+    None
 }
 
 // `--code` or `--lift`, and `--never`, of `trace` or `draw`.

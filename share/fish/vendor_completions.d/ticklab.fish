@@ -2,7 +2,7 @@
 
 complete -c ticklab -f
 complete -c ticklab -n 'test (count (commandline -opc)) -eq 1' -s h -l help -d 'Print help'
-complete -c ticklab -n 'test (count (commandline -opc)) -eq 1' -a explore -d 'Looks under every schedule for one under which a process traps, the shortest first'
+complete -c ticklab -n 'test (count (commandline -opc)) -eq 1' -a explore -d 'Looks under every schedule for one under which a process traps, and then for a shortest one'
 complete -c ticklab -n 'test (count (commandline -opc)) -eq 1' -a lasso -d 'Says whether a schedule can repeat a part of itself for ever, each process that runs there again and again'
 complete -c ticklab -n 'test (count (commandline -opc)) -eq 1' -a hunt -d 'Looks under random schedules for one under which a process traps or a line #! never breaks, and leaves out of it what can be'
 complete -c ticklab -n 'test (count (commandline -opc)) -eq 1' -a trace -d 'Prints a line for each step of a run'
@@ -11,7 +11,8 @@ complete -c ticklab -n 'test (count (commandline -opc)) -eq 1' -a explain -d 'Sa
 complete -c ticklab -n 'test (count (commandline -opc)) -eq 1' -a labels -d 'Draws the bounded labels of N processes, a frame for each stamp, as SVG on standard output'
 complete -c ticklab -n 'test (count (commandline -opc)) -eq 1' -a help -d 'Print this message or the help of the given subcommand(s)'
 complete -c ticklab -n 'contains -- explore (commandline -opc)[2]' -l limit -x -d 'Gives up where there are more states than this [default: 1000000]'
-complete -c ticklab -n 'contains -- explore (commandline -opc)[2]' -l merged -d 'Takes the private steps of a process with the step before them: far fewer states, and a schedule that need not be a shortest one'
+complete -c ticklab -n 'contains -- explore (commandline -opc)[2]' -l merged -d 'Only takes the private steps of a process with the step before them: far fewer states, and a schedule that need not be a shortest one'
+complete -c ticklab -n 'contains -- explore (commandline -opc)[2]' -l single -d 'Only takes each step by itself: more states, and a shortest schedule; not with --merged'
 complete -c ticklab -n 'contains -- explore (commandline -opc)[2]' -l never -x -d 'Asks too whether no state has this property, like a line #! never EXPR of the program; it may be given again'
 complete -c ticklab -n 'contains -- explore (commandline -opc)[2]' -l ends -x -d 'Asks too whether all processes can still end after every schedule, or process P'
 complete -c ticklab -n 'contains -- explore (commandline -opc)[2]' -s h -l help -d 'Print help'

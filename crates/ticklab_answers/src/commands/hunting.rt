@@ -26,10 +26,12 @@ use searches_hunt::{Mode, NeverHunted, Plan, Trials, hunt_by};
 use std::alloc::{AllocError, Global};
 use ticketc_refusals::SpelledProgram;
 
-const MINIMAL: &str =
+/// How a trap is told whose schedule needs all its steps.
+pub const MINIMAL: &str =
     "a process traps under this schedule, and where any one step is left out none does:";
 
-const MINIMAL_BREAK: &str =
+/// The same where a line breaks.
+pub const MINIMAL_BREAK: &str =
     "a #! never line breaks under this schedule, and where any one step is left out none does:";
 
 /// The plan that a command line asks for.

@@ -1,10 +1,9 @@
 //! The lines of the answers to `explore --ends`.
 ghost use Rattle.std.specs.Prelude.{◌≡◌, if◌then◌else◌, ◌≤◌, ◌+◌, ◌++◌, IfOk, OnOk, length, string_bytes};
 ghost use Rattle.std.specs.List.{list_any};
-ghost use Rattle.ticklab_answers.specs.Lines.{asked_text, can_end_line, endless_line, ends_line, ends_text, is_nobody, marked, no_process_line, numbers_text, processes_text, quiet_text, stuck_line};
+ghost use Rattle.ticklab_answers.specs.Lines.{asked_text, can_end_line, can_end_text, endless_line, ends_line, ends_text, half_line, is_nobody, marked, no_process_line, numbers_text, processes_text, quiet_text, stuck_line};
 
-use crate::commands::exploring::safe_text;
-use crate::counts::push_many;
+use crate::commands::exploring::{push_more, push_states, safe_text};
 use base::push_number;
 use searches_explore::MustStop;
 use std::alloc::{AllocError, Global};
@@ -75,7 +74,8 @@ fn push_numbers(text: &mut String, first: u8, more: &[u8]) -> Result<(), AllocEr
     }
 }
 
-fn is_nobody(asked: MustStop) -> bool
+/// Whether nobody is asked for.
+pub fn is_nobody(asked: MustStop) -> bool
     ensures { result ≡ is_nobody asked }
 {
     match asked {
@@ -102,16 +102,17 @@ fn quiet(alloc: Global, lines: usize) -> Result<String, AllocError>
 /// They always end, where each process that runs steps again and again; and so many lines `#! never` don't break.
 pub fn ends_line(
     alloc: Global,
+    is_merged: bool,
     lines: usize,
     asked: MustStop,
     states: u32,
 ) -> Result<String, AllocError>
-    ensures { IfOk result (λ line. string_bytes line ≡ ends_line lines asked states) }
+    ensures { IfOk result (λ line. string_bytes line ≡ ends_line is_merged lines asked states) }
 {
     let mut line = quiet(alloc, lines)?;
     push_ends(alloc, &mut line, asked)?;
     line.push_str(" (")?;
-    push_many(&mut line, states, "state", "states")?;
+    push_states(&mut line, is_merged, states)?;
     line.push_str(")\n")?;
     Ok(line)
 }
@@ -128,6 +129,24 @@ fn push_ends(alloc: Global, text: &mut String, asked: MustStop) -> Result<(), Al
     )
 }
 
+// They can always end, and it isn't known whether they do.
+fn can_end_text(
+    alloc: Global,
+    is_merged: bool,
+    lines: usize,
+    asked: MustStop,
+    states: u32,
+) -> Result<String, AllocError>
+    ensures { IfOk result (λ text. string_bytes text ≡ can_end_text is_merged lines asked states) }
+{
+    let mut text = quiet(alloc, lines)?;
+    push_asked(alloc, &mut text, asked)?;
+    text.push_str(" can still end after every schedule (")?;
+    push_states(&mut text, is_merged, states)?;
+    text.push_str("); of those in which each that runs steps again and again nothing was ")?;
+    Ok(text)
+}
+
 /// They can always end; whether they do isn't known.
 pub fn can_end_line(
     alloc: Global,
@@ -139,15 +158,28 @@ pub fn can_end_line(
     ensures { IfOk result (λ line. string_bytes line ≡ can_end_line is_merged lines asked states) }
 {
     if is_nobody(asked) {
-        return ends_line(alloc, lines, asked, states);
+        return ends_line(alloc, is_merged, lines, asked, states);
     }
-    let mut line = quiet(alloc, lines)?;
-    push_asked(alloc, &mut line, asked)?;
-    line.push_str(" can still end after every schedule (")?;
-    push_many(&mut line, states, "state", "states")?;
-    line.push_str("); of those in which each that runs steps again and again nothing was ")?;
+    let mut line = can_end_text(alloc, is_merged, lines, asked, states)?;
     line.push_str(either(is_merged, "asked", "found out"))?;
     line.push_str("\n")?;
+    Ok(line)
+}
+
+/// By merged steps they can always end; by single ones there are more states than these.
+pub fn half_line(
+    alloc: Global,
+    lines: usize,
+    asked: MustStop,
+    states: u32,
+    limit: u32,
+) -> Result<String, AllocError>
+    ensures { IfOk result (λ line. string_bytes line ≡ half_line lines asked states limit) }
+{
+    let mut line = can_end_text(alloc, true, lines, asked, states)?;
+    line.push_str("found out: ")?;
+    push_more(&mut line, false, limit)?;
+    line.push_str("\ntry a larger --limit, or fewer processes or rounds\n")?;
     Ok(line)
 }
 

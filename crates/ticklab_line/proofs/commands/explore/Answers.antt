@@ -7,5 +7,6 @@ returns c =
     let limit = c.taking-explore.ensures _ _ c.filed-explore.ensures
     (c.option.ensures.0 ∙ ap (number_rule _) c.value_parser.ensures, c.option.ensures.1) in
     let merged = c.taking-explore-2.ensures _ _ limit c.flag.ensures in
-    let never = c.taking-explore-3.ensures _ _ merged c.repeated.ensures in
+    let single = c.taking-explore-3.ensures _ _ merged c.flag-2.ensures in
+    let never = c.taking-explore-4.ensures _ _ single c.repeated.ensures in
     c.taking.ensures _ _ never c.ends.ensures

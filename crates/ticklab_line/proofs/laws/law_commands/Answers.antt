@@ -10,5 +10,7 @@ returns c = record {
   code_never = (refl, refl);
   drawn_code_never = (refl, refl);
   lift_never = (refl, refl);
+  merged_single = (refl, refl);
+  single_merged = (refl, refl);
   all = refl;
 }

@@ -3,7 +3,8 @@ use Rattle.language_questions.specs.Lines.{asked_of}
 use Rattle.searches_explore.specs.Lines.{lines_of}
 use Rattle.ticklab_answers.specs.Asking.{IsFileRefused, TellsOption, lines_in, place_of, places_by, texts_of}
 use Rattle.ticklab_answers.specs.Ends.{IsEndsExplored, IsEndsRefused, IsPast, IsThere, asked_by, explored, no_file, no_option}
-use Rattle.ticklab_answers.proofs.EndsSearched.{found_by, past_told}
+use Rattle.ticklab_answers.specs.Hearing.{hearing}
+use Rattle.ticklab_answers.proofs.EndsSearched.{ends_moved, past_told}
 use Rattle.ticklab_answers.proofs.ProgramFiles.{file_of, is_of}
 use Rattle.ticklab_answers.proofs.Settled.{refused_as, stopped_by}
 use Rattle.ticklab_answers.proofs.commands.ends.all_ends.Goals as goal
@@ -12,7 +13,7 @@ pub returns-in_err-spelled-clause-refused : goal.returns-in_err-spelled-clause-r
 returns-in_err-spelled-clause-refused g c =
     let name = c.args.name.now in
     let input = c.args.input.now in
-    let Q : List ℕ → Type 0 = λ report. IsEndsRefused name (texts_of c.args.never.now) c.args.process input report × (c.args.watch.now ≡ c.args.watch.now) in
+    let Q : List ℕ → Type 0 = λ report. IsEndsRefused name (texts_of c.args.never.now) c.args.process input report × (c.args.progress.now ≡ c.args.progress.now) in
     stopped_by Q _ c.from_residual.result c.from_residual.ensures.1
     (refused_as {P = IsFileRefused name input} {Q = Q} _ (λ report told. (no_file told, refl)) c.in_err-spelled.ensures.refused)
 
@@ -21,10 +22,10 @@ returns-in_err-asked-clause-refused g c =
     let name = c.args.name.now in
     let input = c.args.input.now in
     let texts = texts_of c.args.never.now in
-    let Q : List ℕ → Type 0 = λ report. IsEndsRefused name texts c.args.process input report × (c.args.watch.now ≡ c.args.watch.now) in
+    let Q : List ℕ → Type 0 = λ report. IsEndsRefused name texts c.args.process input report × (c.args.progress.now ≡ c.args.progress.now) in
     stopped_by Q _ c.from_residual-in_err-asked.result c.from_residual-in_err-asked.ensures.1
     (refused_as {P = IsPast c.processes.result c.args.process} {Q = Q} _
-    (past_told c.args.watch.now name texts c.args.process input c.in_ok-spelled.spelled.program
+    (past_told c.args.progress.now name texts c.args.process input c.in_ok-spelled.spelled.program
     (is_of _ _ _ c.in_ok-spelled.ensures.spelled.0 c.in_ok-spelled.ensures.questions) c.processes.result c.processes.ensures.count) c.in_err-asked.ensures.refused)
 
 pub returns-in_err-lines-clause-refused : goal.returns-in_err-lines-clause-refused
@@ -36,7 +37,7 @@ returns-in_err-lines-clause-refused g c =
     let asked = asked_of c.in_ok-spelled.questions in
     let file = file_of input p asked c.in_ok-spelled.ensures.spelled.0 c.in_ok-spelled.ensures.questions in
     let there = subst (λ n. IsThere n c.args.process) c.processes.ensures.count c.in_ok-asked.ensures.there in
-    let Q : List ℕ → Type 0 = λ report. IsEndsRefused name texts c.args.process input report × (c.args.watch.now ≡ c.args.watch.now) in
+    let Q : List ℕ → Type 0 = λ report. IsEndsRefused name texts c.args.process input report × (c.args.progress.now ≡ c.args.progress.now) in
     stopped_by Q _ c.from_residual-in_err-lines.result c.from_residual-in_err-lines.ensures.1
     (refused_as {P = TellsOption p (lines_in asked) texts} {Q = Q} _ (λ report told. (no_option file there told, refl)) c.in_err-lines.ensures.refused)
 
@@ -49,11 +50,11 @@ returns-clause-ok g c =
     let asked = asked_of c.in_ok-spelled.questions in
     let held = c.in_ok-lines.lines in
     let there = subst (λ n. IsThere n c.args.process) c.processes.ensures.count c.in_ok-asked.ensures.there in
-    found_by g.W.Watch.hears _ _ c.args.is_merged input p (lines_of held.properties.items) (map place_of held.places.items) (places_by name input asked texts)
+    ends_moved (hearing g.W.Progress.begins g.W.Watch.hears) _ _ c.args.steps input p (lines_of held.properties.items) (map place_of held.places.items) (places_by name input asked texts)
     c.in_ok-asked.asked (asked_by asked.ends c.args.process) c.args.limit c.in_ok-ends_found.field-0
-    (IsEndsExplored c.args.is_merged name texts c.args.process c.args.limit input c.in_ok-ends_found.field-0)
+    (IsEndsExplored c.args.steps name texts c.args.process c.args.limit input c.in_ok-ends_found.field-0)
     c.in_ok-lines.ensures.places c.in_ok-asked.ensures.asked
-    (λ told found. explored (record {
+    (λ heard found. explored (record {
       file = record { program = p; is = c.in_ok-spelled.ensures.spelled.0; asked = asked; asks = c.in_ok-spelled.ensures.questions };
       lines = lines_of held.properties.items;
       read = c.in_ok-lines.ensures.read;

@@ -1,8 +1,8 @@
-use Rattle.std.proofs.Common.{ℕ, List, subst}
-use Rattle.searches_states.specs.Watching.{IsWatched}
+use Rattle.std.proofs.Common.{ℕ, List, refl, subst}
 use Rattle.ticklab_answers.specs.Asking.{texts_of}
-use Rattle.ticklab_answers.specs.Ends.{IsEndsExplored}
-use Rattle.ticklab_answers.proofs.EndsSearched.{ends_unwatched}
+use Rattle.ticklab_answers.specs.Ends.{IsEndsExplored, unexplored}
+use Rattle.ticklab_answers.specs.Hearing.{IsHeard, hearing}
+use Rattle.ticklab_answers.proofs.Heard.{unheard_of}
 use Rattle.ticklab_answers.proofs.Settled.{settled_with}
 use Rattle.ticklab_answers.proofs.commands.ends.explored_ends.Goals as goal
 
@@ -11,9 +11,9 @@ returns-clause-ok g c =
     let searched = c.all_ends-searched.ensures in (
       c.in_ok-input.input.items,
       c.in_ok-input.ensures.ok,
-      subst (λ (input : List ℕ). IsWatched g.W.Watch.hears c.args.progress.now c.all_ends-searched.new.watch
-          (IsEndsExplored c.args.is_merged c.args.file.now (texts_of c.args.never.now) c.args.process c.args.limit input c.in_ok-ended.field-0)) c.as_slice.ensures.value
+      subst (λ (input : List ℕ). IsHeard (hearing g.W.Progress.begins g.W.Watch.hears) c.args.progress.now c.all_ends-searched.new.progress
+          (IsEndsExplored c.args.steps c.args.file.now (texts_of c.args.never.now) c.args.process c.args.limit input c.in_ok-ended.field-0)) c.as_slice.ensures.value
           (settled_with c.all_ends-searched.result c.in_ok-ended.field-0 (λ x h. h)
-          (ends_unwatched g.W.Watch.hears _ _ c.args.is_merged c.args.file.now (texts_of c.args.never.now) c.args.process c.args.limit c.as_slice.result.now)
+          (unheard_of (hearing g.W.Progress.begins g.W.Watch.hears) _ _ _ (λ x refused. unexplored refused refl))
           searched.ok searched.refused c.in_ok-ended.ensures),
     )

@@ -1,8 +1,8 @@
-use Rattle.std.proofs.Common.{ℕ, List, subst}
-use Rattle.searches_states.specs.Watching.{IsWatched}
+use Rattle.std.proofs.Common.{ℕ, List, refl, subst}
 use Rattle.ticklab_answers.specs.Asking.{texts_of}
-use Rattle.ticklab_answers.specs.Exploring.{IsExplored}
-use Rattle.ticklab_answers.proofs.Searched.{unwatched}
+use Rattle.ticklab_answers.specs.Exploring.{IsExplored, unexplored}
+use Rattle.ticklab_answers.specs.Hearing.{IsHeard, hearing}
+use Rattle.ticklab_answers.proofs.Heard.{unheard_of}
 use Rattle.ticklab_answers.proofs.Settled.{settled_with}
 use Rattle.ticklab_answers.proofs.commands.exploring.explored.Goals as goal
 
@@ -12,9 +12,9 @@ returns-clause-ok g c =
     let searched = c.all_schedules-searched.ensures in (
       c.in_ok-input.input.items,
       c.in_ok-input.ensures.ok,
-      subst (λ (input : List ℕ). IsWatched g.W.Watch.hears c.args.progress.now c.all_schedules-searched.new.watch
-          (IsExplored c.args.is_merged c.args.file.now texts c.args.limit input c.in_ok-ended.field-0)) c.as_slice-bytes.ensures.value
+      subst (λ (input : List ℕ). IsHeard (hearing g.W.Progress.begins g.W.Watch.hears) c.args.progress.now c.all_schedules-searched.new.progress
+          (IsExplored c.args.steps c.args.file.now texts c.args.limit input c.in_ok-ended.field-0)) c.as_slice-bytes.ensures.value
           (settled_with c.all_schedules-searched.result c.in_ok-ended.field-0 (λ x h. h)
-          (unwatched g.W.Watch.hears _ _ c.args.is_merged c.args.file.now texts c.args.limit c.as_slice-bytes.result.now)
+          (unheard_of (hearing g.W.Progress.begins g.W.Watch.hears) _ _ _ (λ x refused. unexplored refused refl))
           searched.ok searched.refused c.in_ok-ended.ensures),
     )
