@@ -2,7 +2,7 @@
 
 ghost use Rattle.std.specs.Prelude.{◌≡◌, ◌<◌, ◌++◌, IfOk, OnOk, length, string_bytes};
 ghost use Rattle.code_text.specs.CodeText.{instr_text};
-ghost use Rattle.ticklab_trace.specs.TraceText.{instruction_line, instruction_lines, instruction_text, label_order_text, label_rank, made_text, ranks_to, words_text};
+ghost use Rattle.ticklab_trace.specs.TraceText.{instruction_line, instruction_lines, instruction_text, label_order_text, label_rank, made_text, words_text};
 
 use crate::columns::{end_words, push_head, push_place};
 use crate::steps::InstructionStep;
@@ -97,15 +97,8 @@ fn push_order(text: &mut String, labels: Option<LabelWord>) -> Result<(), AllocE
         return Ok(());
     };
     text.push_str(", order")?;
-    push_label_ranks(text, &labels)
-}
-
-/// The rank of each process among these labels, after a space.
-pub fn push_label_ranks(text: &mut String, labels: &LabelWord) -> Result<(), AllocError>
-    ensures { OnOk result (string_bytes text.new ≡ string_bytes text.old ++ ranks_to (label_rank labels.now) (length labels.now)) }
-{
     for i in 0..labels.n() {
-        push_rank(text, rank_of(labels, i))?;
+        push_rank(text, rank_of(&labels, i))?;
     }
     Ok(())
 }

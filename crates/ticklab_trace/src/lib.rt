@@ -19,9 +19,9 @@ mod steps;
 mod wording;
 
 pub use base::NoMemory;
-pub use code_lines::{code_trace, push_label_ranks};
+pub use code_lines::code_trace;
 pub use instructions::code_steps;
-pub use source_lines::{push_ticket_ranks, source_trace};
+pub use source_lines::source_trace;
 pub use spots::{StatementPlace, places};
 pub use statements::source_steps;
 pub use steps::{InstructionStep, StatementStep, Written};

@@ -2,7 +2,7 @@
 
 ghost use Rattle.std.specs.Prelude.{◌≡◌, ◌<◌, ◌≤◌, ◌+◌, ◌++◌, IfOk, OnOk, length, map, option_map, slice_get, slice_index, string_bytes};
 ghost use Rattle.ticklab_trace.specs.Places.{told_standing};
-ghost use Rattle.ticklab_trace.specs.TraceText.{done_text, order_text, ranks_to, spot_text, statement_line, statement_lines, step_text, taken_text, ticket_rank};
+ghost use Rattle.ticklab_trace.specs.TraceText.{done_text, order_text, spot_text, statement_line, statement_lines, step_text, taken_text, ticket_rank};
 
 use crate::columns::{push_head, push_nowhere, push_where, push_words};
 use crate::spots::StatementPlace;
@@ -132,15 +132,8 @@ fn push_order(
     };
     push_taken(text, p, act, &tickets)?;
     text.push_str(", order")?;
-    push_ticket_ranks(text, &tickets)
-}
-
-/// The rank of each process among these tickets, after a space.
-pub fn push_ticket_ranks(text: &mut String, tickets: &Tickets) -> Result<(), AllocError>
-    ensures { OnOk result (string_bytes text.new ≡ string_bytes text.old ++ ranks_to (ticket_rank tickets.now) (length tickets.now)) }
-{
     for i in 0..tickets.count() {
-        push_rank(text, rank_of(tickets, i))?;
+        push_rank(text, rank_of(&tickets, i))?;
     }
     Ok(())
 }

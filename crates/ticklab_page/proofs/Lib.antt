@@ -1,3 +1,0 @@
-mod Unmarked
-mod Pieces
-mod SameRuns
