@@ -75,6 +75,10 @@ static ASKED: [(&[&str], &str); 18] = [
         &["draw", "a", "0", "--code"],
         "Draw { file: \"a\", schedule: \"0\", never: [], is_code: true }",
     ),
+    (
+        &["page", "a", "0", "--code"],
+        "Page { file: \"a\", schedule: \"0\", never: [], is_code: true }",
+    ),
     (&["explain", "a"], "Explain { file: \"a\", schedule: None }"),
     (
         &["explain", "a", "x"],

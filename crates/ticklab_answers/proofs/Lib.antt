@@ -5,6 +5,7 @@ pub mod EndsSearched
 pub mod HuntSearched
 pub mod Looped
 pub mod NeverLines
+pub mod Paged
 pub mod Pictured
 pub mod ProgramFiles
 pub mod Ran

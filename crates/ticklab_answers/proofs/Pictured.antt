@@ -20,7 +20,7 @@ pub named : (rows : List Named) → names rows ≡ map (λ row. row.letters) (ma
 named [] = refl
 named (row ∷ rows) = ap (λ (more : List (List ℕ)). string_bytes row.name ∷ more) (named rows)
 
-same_picture : (name : List ℕ) (n m : ℕ) (rows row_names : List (List ℕ)) (marks others : List Mark) (broken : Option Broken) (out : List ℕ)
+pub same_picture : (name : List ℕ) (n m : ℕ) (rows row_names : List (List ℕ)) (marks others : List Mark) (broken : Option Broken) (out : List ℕ)
     → n ≡ m → rows ≡ row_names → marks ≡ others
     → out ≡ picture name n rows marks broken → out ≡ picture name m row_names others broken
 same_picture name n m rows row_names marks others broken out count named same drawn =

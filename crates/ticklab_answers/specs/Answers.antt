@@ -8,7 +8,7 @@ use Rattle.ticklab_line.specs.Commands.{Asked, plain_request}
 use Rattle.ticklab_line.specs.Lines.{Answers}
 use Rattle.ticklab_line.specs.declared.asking.Line.{Line}
 use Rattle.ticklab_line.specs.declared.asking.Line.TheVariants as line
-use Rattle.ticklab_line.specs.declared.commands.Request.TheVariants.{Explore, Ends, Lasso, Hunt, Runs, Trace, Draw, Explain, Labels}
+use Rattle.ticklab_line.specs.declared.commands.Request.TheVariants.{Explore, Ends, Lasso, Hunt, Runs, Trace, Draw, Page, Explain, Labels}
 use Rattle.ticklab_answers.specs.Ends.{ExploresEnds}
 use Rattle.ticklab_answers.specs.Explanations.{Explains}
 use Rattle.ticklab_answers.specs.Exploring.{Explores, HearsOf}
@@ -18,7 +18,7 @@ use Rattle.ticklab_answers.specs.Labels.{DrawsLabels}
 use Rattle.ticklab_answers.specs.Lasso.{IsOfThree, Lassoes}
 use Rattle.ticklab_answers.specs.Reading.{ReadsOf, ReadsInputOf}
 use Rattle.ticklab_answers.specs.Responses.{Gives, Refuses}
-use Rattle.ticklab_answers.specs.Runs.{Draws, Traces}
+use Rattle.ticklab_answers.specs.Runs.{Draws, Pages, Traces}
 use Rattle.ticklab_answers.specs.Tallies.{RunsOf, Tallies}
 use Rattle.ticklab_answers.specs.declared.fault.LabFault.{LabFault}
 use Rattle.ticklab_answers.specs.declared.fault.LabFault.TheVariants.{Words, Unread, Host, Answer}
@@ -50,6 +50,8 @@ module _ {F M W : Type 0} (Reads : ReadsOf F) (ReadsInput : ReadsInputOf F) (Ran
       (ran ≡ rested) × (heard ≡ quiet) × Traces Reads ReadsInput before after file schedule never is_code response
   Responds (Draw file schedule never is_code) response =
       (ran ≡ rested) × (heard ≡ quiet) × Draws Reads ReadsInput before after file schedule never is_code response
+  Responds (Page file schedule never is_code) response =
+      (ran ≡ rested) × (heard ≡ quiet) × Pages Reads ReadsInput before after file schedule never is_code response
   Responds (Explain file schedule) response = (ran ≡ rested) × (heard ≡ quiet) × Explains Reads ReadsInput before after file schedule response
   Responds (Labels processes moves) response = (ran ≡ rested) × (heard ≡ quiet) × (after ≡ before) × DrawsLabels processes moves response
 
@@ -75,6 +77,7 @@ NamesOf (Hunt file never seed runs from steps is_uniform jobs) name = name ≡ f
 NamesOf (Runs file times turns) name = name ≡ file
 NamesOf (Trace file schedule never is_code) name = IsEither file schedule name
 NamesOf (Draw file schedule never is_code) name = IsEither file schedule name
+NamesOf (Page file schedule never is_code) name = IsEither file schedule name
 NamesOf (Explain file schedule) name = IsOneOf file schedule name
 NamesOf (Labels processes moves) name = ⊥
 

@@ -13,6 +13,7 @@ pub mod Lasso
 pub mod Laws
 pub mod Lines
 pub mod Loops
+pub mod Pages
 pub mod Reading
 pub mod Responses
 pub mod Runs

@@ -1,6 +1,6 @@
--- What `trace` and `draw` answer: a trace or a picture of the run of a program, or of its code, under a
+-- What `trace`, `draw` and `page` answer: a trace, a picture or a page of the run of a program, or of its code, under a
 -- schedule.
-use Rattle.std.specs.Prelude.{◌≡◌, ◌++◌, ℕ, Bool, true, false, List, drop, map, slice_get, take, Option, Some, None, Ok}
+use Rattle.std.specs.Prelude.{◌≡◌, ◌++◌, ℕ, Bool, true, false, List, drop, length, map, slice_get, take, Option, Some, None, Ok}
 use Rattle.base.specs.Plain.{Name, WholeProgram}
 use Rattle.tick_syntax.specs.Spelling.{Spells}
 use Rattle.tick_syntax.specs.declared.token.Token.{Token}
@@ -23,21 +23,25 @@ use Rattle.ticklab_answers.specs.Asking.{AsksNever, IsFileRefused, IsProgramFile
 use Rattle.ticklab_answers.specs.Breaking.{IsFirstBreak, IsMarked, NeverBreaks}
 use Rattle.ticklab_answers.specs.Codes.{HasCode, IsCodeless, program_code}
 use Rattle.ticklab_answers.specs.Lines.{broken_text}
+use Rattle.ticklab_answers.specs.Pages.{IsPage, IsTooLong, IsWithin}
 use Rattle.ticklab_answers.specs.Reading.{AfterBoth, ReadsOf, ReadsInputOf}
 use Rattle.ticklab_answers.specs.Responses.{Gives, Refuses}
 use Rattle.ticklab_answers.specs.declared.breaking.Break.{Break}
 use Rattle.ticklab_answers.specs.declared.commands.told_run.Telling.{Telling}
-use Rattle.ticklab_answers.specs.declared.commands.told_run.Telling.TheVariants.{Trace, Picture}
+use Rattle.ticklab_answers.specs.declared.commands.told_run.Telling.TheVariants.{Trace, Picture, Page}
 use Rattle.ticklab_answers.specs.declared.response.Response.{Response}
 
--- The report of a run that isn't made: of the file, these texts of a command line, the schedule or the code, in this order.
-pub data IsUnrun (name : List ℕ) (texts : List (List ℕ)) (input from text : List ℕ) (is_code : Bool) (report : List ℕ) : Type 0 where
-  file_refused : IsFileRefused name input report → IsUnrun name texts input from text is_code report
-  option_refused : (is : IsProgramFile input) → TellsOption is.program (lines_in is.asked) texts report → IsUnrun name texts input from text is_code report
+-- The report of a run that isn't made: of the file, these texts of a command line, the schedule, its length or the code, in
+-- this order.
+pub data IsUnrun (telling : Telling) (name : List ℕ) (texts : List (List ℕ)) (input from text : List ℕ) (is_code : Bool) (report : List ℕ) : Type 0 where
+  file_refused : IsFileRefused name input report → IsUnrun telling name texts input from text is_code report
+  option_refused : (is : IsProgramFile input) → TellsOption is.program (lines_in is.asked) texts report → IsUnrun telling name texts input from text is_code report
   schedule_refused : (is : IsProgramFile input) → TellsFor is.program.processes (IsScheduleRefused is.program.processes text) from text report
-      → IsUnrun name texts input from text is_code report
+      → IsUnrun telling name texts input from text is_code report
+  too_long : (is : IsProgramFile input) (schedule : List ℕ) → schedule_of is.program.processes text ≡ Ok schedule
+      → IsTooLong telling from (length schedule) report → IsUnrun telling name texts input from text is_code report
   code_refused : (is : IsProgramFile input) (schedule : List ℕ) → schedule_of is.program.processes text ≡ Ok schedule
-      → IsCodeless is_code name is.program report → IsUnrun name texts input from text is_code report
+      → IsCodeless is_code name is.program report → IsUnrun telling name texts input from text is_code report
 
 -- what is told of a run of the program of an input, with what must never hold of it
 abbrev pub Told : List (List ℕ) → List ℕ → Type 1
@@ -50,9 +54,9 @@ pub record IsRun {texts : List (List ℕ)} {input : List ℕ} (P : Told texts in
   pub spelled : schedule_of asks.file.program.processes text ≡ Ok schedule
   pub told : P asks schedule out
 
-pub data AnswersRun {texts : List (List ℕ)} {input : List ℕ} (P : Told texts input) (name from text : List ℕ) (is_code : Bool) (response : Response) : Type 0 where
-  run : Gives 0 (IsRun P text) response → AnswersRun P name from text is_code response
-  unrun : Refuses 1 (IsUnrun name texts input from text is_code) response → AnswersRun P name from text is_code response
+pub data AnswersRun {texts : List (List ℕ)} {input : List ℕ} (telling : Telling) (P : Told texts input) (name from text : List ℕ) (is_code : Bool) (response : Response) : Type 0 where
+  run : Gives 0 (IsRun P text) response → AnswersRun telling P name from text is_code response
+  unrun : Refuses 1 (IsUnrun telling name texts input from text is_code) response → AnswersRun telling P name from text is_code response
 
 -- The lines of the steps of the program that the input is, with its statements where they stand there.
 pub record IsStatementTrace (input : List ℕ) (a : WholeProgram Name) (schedule out : List ℕ) : Type 0 where
@@ -108,22 +112,27 @@ abbrev pub IsRunPicture : Bool → List Formula → List TextPlace → List ℕ 
 IsRunPicture true lines places name a schedule out = IsCodePicture name a schedule out
 IsRunPicture false lines places name a schedule out = IsProgramPicture lines places name a schedule out
 
--- a run is told as a trace or as a picture
+-- a run is told as a trace, as a picture or as a page
 abbrev pub IsToldWith : Telling → Bool → List ℕ → List Formula → List TextPlace → List ℕ → WholeProgram Name → List ℕ → List ℕ → Type 0
 IsToldWith Trace is_code name lines places input = IsTrace is_code lines places input
 IsToldWith Picture is_code name lines places input = IsRunPicture is_code lines places name
+IsToldWith Page is_code name lines places input = IsPage is_code lines places name input
 
 abbrev pub IsTold : Telling → Bool → (name : List ℕ) (texts : List (List ℕ)) (input : List ℕ) → Told texts input
 IsTold telling is_code name texts input asks =
-    IsToldWith telling is_code name asks.lines (places_by name input asks.file.asked texts) input asks.file.program
+    λ schedule out. IsWithin telling (length schedule)
+    × IsToldWith telling is_code name asks.lines (places_by name input asks.file.asked texts) input asks.file.program schedule out
 
 abbrev pub TellsRun : {F : Type 0} → Telling → ReadsOf F → ReadsInputOf F → F → F → List ℕ → List ℕ → List (List ℕ) → Bool → Response → Type 0
 TellsRun telling Reads ReadsInput before after file schedule never is_code response =
     AfterBoth Reads ReadsInput before after file schedule
-    (λ input from text. AnswersRun (IsTold telling is_code file never input) file from text is_code response)
+    (λ input from text. AnswersRun telling (IsTold telling is_code file never input) file from text is_code response)
 
 abbrev pub Traces : {F : Type 0} → ReadsOf F → ReadsInputOf F → F → F → List ℕ → List ℕ → List (List ℕ) → Bool → Response → Type 0
 Traces Reads ReadsInput before after file schedule never is_code response = TellsRun Trace Reads ReadsInput before after file schedule never is_code response
 
 abbrev pub Draws : {F : Type 0} → ReadsOf F → ReadsInputOf F → F → F → List ℕ → List ℕ → List (List ℕ) → Bool → Response → Type 0
 Draws Reads ReadsInput before after file schedule never is_code response = TellsRun Picture Reads ReadsInput before after file schedule never is_code response
+
+abbrev pub Pages : {F : Type 0} → ReadsOf F → ReadsInputOf F → F → F → List ℕ → List ℕ → List (List ℕ) → Bool → Response → Type 0
+Pages Reads ReadsInput before after file schedule never is_code response = TellsRun Page Reads ReadsInput before after file schedule never is_code response

@@ -12,6 +12,7 @@ mod exploring;
 mod hunting;
 mod labels;
 mod lasso;
+mod paging;
 mod tallying;
 mod told_run;
 mod tracing;
@@ -27,6 +28,7 @@ pub use exploring::explored;
 pub use hunting::{hunted, plan_of};
 pub use labels::labelled;
 pub use lasso::lassoed;
+pub use paging::paged;
 use searches_hunt::Trials;
 use std::alloc::Global;
 use std::env::Args;
@@ -126,6 +128,12 @@ fn answered<F: Files, M: Runner, T: Trials, W: Progress>(
             never,
             is_code,
         } => drawn(alloc, files, file, schedule, &never, is_code),
+        Request::Page {
+            file,
+            schedule,
+            never,
+            is_code,
+        } => paged(alloc, files, file, schedule, &never, is_code),
         Request::Explain { file, schedule } => explained(alloc, files, file, schedule),
         Request::Labels { processes, moves } => labelled(alloc, processes, moves),
     }

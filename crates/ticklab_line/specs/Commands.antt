@@ -10,7 +10,7 @@ use Rattle.clap.specs.declared.builder.value_parser.ValueParser.TheVariants.{Uns
 use Rattle.ticklab_line.specs.CommandLine.{ends_rule, flag_rule, from_one_to, further_rule, number_rule, processes_rule, repeated_rule, threads_rule, up_to, with_app, with_file, word_rule}
 use Rattle.ticklab_line.specs.Found.{for_file, for_number, for_number_or, is_set, list_of, number_of, number_or}
 use Rattle.ticklab_line.specs.declared.commands.Request.{Request}
-use Rattle.ticklab_line.specs.declared.commands.Request.TheVariants.{Explore, Ends, Lasso, Hunt, Runs, Trace, Draw, Explain, Labels}
+use Rattle.ticklab_line.specs.declared.commands.Request.TheVariants.{Explore, Ends, Lasso, Hunt, Runs, Trace, Draw, Page, Explain, Labels}
 
 -- what a command asks for, its texts and its lists of texts as they are
 abbrev pub Asked : Type 0
@@ -37,7 +37,7 @@ hunt_app = with_rule (with_rule (with_rule (with_rule (with_rule (with_rule (wit
     (repeated_rule (codes "never")))
     threads_rule
 
--- `trace` and `draw`
+-- `trace`, `draw` and `page`
 abbrev pub run_app : Text → App
 run_app name = with_rule (with_rule (with_rule (with_file name) (word_rule (codes "schedule")))
     (flag_rule (codes "code")))
@@ -55,8 +55,8 @@ command_wanted =
     on_top (λ s. record s { subcommand_required = true; arg_required_else_help = true }) (new_app (codes "ticklab"))
 
 abbrev pub ticklab : App
-ticklab = with_app (with_app (with_app (with_app (with_app (with_app (with_app command_wanted
-    explore_app) lasso_app) hunt_app) (run_app (codes "trace"))) (run_app (codes "draw"))) explain_app) labels_app
+ticklab = with_app (with_app (with_app (with_app (with_app (with_app (with_app (with_app command_wanted
+    explore_app) lasso_app) hunt_app) (run_app (codes "trace"))) (run_app (codes "draw"))) (run_app (codes "page"))) explain_app) labels_app
 
 abbrev pub limit_in : List Row → Option ℕ
 limit_in = number_or 32 (codes "limit") 1000000
@@ -119,6 +119,13 @@ draw_of never rows = for_file rows (λ file. option_map
 abbrev pub draw_in : List Row → Option Asked
 draw_in rows = draw_of (list_of (codes "never") rows) rows
 
+abbrev pub page_of : List Text → List Row → Option Asked
+page_of never rows = for_file rows (λ file. option_map
+    (λ schedule. Page file schedule never (is_set (codes "code") rows)) (first_of (codes "schedule") rows))
+
+abbrev pub page_in : List Row → Option Asked
+page_in rows = page_of (list_of (codes "never") rows) rows
+
 abbrev pub explain_in : List Row → Option Asked
 explain_in rows = for_file rows (λ file. Some (Explain file (first_of (codes "schedule") rows)))
 
@@ -134,6 +141,7 @@ named name rows =
     else if bytes_eq name (codes "hunt") then hunt_in rows
     else if bytes_eq name (codes "trace") then trace_in rows
     else if bytes_eq name (codes "draw") then draw_in rows
+    else if bytes_eq name (codes "page") then page_in rows
     else if bytes_eq name (codes "explain") then explain_in rows
     else if bytes_eq name (codes "labels") then labels_in rows
     else None
@@ -150,6 +158,7 @@ plain_request (Hunt file never seed runs from steps is_uniform jobs) = Hunt file
 plain_request (Runs file times turns) = Runs file.now times turns
 plain_request (Trace file schedule never is_code) = Trace file.now schedule.now (map (λ text. text.now) never.items) is_code
 plain_request (Draw file schedule never is_code) = Draw file.now schedule.now (map (λ text. text.now) never.items) is_code
+plain_request (Page file schedule never is_code) = Page file.now schedule.now (map (λ text. text.now) never.items) is_code
 plain_request (Explain file schedule) = Explain file.now (option_map (λ text. text.now) schedule)
 plain_request (Labels processes moves) = Labels processes moves.now
 
@@ -178,6 +187,9 @@ rows = (codes "explore" ∷ codes "a" ∷ codes "--limit" ∷ codes "7" ∷ [], 
     ∷ (codes "draw" ∷ codes "a" ∷ [] ∷ [], Draw (codes "a") [] [] false)
     ∷ (codes "draw" ∷ codes "--code" ∷ codes "a" ∷ codes "0" ∷ [], Draw (codes "a") (codes "0") [] true)
     ∷ (codes "draw" ∷ codes "a" ∷ codes "0" ∷ codes "--never=n" ∷ [], Draw (codes "a") (codes "0") (codes "n" ∷ []) false)
+    ∷ (codes "page" ∷ codes "a" ∷ codes "@b" ∷ [], Page (codes "a") (codes "@b") [] false)
+    ∷ (codes "page" ∷ codes "a" ∷ codes "0" ∷ codes "--code" ∷ [], Page (codes "a") (codes "0") [] true)
+    ∷ (codes "page" ∷ codes "--never=n" ∷ codes "a" ∷ codes "0" ∷ [], Page (codes "a") (codes "0") (codes "n" ∷ []) false)
     ∷ (codes "explain" ∷ codes "a" ∷ [], Explain (codes "a") None)
     ∷ (codes "explain" ∷ codes "a" ∷ codes "0" ∷ [], Explain (codes "a") (Some (codes "0")))
     ∷ (codes "labels" ∷ codes "3" ∷ codes "0 c1" ∷ [], Labels 3 (codes "0 c1"))

@@ -1,5 +1,5 @@
--- Which options do not go together: of `hunt` `--threads`, and each option of a hunt by random schedules; of `trace` and
--- `draw` `--code` and `--never`.
+-- Which options do not go together: of `hunt` `--threads`, and each option of a hunt by random schedules; of `trace`,
+-- `draw` and `page` `--code` and `--never`.
 use Rattle.std.specs.Prelude.{Bool, true, false, List, ◌++◌, ◌&&◌, ◌||◌, Option, Some, None, codes, bytes_eq, map}
 use Rattle.std.specs.Prelude.{if◌then◌else◌, find, is_some, option_and_then, option_map}
 use Rattle.std.specs.Option.{option_map_or}
@@ -51,10 +51,17 @@ abbrev pub threads_conflict : List Row → Option Shown
 threads_conflict rows = if is_some (all_of (codes "threads") rows)
     then option_map (in_order (threads_lead (map (λ r. r.id) rows))) (plan_option rows) else None
 
+-- the command of this name that takes a schedule
+abbrev pub run_named : Text → Text
+run_named name =
+    if bytes_eq name (codes "draw") then codes "draw"
+    else if bytes_eq name (codes "page") then codes "page"
+    else codes "trace"
+
 -- of a command of this name
 abbrev pub code_and_never : Text → Shown
 code_and_never name = record {
-  command = if bytes_eq name (codes "draw") then codes "draw" else codes "trace";
+  command = run_named name;
   words = codes " <FILE> <SCHEDULE>";
   first = codes "--code";
   second = codes "--never <EXPR>";

@@ -31,6 +31,7 @@ pub record CommandsLaw : Type 0 where
   pub explore : (rest : Text) → Asks (codes "explore" ∷ (97 ∷ rest) ∷ []) (Explore (97 ∷ rest) [] 1000000 false)
   pub code_never : IsTaken (codes "trace" ∷ codes "a" ∷ codes "0" ∷ codes "--never=1" ∷ codes "--code" ∷ []) (Some (code_and_never (codes "trace")))
   pub drawn_code_never : IsTaken (codes "draw" ∷ codes "--code" ∷ codes "a" ∷ codes "0" ∷ codes "--never" ∷ codes "n" ∷ []) (Some (code_and_never (codes "draw")))
+  pub page_code_never : IsTaken (codes "page" ∷ codes "a" ∷ codes "0" ∷ codes "--never=1" ∷ codes "--code" ∷ []) (Some (code_and_never (codes "page")))
   pub all : map (λ row. read row.0) rows ≡ map (λ row. ([], None, Some row.1)) rows
 
 -- the words after `hunt` and a program ask for this

@@ -4,7 +4,7 @@ ghost use Rattle.clap.specs.Matches.{found_of};
 ghost use Rattle.clap.specs.Walk.{rows_of};
 ghost use Rattle.clap.specs.Simple.{app_of, subcommand_rows_of};
 ghost use Rattle.ticklab_line.specs.CommandLine.{IsCommand, IsLine};
-ghost use Rattle.ticklab_line.specs.Commands.{command_wanted, draw_in, draw_of, ends_in, ends_of, explain_app, explain_in, explore_app, explore_in, hunt_app, hunt_in, labels_app, labels_in, lasso_app, lasso_in, limit_in, named, plain_request, plan_of, run_app, runs_in, schedules_of, ticklab, trace_in, trace_of};
+ghost use Rattle.ticklab_line.specs.Commands.{command_wanted, draw_in, draw_of, ends_in, ends_of, explain_app, explain_in, explore_app, explore_in, hunt_app, hunt_in, labels_app, labels_in, lasso_app, lasso_in, limit_in, named, page_in, page_of, plain_request, plan_of, run_app, runs_in, schedules_of, ticklab, trace_in, trace_of};
 ghost use Rattle.ticklab_line.specs.Commands.{request_in as found_request};
 
 use crate::arguments::{
@@ -77,6 +77,13 @@ pub enum Request<T, L> {
         never: L,
         is_code: bool,
     },
+    /// A run as a page on which one goes from step to step, and where what must never hold does.
+    Page {
+        file: T,
+        schedule: T,
+        never: L,
+        is_code: bool,
+    },
     /// What is wrong with a program or a code, or with a schedule of it.
     Explain {
         file: T,
@@ -111,6 +118,14 @@ pub fn command_line<'a>(alloc: Global) -> Result<Command<'a>, AllocError>
     let line = with(
         line,
         run(alloc, "draw", "Draws a run, as SVG on standard output"),
+    );
+    let line = with(
+        line,
+        run(
+            alloc,
+            "page",
+            "Writes a run as one page of HTML, to go through step by step, on standard output",
+        ),
     );
     let line = with(line, explain(alloc));
     with(line, labels(alloc))
@@ -155,6 +170,7 @@ fn request_named<'a>(
         "hunt" => hunt_in(alloc, given),
         "trace" => trace_in(alloc, given),
         "draw" => draw_in(alloc, given),
+        "page" => page_in(alloc, given),
         "explain" => Ok(explain_in(given)),
         "labels" => Ok(labels_in(given)),
         _ => Ok(None),
@@ -466,6 +482,24 @@ fn draw_of<'a>(given: &ArgMatches<'a>, never: Vec<&'a str>) -> Option<Lent<'a>>
     ensures { option_map plain_request result ≡ draw_of (map (λ text. text.now) never.entry.items) (rows_of (found_of given.now)) }
 {
     Some(Request::Draw {
+        file: text_in(given, "file")?,
+        schedule: text_in(given, "schedule")?,
+        never,
+        is_code: is_set(given, "code"),
+    })
+}
+
+fn page_in<'a>(alloc: Global, given: &ArgMatches<'a>) -> Result<Option<Lent<'a>>, AllocError>
+    ensures { IfOk result (λ found. option_map plain_request found ≡ page_in (rows_of (found_of given.now))) }
+{
+    let never = list_in(alloc, given, "never")?;
+    Ok(page_of(given, never))
+}
+
+fn page_of<'a>(given: &ArgMatches<'a>, never: Vec<&'a str>) -> Option<Lent<'a>>
+    ensures { option_map plain_request result ≡ page_of (map (λ text. text.now) never.entry.items) (rows_of (found_of given.now)) }
+{
+    Some(Request::Page {
         file: text_in(given, "file")?,
         schedule: text_in(given, "schedule")?,
         never,

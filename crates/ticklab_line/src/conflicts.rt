@@ -3,7 +3,7 @@ ghost use Rattle.std.specs.Prelude.{◌≡◌, IfOk, map, option_map, string_byt
 ghost use Rattle.clap.specs.Matches.{found_of};
 ghost use Rattle.clap.specs.Walk.{rows_of};
 ghost use Rattle.clap.specs.Simple.{subcommand_rows_of};
-ghost use Rattle.ticklab_line.specs.Conflicts.{code_conflict, conflict_in as conflict_found, conflict_of, conflict_text, in_order, may_conflict, plan_option, shown, threads_conflict, threads_lead};
+ghost use Rattle.ticklab_line.specs.Conflicts.{code_conflict, conflict_in as conflict_found, conflict_of, conflict_text, in_order, may_conflict, plan_option, run_named, shown, threads_conflict, threads_lead};
 
 use crate::values::{is_set, text_in, texts_in};
 use clap::ArgMatches;
@@ -40,19 +40,30 @@ fn conflict_of(name: &str, given: &ArgMatches<'_>) -> Option<Conflict<'static>>
     code_conflict(name, given)
 }
 
-// `--code` and `--never` of `trace` or `draw`.
+// `--code` and `--never` of `trace`, `draw` or `page`.
 fn code_conflict(name: &str, given: &ArgMatches<'_>) -> Option<Conflict<'static>>
     ensures { option_map shown result ≡ code_conflict name.now (rows_of (found_of given.now)) }
 {
     if is_set(given, "code") && text_in(given, "never").is_some() {
         return Some(Conflict {
-            command: if name == "draw" { "draw" } else { "trace" },
+            command: run_named(name),
             words: " <FILE> <SCHEDULE>",
             first: "--code",
             second: "--never <EXPR>",
         });
     }
     None
+}
+
+// The command of this name that takes a schedule.
+fn run_named(name: &str) -> &'static str
+    ensures { result.now ≡ run_named name.now }
+{
+    match name {
+        "draw" => "draw",
+        "page" => "page",
+        _ => "trace",
+    }
 }
 
 // `--threads` and an option of a plan, in the order in which they were given.

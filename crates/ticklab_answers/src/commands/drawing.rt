@@ -76,8 +76,8 @@ pub fn picture_of(
     )?)
 }
 
-// The mark of the line that first is broken. Of a code none is asked.
-fn never_mark<'l>(
+/// The mark of the line that first is broken. Of a code none is asked.
+pub fn never_mark<'l>(
     alloc: Global,
     program: &Program,
     lines: &'l NeverLines<'_>,

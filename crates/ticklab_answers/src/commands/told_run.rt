@@ -1,4 +1,4 @@
-//! What `ticklab trace` and `ticklab draw` share: they read a program and a schedule, and tell of the run.
+//! What `ticklab trace`, `ticklab draw` and `ticklab page` share: they read a program and a schedule, and tell of the run.
 ghost use Rattle.std.specs.Prelude.{◌≡◌, ◌<◌, All, IfErr, IfOk, length, map};
 ghost use Rattle.tick_kinds.specs.Resolution.{resolved};
 ghost use Rattle.ticketc_refusals.specs.Refusals.{SpelledIn};
@@ -11,6 +11,7 @@ ghost use Rattle.ticklab_answers.specs.Runs.{IsRun, IsTold, IsToldWith, IsUnrun,
 ghost use Rattle.ticklab_answers.specs.Stops.{IfRefused};
 
 use crate::commands::drawing::picture_of;
+use crate::commands::paging::{page_of, within_a_page};
 use crate::commands::tracing::trace_of;
 use crate::fault::LabFault;
 use crate::files::{bytes_of, text_of};
@@ -26,6 +27,8 @@ pub enum Telling {
     /// A line for each step.
     Trace,
     Picture,
+    /// A page of HTML.
+    Page,
 }
 
 /// The run of the program under a schedule, or of its code, told so.
@@ -68,7 +71,7 @@ fn run_told(
     is_code: bool,
 ) -> Result<Response, NoAnswer>
     ensures ok { IfOk result (Gives 0 (IsRun (IsTold telling is_code name.now (texts_of never.now) input.now) schedule.now)) }
-    ensures refused { IfErr result (λ stop. IfRefused stop (IsUnrun name.now (texts_of never.now) input.now from.now schedule.now is_code)) }
+    ensures refused { IfErr result (λ stop. IfRefused stop (IsUnrun telling name.now (texts_of never.now) input.now from.now schedule.now is_code)) }
 {
     let asked = match asked_program(alloc, name, input, never) {
         Ok(asked) => asked,
@@ -77,6 +80,7 @@ fn run_told(
     let n = asked.spelled.program.processes();
     let steps = schedule_of(alloc, from, schedule, n)?;
     let steps = steps.as_slice();
+    within_a_page(alloc, telling, from, steps.len())?;
     let out = telling_of(alloc, telling, is_code, name, &asked, input, steps)?;
     Ok(output(alloc, DONE, out))
 }
@@ -100,6 +104,7 @@ fn telling_of(
     let lines = &asked.lines;
     match telling {
         Telling::Trace => trace_of(alloc, name, spelled, input, lines, schedule, is_code),
+        Telling::Page => page_of(alloc, name, spelled, input, lines, schedule, is_code),
         Telling::Picture => { picture_of(alloc, name, &spelled.program, lines, schedule, is_code) },
     }
 }

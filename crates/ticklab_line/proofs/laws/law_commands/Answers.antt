@@ -9,5 +9,6 @@ returns c = record {
   explore = λ rest. ((refl, refl), refl);
   code_never = (refl, refl);
   drawn_code_never = (refl, refl);
+  page_code_never = (refl, refl);
   all = refl;
 }

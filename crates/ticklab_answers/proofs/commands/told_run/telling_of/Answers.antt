@@ -5,3 +5,6 @@ returns-in-Trace-clause-ok c = rw c.in-Trace.is c.trace_of.ensures.ok
 
 pub returns-in-Picture-clause-ok : goal.returns-in-Picture-clause-ok
 returns-in-Picture-clause-ok c = rw c.in-Picture.is c.picture_of.ensures.ok
+
+pub returns-in-Page-clause-ok : goal.returns-in-Page-clause-ok
+returns-in-Page-clause-ok c = rw c.in-Page.is c.page_of.ensures.ok

@@ -14,6 +14,6 @@ returns-clause-ok g c =
     let response = c.in_ok-settled.field-0 in
     read_both g.F.Files.Reads g.F.Files.ReadsInput c.args.files.now c.bytes_of.new.files _ file c.args.schedule.now c.in_ok-input.input.items from
     (string_bytes c.in_ok-from.text) _ c.in_ok-input.ensures.ok c.in_ok-from.ensures.ok
-    (subst (λ (text : List ℕ). AnswersRun (IsTold c.args.telling c.args.is_code file texts c.in_ok-input.input.items) file from text c.args.is_code response) c.deref.ensures
-    (subst (λ (input : List ℕ). AnswersRun (IsTold c.args.telling c.args.is_code file texts input) file from c.deref.result.now c.args.is_code response) c.as_slice.ensures.value
+    (subst (λ (text : List ℕ). AnswersRun c.args.telling (IsTold c.args.telling c.args.is_code file texts c.in_ok-input.input.items) file from text c.args.is_code response) c.deref.ensures
+    (subst (λ (input : List ℕ). AnswersRun c.args.telling (IsTold c.args.telling c.args.is_code file texts input) file from c.deref.result.now c.args.is_code response) c.as_slice.ensures.value
     (settled_with c.run_told-answered.result response (λ x h. run h) (λ x h. unrun h) answered.ok answered.refused c.in_ok-settled.ensures)))
