@@ -13,17 +13,19 @@ use Rattle.std.specs.Fmt.{decimal}
 use Rattle.base.specs.declared.event.Act.{Act}
 use Rattle.base.specs.declared.event.Act.TheVariants as A
 use Rattle.ticklab_draw.specs.declared.columns.Column.{Column}
+use Rattle.ticklab_draw.specs.declared.look.Look.{Look}
 use Rattle.ticklab_draw.specs.declared.mark.Mark.{Mark}
 use Rattle.ticklab_draw.specs.declared.mark.Sight.{Sight}
 use Rattle.ticklab_draw.specs.declared.mark.Sight.TheVariants as S
 use Rattle.ticklab_draw.specs.declared.shapes.Shape.TheVariants.{Put, Get}
+use Rattle.ticklab_draw.specs.Chosen.{chosen_count, is_chosen}
 use Rattle.ticklab_draw.specs.Columns.{columns}
 use Rattle.ticklab_draw.specs.Escapes.{escaped, escaped_byte}
 use Rattle.ticklab_draw.specs.Laws.{MarkupLaw, RenamedLaw, openings, reworded}
 use Rattle.ticklab_draw.specs.Layout.{above_y, band_foot, band_top, behind_x, column_at, column_behind, last_column, page_height}
 use Rattle.ticklab_draw.specs.Legend.{legend_text}
 use Rattle.ticklab_draw.specs.Never.{Broken, dashed_line, marks_within, moment_text, never_behind, never_label, never_text, never_title, value_text}
-use Rattle.ticklab_draw.specs.Pictures.{about, file_name, group_head, group_text, groups_text, heading, page_head, page_size, picture, picture_in, title_element, titled, under_text}
+use Rattle.ticklab_draw.specs.Pictures.{about, group_head, group_text, groups_text, heading, page_head, page_size, picture, picture_in, title_element, titled, under_text}
 use Rattle.ticklab_draw.specs.Shapes.{above, below, beside, drawn, drawn_as, label, outline, shape_of, words_text}
 use Rattle.ticklab_draw.specs.Style.{backdrop, sheet}
 use Rattle.ticklab_draw.specs.Words.{act_text, origin_text, row_as, row_text, sentence, sight_text}
@@ -163,10 +165,16 @@ module _ (n : ℕ) (rows renamed : List (List ℕ)) (e : length rows ≡ length 
   group_alike c at m =
       joined (joined (joined (joined (both (group_head n c at m.process)) (sentence_alike m)) (both (codes "</title>"))) (drawn_alike m)) (both (codes "</g>\n"))
 
-  groups_alike : (columns : List Column) (at : ℕ) (marks : List Mark)
-      → Alike (groups_text n rows columns at marks) (groups_text n renamed columns at marks)
-  groups_alike columns at [] = both []
-  groups_alike columns at (m ∷ marks) = joined (group_alike (column_at columns at) at m) (groups_alike columns (at + 1) marks)
+  shown_alike : (shown : Bool) (c : Column) (at : ℕ) (m : Mark)
+      → Alike (if shown then group_text n rows c at m else []) (if shown then group_text n renamed c at m else [])
+  shown_alike true c at m = group_alike c at m
+  shown_alike false c at m = both []
+
+  groups_alike : (look : Look) (columns : List Column) (at : ℕ) (marks : List Mark)
+      → Alike (groups_text look n rows columns at marks) (groups_text look n renamed columns at marks)
+  groups_alike look columns at [] = both []
+  groups_alike look columns at (m ∷ marks) =
+      joined (shown_alike (is_chosen look m) (column_at columns at) at m) (groups_alike look columns (at + 1) marks)
 
 titled_alike : (before title other after : List ℕ) → Alike (titled before title after) (titled before other after)
 unfolding titled
@@ -180,7 +188,7 @@ head_alike title other n last count =
 heading_alike : (title other : List ℕ) → Alike (heading title) (heading other)
 unfolding heading
 heading_alike title other =
-    joined (both (sheet ++ backdrop)) (titled_alike (codes "<text class=\"title\" x=\"16\" y=\"26\">") (file_name title) (file_name other) (codes "</text>\n"))
+    joined (both (sheet ++ backdrop)) (titled_alike (codes "<text class=\"title\" x=\"16\" y=\"26\">") title other (codes "</text>\n"))
 
 never_titled : (b : Broken) (text : List ℕ) → Alike (never_title b) (never_title (reworded text b))
 unfolding never_title
@@ -197,18 +205,18 @@ never_alike : (n : ℕ) (columns : List Column) (marks : List Mark) (broken : Op
 never_alike n columns marks None text = both []
 never_alike n columns marks (Some b) text = behind_alike n (column_behind columns (marks_within b.steps marks)) b text
 
-picture_alike : (columns : List Column) (title other : List ℕ) (n : ℕ) (rows renamed : List (List ℕ)) (marks : List Mark) (broken : Option Broken) (text : List ℕ)
+picture_alike : (columns : List Column) (title other : List ℕ) (look : Look) (n : ℕ) (rows renamed : List (List ℕ)) (marks : List Mark) (broken : Option Broken) (text : List ℕ)
     → length rows ≡ length renamed
-    → Alike (picture_in columns title n rows marks broken) (picture_in columns other n renamed marks (option_map (reworded text) broken))
+    → Alike (picture_in columns title look n rows marks broken) (picture_in columns other look n renamed marks (option_map (reworded text) broken))
 unfolding picture_in
-picture_alike columns title other n rows renamed marks broken text e =
-    joined (joined (joined (joined (joined (head_alike title other n (last_column columns).band (length marks)) (heading_alike title other)) (never_alike n columns marks broken text)) (both (under_text n columns marks))) (groups_alike n rows renamed e columns 0 marks)) (both (legend_text n (last_column columns).band))
+picture_alike columns title other look n rows renamed marks broken text e =
+    joined (joined (joined (joined (joined (head_alike title other n (last_column columns).band (chosen_count look marks)) (heading_alike title other)) (never_alike n columns marks broken text)) (both (under_text look n columns marks))) (groups_alike n rows renamed e look columns 0 marks)) (both (legend_text n (last_column columns).band))
 
 pub markup_law : MarkupLaw
-markup_law columns title other n rows renamed marks broken text e = (picture_alike columns title other n rows renamed marks broken text e).same
+markup_law columns title other look n rows renamed marks broken text e = (picture_alike columns title other look n rows renamed marks broken text e).same
 
 pub renamed_law : RenamedLaw
 unfolding picture
-renamed_law title other n rows renamed marks broken text e same =
-    ap (λ (cs : List Column). openings (picture_in cs title n rows marks broken)) same
-    ∙ markup_law (columns n renamed marks) title other n rows renamed marks broken text e
+renamed_law title other look n rows renamed marks broken text e same =
+    ap (λ (cs : List Column). openings (picture_in cs title look n rows marks broken)) same
+    ∙ markup_law (columns look n renamed marks) title other look n rows renamed marks broken text e

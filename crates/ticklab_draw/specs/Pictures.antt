@@ -1,9 +1,11 @@
 -- A run as SVG, to the byte: a page with its title, its style, the mark of what must never hold, lanes with
 -- what stands below them, a group for each mark in order, and the legend. The title, the names of rows and the text of what
 -- must never hold are written as `Escapes` says.
-use Rattle.std.specs.Prelude.{ℕ, ◌+◌, ◌==◌, if◌then◌else◌, List, [], ◌∷◌, ◌++◌, codes, length, Option}
+use Rattle.std.specs.Prelude.{ℕ, ◌+◌, ◌==◌, if◌then◌else◌, List, [], ◌∷◌, ◌++◌, codes, Option}
 use Rattle.ticklab_draw.specs.declared.columns.Column.{Column}
+use Rattle.ticklab_draw.specs.declared.look.Look.{Look}
 use Rattle.ticklab_draw.specs.declared.mark.Mark.{Mark}
+use Rattle.ticklab_draw.specs.Chosen.{chosen_count, is_chosen}
 use Rattle.ticklab_draw.specs.Colours.{colour}
 use Rattle.ticklab_draw.specs.Columns.{columns}
 use Rattle.ticklab_draw.specs.Escapes.{escaped}
@@ -32,11 +34,11 @@ group_head n c at p = group_name at ++ colour p ++ group_place c.x (lane_y n c.b
 unfoldable pub group_text : ℕ → List (List ℕ) → Column → ℕ → Mark → List ℕ
 group_text n rows c at m = group_head n c at m.process ++ sentence n rows m ++ codes "</title>" ++ drawn n rows m ++ codes "</g>\n"
 
--- a group for each of these marks, in order, the first of which has this place
-abbrev pub groups_text : ℕ → List (List ℕ) → List Column → ℕ → List Mark → List ℕ
-groups_text n rows columns at [] = []
-groups_text n rows columns at (m ∷ marks) =
-    group_text n rows (column_at columns at) at m ++ groups_text n rows columns (at + 1) marks
+-- a group for each of these marks that is shown, in order, the first of which has this place
+abbrev pub groups_text : Look → ℕ → List (List ℕ) → List Column → ℕ → List Mark → List ℕ
+groups_text look n rows columns at [] = []
+groups_text look n rows columns at (m ∷ marks) =
+    (if is_chosen look m then group_text n rows (column_at columns at) at m else []) ++ groups_text look n rows columns (at + 1) marks
 
 -- an element so high, and as much of what is drawn in it
 unfoldable pub page_element : ℕ → List ℕ
@@ -63,7 +65,7 @@ about n count = two_numbers (codes "<desc id=\"about\">") count (codes " marks o
 unfoldable pub page_head : List ℕ → ℕ → ℕ → ℕ → List ℕ
 page_head title n last count = page_size (page_height n last) ++ title_element title ++ about n count
 
--- the last part of a path
+-- the last part of a path, the name of its file
 abbrev pub name_from : List ℕ → List ℕ → List ℕ
 name_from name [] = name
 name_from name (byte ∷ bytes) = name_from (if byte == 47 then bytes else name) bytes
@@ -71,21 +73,21 @@ name_from name (byte ∷ bytes) = name_from (if byte == 47 then bytes else name)
 unfoldable pub file_name : List ℕ → List ℕ
 file_name path = name_from path path
 
--- the style; and the last part of the title, which is seen
+-- the style; and the title, which is seen
 unfoldable pub heading : List ℕ → List ℕ
-heading title = sheet ++ backdrop ++ titled (codes "<text class=\"title\" x=\"16\" y=\"26\">") (file_name title) (codes "</text>\n")
+heading title = sheet ++ backdrop ++ titled (codes "<text class=\"title\" x=\"16\" y=\"26\">") title (codes "</text>\n")
 
 -- what stands under the marks: lanes, how each process ended, and steps, orders and arrows
-unfoldable pub under_text : ℕ → List Column → List Mark → List ℕ
-under_text n columns marks =
-    bands_text n columns ++ ends_text n (last_column columns) marks n ++ feet_text n columns marks 0 marks
+unfoldable pub under_text : Look → ℕ → List Column → List Mark → List ℕ
+under_text look n columns marks =
+    bands_text n columns ++ ends_text n (last_column columns) marks n ++ feet_text look n columns marks 0 marks
 
 -- the picture in these columns
-unfoldable pub picture_in : List Column → List ℕ → ℕ → List (List ℕ) → List Mark → Option Broken → List ℕ
-picture_in columns title n rows marks broken =
-    page_head title n (last_column columns).band (length marks) ++ heading title ++ never_text n columns marks broken
-    ++ under_text n columns marks ++ groups_text n rows columns 0 marks ++ legend_text n (last_column columns).band
+unfoldable pub picture_in : List Column → List ℕ → Look → ℕ → List (List ℕ) → List Mark → Option Broken → List ℕ
+picture_in columns title look n rows marks broken =
+    page_head title n (last_column columns).band (chosen_count look marks) ++ heading title ++ never_text n columns marks broken
+    ++ under_text look n columns marks ++ groups_text look n rows columns 0 marks ++ legend_text n (last_column columns).band
 
 -- the picture of these marks of a run of `n` processes, whose rows have these names, and of what must never hold and does
-unfoldable pub picture : List ℕ → ℕ → List (List ℕ) → List Mark → Option Broken → List ℕ
-picture title n rows marks broken = picture_in (columns n rows marks) title n rows marks broken
+unfoldable pub picture : List ℕ → Look → ℕ → List (List ℕ) → List Mark → Option Broken → List ℕ
+picture title look n rows marks broken = picture_in (columns look n rows marks) title look n rows marks broken

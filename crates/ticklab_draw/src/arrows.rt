@@ -5,6 +5,7 @@ ghost use Rattle.ticklab_draw.specs.Steps.{step_text};
 
 use crate::columns::Column;
 use crate::layout::{column_at, from_y, in_x, lane_y, leave_x, out_x, reach_x, way_y};
+use crate::look::{Look, is_chosen};
 use crate::mark::{Mark, Sight};
 use crate::writing::{Added, push_one, push_two};
 
@@ -21,6 +22,7 @@ pub fn read_from(sight: Sight) -> Option<usize>
 /// Adds the arrow to a get of process `p` in its column from the put of this place, where one is read.
 pub fn push_arrow(
     out: &mut Vec<u8>,
+    look: Look,
     n: u8,
     columns: &[Column],
     column: Column,
@@ -28,16 +30,28 @@ pub fn push_arrow(
     marks: &[Mark],
     place: Option<usize>,
 ) -> Added
-    ensures { OnOk result (out.new.items ≡ out.old.items ++ arrow_by n columns.now column p marks.now place) }
+    ensures { OnOk result (out.new.items ≡ out.old.items ++ arrow_by look n columns.now column p marks.now place) }
 {
     match place {
-        Some(from) => push_arrow_of(out, n, columns, column, p, from, marks.get(from).copied()),
+        Some(from) => {
+            push_arrow_of(
+                out,
+                look,
+                n,
+                columns,
+                column,
+                p,
+                from,
+                marks.get(from).copied(),
+            )
+        },
         None => Ok(()),
     }
 }
 
 fn push_arrow_of(
     out: &mut Vec<u8>,
+    look: Look,
     n: u8,
     columns: &[Column],
     column: Column,
@@ -45,10 +59,13 @@ fn push_arrow_of(
     from: usize,
     found: Option<Mark>,
 ) -> Added
-    ensures { OnOk result (out.new.items ≡ out.old.items ++ arrow_of n columns.now column p from found) }
+    ensures { OnOk result (out.new.items ≡ out.old.items ++ arrow_of look n columns.now column p from found) }
 {
     match found {
-        Some(put) => push_arrow_from(out, n, from, column_at(columns, from), column, p, &put),
+        Some(put) if is_chosen(look, &put) => {
+            push_arrow_from(out, n, from, column_at(columns, from), column, p, &put)
+        }
+        Some(put) => push_from(out, n, column, p, put.step),
         None => Ok(()),
     }
 }
@@ -73,7 +90,7 @@ fn push_arrow_from(
     }
 }
 
-// What stands for it at a get whose put is of an earlier band.
+// What stands for it at a get whose put is of an earlier band, or isn't shown.
 #[tactic(auto, unfolding(crate::specs::Arrows::from_text))]
 fn push_from(out: &mut Vec<u8>, n: u8, column: Column, p: u8, step: usize) -> Added
     ensures { OnOk result (out.new.items ≡ out.old.items ++ from_text n column p step) }

@@ -1,10 +1,11 @@
 // The columns of marks, each as wide as its sign and all its texts.
-ghost use Rattle.std.specs.Prelude.{◌≡◌, ◌<◌, ◌≤◌, ◌^◌, IfOk};
-ghost use Rattle.ticklab_draw.specs.Columns.{below_letters, columns, foot_letters, half_of, read_letters, seen_letters, shape_half, sign_half};
+ghost use Rattle.std.specs.Prelude.{◌≡◌, ◌<◌, ◌≤◌, ◌+◌, ◌-◌, ◌^◌, IfOk};
+ghost use Rattle.ticklab_draw.specs.Columns.{below_letters, column_of, columns, foot_letters, half_of, read_letters, seen_letters, shape_half, sign_half};
 ghost use Rattle.ticklab_draw.specs.Words.{names};
 
 use crate::beside::beside;
 use crate::layout::{EDGE, field_half, flag_width, letters_half, next_column};
+use crate::look::{Look, is_chosen};
 use crate::mark::{Mark, Sight};
 use crate::shapes::{Shape, shape_of};
 use crate::words::Cast;
@@ -21,16 +22,42 @@ pub struct Column {
 }
 
 /// A column for each mark.
-pub fn columns(alloc: Global, cast: Cast<'_>, marks: &[Mark]) -> Result<Vec<Column>, AllocError>
-    ensures { IfOk result (λ found. found.items ≡ columns cast.entry.processes (names cast.entry.registers.now) marks.now) }
+pub fn columns(
+    alloc: Global,
+    look: Look,
+    cast: Cast<'_>,
+    marks: &[Mark],
+) -> Result<Vec<Column>, AllocError>
+    ensures { IfOk result (λ found. found.items ≡ columns look cast.entry.processes (names cast.entry.registers.now) marks.now) }
 {
     let mut found = Vec::new(alloc);
     let mut last = EDGE;
     for mark in marks {
-        last = next_column(last, half_of(alloc, cast, mark)?);
+        last = column_of(alloc, look, cast, last, mark)?;
         found.push(last)?;
     }
     Ok(found)
+}
+
+// The column of a mark behind the last one. One that isn't shown has none of its own.
+fn column_of(
+    alloc: Global,
+    look: Look,
+    cast: Cast<'_>,
+    last: Column,
+    mark: &Mark,
+) -> Result<Column, AllocError>
+    requires right { last.x + last.half ≤ 880 }
+    requires few { last.band < 2 ^ 64 - 1 }
+    ensures column { IfOk result (λ column. column ≡ column_of look cast.entry.processes (names cast.entry.registers.now) last mark.now) }
+    ensures right { IfOk result (λ column. column.x + column.half ≤ 880) }
+    ensures few { IfOk result (λ column. column.band ≤ last.band + 1) }
+{
+    if is_chosen(look, mark) {
+        Ok(next_column(last, half_of(alloc, cast, mark)?))
+    } else {
+        Ok(last)
+    }
 }
 
 // Half the width of all that stands in the column of a mark: so small that a band has room for it.

@@ -1,50 +1,74 @@
 // What stands below the lanes for each mark: the number of its step, the new order of tickets if it changed,
 // and an arrow to a get.
-ghost use Rattle.std.specs.Prelude.{◌≡◌, ◌++◌, OnOk};
+ghost use Rattle.std.specs.Prelude.{◌≡◌, ◌++◌, [], OnOk, if◌then◌else◌};
+ghost use Rattle.ticklab_draw.specs.Chosen.{is_chosen};
 ghost use Rattle.ticklab_draw.specs.Feet.{change_text, feet_text, foot_text, order_at, order_text, when_line};
 
 use crate::arrows::{push_arrow, push_step, read_from};
 use crate::colours::{push_colour, push_stroke};
 use crate::columns::Column;
 use crate::layout::{band_foot, band_top, column_at, order_y, step_y};
+use crate::look::{Look, is_chosen};
 use crate::mark::{Holdings, Mark, Sight};
 use crate::orders::{holders, push_order_words};
 use crate::writing::{Added, push, push_one, push_two};
 use std::alloc::Global;
 
-/// Adds what stands below the lanes for each of these marks, which have these columns.
+/// Adds what stands below the lanes for each of these marks that is shown, which have these columns.
 pub fn push_feet(
     alloc: Global,
     out: &mut Vec<u8>,
+    look: Look,
     n: u8,
     columns: &[Column],
     marks: &[Mark],
 ) -> Added
-    ensures { OnOk result (out.new.items ≡ out.old.items ++ feet_text n columns.now marks.now 0 marks.now) }
+    ensures { OnOk result (out.new.items ≡ out.old.items ++ feet_text look n columns.now marks.now 0 marks.now) }
 {
     for (at, mark) in marks.iter().enumerate() {
-        push_foot(alloc, out, n, columns, column_at(columns, at), mark, marks)?;
+        let column = column_at(columns, at);
+        push_chosen_foot(alloc, out, look, n, columns, column, mark, marks)?;
     }
     Ok(())
 }
 
-#[tactic(auto, unfolding(crate::specs::Feet::foot_text))]
-fn push_foot(
+fn push_chosen_foot(
     alloc: Global,
     out: &mut Vec<u8>,
+    look: Look,
     n: u8,
     columns: &[Column],
     column: Column,
     mark: &Mark,
     marks: &[Mark],
 ) -> Added
-    ensures { OnOk result (out.new.items ≡ out.old.items ++ foot_text n columns.now column mark.now marks.now) }
+    ensures { OnOk result (out.new.items ≡ out.old.items ++ (if is_chosen look mark.now then foot_text look n columns.now column mark.now marks.now else [])) }
+{
+    if is_chosen(look, mark) {
+        push_foot(alloc, out, look, n, columns, column, mark, marks)
+    } else {
+        Ok(())
+    }
+}
+
+#[tactic(auto, unfolding(crate::specs::Feet::foot_text))]
+fn push_foot(
+    alloc: Global,
+    out: &mut Vec<u8>,
+    look: Look,
+    n: u8,
+    columns: &[Column],
+    column: Column,
+    mark: &Mark,
+    marks: &[Mark],
+) -> Added
+    ensures { OnOk result (out.new.items ≡ out.old.items ++ foot_text look n columns.now column mark.now marks.now) }
 {
     let (x, y) = (u64::from(column.x), step_y(n, column.band));
     push_step(out, x, y, "", mark.step)?;
     push_change(alloc, out, n, column, mark.process, mark.sight)?;
     let place = read_from(mark.sight);
-    push_arrow(out, n, columns, column, mark.process, marks, place)
+    push_arrow(out, look, n, columns, column, mark.process, marks, place)
 }
 
 fn push_change(

@@ -1,5 +1,6 @@
 // The picture of a list of marks.
-ghost use Rattle.std.specs.Prelude.{◌≡◌, ◌++◌, IfOk, OnOk, option_map};
+ghost use Rattle.std.specs.Prelude.{◌≡◌, ◌++◌, [], IfOk, OnOk, if◌then◌else◌, option_map};
+ghost use Rattle.ticklab_draw.specs.Chosen.{chosen_count, is_chosen};
 ghost use Rattle.ticklab_draw.specs.Never.{broken_of};
 ghost use Rattle.ticklab_draw.specs.Words.{names};
 ghost use Rattle.ticklab_draw.specs.Pictures.{about, file_name, group_head, group_name, group_place, group_text, groups_text, heading, page_element, page_head, page_size, page_view, picture, picture_in, title_element, titled, under_text};
@@ -10,6 +11,7 @@ use crate::feet::push_feet;
 use crate::lanes::{push_bands, push_ends};
 use crate::layout::{column_at, lane_y, last_column, page_height};
 use crate::legend::push_legend;
+use crate::look::{Look, chosen_count, is_chosen};
 use crate::mark::Mark;
 use crate::never::{NeverMark, push_never};
 use crate::shapes::push_drawn;
@@ -20,27 +22,27 @@ use base::NoMemory;
 use base::tree::Named;
 use std::alloc::Global;
 
-/// The marks of a run of `processes` processes as SVG. Rows of registers have these names, and `r` with
-/// its number where there is none. The title is read out, and what it has behind its last `/` stands above the picture.
-/// What must never hold has a mark where it does.
+/// Those of the marks of a run of `processes` processes that are shown, as SVG. Rows of registers have these names, and
+/// `r` with its number where there is none. What must never hold has a mark where it does.
 #[tactic(auto, unfolding(crate::specs::Pictures::picture))]
 pub fn picture(
     alloc: Global,
-    title: &str,
+    title: &[u8],
+    look: Look,
     processes: u8,
     registers: &[Named],
     marks: &[Mark],
     never: Option<NeverMark<'_>>,
 ) -> Result<Vec<u8>, NoMemory>
-    ensures { IfOk result (λ text. text.items ≡ picture title.now processes (names registers.now) marks.now (option_map broken_of never.entry)) }
+    ensures { IfOk result (λ text. text.items ≡ picture title.now look processes (names registers.now) marks.now (option_map broken_of never.entry)) }
 {
     let cast = Cast {
         processes,
         registers,
     };
-    let columns = columns(alloc, cast, marks)?;
+    let columns = columns(alloc, look, cast, marks)?;
     let mut out = Vec::new(alloc);
-    push_picture(alloc, &mut out, &columns, title, cast, marks, never)?;
+    push_picture(alloc, &mut out, &columns, title, look, cast, marks, never)?;
     Ok(out)
 }
 
@@ -50,25 +52,26 @@ fn push_picture(
     alloc: Global,
     out: &mut Vec<u8>,
     columns: &[Column],
-    title: &str,
+    title: &[u8],
+    look: Look,
     cast: Cast<'_>,
     marks: &[Mark],
     never: Option<NeverMark<'_>>,
 ) -> Added
-    ensures { OnOk result (out.new.items ≡ out.old.items ++ picture_in columns.now title.now cast.entry.processes (names cast.entry.registers.now) marks.now (option_map broken_of never.entry)) }
+    ensures { OnOk result (out.new.items ≡ out.old.items ++ picture_in columns.now title.now look cast.entry.processes (names cast.entry.registers.now) marks.now (option_map broken_of never.entry)) }
 {
     let (n, last) = (cast.processes, last_column(columns).band);
-    push_page(out, title, n, last, marks.len())?;
+    push_page(out, title, n, last, chosen_count(look, marks))?;
     push_heading(out, title)?;
     push_never(out, n, columns, marks, never)?;
-    push_under(alloc, out, n, columns, marks)?;
-    push_groups(alloc, out, cast, columns, marks)?;
+    push_under(alloc, out, look, n, columns, marks)?;
+    push_groups(alloc, out, look, cast, columns, marks)?;
     push_legend(out, n, last)
 }
 
 // The page, its title and what it is of, for who sees it and for who has it read out.
 #[tactic(auto, unfolding(crate::specs::Pictures::page_head))]
-fn push_page(out: &mut Vec<u8>, title: &str, n: u8, last: usize, count: usize) -> Added
+fn push_page(out: &mut Vec<u8>, title: &[u8], n: u8, last: usize, count: usize) -> Added
     ensures { OnOk result (out.new.items ≡ out.old.items ++ page_head title.now n last count) }
 {
     push_size(out, page_height(n, last))?;
@@ -104,10 +107,10 @@ fn push_page_view(out: &mut Vec<u8>, height: u128) -> Added
 }
 
 #[tactic(auto, unfolding(crate::specs::Pictures::title_element))]
-fn push_title(out: &mut Vec<u8>, title: &str) -> Added
+fn push_title(out: &mut Vec<u8>, title: &[u8]) -> Added
     ensures { OnOk result (out.new.items ≡ out.old.items ++ title_element title.now) }
 {
-    push_titled(out, "<title id=\"title\">", title.as_bytes(), "</title>\n")
+    push_titled(out, "<title id=\"title\">", title, "</title>\n")
 }
 
 // The title between pieces of markup.
@@ -134,20 +137,20 @@ fn push_about(out: &mut Vec<u8>, n: u8, count: usize) -> Added
     )
 }
 
-// The style; and the last part of the title, which is seen.
+// The style; and the title, which is seen.
 #[tactic(auto, unfolding(crate::specs::Pictures::heading))]
-fn push_heading(out: &mut Vec<u8>, title: &str) -> Added
+fn push_heading(out: &mut Vec<u8>, title: &[u8]) -> Added
     ensures { OnOk result (out.new.items ≡ out.old.items ++ heading title.now) }
 {
     push(out, sheet())?;
     push(out, backdrop())?;
     let before = "<text class=\"title\" x=\"16\" y=\"26\">";
-    push_titled(out, before, file_name(title.as_bytes()), "</text>\n")
+    push_titled(out, before, title, "</text>\n")
 }
 
-// The last part of a path.
+/// The last part of a path, the name of its file.
 #[tactic(auto, unfolding(crate::specs::Pictures::file_name))]
-fn file_name(path: &[u8]) -> &[u8]
+pub fn file_name(path: &[u8]) -> &[u8]
     ensures { result.now ≡ file_name path.now }
 {
     let mut start = 0;
@@ -161,28 +164,54 @@ fn file_name(path: &[u8]) -> &[u8]
 
 // What stands under the marks: lanes, how each process ended, and steps, orders and arrows.
 #[tactic(auto, unfolding(crate::specs::Pictures::under_text))]
-fn push_under(alloc: Global, out: &mut Vec<u8>, n: u8, columns: &[Column], marks: &[Mark]) -> Added
-    ensures { OnOk result (out.new.items ≡ out.old.items ++ under_text n columns.now marks.now) }
+fn push_under(
+    alloc: Global,
+    out: &mut Vec<u8>,
+    look: Look,
+    n: u8,
+    columns: &[Column],
+    marks: &[Mark],
+) -> Added
+    ensures { OnOk result (out.new.items ≡ out.old.items ++ under_text look n columns.now marks.now) }
 {
     push_bands(out, n, columns)?;
     push_ends(out, n, last_column(columns), marks)?;
-    push_feet(alloc, out, n, columns, marks)
+    push_feet(alloc, out, look, n, columns, marks)
 }
 
-// A group for each mark, in order.
+// A group for each mark that is shown, in order.
 fn push_groups(
     alloc: Global,
     out: &mut Vec<u8>,
+    look: Look,
     cast: Cast<'_>,
     columns: &[Column],
     marks: &[Mark],
 ) -> Added
-    ensures { OnOk result (out.new.items ≡ out.old.items ++ groups_text cast.entry.processes (names cast.entry.registers.now) columns.now 0 marks.now) }
+    ensures { OnOk result (out.new.items ≡ out.old.items ++ groups_text look cast.entry.processes (names cast.entry.registers.now) columns.now 0 marks.now) }
 {
     for (at, mark) in marks.iter().enumerate() {
-        push_group(alloc, out, cast, column_at(columns, at), at, mark)?;
+        push_chosen(alloc, out, look, cast, column_at(columns, at), at, mark)?;
     }
     Ok(())
+}
+
+fn push_chosen(
+    alloc: Global,
+    out: &mut Vec<u8>,
+    look: Look,
+    cast: Cast<'_>,
+    column: Column,
+    at: usize,
+    mark: &Mark,
+) -> Added
+    ensures { OnOk result (out.new.items ≡ out.old.items ++ (if is_chosen look mark.now then group_text cast.entry.processes (names cast.entry.registers.now) column at mark.now else [])) }
+{
+    if is_chosen(look, mark) {
+        push_group(alloc, out, cast, column, at, mark)
+    } else {
+        Ok(())
+    }
 }
 
 // A mark: where it stands, what it shows in words, and what is drawn of it.
