@@ -15,5 +15,5 @@ mod parts;
 mod values;
 
 pub use asking::{Line, asked};
-pub use commands::{Request, Side};
+pub use commands::{Drawing, Request, Side};
 pub use laws::{law_commands, law_hunts, law_no_commands};
