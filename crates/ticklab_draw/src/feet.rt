@@ -68,7 +68,7 @@ fn push_foot(
     push_step(out, x, y, "", mark.step)?;
     push_change(alloc, out, n, column, mark.process, mark.sight)?;
     let place = read_from(mark.sight);
-    push_arrow(out, look, n, columns, column, mark.process, marks, place)
+    push_arrow(out, look, n, columns, column, marks, place)
 }
 
 fn push_change(

@@ -9,9 +9,9 @@ use crate::colours::push_colour;
 use crate::columns::{Column, columns};
 use crate::feet::push_feet;
 use crate::lanes::{push_bands, push_ends};
-use crate::layout::{column_at, lane_y, last_column, page_height};
+use crate::layout::{column_at, lane_y, last_column, page_height, page_width};
 use crate::legend::push_legend;
-use crate::look::{Look, chosen_count, is_chosen};
+use crate::look::{Look, chosen_count, is_chosen, lane_of, lanes};
 use crate::mark::Mark;
 use crate::never::{NeverMark, push_never};
 use crate::shapes::push_drawn;
@@ -40,17 +40,21 @@ pub fn picture(
         processes,
         registers,
     };
-    let columns = columns(alloc, look, cast, marks)?;
+    let lanes = lanes(alloc, look, marks, processes)?;
+    let columns = columns(alloc, look, cast, &lanes, marks)?;
     let mut out = Vec::new(alloc);
-    push_picture(alloc, &mut out, &columns, title, look, cast, marks, never)?;
+    push_picture(
+        alloc, &mut out, &lanes, &columns, title, look, cast, marks, never,
+    )?;
     Ok(out)
 }
 
-// The picture in these columns.
+// The picture in these lanes and columns.
 #[tactic(auto, unfolding(crate::specs::Pictures::picture_in))]
 fn push_picture(
     alloc: Global,
     out: &mut Vec<u8>,
+    lanes: &[bool],
     columns: &[Column],
     title: &[u8],
     look: Look,
@@ -58,52 +62,64 @@ fn push_picture(
     marks: &[Mark],
     never: Option<NeverMark<'_>>,
 ) -> Added
-    ensures { OnOk result (out.new.items ≡ out.old.items ++ picture_in columns.now title.now look cast.entry.processes (names cast.entry.registers.now) marks.now (option_map broken_of never.entry)) }
+    ensures { OnOk result (out.new.items ≡ out.old.items ++ picture_in lanes.now columns.now title.now look cast.entry.processes (names cast.entry.registers.now) marks.now (option_map broken_of never.entry)) }
 {
     let (n, last) = (cast.processes, last_column(columns).band);
-    push_page(out, title, n, last, chosen_count(look, marks))?;
+    let count = lane_of(lanes, n);
+    let width = page_width(look.width, columns);
+    let height = page_height(count, last, width);
+    push_page(out, title, width, height, n, chosen_count(look, marks))?;
     push_heading(out, title)?;
-    push_never(out, n, columns, marks, never)?;
-    push_under(alloc, out, look, n, columns, marks)?;
-    push_groups(alloc, out, look, cast, columns, marks)?;
-    push_legend(out, n, last)
+    push_never(out, count, columns, marks, never)?;
+    push_under(alloc, out, look, lanes, n, columns, marks)?;
+    push_groups(alloc, out, look, count, cast, columns, marks)?;
+    push_legend(out, count, last, width)
 }
 
 // The page, its title and what it is of, for who sees it and for who has it read out.
 #[tactic(auto, unfolding(crate::specs::Pictures::page_head))]
-fn push_page(out: &mut Vec<u8>, title: &[u8], n: u8, last: usize, count: usize) -> Added
-    ensures { OnOk result (out.new.items ≡ out.old.items ++ page_head title.now n last count) }
+fn push_page(
+    out: &mut Vec<u8>,
+    title: &[u8],
+    width: u64,
+    height: u128,
+    n: u8,
+    count: usize,
+) -> Added
+    ensures { OnOk result (out.new.items ≡ out.old.items ++ page_head title.now width height n count) }
 {
-    push_size(out, page_height(n, last))?;
+    push_size(out, width, height)?;
     push_title(out, title)?;
     push_about(out, n, count)
 }
 
 #[tactic(auto, unfolding(crate::specs::Pictures::page_size))]
-fn push_size(out: &mut Vec<u8>, height: u128) -> Added
-    ensures { OnOk result (out.new.items ≡ out.old.items ++ page_size height) }
+fn push_size(out: &mut Vec<u8>, width: u64, height: u128) -> Added
+    ensures { OnOk result (out.new.items ≡ out.old.items ++ page_size width height) }
 {
-    push_page_element(out, height)?;
-    push_page_view(out, height)
+    push_page_element(out, width, height)?;
+    push_page_view(out, width, height)
 }
 
 #[tactic(auto, unfolding(crate::specs::Pictures::page_element))]
-fn push_page_element(out: &mut Vec<u8>, height: u128) -> Added
-    ensures { OnOk result (out.new.items ≡ out.old.items ++ page_element height) }
+fn push_page_element(out: &mut Vec<u8>, width: u64, height: u128) -> Added
+    ensures { OnOk result (out.new.items ≡ out.old.items ++ page_element width height) }
 {
-    push_one(
+    push_two(
         out,
-        "<svg xmlns=\"http://www.w3.org/2000/svg\" role=\"img\" aria-labelledby=\"title about\" width=\"1000\" height=\"",
+        "<svg xmlns=\"http://www.w3.org/2000/svg\" role=\"img\" aria-labelledby=\"title about\" width=\"",
+        width,
+        "\" height=\"",
         height,
         "\"",
     )
 }
 
 #[tactic(auto, unfolding(crate::specs::Pictures::page_view))]
-fn push_page_view(out: &mut Vec<u8>, height: u128) -> Added
-    ensures { OnOk result (out.new.items ≡ out.old.items ++ page_view height) }
+fn push_page_view(out: &mut Vec<u8>, width: u64, height: u128) -> Added
+    ensures { OnOk result (out.new.items ≡ out.old.items ++ page_view width height) }
 {
-    push_one(out, " viewBox=\"0 0 1000 ", height, "\">\n")
+    push_two(out, " viewBox=\"0 0 ", width, " ", height, "\">\n")
 }
 
 #[tactic(auto, unfolding(crate::specs::Pictures::title_element))]
@@ -168,15 +184,16 @@ fn push_under(
     alloc: Global,
     out: &mut Vec<u8>,
     look: Look,
+    lanes: &[bool],
     n: u8,
     columns: &[Column],
     marks: &[Mark],
 ) -> Added
-    ensures { OnOk result (out.new.items ≡ out.old.items ++ under_text look n columns.now marks.now) }
+    ensures { OnOk result (out.new.items ≡ out.old.items ++ under_text look lanes.now n columns.now marks.now) }
 {
-    push_bands(out, n, columns)?;
-    push_ends(out, n, last_column(columns), marks)?;
-    push_feet(alloc, out, look, n, columns, marks)
+    push_bands(out, lanes, n, columns)?;
+    push_ends(out, lanes, n, last_column(columns), marks)?;
+    push_feet(alloc, out, look, lane_of(lanes, n), columns, marks)
 }
 
 // A group for each mark that is shown, in order.
@@ -184,14 +201,16 @@ fn push_groups(
     alloc: Global,
     out: &mut Vec<u8>,
     look: Look,
+    count: u8,
     cast: Cast<'_>,
     columns: &[Column],
     marks: &[Mark],
 ) -> Added
-    ensures { OnOk result (out.new.items ≡ out.old.items ++ groups_text look cast.entry.processes (names cast.entry.registers.now) columns.now 0 marks.now) }
+    ensures { OnOk result (out.new.items ≡ out.old.items ++ groups_text look count cast.entry.processes (names cast.entry.registers.now) columns.now 0 marks.now) }
 {
     for (at, mark) in marks.iter().enumerate() {
-        push_chosen(alloc, out, look, cast, column_at(columns, at), at, mark)?;
+        let column = column_at(columns, at);
+        push_chosen(alloc, out, look, count, cast, column, at, mark)?;
     }
     Ok(())
 }
@@ -200,15 +219,16 @@ fn push_chosen(
     alloc: Global,
     out: &mut Vec<u8>,
     look: Look,
+    count: u8,
     cast: Cast<'_>,
     column: Column,
     at: usize,
     mark: &Mark,
 ) -> Added
-    ensures { OnOk result (out.new.items ≡ out.old.items ++ (if is_chosen look mark.now then group_text cast.entry.processes (names cast.entry.registers.now) column at mark.now else [])) }
+    ensures { OnOk result (out.new.items ≡ out.old.items ++ (if is_chosen look mark.now then group_text count cast.entry.processes (names cast.entry.registers.now) column at mark.now else [])) }
 {
     if is_chosen(look, mark) {
-        push_group(alloc, out, cast, column, at, mark)
+        push_group(alloc, out, count, cast, column, at, mark)
     } else {
         Ok(())
     }
@@ -219,14 +239,15 @@ fn push_chosen(
 fn push_group(
     alloc: Global,
     out: &mut Vec<u8>,
+    count: u8,
     cast: Cast<'_>,
     column: Column,
     at: usize,
     mark: &Mark,
 ) -> Added
-    ensures { OnOk result (out.new.items ≡ out.old.items ++ group_text cast.entry.processes (names cast.entry.registers.now) column at mark.now) }
+    ensures { OnOk result (out.new.items ≡ out.old.items ++ group_text count cast.entry.processes (names cast.entry.registers.now) column at mark.now) }
 {
-    push_group_head(out, cast.processes, column, at, mark.process)?;
+    push_group_head(out, count, column, at, mark.process)?;
     push_sentence(out, cast, mark)?;
     push(out, "</title>")?;
     push_drawn(alloc, out, cast, mark)?;
@@ -239,7 +260,8 @@ fn push_group_head(out: &mut Vec<u8>, n: u8, column: Column, at: usize, p: u8) -
 {
     push_group_name(out, at)?;
     push_colour(out, p)?;
-    push_group_place(out, u64::from(column.x), lane_y(n, column.band, p))
+    let y = lane_y(n, column.band, column.lane);
+    push_group_place(out, u64::from(column.x), y)
 }
 
 #[tactic(auto, unfolding(crate::specs::Pictures::group_name))]
