@@ -1,5 +1,5 @@
 -- The run of an input and a text, and why there is none.
-use Rattle.std.proofs.Common.{◌≡◌, ℕ, List, Option, Result, Ok, IfErr, IsErrAnd, subst, sym}
+use Rattle.std.proofs.Common.{◌≡◌, ℕ, Bool, List, Option, Result, Ok, IfErr, IsErrAnd, subst, sym}
 use Rattle.base.specs.Plain.{Name, WholeProgram}
 use Rattle.language_properties.specs.Properties.{Formula}
 use Rattle.language_questions.specs.declared.questions.Ends.{Ends}
@@ -44,14 +44,17 @@ module _ {name : List ℕ} {texts : List (List ℕ)} {input : List ℕ} {a : Who
       stopped_by (IsUnrun name texts input from text side) stop r handed
       (refused_as stop (λ report told. schedule_refused (asks_of known).file (subst (λ m. TellsFor m (IsScheduleRefused m text) from text report) count told)) unread)
 
-  pub code_unrun : (schedule : List ℕ) → schedule_of n text ≡ Ok schedule → IfRefused stop (IsCodeless (is_of_code side) name a)
+  pub code_unrun : (is_code : Bool) → is_code ≡ is_of_code side → (schedule : List ℕ) → schedule_of n text ≡ Ok schedule → IfRefused stop (IsCodeless is_code name a)
       → IfErr r (λ d. IfRefused d (IsUnrun name texts input from text side))
-  code_unrun schedule spelled codeless =
+  code_unrun is_code is schedule spelled codeless =
       stopped_by (IsUnrun name texts input from text side) stop r handed
-      (refused_as stop (λ report none. code_refused (asks_of known).file schedule (subst (λ m. schedule_of m text ≡ Ok schedule) count spelled) none) codeless)
+      (refused_as stop (λ report none. code_refused (asks_of known).file schedule (subst (λ m. schedule_of m text ≡ Ok schedule) count spelled)
+      (subst (λ b. IsCodeless b name a report) is none)) codeless)
 
 -- a file was read, and then a schedule
 pub read_both : {F : Type 0} (Reads : ReadsOf F) (ReadsInput : ReadsInputOf F) (before between after : F) (file schedule input from text : List ℕ)
-    (P : List ℕ → List ℕ → List ℕ → Type 0) → IsRead Reads ReadsInput before file input between → IsSchedule Reads ReadsInput (is_input file) between after schedule from text
+    (P : List ℕ → List ℕ → List ℕ → Type 0) → IsRead Reads ReadsInput before file input between
+    → (is_read : Bool) → is_read ≡ is_input file → IsSchedule Reads ReadsInput is_read between after schedule from text
     → P input from text → AfterBoth Reads ReadsInput before after file schedule P
-read_both Reads ReadsInput before between after file schedule input from text P read given held = (input, between, read, from, text, given, held)
+read_both Reads ReadsInput before between after file schedule input from text P read is_read is given held =
+    (input, between, read, from, text, subst (λ b. IsSchedule Reads ReadsInput b between after schedule from text) is given, held)

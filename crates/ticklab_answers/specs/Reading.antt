@@ -1,6 +1,7 @@
 -- What is read: the bytes of a file or of standard input, and the schedule that a command line gives.
-use Rattle.std.specs.Prelude.{◌≡◌, ◌<◌, ◌&&◌, ℕ, Bool, true, false, IsTrue, List, [], ◌∷◌, Option, Some, None, codes, bytes_eq, eqb, ltb, length, if◌then◌else◌}
-use Rattle.std.specs.List.{after_first, before_first, ends_with, position_or_len}
+use Rattle.std.specs.Prelude.{◌≡◌, ◌<◌, ◌+◌, ◌==◌, ◌&&◌, ℕ, Bool, true, false, List, [], ◌∷◌, Option, Some, None, codes, bytes_eq, drop, eqb, length, take, if◌then◌else◌}
+use Rattle.std.specs.List.{ends_with, position}
+use Rattle.std.specs.Option.{option_map_or}
 
 -- the name that follows an @
 abbrev pub after_at : List ℕ → Option (List ℕ)
@@ -24,16 +25,28 @@ abbrev pub reads_input : List ℕ → Bool
 reads_input given = is_input_or_none (schedule_file given)
 
 abbrev pub is_newline : ℕ → Bool
-is_newline byte = eqb byte 10
+is_newline byte = byte == 10
 
--- An answer has more than one line, and the first ends in a colon.
-abbrev pub is_answer : List ℕ → Bool
-is_answer text = ltb (position_or_len is_newline text) (length text) && ends_with eqb (before_first is_newline text) (58 ∷ [])
+abbrev pub line_before : Option ℕ → List ℕ → List ℕ
+line_before None text = text
+line_before (Some at) text = take at text
 
--- The schedule in a text: the second line of an answer, with the newline before it, so that places in it are those of
--- the text; else all of the text.
+-- a text up to its first newline
+abbrev pub first_line : List ℕ → List ℕ
+first_line text = line_before (position is_newline text) text
+
+abbrev pub line_behind : Option ℕ → List ℕ → Option (List ℕ)
+line_behind None text = None
+line_behind (Some at) text = if ends_with eqb (take at text) (codes ":") then Some (first_line (drop (at + 1) text)) else None
+
+-- The line of an answer that has its schedule: the second, where the first ends in a colon.
+abbrev pub schedule_line : List ℕ → Option (List ℕ)
+schedule_line text = line_behind (position is_newline text) text
+
+-- The schedule in a text: that line with the newline before it, so that places in it are those of the text; or else all of
+-- the text.
 abbrev pub schedule_in : List ℕ → List ℕ
-schedule_in text = if is_answer text then 10 ∷ before_first is_newline (after_first is_newline text) else text
+schedule_in text = option_map_or (λ line. 10 ∷ line) (schedule_line text) text
 
 -- what files are before one of a name is read, how many of its bytes are read at most, these, and what files are after
 abbrev pub ReadsOf : Type 0 → Type 1

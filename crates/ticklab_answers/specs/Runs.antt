@@ -33,15 +33,6 @@ use Rattle.ticklab_answers.specs.declared.commands.told_run.Telling.{Telling}
 use Rattle.ticklab_answers.specs.declared.commands.told_run.Telling.TheVariants.{Trace, Picture}
 use Rattle.ticklab_answers.specs.declared.response.Response.{Response}
 
--- The report of a run that isn't made: of the file, these texts of a command line, the schedule or the code, in this order.
-pub data IsUnrun (name : List ℕ) (texts : List (List ℕ)) (input from text : List ℕ) (side : Side) (report : List ℕ) : Type 0 where
-  file_refused : IsFileRefused name input report → IsUnrun name texts input from text side report
-  option_refused : (is : IsProgramFile input) → TellsOption is.program (lines_in is.asked) texts report → IsUnrun name texts input from text side report
-  schedule_refused : (is : IsProgramFile input) → TellsFor is.program.processes (IsScheduleRefused is.program.processes text) from text report
-      → IsUnrun name texts input from text side report
-  code_refused : (is : IsProgramFile input) (schedule : List ℕ) → schedule_of is.program.processes text ≡ Ok schedule
-      → IsCodeless (is_of_code side) name is.program report → IsUnrun name texts input from text side report
-
 -- the schedule under which it runs, where this one is given
 abbrev pub schedule_on : Side → WholeProgram Name → List ℕ → List ℕ
 schedule_on Program a given = given
@@ -52,6 +43,15 @@ abbrev pub is_of_code : Side → Bool
 is_of_code Program = false
 is_of_code Code = true
 is_of_code Lifted = true
+
+-- The report of a run that isn't made: of the file, these texts of a command line, the schedule or the code, in this order.
+pub data IsUnrun (name : List ℕ) (texts : List (List ℕ)) (input from text : List ℕ) (side : Side) (report : List ℕ) : Type 0 where
+  file_refused : IsFileRefused name input report → IsUnrun name texts input from text side report
+  option_refused : (is : IsProgramFile input) → TellsOption is.program (lines_in is.asked) texts report → IsUnrun name texts input from text side report
+  schedule_refused : (is : IsProgramFile input) → TellsFor is.program.processes (IsScheduleRefused is.program.processes text) from text report
+      → IsUnrun name texts input from text side report
+  code_refused : (is : IsProgramFile input) (schedule : List ℕ) → schedule_of is.program.processes text ≡ Ok schedule
+      → IsCodeless (is_of_code side) name is.program report → IsUnrun name texts input from text side report
 
 -- what is told of a run of the program of an input, with what must never hold of it
 abbrev pub Told : List (List ℕ) → List ℕ → Type 1

@@ -1,8 +1,8 @@
 //! What the program reads: files by their names, and standard input.
-ghost use Rattle.std.specs.Prelude.{◌≡◌, ◌<◌, IfErr, IfOk, MatchOption, None, Ok, Some, false, string_bytes, true, vec_len};
-ghost use Rattle.std.specs.List.{after_first, before_first};
+ghost use Rattle.std.specs.Prelude.{◌≡◌, ◌<◌, IfErr, IfOk, IfSome, MatchOption, None, Ok, Some, length, option_map, string_bytes, vec_len};
+ghost use Rattle.std.specs.List.{position};
 ghost use Rattle.ticklab_answers.specs.Faults.{IsOfFile, IsOfHost, IsOfSchedule};
-ghost use Rattle.ticklab_answers.specs.Reading.{IsRead, IsSchedule, is_answer, is_input, is_newline, reads_input, schedule_file, schedule_in};
+ghost use Rattle.ticklab_answers.specs.Reading.{IsRead, IsSchedule, first_line, is_input, is_newline, reads_input, schedule_file, schedule_in, schedule_line};
 
 use crate::fault::LabFault;
 use crate::host::Files;
@@ -66,8 +66,9 @@ pub fn text_of<'a, F: Files>(
         let again = anyhow!("standard input was read already");
         return Err(LabFault::Unread(String::from_str(alloc, name)?, again));
     }
-    match String::from_utf8(bytes_of(alloc, files, name)?) {
-        Ok(text) => Ok((name, schedule_in(alloc, text)?)),
+    let bytes = schedule_in(alloc, bytes_of(alloc, files, name)?)?;
+    match String::from_utf8(bytes) {
+        Ok(text) => Ok((name, text)),
         Err(_) => Err(LabFault::Unread(String::from_str(alloc, name)?, anyhow!("no UTF-8"))),
     }
 }
@@ -99,33 +100,41 @@ fn schedule_file(given: &str) -> Option<&str>
     given.strip_prefix("@")
 }
 
-// The schedule in the text of a file.
-fn schedule_in(alloc: Global, text: String) -> Result<String, AllocError>
-    ensures { IfOk result (λ schedule. string_bytes schedule ≡ schedule_in (string_bytes text)) }
+// The schedule in the bytes of a file.
+fn schedule_in(alloc: Global, bytes: Vec<u8>) -> Result<Vec<u8>, AllocError>
+    ensures { IfOk result (λ schedule. schedule.items ≡ schedule_in bytes.items) }
 {
-    let Some(line) = second_of_answer(&text) else {
-        return Ok(text);
+    let Some(line) = schedule_line(bytes.as_slice()) else {
+        return Ok(bytes);
     };
-    let mut schedule = String::from_str(alloc, "\n")?;
-    schedule.push_str(line)?;
+    let mut schedule = Vec::from_slice(alloc, b"\n")?;
+    schedule.extend_from_slice(line)?;
     Ok(schedule)
 }
 
-// The second line of an answer.
-fn second_of_answer(text: &str) -> Option<&str>
-    ensures { MatchOption result (is_answer text.now ≡ false) (λ line. (is_answer text.now ≡ true) × (line.now ≡ before_first is_newline (after_first is_newline text.now))) }
+/// The line of an answer that has its schedule.
+pub fn schedule_line(text: &[u8]) -> Option<&[u8]>
+    ensures { option_map (λ line. line.now) result ≡ schedule_line text.now }
 {
-    match text.split_once('\n') {
-        Some((first, rest)) if first.as_bytes().ends_with(b":") => Some(first_line(rest)),
-        _ => None,
+    let end = newline_in(text)?;
+    if text[..end].ends_with(b":") {
+        return Some(first_line(&text[end + 1..]));
+    }
+    None
+}
+
+fn first_line(text: &[u8]) -> &[u8]
+    ensures { result.now ≡ first_line text.now }
+{
+    match newline_in(text) {
+        Some(end) => &text[..end],
+        None => text,
     }
 }
 
-fn first_line(text: &str) -> &str
-    ensures { result.now ≡ before_first is_newline text.now }
+fn newline_in(text: &[u8]) -> Option<usize>
+    ensures place { result ≡ position is_newline text.now }
+    ensures within { IfSome result (λ end. end < length text.now) }
 {
-    match text.split_once('\n') {
-        Some((first, _)) => first,
-        None => text,
-    }
+    text.iter().position(|byte| *byte == b'\n')
 }

@@ -1,10 +1,11 @@
 //! `ticklab lasso`.
-ghost use Rattle.std.specs.Prelude.{◌≡◌, ◌<◌, All, IfErr, IfOk, string_bytes};
+ghost use Rattle.std.specs.Prelude.{◌≡◌, ◌<◌, ◌||◌, All, IfErr, IfOk, string_bytes};
 ghost use Rattle.tick_kinds.specs.Resolution.{resolved};
 ghost use Rattle.ticketc_refusals.specs.Refusals.{SpelledIn};
 ghost use Rattle.ticklab_answers.specs.Faults.{IsOfFileThat};
 ghost use Rattle.ticklab_answers.specs.Lasso.{IsChecked, IsOfThree, IsUnchecked, Lassoes, ShowsLasso};
 ghost use Rattle.ticklab_answers.specs.Lines.{left_out_line, loop_line};
+ghost use Rattle.ticklab_answers.specs.Reading.{is_input, reads_input};
 ghost use Rattle.ticklab_answers.specs.Stops.{IfRefused};
 
 use crate::commands::ends::{asked_in, loop_shown, push_processes};
@@ -39,11 +40,18 @@ pub fn lassoed<F: Files>(
 {
     let input = bytes_of(alloc, files, file)?;
     let (first_from, first) = text_of(alloc, files, prefix, is_input(file))?;
-    let is_read = is_input(file) || reads_input(prefix);
+    let is_read = is_input_read(file, prefix);
     let (second_from, second) = text_of(alloc, files, cycle, is_read)?;
     let bytes = input.as_slice();
     let answered = checked(alloc, file, bytes, first_from, &first, second_from, &second);
     Ok(settled(alloc, answered)?)
+}
+
+// Whether standard input is read for the file or the prefix.
+fn is_input_read(file: &str, prefix: &str) -> bool
+    ensures { result ≡ is_input file.now || reads_input prefix.now }
+{
+    is_input(file) || reads_input(prefix)
 }
 
 // `name` is that of the program's file, and the texts of the prefix and the cycle have these.

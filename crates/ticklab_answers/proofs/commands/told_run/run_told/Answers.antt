@@ -1,8 +1,8 @@
-use Rattle.std.proofs.Common.{List, ap, subst}
+use Rattle.std.proofs.Common.{◌∙◌, Bool, List, ap, map, refl, subst}
 use Rattle.searches_explore.specs.Lines.{lines_of}
-use Rattle.ticklab_answers.specs.Asking.{TextPlace, texts_of}
+use Rattle.ticklab_answers.specs.Asking.{TextPlace, place_of, texts_of}
 use Rattle.ticklab_answers.specs.Exploring.{IsUnexplored}
-use Rattle.ticklab_answers.specs.Runs.{IsTold, IsToldWith, IsUnrun}
+use Rattle.ticklab_answers.specs.Runs.{IsTold, IsToldWith, IsUnrun, is_of_code}
 use Rattle.ticklab_answers.proofs.ProgramFiles.{asks_of}
 use Rattle.ticklab_answers.proofs.Ran.{code_unrun, run_by, schedule_unrun, unexplored_unrun}
 use Rattle.ticklab_answers.proofs.Settled.{refused_as}
@@ -16,30 +16,38 @@ returns-in-Err-clause-refused c =
 
 pub returns-in_err-given-clause-refused : goal.returns-in_err-given-clause-refused
 returns-in_err-given-clause-refused c =
-    schedule_unrun c.in-Ok.ensures.asks c.args.from.now c.args.schedule.now c.args.side c.processes-n.result c.processes-n.ensures.count
+    schedule_unrun c.in-Ok.ensures.asks c.args.from.now c.args.schedule.now c.args.side c.processes.result c.processes.ensures.count
     c.from_residual.result _ c.from_residual.ensures.1 c.in_err-given.ensures.refused
+
+pub returns-in_err-steps-clause-refused : goal.returns-in_err-steps-clause-refused
+returns-in_err-steps-clause-refused c =
+    code_unrun c.in-Ok.ensures.asks c.args.from.now c.args.schedule.now c.args.side c.processes.result c.processes.ensures.count
+    c.from_residual-in_err-steps.result _ c.from_residual-in_err-steps.ensures.1 (is_of_code c.args.side) refl c.in_ok-given.given.items c.in_ok-given.ensures.ok c.in_err-steps.ensures.refused
 
 pub returns-in_err-out-clause-refused : goal.returns-in_err-out-clause-refused
 returns-in_err-out-clause-refused c =
-    code_unrun c.in-Ok.ensures.asks c.args.from.now c.args.schedule.now c.args.side c.processes-n.result c.processes-n.ensures.count
-    c.from_residual-in_err-out.result _ c.from_residual-in_err-out.ensures.1 c.in_ok-given.steps.items c.in_ok-given.ensures.ok c.in_err-out.ensures.refused
+    code_unrun c.in-Ok.ensures.asks c.args.from.now c.args.schedule.now c.args.side c.processes.result c.processes.ensures.count
+    c.from_residual-in_err-out.result _ c.from_residual-in_err-out.ensures.1 c.is_of_code-is_code.result c.is_of_code-is_code.ensures
+    c.in_ok-given.given.items c.in_ok-given.ensures.ok c.in_err-out.ensures.refused
 
 pub returns-clause-ok : goal.returns-clause-ok
 returns-clause-ok c =
     let known = c.in-Ok.ensures.asks in
     let name = c.args.name.now in
     let input = c.args.input.now in
+    let side = c.args.side in
     let texts = texts_of c.args.never.now in
     let p = c.in-Ok.asked.spelled.program in
     let lines = lines_of c.in-Ok.asked.lines.properties.items in
-    let given = c.as_slice-steps.result.now in
+    let steps = c.as_slice-steps.result.now in
     let out = c.in_ok-out.out.items in
+    let places = map place_of c.in-Ok.asked.lines.places.items in
     record {
       status = c.output.ensures.status;
       quiet = c.output.ensures.told;
-      out = run_by (IsTold c.args.telling c.args.side name texts input) (asks_of known) c.args.schedule.now
-          c.processes-n.result c.processes-n.ensures.count c.in_ok-given.steps.items given c.in_ok-given.ensures.ok
-          c.as_slice-steps.ensures.value out _ (ap (λ out. out.items) c.output.ensures.out)
-          (subst (λ (places : List TextPlace). IsToldWith c.args.telling c.args.side name lines places input p given out)
-          known.stand c.in_ok-out.ensures.ok);
+      out = run_by side (IsTold c.args.telling side name texts input) (asks_of known) c.args.schedule.now
+          c.processes.result c.processes.ensures.count c.in_ok-given.given.items steps c.in_ok-given.ensures.ok
+          (c.as_slice-steps.ensures.value ∙ c.in_ok-steps.ensures.ok) out _ (ap (λ out. out.items) c.output.ensures.out)
+          (subst (λ (places : List TextPlace). IsToldWith c.args.telling (is_of_code side) name lines places input p steps out) known.stand
+          (subst (λ (is_code : Bool). IsToldWith c.args.telling is_code name lines places input p steps out) c.is_of_code-is_code.ensures c.in_ok-out.ensures.ok));
     }
