@@ -1,4 +1,5 @@
 use Rattle.std.proofs.Common.{ℕ, Bor, List, refl, subst}
+use Rattle.ticklab_line.specs.Commands.{plain_drawing}
 use Rattle.ticklab_answers.specs.Asking.{texts_of}
 use Rattle.ticklab_answers.specs.Runs.{Draws, Traces}
 use Rattle.ticklab_answers.proofs.Breaks.{then_ok}
@@ -8,15 +9,23 @@ pub returns-in-Trace-clause-ok : goal.returns-in-Trace-clause-ok
 returns-in-Trace-clause-ok g c =
     let t = c.in-Trace in
     rw t.is (then_ok c.traced.result
-    (λ x h. (refl, refl, subst (λ (never : List (Bor (List ℕ))). Traces g.F.Files.Reads g.F.Files.ReadsInput c.args.files.now c.traced.new.files t.file.now t.schedule.now (texts_of never) t.side x)
-    c.deref-in-Trace.ensures.value h)) c.traced.ensures.ok)
+    (λ x h. (
+      refl,
+      refl,
+      subst (λ (never : List (Bor (List ℕ))). Traces g.F.Files.Reads g.F.Files.ReadsInput c.args.files.now c.traced.new.files t.file.now t.schedule.now (texts_of never) t.side x)
+          c.deref-in-Trace.ensures.value h,
+    )) c.traced.ensures.ok)
 
 pub returns-in-Draw-clause-ok : goal.returns-in-Draw-clause-ok
 returns-in-Draw-clause-ok g c =
     let t = c.in-Draw in
     rw t.is (then_ok c.drawn.result
-    (λ x h. (refl, refl, subst (λ (never : List (Bor (List ℕ))). Draws g.F.Files.Reads g.F.Files.ReadsInput c.args.files.now c.drawn.new.files t.file.now t.schedule.now (texts_of never) t.side x)
-    c.deref-in-Draw.ensures.value h)) c.drawn.ensures.ok)
+    (λ x h. (
+      refl,
+      refl,
+      subst (λ (never : List (Bor (List ℕ))). Draws g.F.Files.Reads g.F.Files.ReadsInput c.args.files.now c.drawn.new.files t.file.now t.schedule.now (texts_of never) t.side (plain_drawing t.drawing) x)
+          c.deref-in-Draw.ensures.value h,
+    )) c.drawn.ensures.ok)
 
 pub returns-in-Labels-clause-ok : goal.returns-in-Labels-clause-ok
 returns-in-Labels-clause-ok g c = rw c.in-Labels.is (then_ok c.labelled.result (λ x h. (refl, refl, refl, h)) c.labelled.ensures.ok)
