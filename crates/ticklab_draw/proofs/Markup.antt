@@ -52,6 +52,10 @@ joined {a = a} {b = b} {c = c} {d = d} p q = record {
       ∙ sym (openings-append b d);
 }
 
+where_shown : {a b : List ℕ} (shown : Bool) → Alike a b → Alike (if shown then a else []) (if shown then b else [])
+where_shown true alike = alike
+where_shown false alike = both []
+
 -- an escaped byte, by what it is
 byte_by : (amp lt gt quote tick odd : Bool) (b : ℕ) → (b == 60) ≡ lt
     → openings (if amp then codes "&amp;" else if lt then codes "&lt;" else if gt then codes "&gt;" else if quote then codes "&quot;" else if tick then codes "&#39;" else if odd then codes "?" else b ∷ []) ≡ 0
@@ -160,21 +164,18 @@ module _ (n : ℕ) (rows renamed : List (List ℕ)) (e : length rows ≡ length 
   unfolding drawn
   drawn_alike m = sight_drawn m.process m.sight
 
-  group_alike : (count : ℕ) (c : Column) (at : ℕ) (m : Mark) → Alike (group_text count n rows c at m) (group_text count n renamed c at m)
+  group_alike : (look : Look) (count : ℕ) (c : Column) (at : ℕ) (m : Mark)
+      → Alike (group_text look count n rows c at m) (group_text look count n renamed c at m)
   unfolding group_text
-  group_alike count c at m =
-      joined (joined (joined (joined (both (group_head count c at m.process)) (sentence_alike m)) (both (codes "</title>"))) (drawn_alike m)) (both (codes "</g>\n"))
-
-  shown_alike : (shown : Bool) (count : ℕ) (c : Column) (at : ℕ) (m : Mark)
-      → Alike (if shown then group_text count n rows c at m else []) (if shown then group_text count n renamed c at m else [])
-  shown_alike true count c at m = group_alike count c at m
-  shown_alike false count c at m = both []
+  group_alike look count c at m =
+      where_shown (is_chosen look m)
+      (joined (joined (joined (joined (both (group_head count c at m.process)) (sentence_alike m)) (both (codes "</title>"))) (drawn_alike m)) (both (codes "</g>\n")))
 
   groups_alike : (look : Look) (count : ℕ) (columns : List Column) (at : ℕ) (marks : List Mark)
       → Alike (groups_text look count n rows columns at marks) (groups_text look count n renamed columns at marks)
   groups_alike look count columns at [] = both []
   groups_alike look count columns at (m ∷ marks) =
-      joined (shown_alike (is_chosen look m) count (column_at columns at) at m) (groups_alike look count columns (at + 1) marks)
+      joined (group_alike look count (column_at columns at) at m) (groups_alike look count columns (at + 1) marks)
 
 titled_alike : (before title other after : List ℕ) → Alike (titled before title after) (titled before other after)
 unfolding titled

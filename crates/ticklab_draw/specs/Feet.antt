@@ -37,14 +37,15 @@ change_text n c p (S.Stamp held) = order_text n c p held
 change_text n c p (S.Clear held) = order_text n c p held
 change_text n c p sight = []
 
--- a mark in its column, one of these columns
+-- a mark in its column, one of these columns, where it is shown
 unfoldable pub foot_text : Look → ℕ → List Column → Column → Mark → List Mark → List ℕ
 foot_text look n columns c m marks =
-    step_text c.x (step_y n c.band) [] m.step ++ change_text n c m.process m.sight ++ arrow_text look n columns c m marks
+    if is_chosen look m
+    then step_text c.x (step_y n c.band) [] m.step ++ change_text n c m.process m.sight ++ arrow_text look n columns c m marks
+    else []
 
--- those of these marks that are shown, the first of which has this place among all
+-- those of these marks, the first of which has this place among all
 abbrev pub feet_text : Look → ℕ → List Column → List Mark → ℕ → List Mark → List ℕ
 feet_text look n columns marks at [] = []
 feet_text look n columns marks at (m ∷ rest) =
-    (if is_chosen look m then foot_text look n columns (column_at columns at) m marks else [])
-    ++ feet_text look n columns marks (at + 1) rest
+    foot_text look n columns (column_at columns at) m marks ++ feet_text look n columns marks (at + 1) rest

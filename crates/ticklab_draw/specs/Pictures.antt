@@ -30,24 +30,27 @@ group_place x y = two_numbers (codes "\" transform=\"translate(") x (codes " ") 
 unfoldable pub group_head : ℕ → Column → ℕ → ℕ → List ℕ
 group_head n c at p = group_name at ++ colour p ++ group_place c.x (lane_y n c.band c.lane)
 
--- a mark: its place, what it shows in words, and what is drawn of it
-unfoldable pub group_text : ℕ → ℕ → List (List ℕ) → Column → ℕ → Mark → List ℕ
-group_text count n rows c at m = group_head count c at m.process ++ sentence n rows m ++ codes "</title>" ++ drawn n rows m ++ codes "</g>\n"
+-- a mark that is shown: its place, what it shows in words, and what is drawn of it
+unfoldable pub group_text : Look → ℕ → ℕ → List (List ℕ) → Column → ℕ → Mark → List ℕ
+group_text look count n rows c at m =
+    if is_chosen look m
+    then group_head count c at m.process ++ sentence n rows m ++ codes "</title>" ++ drawn n rows m ++ codes "</g>\n"
+    else []
 
--- a group for each of these marks that is shown, in order, the first of which has this place
+-- a group for each of these marks, in order, the first of which has this place
 abbrev pub groups_text : Look → ℕ → ℕ → List (List ℕ) → List Column → ℕ → List Mark → List ℕ
 groups_text look count n rows columns at [] = []
 groups_text look count n rows columns at (m ∷ marks) =
-    (if is_chosen look m then group_text count n rows (column_at columns at) at m else [])
-    ++ groups_text look count n rows columns (at + 1) marks
+    group_text look count n rows (column_at columns at) at m ++ groups_text look count n rows columns (at + 1) marks
 
--- an element so wide and so high, and as much of what is drawn in it
+-- so much of what is drawn in an element is seen
+unfoldable pub page_view : ℕ → ℕ → List ℕ
+page_view width height = two_numbers (codes " viewBox=\"0 0 ") width (codes " ") height (codes "\">\n")
+
+-- an element so wide and so high
 unfoldable pub page_element : ℕ → ℕ → List ℕ
 page_element width height =
     two_numbers (codes "<svg xmlns=\"http://www.w3.org/2000/svg\" role=\"img\" aria-labelledby=\"title about\" width=\"") width (codes "\" height=\"") height (codes "\"")
-
-unfoldable pub page_view : ℕ → ℕ → List ℕ
-page_view width height = two_numbers (codes " viewBox=\"0 0 ") width (codes " ") height (codes "\">\n")
 
 unfoldable pub page_size : ℕ → ℕ → List ℕ
 page_size width height = page_element width height ++ page_view width height

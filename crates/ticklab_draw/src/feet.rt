@@ -1,7 +1,6 @@
 // What stands below the lanes for each mark: the number of its step, the new order of tickets if it changed,
 // and an arrow to a get.
-ghost use Rattle.std.specs.Prelude.{◌≡◌, ◌++◌, [], OnOk, if◌then◌else◌};
-ghost use Rattle.ticklab_draw.specs.Chosen.{is_chosen};
+ghost use Rattle.std.specs.Prelude.{◌≡◌, ◌++◌, OnOk};
 ghost use Rattle.ticklab_draw.specs.Feet.{change_text, feet_text, foot_text, order_at, order_text, when_line};
 
 use crate::arrows::{push_arrow, push_step, read_from};
@@ -27,28 +26,9 @@ pub fn push_feet(
 {
     for (at, mark) in marks.iter().enumerate() {
         let column = column_at(columns, at);
-        push_chosen_foot(alloc, out, look, n, columns, column, mark, marks)?;
+        push_foot(alloc, out, look, n, columns, column, mark, marks)?;
     }
     Ok(())
-}
-
-fn push_chosen_foot(
-    alloc: Global,
-    out: &mut Vec<u8>,
-    look: Look,
-    n: u8,
-    columns: &[Column],
-    column: Column,
-    mark: &Mark,
-    marks: &[Mark],
-) -> Added
-    ensures { OnOk result (out.new.items ≡ out.old.items ++ (if is_chosen look mark.now then foot_text look n columns.now column mark.now marks.now else [])) }
-{
-    if is_chosen(look, mark) {
-        push_foot(alloc, out, look, n, columns, column, mark, marks)
-    } else {
-        Ok(())
-    }
 }
 
 #[tactic(auto, unfolding(crate::specs::Feet::foot_text))]
@@ -64,6 +44,9 @@ fn push_foot(
 ) -> Added
     ensures { OnOk result (out.new.items ≡ out.old.items ++ foot_text look n columns.now column mark.now marks.now) }
 {
+    if !is_chosen(look, mark) {
+        return Ok(());
+    }
     let (x, y) = (u64::from(column.x), step_y(n, column.band));
     push_step(out, x, y, "", mark.step)?;
     push_change(alloc, out, n, column, mark.process, mark.sight)?;

@@ -1,6 +1,5 @@
 // The picture of a list of marks.
-ghost use Rattle.std.specs.Prelude.{◌≡◌, ◌++◌, [], IfOk, OnOk, if◌then◌else◌, option_map};
-ghost use Rattle.ticklab_draw.specs.Chosen.{chosen_count, is_chosen};
+ghost use Rattle.std.specs.Prelude.{◌≡◌, ◌++◌, IfOk, OnOk, option_map};
 ghost use Rattle.ticklab_draw.specs.Never.{broken_of};
 ghost use Rattle.ticklab_draw.specs.Words.{names};
 ghost use Rattle.ticklab_draw.specs.Pictures.{about, file_name, group_head, group_name, group_place, group_text, groups_text, heading, page_element, page_head, page_size, page_view, picture, picture_in, title_element, titled, under_text};
@@ -210,12 +209,14 @@ fn push_groups(
 {
     for (at, mark) in marks.iter().enumerate() {
         let column = column_at(columns, at);
-        push_chosen(alloc, out, look, count, cast, column, at, mark)?;
+        push_group(alloc, out, look, count, cast, column, at, mark)?;
     }
     Ok(())
 }
 
-fn push_chosen(
+// A mark that is shown: where it stands, what it shows in words, and what is drawn of it.
+#[tactic(auto, unfolding(crate::specs::Pictures::group_text))]
+fn push_group(
     alloc: Global,
     out: &mut Vec<u8>,
     look: Look,
@@ -225,28 +226,11 @@ fn push_chosen(
     at: usize,
     mark: &Mark,
 ) -> Added
-    ensures { OnOk result (out.new.items ≡ out.old.items ++ (if is_chosen look mark.now then group_text count cast.entry.processes (names cast.entry.registers.now) column at mark.now else [])) }
+    ensures { OnOk result (out.new.items ≡ out.old.items ++ group_text look count cast.entry.processes (names cast.entry.registers.now) column at mark.now) }
 {
-    if is_chosen(look, mark) {
-        push_group(alloc, out, count, cast, column, at, mark)
-    } else {
-        Ok(())
+    if !is_chosen(look, mark) {
+        return Ok(());
     }
-}
-
-// A mark: where it stands, what it shows in words, and what is drawn of it.
-#[tactic(auto, unfolding(crate::specs::Pictures::group_text))]
-fn push_group(
-    alloc: Global,
-    out: &mut Vec<u8>,
-    count: u8,
-    cast: Cast<'_>,
-    column: Column,
-    at: usize,
-    mark: &Mark,
-) -> Added
-    ensures { OnOk result (out.new.items ≡ out.old.items ++ group_text count cast.entry.processes (names cast.entry.registers.now) column at mark.now) }
-{
     push_group_head(out, count, column, at, mark.process)?;
     push_sentence(out, cast, mark)?;
     push(out, "</title>")?;
