@@ -506,7 +506,7 @@ fn draw<'a>(alloc: Global) -> Result<Command<'a>, AllocError>
         flag(
             alloc,
             "shared",
-            "Leaves out what no other process sees: older, held and out",
+            "Leaves out what touches nothing shared: older, held and out",
         ),
     );
     taking(
