@@ -61,19 +61,26 @@ static ASKED: [(&[&str], &str); 18] = [
     ),
     (
         &["trace", "a", "0 1*3"],
-        "Trace { file: \"a\", schedule: \"0 1*3\", never: [], is_code: false }",
+        "Trace { file: \"a\", schedule: \"0 1*3\", never: [], side: Program }",
     ),
     (
         &["trace", "--code", "a", "@b"],
-        "Trace { file: \"a\", schedule: \"@b\", never: [], is_code: true }",
+        "Trace { file: \"a\", schedule: \"@b\", never: [], side: Code }",
     ),
     (
         &["draw", "a", "", "--never", "1"],
-        "Draw { file: \"a\", schedule: \"\", never: [\"1\"], is_code: false }",
+        "Draw { file: \"a\", schedule: \"\", never: [\"1\"], side: Program, drawing: Drawing { title: None, from: 1, to: 10000000, is_shared: false, width: 1000 } }",
     ),
     (
         &["draw", "a", "0", "--code"],
-        "Draw { file: \"a\", schedule: \"0\", never: [], is_code: true }",
+        "Draw { file: \"a\", schedule: \"0\", never: [], side: Code, drawing: Drawing { title: None, from: 1, to: 10000000, is_shared: false, width: 1000 } }",
+    ),
+    (
+        &[
+            "draw", "a", "0", "--lift", "--title", "b", "--from=2", "--to", "10000000", "--shared",
+            "--width", "20000",
+        ],
+        "Draw { file: \"a\", schedule: \"0\", never: [], side: Lifted, drawing: Drawing { title: Some(\"b\"), from: 2, to: 10000000, is_shared: true, width: 20000 } }",
     ),
     (&["explain", "a"], "Explain { file: \"a\", schedule: None }"),
     (

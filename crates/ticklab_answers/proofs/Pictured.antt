@@ -8,6 +8,7 @@ use Rattle.ticklab_draw.specs.Marks.{marks_of_code, program_marks}
 use Rattle.ticklab_draw.specs.Never.{Broken}
 use Rattle.ticklab_draw.specs.Pictures.{picture}
 use Rattle.ticklab_draw.specs.Words.{names}
+use Rattle.ticklab_draw.specs.declared.look.Look.{Look}
 use Rattle.ticklab_draw.specs.declared.mark.Mark.{Mark}
 use Rattle.language_properties.specs.Properties.{Formula}
 use Rattle.ticklab_answers.specs.Asking.{TextPlace}
@@ -20,27 +21,27 @@ pub named : (rows : List Named) → names rows ≡ map (λ row. row.letters) (ma
 named [] = refl
 named (row ∷ rows) = ap (λ (more : List (List ℕ)). string_bytes row.name ∷ more) (named rows)
 
-same_picture : (name : List ℕ) (n m : ℕ) (rows row_names : List (List ℕ)) (marks others : List Mark) (broken : Option Broken) (out : List ℕ)
+same_picture : (title : List ℕ) (look : Look) (n m : ℕ) (rows row_names : List (List ℕ)) (marks others : List Mark) (broken : Option Broken) (out : List ℕ)
     → n ≡ m → rows ≡ row_names → marks ≡ others
-    → out ≡ picture name n rows marks broken → out ≡ picture name m row_names others broken
-same_picture name n m rows row_names marks others broken out count named same drawn =
+    → out ≡ picture title look n rows marks broken → out ≡ picture title look m row_names others broken
+same_picture title look n m rows row_names marks others broken out count named same drawn =
     drawn
-    ∙ ap (λ (k : ℕ). picture name k rows marks broken) count
-    ∙ ap (λ (r : List (List ℕ)). picture name m r marks broken) named
-    ∙ ap (λ (ms : List Mark). picture name m row_names ms broken) same
+    ∙ ap (λ (k : ℕ). picture title look k rows marks broken) count
+    ∙ ap (λ (r : List (List ℕ)). picture title look m r marks broken) named
+    ∙ ap (λ (ms : List Mark). picture title look m row_names ms broken) same
 
-pub picture_by : (is_code : Bool) (lines : List Formula) (places : List TextPlace) (name : List ℕ) (a : WholeProgram Name) (schedule out : List ℕ)
+pub picture_by : (title : List ℕ) (look : Look) (is_code : Bool) (lines : List Formula) (places : List TextPlace) (a : WholeProgram Name) (schedule out : List ℕ)
     (n : ℕ) (rows : List (List ℕ)) (marks : List Mark) (mark : Option Broken) → n ≡ a.processes → rows ≡ row_names a
     → marks ≡ (if is_code then marks_of_code (program_code a) schedule else program_marks (resolved a) schedule)
-    → (is_code ≡ true → HasCode a) → IsMarkedFor is_code (resolved a) lines places schedule mark → out ≡ picture name n rows marks mark
-    → IsRunPicture is_code lines places name a schedule out
-picture_by true lines places name a schedule out n rows marks mark count named same has is drawn = (
+    → (is_code ≡ true → HasCode a) → IsMarkedFor is_code (resolved a) lines places schedule mark → out ≡ picture title look n rows marks mark
+    → IsRunPicture title look is_code lines places a schedule out
+picture_by title look true lines places a schedule out n rows marks mark count named same has is drawn = (
   has refl,
-  same_picture name n a.processes rows (row_names a) marks (marks_of_code (program_code a) schedule) mark out count named same drawn
-      ∙ ap (picture name a.processes (row_names a) (marks_of_code (program_code a) schedule)) is,
+  same_picture title look n a.processes rows (row_names a) marks (marks_of_code (program_code a) schedule) mark out count named same drawn
+      ∙ ap (picture title look a.processes (row_names a) (marks_of_code (program_code a) schedule)) is,
 )
-picture_by false lines places name a schedule out n rows marks mark count named same has is drawn = record {
+picture_by title look false lines places a schedule out n rows marks mark count named same has is drawn = record {
   mark = mark;
   is_mark = is;
-  drawn = same_picture name n a.processes rows (row_names a) marks (program_marks (resolved a) schedule) mark out count named same drawn;
+  drawn = same_picture title look n a.processes rows (row_names a) marks (program_marks (resolved a) schedule) mark out count named same drawn;
 }

@@ -49,8 +49,8 @@ module _ {F M W : Type 0} (Reads : ReadsOf F) (ReadsInput : ReadsInputOf F) (Ran
   Responds (Runs file times turns) response = (heard ≡ quiet) × Tallies Reads ReadsInput Ran before after rested ran file times turns response
   Responds (Trace file schedule never side) response =
       (ran ≡ rested) × (heard ≡ quiet) × Traces Reads ReadsInput before after file schedule never side response
-  Responds (Draw file schedule never side) response =
-      (ran ≡ rested) × (heard ≡ quiet) × Draws Reads ReadsInput before after file schedule never side response
+  Responds (Draw file schedule never side drawing) response =
+      (ran ≡ rested) × (heard ≡ quiet) × Draws Reads ReadsInput before after file schedule never side drawing response
   Responds (Explain file schedule) response = (ran ≡ rested) × (heard ≡ quiet) × Explains Reads ReadsInput before after file schedule response
   Responds (Labels processes moves) response = (ran ≡ rested) × (heard ≡ quiet) × (after ≡ before) × DrawsLabels processes moves response
 
@@ -75,7 +75,7 @@ NamesOf (Lasso file prefix cycle) name = IsOfThree file prefix cycle name
 NamesOf (Hunt file never seed runs from steps is_uniform jobs) name = name ≡ file
 NamesOf (Runs file times turns) name = name ≡ file
 NamesOf (Trace file schedule never side) name = IsEither file schedule name
-NamesOf (Draw file schedule never side) name = IsEither file schedule name
+NamesOf (Draw file schedule never side drawing) name = IsEither file schedule name
 NamesOf (Explain file schedule) name = IsOneOf file schedule name
 NamesOf (Labels processes moves) name = ⊥
 

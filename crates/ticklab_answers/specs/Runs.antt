@@ -1,6 +1,7 @@
 -- What `trace` and `draw` answer: a trace or a picture of the run of a program, or of its code, under a
 -- schedule.
-use Rattle.std.specs.Prelude.{◌≡◌, ◌++◌, ℕ, Bool, true, false, List, drop, map, slice_get, take, Option, Some, None, Ok}
+use Rattle.std.specs.Prelude.{◌≡◌, ◌++◌, ℕ, Bool, true, false, List, drop, map, slice_get, take, unwrap_or, Option, Some, None, Ok}
+use Rattle.std.specs.Borrow.{Bor}
 use Rattle.base.specs.Plain.{Name, WholeProgram}
 use Rattle.tick_syntax.specs.Spelling.{Spells}
 use Rattle.tick_syntax.specs.declared.token.Token.{Token}
@@ -18,8 +19,11 @@ use Rattle.ticklab_trace.specs.Places.{standings}
 use Rattle.ticklab_trace.specs.TraceText.{instruction_lines, statement_lines}
 use Rattle.ticklab_draw.specs.Marks.{marks_of_code, program_marks}
 use Rattle.ticklab_draw.specs.Never.{Broken}
-use Rattle.ticklab_draw.specs.Pictures.{picture}
+use Rattle.ticklab_draw.specs.Pictures.{file_name, picture}
+use Rattle.ticklab_draw.specs.declared.look.Look.{Look}
 use Rattle.tick_sim.specs.Maps.{up}
+use Rattle.ticklab_line.specs.Commands.{plain_drawing}
+use Rattle.ticklab_line.specs.declared.commands.Drawing.{Drawing}
 use Rattle.ticklab_line.specs.declared.commands.Side.{Side}
 use Rattle.ticklab_line.specs.declared.commands.Side.TheVariants.{Program, Code, Lifted}
 use Rattle.ticklab_answers.specs.Asking.{AsksNever, IsFileRefused, IsProgramFile, TellsOption, TextPlace, lines_in, places_by}
@@ -107,31 +111,48 @@ IsTrace false lines places input a schedule out = IsLinedTrace lines places inpu
 abbrev pub row_names : WholeProgram Name → List (List ℕ)
 row_names a = map (λ row. row.letters) a.registers
 
+-- the title of a picture of the program of this file, and how it looks
+abbrev pub title_of : Drawing (List ℕ) → List ℕ → List ℕ
+title_of drawing name = unwrap_or drawing.title (file_name name)
+
+abbrev pub look_of : Drawing (List ℕ) → Look
+look_of drawing = record { from = drawing.from; is_shared = drawing.is_shared; width = drawing.width }
+
 -- The picture of the run of a program, with the first of these lines to be broken, which stand here.
-pub record IsProgramPicture (lines : List Formula) (places : List TextPlace) (name : List ℕ) (a : WholeProgram Name) (schedule out : List ℕ) : Type 0 where
+pub record IsProgramPicture (title : List ℕ) (look : Look) (lines : List Formula) (places : List TextPlace) (a : WholeProgram Name) (schedule out : List ℕ) : Type 0 where
   pub mark : Option Broken
   pub is_mark : IsMarked (resolved a) lines places schedule mark
-  pub drawn : out ≡ picture name a.processes (row_names a) (program_marks (resolved a) schedule) mark
+  pub drawn : out ≡ picture title look a.processes (row_names a) (program_marks (resolved a) schedule) mark
 
 -- that of its code, of which no line is asked
-abbrev pub IsCodePicture : List ℕ → WholeProgram Name → List ℕ → List ℕ → Type 0
-IsCodePicture name a schedule out =
-    HasCode a × (out ≡ picture name a.processes (row_names a) (marks_of_code (program_code a) schedule) None)
+abbrev pub IsCodePicture : List ℕ → Look → WholeProgram Name → List ℕ → List ℕ → Type 0
+IsCodePicture title look a schedule out =
+    HasCode a × (out ≡ picture title look a.processes (row_names a) (marks_of_code (program_code a) schedule) None)
 
-abbrev pub IsRunPicture : Bool → List Formula → List TextPlace → List ℕ → WholeProgram Name → List ℕ → List ℕ → Type 0
-IsRunPicture true lines places name a schedule out = IsCodePicture name a schedule out
-IsRunPicture false lines places name a schedule out = IsProgramPicture lines places name a schedule out
+abbrev pub IsRunPicture : List ℕ → Look → Bool → List Formula → List TextPlace → WholeProgram Name → List ℕ → List ℕ → Type 0
+IsRunPicture title look true lines places a schedule out = IsCodePicture title look a schedule out
+IsRunPicture title look false lines places a schedule out = IsProgramPicture title look lines places a schedule out
+
+-- that which is asked for: of the run up to the last step that is shown
+abbrev pub IsPictureFor : Drawing (List ℕ) → Bool → List ℕ → List Formula → List TextPlace → WholeProgram Name → List ℕ → List ℕ → Type 0
+IsPictureFor drawing is_code name lines places a schedule out =
+    IsRunPicture (title_of drawing name) (look_of drawing) is_code lines places a (take drawing.to schedule) out
+
+-- texts that are lent, as the texts themselves
+abbrev pub plain_telling : Telling (Bor (List ℕ)) → Telling (List ℕ)
+plain_telling Trace = Trace
+plain_telling (Picture drawing) = Picture (plain_drawing drawing)
 
 -- a run is told as a trace or as a picture
-abbrev pub IsToldWith : Telling → Bool → List ℕ → List Formula → List TextPlace → List ℕ → WholeProgram Name → List ℕ → List ℕ → Type 0
+abbrev pub IsToldWith : Telling (List ℕ) → Bool → List ℕ → List Formula → List TextPlace → List ℕ → WholeProgram Name → List ℕ → List ℕ → Type 0
 IsToldWith Trace is_code name lines places input = IsTrace is_code lines places input
-IsToldWith Picture is_code name lines places input = IsRunPicture is_code lines places name
+IsToldWith (Picture drawing) is_code name lines places input = IsPictureFor drawing is_code name lines places
 
-abbrev pub IsTold : Telling → Side → (name : List ℕ) (texts : List (List ℕ)) (input : List ℕ) → Told texts input
+abbrev pub IsTold : Telling (List ℕ) → Side → (name : List ℕ) (texts : List (List ℕ)) (input : List ℕ) → Told texts input
 IsTold telling side name texts input asks =
     IsToldWith telling (is_of_code side) name asks.lines (places_by name input asks.file.asked texts) input asks.file.program
 
-abbrev pub TellsRun : {F : Type 0} → Telling → ReadsOf F → ReadsInputOf F → F → F → List ℕ → List ℕ → List (List ℕ) → Side → Response → Type 0
+abbrev pub TellsRun : {F : Type 0} → Telling (List ℕ) → ReadsOf F → ReadsInputOf F → F → F → List ℕ → List ℕ → List (List ℕ) → Side → Response → Type 0
 TellsRun telling Reads ReadsInput before after file schedule never side response =
     AfterBoth Reads ReadsInput before after file schedule
     (λ input from text. AnswersRun side (IsTold telling side file never input) file from text response)
@@ -139,5 +160,6 @@ TellsRun telling Reads ReadsInput before after file schedule never side response
 abbrev pub Traces : {F : Type 0} → ReadsOf F → ReadsInputOf F → F → F → List ℕ → List ℕ → List (List ℕ) → Side → Response → Type 0
 Traces Reads ReadsInput before after file schedule never side response = TellsRun Trace Reads ReadsInput before after file schedule never side response
 
-abbrev pub Draws : {F : Type 0} → ReadsOf F → ReadsInputOf F → F → F → List ℕ → List ℕ → List (List ℕ) → Side → Response → Type 0
-Draws Reads ReadsInput before after file schedule never side response = TellsRun Picture Reads ReadsInput before after file schedule never side response
+abbrev pub Draws : {F : Type 0} → ReadsOf F → ReadsInputOf F → F → F → List ℕ → List ℕ → List (List ℕ) → Side → Drawing (List ℕ) → Response → Type 0
+Draws Reads ReadsInput before after file schedule never side drawing response =
+    TellsRun (Picture drawing) Reads ReadsInput before after file schedule never side response

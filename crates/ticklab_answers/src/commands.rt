@@ -124,7 +124,8 @@ fn answered<F: Files, M: Runner, T: Trials, W: Progress>(
             schedule,
             never,
             side,
-        } => drawn(alloc, files, file, schedule, &never, side),
+            drawing,
+        } => drawn(alloc, files, file, schedule, &never, side, drawing),
         Request::Explain { file, schedule } => explained(alloc, files, file, schedule),
         Request::Labels { processes, moves } => labelled(alloc, processes, moves),
     }

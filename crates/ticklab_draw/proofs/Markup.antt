@@ -13,17 +13,19 @@ use Rattle.std.specs.Fmt.{decimal}
 use Rattle.base.specs.declared.event.Act.{Act}
 use Rattle.base.specs.declared.event.Act.TheVariants as A
 use Rattle.ticklab_draw.specs.declared.columns.Column.{Column}
+use Rattle.ticklab_draw.specs.declared.look.Look.{Look}
 use Rattle.ticklab_draw.specs.declared.mark.Mark.{Mark}
 use Rattle.ticklab_draw.specs.declared.mark.Sight.{Sight}
 use Rattle.ticklab_draw.specs.declared.mark.Sight.TheVariants as S
 use Rattle.ticklab_draw.specs.declared.shapes.Shape.TheVariants.{Put, Get}
+use Rattle.ticklab_draw.specs.Chosen.{chosen_count, is_chosen, lane_of, lanes}
 use Rattle.ticklab_draw.specs.Columns.{columns}
 use Rattle.ticklab_draw.specs.Escapes.{escaped, escaped_byte}
 use Rattle.ticklab_draw.specs.Laws.{MarkupLaw, RenamedLaw, openings, reworded}
-use Rattle.ticklab_draw.specs.Layout.{above_y, band_foot, band_top, behind_x, column_at, column_behind, last_column, page_height}
+use Rattle.ticklab_draw.specs.Layout.{above_y, band_foot, band_top, behind_x, column_at, column_behind, last_column, page_height, page_width}
 use Rattle.ticklab_draw.specs.Legend.{legend_text}
 use Rattle.ticklab_draw.specs.Never.{Broken, dashed_line, marks_within, moment_text, never_behind, never_label, never_text, never_title, value_text}
-use Rattle.ticklab_draw.specs.Pictures.{about, file_name, group_head, group_text, groups_text, heading, page_head, page_size, picture, picture_in, title_element, titled, under_text}
+use Rattle.ticklab_draw.specs.Pictures.{about, group_head, group_text, groups_text, heading, page_head, page_size, picture, picture_in, title_element, titled, under_text}
 use Rattle.ticklab_draw.specs.Shapes.{above, below, beside, drawn, drawn_as, label, outline, shape_of, words_text}
 use Rattle.ticklab_draw.specs.Style.{backdrop, sheet}
 use Rattle.ticklab_draw.specs.Words.{act_text, origin_text, row_as, row_text, sentence, sight_text}
@@ -49,6 +51,10 @@ joined {a = a} {b = b} {c = c} {d = d} p q = record {
       openings-append a c ∙ ap (λ (k : ℕ). k + openings c) p.same ∙ ap (λ (k : ℕ). openings b + k) q.same
       ∙ sym (openings-append b d);
 }
+
+where_shown : {a b : List ℕ} (shown : Bool) → Alike a b → Alike (if shown then a else []) (if shown then b else [])
+where_shown true alike = alike
+where_shown false alike = both []
 
 -- an escaped byte, by what it is
 byte_by : (amp lt gt quote tick odd : Bool) (b : ℕ) → (b == 60) ≡ lt
@@ -158,29 +164,33 @@ module _ (n : ℕ) (rows renamed : List (List ℕ)) (e : length rows ≡ length 
   unfolding drawn
   drawn_alike m = sight_drawn m.process m.sight
 
-  group_alike : (c : Column) (at : ℕ) (m : Mark) → Alike (group_text n rows c at m) (group_text n renamed c at m)
+  group_alike : (look : Look) (count : ℕ) (c : Column) (at : ℕ) (m : Mark)
+      → Alike (group_text look count n rows c at m) (group_text look count n renamed c at m)
   unfolding group_text
-  group_alike c at m =
-      joined (joined (joined (joined (both (group_head n c at m.process)) (sentence_alike m)) (both (codes "</title>"))) (drawn_alike m)) (both (codes "</g>\n"))
+  group_alike look count c at m =
+      where_shown (is_chosen look m)
+      (joined (joined (joined (joined (both (group_head count c at m.process)) (sentence_alike m)) (both (codes "</title>"))) (drawn_alike m)) (both (codes "</g>\n")))
 
-  groups_alike : (columns : List Column) (at : ℕ) (marks : List Mark)
-      → Alike (groups_text n rows columns at marks) (groups_text n renamed columns at marks)
-  groups_alike columns at [] = both []
-  groups_alike columns at (m ∷ marks) = joined (group_alike (column_at columns at) at m) (groups_alike columns (at + 1) marks)
+  groups_alike : (look : Look) (count : ℕ) (columns : List Column) (at : ℕ) (marks : List Mark)
+      → Alike (groups_text look count n rows columns at marks) (groups_text look count n renamed columns at marks)
+  groups_alike look count columns at [] = both []
+  groups_alike look count columns at (m ∷ marks) =
+      joined (group_alike look count (column_at columns at) at m) (groups_alike look count columns (at + 1) marks)
 
 titled_alike : (before title other after : List ℕ) → Alike (titled before title after) (titled before other after)
 unfolding titled
 titled_alike before title other after = joined (joined (both before) (texts title other)) (both after)
 
-head_alike : (title other : List ℕ) (n last count : ℕ) → Alike (page_head title n last count) (page_head other n last count)
+head_alike : (title other : List ℕ) (width height n count : ℕ)
+    → Alike (page_head title width height n count) (page_head other width height n count)
 unfolding page_head title_element
-head_alike title other n last count =
-    joined (joined (both (page_size (page_height n last))) (titled_alike (codes "<title id=\"title\">") title other (codes "</title>\n"))) (both (about n count))
+head_alike title other width height n count =
+    joined (joined (both (page_size width height)) (titled_alike (codes "<title id=\"title\">") title other (codes "</title>\n"))) (both (about n count))
 
 heading_alike : (title other : List ℕ) → Alike (heading title) (heading other)
 unfolding heading
 heading_alike title other =
-    joined (both (sheet ++ backdrop)) (titled_alike (codes "<text class=\"title\" x=\"16\" y=\"26\">") (file_name title) (file_name other) (codes "</text>\n"))
+    joined (both (sheet ++ backdrop)) (titled_alike (codes "<text class=\"title\" x=\"16\" y=\"26\">") title other (codes "</text>\n"))
 
 never_titled : (b : Broken) (text : List ℕ) → Alike (never_title b) (never_title (reworded text b))
 unfolding never_title
@@ -197,18 +207,21 @@ never_alike : (n : ℕ) (columns : List Column) (marks : List Mark) (broken : Op
 never_alike n columns marks None text = both []
 never_alike n columns marks (Some b) text = behind_alike n (column_behind columns (marks_within b.steps marks)) b text
 
-picture_alike : (columns : List Column) (title other : List ℕ) (n : ℕ) (rows renamed : List (List ℕ)) (marks : List Mark) (broken : Option Broken) (text : List ℕ)
+picture_alike : (lanes : List Bool) (columns : List Column) (title other : List ℕ) (look : Look) (n : ℕ) (rows renamed : List (List ℕ)) (marks : List Mark) (broken : Option Broken) (text : List ℕ)
     → length rows ≡ length renamed
-    → Alike (picture_in columns title n rows marks broken) (picture_in columns other n renamed marks (option_map (reworded text) broken))
+    → Alike (picture_in lanes columns title look n rows marks broken) (picture_in lanes columns other look n renamed marks (option_map (reworded text) broken))
 unfolding picture_in
-picture_alike columns title other n rows renamed marks broken text e =
-    joined (joined (joined (joined (joined (head_alike title other n (last_column columns).band (length marks)) (heading_alike title other)) (never_alike n columns marks broken text)) (both (under_text n columns marks))) (groups_alike n rows renamed e columns 0 marks)) (both (legend_text n (last_column columns).band))
+picture_alike lanes columns title other look n rows renamed marks broken text e =
+    let count = lane_of lanes n in
+    let last = (last_column columns).band in
+    let width = page_width look.width columns in
+    joined (joined (joined (joined (joined (head_alike title other width (page_height count last width) n (chosen_count look marks)) (heading_alike title other)) (never_alike count columns marks broken text)) (both (under_text look lanes n columns marks))) (groups_alike n rows renamed e look count columns 0 marks)) (both (legend_text count last width))
 
 pub markup_law : MarkupLaw
-markup_law columns title other n rows renamed marks broken text e = (picture_alike columns title other n rows renamed marks broken text e).same
+markup_law lanes columns title other look n rows renamed marks broken text e = (picture_alike lanes columns title other look n rows renamed marks broken text e).same
 
 pub renamed_law : RenamedLaw
 unfolding picture
-renamed_law title other n rows renamed marks broken text e same =
-    ap (λ (cs : List Column). openings (picture_in cs title n rows marks broken)) same
-    ∙ markup_law (columns n renamed marks) title other n rows renamed marks broken text e
+renamed_law title other look n rows renamed marks broken text e same =
+    ap (λ (cs : List Column). openings (picture_in (lanes look marks n) cs title look n rows marks broken)) same
+    ∙ markup_law (lanes look marks n) (columns look n renamed (lanes look marks n) marks) title other look n rows renamed marks broken text e

@@ -2,9 +2,11 @@
 -- between two lanes.
 use Rattle.std.specs.Prelude.{ℕ, ◌+◌, ◌-◌, ◌==◌, nat_lt, if◌then◌else◌, List, [], ◌++◌, codes, slice_get, Option, Some, None}
 use Rattle.ticklab_draw.specs.declared.columns.Column.{Column}
+use Rattle.ticklab_draw.specs.declared.look.Look.{Look}
 use Rattle.ticklab_draw.specs.declared.mark.Mark.{Mark}
 use Rattle.ticklab_draw.specs.declared.mark.Sight.{Sight}
 use Rattle.ticklab_draw.specs.declared.mark.Sight.TheVariants as S
+use Rattle.ticklab_draw.specs.Chosen.{is_chosen}
 use Rattle.ticklab_draw.specs.Layout.{column_at, from_y, in_x, lane_y, leave_x, out_x, reach_x, way_y}
 use Rattle.ticklab_draw.specs.Steps.{step_text}
 use Rattle.ticklab_draw.specs.Writing.{one_number, two_numbers}
@@ -16,37 +18,37 @@ turn x y to =
     else if nat_lt y to then two_numbers (codes "H") (x - 4) (codes "q4 0 4 4V") (to - 4) (codes "q0 4 4 4")
     else two_numbers (codes "H") (x - 4) (codes "q4 0 4 -4V") (to + 4) (codes "q0 -4 4 -4")
 
--- From the put of process `q`, the mark of this place, to the get of process `p` in another column of its band: out of the
+-- From the put of this place, in its column, to the get in another column of its band: out of the
 -- sign into the gutter behind its column, there to the height of the way, along it to the gutter before the get, there to the
 -- lane, and to the sign.
-unfoldable pub route_text : ℕ → ℕ → Column → ℕ → Column → ℕ → List ℕ
-route_text n from c q d p =
-    two_numbers (codes "<path class=\"arrow\" d=\"M") (leave_x c) (codes " ") (lane_y n c.band q) []
-    ++ turn (out_x c) (lane_y n c.band q) (way_y n from c q d p) ++ turn (in_x d) (way_y n from c q d p) (lane_y n c.band p)
+unfoldable pub route_text : ℕ → ℕ → Column → Column → List ℕ
+route_text n from c d =
+    two_numbers (codes "<path class=\"arrow\" d=\"M") (leave_x c) (codes " ") (lane_y n c.band c.lane) []
+    ++ turn (out_x c) (lane_y n c.band c.lane) (way_y n from c d) ++ turn (in_x d) (way_y n from c d) (lane_y n c.band d.lane)
     ++ one_number (codes "H") (reach_x d) (codes "\"/>\n")
 
--- what stands for it at a get whose put is of an earlier band
-unfoldable pub from_text : ℕ → Column → ℕ → ℕ → List ℕ
-from_text n d p step = step_text d.x (from_y n d.band p) (codes "from step ") step
+-- what stands for it at a get whose put is of an earlier band, or isn't shown
+unfoldable pub from_text : ℕ → Column → ℕ → List ℕ
+from_text n d step = step_text d.x (from_y n d.band d.lane) (codes "from step ") step
 
--- to the get of process `p` in a column from the put in that of another place
-unfoldable pub arrow_from : ℕ → ℕ → Column → Column → ℕ → Mark → List ℕ
-arrow_from n from c d p put =
-    if c.band == d.band then route_text n from c put.process d p else from_text n d p put.step
+-- to the get in a column from the put of a step, in that of another place
+unfoldable pub arrow_from : ℕ → ℕ → Column → Column → ℕ → List ℕ
+arrow_from n from c d step = if c.band == d.band then route_text n from c d else from_text n d step
 
 -- the put that is read, by its place
 abbrev pub read_from : Sight → Option ℕ
 read_from (S.Get r i v put) = put
 read_from sight = None
 
-abbrev pub arrow_of : ℕ → List Column → Column → ℕ → ℕ → Option Mark → List ℕ
-arrow_of n columns d p from None = []
-arrow_of n columns d p from (Some put) = arrow_from n from (column_at columns from) d p put
+abbrev pub arrow_of : Look → ℕ → List Column → Column → ℕ → Option Mark → List ℕ
+arrow_of look n columns d from None = []
+arrow_of look n columns d from (Some put) =
+    if is_chosen look put then arrow_from n from (column_at columns from) d put.step else from_text n d put.step
 
-abbrev pub arrow_by : ℕ → List Column → Column → ℕ → List Mark → Option ℕ → List ℕ
-arrow_by n columns d p marks None = []
-arrow_by n columns d p marks (Some from) = arrow_of n columns d p from (slice_get marks from)
+abbrev pub arrow_by : Look → ℕ → List Column → Column → List Mark → Option ℕ → List ℕ
+arrow_by look n columns d marks None = []
+arrow_by look n columns d marks (Some from) = arrow_of look n columns d from (slice_get marks from)
 
 -- the arrow to a mark in its column, where it is a get of what one of these marks put
-abbrev pub arrow_text : ℕ → List Column → Column → Mark → List Mark → List ℕ
-arrow_text n columns d m marks = arrow_by n columns d m.process marks (read_from m.sight)
+abbrev pub arrow_text : Look → ℕ → List Column → Column → Mark → List Mark → List ℕ
+arrow_text look n columns d m marks = arrow_by look n columns d marks (read_from m.sight)

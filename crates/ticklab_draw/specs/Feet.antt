@@ -1,12 +1,14 @@
 -- What stands below the lanes for each mark: the number of its step and, if the order of tickets changed, a
 -- line through all lanes and the new order. Arrows lead from puts to gets.
-use Rattle.std.specs.Prelude.{ℕ, ◌+◌, List, [], ◌∷◌, ◌++◌, codes}
+use Rattle.std.specs.Prelude.{ℕ, ◌+◌, if◌then◌else◌, List, [], ◌∷◌, ◌++◌, codes}
 use Rattle.ticklab_draw.specs.declared.columns.Column.{Column}
+use Rattle.ticklab_draw.specs.declared.look.Look.{Look}
 use Rattle.ticklab_draw.specs.declared.mark.Mark.{Mark}
 use Rattle.ticklab_draw.specs.declared.mark.Sight.{Sight}
 use Rattle.ticklab_draw.specs.declared.mark.Sight.TheVariants as S
 use Rattle.ticklab_draw.specs.declared.mark.Holdings.{Holdings}
 use Rattle.ticklab_draw.specs.Arrows.{arrow_text}
+use Rattle.ticklab_draw.specs.Chosen.{is_chosen}
 use Rattle.ticklab_draw.specs.Colours.{colour, stroke}
 use Rattle.ticklab_draw.specs.Layout.{band_foot, band_top, column_at, order_y, step_y}
 use Rattle.ticklab_draw.specs.Orders.{holders, order_words}
@@ -35,13 +37,15 @@ change_text n c p (S.Stamp held) = order_text n c p held
 change_text n c p (S.Clear held) = order_text n c p held
 change_text n c p sight = []
 
--- a mark in its column, one of these columns
-unfoldable pub foot_text : ℕ → List Column → Column → Mark → List Mark → List ℕ
-foot_text n columns c m marks =
-    step_text c.x (step_y n c.band) [] m.step ++ change_text n c m.process m.sight ++ arrow_text n columns c m marks
+-- a mark in its column, one of these columns, where it is shown
+unfoldable pub foot_text : Look → ℕ → List Column → Column → Mark → List Mark → List ℕ
+foot_text look n columns c m marks =
+    if is_chosen look m
+    then step_text c.x (step_y n c.band) [] m.step ++ change_text n c m.process m.sight ++ arrow_text look n columns c m marks
+    else []
 
 -- those of these marks, the first of which has this place among all
-abbrev pub feet_text : ℕ → List Column → List Mark → ℕ → List Mark → List ℕ
-feet_text n columns marks at [] = []
-feet_text n columns marks at (m ∷ rest) =
-    foot_text n columns (column_at columns at) m marks ++ feet_text n columns marks (at + 1) rest
+abbrev pub feet_text : Look → ℕ → List Column → List Mark → ℕ → List Mark → List ℕ
+feet_text look n columns marks at [] = []
+feet_text look n columns marks at (m ∷ rest) =
+    foot_text look n columns (column_at columns at) m marks ++ feet_text look n columns marks (at + 1) rest

@@ -1,6 +1,6 @@
 -- The lanes of each band, as long as its columns need, with the names of the processes; and how each process ended,
--- beside its last lane.
-use Rattle.std.specs.Prelude.{ℕ, zero, suc, ◌+◌, ◌==◌, if◌then◌else◌, List, [], ◌∷◌, ◌++◌, codes}
+-- beside its last lane. Of `n` processes these have lanes.
+use Rattle.std.specs.Prelude.{ℕ, Bool, zero, suc, ◌+◌, ◌==◌, if◌then◌else◌, List, [], ◌∷◌, ◌++◌, codes}
 use Rattle.base.specs.declared.event.Act.{Act}
 use Rattle.base.specs.declared.event.Act.TheVariants as A
 use Rattle.base.specs.declared.status.Status.{Status}
@@ -10,6 +10,7 @@ use Rattle.ticklab_draw.specs.declared.columns.Column.{Column}
 use Rattle.ticklab_draw.specs.declared.mark.Mark.{Mark}
 use Rattle.ticklab_draw.specs.declared.mark.Sight.{Sight}
 use Rattle.ticklab_draw.specs.declared.mark.Sight.TheVariants as S
+use Rattle.ticklab_draw.specs.Chosen.{is_lane, lane_of}
 use Rattle.ticklab_draw.specs.Colours.{colour, stroke}
 use Rattle.ticklab_draw.specs.Layout.{beside_x, edge, end_x, lane_y, order_y, step_y}
 use Rattle.ticklab_draw.specs.Writing.{one_number, two_numbers}
@@ -28,25 +29,29 @@ unfoldable pub lane_text : ℕ → ℕ → ℕ → List ℕ
 lane_text y end p = lane_line y end p ++ lane_name (y + 5) p
 
 -- the lanes of the processes below `p` in the band that ends with this column
-abbrev pub lanes_text : ℕ → Column → ℕ → List ℕ
-lanes_text n c zero = []
-lanes_text n c (suc p) = lanes_text n c p ++ lane_text (lane_y n c.band p) (end_x c) p
+abbrev pub lanes_text : List Bool → ℕ → Column → ℕ → List ℕ
+lanes_text lanes n c zero = []
+lanes_text lanes n c (suc p) =
+    lanes_text lanes n c p
+    ++ (if is_lane lanes p then lane_text (lane_y (lane_of lanes n) c.band (lane_of lanes p)) (end_x c) p else [])
 
 -- words at the left edge
 unfoldable pub caption : ℕ → List ℕ → List ℕ
 caption y words = one_number (codes "<text class=\"left\" x=\"16\" y=\"") y (codes "\">") ++ words ++ codes "</text>\n"
 
--- the band that ends with this column: the lanes of all processes, and what stands below them
-unfoldable pub band_text : ℕ → Column → List ℕ
-band_text n c = lanes_text n c n ++ caption (order_y n c.band) (codes "order") ++ caption (step_y n c.band) (codes "step")
+-- the band that ends with this column: its lanes, and what stands below them
+unfoldable pub band_text : List Bool → ℕ → Column → List ℕ
+band_text lanes n c =
+    lanes_text lanes n c n ++ caption (order_y (lane_of lanes n) c.band) (codes "order")
+    ++ caption (step_y (lane_of lanes n) c.band) (codes "step")
 
 -- the bands from that of this column on, behind which these stand
-abbrev pub bands_from : ℕ → Column → List Column → List ℕ
-bands_from n c [] = band_text n c
-bands_from n c (d ∷ columns) = (if c.band == d.band then [] else band_text n c) ++ bands_from n d columns
+abbrev pub bands_from : List Bool → ℕ → Column → List Column → List ℕ
+bands_from lanes n c [] = band_text lanes n c
+bands_from lanes n c (d ∷ columns) = (if c.band == d.band then [] else band_text lanes n c) ++ bands_from lanes n d columns
 
-abbrev pub bands_text : ℕ → List Column → List ℕ
-bands_text n columns = bands_from n edge columns
+abbrev pub bands_text : List Bool → ℕ → List Column → List ℕ
+bands_text lanes n columns = bands_from lanes n edge columns
 
 -- how a process stands after an act, and after what a mark shows
 abbrev pub ended_by : Status → Act → Status
@@ -82,6 +87,8 @@ end_text x y status =
     end_style status ++ two_numbers (codes " x=\"") x (codes "\" y=\"") y (codes "\">") ++ end_words status ++ codes "</text>\n"
 
 -- those of the processes below `p`, beside the lanes that end with this column
-abbrev pub ends_text : ℕ → Column → List Mark → ℕ → List ℕ
-ends_text n c marks zero = []
-ends_text n c marks (suc p) = ends_text n c marks p ++ end_text (beside_x c) (lane_y n c.band p + 4) (end_of p marks)
+abbrev pub ends_text : List Bool → ℕ → Column → List Mark → ℕ → List ℕ
+ends_text lanes n c marks zero = []
+ends_text lanes n c marks (suc p) =
+    ends_text lanes n c marks p
+    ++ (if is_lane lanes p then end_text (beside_x c) (lane_y (lane_of lanes n) c.band (lane_of lanes p) + 4) (end_of p marks) else [])

@@ -1,12 +1,12 @@
 -- Where things stand on the page: each mark in a column of its own, in the lane of its process. Bands of columns
 -- stand one below the other. `Columns`, `Lanes`, `Feet`, `Arrows`, `Shapes` and `Never` say what is shown there,
 -- without these numbers.
-use Rattle.std.specs.Prelude.{ℕ, ◌+◌, ◌-◌, ◌*◌, ◌/◌, ◌%◌, ◌==◌, max, nat_lt, if◌then◌else◌, List, length, slice_get, Option, Some, None}
+use Rattle.std.specs.Prelude.{ℕ, Bool, ◌+◌, ◌-◌, ◌*◌, ◌/◌, ◌%◌, ◌==◌, ◌&&◌, max, min, nat_lt, if◌then◌else◌, List, [], ◌∷◌, length, slice_get, Option, Some, None}
 use Rattle.ticklab_draw.specs.declared.columns.Column.{Column}
 
 -- the place where the lanes of the first band begin, as a column that has no width
 abbrev pub edge : Column
-edge = record { band = 0; x = 50; half = 0 }
+edge = record { band = 0; x = 50; half = 0; lane = 0 }
 
 -- where a column begins and ends
 abbrev pub left_x : Column → ℕ
@@ -15,12 +15,29 @@ left_x c = c.x - c.half
 abbrev pub right_x : Column → ℕ
 right_x c = c.x + c.half
 
--- The column behind another, so wide on each side. A gutter lies between both. Where it would pass the end of the
--- band, it is the first of the next one.
-abbrev pub next_column : Column → ℕ → Column
-next_column c half =
-    if nat_lt 880 (right_x c + 14 + 2 * half) then record { band = c.band + 1; x = 64 + half; half = half }
-    else record { band = c.band; x = right_x c + 14 + half; half = half }
+-- a page is so wide at least that is to have this width
+abbrev pub page_least : ℕ → ℕ
+page_least width = min 20000 (max 300 width)
+
+-- how far its bands reach: beside them stands how each process ended
+abbrev pub band_end : ℕ → ℕ
+band_end width = page_least width - 120
+
+-- The column behind another, in this lane, so wide on each side. A gutter lies between both. Where it would pass the end of the
+-- band, it is the first of the next one; but no band is empty.
+abbrev pub next_column : ℕ → ℕ → Column → ℕ → Column
+next_column end lane c half =
+    if nat_lt 50 (right_x c) && nat_lt end (right_x c + 14 + 2 * half)
+    then record { band = c.band + 1; x = 64 + half; half = half; lane = lane }
+    else record { band = c.band; x = right_x c + 14 + half; half = half; lane = lane }
+
+-- the width of a page: that of the widest band and what stands beside it, where that is more
+abbrev pub widest : ℕ → List Column → ℕ
+widest width [] = width
+widest width (c ∷ columns) = widest (max width (right_x c + 120)) columns
+
+abbrev pub page_width : ℕ → List Column → ℕ
+page_width width columns = widest (page_least width) columns
 
 -- the column of the mark of this place, counted from 0, and the last one
 abbrev pub column_or : Option Column → Column
@@ -74,9 +91,9 @@ band_top n band = 44 + band * band_height n
 abbrev pub band_foot : ℕ → ℕ → ℕ
 band_foot n band = band_top n band + 92 * n
 
--- the lane of process `p`
+-- a lane, by how many stand above it
 abbrev pub lane_y : ℕ → ℕ → ℕ → ℕ
-lane_y n band p = band_top n band + 52 + 92 * p
+lane_y n band lane = band_top n band + 52 + 92 * lane
 
 -- below the lanes of a band: the order of tickets, and the number of the step
 abbrev pub order_y : ℕ → ℕ → ℕ
@@ -91,9 +108,9 @@ above_y n band = band_top n band - 3
 
 -- below the words of a mark: from which step of an earlier band its value is
 abbrev pub from_y : ℕ → ℕ → ℕ → ℕ
-from_y n band p = lane_y n band p + 33
+from_y n band lane = lane_y n band lane + 33
 
--- The lane above which an arrow from process `q` to process `p` goes, on the side from which it comes; and how far above
+-- The lane above which an arrow from lane `q` to lane `p` goes, on the side from which it comes; and how far above
 -- it. There are six tracks, by the place of the put.
 abbrev pub track_lane : ℕ → ℕ → ℕ
 track_lane q p = if nat_lt p q then p + 1 else p
@@ -101,11 +118,11 @@ track_lane q p = if nat_lt p q then p + 1 else p
 abbrev pub track_y : ℕ → ℕ → ℕ → ℕ → ℕ
 track_y n band lane from = lane_y n band lane - (32 + 3 * (from % 6))
 
--- the height at which an arrow goes from the put of process `q`, the mark of this place, to the get of process `p` in another
--- column: a track, or the lane of the get where that is the next column
-abbrev pub way_y : ℕ → ℕ → Column → ℕ → Column → ℕ → ℕ
-way_y n from c q d p =
-    if left_x d == end_x c then lane_y n c.band p else track_y n c.band (track_lane q p) from
+-- the height at which an arrow goes from the put of this place, in its column, to the get in another: a track, or the lane of the
+-- get where that is the next column
+abbrev pub way_y : ℕ → ℕ → Column → Column → ℕ
+way_y n from c d =
+    if left_x d == end_x c then lane_y n c.band d.lane else track_y n c.band (track_lane c.lane d.lane) from
 
 -- half the width of so many letters
 abbrev pub letters_half : ℕ → ℕ
@@ -122,6 +139,12 @@ flag_width letters = 14 + 7 * letters
 abbrev pub flag_middle : ℕ → ℕ
 flag_middle letters = 5 + (7 * letters) / 2
 
--- as high as all bands, and the legend below them
-abbrev pub page_height : ℕ → ℕ → ℕ
-page_height n last = band_top n (last + 1) + 68
+-- as high as all bands, and the legend below them, which a narrow page has in more lines
+abbrev pub is_narrow : ℕ → Bool
+is_narrow width = nat_lt width 1000
+
+abbrev pub legend_height : ℕ → ℕ
+legend_height width = if is_narrow width then 168 else 68
+
+abbrev pub page_height : ℕ → ℕ → ℕ → ℕ
+page_height n last width = band_top n (last + 1) + legend_height width

@@ -5,6 +5,7 @@ pub mod Writing
 pub mod Layout
 pub mod Colours
 pub mod Shapes
+pub mod Chosen
 pub mod Columns
 pub mod Lanes
 pub mod Orders

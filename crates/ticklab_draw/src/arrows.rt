@@ -5,6 +5,7 @@ ghost use Rattle.ticklab_draw.specs.Steps.{step_text};
 
 use crate::columns::Column;
 use crate::layout::{column_at, from_y, in_x, lane_y, leave_x, out_x, reach_x, way_y};
+use crate::look::{Look, is_chosen};
 use crate::mark::{Mark, Sight};
 use crate::writing::{Added, push_one, push_two};
 
@@ -18,42 +19,53 @@ pub fn read_from(sight: Sight) -> Option<usize>
     }
 }
 
-/// Adds the arrow to a get of process `p` in its column from the put of this place, where one is read.
+/// Adds the arrow to a get in its column from the put of this place, where one is read.
 pub fn push_arrow(
     out: &mut Vec<u8>,
+    look: Look,
     n: u8,
     columns: &[Column],
     column: Column,
-    p: u8,
     marks: &[Mark],
     place: Option<usize>,
 ) -> Added
-    ensures { OnOk result (out.new.items ≡ out.old.items ++ arrow_by n columns.now column p marks.now place) }
+    ensures { OnOk result (out.new.items ≡ out.old.items ++ arrow_by look n columns.now column marks.now place) }
 {
     match place {
-        Some(from) => push_arrow_of(out, n, columns, column, p, from, marks.get(from).copied()),
+        Some(from) => push_arrow_of(
+            out,
+            look,
+            n,
+            columns,
+            column,
+            from,
+            marks.get(from).copied(),
+        ),
         None => Ok(()),
     }
 }
 
 fn push_arrow_of(
     out: &mut Vec<u8>,
+    look: Look,
     n: u8,
     columns: &[Column],
     column: Column,
-    p: u8,
     from: usize,
     found: Option<Mark>,
 ) -> Added
-    ensures { OnOk result (out.new.items ≡ out.old.items ++ arrow_of n columns.now column p from found) }
+    ensures { OnOk result (out.new.items ≡ out.old.items ++ arrow_of look n columns.now column from found) }
 {
     match found {
-        Some(put) => push_arrow_from(out, n, from, column_at(columns, from), column, p, &put),
+        Some(put) if is_chosen(look, &put) => {
+            push_arrow_from(out, n, from, column_at(columns, from), column, put.step)
+        }
+        Some(put) => push_from(out, n, column, put.step),
         None => Ok(()),
     }
 }
 
-// To the get of process `p` in its column from the put in that of another place.
+// To the get in its column from the put of a step, in that of another place.
 #[tactic(auto, unfolding(crate::specs::Arrows::arrow_from))]
 fn push_arrow_from(
     out: &mut Vec<u8>,
@@ -61,43 +73,35 @@ fn push_arrow_from(
     from: usize,
     start: Column,
     column: Column,
-    p: u8,
-    put: &Mark,
+    step: usize,
 ) -> Added
-    ensures { OnOk result (out.new.items ≡ out.old.items ++ arrow_from n from start column p put.now) }
+    ensures { OnOk result (out.new.items ≡ out.old.items ++ arrow_from n from start column step) }
 {
     if start.band == column.band {
-        push_route(out, n, from, start, put.process, column, p)
+        push_route(out, n, from, start, column)
     } else {
-        push_from(out, n, column, p, put.step)
+        push_from(out, n, column, step)
     }
 }
 
-// What stands for it at a get whose put is of an earlier band.
+// What stands for it at a get whose put is of an earlier band, or isn't shown.
 #[tactic(auto, unfolding(crate::specs::Arrows::from_text))]
-fn push_from(out: &mut Vec<u8>, n: u8, column: Column, p: u8, step: usize) -> Added
-    ensures { OnOk result (out.new.items ≡ out.old.items ++ from_text n column p step) }
+fn push_from(out: &mut Vec<u8>, n: u8, column: Column, step: usize) -> Added
+    ensures { OnOk result (out.new.items ≡ out.old.items ++ from_text n column step) }
 {
-    let y = from_y(n, column.band, p);
+    let y = from_y(n, column.band, column.lane);
     push_step(out, u64::from(column.x), y, "from step ", step)
 }
 
 // Within a band: out of the sign into the gutter behind its column, there to the height of the way, along it to
 // the gutter before the get, there to the lane, and to the sign.
 #[tactic(auto, unfolding(crate::specs::Arrows::route_text))]
-fn push_route(
-    out: &mut Vec<u8>,
-    n: u8,
-    from: usize,
-    start: Column,
-    q: u8,
-    column: Column,
-    p: u8,
-) -> Added
-    ensures { OnOk result (out.new.items ≡ out.old.items ++ route_text n from start q column p) }
+fn push_route(out: &mut Vec<u8>, n: u8, from: usize, start: Column, column: Column) -> Added
+    ensures { OnOk result (out.new.items ≡ out.old.items ++ route_text n from start column) }
 {
-    let (y, end) = (lane_y(n, start.band, q), lane_y(n, start.band, p));
-    let way = way_y(n, from, start, q, column, p);
+    let y = lane_y(n, start.band, start.lane);
+    let end = lane_y(n, start.band, column.lane);
+    let way = way_y(n, from, start, column);
     push_two(
         out,
         "<path class=\"arrow\" d=\"M",

@@ -1,10 +1,11 @@
 // The columns of marks, each as wide as its sign and all its texts.
-ghost use Rattle.std.specs.Prelude.{◌≡◌, ◌<◌, ◌≤◌, ◌^◌, IfOk};
-ghost use Rattle.ticklab_draw.specs.Columns.{below_letters, columns, foot_letters, half_of, read_letters, seen_letters, shape_half, sign_half};
+ghost use Rattle.std.specs.Prelude.{◌≡◌, ◌<◌, ◌≤◌, ◌+◌, ◌-◌, ◌^◌, IfOk};
+ghost use Rattle.ticklab_draw.specs.Columns.{below_letters, column_of, columns, foot_letters, half_of, read_letters, seen_letters, shape_half, sign_half};
 ghost use Rattle.ticklab_draw.specs.Words.{names};
 
 use crate::beside::beside;
-use crate::layout::{EDGE, field_half, flag_width, letters_half, next_column};
+use crate::layout::{EDGE, band_end, field_half, flag_width, letters_half, next_column};
+use crate::look::{Look, is_chosen, lane_of};
 use crate::mark::{Mark, Sight};
 use crate::shapes::{Shape, shape_of};
 use crate::words::Cast;
@@ -12,25 +13,57 @@ use crate::writing::digits;
 use base::Act;
 use std::alloc::{AllocError, Global};
 
-/// Where the column of a mark stands: in which band, its middle, and how far it reaches on each side.
+/// Where the column of a mark stands: in which band, its middle, how far it reaches on each side, and in which lane its
+/// sign is.
 #[derive(Clone, Copy)]
 pub struct Column {
     pub band: usize,
     pub x: u16,
     pub half: u16,
+    pub lane: u8,
 }
 
 /// A column for each mark.
-pub fn columns(alloc: Global, cast: Cast<'_>, marks: &[Mark]) -> Result<Vec<Column>, AllocError>
-    ensures { IfOk result (λ found. found.items ≡ columns cast.entry.processes (names cast.entry.registers.now) marks.now) }
+pub fn columns(
+    alloc: Global,
+    look: Look,
+    cast: Cast<'_>,
+    lanes: &[bool],
+    marks: &[Mark],
+) -> Result<Vec<Column>, AllocError>
+    ensures { IfOk result (λ found. found.items ≡ columns look cast.entry.processes (names cast.entry.registers.now) lanes.now marks.now) }
 {
     let mut found = Vec::new(alloc);
     let mut last = EDGE;
     for mark in marks {
-        last = next_column(last, half_of(alloc, cast, mark)?);
+        last = column_of(alloc, look, cast, lanes, last, mark)?;
         found.push(last)?;
     }
     Ok(found)
+}
+
+// The column of a mark behind the last one. One that isn't shown has none of its own.
+fn column_of(
+    alloc: Global,
+    look: Look,
+    cast: Cast<'_>,
+    lanes: &[bool],
+    last: Column,
+    mark: &Mark,
+) -> Result<Column, AllocError>
+    requires right { last.x + last.half ≤ 20000 }
+    requires few { last.band < 2 ^ 64 - 1 }
+    ensures column { IfOk result (λ column. column ≡ column_of look cast.entry.processes (names cast.entry.registers.now) lanes.now last mark.now) }
+    ensures right { IfOk result (λ column. column.x + column.half ≤ 20000) }
+    ensures few { IfOk result (λ column. column.band ≤ last.band + 1) }
+{
+    if is_chosen(look, mark) {
+        let half = half_of(alloc, cast, mark)?;
+        let lane = lane_of(lanes, mark.process);
+        Ok(next_column(band_end(look.width), lane, last, half))
+    } else {
+        Ok(last)
+    }
 }
 
 // Half the width of all that stands in the column of a mark: so small that a band has room for it.

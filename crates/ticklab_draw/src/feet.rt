@@ -7,23 +7,26 @@ use crate::arrows::{push_arrow, push_step, read_from};
 use crate::colours::{push_colour, push_stroke};
 use crate::columns::Column;
 use crate::layout::{band_foot, band_top, column_at, order_y, step_y};
+use crate::look::{Look, is_chosen};
 use crate::mark::{Holdings, Mark, Sight};
 use crate::orders::{holders, push_order_words};
 use crate::writing::{Added, push, push_one, push_two};
 use std::alloc::Global;
 
-/// Adds what stands below the lanes for each of these marks, which have these columns.
+/// Adds what stands below the lanes for each of these marks that is shown, which have these columns.
 pub fn push_feet(
     alloc: Global,
     out: &mut Vec<u8>,
+    look: Look,
     n: u8,
     columns: &[Column],
     marks: &[Mark],
 ) -> Added
-    ensures { OnOk result (out.new.items ≡ out.old.items ++ feet_text n columns.now marks.now 0 marks.now) }
+    ensures { OnOk result (out.new.items ≡ out.old.items ++ feet_text look n columns.now marks.now 0 marks.now) }
 {
     for (at, mark) in marks.iter().enumerate() {
-        push_foot(alloc, out, n, columns, column_at(columns, at), mark, marks)?;
+        let column = column_at(columns, at);
+        push_foot(alloc, out, look, n, columns, column, mark, marks)?;
     }
     Ok(())
 }
@@ -32,19 +35,23 @@ pub fn push_feet(
 fn push_foot(
     alloc: Global,
     out: &mut Vec<u8>,
+    look: Look,
     n: u8,
     columns: &[Column],
     column: Column,
     mark: &Mark,
     marks: &[Mark],
 ) -> Added
-    ensures { OnOk result (out.new.items ≡ out.old.items ++ foot_text n columns.now column mark.now marks.now) }
+    ensures { OnOk result (out.new.items ≡ out.old.items ++ foot_text look n columns.now column mark.now marks.now) }
 {
+    if !is_chosen(look, mark) {
+        return Ok(());
+    }
     let (x, y) = (u64::from(column.x), step_y(n, column.band));
     push_step(out, x, y, "", mark.step)?;
     push_change(alloc, out, n, column, mark.process, mark.sight)?;
     let place = read_from(mark.sight);
-    push_arrow(out, n, columns, column, mark.process, marks, place)
+    push_arrow(out, look, n, columns, column, marks, place)
 }
 
 fn push_change(

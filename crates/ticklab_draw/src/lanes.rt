@@ -1,54 +1,70 @@
 // The lanes of all bands, and how each process ended.
-ghost use Rattle.std.specs.Prelude.{◌≡◌, ◌==◌, ◌++◌, ◌<◌, ◌^◌, [], OnOk, if◌then◌else◌};
+ghost use Rattle.std.specs.Prelude.{◌≡◌, ◌==◌, ◌++◌, ◌+◌, ◌<◌, ◌^◌, [], OnOk, if◌then◌else◌};
+ghost use Rattle.ticklab_draw.specs.Chosen.{is_lane, lane_of};
+ghost use Rattle.ticklab_draw.specs.Layout.{beside_x, end_x, lane_y};
 ghost use Rattle.ticklab_draw.specs.Lanes.{band_text, bands_text, caption, end_of, end_style, end_text, end_words, ended, ended_by, ends_text, lane_line, lane_name, lane_text, lanes_text};
 
 use crate::colours::{push_colour, push_stroke};
 use crate::columns::Column;
 use crate::layout::{EDGE, beside_x, end_x, lane_y, order_y, step_y};
+use crate::look::{is_lane, lane_of};
 use crate::mark::{Mark, Sight};
 use crate::writing::{Added, push, push_one, push_two};
 use base::{Act, Status};
 use tick_play::trap_name;
 
 /// Adds the bands of these columns.
-pub fn push_bands(out: &mut Vec<u8>, n: u8, columns: &[Column]) -> Added
-    ensures { OnOk result (out.new.items ≡ out.old.items ++ bands_text n columns.now) }
+pub fn push_bands(out: &mut Vec<u8>, lanes: &[bool], n: u8, columns: &[Column]) -> Added
+    ensures { OnOk result (out.new.items ≡ out.old.items ++ bands_text lanes.now n columns.now) }
 {
     let mut last = EDGE;
     for &column in columns {
-        push_ended_band(out, n, last, column)?;
+        push_ended_band(out, lanes, n, last, column)?;
         last = column;
     }
-    push_band(out, n, last)
+    push_band(out, lanes, n, last)
 }
 
 // The band that ends with a column, where the next one is of another.
-fn push_ended_band(out: &mut Vec<u8>, n: u8, last: Column, next: Column) -> Added
-    ensures { OnOk result (out.new.items ≡ out.old.items ++ (if last.band == next.band then [] else band_text n last)) }
+fn push_ended_band(out: &mut Vec<u8>, lanes: &[bool], n: u8, last: Column, next: Column) -> Added
+    ensures { OnOk result (out.new.items ≡ out.old.items ++ (if last.band == next.band then [] else band_text lanes.now n last)) }
 {
     if last.band == next.band {
         Ok(())
     } else {
-        push_band(out, n, last)
+        push_band(out, lanes, n, last)
     }
 }
 
 #[tactic(auto, unfolding(crate::specs::Lanes::band_text))]
-fn push_band(out: &mut Vec<u8>, n: u8, last: Column) -> Added
-    ensures { OnOk result (out.new.items ≡ out.old.items ++ band_text n last) }
+fn push_band(out: &mut Vec<u8>, lanes: &[bool], n: u8, last: Column) -> Added
+    ensures { OnOk result (out.new.items ≡ out.old.items ++ band_text lanes.now n last) }
 {
-    push_lanes(out, n, last)?;
-    push_caption(out, order_y(n, last.band), "order")?;
-    push_caption(out, step_y(n, last.band), "step")
+    let count = lane_of(lanes, n);
+    push_lanes(out, lanes, n, last)?;
+    push_caption(out, order_y(count, last.band), "order")?;
+    push_caption(out, step_y(count, last.band), "step")
 }
 
-fn push_lanes(out: &mut Vec<u8>, n: u8, last: Column) -> Added
-    ensures { OnOk result (out.new.items ≡ out.old.items ++ lanes_text n last n) }
+fn push_lanes(out: &mut Vec<u8>, lanes: &[bool], n: u8, last: Column) -> Added
+    ensures { OnOk result (out.new.items ≡ out.old.items ++ lanes_text lanes.now n last n) }
 {
+    let count = lane_of(lanes, n);
     for p in 0..n {
-        push_lane(out, lane_y(n, last.band, p), end_x(last), p)?;
+        push_if_lane(out, lanes, count, last, p)?;
     }
     Ok(())
+}
+
+fn push_if_lane(out: &mut Vec<u8>, lanes: &[bool], count: u8, last: Column, p: u8) -> Added
+    ensures { OnOk result (out.new.items ≡ out.old.items ++ (if is_lane lanes.now p then lane_text (lane_y count last.band (lane_of lanes.now p)) (end_x last) p else [])) }
+{
+    if is_lane(lanes, p) {
+        let y = lane_y(count, last.band, lane_of(lanes, p));
+        push_lane(out, y, end_x(last), p)
+    } else {
+        Ok(())
+    }
 }
 
 #[tactic(auto, unfolding(crate::specs::Lanes::lane_text))]
@@ -88,15 +104,33 @@ pub fn push_caption(out: &mut Vec<u8>, y: u128, words: &str) -> Added
     push(out, "</text>\n")
 }
 
-/// Adds how each process stands after these marks, beside its lane, which ends with this column.
-pub fn push_ends(out: &mut Vec<u8>, n: u8, last: Column, marks: &[Mark]) -> Added
-    ensures { OnOk result (out.new.items ≡ out.old.items ++ ends_text n last marks.now n) }
+/// Adds how each process that has a lane stands after these marks, beside it; it ends with this column.
+pub fn push_ends(out: &mut Vec<u8>, lanes: &[bool], n: u8, last: Column, marks: &[Mark]) -> Added
+    ensures { OnOk result (out.new.items ≡ out.old.items ++ ends_text lanes.now n last marks.now n) }
 {
+    let count = lane_of(lanes, n);
     for p in 0..n {
-        let y = lane_y(n, last.band, p) + 4;
-        push_end(out, beside_x(last), y, end_of(p, marks))?;
+        push_if_end(out, lanes, count, last, marks, p)?;
     }
     Ok(())
+}
+
+fn push_if_end(
+    out: &mut Vec<u8>,
+    lanes: &[bool],
+    count: u8,
+    last: Column,
+    marks: &[Mark],
+    p: u8,
+) -> Added
+    ensures { OnOk result (out.new.items ≡ out.old.items ++ (if is_lane lanes.now p then end_text (beside_x last) (lane_y count last.band (lane_of lanes.now p) + 4) (end_of p marks.now) else [])) }
+{
+    if is_lane(lanes, p) {
+        let y = lane_y(count, last.band, lane_of(lanes, p)) + 4;
+        push_end(out, beside_x(last), y, end_of(p, marks))
+    } else {
+        Ok(())
+    }
 }
 
 fn end_of(p: u8, marks: &[Mark]) -> Status

@@ -1,6 +1,6 @@
 // Where things stand on the page. Bands of columns stand one below the other, each with all lanes.
 ghost use Rattle.std.specs.Prelude.{◌≡◌, ◌*◌, ◌+◌, ◌-◌, ◌<◌, ◌≤◌, ◌^◌};
-ghost use Rattle.ticklab_draw.specs.Layout.{above_y, band_foot, band_height, band_top, behind_x, beside_x, column_at, column_behind, edge, end_x, field_half, flag_middle, flag_width, from_y, in_x, lane_y, last_column, leave_x, left_x, letters_half, next_column, order_y, out_x, page_height, reach_x, right_x, step_y, track_lane, track_y, way_y};
+ghost use Rattle.ticklab_draw.specs.Layout.{above_y, band_end, band_foot, band_height, band_top, behind_x, beside_x, column_at, column_behind, edge, end_x, field_half, flag_middle, flag_width, from_y, in_x, is_narrow, lane_y, last_column, leave_x, left_x, legend_height, letters_half, next_column, order_y, out_x, page_height, page_least, page_width, reach_x, right_x, step_y, track_lane, track_y, way_y};
 
 use crate::columns::Column;
 
@@ -9,34 +9,69 @@ pub const EDGE: Column = Column {
     band: 0,
     x: 50,
     half: 0,
+    lane: 0,
 };
 
-// How far a band reaches at most, and how wide a gutter between two columns is.
-const BAND_END: u16 = 880;
-
+// How wide a gutter between two columns is.
 const GUTTER: u16 = 14;
 
-/// The column behind another, so wide on each side: in the same band where it ends there.
-pub fn next_column(column: Column, half: u16) -> Column
-    requires right { column.x + column.half ≤ 880 }
+// How much of a page stands beside its bands.
+const BESIDE: u32 = 120;
+
+// A page is so wide at least that is to have this width.
+fn page_least(width: u32) -> u32
+    ensures least { result ≡ page_least width }
+    ensures low { 300 ≤ result }
+    ensures high { result ≤ 20000 }
+{
+    width.max(300).min(20_000)
+}
+
+/// How far the bands of a page reach that is to have this width.
+pub fn band_end(width: u32) -> u16
+    ensures end { result ≡ band_end width }
+    ensures high { result ≤ 19880 }
+{
+    (page_least(width) - BESIDE) as u16
+}
+
+/// How wide the page with these columns is that is to have this width.
+pub fn page_width(width: u32, columns: &[Column]) -> u64
+    ensures { result ≡ page_width width columns.now }
+{
+    let mut wide = u64::from(page_least(width));
+    for &column in columns {
+        wide = wide.max(right_x(column) + u64::from(BESIDE));
+    }
+    wide
+}
+
+/// The column behind another, in this lane, so wide on each side: in the same band where it ends there, or where that has
+/// none yet.
+pub fn next_column(end: u16, lane: u8, column: Column, half: u16) -> Column
+    requires end { end ≤ 19880 }
+    requires right { column.x + column.half ≤ 20000 }
     requires wide { half ≤ 380 }
     requires few { column.band < 2 ^ 64 - 1 }
-    ensures next { result ≡ next_column column half }
-    ensures right { result.x + result.half ≤ 880 }
+    ensures next { result ≡ next_column end lane column half }
+    ensures right { result.x + result.half ≤ 20000 }
     ensures few { result.band ≤ column.band + 1 }
 {
-    let left = column.x + column.half + GUTTER;
-    if BAND_END < left + 2 * half {
+    let right = column.x + column.half;
+    let left = right + GUTTER;
+    if EDGE.x < right && end < left + 2 * half {
         Column {
             band: column.band + 1,
             x: EDGE.x + GUTTER + half,
             half,
+            lane,
         }
     } else {
         Column {
             band: column.band,
             x: left + half,
             half,
+            lane,
         }
     }
 }
@@ -131,13 +166,13 @@ pub fn reach_x(column: Column) -> u64
     u64::from(column.x).saturating_sub(9)
 }
 
-/// How far from the top the lane of process `p` of `n` stands in a band.
-pub fn lane_y(n: u8, band: usize, p: u8) -> u128
-    ensures place { result ≡ lane_y n band p }
+/// How far from the top a lane of `n` stands in a band, by how many stand above it.
+pub fn lane_y(n: u8, band: usize, lane: u8) -> u128
+    ensures place { result ≡ lane_y n band lane }
     ensures high { 90 < result }
     ensures low { result < 2 ^ 90 }
 {
-    lane_from(n, band, u128::from(p))
+    lane_from(n, band, u128::from(lane))
 }
 
 // The same of a lane that may be the one below the last.
@@ -195,23 +230,22 @@ pub fn above_y(n: u8, band: usize) -> u128
     band_top(n, band) - 3
 }
 
-/// How far from the top it stands of which step of an earlier band the value is that process `p` reads.
-pub fn from_y(n: u8, band: usize, p: u8) -> u128
-    ensures { result ≡ from_y n band p }
+/// How far from the top it stands of which step the value is that is read in a lane.
+pub fn from_y(n: u8, band: usize, lane: u8) -> u128
+    ensures { result ≡ from_y n band lane }
 {
-    lane_y(n, band, p) + 33
+    lane_y(n, band, lane) + 33
 }
 
-/// How far from the top an arrow goes that leads from the put of process `q`, at its place and column, to the get of
-/// process `p` in another column.
-pub fn way_y(n: u8, from: usize, start: Column, q: u8, column: Column, p: u8) -> u128
-    ensures way { result ≡ way_y n from start q column p }
+/// How far from the top an arrow goes that leads from a put, at its place and column, to a get in another column.
+pub fn way_y(n: u8, from: usize, start: Column, column: Column) -> u128
+    ensures way { result ≡ way_y n from start column }
     ensures low { result < 2 ^ 90 }
 {
     if left_x(column) == end_x(start) {
-        lane_y(n, start.band, p)
+        lane_y(n, start.band, column.lane)
     } else {
-        track_y(n, start.band, q, p, from)
+        track_y(n, start.band, start.lane, column.lane, from)
     }
 }
 
@@ -264,9 +298,24 @@ pub fn flag_middle(letters: usize) -> u128
     5 + 7 * letters as u128 / 2
 }
 
-/// As high as all bands up to the last, and the legend below them.
-pub fn page_height(n: u8, last: usize) -> u128
-    ensures { result ≡ page_height n last }
+/// Whether a page of this width has the legend in more lines.
+pub fn is_narrow(width: u64) -> bool
+    ensures { result ≡ is_narrow width }
 {
-    44 + (last as u128 + 1) * band_height(n) + 68
+    width < 1000
+}
+
+fn legend_height(width: u64) -> u128
+    ensures height { result ≡ legend_height width }
+    ensures low { result ≤ 168 }
+{
+    if is_narrow(width) { 168 } else { 68 }
+}
+
+/// As high as all bands up to the last, and the legend below them.
+pub fn page_height(n: u8, last: usize, width: u64) -> u128
+    ensures height { result ≡ page_height n last width }
+    ensures low { result < 2 ^ 90 }
+{
+    44 + (last as u128 + 1) * band_height(n) + legend_height(width)
 }

@@ -17,6 +17,7 @@ mod lanes;
 pub mod laws;
 mod layout;
 mod legend;
+mod look;
 pub mod mark;
 mod marking;
 mod never;
@@ -30,7 +31,8 @@ mod writing;
 
 pub use base::{NoMemory, Trap};
 pub use labels::{Frame, MOST_MOVES, frames, write_frames};
+pub use look::Look;
 pub use mark::{Holdings, Mark, Sight};
 pub use never::NeverMark;
-pub use page::picture;
+pub use page::{file_name, picture};
 pub use run::{code_marks, marks};

@@ -8,8 +8,9 @@ use crate::colours::push_colour;
 use crate::columns::{Column, columns};
 use crate::feet::push_feet;
 use crate::lanes::{push_bands, push_ends};
-use crate::layout::{column_at, lane_y, last_column, page_height};
+use crate::layout::{column_at, lane_y, last_column, page_height, page_width};
 use crate::legend::push_legend;
+use crate::look::{Look, chosen_count, is_chosen, lane_of, lanes};
 use crate::mark::Mark;
 use crate::never::{NeverMark, push_never};
 use crate::shapes::push_drawn;
@@ -20,94 +21,111 @@ use base::NoMemory;
 use base::tree::Named;
 use std::alloc::Global;
 
-/// The marks of a run of `processes` processes as SVG. Rows of registers have these names, and `r` with
-/// its number where there is none. The title is read out, and what it has behind its last `/` stands above the picture.
-/// What must never hold has a mark where it does.
+/// Those of the marks of a run of `processes` processes that are shown, as SVG. Rows of registers have these names, and
+/// `r` with its number where there is none. What must never hold has a mark where it does.
 #[tactic(auto, unfolding(crate::specs::Pictures::picture))]
 pub fn picture(
     alloc: Global,
-    title: &str,
+    title: &[u8],
+    look: Look,
     processes: u8,
     registers: &[Named],
     marks: &[Mark],
     never: Option<NeverMark<'_>>,
 ) -> Result<Vec<u8>, NoMemory>
-    ensures { IfOk result (λ text. text.items ≡ picture title.now processes (names registers.now) marks.now (option_map broken_of never.entry)) }
+    ensures { IfOk result (λ text. text.items ≡ picture title.now look processes (names registers.now) marks.now (option_map broken_of never.entry)) }
 {
     let cast = Cast {
         processes,
         registers,
     };
-    let columns = columns(alloc, cast, marks)?;
+    let lanes = lanes(alloc, look, marks, processes)?;
+    let columns = columns(alloc, look, cast, &lanes, marks)?;
     let mut out = Vec::new(alloc);
-    push_picture(alloc, &mut out, &columns, title, cast, marks, never)?;
+    push_picture(
+        alloc, &mut out, &lanes, &columns, title, look, cast, marks, never,
+    )?;
     Ok(out)
 }
 
-// The picture in these columns.
+// The picture in these lanes and columns.
 #[tactic(auto, unfolding(crate::specs::Pictures::picture_in))]
 fn push_picture(
     alloc: Global,
     out: &mut Vec<u8>,
+    lanes: &[bool],
     columns: &[Column],
-    title: &str,
+    title: &[u8],
+    look: Look,
     cast: Cast<'_>,
     marks: &[Mark],
     never: Option<NeverMark<'_>>,
 ) -> Added
-    ensures { OnOk result (out.new.items ≡ out.old.items ++ picture_in columns.now title.now cast.entry.processes (names cast.entry.registers.now) marks.now (option_map broken_of never.entry)) }
+    ensures { OnOk result (out.new.items ≡ out.old.items ++ picture_in lanes.now columns.now title.now look cast.entry.processes (names cast.entry.registers.now) marks.now (option_map broken_of never.entry)) }
 {
     let (n, last) = (cast.processes, last_column(columns).band);
-    push_page(out, title, n, last, marks.len())?;
+    let count = lane_of(lanes, n);
+    let width = page_width(look.width, columns);
+    let height = page_height(count, last, width);
+    push_page(out, title, width, height, n, chosen_count(look, marks))?;
     push_heading(out, title)?;
-    push_never(out, n, columns, marks, never)?;
-    push_under(alloc, out, n, columns, marks)?;
-    push_groups(alloc, out, cast, columns, marks)?;
-    push_legend(out, n, last)
+    push_never(out, count, columns, marks, never)?;
+    push_under(alloc, out, look, lanes, n, columns, marks)?;
+    push_groups(alloc, out, look, count, cast, columns, marks)?;
+    push_legend(out, count, last, width)
 }
 
 // The page, its title and what it is of, for who sees it and for who has it read out.
 #[tactic(auto, unfolding(crate::specs::Pictures::page_head))]
-fn push_page(out: &mut Vec<u8>, title: &str, n: u8, last: usize, count: usize) -> Added
-    ensures { OnOk result (out.new.items ≡ out.old.items ++ page_head title.now n last count) }
+fn push_page(
+    out: &mut Vec<u8>,
+    title: &[u8],
+    width: u64,
+    height: u128,
+    n: u8,
+    count: usize,
+) -> Added
+    ensures { OnOk result (out.new.items ≡ out.old.items ++ page_head title.now width height n count) }
 {
-    push_size(out, page_height(n, last))?;
+    push_size(out, width, height)?;
     push_title(out, title)?;
     push_about(out, n, count)
 }
 
 #[tactic(auto, unfolding(crate::specs::Pictures::page_size))]
-fn push_size(out: &mut Vec<u8>, height: u128) -> Added
-    ensures { OnOk result (out.new.items ≡ out.old.items ++ page_size height) }
+fn push_size(out: &mut Vec<u8>, width: u64, height: u128) -> Added
+    ensures { OnOk result (out.new.items ≡ out.old.items ++ page_size width height) }
 {
-    push_page_element(out, height)?;
-    push_page_view(out, height)
+    push_page_element(out, width, height)?;
+    push_page_view(out, width, height)
 }
 
 #[tactic(auto, unfolding(crate::specs::Pictures::page_element))]
-fn push_page_element(out: &mut Vec<u8>, height: u128) -> Added
-    ensures { OnOk result (out.new.items ≡ out.old.items ++ page_element height) }
+fn push_page_element(out: &mut Vec<u8>, width: u64, height: u128) -> Added
+    ensures { OnOk result (out.new.items ≡ out.old.items ++ page_element width height) }
 {
-    push_one(
+    push_two(
         out,
-        "<svg xmlns=\"http://www.w3.org/2000/svg\" role=\"img\" aria-labelledby=\"title about\" width=\"1000\" height=\"",
+        "<svg xmlns=\"http://www.w3.org/2000/svg\" role=\"img\" aria-labelledby=\"title about\" width=\"",
+        width,
+        "\" height=\"",
         height,
         "\"",
     )
 }
 
 #[tactic(auto, unfolding(crate::specs::Pictures::page_view))]
-fn push_page_view(out: &mut Vec<u8>, height: u128) -> Added
-    ensures { OnOk result (out.new.items ≡ out.old.items ++ page_view height) }
+fn push_page_view(out: &mut Vec<u8>, width: u64, height: u128) -> Added
+    ensures { OnOk result (out.new.items ≡ out.old.items ++ page_view width height) }
 {
-    push_one(out, " viewBox=\"0 0 1000 ", height, "\">\n")
+    push_two(out, " viewBox=\"0 0 ", width, " ", height, "\">\n")
 }
 
 #[tactic(auto, unfolding(crate::specs::Pictures::title_element))]
-fn push_title(out: &mut Vec<u8>, title: &str) -> Added
+fn push_title(out: &mut Vec<u8>, title: &[u8]) -> Added
     ensures { OnOk result (out.new.items ≡ out.old.items ++ title_element title.now) }
 {
-    push_titled(out, "<title id=\"title\">", title.as_bytes(), "</title>\n")
+    push_titled(out, "<title id=\"title\">", title, "</title>\n")
 }
 
 // The title between pieces of markup.
@@ -134,20 +152,20 @@ fn push_about(out: &mut Vec<u8>, n: u8, count: usize) -> Added
     )
 }
 
-// The style; and the last part of the title, which is seen.
+// The style; and the title, which is seen.
 #[tactic(auto, unfolding(crate::specs::Pictures::heading))]
-fn push_heading(out: &mut Vec<u8>, title: &str) -> Added
+fn push_heading(out: &mut Vec<u8>, title: &[u8]) -> Added
     ensures { OnOk result (out.new.items ≡ out.old.items ++ heading title.now) }
 {
     push(out, sheet())?;
     push(out, backdrop())?;
     let before = "<text class=\"title\" x=\"16\" y=\"26\">";
-    push_titled(out, before, file_name(title.as_bytes()), "</text>\n")
+    push_titled(out, before, title, "</text>\n")
 }
 
-// The last part of a path.
+/// The last part of a path, the name of its file.
 #[tactic(auto, unfolding(crate::specs::Pictures::file_name))]
-fn file_name(path: &[u8]) -> &[u8]
+pub fn file_name(path: &[u8]) -> &[u8]
     ensures { result.now ≡ file_name path.now }
 {
     let mut start = 0;
@@ -161,43 +179,59 @@ fn file_name(path: &[u8]) -> &[u8]
 
 // What stands under the marks: lanes, how each process ended, and steps, orders and arrows.
 #[tactic(auto, unfolding(crate::specs::Pictures::under_text))]
-fn push_under(alloc: Global, out: &mut Vec<u8>, n: u8, columns: &[Column], marks: &[Mark]) -> Added
-    ensures { OnOk result (out.new.items ≡ out.old.items ++ under_text n columns.now marks.now) }
+fn push_under(
+    alloc: Global,
+    out: &mut Vec<u8>,
+    look: Look,
+    lanes: &[bool],
+    n: u8,
+    columns: &[Column],
+    marks: &[Mark],
+) -> Added
+    ensures { OnOk result (out.new.items ≡ out.old.items ++ under_text look lanes.now n columns.now marks.now) }
 {
-    push_bands(out, n, columns)?;
-    push_ends(out, n, last_column(columns), marks)?;
-    push_feet(alloc, out, n, columns, marks)
+    push_bands(out, lanes, n, columns)?;
+    push_ends(out, lanes, n, last_column(columns), marks)?;
+    push_feet(alloc, out, look, lane_of(lanes, n), columns, marks)
 }
 
-// A group for each mark, in order.
+// A group for each mark that is shown, in order.
 fn push_groups(
     alloc: Global,
     out: &mut Vec<u8>,
+    look: Look,
+    count: u8,
     cast: Cast<'_>,
     columns: &[Column],
     marks: &[Mark],
 ) -> Added
-    ensures { OnOk result (out.new.items ≡ out.old.items ++ groups_text cast.entry.processes (names cast.entry.registers.now) columns.now 0 marks.now) }
+    ensures { OnOk result (out.new.items ≡ out.old.items ++ groups_text look count cast.entry.processes (names cast.entry.registers.now) columns.now 0 marks.now) }
 {
     for (at, mark) in marks.iter().enumerate() {
-        push_group(alloc, out, cast, column_at(columns, at), at, mark)?;
+        let column = column_at(columns, at);
+        push_group(alloc, out, look, count, cast, column, at, mark)?;
     }
     Ok(())
 }
 
-// A mark: where it stands, what it shows in words, and what is drawn of it.
+// A mark that is shown: where it stands, what it shows in words, and what is drawn of it.
 #[tactic(auto, unfolding(crate::specs::Pictures::group_text))]
 fn push_group(
     alloc: Global,
     out: &mut Vec<u8>,
+    look: Look,
+    count: u8,
     cast: Cast<'_>,
     column: Column,
     at: usize,
     mark: &Mark,
 ) -> Added
-    ensures { OnOk result (out.new.items ≡ out.old.items ++ group_text cast.entry.processes (names cast.entry.registers.now) column at mark.now) }
+    ensures { OnOk result (out.new.items ≡ out.old.items ++ group_text look count cast.entry.processes (names cast.entry.registers.now) column at mark.now) }
 {
-    push_group_head(out, cast.processes, column, at, mark.process)?;
+    if !is_chosen(look, mark) {
+        return Ok(());
+    }
+    push_group_head(out, count, column, at, mark.process)?;
     push_sentence(out, cast, mark)?;
     push(out, "</title>")?;
     push_drawn(alloc, out, cast, mark)?;
@@ -210,7 +244,8 @@ fn push_group_head(out: &mut Vec<u8>, n: u8, column: Column, at: usize, p: u8) -
 {
     push_group_name(out, at)?;
     push_colour(out, p)?;
-    push_group_place(out, u64::from(column.x), lane_y(n, column.band, p))
+    let y = lane_y(n, column.band, column.lane);
+    push_group_place(out, u64::from(column.x), y)
 }
 
 #[tactic(auto, unfolding(crate::specs::Pictures::group_name))]

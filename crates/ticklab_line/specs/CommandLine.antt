@@ -25,6 +25,10 @@ flag_rule name = record (new_rule name) { long = Some name; action = Some SetTru
 abbrev pub number_rule : Text → ValueParser → Rule
 number_rule name parser = record (new_rule name) { long = Some name; value_names = 1; parser = Some parser }
 
+-- `--name TEXT`
+abbrev pub text_rule : Text → Rule
+text_rule name = record (new_rule name) { long = Some name; value_names = 1 }
+
 -- `--name TEXT`, again and again
 abbrev pub repeated_rule : Text → Rule
 repeated_rule name = record (new_rule name) { long = Some name; value_names = 1; action = Some Append }

@@ -1,16 +1,17 @@
 -- Each command: what it takes, and what its words ask for.
-use Rattle.std.specs.Prelude.{ℕ, true, false, List, [], ◌∷◌, Option, Some, None, Vec, codes, bytes_eq, map}
+use Rattle.std.specs.Prelude.{ℕ, true, false, List, [], ◌∷◌, Option, Some, None, Vec, codes, bytes_eq, map, pos}
 use Rattle.std.specs.Prelude.{if◌then◌else◌, option_and_then, option_map}
 use Rattle.std.specs.Borrow.{Bor}
 use Rattle.std.specs.Global.{Global}
 use Rattle.std.specs.Option.{option_map_or}
 use Rattle.clap.specs.Walk.{Row, Text, all_of, first_of}
 use Rattle.clap.specs.Simple.{App, new_app, on_top, with_rule}
-use Rattle.clap.specs.declared.builder.value_parser.ValueParser.TheVariants.{Unsigned}
-use Rattle.ticklab_line.specs.CommandLine.{ends_rule, flag_rule, from_one_to, further_rule, number_rule, processes_rule, repeated_rule, threads_rule, up_to, with_app, with_file, word_rule}
+use Rattle.clap.specs.declared.builder.value_parser.ValueParser.TheVariants.{Signed, Unsigned}
+use Rattle.ticklab_line.specs.CommandLine.{ends_rule, flag_rule, from_one_to, further_rule, number_rule, processes_rule, repeated_rule, text_rule, threads_rule, up_to, with_app, with_file, word_rule}
 use Rattle.ticklab_line.specs.Found.{for_file, for_number, for_number_or, is_set, list_of, number_of, number_or}
 use Rattle.ticklab_line.specs.declared.commands.Steps.{Steps}
 use Rattle.ticklab_line.specs.declared.commands.Steps.TheVariants.{Merged, MergedFirst, Single}
+use Rattle.ticklab_line.specs.declared.commands.Drawing.{Drawing}
 use Rattle.ticklab_line.specs.declared.commands.Request.{Request}
 use Rattle.ticklab_line.specs.declared.commands.Request.TheVariants.{Explore, Ends, Lasso, Hunt, Runs, Trace, Draw, Explain, Labels}
 use Rattle.ticklab_line.specs.declared.commands.Side.{Side}
@@ -49,6 +50,14 @@ run_app name = with_rule (with_rule (with_rule (with_rule (with_file name) (word
     (flag_rule (codes "lift")))
     (repeated_rule (codes "never"))
 
+abbrev pub draw_app : App
+draw_app = with_rule (with_rule (with_rule (with_rule (with_rule (run_app (codes "draw"))
+    (text_rule (codes "title")))
+    (number_rule (codes "from") (from_one_to 10000000)))
+    (number_rule (codes "to") (from_one_to 10000000)))
+    (flag_rule (codes "shared")))
+    (number_rule (codes "width") (Signed (pos 300) (pos 20000)))
+
 abbrev pub explain_app : App
 explain_app = with_rule (with_file (codes "explain")) (further_rule (codes "schedule"))
 
@@ -62,7 +71,7 @@ command_wanted =
 
 abbrev pub ticklab : App
 ticklab = with_app (with_app (with_app (with_app (with_app (with_app (with_app command_wanted
-    explore_app) lasso_app) hunt_app) (run_app (codes "trace"))) (run_app (codes "draw"))) explain_app) labels_app
+    explore_app) lasso_app) hunt_app) (run_app (codes "trace"))) draw_app) explain_app) labels_app
 
 abbrev pub limit_in : List Row → Option ℕ
 limit_in = number_or 32 (codes "limit") 1000000
@@ -128,9 +137,18 @@ trace_of never rows = for_file rows (λ file. option_map
 abbrev pub trace_in : List Row → Option Asked
 trace_in rows = trace_of (list_of (codes "never") rows) rows
 
+-- what is shown of a run where no option says another thing: all steps, under the file's name
+abbrev pub whole_run : Drawing Text
+whole_run = record { title = None; from = 1; to = 10000000; is_shared = false; width = 1000 }
+
+abbrev pub drawing_in : List Row → Option (Drawing Text)
+drawing_in rows = for_number_or 32 (codes "from") 1 rows (λ from. for_number_or 32 (codes "to") 10000000 rows (λ to.
+    for_number_or 32 (codes "width") 1000 rows (λ width.
+    Some (record { title = first_of (codes "title") rows; from = from; to = to; is_shared = is_set (codes "shared") rows; width = width }))))
+
 abbrev pub draw_of : List Text → List Row → Option Asked
-draw_of never rows = for_file rows (λ file. option_map
-    (λ schedule. Draw file schedule never (side_in rows)) (first_of (codes "schedule") rows))
+draw_of never rows = for_file rows (λ file. option_and_then (λ schedule. option_map
+    (λ drawing. Draw file schedule never (side_in rows) drawing) (drawing_in rows)) (first_of (codes "schedule") rows))
 
 abbrev pub draw_in : List Row → Option Asked
 draw_in rows = draw_of (list_of (codes "never") rows) rows
@@ -158,6 +176,9 @@ abbrev pub request_in : Option (Text × List Row) → Option Asked
 request_in = option_and_then (λ p. named p.0 p.1)
 
 -- texts that are lent, as the texts themselves
+abbrev pub plain_drawing : Drawing (Bor Text) → Drawing Text
+plain_drawing d = record { title = option_map (λ text. text.now) d.title; from = d.from; to = d.to; is_shared = d.is_shared; width = d.width }
+
 abbrev pub plain_request : Request (Bor Text) (Vec (Bor Text) Global) → Asked
 plain_request (Explore file never limit steps) = Explore file.now (map (λ text. text.now) never.items) limit steps
 plain_request (Ends file never process limit steps) = Ends file.now (map (λ text. text.now) never.items) process limit steps
@@ -165,7 +186,7 @@ plain_request (Lasso file prefix cycle) = Lasso file.now prefix.now cycle.now
 plain_request (Hunt file never seed runs from steps is_uniform jobs) = Hunt file.now (map (λ text. text.now) never.items) seed runs from steps is_uniform jobs
 plain_request (Runs file times turns) = Runs file.now times turns
 plain_request (Trace file schedule never side) = Trace file.now schedule.now (map (λ text. text.now) never.items) side
-plain_request (Draw file schedule never side) = Draw file.now schedule.now (map (λ text. text.now) never.items) side
+plain_request (Draw file schedule never side drawing) = Draw file.now schedule.now (map (λ text. text.now) never.items) side (plain_drawing drawing)
 plain_request (Explain file schedule) = Explain file.now (option_map (λ text. text.now) schedule)
 plain_request (Labels processes moves) = Labels processes moves.now
 
@@ -193,10 +214,12 @@ rows = (codes "explore" ∷ codes "a" ∷ codes "--limit" ∷ codes "7" ∷ [], 
       Trace (codes "a") (codes "0") (codes "n" ∷ codes "1" ∷ []) Program,
     )
     ∷ (codes "trace" ∷ codes "-" ∷ codes "@b" ∷ codes "--code" ∷ [], Trace (codes "-") (codes "@b") [] Code)
-    ∷ (codes "draw" ∷ codes "a" ∷ [] ∷ [], Draw (codes "a") [] [] Program)
-    ∷ (codes "draw" ∷ codes "--code" ∷ codes "a" ∷ codes "0" ∷ [], Draw (codes "a") (codes "0") [] Code)
-    ∷ (codes "draw" ∷ codes "a" ∷ codes "0" ∷ codes "--never=n" ∷ [], Draw (codes "a") (codes "0") (codes "n" ∷ []) Program)
-    ∷ (codes "draw" ∷ codes "a" ∷ codes "-" ∷ codes "--lift" ∷ [], Draw (codes "a") (codes "-") [] Lifted)
+    ∷ (codes "draw" ∷ codes "a" ∷ [] ∷ [], Draw (codes "a") [] [] Program whole_run)
+    ∷ (codes "draw" ∷ codes "--code" ∷ codes "a" ∷ codes "0" ∷ [], Draw (codes "a") (codes "0") [] Code whole_run)
+    ∷ (codes "draw" ∷ codes "a" ∷ codes "0" ∷ codes "--never=n" ∷ [], Draw (codes "a") (codes "0") (codes "n" ∷ []) Program whole_run)
+    ∷ (codes "draw" ∷ codes "a" ∷ codes "-" ∷ codes "--lift" ∷ [], Draw (codes "a") (codes "-") [] Lifted whole_run)
+    ∷ (codes "draw" ∷ codes "a" ∷ codes "0" ∷ codes "--title" ∷ codes "b/c" ∷ codes "--shared" ∷ [], Draw (codes "a") (codes "0") [] Program (record whole_run { title = Some (codes "b/c"); is_shared = true }))
+    ∷ (codes "draw" ∷ codes "--from=2" ∷ codes "a" ∷ codes "--to" ∷ codes "9" ∷ codes "0" ∷ codes "--width=300" ∷ [], Draw (codes "a") (codes "0") [] Program (record whole_run { from = 2; to = 9; width = 300 }))
     ∷ (codes "trace" ∷ codes "a" ∷ codes "--lift" ∷ codes "0" ∷ codes "--code" ∷ [], Trace (codes "a") (codes "0") [] Lifted)
     ∷ (codes "explain" ∷ codes "a" ∷ [], Explain (codes "a") None)
     ∷ (codes "explain" ∷ codes "a" ∷ codes "0" ∷ [], Explain (codes "a") (Some (codes "0")))

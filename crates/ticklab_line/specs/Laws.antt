@@ -87,5 +87,8 @@ pub record NoCommandsLaw : Type 0 where
   pub no_moves : Tells (codes "labels" ∷ codes "2" ∷ []) (kind.MissingRequiredArgument ∷ [])
   pub no_number : Tells (codes "explore" ∷ codes "a" ∷ codes "--limit" ∷ codes "x" ∷ []) (kind.ValueValidation ∷ [])
   pub large_number : Tells (codes "explore" ∷ codes "a" ∷ codes "--limit" ∷ codes "4294967296" ∷ []) (kind.ValueValidation ∷ [])
+  pub no_step : Tells (codes "draw" ∷ codes "a" ∷ codes "0" ∷ codes "--from" ∷ codes "0" ∷ []) (kind.ValueValidation ∷ [])
+  pub too_narrow : Tells (codes "draw" ∷ codes "a" ∷ codes "0" ∷ codes "--width=299" ∷ []) (kind.ValueValidation ∷ [])
+  pub trace_title : Tells (codes "trace" ∷ codes "a" ∷ codes "0" ∷ codes "--title" ∷ codes "b" ∷ []) (kind.UnknownArgument ∷ [])
   pub no_process : Tells (codes "explore" ∷ codes "a" ∷ codes "--ends" ∷ codes "6" ∷ []) (kind.ValueValidation ∷ [])
   pub one_number : Tells (codes "hunt" ∷ codes "a" ∷ codes "--threads" ∷ codes "5" ∷ []) (kind.WrongNumberOfValues ∷ [])

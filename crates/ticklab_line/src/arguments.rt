@@ -1,7 +1,7 @@
 //! The arguments of commands, as they are described to `clap`.
 ghost use Rattle.std.specs.Prelude.{◌≡◌, codes, pos};
 ghost use Rattle.clap.specs.declared.builder.value_parser.ValueParser.TheVariants.{Signed, Unsigned};
-ghost use Rattle.ticklab_line.specs.CommandLine.{IsWord, ends_rule, flag_rule, from_one_to, further_rule, number_rule, processes_rule, repeated_rule, threads_rule, up_to, word_rule};
+ghost use Rattle.ticklab_line.specs.CommandLine.{IsWord, ends_rule, flag_rule, from_one_to, further_rule, number_rule, processes_rule, repeated_rule, text_rule, threads_rule, up_to, word_rule};
 
 use clap::builder::ValueParser;
 use clap::{Arg, ArgAction, value_parser};
@@ -66,6 +66,27 @@ pub fn repeated<'a>(alloc: Global, name: &'a str, value: &'a str, help: &'a str)
     further(alloc, name, value, help)
         .long(name)
         .action(ArgAction::Append)
+}
+
+/// An option with a text.
+pub fn text<'a>(alloc: Global, name: &'a str, value: &'a str, help: &'a str) -> Arg<'a>
+    ensures { IsWord (text_rule name.entry.now) result }
+{
+    further(alloc, name, value, help).long(name)
+}
+
+/// The number of a step of a schedule.
+pub fn step<'a>() -> ValueParser<'a>
+    ensures { result ≡ from_one_to 10000000 }
+{
+    value_parser!(u32).range(1..=10_000_000)
+}
+
+/// How wide a picture may be.
+pub fn width<'a>() -> ValueParser<'a>
+    ensures { result ≡ Signed (pos 300) (pos 20000) }
+{
+    value_parser!(u32).range(300..=20_000)
 }
 
 /// How many steps a schedule of a hunt may have.

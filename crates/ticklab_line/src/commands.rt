@@ -4,11 +4,11 @@ ghost use Rattle.clap.specs.Matches.{found_of};
 ghost use Rattle.clap.specs.Walk.{rows_of};
 ghost use Rattle.clap.specs.Simple.{app_of, subcommand_rows_of};
 ghost use Rattle.ticklab_line.specs.CommandLine.{IsCommand, IsLine};
-ghost use Rattle.ticklab_line.specs.Commands.{command_wanted, draw_in, draw_of, ends_in, ends_of, explain_app, explain_in, explore_app, explore_in, hunt_app, hunt_in, labels_app, labels_in, lasso_app, lasso_in, limit_in, named, plain_request, plan_of, run_app, runs_in, schedules_of, side_in, steps_in, ticklab, trace_in, trace_of};
+ghost use Rattle.ticklab_line.specs.Commands.{command_wanted, draw_app, draw_in, draw_of, drawing_in, ends_in, ends_of, explain_app, explain_in, explore_app, explore_in, hunt_app, hunt_in, labels_app, labels_in, lasso_app, lasso_in, limit_in, named, plain_drawing, plain_request, plan_of, run_app, runs_in, schedules_of, side_in, steps_in, ticklab, trace_in, trace_of};
 ghost use Rattle.ticklab_line.specs.Commands.{request_in as found_request};
 
 use crate::arguments::{
-    ends, flag, further, jobs, length, option, processes, repeated, threads, word,
+    ends, flag, further, jobs, length, option, processes, repeated, step, text, threads, width, word,
 };
 use crate::parts::{STATUSES, filed, named, taking, with};
 use crate::values::{
@@ -37,6 +37,21 @@ pub enum Steps {
     MergedFirst,
     Single,
     Merged,
+}
+
+/// What a picture shows of a run, and how.
+#[derive(Debug, Drop)]
+pub struct Drawing<T> {
+    /// Its title, where that is not the file's name.
+    pub title: Option<T>,
+    /// The first step that is shown, counted from 1.
+    pub from: u32,
+    /// The last one.
+    pub to: u32,
+    /// Only what other processes can see is shown.
+    pub is_shared: bool,
+    /// How wide it is, in pixels.
+    pub width: u32,
 }
 
 /// A command with what goes with it, its texts and its lists of texts in whatever form they are held. A file is a
@@ -96,6 +111,7 @@ pub enum Request<T, L> {
         schedule: T,
         never: L,
         side: Side,
+        drawing: Drawing<T>,
     },
     /// What is wrong with a program or a code, or with a schedule of it.
     Explain {
@@ -128,10 +144,7 @@ pub fn command_line<'a>(alloc: Global) -> Result<Command<'a>, AllocError>
         line,
         run(alloc, "trace", "Prints a line for each step of a run"),
     );
-    let line = with(
-        line,
-        run(alloc, "draw", "Draws a run, as SVG on standard output"),
-    );
+    let line = with(line, draw(alloc));
     let line = with(line, explain(alloc));
     with(line, labels(alloc))
 }
@@ -486,6 +499,58 @@ fn run<'a>(alloc: Global, name: &'a str, about: &'a str) -> Result<Command<'a>, 
     )
 }
 
+fn draw<'a>(alloc: Global) -> Result<Command<'a>, AllocError>
+    ensures { IsCommand draw_app result }
+{
+    let draw = taking(
+        run(alloc, "draw", "Draws a run, as SVG on standard output"),
+        text(
+            alloc,
+            "title",
+            "TEXT",
+            "The title, as it is, in place of the file's name",
+        ),
+    );
+    let draw = taking(
+        draw,
+        option(
+            alloc,
+            "from",
+            "STEP",
+            step(),
+            "The first step that is shown, counted from 1 as by trace; where there is none, the picture is empty [default: 1]",
+        ),
+    );
+    let draw = taking(
+        draw,
+        option(
+            alloc,
+            "to",
+            "STEP",
+            step(),
+            "The last step that is shown [default: the last one]",
+        ),
+    );
+    let draw = taking(
+        draw,
+        flag(
+            alloc,
+            "shared",
+            "Leaves out what touches nothing shared: older, held and out",
+        ),
+    );
+    taking(
+        draw,
+        option(
+            alloc,
+            "width",
+            "PIXELS",
+            width(),
+            "How wide the picture is, 300 to 20000 [default: 1000]",
+        ),
+    )
+}
+
 fn side_in(given: &ArgMatches<'_>) -> Side
     ensures { result ≡ side_in (rows_of (found_of given.now)) }
 {
@@ -531,6 +596,19 @@ fn draw_of<'a>(given: &ArgMatches<'a>, never: Vec<&'a str>) -> Option<Lent<'a>>
         schedule: text_in(given, "schedule")?,
         never,
         side: side_in(given),
+        drawing: drawing_in(given)?,
+    })
+}
+
+fn drawing_in<'a>(given: &ArgMatches<'a>) -> Option<Drawing<&'a str>>
+    ensures { option_map plain_drawing result ≡ drawing_in (rows_of (found_of given.now)) }
+{
+    Some(Drawing {
+        from: number_or(given, "from", 1)?,
+        to: number_or(given, "to", 10_000_000)?,
+        width: number_or(given, "width", 1000)?,
+        title: text_in(given, "title"),
+        is_shared: is_set(given, "shared"),
     })
 }
 

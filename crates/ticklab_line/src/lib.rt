@@ -15,5 +15,5 @@ mod parts;
 mod values;
 
 pub use asking::{Line, asked};
-pub use commands::{Request, Side, Steps};
+pub use commands::{Drawing, Request, Side, Steps};
 pub use laws::{law_commands, law_hunts, law_no_commands};

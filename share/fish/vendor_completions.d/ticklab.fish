@@ -30,12 +30,19 @@ complete -c ticklab -n 'contains -- hunt (commandline -opc)[2]' -l threads -x -d
 complete -c ticklab -n 'contains -- hunt (commandline -opc)[2]' -s h -l help -d 'Print help'
 complete -c ticklab -n 'contains -- hunt (commandline -opc)[2]' -F
 complete -c ticklab -n 'contains -- trace (commandline -opc)[2]' -l code -d 'Takes the program\'s code, on bounded labels; the schedule is one of the code'
-complete -c ticklab -n 'contains -- trace (commandline -opc)[2]' -l never -x -d 'Marks too where this property holds first, like a line #! never EXPR of the program; it may be given again; not with --code'
+complete -c ticklab -n 'contains -- trace (commandline -opc)[2]' -l lift -d 'Takes the code, and a schedule of the program, which is lifted to the code'
+complete -c ticklab -n 'contains -- trace (commandline -opc)[2]' -l never -x -d 'Marks too where this property holds first, like a line #! never EXPR of the program; it may be given again; not with --code or --lift'
 complete -c ticklab -n 'contains -- trace (commandline -opc)[2]' -s h -l help -d 'Print help'
 complete -c ticklab -n 'contains -- trace (commandline -opc)[2]' -F
 complete -c ticklab -n 'contains -- trace (commandline -opc)[2]' -a '(set -l word (commandline -ct); string match -q \'@*\' -- $word; and string replace -r \'^\' @ -- (__fish_complete_path (string sub -s 2 -- $word)))'
 complete -c ticklab -n 'contains -- draw (commandline -opc)[2]' -l code -d 'Takes the program\'s code, on bounded labels; the schedule is one of the code'
-complete -c ticklab -n 'contains -- draw (commandline -opc)[2]' -l never -x -d 'Marks too where this property holds first, like a line #! never EXPR of the program; it may be given again; not with --code'
+complete -c ticklab -n 'contains -- draw (commandline -opc)[2]' -l lift -d 'Takes the code, and a schedule of the program, which is lifted to the code'
+complete -c ticklab -n 'contains -- draw (commandline -opc)[2]' -l never -x -d 'Marks too where this property holds first, like a line #! never EXPR of the program; it may be given again; not with --code or --lift'
+complete -c ticklab -n 'contains -- draw (commandline -opc)[2]' -l title -x -d 'The title, as it is, in place of the file\'s name'
+complete -c ticklab -n 'contains -- draw (commandline -opc)[2]' -l from -x -d 'The first step that is shown, counted from 1 as by trace; where there is none, the picture is empty [default: 1]'
+complete -c ticklab -n 'contains -- draw (commandline -opc)[2]' -l to -x -d 'The last step that is shown [default: the last one]'
+complete -c ticklab -n 'contains -- draw (commandline -opc)[2]' -l shared -d 'Leaves out what touches nothing shared: older, held and out'
+complete -c ticklab -n 'contains -- draw (commandline -opc)[2]' -l width -x -d 'How wide the picture is, 300 to 20000 [default: 1000]'
 complete -c ticklab -n 'contains -- draw (commandline -opc)[2]' -s h -l help -d 'Print help'
 complete -c ticklab -n 'contains -- draw (commandline -opc)[2]' -F
 complete -c ticklab -n 'contains -- draw (commandline -opc)[2]' -a '(set -l word (commandline -ct); string match -q \'@*\' -- $word; and string replace -r \'^\' @ -- (__fish_complete_path (string sub -s 2 -- $word)))'

@@ -8,7 +8,14 @@ use std::test::Fail;
 use tests_shared::accepted;
 use tick_kinds::Program;
 use tick_lower::lower;
-use ticklab_draw::{Mark, NeverMark, NoMemory, code_marks, marks, picture};
+use ticklab_draw::{Look, Mark, NeverMark, NoMemory, code_marks, marks, picture};
+
+// All of a run.
+const WHOLE: Look = Look {
+    from: 1,
+    is_shared: false,
+    width: 1000,
+};
 
 /// The marks of a program's run.
 pub fn marked(alloc: Global, program: &Program, schedule: &str) -> Result<Vec<Mark>, Fail> {
@@ -38,8 +45,9 @@ pub fn drawn(
 ) -> Result<Vec<u8>, Fail> {
     let registers = &program.tree().registers;
     let n = program.processes();
-    match picture(alloc, title, n, registers, marks, never) {
-        Err(NoMemory) => Ok(picture(alloc, title, n, registers, marks, never)?),
+    let title = title.as_bytes();
+    match picture(alloc, title, WHOLE, n, registers, marks, never) {
+        Err(NoMemory) => Ok(picture(alloc, title, WHOLE, n, registers, marks, never)?),
         Ok(text) => Ok(text),
     }
 }

@@ -108,7 +108,7 @@ static ROWS: [Row; 8] = [
         marks: 2,
         pieces: &[
             ">at the start: 1 / inside[0] must never hold, and it traps with Zero</title>",
-            "d=\"M57 44V228\"/><text class=\"step\" x=\"57\" y=\"41\">never</text></g>\n",
+            "d=\"M57 44V136\"/><text class=\"step\" x=\"57\" y=\"41\">never</text></g>\n",
         ],
     },
     // no steps

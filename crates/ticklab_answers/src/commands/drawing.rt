@@ -1,5 +1,6 @@
 //! `ticklab draw`.
 ghost use Rattle.std.specs.Prelude.{◌≡◌, ◌<◌, ◌-◌, All, IfErr, IfOk, drop, length, map, option_map, take, true, if◌then◌else◌};
+ghost use Rattle.ticklab_line.specs.Commands.{plain_drawing};
 ghost use Rattle.tick_kinds.specs.Resolution.{resolved};
 ghost use Rattle.searches_explore.specs.Lines.{lines_of};
 ghost use Rattle.ticklab_draw.specs.Marks.{marks_of_code, program_marks};
@@ -8,7 +9,7 @@ ghost use Rattle.ticklab_answers.specs.Asking.{place_of, texts_of};
 ghost use Rattle.ticklab_answers.specs.Breaking.{IsMarkedFor, mark_of};
 ghost use Rattle.ticklab_answers.specs.Codes.{HasCode, IsCodeless, program_code};
 ghost use Rattle.ticklab_answers.specs.Faults.{IsEither, IsOfFileThat};
-ghost use Rattle.ticklab_answers.specs.Runs.{Draws, IsRunPicture};
+ghost use Rattle.ticklab_answers.specs.Runs.{Draws, IsPictureFor, IsRunPicture, look_of, title_of};
 ghost use Rattle.ticklab_answers.specs.Stops.{IfRefused};
 
 use crate::asking::{NeverLines, PropertyPlace};
@@ -23,8 +24,8 @@ use base::NoMemory;
 use base::span::Span;
 use std::alloc::Global;
 use tick_kinds::Program;
-use ticklab_draw::{Mark, NeverMark, code_marks, marks, picture};
-use ticklab_line::Side;
+use ticklab_draw::{Look, Mark, NeverMark, code_marks, file_name, marks, picture};
+use ticklab_line::{Drawing, Side};
 
 /// The run of the program under a schedule, or of its code, as a picture. That of a program marks where what must
 /// never hold does first: a line `#! never` of the file, or one of these texts that are the same.
@@ -35,17 +36,20 @@ pub fn drawn<F: Files>(
     schedule: &str,
     never: &[&str],
     side: Side,
+    drawing: Drawing<&str>,
 ) -> Result<Response, LabFault>
-    ensures ok { IfOk result (Draws F.Reads F.ReadsInput files.old files.new file.now schedule.now (texts_of never.now) side) }
+    ensures ok { IfOk result (Draws F.Reads F.ReadsInput files.old files.new file.now schedule.now (texts_of never.now) side (plain_drawing drawing.entry)) }
     ensures err { IfErr result (IsOfFileThat (IsEither file.now schedule.now)) }
 {
-    told(alloc, files, file, schedule, never, Telling::Picture, side)
+    let telling = Telling::Picture(drawing);
+    told(alloc, files, file, schedule, never, &telling, side)
 }
 
-/// The picture; `name` is that of the program's file.
-pub fn picture_of(
+/// The picture that is asked for; `name` is that of the program's file.
+pub fn picture_for(
     alloc: Global,
     name: &str,
+    drawing: &Drawing<&str>,
     program: &Program,
     lines: &NeverLines<'_>,
     schedule: &[u8],
@@ -53,7 +57,56 @@ pub fn picture_of(
 ) -> Result<Vec<u8>, NoAnswer>
     requires lines { length lines.now.properties.items ≡ length lines.now.places.items }
     requires schedule { All (λ p. p < (resolved program.now).processes) schedule.now }
-    ensures ok { IfOk result (λ out. IsRunPicture is_code (lines_of lines.now.properties.items) (map place_of lines.now.places.items) name.now program.now schedule.now out.items) }
+    ensures ok { IfOk result (λ out. IsPictureFor (plain_drawing drawing.now) is_code name.now (lines_of lines.now.properties.items) (map place_of lines.now.places.items) program.now schedule.now out.items) }
+    ensures refused { IfErr result (λ stop. IfRefused stop (IsCodeless is_code name.now program.now)) }
+{
+    let title = title_of(drawing, name);
+    let look = look_of(drawing);
+    let shown = steps_to(drawing.to, schedule);
+    picture_of(alloc, name, title, look, program, lines, shown, is_code)
+}
+
+// The title that is asked for, else the name of the file without its folder.
+fn title_of<'t>(drawing: &Drawing<&'t str>, name: &'t str) -> &'t [u8]
+    ensures { result.now ≡ title_of (plain_drawing drawing.now) name.now }
+{
+    match drawing.title {
+        Some(title) => title.as_bytes(),
+        None => file_name(name.as_bytes()),
+    }
+}
+
+fn look_of(drawing: &Drawing<&str>) -> Look
+    ensures { result ≡ look_of (plain_drawing drawing.now) }
+{
+    Look {
+        from: drawing.from as usize,
+        is_shared: drawing.is_shared,
+        width: drawing.width,
+    }
+}
+
+// The steps up to one of this number.
+fn steps_to(to: u32, schedule: &[u8]) -> &[u8]
+    ensures { result.now ≡ take to schedule.now }
+{
+    &schedule[..schedule.len().min(to as usize)]
+}
+
+/// A picture with this title; `name` is that of the program's file.
+pub fn picture_of(
+    alloc: Global,
+    name: &str,
+    title: &[u8],
+    look: Look,
+    program: &Program,
+    lines: &NeverLines<'_>,
+    schedule: &[u8],
+    is_code: bool,
+) -> Result<Vec<u8>, NoAnswer>
+    requires lines { length lines.now.properties.items ≡ length lines.now.places.items }
+    requires schedule { All (λ p. p < (resolved program.now).processes) schedule.now }
+    ensures ok { IfOk result (λ out. IsRunPicture title.now look is_code (lines_of lines.now.properties.items) (map place_of lines.now.places.items) program.now schedule.now out.items) }
     ensures refused { IfErr result (λ stop. IfRefused stop (IsCodeless is_code name.now program.now)) }
 {
     let marks = marks_of(alloc, program, schedule, is_code, name)?;
@@ -61,7 +114,8 @@ pub fn picture_of(
     let registers = program.tree().registers.as_slice();
     Ok(picture(
         alloc,
-        name,
+        title,
+        look,
         program.processes(),
         registers,
         marks.as_slice(),

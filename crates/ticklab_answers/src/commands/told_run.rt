@@ -7,10 +7,10 @@ ghost use Rattle.ticklab_answers.specs.Asking.{place_of, texts_of};
 ghost use Rattle.ticklab_answers.specs.Codes.{IsCodeless};
 ghost use Rattle.ticklab_answers.specs.Faults.{IsEither, IsOfFileThat};
 ghost use Rattle.ticklab_answers.specs.Responses.{Gives};
-ghost use Rattle.ticklab_answers.specs.Runs.{IsRun, IsTold, IsToldWith, IsUnrun, TellsRun, is_of_code, schedule_on};
+ghost use Rattle.ticklab_answers.specs.Runs.{IsRun, IsTold, IsToldWith, IsUnrun, TellsRun, is_of_code, plain_telling, schedule_on};
 ghost use Rattle.ticklab_answers.specs.Stops.{IfRefused};
 
-use crate::commands::drawing::picture_of;
+use crate::commands::drawing::picture_for;
 use crate::commands::tracing::trace_of;
 use crate::fault::LabFault;
 use crate::files::{bytes_of, is_input, text_of};
@@ -21,14 +21,15 @@ use crate::stop::NoAnswer;
 use std::alloc::Global;
 use tick_kinds::Program;
 use tick_sim::expand;
-use ticklab_line::Side;
+use ticklab_line::{Drawing, Side};
 
 /// How a run is told.
-#[derive(Clone, Copy)]
-pub enum Telling {
+#[derive(Drop)]
+pub enum Telling<T> {
     /// A line for each step.
     Trace,
-    Picture,
+    /// A picture that shows this.
+    Picture(Drawing<T>),
 }
 
 /// The run of the program under a schedule, or of its code, told so.
@@ -38,10 +39,10 @@ pub fn told<F: Files>(
     file: &str,
     schedule: &str,
     never: &[&str],
-    telling: Telling,
+    telling: &Telling<&str>,
     side: Side,
 ) -> Result<Response, LabFault>
-    ensures ok { IfOk result (TellsRun telling F.Reads F.ReadsInput files.old files.new file.now schedule.now (texts_of never.now) side) }
+    ensures ok { IfOk result (TellsRun (plain_telling telling.now) F.Reads F.ReadsInput files.old files.new file.now schedule.now (texts_of never.now) side) }
     ensures err { IfErr result (IsOfFileThat (IsEither file.now schedule.now)) }
 {
     let input = bytes_of(alloc, files, file)?;
@@ -67,10 +68,10 @@ fn run_told(
     from: &str,
     schedule: &str,
     never: &[&str],
-    telling: Telling,
+    telling: &Telling<&str>,
     side: Side,
 ) -> Result<Response, NoAnswer>
-    ensures ok { IfOk result (Gives 0 (IsRun side (IsTold telling side name.now (texts_of never.now) input.now) schedule.now)) }
+    ensures ok { IfOk result (Gives 0 (IsRun side (IsTold (plain_telling telling.now) side name.now (texts_of never.now) input.now) schedule.now)) }
     ensures refused { IfErr result (λ stop. IfRefused stop (IsUnrun name.now (texts_of never.now) input.now from.now schedule.now side)) }
 {
     let asked = match asked_program(alloc, name, input, never) {
@@ -120,7 +121,7 @@ fn is_of_code(side: Side) -> bool
 
 fn telling_of(
     alloc: Global,
-    telling: Telling,
+    telling: &Telling<&str>,
     is_code: bool,
     name: &str,
     asked: &AskedProgram<'_>,
@@ -130,13 +131,21 @@ fn telling_of(
     requires lines { length asked.now.lines.properties.items ≡ length asked.now.lines.places.items }
     requires schedule { All (λ p. p < (resolved asked.now.spelled.program).processes) schedule.now }
     requires program { SpelledIn input.now asked.now.spelled }
-    ensures ok { IfOk result (λ out. IsToldWith telling is_code name.now (lines_of asked.now.lines.properties.items) (map place_of asked.now.lines.places.items) input.now asked.now.spelled.program schedule.now out.items) }
+    ensures ok { IfOk result (λ out. IsToldWith (plain_telling telling.now) is_code name.now (lines_of asked.now.lines.properties.items) (map place_of asked.now.lines.places.items) input.now asked.now.spelled.program schedule.now out.items) }
     ensures refused { IfErr result (λ stop. IfRefused stop (IsCodeless is_code name.now asked.now.spelled.program)) }
 {
     let spelled = &asked.spelled;
     let lines = &asked.lines;
     match telling {
         Telling::Trace => trace_of(alloc, name, spelled, input, lines, schedule, is_code),
-        Telling::Picture => { picture_of(alloc, name, &spelled.program, lines, schedule, is_code) },
+        Telling::Picture(drawing) => picture_for(
+            alloc,
+            name,
+            drawing,
+            &spelled.program,
+            lines,
+            schedule,
+            is_code,
+        ),
     }
 }

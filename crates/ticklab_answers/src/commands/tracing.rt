@@ -40,7 +40,8 @@ pub fn traced<F: Files>(
     ensures ok { IfOk result (Traces F.Reads F.ReadsInput files.old files.new file.now schedule.now (texts_of never.now) side) }
     ensures err { IfErr result (IsOfFileThat (IsEither file.now schedule.now)) }
 {
-    told(alloc, files, file, schedule, never, Telling::Trace, side)
+    let telling = Telling::Trace;
+    told(alloc, files, file, schedule, never, &telling, side)
 }
 
 /// The lines of the steps; `name` is that of the program's file.

@@ -1,4 +1,5 @@
 use Rattle.std.proofs.Common.{ℕ, Bor, List, refl, subst}
+use Rattle.ticklab_line.specs.Commands.{plain_drawing}
 use Rattle.ticklab_answers.specs.Asking.{texts_of}
 use Rattle.ticklab_answers.specs.Runs.{Draws, Traces}
 use Rattle.ticklab_answers.proofs.Breaks.{then_ok}
@@ -22,7 +23,7 @@ returns-in-Draw-clause-ok g c =
     (λ x h. (
       refl,
       refl,
-      subst (λ (never : List (Bor (List ℕ))). Draws g.F.Files.Reads g.F.Files.ReadsInput c.args.files.now c.drawn.new.files t.file.now t.schedule.now (texts_of never) t.side x)
+      subst (λ (never : List (Bor (List ℕ))). Draws g.F.Files.Reads g.F.Files.ReadsInput c.args.files.now c.drawn.new.files t.file.now t.schedule.now (texts_of never) t.side (plain_drawing t.drawing) x)
           c.deref-in-Draw.ensures.value h,
     )) c.drawn.ensures.ok)
 

@@ -6,6 +6,6 @@ returns c =
     let lasso = c.with-line-2.ensures _ _ explore c.lasso.ensures in
     let hunt = c.with-line-3.ensures _ _ lasso c.hunt.ensures in
     let trace = c.with-line-4.ensures _ _ hunt c.run.ensures in
-    let draw = c.with-line-5.ensures _ _ trace c.run-2.ensures in
+    let draw = c.with-line-5.ensures _ _ trace c.draw.ensures in
     let explain = c.with-line-6.ensures _ _ draw c.explain.ensures in
     c.with.ensures _ _ explain c.labels.ensures

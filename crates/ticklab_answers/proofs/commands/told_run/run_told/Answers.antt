@@ -2,7 +2,7 @@ use Rattle.std.proofs.Common.{◌∙◌, Bool, List, ap, map, refl, subst}
 use Rattle.searches_explore.specs.Lines.{lines_of}
 use Rattle.ticklab_answers.specs.Asking.{TextPlace, place_of, texts_of}
 use Rattle.ticklab_answers.specs.Exploring.{IsUnexplored}
-use Rattle.ticklab_answers.specs.Runs.{IsTold, IsToldWith, IsUnrun, is_of_code}
+use Rattle.ticklab_answers.specs.Runs.{IsTold, IsToldWith, IsUnrun, is_of_code, plain_telling}
 use Rattle.ticklab_answers.proofs.ProgramFiles.{asks_of}
 use Rattle.ticklab_answers.proofs.Ran.{code_unrun, run_by, schedule_unrun, unexplored_unrun}
 use Rattle.ticklab_answers.proofs.Settled.{refused_as}
@@ -36,6 +36,7 @@ returns-clause-ok c =
     let name = c.args.name.now in
     let input = c.args.input.now in
     let side = c.args.side in
+    let telling = plain_telling c.args.telling.now in
     let texts = texts_of c.args.never.now in
     let p = c.in-Ok.asked.spelled.program in
     let lines = lines_of c.in-Ok.asked.lines.properties.items in
@@ -45,9 +46,9 @@ returns-clause-ok c =
     record {
       status = c.output.ensures.status;
       quiet = c.output.ensures.told;
-      out = run_by side (IsTold c.args.telling side name texts input) (asks_of known) c.args.schedule.now
+      out = run_by side (IsTold telling side name texts input) (asks_of known) c.args.schedule.now
           c.processes.result c.processes.ensures.count c.in_ok-given.given.items steps c.in_ok-given.ensures.ok
           (c.as_slice-steps.ensures.value ∙ c.in_ok-steps.ensures.ok) out _ (ap (λ out. out.items) c.output.ensures.out)
-          (subst (λ (places : List TextPlace). IsToldWith c.args.telling (is_of_code side) name lines places input p steps out) known.stand
-          (subst (λ (is_code : Bool). IsToldWith c.args.telling is_code name lines places input p steps out) c.is_of_code-is_code.ensures c.in_ok-out.ensures.ok));
+          (subst (λ (places : List TextPlace). IsToldWith telling (is_of_code side) name lines places input p steps out) known.stand
+          (subst (λ (is_code : Bool). IsToldWith telling is_code name lines places input p steps out) c.is_of_code-is_code.ensures c.in_ok-out.ensures.ok));
     }

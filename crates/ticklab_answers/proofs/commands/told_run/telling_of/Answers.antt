@@ -4,4 +4,4 @@ pub returns-in-Trace-clause-ok : goal.returns-in-Trace-clause-ok
 returns-in-Trace-clause-ok c = rw c.in-Trace.is c.trace_of.ensures.ok
 
 pub returns-in-Picture-clause-ok : goal.returns-in-Picture-clause-ok
-returns-in-Picture-clause-ok c = rw c.in-Picture.is c.picture_of.ensures.ok
+returns-in-Picture-clause-ok c = rw c.in-Picture.is c.picture_for.ensures.ok

@@ -1,0 +1,6 @@
+use Rattle.std.proofs.Common.{◌≡◌, take}
+use Rattle.ticklab_draw.specs.Chosen.{chosen_count}
+use Rattle.ticklab_draw.proofs.look.chosen_count.Given as goal
+
+abbrev pub invariant-loop-mark : goal.invariant-loop-mark
+invariant-loop-mark l = l.count ≡ chosen_count l.look (take l.mark-index l.marks)
