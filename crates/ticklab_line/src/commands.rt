@@ -8,7 +8,8 @@ ghost use Rattle.ticklab_line.specs.Commands.{command_wanted, draw_app, draw_in,
 ghost use Rattle.ticklab_line.specs.Commands.{request_in as found_request};
 
 use crate::arguments::{
-    ends, flag, further, jobs, length, option, processes, repeated, step, text, threads, width, word,
+    ends, flag, further, jobs, length, option, processes, repeated, step, text, threads, width,
+    word,
 };
 use crate::parts::{STATUSES, filed, named, taking, with};
 use crate::values::{
