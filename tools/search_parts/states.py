@@ -37,6 +37,12 @@ def behind(way):
 
 def still(program, way):
     """What the statements do that may still come from a way on: of which rows, and with tickets."""
+    if way not in program.stills:
+        program.stills[way] = frozenset(coming(program, way))
+    return program.stills[way]
+
+
+def coming(program, way):
     found = set()
     while way:
         *front, first = way
@@ -44,7 +50,7 @@ def still(program, way):
         way = way[:-2]
         if way and program.statements[way].word == "if":
             way = behind(way)
-    return frozenset(found)
+    return found
 
 
 def replaced(values, place, value):

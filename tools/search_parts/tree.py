@@ -27,6 +27,8 @@ class Program:
     def __init__(self, processes, counts, body):
         self.processes, (self.variables, self.scans, self.rows) = processes, counts
         self.statements = dict(with_ways(body))
+        # What may still be done from a way on, once it was asked for.
+        self.stills = {}
 
     def does(self, front, first):
         """What the statements of a block do from one of them on, and those inside."""
