@@ -11,7 +11,8 @@ def replayed(program, schedule, step):
     left, count, trap = list(schedule), 0, None
     while left and trap is None and left[0] < program.processes:
         process = left[0]
-        owns[process], shared, trap, length = step(program, owns[process], shared)
+        others = states.others([states.still(program, own.way) for own in owns], process)
+        owns[process], shared, trap, length = step(program, owns[process], shared, others)
         if left[:length] != [process] * length:
             return count, None
         del left[:length]

@@ -6,11 +6,10 @@ NOTHING_LEFT, ENDED = (), None
 
 
 class Shared(NamedTuple):
-    """The tickets of the processes, the register rows, and what each process may still do."""
+    """The tickets of the processes, and the register rows."""
 
     tickets: tuple
     rows: tuple
-    may: tuple
 
 
 class Own(NamedTuple):
@@ -27,8 +26,7 @@ def begun(program):
     none = (0,) * program.processes
     way = (0,) if program.statements else NOTHING_LEFT
     owns = [Own(me, way, (0,) * program.variables, (none,) * program.scans) for me in range(program.processes)]
-    may = (still(program, way),) * program.processes
-    return Shared(none, (none,) * program.rows, may), owns
+    return Shared(none, (none,) * program.rows), owns
 
 
 def behind(way):
@@ -40,6 +38,11 @@ def still(program, way):
     if way not in program.stills:
         program.stills[way] = frozenset(coming(program, way))
     return program.stills[way]
+
+
+def others(mays, process):
+    """What each other process may still do; none for the process itself."""
+    return replaced(mays, process, frozenset())
 
 
 def coming(program, way):

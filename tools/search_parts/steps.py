@@ -2,7 +2,7 @@
 from typing import NamedTuple
 
 from . import statements
-from .states import ENDED, NOTHING_LEFT, behind, replaced, still
+from .states import ENDED, NOTHING_LEFT, behind
 from .values import Trap, values_of
 
 # What no other process sees, besides the end; and how many such steps a merged one takes along.
@@ -19,7 +19,7 @@ class Step(NamedTuple):
     length: int
 
 
-def single(program, own, shared):
+def single(program, own, shared, _others=()):
     if own.way == ENDED:
         return Step(own, shared, None, 1)
     if own.way == NOTHING_LEFT:
@@ -28,7 +28,7 @@ def single(program, own, shared):
         own, shared = moved(program, own, shared)
     except Trap as trap:
         return Step(own, shared, str(trap), 1)
-    return Step(own, shared._replace(may=replaced(shared.may, own.me, still(program, own.way))), None, 1)
+    return Step(own, shared, None, 1)
 
 
 def moved(program, own, shared):
@@ -51,43 +51,44 @@ def settled(program, way):
     return way
 
 
-def merged(program, own, shared):
+def merged(program, own, shared, others):
+    """A step, of which `others` says what each other process may still do."""
     step = single(program, own, shared)
     for _ in range(MOST_PRIVATE):
-        if step.trap or not is_private(program, step.own, step.shared):
+        if step.trap or not is_private(program, step.own, step.shared, others):
             break
         following = single(program, step.own, step.shared)
         step = following._replace(length=step.length + 1)
     return step
 
 
-def is_private(program, own, shared):
+def is_private(program, own, shared, others):
     """That a process has a next step, and that no other sees it any more or changes what it does."""
     if own.way in (NOTHING_LEFT, ENDED):
         return own.way == NOTHING_LEFT
     statement = program.statements[own.way]
-    return statement.word in PRIVATE or met_by(statement, own, shared).isdisjoint(others(own, shared))
+    return statement.word in PRIVATE or met_by(statement, own, others).isdisjoint(any_of(others))
 
 
-def others(own, shared):
-    """What other processes may still do."""
-    return set().union(*(may for process, may in enumerate(shared.may) if process != own.me))
+def any_of(others):
+    """What some other process may still do."""
+    return frozenset().union(*others)
 
 
-def met_by(statement, own, shared):
+def met_by(statement, own, others):
     """What others may do that sees the step or changes what it does."""
     if statement.word == "get":
-        return read_by(statement, own, shared)
+        return read_by(statement, own, others)
     if statement.word == "put":
         return {("get", *statement.names)}
     return {("change",)} if statement.word == "scan" else {("change",), ("scan",)}
 
 
-def read_by(statement, own, shared):
+def read_by(statement, own, others):
     """The write of what is read, where the process that has it is another and may still write it."""
     try:
-        [process] = values_of(statement.expressions, own, len(shared.tickets))
+        [process] = values_of(statement.expressions, own, len(others))
     except Trap:
         return set()
-    may = shared.may[process] if process < len(shared.may) and process != own.me else set()
+    may = others[process] if process < len(others) else set()
     return may & {("put", statement.names[1])}

@@ -146,7 +146,7 @@ def settled_in_twin(program, way):
     return way
 
 
-def single_without_trap(program, own, shared):
+def single_without_trap(program, own, shared, _others=()):
     """Who traps has ended."""
     step = RIGHT_SINGLE(program, own, shared)
     return step._replace(own=own._replace(way=states.ENDED), trap=None) if step.trap else step
@@ -161,8 +161,8 @@ def following_without_last(graph, state):
     return [*list(RIGHT_FOLLOWING(graph, state))[:-1], state]
 
 
-def is_private_statement(program, own, shared):
-    return own.way != states.NOTHING_LEFT and RIGHT_PRIVATE(program, own, shared)
+def is_private_statement(program, own, shared, others):
+    return own.way != states.NOTHING_LEFT and RIGHT_PRIVATE(program, own, shared, others)
 
 
 def still_without_loops(program, way):
@@ -177,18 +177,18 @@ def still_without_loops(program, way):
 
 def met_by_others(words):
     """Of these statements others are met by something else."""
-    return lambda statement, own, shared: words.get(statement.word) or RIGHT_MET(statement, own, shared)
+    return lambda statement, own, others: words.get(statement.word) or RIGHT_MET(statement, own, others)
 
 
-def merged_behind_shared(program, own, shared):
+def merged_behind_shared(program, own, shared, others):
     """A first step that is private takes none along."""
-    makes = RIGHT_SINGLE if steps.is_private(program, own, shared) else RIGHT_MERGED
-    return makes(program, own, shared)
+    makes = RIGHT_SINGLE if steps.is_private(program, own, shared, others) else RIGHT_MERGED
+    return makes(program, own, shared, others)
 
 
-def merged_with_next(program, own, shared):
+def merged_with_next(program, own, shared, others):
     """The next shared step is taken along."""
-    step = RIGHT_MERGED(program, own, shared)
+    step = RIGHT_MERGED(program, own, shared, others)
     if step.trap or step.own.way in (states.NOTHING_LEFT, states.ENDED):
         return step
     following = RIGHT_SINGLE(program, step.own, step.shared)
@@ -257,13 +257,13 @@ CASES = (
     ("no end is taken along", steps, "is_private", is_private_statement),
     ("`get` is private", steps, "PRIVATE", {*steps.PRIVATE, "get"}),
     ("`scan` is private", steps, "PRIVATE", {*steps.PRIVATE, "scan"}),
-    ("nobody else does anything any more", steps, "others", lambda own, shared: set()),
-    ("who is in a loop doesn't come to what stands before", steps, "still", still_without_loops),
+    ("nobody else does anything any more", steps, "any_of", lambda others: set()),
+    ("who is in a loop doesn't come to what stands before", states, "still", still_without_loops),
     ("`put` is met by `put`", steps, "met_by", met_by_others({"put": {("put", 0), ("put", 1)}})),
     ("`scan` is met by `scan`", steps, "met_by", met_by_others({"scan": {("scan",)}})),
     ("`stamp` isn't met by `scan`", steps, "met_by", met_by_others({"stamp": {("change",)}})),
     ("`clear` isn't met by `stamp`", steps, "met_by", met_by_others({"clear": {("scan",)}})),
-    ("`get` of what nobody has is met", steps, "read_by", lambda statement, own, shared: {("put", statement.names[1])}),
+    ("`get` of what nobody has is met", steps, "read_by", lambda statement, own, others: {("put", statement.names[1])}),
     *((f"`{word}` is shared", steps, "PRIVATE", steps.PRIVATE - {word}) for word in sorted(steps.PRIVATE)),
     ("a private step takes none along", steps, "merged", merged_behind_shared),
     ("the next shared step is taken along", steps, "merged", merged_with_next),
