@@ -51,8 +51,8 @@ def small():
     return numbered("small program", small_programs.TEXTS)
 
 
-def random():
-    return numbered("random program", random_programs.texts())
+def random(how_many=random_programs.HOW_MANY):
+    return numbered("random program", random_programs.texts(how_many))
 
 
 def numbered(name, texts):

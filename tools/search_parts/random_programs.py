@@ -112,6 +112,6 @@ class Writer:
         return re.sub("(?<=[;{}]) |(?<=begin) ", "\n", " ".join(self.drawn("program"))).encode() + b"\n"
 
 
-def texts():
+def texts(how_many=HOW_MANY):
     writer = Writer(Random(SEED))
-    return [writer.text() for _ in range(HOW_MANY)]
+    return [writer.text() for _ in range(how_many)]
