@@ -135,13 +135,6 @@ hunt_in rows = option_map_or (runs_in rows) (all_of (codes "threads") rows) (pla
 abbrev pub side_in : List Row → Side
 side_in rows = if is_set (codes "lift") rows then Lifted else if is_set (codes "code") rows then Code else Program
 
-abbrev pub trace_of : List Text → List Row → Option Asked
-trace_of never rows = for_file rows (λ file. option_map
-    (λ schedule. Trace file schedule never (side_in rows)) (first_of (codes "schedule") rows))
-
-abbrev pub trace_in : List Row → Option Asked
-trace_in rows = trace_of (list_of (codes "never") rows) rows
-
 -- what is shown of a run where no option says another thing: all steps, under the file's name
 abbrev pub whole_run : Drawing Text
 whole_run = record { title = None; from = 1; to = 10000000; is_shared = false; width = 1000 }
@@ -151,19 +144,15 @@ drawing_in rows = for_number_or 32 (codes "from") 1 rows (λ from. for_number_or
     for_number_or 32 (codes "width") 1000 rows (λ width.
     Some (record { title = first_of (codes "title") rows; from = from; to = to; is_shared = is_set (codes "shared") rows; width = width }))))
 
-abbrev pub draw_of : List Text → List Row → Option Asked
-draw_of never rows = for_file rows (λ file. option_and_then (λ schedule. option_map
-    (λ drawing. Draw file schedule never (side_in rows) drawing) (drawing_in rows)) (first_of (codes "schedule") rows))
+-- what a command of this name asks for that takes a schedule, with the texts of what must never hold
+abbrev pub run_of : Text → List Text → List Row → Option Asked
+run_of name never rows = for_file rows (λ file. option_and_then (λ schedule.
+    if bytes_eq name (codes "draw") then option_map (Draw file schedule never (side_in rows)) (drawing_in rows)
+    else if bytes_eq name (codes "page") then Some (Page file schedule never (side_in rows) (first_of (codes "title") rows))
+    else Some (Trace file schedule never (side_in rows))) (first_of (codes "schedule") rows))
 
-abbrev pub draw_in : List Row → Option Asked
-draw_in rows = draw_of (list_of (codes "never") rows) rows
-
-abbrev pub page_of : List Text → List Row → Option Asked
-page_of never rows = for_file rows (λ file. option_map
-    (λ schedule. Page file schedule never (side_in rows) (first_of (codes "title") rows)) (first_of (codes "schedule") rows))
-
-abbrev pub page_in : List Row → Option Asked
-page_in rows = page_of (list_of (codes "never") rows) rows
+abbrev pub run_in : Text → List Row → Option Asked
+run_in name rows = run_of name (list_of (codes "never") rows) rows
 
 abbrev pub explain_in : List Row → Option Asked
 explain_in rows = for_file rows (λ file. Some (Explain file (first_of (codes "schedule") rows)))
@@ -178,9 +167,9 @@ named name rows =
     if bytes_eq name (codes "explore") then explore_in rows
     else if bytes_eq name (codes "lasso") then lasso_in rows
     else if bytes_eq name (codes "hunt") then hunt_in rows
-    else if bytes_eq name (codes "trace") then trace_in rows
-    else if bytes_eq name (codes "draw") then draw_in rows
-    else if bytes_eq name (codes "page") then page_in rows
+    else if bytes_eq name (codes "trace") then run_in name rows
+    else if bytes_eq name (codes "draw") then run_in name rows
+    else if bytes_eq name (codes "page") then run_in name rows
     else if bytes_eq name (codes "explain") then explain_in rows
     else if bytes_eq name (codes "labels") then labels_in rows
     else None
