@@ -71,7 +71,7 @@ pub fn refused(alloc: Global, status: u8, report: Vec<u8>) -> Response
 
 /// The same answer with its schedule alone on standard output, and nothing there where it has none.
 pub fn schedule_alone(alloc: Global, whole: Response) -> Result<Response, AllocError>
-    ensures { IfOk result (IsScheduleOf whole.entry) }
+    ensures { IfOk result (IsScheduleOf whole) }
 {
     let out = schedule_in_line(alloc, whole.out.as_slice())?;
     Ok(Response {
