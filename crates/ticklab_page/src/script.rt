@@ -30,7 +30,8 @@ pub fn script() -> &'static str
   function setAll(key, values) { values.forEach(function (value, p) { set(key, p, value); }); }
   function ranks(step) {
     var order = /, order ([-0-9 ]+)$/.exec(steps[step].textContent);
-    return order === null ? seen.o : order[1].split(' ');
+    if (order === null) { return seen.o; }
+    return order[1].split(' ');
   }
   function replay(step) {
     var parts = changes[step - 1].trim().split(' '), p = Number(parts[0]), n = seen.s.length, i = 2;
@@ -70,21 +71,22 @@ pub fn script() -> &'static str
   }
   function told(p) {
     var line = seen.at[p];
-    return line === '-' ? null : lines[Number(line) - from];
+    return line !== '-' && lines[Number(line) - from];
   }
   function list() {
     Array.prototype.slice.call(by('program').querySelectorAll('[data-at]')).forEach(function (old) { old.removeAttribute('data-at'); });
     seen.at.forEach(function (line, p) {
       var one = told(p);
-      if (one) { one.dataset.at = (one.dataset.at ? one.dataset.at + ' ' : '') + 'P' + p; }
+      if (one) { one.dataset.at = ((one.dataset.at || '') + ' P' + p).trim(); }
     });
-    var one = now === 0 ? null : told(Number(changes[now - 1].trim().split(' ')[0]));
+    var one = now !== 0 && told(Number(changes[now - 1].trim().split(' ')[0]));
     mark(by('program'), one);
     bring(by('program').parentNode, one);
   }
   function stepOf(group) {
     var title = group.querySelector('title');
-    return title === null ? -1 : Number(title.textContent.split(':')[0].split(' ')[1]);
+    if (title === null) { return -1; }
+    return Number(title.textContent.split(':')[0].split(' ')[1]);
   }
   function markOf(step) {
     if (marks === null) {
@@ -116,7 +118,8 @@ pub fn script() -> &'static str
   }
   function asked() {
     var found = /^#step-([0-9]+)$/.exec(location.hash);
-    return found === null ? Number(run.dataset.open) : Number(found[1]);
+    if (found === null) { return Number(run.dataset.open); }
+    return Number(found[1]);
   }
   by('first').onclick = function () { go(0); };
   by('back').onclick = function () { go(now - 1); };
