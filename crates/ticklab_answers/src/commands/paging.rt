@@ -20,7 +20,7 @@ use crate::host::Files;
 use crate::reading::code_of;
 use crate::response::Response;
 use crate::stop::NoAnswer;
-use base::NoMemory;
+use base::{NoMemory, push_number};
 use std::alloc::{AllocError, Global};
 use std::str;
 use tick_kinds::Program;
@@ -74,7 +74,11 @@ pub fn within_a_page(
 fn long_run_line(alloc: Global, from: &str, count: usize) -> Result<String, AllocError>
     ensures { IfOk result (λ line. string_bytes line ≡ long_run_line from.now count) }
 {
-    format!(in alloc; "{from}: error: there are {count} steps, and a page has at most 20000\n")
+    let mut line = String::from_str(alloc, from)?;
+    line.push_str(": error: there are ")?;
+    push_number(&mut line, count as u64)?;
+    line.push_str(" steps, and a page has at most 20000\n")?;
+    Ok(line)
 }
 
 /// The page with this title; `name` is that of the program's file.
