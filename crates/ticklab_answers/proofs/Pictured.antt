@@ -14,7 +14,7 @@ use Rattle.language_properties.specs.Properties.{Formula}
 use Rattle.ticklab_answers.specs.Asking.{TextPlace}
 use Rattle.ticklab_answers.specs.Breaking.{IsMarkedFor}
 use Rattle.ticklab_answers.specs.Codes.{HasCode, program_code}
-use Rattle.ticklab_answers.specs.Runs.{IsRunPicture, row_names}
+use Rattle.ticklab_answers.specs.Pictures.{IsRunPicture, row_names}
 
 -- the names of rows, as a tree has them
 pub named : (rows : List Named) → names rows ≡ map (λ row. row.letters) (map name_of rows)

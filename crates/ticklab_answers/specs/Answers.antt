@@ -8,7 +8,7 @@ use Rattle.ticklab_line.specs.Commands.{Asked, plain_request}
 use Rattle.ticklab_line.specs.Lines.{Answers}
 use Rattle.ticklab_line.specs.declared.asking.Line.{Line}
 use Rattle.ticklab_line.specs.declared.asking.Line.TheVariants as line
-use Rattle.ticklab_line.specs.declared.commands.Request.TheVariants.{Explore, Ends, Lasso, Hunt, Runs, Trace, Draw, Explain, Labels}
+use Rattle.ticklab_line.specs.declared.commands.Request.TheVariants.{Explore, Ends, Lasso, Hunt, Runs, Trace, Draw, Page, Explain, Labels}
 use Rattle.ticklab_answers.specs.Ends.{ExploresEnds}
 use Rattle.ticklab_answers.specs.Explanations.{Explains}
 use Rattle.ticklab_answers.specs.Exploring.{Explores}
@@ -18,8 +18,8 @@ use Rattle.ticklab_answers.specs.Hunting.{Hunts, plan_of}
 use Rattle.ticklab_answers.specs.Labels.{DrawsLabels}
 use Rattle.ticklab_answers.specs.Lasso.{IsOfThree, Lassoes}
 use Rattle.ticklab_answers.specs.Reading.{ReadsOf, ReadsInputOf}
-use Rattle.ticklab_answers.specs.Responses.{Gives, Refuses}
-use Rattle.ticklab_answers.specs.Runs.{Draws, Traces}
+use Rattle.ticklab_answers.specs.Responses.{Gives, IsScheduleOf, Refuses}
+use Rattle.ticklab_answers.specs.Runs.{Draws, Pages, Traces}
 use Rattle.ticklab_answers.specs.Tallies.{RunsOf, Tallies}
 use Rattle.ticklab_answers.specs.declared.fault.LabFault.{LabFault}
 use Rattle.ticklab_answers.specs.declared.fault.LabFault.TheVariants.{Words, Unread, Host, Answer}
@@ -51,12 +51,19 @@ module _ {F M W : Type 0} (Reads : ReadsOf F) (ReadsInput : ReadsInputOf F) (Ran
       (ran ≡ rested) × (heard ≡ quiet) × Traces Reads ReadsInput before after file schedule never side response
   Responds (Draw file schedule never side drawing) response =
       (ran ≡ rested) × (heard ≡ quiet) × Draws Reads ReadsInput before after file schedule never side drawing response
+  Responds (Page file schedule never side title) response =
+      (ran ≡ rested) × (heard ≡ quiet) × Pages Reads ReadsInput before after file schedule never side title response
   Responds (Explain file schedule) response = (ran ≡ rested) × (heard ≡ quiet) × Explains Reads ReadsInput before after file schedule response
   Responds (Labels processes moves) response = (ran ≡ rested) × (heard ≡ quiet) × (after ≡ before) × DrawsLabels processes moves response
+
+  -- the schedule alone of the answer to a request
+  abbrev pub RespondsAlone : Asked → Response → Type 0
+  RespondsAlone request response = (whole : Response) × Responds request whole × IsScheduleOf whole response
 
   -- help goes out, and a line that is refused is told
   abbrev pub RespondsTo : Line → Response → Type 0
   RespondsTo (line.Request request) response = Responds (plain_request request) response
+  RespondsTo (line.Schedule request) response = RespondsAlone (plain_request request) response
   RespondsTo (line.Help text) response =
       (ran ≡ rested) × (heard ≡ quiet) × (after ≡ before) × Gives 0 (λ out. out ≡ string_bytes text) response
   RespondsTo (line.Refused text) response =
@@ -76,11 +83,13 @@ NamesOf (Hunt file never seed runs from steps is_uniform jobs) name = name ≡ f
 NamesOf (Runs file times turns) name = name ≡ file
 NamesOf (Trace file schedule never side) name = IsEither file schedule name
 NamesOf (Draw file schedule never side drawing) name = IsEither file schedule name
+NamesOf (Page file schedule never side title) name = IsEither file schedule name
 NamesOf (Explain file schedule) name = IsOneOf file schedule name
 NamesOf (Labels processes moves) name = ⊥
 
 abbrev pub NamesOfLine : Line → List ℕ → Type 0
 NamesOfLine (line.Request request) name = NamesOf (plain_request request) name
+NamesOfLine (line.Schedule request) name = NamesOf (plain_request request) name
 NamesOfLine (line.Help text) name = ⊥
 NamesOfLine (line.Refused text) name = ⊥
 

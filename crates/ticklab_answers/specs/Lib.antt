@@ -15,6 +15,8 @@ pub mod Lasso
 pub mod Laws
 pub mod Lines
 pub mod Loops
+pub mod Pages
+pub mod Pictures
 pub mod Reading
 pub mod Responses
 pub mod Runs

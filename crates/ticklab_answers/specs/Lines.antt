@@ -113,6 +113,10 @@ spelling_line NoMemory = []
 abbrev pub many_line : ℕ → List ℕ
 many_line count = codes "STAMPS: error: there are " ++ decimal count ++ codes " moves, and at most 400 are drawn\n"
 
+-- a run of more steps than a page has; `from` says where the schedule is from
+abbrev pub long_run_line : List ℕ → ℕ → List ℕ
+long_run_line from count = from ++ codes ": error: there are " ++ decimal count ++ codes " steps, and a page has at most 20000\n"
+
 -- how many of so many runs came to an outcome, and the outcome
 abbrev pub count_text : ℕ → Counted → List ℕ
 count_text times counted = decimal counted.times ++ codes " of " ++ runs_text times ++ codes ":\n" ++ string_bytes counted.outcome

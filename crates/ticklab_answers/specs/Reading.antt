@@ -1,5 +1,5 @@
 -- What is read: the bytes of a file or of standard input, and the schedule that a command line gives.
-use Rattle.std.specs.Prelude.{◌≡◌, ◌<◌, ◌+◌, ◌==◌, ◌&&◌, ℕ, Bool, true, false, List, [], ◌∷◌, Option, Some, None, codes, bytes_eq, drop, eqb, length, take, if◌then◌else◌}
+use Rattle.std.specs.Prelude.{◌≡◌, ◌<◌, ◌+◌, ◌==◌, ◌&&◌, ◌++◌, ℕ, Bool, true, false, List, [], ◌∷◌, Option, Some, None, codes, bytes_eq, drop, eqb, length, take, if◌then◌else◌}
 use Rattle.std.specs.List.{ends_with, position}
 use Rattle.std.specs.Option.{option_map_or}
 
@@ -47,6 +47,10 @@ schedule_line text = line_behind (position is_newline text) text
 -- the text.
 abbrev pub schedule_in : List ℕ → List ℕ
 schedule_in text = option_map_or (λ line. 10 ∷ line) (schedule_line text) text
+
+-- the line of the schedule alone, and nothing where there is none
+abbrev pub schedule_alone : List ℕ → List ℕ
+schedule_alone text = option_map_or (λ line. line ++ 10 ∷ []) (schedule_line text) []
 
 -- what files are before one of a name is read, how many of its bytes are read at most, these, and what files are after
 abbrev pub ReadsOf : Type 0 → Type 1

@@ -1,6 +1,6 @@
--- What `trace` and `draw` answer: a trace or a picture of the run of a program, or of its code, under a
+-- What `trace`, `draw` and `page` answer: a trace, a picture or a page of the run of a program, or of its code, under a
 -- schedule.
-use Rattle.std.specs.Prelude.{◌≡◌, ◌++◌, ℕ, Bool, true, false, List, drop, map, slice_get, take, unwrap_or, Option, Some, None, Ok}
+use Rattle.std.specs.Prelude.{◌≡◌, ◌≤◌, ◌<◌, ◌++◌, ⊤, ℕ, Bool, true, false, List, drop, length, map, option_map, slice_get, take, Option, Some, Ok}
 use Rattle.std.specs.Borrow.{Bor}
 use Rattle.base.specs.Plain.{Name, WholeProgram}
 use Rattle.tick_syntax.specs.Spelling.{Spells}
@@ -17,24 +17,22 @@ use Rattle.ticklab_trace.specs.InstructionSteps.{AreInstructionSteps}
 use Rattle.ticklab_trace.specs.StatementSteps.{AreStatementSteps}
 use Rattle.ticklab_trace.specs.Places.{standings}
 use Rattle.ticklab_trace.specs.TraceText.{instruction_lines, statement_lines}
-use Rattle.ticklab_draw.specs.Marks.{marks_of_code, program_marks}
-use Rattle.ticklab_draw.specs.Never.{Broken}
-use Rattle.ticklab_draw.specs.Pictures.{file_name, picture}
-use Rattle.ticklab_draw.specs.declared.look.Look.{Look}
 use Rattle.tick_sim.specs.Maps.{up}
 use Rattle.ticklab_line.specs.Commands.{plain_drawing}
 use Rattle.ticklab_line.specs.declared.commands.Drawing.{Drawing}
 use Rattle.ticklab_line.specs.declared.commands.Side.{Side}
 use Rattle.ticklab_line.specs.declared.commands.Side.TheVariants.{Program, Code, Lifted}
 use Rattle.ticklab_answers.specs.Asking.{AsksNever, IsFileRefused, IsProgramFile, TellsOption, TextPlace, lines_in, places_by}
-use Rattle.ticklab_answers.specs.Breaking.{IsFirstBreak, IsMarked, NeverBreaks}
+use Rattle.ticklab_answers.specs.Breaking.{IsFirstBreak, NeverBreaks}
 use Rattle.ticklab_answers.specs.Codes.{HasCode, IsCodeless, program_code}
-use Rattle.ticklab_answers.specs.Lines.{broken_text}
+use Rattle.ticklab_answers.specs.Lines.{broken_text, long_run_line}
+use Rattle.ticklab_answers.specs.Pages.{IsPage}
+use Rattle.ticklab_answers.specs.Pictures.{IsPictureFor, title_of}
 use Rattle.ticklab_answers.specs.Reading.{AfterBoth, ReadsOf, ReadsInputOf}
 use Rattle.ticklab_answers.specs.Responses.{Gives, Refuses}
 use Rattle.ticklab_answers.specs.declared.breaking.Break.{Break}
 use Rattle.ticklab_answers.specs.declared.commands.told_run.Telling.{Telling}
-use Rattle.ticklab_answers.specs.declared.commands.told_run.Telling.TheVariants.{Trace, Picture}
+use Rattle.ticklab_answers.specs.declared.commands.told_run.Telling.TheVariants.{Trace, Picture, Page}
 use Rattle.ticklab_answers.specs.declared.response.Response.{Response}
 
 -- the schedule under which it runs, where this one is given
@@ -48,14 +46,26 @@ is_of_code Program = false
 is_of_code Code = true
 is_of_code Lifted = true
 
--- The report of a run that isn't made: of the file, these texts of a command line, the schedule or the code, in this order.
-pub data IsUnrun (name : List ℕ) (texts : List (List ℕ)) (input from text : List ℕ) (side : Side) (report : List ℕ) : Type 0 where
-  file_refused : IsFileRefused name input report → IsUnrun name texts input from text side report
-  option_refused : (is : IsProgramFile input) → TellsOption is.program (lines_in is.asked) texts report → IsUnrun name texts input from text side report
+-- a page has at most so many steps; what else is told of a run has any number
+abbrev pub IsWithin : Telling (List ℕ) → ℕ → Type 0
+IsWithin (Page title) count = count ≤ 20000
+IsWithin telling count = ⊤
+
+abbrev pub IsTooLong : Telling (List ℕ) → List ℕ → ℕ → List ℕ → Type 0
+IsTooLong (Page title) from count report = (20000 < count) × (report ≡ long_run_line from count)
+IsTooLong telling from count report = ⊥
+
+-- The report of a run of which nothing is told: of the file, these texts of a command line, the schedule, the code, or how
+-- long the run is.
+pub data IsUnrun (telling : Telling (List ℕ)) (name : List ℕ) (texts : List (List ℕ)) (input from text : List ℕ) (side : Side) (report : List ℕ) : Type 0 where
+  file_refused : IsFileRefused name input report → IsUnrun telling name texts input from text side report
+  option_refused : (is : IsProgramFile input) → TellsOption is.program (lines_in is.asked) texts report → IsUnrun telling name texts input from text side report
   schedule_refused : (is : IsProgramFile input) → TellsFor is.program.processes (IsScheduleRefused is.program.processes text) from text report
-      → IsUnrun name texts input from text side report
+      → IsUnrun telling name texts input from text side report
   code_refused : (is : IsProgramFile input) (schedule : List ℕ) → schedule_of is.program.processes text ≡ Ok schedule
-      → IsCodeless (is_of_code side) name is.program report → IsUnrun name texts input from text side report
+      → IsCodeless (is_of_code side) name is.program report → IsUnrun telling name texts input from text side report
+  too_long : (is : IsProgramFile input) (schedule : List ℕ) → schedule_of is.program.processes text ≡ Ok schedule
+      → IsTooLong telling from (length (schedule_on side is.program schedule)) report → IsUnrun telling name texts input from text side report
 
 -- what is told of a run of the program of an input, with what must never hold of it
 abbrev pub Told : List (List ℕ) → List ℕ → Type 1
@@ -68,9 +78,9 @@ pub record IsRun {texts : List (List ℕ)} {input : List ℕ} (side : Side) (P :
   pub spelled : schedule_of asks.file.program.processes text ≡ Ok schedule
   pub told : P asks (schedule_on side asks.file.program schedule) out
 
-pub data AnswersRun {texts : List (List ℕ)} {input : List ℕ} (side : Side) (P : Told texts input) (name from text : List ℕ) (response : Response) : Type 0 where
-  run : Gives 0 (IsRun side P text) response → AnswersRun side P name from text response
-  unrun : Refuses 1 (IsUnrun name texts input from text side) response → AnswersRun side P name from text response
+pub data AnswersRun {texts : List (List ℕ)} {input : List ℕ} (telling : Telling (List ℕ)) (side : Side) (P : Told texts input) (name from text : List ℕ) (response : Response) : Type 0 where
+  run : Gives 0 (IsRun side P text) response → AnswersRun telling side P name from text response
+  unrun : Refuses 1 (IsUnrun telling name texts input from text side) response → AnswersRun telling side P name from text response
 
 -- The lines of the steps of the program that the input is, with its statements where they stand there.
 pub record IsStatementTrace (input : List ℕ) (a : WholeProgram Name) (schedule out : List ℕ) : Type 0 where
@@ -108,54 +118,27 @@ abbrev pub IsTrace : Bool → List Formula → List TextPlace → List ℕ → W
 IsTrace true lines places input a schedule out = IsInstructionTrace a schedule out
 IsTrace false lines places input a schedule out = IsLinedTrace lines places input a schedule out
 
-abbrev pub row_names : WholeProgram Name → List (List ℕ)
-row_names a = map (λ row. row.letters) a.registers
-
--- the title of a picture of the program of this file, and how it looks
-abbrev pub title_of : Drawing (List ℕ) → List ℕ → List ℕ
-title_of drawing name = unwrap_or drawing.title (file_name name)
-
-abbrev pub look_of : Drawing (List ℕ) → Look
-look_of drawing = record { from = drawing.from; is_shared = drawing.is_shared; width = drawing.width }
-
--- The picture of the run of a program, with the first of these lines to be broken, which stand here.
-pub record IsProgramPicture (title : List ℕ) (look : Look) (lines : List Formula) (places : List TextPlace) (a : WholeProgram Name) (schedule out : List ℕ) : Type 0 where
-  pub mark : Option Broken
-  pub is_mark : IsMarked (resolved a) lines places schedule mark
-  pub drawn : out ≡ picture title look a.processes (row_names a) (program_marks (resolved a) schedule) mark
-
--- that of its code, of which no line is asked
-abbrev pub IsCodePicture : List ℕ → Look → WholeProgram Name → List ℕ → List ℕ → Type 0
-IsCodePicture title look a schedule out =
-    HasCode a × (out ≡ picture title look a.processes (row_names a) (marks_of_code (program_code a) schedule) None)
-
-abbrev pub IsRunPicture : List ℕ → Look → Bool → List Formula → List TextPlace → WholeProgram Name → List ℕ → List ℕ → Type 0
-IsRunPicture title look true lines places a schedule out = IsCodePicture title look a schedule out
-IsRunPicture title look false lines places a schedule out = IsProgramPicture title look lines places a schedule out
-
--- that which is asked for: of the run up to the last step that is shown
-abbrev pub IsPictureFor : Drawing (List ℕ) → Bool → List ℕ → List Formula → List TextPlace → WholeProgram Name → List ℕ → List ℕ → Type 0
-IsPictureFor drawing is_code name lines places a schedule out =
-    IsRunPicture (title_of drawing name) (look_of drawing) is_code lines places a (take drawing.to schedule) out
-
 -- texts that are lent, as the texts themselves
 abbrev pub plain_telling : Telling (Bor (List ℕ)) → Telling (List ℕ)
 plain_telling Trace = Trace
 plain_telling (Picture drawing) = Picture (plain_drawing drawing)
+plain_telling (Page title) = Page (option_map (λ text. text.now) title)
 
--- a run is told as a trace or as a picture
+-- a run is told as a trace, as a picture or as a page
 abbrev pub IsToldWith : Telling (List ℕ) → Bool → List ℕ → List Formula → List TextPlace → List ℕ → WholeProgram Name → List ℕ → List ℕ → Type 0
 IsToldWith Trace is_code name lines places input = IsTrace is_code lines places input
 IsToldWith (Picture drawing) is_code name lines places input = IsPictureFor drawing is_code name lines places
+IsToldWith (Page title) is_code name lines places input = IsPage (title_of title name) is_code lines places input
 
 abbrev pub IsTold : Telling (List ℕ) → Side → (name : List ℕ) (texts : List (List ℕ)) (input : List ℕ) → Told texts input
 IsTold telling side name texts input asks =
-    IsToldWith telling (is_of_code side) name asks.lines (places_by name input asks.file.asked texts) input asks.file.program
+    λ schedule out. IsWithin telling (length schedule)
+    × IsToldWith telling (is_of_code side) name asks.lines (places_by name input asks.file.asked texts) input asks.file.program schedule out
 
 abbrev pub TellsRun : {F : Type 0} → Telling (List ℕ) → ReadsOf F → ReadsInputOf F → F → F → List ℕ → List ℕ → List (List ℕ) → Side → Response → Type 0
 TellsRun telling Reads ReadsInput before after file schedule never side response =
     AfterBoth Reads ReadsInput before after file schedule
-    (λ input from text. AnswersRun side (IsTold telling side file never input) file from text response)
+    (λ input from text. AnswersRun telling side (IsTold telling side file never input) file from text response)
 
 abbrev pub Traces : {F : Type 0} → ReadsOf F → ReadsInputOf F → F → F → List ℕ → List ℕ → List (List ℕ) → Side → Response → Type 0
 Traces Reads ReadsInput before after file schedule never side response = TellsRun Trace Reads ReadsInput before after file schedule never side response
@@ -163,3 +146,7 @@ Traces Reads ReadsInput before after file schedule never side response = TellsRu
 abbrev pub Draws : {F : Type 0} → ReadsOf F → ReadsInputOf F → F → F → List ℕ → List ℕ → List (List ℕ) → Side → Drawing (List ℕ) → Response → Type 0
 Draws Reads ReadsInput before after file schedule never side drawing response =
     TellsRun (Picture drawing) Reads ReadsInput before after file schedule never side response
+
+abbrev pub Pages : {F : Type 0} → ReadsOf F → ReadsInputOf F → F → F → List ℕ → List ℕ → List (List ℕ) → Side → Option (List ℕ) → Response → Type 0
+Pages Reads ReadsInput before after file schedule never side title response =
+    TellsRun (Page title) Reads ReadsInput before after file schedule never side response

@@ -2,7 +2,7 @@
 ghost use Rattle.std.specs.Prelude.{◌≡◌, IfErr, IfOk};
 ghost use Rattle.std.specs.Vec.Iter.{into_iter_items};
 ghost use Rattle.ticklab_line.specs.Commands.{plain_request};
-ghost use Rattle.ticklab_answers.specs.Answers.{GivesWords, IsOfWordsOrFile, NamesOf, Responds, RespondsToWords};
+ghost use Rattle.ticklab_answers.specs.Answers.{GivesWords, IsOfWordsOrFile, NamesOf, Responds, RespondsAlone, RespondsToWords};
 ghost use Rattle.ticklab_answers.specs.Faults.{IsOfFileThat, IsOfWords};
 ghost use Rattle.ticklab_answers.specs.Hearing.{hearing};
 
@@ -13,6 +13,7 @@ mod exploring;
 mod hunting;
 mod labels;
 mod lasso;
+mod paging;
 mod tallying;
 mod told_run;
 mod tracing;
@@ -20,7 +21,7 @@ mod tracing;
 use crate::fault::LabFault;
 use crate::host::Files;
 use crate::progress::Progress;
-use crate::response::{Response, help, no_command};
+use crate::response::{Response, help, no_command, schedule_alone};
 pub use drawing::drawn;
 pub use ends::explored_ends;
 pub use explaining::explained;
@@ -28,6 +29,7 @@ pub use exploring::explored;
 pub use hunting::{hunted, plan_of};
 pub use labels::labelled;
 pub use lasso::lassoed;
+pub use paging::paged;
 use searches_hunt::Trials;
 use std::alloc::Global;
 use std::env::Args;
@@ -53,9 +55,28 @@ pub fn response_to<F: Files, M: Runner, T: Trials, W: Progress>(
     let words = words_of(alloc, given)?;
     match asked(alloc, words.as_slice())? {
         Line::Request(request) => answered(alloc, files, runner, trials, progress, request),
+        Line::Schedule(request) => {
+            answered_alone(alloc, files, runner, trials, progress, request)
+        }
         Line::Help(text) => Ok(help(alloc, text)),
         Line::Refused(text) => Ok(no_command(alloc, text)),
     }
+}
+
+// The schedule alone of the answer.
+fn answered_alone<F: Files, M: Runner, T: Trials, W: Progress>(
+    alloc: Global,
+    files: &mut F,
+    runner: &mut M,
+    trials: &T,
+    progress: &mut W,
+    request: Request<&str, Vec<&str>>,
+) -> Result<Response, LabFault>
+    ensures ok { IfOk result (RespondsAlone F.Reads F.ReadsInput M.Ran (hearing W.begins W.hears) files.old files.new runner.old runner.new progress.old progress.new (plain_request request.entry)) }
+    ensures err { IfErr result (IsOfFileThat (NamesOf (plain_request request.entry))) }
+{
+    let whole = answered(alloc, files, runner, trials, progress, request)?;
+    Ok(schedule_alone(alloc, whole)?)
 }
 
 fn answered<F: Files, M: Runner, T: Trials, W: Progress>(
@@ -126,6 +147,13 @@ fn answered<F: Files, M: Runner, T: Trials, W: Progress>(
             side,
             drawing,
         } => drawn(alloc, files, file, schedule, &never, side, drawing),
+        Request::Page {
+            file,
+            schedule,
+            never,
+            side,
+            title,
+        } => paged(alloc, files, file, schedule, &never, side, title),
         Request::Explain { file, schedule } => explained(alloc, files, file, schedule),
         Request::Labels { processes, moves } => labelled(alloc, processes, moves),
     }

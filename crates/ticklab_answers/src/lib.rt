@@ -26,7 +26,7 @@ mod trapping;
 mod writing;
 
 pub use commands::{
-    drawn, explained, explored, explored_ends, hunted, labelled, lassoed, tallied, traced,
+    drawn, explained, explored, explored_ends, hunted, labelled, lassoed, paged, tallied, traced,
 };
 pub use ending::ended;
 pub use fault::{AnswerFault, LabFault};

@@ -1,3 +1,4 @@
 pub mod CommandLines
 pub mod Numbers
 pub mod Askings
+pub mod Subcommands

@@ -13,7 +13,7 @@ use Rattle.ticklab_line.specs.declared.commands.Steps.{Steps}
 use Rattle.ticklab_line.specs.declared.commands.Steps.TheVariants.{Merged, MergedFirst, Single}
 use Rattle.ticklab_line.specs.declared.commands.Drawing.{Drawing}
 use Rattle.ticklab_line.specs.declared.commands.Request.{Request}
-use Rattle.ticklab_line.specs.declared.commands.Request.TheVariants.{Explore, Ends, Lasso, Hunt, Runs, Trace, Draw, Explain, Labels}
+use Rattle.ticklab_line.specs.declared.commands.Request.TheVariants.{Explore, Ends, Lasso, Hunt, Runs, Trace, Draw, Page, Explain, Labels}
 use Rattle.ticklab_line.specs.declared.commands.Side.{Side}
 use Rattle.ticklab_line.specs.declared.commands.Side.TheVariants.{Program, Code, Lifted}
 
@@ -22,18 +22,19 @@ abbrev pub Asked : Type 0
 Asked = Request Text (List Text)
 
 abbrev pub explore_app : App
-explore_app = with_rule (with_rule (with_rule (with_rule (with_rule (with_file (codes "explore"))
+explore_app = with_rule (with_rule (with_rule (with_rule (with_rule (with_rule (with_file (codes "explore"))
     (number_rule (codes "limit") (up_to 4294967295)))
     (flag_rule (codes "merged")))
     (flag_rule (codes "single")))
     (repeated_rule (codes "never")))
+    (flag_rule (codes "schedule-only")))
     ends_rule
 
 abbrev pub lasso_app : App
 lasso_app = with_rule (with_rule (with_file (codes "lasso")) (word_rule (codes "prefix"))) (word_rule (codes "cycle"))
 
 abbrev pub hunt_app : App
-hunt_app = with_rule (with_rule (with_rule (with_rule (with_rule (with_rule (with_rule (with_rule (with_file (codes "hunt"))
+hunt_app = with_rule (with_rule (with_rule (with_rule (with_rule (with_rule (with_rule (with_rule (with_rule (with_file (codes "hunt"))
     (number_rule (codes "seed") (Unsigned 0 18446744073709551615)))
     (number_rule (codes "runs") (up_to 4294967295)))
     (number_rule (codes "from") (up_to 4294967295)))
@@ -41,9 +42,10 @@ hunt_app = with_rule (with_rule (with_rule (with_rule (with_rule (with_rule (wit
     (number_rule (codes "jobs") (from_one_to 64)))
     (flag_rule (codes "uniform")))
     (repeated_rule (codes "never")))
+    (flag_rule (codes "schedule-only")))
     threads_rule
 
--- `trace` and `draw`
+-- `trace`, `draw` and `page`
 abbrev pub run_app : Text → App
 run_app name = with_rule (with_rule (with_rule (with_rule (with_file name) (word_rule (codes "schedule")))
     (flag_rule (codes "code")))
@@ -58,6 +60,9 @@ draw_app = with_rule (with_rule (with_rule (with_rule (with_rule (run_app (codes
     (flag_rule (codes "shared")))
     (number_rule (codes "width") (Signed (pos 300) (pos 20000)))
 
+abbrev pub page_app : App
+page_app = with_rule (run_app (codes "page")) (text_rule (codes "title"))
+
 abbrev pub explain_app : App
 explain_app = with_rule (with_file (codes "explain")) (further_rule (codes "schedule"))
 
@@ -70,8 +75,8 @@ command_wanted =
     on_top (λ s. record s { subcommand_required = true; arg_required_else_help = true }) (new_app (codes "ticklab"))
 
 abbrev pub ticklab : App
-ticklab = with_app (with_app (with_app (with_app (with_app (with_app (with_app command_wanted
-    explore_app) lasso_app) hunt_app) (run_app (codes "trace"))) draw_app) explain_app) labels_app
+ticklab = with_app (with_app (with_app (with_app (with_app (with_app (with_app (with_app command_wanted
+    explore_app) lasso_app) hunt_app) (run_app (codes "trace"))) draw_app) page_app) explain_app) labels_app
 
 abbrev pub limit_in : List Row → Option ℕ
 limit_in = number_or 32 (codes "limit") 1000000
@@ -130,13 +135,6 @@ hunt_in rows = option_map_or (runs_in rows) (all_of (codes "threads") rows) (pla
 abbrev pub side_in : List Row → Side
 side_in rows = if is_set (codes "lift") rows then Lifted else if is_set (codes "code") rows then Code else Program
 
-abbrev pub trace_of : List Text → List Row → Option Asked
-trace_of never rows = for_file rows (λ file. option_map
-    (λ schedule. Trace file schedule never (side_in rows)) (first_of (codes "schedule") rows))
-
-abbrev pub trace_in : List Row → Option Asked
-trace_in rows = trace_of (list_of (codes "never") rows) rows
-
 -- what is shown of a run where no option says another thing: all steps, under the file's name
 abbrev pub whole_run : Drawing Text
 whole_run = record { title = None; from = 1; to = 10000000; is_shared = false; width = 1000 }
@@ -146,12 +144,15 @@ drawing_in rows = for_number_or 32 (codes "from") 1 rows (λ from. for_number_or
     for_number_or 32 (codes "width") 1000 rows (λ width.
     Some (record { title = first_of (codes "title") rows; from = from; to = to; is_shared = is_set (codes "shared") rows; width = width }))))
 
-abbrev pub draw_of : List Text → List Row → Option Asked
-draw_of never rows = for_file rows (λ file. option_and_then (λ schedule. option_map
-    (λ drawing. Draw file schedule never (side_in rows) drawing) (drawing_in rows)) (first_of (codes "schedule") rows))
+-- what a command of this name asks for that takes a schedule, with the texts of what must never hold
+abbrev pub run_of : Text → List Text → List Row → Option Asked
+run_of name never rows = for_file rows (λ file. option_and_then (λ schedule.
+    if bytes_eq name (codes "draw") then option_map (Draw file schedule never (side_in rows)) (drawing_in rows)
+    else if bytes_eq name (codes "page") then Some (Page file schedule never (side_in rows) (first_of (codes "title") rows))
+    else Some (Trace file schedule never (side_in rows))) (first_of (codes "schedule") rows))
 
-abbrev pub draw_in : List Row → Option Asked
-draw_in rows = draw_of (list_of (codes "never") rows) rows
+abbrev pub run_in : Text → List Row → Option Asked
+run_in name rows = run_of name (list_of (codes "never") rows) rows
 
 abbrev pub explain_in : List Row → Option Asked
 explain_in rows = for_file rows (λ file. Some (Explain file (first_of (codes "schedule") rows)))
@@ -166,8 +167,9 @@ named name rows =
     if bytes_eq name (codes "explore") then explore_in rows
     else if bytes_eq name (codes "lasso") then lasso_in rows
     else if bytes_eq name (codes "hunt") then hunt_in rows
-    else if bytes_eq name (codes "trace") then trace_in rows
-    else if bytes_eq name (codes "draw") then draw_in rows
+    else if bytes_eq name (codes "trace") then run_in name rows
+    else if bytes_eq name (codes "draw") then run_in name rows
+    else if bytes_eq name (codes "page") then run_in name rows
     else if bytes_eq name (codes "explain") then explain_in rows
     else if bytes_eq name (codes "labels") then labels_in rows
     else None
@@ -187,6 +189,7 @@ plain_request (Hunt file never seed runs from steps is_uniform jobs) = Hunt file
 plain_request (Runs file times turns) = Runs file.now times turns
 plain_request (Trace file schedule never side) = Trace file.now schedule.now (map (λ text. text.now) never.items) side
 plain_request (Draw file schedule never side drawing) = Draw file.now schedule.now (map (λ text. text.now) never.items) side (plain_drawing drawing)
+plain_request (Page file schedule never side title) = Page file.now schedule.now (map (λ text. text.now) never.items) side (option_map (λ text. text.now) title)
 plain_request (Explain file schedule) = Explain file.now (option_map (λ text. text.now) schedule)
 plain_request (Labels processes moves) = Labels processes moves.now
 
@@ -207,6 +210,7 @@ rows = (codes "explore" ∷ codes "a" ∷ codes "--limit" ∷ codes "7" ∷ [], 
     ∷ (codes "explore" ∷ codes "a" ∷ codes "--merged" ∷ codes "--ends" ∷ [], Ends (codes "a") [] None 1000000 Merged)
     ∷ (codes "explore" ∷ codes "--single" ∷ codes "--ends=1" ∷ codes "a" ∷ [], Ends (codes "a") [] (Some 1) 1000000 Single)
     ∷ (codes "explore" ∷ codes "a" ∷ codes "--ends" ∷ codes "0" ∷ codes "--merged" ∷ [], Ends (codes "a") [] (Some 0) 1000000 Merged)
+    ∷ (codes "explore" ∷ codes "--schedule-only" ∷ codes "a" ∷ codes "--ends" ∷ [], Ends (codes "a") [] None 1000000 MergedFirst)
     ∷ (codes "lasso" ∷ codes "a" ∷ codes "0 1" ∷ codes "@b" ∷ [], Lasso (codes "a") (codes "0 1") (codes "@b"))
     ∷ (codes "trace" ∷ codes "a" ∷ codes "0 1*3" ∷ [], Trace (codes "a") (codes "0 1*3") [] Program)
     ∷ (
@@ -220,6 +224,9 @@ rows = (codes "explore" ∷ codes "a" ∷ codes "--limit" ∷ codes "7" ∷ [], 
     ∷ (codes "draw" ∷ codes "a" ∷ codes "-" ∷ codes "--lift" ∷ [], Draw (codes "a") (codes "-") [] Lifted whole_run)
     ∷ (codes "draw" ∷ codes "a" ∷ codes "0" ∷ codes "--title" ∷ codes "b/c" ∷ codes "--shared" ∷ [], Draw (codes "a") (codes "0") [] Program (record whole_run { title = Some (codes "b/c"); is_shared = true }))
     ∷ (codes "draw" ∷ codes "--from=2" ∷ codes "a" ∷ codes "--to" ∷ codes "9" ∷ codes "0" ∷ codes "--width=300" ∷ [], Draw (codes "a") (codes "0") [] Program (record whole_run { from = 2; to = 9; width = 300 }))
+    ∷ (codes "page" ∷ codes "a" ∷ codes "0" ∷ [], Page (codes "a") (codes "0") [] Program None)
+    ∷ (codes "page" ∷ codes "--title=b" ∷ codes "a" ∷ codes "@c" ∷ codes "--lift" ∷ [], Page (codes "a") (codes "@c") [] Lifted (Some (codes "b")))
+    ∷ (codes "page" ∷ codes "a" ∷ codes "--never" ∷ codes "n" ∷ codes "-" ∷ [], Page (codes "a") (codes "-") (codes "n" ∷ []) Program None)
     ∷ (codes "trace" ∷ codes "a" ∷ codes "--lift" ∷ codes "0" ∷ codes "--code" ∷ [], Trace (codes "a") (codes "0") [] Lifted)
     ∷ (codes "explain" ∷ codes "a" ∷ [], Explain (codes "a") None)
     ∷ (codes "explain" ∷ codes "a" ∷ codes "0" ∷ [], Explain (codes "a") (Some (codes "0")))

@@ -1,5 +1,5 @@
 -- Which options do not go together: of `hunt` `--threads`, and each option of a hunt by random schedules; of `explore`
--- `--merged` and `--single`; of `trace` and `draw` `--never`, and `--code` or `--lift`.
+-- `--merged` and `--single`; of `trace`, `draw` and `page` `--never`, and `--code` or `--lift`.
 use Rattle.std.specs.Prelude.{Bool, true, false, List, ◌++◌, ◌&&◌, ◌||◌, Option, Some, None, codes, bytes_eq, map}
 use Rattle.std.specs.Prelude.{if◌then◌else◌, find, is_some, option_and_then, option_map}
 use Rattle.std.specs.Option.{option_map_or}
@@ -17,7 +17,7 @@ pub record Shown : Type 0 where
 abbrev pub is_of_plan : Text → Bool
 is_of_plan id = bytes_eq id (codes "seed") || (bytes_eq id (codes "runs")
     || (bytes_eq id (codes "from") || (bytes_eq id (codes "steps") || (bytes_eq id (codes "jobs")
-    || (bytes_eq id (codes "uniform") || bytes_eq id (codes "never"))))))
+    || (bytes_eq id (codes "uniform") || (bytes_eq id (codes "never") || bytes_eq id (codes "schedule-only")))))))
 
 -- the first option of a plan that is given, as it is shown
 abbrev pub plan_option : List Row → Option Text
@@ -29,6 +29,7 @@ plan_option rows =
     else if is_given (codes "jobs") rows then Some (codes "--jobs <N>")
     else if is_set (codes "uniform") rows then Some (codes "--uniform")
     else if is_given (codes "never") rows then Some (codes "--never <EXPR>")
+    else if is_set (codes "schedule-only") rows then Some (codes "--schedule-only")
     else None
 
 abbrev pub may_conflict : Text → Bool
@@ -57,10 +58,16 @@ merged_and_single = record { command = codes "explore"; words = codes " <FILE>";
 abbrev pub steps_conflict : List Row → Option Shown
 steps_conflict rows = if is_set (codes "merged") rows && is_set (codes "single") rows then Some merged_and_single else None
 
--- of a command of this name
+-- the command of this name that takes a schedule
+abbrev pub run_named : Text → Text
+run_named name =
+    if bytes_eq name (codes "draw") then codes "draw"
+    else if bytes_eq name (codes "page") then codes "page"
+    else codes "trace"
+
 abbrev pub beside_never : Text → Text → Shown
 beside_never name option = record {
-  command = if bytes_eq name (codes "draw") then codes "draw" else codes "trace";
+  command = run_named name;
   words = codes " <FILE> <SCHEDULE>";
   first = option;
   second = codes "--never <EXPR>";

@@ -1,10 +1,10 @@
 -- What command lines ask for, computed from the description of the command line alone.
-use Rattle.std.specs.Prelude.{◌≡◌, true, false, List, [], ◌∷◌, Option, Some, None, codes, map}
+use Rattle.std.specs.Prelude.{◌≡◌, Bool, true, false, List, [], ◌∷◌, Option, Some, None, codes, map}
 use Rattle.clap.specs.Walk.{Text}
 use Rattle.clap.specs.Kinds.{Kinds}
 use Rattle.clap.specs.declared.error.kind.ErrorKind.TheVariants as kind
 use Rattle.ticklab_line.specs.Commands.{Asked, request_in, rows}
-use Rattle.ticklab_line.specs.Lines.{command_in, faults}
+use Rattle.ticklab_line.specs.Lines.{command_in, faults, is_schedule_only}
 use Rattle.ticklab_line.specs.Conflicts.{Shown, beside_never, conflict_in, merged_and_single}
 use Rattle.ticklab_line.specs.declared.commands.Request.TheVariants.{Explore, Hunt, Runs}
 use Rattle.ticklab_line.specs.declared.commands.Steps.TheVariants.{MergedFirst}
@@ -28,11 +28,21 @@ Tells words kinds = faults (line words) ≡ kinds
 abbrev pub read : List Text → Kinds × Option Shown × Option Asked
 read words = (faults (line words), conflict_in (command_in (line words)), request_in (command_in (line words)))
 
+-- whether the schedule of an answer is asked for alone
+abbrev pub asks_alone : List Text → Bool
+asks_alone words = is_schedule_only (command_in (line words))
+
 pub record CommandsLaw : Type 0 where
   pub explore : (rest : Text) → Asks (codes "explore" ∷ (97 ∷ rest) ∷ []) (Explore (97 ∷ rest) [] 1000000 MergedFirst)
   pub code_never : IsTaken (codes "trace" ∷ codes "a" ∷ codes "0" ∷ codes "--never=1" ∷ codes "--code" ∷ []) (Some (beside_never (codes "trace") (codes "--code")))
   pub drawn_code_never : IsTaken (codes "draw" ∷ codes "--code" ∷ codes "a" ∷ codes "0" ∷ codes "--never" ∷ codes "n" ∷ []) (Some (beside_never (codes "draw") (codes "--code")))
   pub lift_never : IsTaken (codes "draw" ∷ codes "a" ∷ codes "0" ∷ codes "--never" ∷ codes "n" ∷ codes "--lift" ∷ []) (Some (beside_never (codes "draw") (codes "--lift")))
+  pub page_lift : IsTaken (codes "page" ∷ codes "a" ∷ codes "0" ∷ codes "--lift" ∷ codes "--never" ∷ codes "n" ∷ []) (Some (beside_never (codes "page") (codes "--lift")))
+  pub alone : asks_alone (codes "explore" ∷ codes "a" ∷ codes "--schedule-only" ∷ []) ≡ true
+  pub alone_of_ends : asks_alone (codes "explore" ∷ codes "--schedule-only" ∷ codes "a" ∷ codes "--ends" ∷ []) ≡ true
+  pub alone_of_a_hunt : asks_alone (codes "hunt" ∷ codes "a" ∷ codes "--schedule-only" ∷ []) ≡ true
+  pub whole : asks_alone (codes "explore" ∷ codes "a" ∷ codes "--ends" ∷ []) ≡ false
+  pub whole_of_a_trace : asks_alone (codes "trace" ∷ codes "a" ∷ codes "0" ∷ []) ≡ false
   pub merged_single : IsTaken (codes "explore" ∷ codes "a" ∷ codes "--merged" ∷ codes "--single" ∷ []) (Some merged_and_single)
   pub single_merged : IsTaken (codes "explore" ∷ codes "--single" ∷ codes "a" ∷ codes "--ends" ∷ codes "--merged" ∷ []) (Some merged_and_single)
   pub all : map (λ row. read row.0) rows ≡ map (λ row. ([], None, Some row.1)) rows
@@ -69,6 +79,7 @@ pub record HuntsLaw : Type 0 where
   pub threads_jobs : Conflicts (threads (codes "--jobs" ∷ codes "2" ∷ [])) shown_threads (codes "--jobs <N>")
   pub threads_uniform : Conflicts (threads (codes "--uniform" ∷ [])) shown_threads (codes "--uniform")
   pub threads_never : Conflicts (threads (codes "--never" ∷ codes "n" ∷ [])) shown_threads (codes "--never <EXPR>")
+  pub threads_schedule : Conflicts (threads (codes "--schedule-only" ∷ [])) shown_threads (codes "--schedule-only")
   pub steps_threads : Conflicts (codes "--steps" ∷ codes "5" ∷ threads []) (codes "--steps <N>") shown_threads
   pub uniform_threads : Conflicts (codes "--uniform" ∷ threads []) (codes "--uniform") shown_threads
   pub all : Conflicts (codes "--steps" ∷ codes "5" ∷ threads (codes "--uniform" ∷ codes "--seed" ∷ codes "1" ∷ [])) (codes "--seed <N>") shown_threads

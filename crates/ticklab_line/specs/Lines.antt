@@ -1,5 +1,7 @@
 -- What the words of a command line ask for.
-use Rattle.std.specs.Prelude.{◌≡◌, ◌≢◌, List, [], ◌∷◌, MatchOption, Option, Some, None, codes, string_bytes}
+use Rattle.std.specs.Prelude.{◌≡◌, ◌≢◌, Bool, true, false, List, [], ◌∷◌, MatchOption, Option, Some, None, Vec, codes, string_bytes}
+use Rattle.std.specs.Borrow.{Bor}
+use Rattle.std.specs.Global.{Global}
 use Rattle.clap.specs.Walk.{Row, Text}
 use Rattle.clap.specs.Simple.{subcommand_of}
 use Rattle.clap.specs.Faults.{fault_of}
@@ -8,8 +10,10 @@ use Rattle.clap.specs.declared.error.kind.ErrorKind.{ErrorKind}
 use Rattle.clap.specs.declared.error.kind.ErrorKind.TheVariants as kind
 use Rattle.ticklab_line.specs.Conflicts.{conflict_in, conflict_text}
 use Rattle.ticklab_line.specs.Commands.{plain_request, request_in, ticklab}
+use Rattle.ticklab_line.specs.Found.{is_set}
 use Rattle.ticklab_line.specs.declared.asking.Line.{Line}
 use Rattle.ticklab_line.specs.declared.asking.Line.TheVariants as line
+use Rattle.ticklab_line.specs.declared.commands.Request.{Request}
 
 -- the command that `clap` finds in the words, the first of which is the program's name, with the values that it read
 unfoldable pub command_in : List Text → Option (Text × List Row)
@@ -24,9 +28,22 @@ faults words = fault_of ticklab words
 abbrev pub number_text : Text
 number_text = codes "error: a number is out of its range\n"
 
+-- whether the schedule of an answer is asked for alone
+abbrev pub is_schedule_only : Option (Text × List Row) → Bool
+is_schedule_only None = false
+is_schedule_only (Some found) = is_set (codes "schedule-only") found.1
+
+-- the whole answer to a request is asked for, or its schedule alone
+abbrev pub IsAskedBy : Option (Text × List Row) → Request (Bor Text) (Vec (Bor Text) Global) → Line → Type 0
+IsAskedBy found request (line.Request asked) = (is_schedule_only found ≡ false) × (asked ≡ request)
+IsAskedBy found request (line.Schedule asked) = (is_schedule_only found ≡ true) × (asked ≡ request)
+IsAskedBy found request (line.Help text) = ⊥
+IsAskedBy found request (line.Refused text) = ⊥
+
 -- what is answered to words that have no conflict
 abbrev pub IsMeant : Option (Text × List Row) → Line → Type 0
-IsMeant found (line.Request request) = request_in found ≡ Some (plain_request request)
+IsMeant found (line.Request request) = (is_schedule_only found ≡ false) × (request_in found ≡ Some (plain_request request))
+IsMeant found (line.Schedule request) = (is_schedule_only found ≡ true) × (request_in found ≡ Some (plain_request request))
 IsMeant found (line.Help text) = ⊥
 IsMeant found (line.Refused text) = (request_in found ≡ None) × (string_bytes text ≡ number_text)
 

@@ -44,6 +44,17 @@ pub fn flag<'a>(alloc: Global, name: &'a str, help: &'a str) -> Arg<'a>
         .help(help)
 }
 
+/// Of a command whose answer may have a schedule.
+pub fn schedule_only<'a>(alloc: Global) -> Arg<'a>
+    ensures { IsWord (flag_rule (codes "schedule-only")) result }
+{
+    flag(
+        alloc,
+        "schedule-only",
+        "Prints the line of the schedule alone, and nothing where there is none",
+    )
+}
+
 /// An option with a number. What stands for it where it is left out is for the help alone.
 pub fn option<'a>(
     alloc: Global,

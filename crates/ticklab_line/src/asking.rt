@@ -1,10 +1,11 @@
 ghost use Rattle.std.specs.Prelude.{◌≡◌, ◌≢◌, IfOk, map, string_bytes};
 ghost use Rattle.clap.specs.Simple.{subcommand_rows_of};
 ghost use Rattle.clap.specs.Values.{kind_of};
-ghost use Rattle.ticklab_line.specs.Lines.{Answers, IsFound, IsMeant, IsToldBy, number_text};
+ghost use Rattle.ticklab_line.specs.Lines.{Answers, IsAskedBy, IsFound, IsMeant, IsToldBy, number_text};
 
 use crate::commands::{Lent, command_line, request_in};
 use crate::conflicts::{conflict_in, conflict_text};
+use crate::values::is_set;
 use clap::error::ErrorKind;
 use clap::{ArgMatches, Error};
 use std::alloc::{AllocError, Global};
@@ -13,6 +14,8 @@ use std::alloc::{AllocError, Global};
 #[derive(Drop)]
 pub enum Line<'a> {
     Request(Lent<'a>),
+    /// The schedule alone of the answer to this.
+    Schedule(Lent<'a>),
     /// The help that was asked for.
     Help(String),
     /// The words are no command, and why.
@@ -43,8 +46,23 @@ fn meant<'a>(alloc: Global, matches: &ArgMatches<'a>) -> Result<Line<'a>, AllocE
     ensures { IfOk result (IsMeant (subcommand_rows_of matches.now)) }
 {
     match request_in(alloc, matches)? {
-        Some(request) => Ok(Line::Request(request)),
+        Some(request) => Ok(line_of(matches, request)),
         None => Ok(Line::Refused(number_refused(alloc)?)),
+    }
+}
+
+fn line_of<'a>(matches: &ArgMatches<'a>, request: Lent<'a>) -> Line<'a>
+    ensures { IsAskedBy (subcommand_rows_of matches.now) request.entry result }
+{
+    match matches.subcommand() {
+        Some((_name, given)) => {
+            if is_set(given, "schedule-only") {
+                Line::Schedule(request)
+            } else {
+                Line::Request(request)
+            }
+        }
+        None => Line::Request(request),
     }
 }
 

@@ -1,15 +1,15 @@
 //! The commands: what each asks for, how it is described to `clap`, and how it is read from what `clap` found.
 ghost use Rattle.std.specs.Prelude.{◌≡◌, IfOk, Ok, codes, map, option_map};
 ghost use Rattle.clap.specs.Matches.{found_of};
-ghost use Rattle.clap.specs.Walk.{rows_of};
+ghost use Rattle.clap.specs.Walk.{first_of, rows_of};
 ghost use Rattle.clap.specs.Simple.{app_of, subcommand_rows_of};
 ghost use Rattle.ticklab_line.specs.CommandLine.{IsCommand, IsLine};
-ghost use Rattle.ticklab_line.specs.Commands.{command_wanted, draw_app, draw_in, draw_of, drawing_in, ends_in, ends_of, explain_app, explain_in, explore_app, explore_in, hunt_app, hunt_in, labels_app, labels_in, lasso_app, lasso_in, limit_in, named, plain_drawing, plain_request, plan_of, run_app, runs_in, schedules_of, side_in, steps_in, ticklab, trace_in, trace_of};
+ghost use Rattle.ticklab_line.specs.Commands.{command_wanted, draw_app, drawing_in, ends_in, ends_of, explain_app, explain_in, explore_app, explore_in, hunt_app, hunt_in, labels_app, labels_in, lasso_app, lasso_in, limit_in, named, page_app, plain_drawing, plain_request, plan_of, run_app, run_in, run_of, runs_in, schedules_of, side_in, steps_in, ticklab};
 ghost use Rattle.ticklab_line.specs.Commands.{request_in as found_request};
 
 use crate::arguments::{
-    ends, flag, further, jobs, length, option, processes, repeated, step, text, threads, width,
-    word,
+    ends, flag, further, jobs, length, option, processes, repeated, schedule_only, step, text,
+    threads, width, word,
 };
 use crate::parts::{STATUSES, filed, named, taking, with};
 use crate::values::{
@@ -114,6 +114,14 @@ pub enum Request<T, L> {
         side: Side,
         drawing: Drawing<T>,
     },
+    /// A run as a page of HTML, with this title where that is not the file's name.
+    Page {
+        file: T,
+        schedule: T,
+        never: L,
+        side: Side,
+        title: Option<T>,
+    },
     /// What is wrong with a program or a code, or with a schedule of it.
     Explain {
         file: T,
@@ -146,6 +154,7 @@ pub fn command_line<'a>(alloc: Global) -> Result<Command<'a>, AllocError>
         run(alloc, "trace", "Prints a line for each step of a run"),
     );
     let line = with(line, draw(alloc));
+    let line = with(line, page(alloc));
     let line = with(line, explain(alloc));
     with(line, labels(alloc))
 }
@@ -187,8 +196,7 @@ fn request_named<'a>(
         "explore" => explore_in(alloc, given),
         "lasso" => Ok(lasso_in(given)),
         "hunt" => hunt_in(alloc, given),
-        "trace" => trace_in(alloc, given),
-        "draw" => draw_in(alloc, given),
+        "trace" | "draw" | "page" => run_in(alloc, name, given),
         "explain" => Ok(explain_in(given)),
         "labels" => Ok(labels_in(given)),
         _ => Ok(None),
@@ -239,6 +247,7 @@ fn explore<'a>(alloc: Global) -> Result<Command<'a>, AllocError>
             "Asks too whether no state has this property, like a line #! never EXPR of the program; it may be given again",
         ),
     );
+    let explore = taking(explore, schedule_only(alloc));
     taking(explore, ends(alloc))
 }
 
@@ -419,6 +428,7 @@ fn hunt<'a>(alloc: Global) -> Result<Command<'a>, AllocError>
             "Asks too that no state has this property, like a line #! never EXPR of the program; it may be given again",
         ),
     );
+    let hunt = taking(hunt, schedule_only(alloc));
     taking(hunt, threads(alloc))
 }
 
@@ -564,41 +574,52 @@ fn side_in(given: &ArgMatches<'_>) -> Side
     Side::Program
 }
 
-fn trace_in<'a>(alloc: Global, given: &ArgMatches<'a>) -> Result<Option<Lent<'a>>, AllocError>
-    ensures { IfOk result (λ found. option_map plain_request found ≡ trace_in (rows_of (found_of given.now))) }
+// What `trace`, `draw` or `page` asks for, by its name.
+fn run_in<'a>(
+    alloc: Global,
+    name: &str,
+    given: &ArgMatches<'a>,
+) -> Result<Option<Lent<'a>>, AllocError>
+    ensures { IfOk result (λ found. option_map plain_request found ≡ run_in name.now (rows_of (found_of given.now))) }
 {
     let never = list_in(alloc, given, "never")?;
-    Ok(trace_of(given, never))
+    Ok(run_of(name, given, never))
 }
 
-fn trace_of<'a>(given: &ArgMatches<'a>, never: Vec<&'a str>) -> Option<Lent<'a>>
-    ensures { option_map plain_request result ≡ trace_of (map (λ text. text.now) never.entry.items) (rows_of (found_of given.now)) }
+fn run_of<'a>(name: &str, given: &ArgMatches<'a>, never: Vec<&'a str>) -> Option<Lent<'a>>
+    ensures { option_map plain_request result ≡ run_of name.now (map (λ text. text.now) never.entry.items) (rows_of (found_of given.now)) }
 {
-    Some(Request::Trace {
-        file: text_in(given, "file")?,
-        schedule: text_in(given, "schedule")?,
-        never,
-        side: side_in(given),
-    })
+    let file = text_in(given, "file")?;
+    let schedule = text_in(given, "schedule")?;
+    let side = side_in(given);
+    match name {
+        "draw" => Some(Request::Draw {
+            file,
+            schedule,
+            never,
+            side,
+            drawing: drawing_in(given)?,
+        }),
+        "page" => Some(Request::Page {
+            file,
+            schedule,
+            never,
+            side,
+            title: title_in(given),
+        }),
+        _ => Some(Request::Trace {
+            file,
+            schedule,
+            never,
+            side,
+        }),
+    }
 }
 
-fn draw_in<'a>(alloc: Global, given: &ArgMatches<'a>) -> Result<Option<Lent<'a>>, AllocError>
-    ensures { IfOk result (λ found. option_map plain_request found ≡ draw_in (rows_of (found_of given.now))) }
+fn title_in<'a>(given: &ArgMatches<'a>) -> Option<&'a str>
+    ensures { option_map (λ text. text.now) result ≡ first_of (codes "title") (rows_of (found_of given.now)) }
 {
-    let never = list_in(alloc, given, "never")?;
-    Ok(draw_of(given, never))
-}
-
-fn draw_of<'a>(given: &ArgMatches<'a>, never: Vec<&'a str>) -> Option<Lent<'a>>
-    ensures { option_map plain_request result ≡ draw_of (map (λ text. text.now) never.entry.items) (rows_of (found_of given.now)) }
-{
-    Some(Request::Draw {
-        file: text_in(given, "file")?,
-        schedule: text_in(given, "schedule")?,
-        never,
-        side: side_in(given),
-        drawing: drawing_in(given)?,
-    })
+    text_in(given, "title")
 }
 
 fn drawing_in<'a>(given: &ArgMatches<'a>) -> Option<Drawing<&'a str>>
@@ -608,9 +629,28 @@ fn drawing_in<'a>(given: &ArgMatches<'a>) -> Option<Drawing<&'a str>>
         from: number_or(given, "from", 1)?,
         to: number_or(given, "to", 10_000_000)?,
         width: number_or(given, "width", 1000)?,
-        title: text_in(given, "title"),
+        title: title_in(given),
         is_shared: is_set(given, "shared"),
     })
+}
+
+fn page<'a>(alloc: Global) -> Result<Command<'a>, AllocError>
+    ensures { IsCommand page_app result }
+{
+    let page = run(
+        alloc,
+        "page",
+        "Writes a run as one page of HTML, to go through step by step, on standard output",
+    );
+    taking(
+        page,
+        text(
+            alloc,
+            "title",
+            "TEXT",
+            "The title of the page [default: the name of the program's file]",
+        ),
+    )
 }
 
 fn explain<'a>(alloc: Global) -> Result<Command<'a>, AllocError>

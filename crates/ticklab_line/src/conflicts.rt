@@ -3,7 +3,7 @@ ghost use Rattle.std.specs.Prelude.{◌≡◌, IfOk, map, option_map, string_byt
 ghost use Rattle.clap.specs.Matches.{found_of};
 ghost use Rattle.clap.specs.Walk.{rows_of};
 ghost use Rattle.clap.specs.Simple.{subcommand_rows_of};
-ghost use Rattle.ticklab_line.specs.Conflicts.{code_conflict, code_option, conflict_in as conflict_found, conflict_of, conflict_text, in_order, may_conflict, plan_option, shown, steps_conflict, threads_conflict, threads_lead};
+ghost use Rattle.ticklab_line.specs.Conflicts.{code_conflict, code_option, conflict_in as conflict_found, conflict_of, conflict_text, in_order, may_conflict, plan_option, run_named, shown, steps_conflict, threads_conflict, threads_lead};
 
 use crate::values::{is_set, text_in, texts_in};
 use clap::ArgMatches;
@@ -58,18 +58,29 @@ fn steps_conflict(given: &ArgMatches<'_>) -> Option<Conflict<'static>>
     None
 }
 
-// `--code` or `--lift`, and `--never`, of `trace` or `draw`.
+// `--code` or `--lift`, and `--never`, of `trace`, `draw` or `page`.
 fn code_conflict(name: &str, given: &ArgMatches<'_>) -> Option<Conflict<'static>>
     ensures { option_map shown result ≡ code_conflict name.now (rows_of (found_of given.now)) }
 {
     let _never = text_in(given, "never")?;
     let option = code_option(given)?;
     Some(Conflict {
-        command: if name == "draw" { "draw" } else { "trace" },
+        command: run_named(name),
         words: " <FILE> <SCHEDULE>",
         first: option,
         second: "--never <EXPR>",
     })
+}
+
+// The command of this name that takes a schedule.
+fn run_named(name: &str) -> &'static str
+    ensures { result.now ≡ run_named name.now }
+{
+    match name {
+        "draw" => "draw",
+        "page" => "page",
+        _ => "trace",
+    }
 }
 
 fn code_option(given: &ArgMatches<'_>) -> Option<&'static str>
@@ -137,6 +148,9 @@ fn plan_option(given: &ArgMatches<'_>) -> Option<&'static str>
     if text_in(given, "never").is_some() {
         return Some("--never <EXPR>");
     }
+    if is_set(given, "schedule-only") {
+        return Some("--schedule-only");
+    }
     None
 }
 
@@ -157,7 +171,15 @@ fn may_conflict(id: &str) -> bool
 {
     matches!(
         id,
-        "threads" | "seed" | "runs" | "from" | "steps" | "jobs" | "uniform" | "never"
+        "threads"
+            | "seed"
+            | "runs"
+            | "from"
+            | "steps"
+            | "jobs"
+            | "uniform"
+            | "never"
+            | "schedule-only"
     )
 }
 

@@ -9,7 +9,8 @@ ghost use Rattle.ticklab_answers.specs.Asking.{place_of, texts_of};
 ghost use Rattle.ticklab_answers.specs.Breaking.{IsMarkedFor, mark_of};
 ghost use Rattle.ticklab_answers.specs.Codes.{HasCode, IsCodeless, program_code};
 ghost use Rattle.ticklab_answers.specs.Faults.{IsEither, IsOfFileThat};
-ghost use Rattle.ticklab_answers.specs.Runs.{Draws, IsPictureFor, IsRunPicture, look_of, title_of};
+ghost use Rattle.ticklab_answers.specs.Pictures.{IsPictureFor, IsRunPicture, look_of, title_of};
+ghost use Rattle.ticklab_answers.specs.Runs.{Draws};
 ghost use Rattle.ticklab_answers.specs.Stops.{IfRefused};
 
 use crate::asking::{NeverLines, PropertyPlace};
@@ -60,17 +61,17 @@ pub fn picture_for(
     ensures ok { IfOk result (λ out. IsPictureFor (plain_drawing drawing.now) is_code name.now (lines_of lines.now.properties.items) (map place_of lines.now.places.items) program.now schedule.now out.items) }
     ensures refused { IfErr result (λ stop. IfRefused stop (IsCodeless is_code name.now program.now)) }
 {
-    let title = title_of(drawing, name);
+    let title = title_of(drawing.title, name);
     let look = look_of(drawing);
     let shown = steps_to(drawing.to, schedule);
     picture_of(alloc, name, title, look, program, lines, shown, is_code)
 }
 
-// The title that is asked for, else the name of the file without its folder.
-fn title_of<'t>(drawing: &Drawing<&'t str>, name: &'t str) -> &'t [u8]
-    ensures { result.now ≡ title_of (plain_drawing drawing.now) name.now }
+/// The title that is asked for, else the name of the file without its folder.
+pub fn title_of<'t>(title: Option<&'t str>, name: &'t str) -> &'t [u8]
+    ensures { result.now ≡ title_of (option_map (λ text. text.now) title.entry) name.now }
 {
-    match drawing.title {
+    match title {
         Some(title) => title.as_bytes(),
         None => file_name(name.as_bytes()),
     }
@@ -123,8 +124,8 @@ pub fn picture_of(
     )?)
 }
 
-// The mark of the line that first is broken. Of a code none is asked.
-fn never_mark<'l>(
+/// The mark of the line that first is broken. Of a code none is asked.
+pub fn never_mark<'l>(
     alloc: Global,
     program: &Program,
     lines: &'l NeverLines<'_>,

@@ -1,4 +1,4 @@
-//! What `ticklab trace` and `ticklab draw` share: they read a program and a schedule, and tell of the run.
+//! What `ticklab trace`, `ticklab draw` and `ticklab page` share: they read a program and a schedule, and tell of the run.
 ghost use Rattle.std.specs.Prelude.{◌≡◌, ◌<◌, All, IfErr, IfOk, length, map};
 ghost use Rattle.tick_kinds.specs.Resolution.{resolved};
 ghost use Rattle.ticketc_refusals.specs.Refusals.{SpelledIn};
@@ -10,7 +10,8 @@ ghost use Rattle.ticklab_answers.specs.Responses.{Gives};
 ghost use Rattle.ticklab_answers.specs.Runs.{IsRun, IsTold, IsToldWith, IsUnrun, TellsRun, is_of_code, plain_telling, schedule_on};
 ghost use Rattle.ticklab_answers.specs.Stops.{IfRefused};
 
-use crate::commands::drawing::picture_for;
+use crate::commands::drawing::{picture_for, title_of};
+use crate::commands::paging::{page_of, within_a_page};
 use crate::commands::tracing::trace_of;
 use crate::fault::LabFault;
 use crate::files::{bytes_of, is_input, text_of};
@@ -30,6 +31,8 @@ pub enum Telling<T> {
     Trace,
     /// A picture that shows this.
     Picture(Drawing<T>),
+    /// A page of HTML, with this title where that is not the file's name.
+    Page(Option<T>),
 }
 
 /// The run of the program under a schedule, or of its code, told so.
@@ -72,7 +75,7 @@ fn run_told(
     side: Side,
 ) -> Result<Response, NoAnswer>
     ensures ok { IfOk result (Gives 0 (IsRun side (IsTold (plain_telling telling.now) side name.now (texts_of never.now) input.now) schedule.now)) }
-    ensures refused { IfErr result (λ stop. IfRefused stop (IsUnrun name.now (texts_of never.now) input.now from.now schedule.now side)) }
+    ensures refused { IfErr result (λ stop. IfRefused stop (IsUnrun (plain_telling telling.now) name.now (texts_of never.now) input.now from.now schedule.now side)) }
 {
     let asked = match asked_program(alloc, name, input, never) {
         Ok(asked) => asked,
@@ -82,6 +85,7 @@ fn run_told(
     let given = schedule_of(alloc, from, schedule, program.processes())?;
     let steps = schedule_on(alloc, name, side, program, given)?;
     let steps = steps.as_slice();
+    within_a_page(alloc, telling, from, steps.len())?;
     let is_code = is_of_code(side);
     let out = telling_of(alloc, telling, is_code, name, &asked, input, steps)?;
     Ok(output(alloc, DONE, out))
@@ -138,6 +142,16 @@ fn telling_of(
     let lines = &asked.lines;
     match telling {
         Telling::Trace => trace_of(alloc, name, spelled, input, lines, schedule, is_code),
+        Telling::Page(title) => page_of(
+            alloc,
+            name,
+            title_of(*title, name),
+            spelled,
+            input,
+            lines,
+            schedule,
+            is_code,
+        ),
         Telling::Picture(drawing) => picture_for(
             alloc,
             name,

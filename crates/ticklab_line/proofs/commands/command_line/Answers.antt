@@ -7,5 +7,6 @@ returns c =
     let hunt = c.with-line-3.ensures _ _ lasso c.hunt.ensures in
     let trace = c.with-line-4.ensures _ _ hunt c.run.ensures in
     let draw = c.with-line-5.ensures _ _ trace c.draw.ensures in
-    let explain = c.with-line-6.ensures _ _ draw c.explain.ensures in
+    let page = c.with-line-6.ensures _ _ draw c.page.ensures in
+    let explain = c.with-line-7.ensures _ _ page c.explain.ensures in
     c.with.ensures _ _ explain c.labels.ensures

@@ -9,4 +9,5 @@ returns c =
     let merged = c.taking-explore-2.ensures _ _ limit c.flag.ensures in
     let single = c.taking-explore-3.ensures _ _ merged c.flag-2.ensures in
     let never = c.taking-explore-4.ensures _ _ single c.repeated.ensures in
-    c.taking.ensures _ _ never c.ends.ensures
+    let schedule = c.taking-explore-5.ensures _ _ never c.schedule_only.ensures in
+    c.taking.ensures _ _ schedule c.ends.ensures

@@ -16,4 +16,5 @@ returns c =
     (c.option-5.ensures.0 ∙ ap (number_rule _) c.jobs.ensures, c.option-5.ensures.1) in
     let uniform = c.taking-hunt-6.ensures _ _ jobs c.flag.ensures in
     let never = c.taking-hunt-7.ensures _ _ uniform c.repeated.ensures in
-    c.taking.ensures _ _ never c.threads.ensures
+    let schedule = c.taking-hunt-8.ensures _ _ never c.schedule_only.ensures in
+    c.taking.ensures _ _ schedule c.threads.ensures

@@ -22,6 +22,7 @@ returns c = record {
   threads_jobs = (refl, refl);
   threads_uniform = (refl, refl);
   threads_never = (refl, refl);
+  threads_schedule = (refl, refl);
   steps_threads = (refl, refl);
   uniform_threads = (refl, refl);
   all = (refl, refl);

@@ -3,7 +3,7 @@ use Rattle.searches_explore.specs.Lines.{lines_of}
 use Rattle.ticklab_draw.specs.Never.{broken_of}
 use Rattle.ticklab_draw.specs.Words.{names}
 use Rattle.ticklab_answers.specs.Asking.{place_of}
-use Rattle.ticklab_answers.specs.Runs.{row_names}
+use Rattle.ticklab_answers.specs.Pictures.{row_names}
 use Rattle.ticklab_answers.proofs.Pictured.{named, picture_by}
 use Rattle.ticklab_answers.proofs.commands.drawing.picture_of.Goals as goal
 

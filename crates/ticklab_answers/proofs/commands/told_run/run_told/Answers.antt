@@ -1,32 +1,38 @@
-use Rattle.std.proofs.Common.{◌∙◌, Bool, List, ap, map, refl, subst}
+use Rattle.std.proofs.Common.{◌∙◌, Bool, List, ap, length, map, refl, subst}
 use Rattle.searches_explore.specs.Lines.{lines_of}
 use Rattle.ticklab_answers.specs.Asking.{TextPlace, place_of, texts_of}
 use Rattle.ticklab_answers.specs.Exploring.{IsUnexplored}
 use Rattle.ticklab_answers.specs.Runs.{IsTold, IsToldWith, IsUnrun, is_of_code, plain_telling}
 use Rattle.ticklab_answers.proofs.ProgramFiles.{asks_of}
-use Rattle.ticklab_answers.proofs.Ran.{code_unrun, run_by, schedule_unrun, unexplored_unrun}
+use Rattle.ticklab_answers.proofs.Ran.{code_unrun, long_unrun, run_by, schedule_unrun, unexplored_unrun}
 use Rattle.ticklab_answers.proofs.Settled.{refused_as}
 use Rattle.ticklab_answers.proofs.commands.told_run.run_told.Goals as goal
 
 pub returns-in-Err-clause-refused : goal.returns-in-Err-clause-refused
 returns-in-Err-clause-refused c =
     refused_as {P = IsUnexplored c.args.name.now (texts_of c.args.never.now) c.args.input.now}
-    {Q = IsUnrun c.args.name.now (texts_of c.args.never.now) c.args.input.now c.args.from.now c.args.schedule.now c.args.side} c.in-Err.stop
-    (unexplored_unrun _ _ _ c.args.from.now c.args.schedule.now c.args.side) c.in-Err.ensures.refused
+    {Q = IsUnrun (plain_telling c.args.telling.now) c.args.name.now (texts_of c.args.never.now) c.args.input.now c.args.from.now c.args.schedule.now c.args.side} c.in-Err.stop
+    (unexplored_unrun (plain_telling c.args.telling.now) _ _ _ c.args.from.now c.args.schedule.now c.args.side) c.in-Err.ensures.refused
 
 pub returns-in_err-given-clause-refused : goal.returns-in_err-given-clause-refused
 returns-in_err-given-clause-refused c =
-    schedule_unrun c.in-Ok.ensures.asks c.args.from.now c.args.schedule.now c.args.side c.processes.result c.processes.ensures.count
+    schedule_unrun c.in-Ok.ensures.asks (plain_telling c.args.telling.now) c.args.from.now c.args.schedule.now c.args.side c.processes.result c.processes.ensures.count
     c.from_residual.result _ c.from_residual.ensures.1 c.in_err-given.ensures.refused
 
 pub returns-in_err-steps-clause-refused : goal.returns-in_err-steps-clause-refused
 returns-in_err-steps-clause-refused c =
-    code_unrun c.in-Ok.ensures.asks c.args.from.now c.args.schedule.now c.args.side c.processes.result c.processes.ensures.count
+    code_unrun c.in-Ok.ensures.asks (plain_telling c.args.telling.now) c.args.from.now c.args.schedule.now c.args.side c.processes.result c.processes.ensures.count
     c.from_residual-in_err-steps.result _ c.from_residual-in_err-steps.ensures.1 (is_of_code c.args.side) refl c.in_ok-given.given.items c.in_ok-given.ensures.ok c.in_err-steps.ensures.refused
+
+pub returns-in_err-within_a_page-clause-refused : goal.returns-in_err-within_a_page-clause-refused
+returns-in_err-within_a_page-clause-refused c =
+    long_unrun c.in-Ok.ensures.asks (plain_telling c.args.telling.now) c.args.from.now c.args.schedule.now c.args.side c.processes.result c.processes.ensures.count
+    c.from_residual-in_err-within_a_page.result _ c.from_residual-in_err-within_a_page.ensures.1 c.in_ok-given.given.items c.in_ok-given.ensures.ok
+    (length c.as_slice-steps.result.now) (ap length (c.as_slice-steps.ensures.value ∙ c.in_ok-steps.ensures.ok)) c.in_err-within_a_page.ensures.refused
 
 pub returns-in_err-out-clause-refused : goal.returns-in_err-out-clause-refused
 returns-in_err-out-clause-refused c =
-    code_unrun c.in-Ok.ensures.asks c.args.from.now c.args.schedule.now c.args.side c.processes.result c.processes.ensures.count
+    code_unrun c.in-Ok.ensures.asks (plain_telling c.args.telling.now) c.args.from.now c.args.schedule.now c.args.side c.processes.result c.processes.ensures.count
     c.from_residual-in_err-out.result _ c.from_residual-in_err-out.ensures.1 c.is_of_code-is_code.result c.is_of_code-is_code.ensures
     c.in_ok-given.given.items c.in_ok-given.ensures.ok c.in_err-out.ensures.refused
 
@@ -48,7 +54,9 @@ returns-clause-ok c =
       quiet = c.output.ensures.told;
       out = run_by side (IsTold telling side name texts input) (asks_of known) c.args.schedule.now
           c.processes.result c.processes.ensures.count c.in_ok-given.given.items steps c.in_ok-given.ensures.ok
-          (c.as_slice-steps.ensures.value ∙ c.in_ok-steps.ensures.ok) out _ (ap (λ out. out.items) c.output.ensures.out)
-          (subst (λ (places : List TextPlace). IsToldWith telling (is_of_code side) name lines places input p steps out) known.stand
-          (subst (λ (is_code : Bool). IsToldWith telling is_code name lines places input p steps out) c.is_of_code-is_code.ensures c.in_ok-out.ensures.ok));
+          (c.as_slice-steps.ensures.value ∙ c.in_ok-steps.ensures.ok) out _ (ap (λ out. out.items) c.output.ensures.out) (
+            c.in_ok-within_a_page.ensures.ok,
+            subst (λ (places : List TextPlace). IsToldWith telling (is_of_code side) name lines places input p steps out) known.stand
+                (subst (λ (is_code : Bool). IsToldWith telling is_code name lines places input p steps out) c.is_of_code-is_code.ensures c.in_ok-out.ensures.ok),
+          );
     }

@@ -15,6 +15,6 @@ returns-clause-ok g c =
     let telling = plain_telling c.args.telling.now in
     read_both g.F.Files.Reads g.F.Files.ReadsInput c.args.files.now c.bytes_of.new.files _ file c.args.schedule.now c.in_ok-input.input.items from
     (string_bytes c.in_ok-from.text) _ c.in_ok-input.ensures.ok c.is_input.result c.is_input.ensures c.in_ok-from.ensures.ok
-    (subst (λ (text : List ℕ). AnswersRun c.args.side (IsTold telling c.args.side file texts c.in_ok-input.input.items) file from text response) c.deref.ensures
-    (subst (λ (input : List ℕ). AnswersRun c.args.side (IsTold telling c.args.side file texts input) file from c.deref.result.now response) c.as_slice.ensures.value
+    (subst (λ (text : List ℕ). AnswersRun telling c.args.side (IsTold telling c.args.side file texts c.in_ok-input.input.items) file from text response) c.deref.ensures
+    (subst (λ (input : List ℕ). AnswersRun telling c.args.side (IsTold telling c.args.side file texts input) file from c.deref.result.now response) c.as_slice.ensures.value
     (settled_with c.run_told-answered.result response (λ x h. run h) (λ x h. unrun h) answered.ok answered.refused c.in_ok-settled.ensures)))

@@ -1,0 +1,3 @@
+mod Unmarked
+mod Pieces
+mod SameRuns

@@ -1,0 +1,11 @@
+pub mod Shown
+pub mod Writing
+pub mod Steps
+pub mod Changes
+pub mod Style
+pub mod Script
+pub mod States
+pub mod Lists
+pub mod Runs
+pub mod Pages
+pub mod Laws

@@ -1,0 +1,140 @@
+// The table of the state.
+ghost use Rattle.std.specs.Prelude.{◌≡◌, ◌++◌, OnOk};
+ghost use Rattle.ticklab_draw.specs.Words.{names};
+ghost use Rattle.ticklab_page.specs.States.{column_head, fixed_row, held_row, line_row, process_rows, rank_row, status_row, table_head, table_text, table_top, value_row, value_rows};
+ghost use Rattle.ticklab_page.specs.Writing.{for_each};
+
+use crate::writing::{Added, push, push_around, push_shown, push_times};
+use base::tree::Named;
+
+/// Adds the table as it is at the start: a column for each of `n` processes, and a row for each name.
+#[tactic(auto, unfolding(crate::specs::States::table_text))]
+pub fn push_table(
+    page: &mut Vec<u8>,
+    is_code: bool,
+    n: u8,
+    rows: &[Named],
+    variables: &[Named],
+) -> Added
+    ensures { OnOk result (page.new.items ≡ page.old.items ++ table_text is_code n (names rows.now) (names variables.now)) }
+{
+    push_table_head(page, n)?;
+    push_process_rows(page, is_code, n)?;
+    push_value_rows(page, "<tr data-k=\"r", n, rows)?;
+    push_value_rows(page, "<tr data-k=\"v", n, variables)?;
+    push(page, "</tbody></table></div>\n</section>\n")
+}
+
+#[tactic(auto, unfolding(crate::specs::States::table_head))]
+fn push_table_head(page: &mut Vec<u8>, n: u8) -> Added
+    ensures { OnOk result (page.new.items ≡ page.old.items ++ table_head n) }
+{
+    push(page, table_top())?;
+    push_column_heads(page, n)?;
+    push(page, "</tr></thead>\n<tbody>\n")
+}
+
+#[tactic(auto, unfolding(crate::specs::States::table_top))]
+fn table_top() -> &'static str
+    ensures { result.now ≡ table_top }
+{
+    "<div class=\"panes\">
+<section data-live hidden>
+<h2>State</h2>
+<div class=\"box\" tabindex=\"0\" role=\"region\" aria-label=\"State\"><table id=\"state\" class=\"state\">
+<caption>After the step; what it changed is marked</caption>
+<thead><tr><th scope=\"col\">process</th>"
+}
+
+fn push_column_heads(page: &mut Vec<u8>, n: u8) -> Added
+    ensures { OnOk result (page.new.items ≡ page.old.items ++ for_each column_head n) }
+{
+    for process in 0..n {
+        push_column_head(page, process)?;
+    }
+    Ok(())
+}
+
+#[tactic(auto, unfolding(crate::specs::States::column_head))]
+fn push_column_head(page: &mut Vec<u8>, p: u8) -> Added
+    ensures { OnOk result (page.new.items ≡ page.old.items ++ column_head p) }
+{
+    push_around(page, "<th scope=\"col\">P", u64::from(p), "</th>")
+}
+
+#[tactic(auto, unfolding(crate::specs::States::process_rows))]
+fn push_process_rows(page: &mut Vec<u8>, is_code: bool, n: u8) -> Added
+    ensures { OnOk result (page.new.items ≡ page.old.items ++ process_rows is_code n) }
+{
+    push_status_row(page, n)?;
+    push_line_row(page, is_code, n)?;
+    push_held_row(page, is_code, n)?;
+    push_rank_row(page, n)
+}
+
+fn push_status_row(page: &mut Vec<u8>, n: u8) -> Added
+    ensures { OnOk result (page.new.items ≡ page.old.items ++ status_row n) }
+{
+    let status = "<tr data-k=\"s\"><th scope=\"row\">status</th>";
+    push_row(page, status, n, "<td>running</td>")
+}
+
+fn push_rank_row(page: &mut Vec<u8>, n: u8) -> Added
+    ensures { OnOk result (page.new.items ≡ page.old.items ++ rank_row n) }
+{
+    let rank = "<tr data-k=\"o\"><th scope=\"row\">rank</th>";
+    push_row(page, rank, n, "<td>-</td>")
+}
+
+#[tactic(auto, unfolding(crate::specs::States::line_row))]
+fn push_line_row(page: &mut Vec<u8>, is_code: bool, n: u8) -> Added
+    ensures { OnOk result (page.new.items ≡ page.old.items ++ line_row is_code n) }
+{
+    if is_code {
+        let place = "<tr data-k=\"at\"><th scope=\"row\">place of its last step</th>";
+        return push_row(page, place, n, "<td>-</td>");
+    }
+    let line = "<tr data-k=\"at\"><th scope=\"row\">line of its last step</th>";
+    push_row(page, line, n, "<td>-</td>")
+}
+
+#[tactic(auto, unfolding(crate::specs::States::held_row))]
+fn push_held_row(page: &mut Vec<u8>, is_code: bool, n: u8) -> Added
+    ensures { OnOk result (page.new.items ≡ page.old.items ++ held_row is_code n) }
+{
+    if is_code {
+        let label = "<tr data-k=\"t\"><th scope=\"row\">label</th>";
+        return push_row(page, label, n, "<td>.</td>");
+    }
+    let ticket = "<tr data-k=\"t\"><th scope=\"row\">ticket</th>";
+    push_row(page, ticket, n, "<td>0</td>")
+}
+
+// A row with the same for each process.
+#[tactic(auto, unfolding(crate::specs::States::fixed_row))]
+fn push_row(page: &mut Vec<u8>, head: &str, n: u8, cell: &str) -> Added
+    ensures { OnOk result (page.new.items ≡ page.old.items ++ fixed_row head.now n cell.now) }
+{
+    push(page, head)?;
+    push_times(page, n, cell)?;
+    push(page, "</tr>\n")
+}
+
+// A row for each name, in order.
+fn push_value_rows(page: &mut Vec<u8>, letter: &str, n: u8, section: &[Named]) -> Added
+    ensures { OnOk result (page.new.items ≡ page.old.items ++ value_rows letter.now n 0 (names section.now)) }
+{
+    for (number, name) in section.iter().enumerate() {
+        push_value_row(page, letter, n, number, &name.name)?;
+    }
+    Ok(())
+}
+
+#[tactic(auto, unfolding(crate::specs::States::value_row))]
+fn push_value_row(page: &mut Vec<u8>, letter: &str, n: u8, number: usize, name: &str) -> Added
+    ensures { OnOk result (page.new.items ≡ page.old.items ++ value_row letter.now n number name.now) }
+{
+    push_around(page, letter, number as u64, "\"><th scope=\"row\">")?;
+    push_shown(page, name.as_bytes())?;
+    push_row(page, "</th>", n, "<td>0</td>")
+}
