@@ -8,7 +8,7 @@ ghost use Rattle.ticklab_draw.specs.Words.{act_text, answer_text, held_text, lab
 ghost use Rattle.tick_play.specs.Lines.{trap_text};
 
 use crate::mark::{Holdings, Mark, Sight};
-use crate::writing::{Added, push, push_escaped, push_number, push_one, push_two};
+use crate::writing::{Added, push, push_escaped, push_number};
 use base::tree::Named;
 use base::{Act, Trap};
 use label_core::Label;
@@ -116,20 +116,23 @@ fn push_scanned(out: &mut Vec<u8>, n: u8, ranks: &[u8]) -> Added
     push_ranks(out, n, ranks)
 }
 
-#[tactic(auto, unfolding(crate::specs::Writing::two_numbers))]
 fn push_asked(out: &mut Vec<u8>, i: u8, j: u8, answer: u8) -> Added
     ensures { OnOk result (out.new.items ≡ out.old.items ++ codes "asks whether " ++ decimal i ++ codes " is older than " ++ decimal j ++ codes ": " ++ answer_text answer) }
 {
-    let (begin, between) = ("asks whether ", " is older than ");
-    push_two(out, begin, u64::from(i), between, u128::from(j), ": ")?;
+    push(out, "asks whether ")?;
+    push_number(out, u64::from(i))?;
+    push(out, " is older than ")?;
+    push_number(out, u64::from(j))?;
+    push(out, ": ")?;
     push_answer(out, answer)
 }
 
-#[tactic(auto, unfolding(crate::specs::Writing::one_number))]
 fn push_asked_held(out: &mut Vec<u8>, index: u8, answer: u8) -> Added
     ensures { OnOk result (out.new.items ≡ out.old.items ++ codes "asks whether " ++ decimal index ++ codes " holds a ticket: " ++ answer_text answer) }
 {
-    push_one(out, "asks whether ", u128::from(index), " holds a ticket: ")?;
+    push(out, "asks whether ")?;
+    push_number(out, u64::from(index))?;
+    push(out, " holds a ticket: ")?;
     push_answer(out, answer)
 }
 

@@ -2,7 +2,7 @@
 ghost use Rattle.std.specs.Prelude.{◌≡◌, ◌++◌, ◌≤◌, ◌<◌, OnOk, length};
 ghost use Rattle.ticklab_draw.specs.labels.Captions.{heading_text};
 ghost use Rattle.ticklab_draw.specs.labels.Figures.{figure_text, figures_text, nest_text};
-ghost use Rattle.ticklab_draw.specs.labels.Pictures.{begin_text, frame_text};
+ghost use Rattle.ticklab_draw.specs.labels.Pictures.{begin_text, frame_name, frame_place, frame_text};
 ghost use Rattle.word_core.specs.Stamps.{label_at};
 
 use crate::labels::caption::{push_labels_line, push_order_line};
@@ -29,13 +29,26 @@ pub fn push_frame(out: &mut Vec<u8>, at: usize, frame: &Frame) -> Added
     push(out, "</g>\n")
 }
 
-// The name of the frame, and its place on the page.
-#[tactic(auto, unfolding(crate::specs::labels::Pictures::frame_name, crate::specs::labels::Pictures::frame_place))]
 fn push_begin(out: &mut Vec<u8>, n: u8, at: u64) -> Added
     requires { at ≤ 400 }
     ensures { OnOk result (out.new.items ≡ out.old.items ++ begin_text n at) }
 {
-    push_one(out, "<g id='frame-", u128::from(at), "'")?;
+    push_frame_name(out, at)?;
+    push_frame_place(out, n, at)
+}
+
+#[tactic(auto, unfolding(crate::specs::labels::Pictures::frame_name))]
+fn push_frame_name(out: &mut Vec<u8>, at: u64) -> Added
+    ensures { OnOk result (out.new.items ≡ out.old.items ++ frame_name at) }
+{
+    push_one(out, "<g id='frame-", u128::from(at), "'")
+}
+
+#[tactic(auto, unfolding(crate::specs::labels::Pictures::frame_place))]
+fn push_frame_place(out: &mut Vec<u8>, n: u8, at: u64) -> Added
+    requires { at ≤ 400 }
+    ensures { OnOk result (out.new.items ≡ out.old.items ++ frame_place n at) }
+{
     let (begin, left) = (" transform='translate(", frame_left(n, at));
     push_two(out, begin, left, " ", u128::from(frame_top(n, at)), ")'>\n")
 }
