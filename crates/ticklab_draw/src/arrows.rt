@@ -4,7 +4,9 @@ ghost use Rattle.ticklab_draw.specs.Arrows.{arrow_by, arrow_from, arrow_of, from
 ghost use Rattle.ticklab_draw.specs.Steps.{step_text};
 
 use crate::columns::Column;
-use crate::layout::{column_at, from_y, in_x, lane_y, leave_x, out_x, reach_x, way_y};
+use crate::layout::{
+    ARROW_BEHIND, column_at, from_y, in_x, lane_y, leave_x, reach_x, right_x, way_y,
+};
 use crate::look::{Look, is_chosen};
 use crate::mark::{Mark, Sight};
 use crate::writing::{Added, push_one, push_two};
@@ -110,7 +112,7 @@ fn push_route(out: &mut Vec<u8>, n: u8, from: usize, start: Column, column: Colu
         y,
         "",
     )?;
-    push_turn(out, out_x(start), y, way)?;
+    push_turn(out, right_x(start) + ARROW_BEHIND, y, way)?;
     push_turn(out, in_x(column), way, end)?;
     push_one(out, "H", u128::from(reach_x(column)), "\"/>\n")
 }

@@ -7,7 +7,7 @@ ghost use Rattle.ticklab_draw.specs.Shapes.{beside, beside_act, own_label, own_t
 use crate::mark::{Holdings, Mark, Sight};
 use crate::orders::ticket_of;
 use crate::words::{Cast, push_answer, push_label, push_ranks, push_read, push_written};
-use crate::writing::{Added, push, push_number};
+use crate::writing::{Added, push, push_number, push_one, push_two};
 use base::Act;
 use std::alloc::{AllocError, Global};
 use tick_play::trap_name;
@@ -48,21 +48,19 @@ fn push_beside_act(out: &mut Vec<u8>, cast: Cast<'_>, act: Act) -> Added
     }
 }
 
+#[tactic(auto, unfolding(crate::specs::Writing::two_numbers))]
 fn push_compared(out: &mut Vec<u8>, i: u8, j: u8, answer: u8) -> Added
     ensures { OnOk result (out.new.items ≡ out.old.items ++ (decimal i ++ codes " &lt; " ++ decimal j ++ codes "? " ++ answer_text answer)) }
 {
-    push_number(out, u64::from(i))?;
-    push(out, " &lt; ")?;
-    push_number(out, u64::from(j))?;
-    push(out, "? ")?;
+    push_two(out, "", u64::from(i), " &lt; ", u128::from(j), "? ")?;
     push_answer(out, answer)
 }
 
+#[tactic(auto, unfolding(crate::specs::Writing::one_number))]
 fn push_asked(out: &mut Vec<u8>, index: u8, answer: u8) -> Added
     ensures { OnOk result (out.new.items ≡ out.old.items ++ (decimal index ++ codes " held? " ++ answer_text answer)) }
 {
-    push_number(out, u64::from(index))?;
-    push(out, " held? ")?;
+    push_one(out, "", u128::from(index), " held? ")?;
     push_answer(out, answer)
 }
 

@@ -6,7 +6,7 @@ ghost use Rattle.ticklab_draw.specs.Lanes.{band_text, bands_text, caption, end_o
 
 use crate::colours::{push_colour, push_stroke};
 use crate::columns::Column;
-use crate::layout::{EDGE, beside_x, end_x, lane_y, order_y, step_y};
+use crate::layout::{EDGE, LANES_BEHIND, WORDS_BEHIND, lane_y, order_y, right_x, step_y};
 use crate::look::{is_lane, lane_of};
 use crate::mark::{Mark, Sight};
 use crate::writing::{Added, push, push_one, push_two};
@@ -61,7 +61,7 @@ fn push_if_lane(out: &mut Vec<u8>, lanes: &[bool], count: u8, last: Column, p: u
 {
     if is_lane(lanes, p) {
         let y = lane_y(count, last.band, lane_of(lanes, p));
-        push_lane(out, y, end_x(last), p)
+        push_lane(out, y, right_x(last) + LANES_BEHIND, p)
     } else {
         Ok(())
     }
@@ -127,7 +127,7 @@ fn push_if_end(
 {
     if is_lane(lanes, p) {
         let y = lane_y(count, last.band, lane_of(lanes, p)) + 4;
-        push_end(out, beside_x(last), y, end_of(p, marks))
+        push_end(out, right_x(last) + WORDS_BEHIND, y, end_of(p, marks))
     } else {
         Ok(())
     }

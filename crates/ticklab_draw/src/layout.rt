@@ -1,6 +1,6 @@
 // Where things stand on the page. Bands of columns stand one below the other, each with all lanes.
 ghost use Rattle.std.specs.Prelude.{◌≡◌, ◌*◌, ◌+◌, ◌-◌, ◌<◌, ◌≤◌, ◌^◌};
-ghost use Rattle.ticklab_draw.specs.Layout.{above_y, band_end, band_foot, band_height, band_top, behind_x, beside_x, column_at, column_behind, edge, end_x, field_half, flag_middle, flag_width, from_y, in_x, is_narrow, lane_y, last_column, leave_x, left_x, legend_height, letters_half, next_column, order_y, out_x, page_height, page_least, page_width, reach_x, right_x, step_y, track_lane, track_y, way_y};
+ghost use Rattle.ticklab_draw.specs.Layout.{above_y, band_end, band_foot, band_height, band_top, column_at, column_behind, edge, field_half, flag_middle, flag_width, from_y, in_x, is_narrow, lane_y, last_column, leave_x, left_x, legend_height, letters_half, next_column, order_y, page_height, page_least, page_width, reach_x, right_x, step_y, track_lane, track_y, way_y};
 
 use crate::columns::Column;
 
@@ -14,6 +14,18 @@ pub const EDGE: Column = Column {
 
 // How wide a gutter between two columns is.
 const GUTTER: u16 = 14;
+
+/// How far behind a column, which ends with its words, an arrow stands that leaves it.
+pub const ARROW_BEHIND: u64 = 4;
+
+/// How far behind a column a line stands.
+pub const LINE_BEHIND: u64 = 7;
+
+/// How far behind the last column of a band its lanes end.
+pub const LANES_BEHIND: u64 = 14;
+
+/// How far behind it words beside those lanes stand.
+pub const WORDS_BEHIND: u64 = 21;
 
 // How much of a page stands beside its bands.
 const BESIDE: u32 = 120;
@@ -104,35 +116,8 @@ pub fn column_behind(columns: &[Column], count: usize) -> Column
     }
 }
 
-/// How far from the left an arrow stands that leaves a column.
-pub fn out_x(column: Column) -> u64
-    ensures { result ≡ out_x column }
-{
-    right_x(column) + 4
-}
-
-/// How far from the left a line behind a column stands.
-pub fn behind_x(column: Column) -> u64
-    ensures { result ≡ behind_x column }
-{
-    right_x(column) + 7
-}
-
-/// How far from the left the lanes of a band end whose last column this is.
-pub fn end_x(column: Column) -> u64
-    ensures { result ≡ end_x column }
-{
-    right_x(column) + 14
-}
-
-/// How far from the left words beside those lanes stand.
-pub fn beside_x(column: Column) -> u64
-    ensures { result ≡ beside_x column }
-{
-    right_x(column) + 21
-}
-
-fn right_x(column: Column) -> u64
+/// How far from the left a column ends.
+pub fn right_x(column: Column) -> u64
     ensures right { result ≡ right_x column }
     ensures low { result < 2 ^ 20 }
 {
@@ -242,7 +227,7 @@ pub fn way_y(n: u8, from: usize, start: Column, column: Column) -> u128
     ensures way { result ≡ way_y n from start column }
     ensures low { result < 2 ^ 90 }
 {
-    if left_x(column) == end_x(start) {
+    if left_x(column) == right_x(start) + LANES_BEHIND {
         lane_y(n, start.band, column.lane)
     } else {
         track_y(n, start.band, start.lane, column.lane, from)

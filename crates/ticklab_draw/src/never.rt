@@ -4,7 +4,7 @@ ghost use Rattle.std.specs.Fmt.{decimal};
 ghost use Rattle.ticklab_draw.specs.Never.{broken_of, dashed_line, dashes, marks_within, moment_text, never_behind, never_label, never_text, never_title, never_words, value_text};
 
 use crate::columns::Column;
-use crate::layout::{above_y, band_foot, band_top, behind_x, column_behind};
+use crate::layout::{LINE_BEHIND, above_y, band_foot, band_top, column_behind, right_x};
 use crate::mark::Mark;
 use crate::writing::{Added, push, push_escaped_bytes, push_number, push_one, push_two};
 use base::Trap;
@@ -60,7 +60,7 @@ fn marks_within(steps: usize, marks: &[Mark]) -> usize
 fn push_never_behind(out: &mut Vec<u8>, n: u8, column: Column, never: NeverMark<'_>) -> Added
     ensures { OnOk result (out.new.items ≡ out.old.items ++ never_behind n column (broken_of never.entry)) }
 {
-    let (x, band) = (behind_x(column), column.band);
+    let (x, band) = (right_x(column) + LINE_BEHIND, column.band);
     push_never_title(out, never)?;
     push_dashed_line(out, x, band_top(n, band), band_foot(n, band))?;
     push_never_label(out, x, above_y(n, band), never.number)

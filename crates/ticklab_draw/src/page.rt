@@ -104,14 +104,9 @@ fn push_size(out: &mut Vec<u8>, width: u64, height: u128) -> Added
 fn push_page_element(out: &mut Vec<u8>, width: u64, height: u128) -> Added
     ensures { OnOk result (out.new.items ≡ out.old.items ++ page_element width height) }
 {
-    push_two(
-        out,
-        "<svg xmlns=\"http://www.w3.org/2000/svg\" role=\"img\" aria-labelledby=\"title about\" width=\"",
-        width,
-        "\" height=\"",
-        height,
-        "\"",
-    )
+    let begin =
+        "<svg xmlns=\"http://www.w3.org/2000/svg\" role=\"img\" aria-labelledby=\"title about\" width=\"";
+    push_two(out, begin, width, "\" height=\"", height, "\"")
 }
 
 #[tactic(auto, unfolding(crate::specs::Pictures::page_view))]
@@ -142,11 +137,12 @@ fn push_titled(out: &mut Vec<u8>, before: &str, title: &[u8], after: &str) -> Ad
 fn push_about(out: &mut Vec<u8>, n: u8, count: usize) -> Added
     ensures { OnOk result (out.new.items ≡ out.old.items ++ about n count) }
 {
+    let (begin, between) = ("<desc id=\"about\">", " marks of a run; processes: ");
     push_two(
         out,
-        "<desc id=\"about\">",
+        begin,
         count as u64,
-        " marks of a run; processes: ",
+        between,
         u128::from(n),
         "</desc>\n",
     )

@@ -79,14 +79,8 @@ fn push_outline(out: &mut Vec<u8>, shape: Shape, letters: usize) -> Added
     ensures { OnOk result (out.new.items ≡ out.old.items ++ outline shape letters) }
 {
     match shape {
-        Shape::Put => push(
-            out,
-            "<rect class=\"f\" x=\"-7\" y=\"-7\" width=\"14\" height=\"14\"/>",
-        ),
-        Shape::Get => push(
-            out,
-            "<rect class=\"o\" x=\"-6\" y=\"-6\" width=\"12\" height=\"12\"/>",
-        ),
+        Shape::Put => push(out, FULL_SQUARE),
+        Shape::Get => push(out, EMPTY_SQUARE),
         Shape::Stamp => push_field(out, field_half(letters)),
         Shape::Clear => push(out, "<path class=\"o\" d=\"M-9 -7H9L0 9Z\"/>"),
         Shape::Scan => push(out, "<circle class=\"o\" r=\"8\"/>"),
@@ -94,16 +88,22 @@ fn push_outline(out: &mut Vec<u8>, shape: Shape, letters: usize) -> Added
         Shape::No => push(out, "<path class=\"o\" d=\"M-8 0L0 -8L8 0L0 8Z\"/>"),
         Shape::Out => push_flag(out, flag_width(letters)),
         Shape::Trap => push(out, "<path class=\"x\" d=\"M-8 -8L8 8M8 -8L-8 8\"/>"),
-        Shape::End => push(
-            out,
-            "<rect class=\"f\" x=\"-2\" y=\"-11\" width=\"5\" height=\"22\"/>",
-        ),
-        Shape::Lost => push(
-            out,
-            "<circle class=\"o\" r=\"7\" stroke-dasharray=\"3 2.5\"/>",
-        ),
+        Shape::End => push(out, BAR),
+        Shape::Lost => push(out, BROKEN_CIRCLE),
     }
 }
+
+// Of a put.
+const FULL_SQUARE: &str = "<rect class=\"f\" x=\"-7\" y=\"-7\" width=\"14\" height=\"14\"/>";
+
+// Of a get.
+const EMPTY_SQUARE: &str = "<rect class=\"o\" x=\"-6\" y=\"-6\" width=\"12\" height=\"12\"/>";
+
+// Of an end.
+const BAR: &str = "<rect class=\"f\" x=\"-2\" y=\"-11\" width=\"5\" height=\"22\"/>";
+
+// Of a lost exchange.
+const BROKEN_CIRCLE: &str = "<circle class=\"o\" r=\"7\" stroke-dasharray=\"3 2.5\"/>";
 
 // A field so wide on each side.
 #[tactic(auto, unfolding(crate::specs::Shapes::field))]

@@ -8,7 +8,7 @@ ghost use Rattle.ticklab_draw.specs.Words.{act_text, answer_text, held_text, lab
 ghost use Rattle.tick_play.specs.Lines.{trap_text};
 
 use crate::mark::{Holdings, Mark, Sight};
-use crate::writing::{Added, push, push_escaped, push_number, push_wide};
+use crate::writing::{Added, push, push_escaped, push_number};
 use base::tree::Named;
 use base::{Act, Trap};
 use label_core::Label;
@@ -194,7 +194,7 @@ fn push_put_mark(out: &mut Vec<u8>, at: usize) -> Added
     ensures { OnOk result (out.new.items ≡ out.old.items ++ codes ", put by mark " ++ decimal (at + 1)) }
 {
     push(out, ", put by mark ")?;
-    push_wide(out, at as u128 + 1)
+    push_number(out, at as u128 + 1)
 }
 
 /// Ranks of so many processes, each after a space.

@@ -5,7 +5,7 @@ ghost use Rattle.std.specs.List.{flat_map};
 ghost use Rattle.ticklab_draw.specs.Escapes.{escaped, escaped_byte};
 ghost use Rattle.ticklab_draw.specs.Writing.{one_number, two_numbers};
 
-use itoa::Buffer;
+use itoa::{Buffer, Integer};
 use std::alloc::AllocError;
 
 /// It was added to the picture, or memory was refused.
@@ -19,8 +19,8 @@ pub fn push(out: &mut Vec<u8>, text: &str) -> Added
 }
 
 /// Adds the digits of a number.
-pub fn push_number(out: &mut Vec<u8>, number: u64) -> Added
-    ensures { OnOk result (out.new.items ≡ out.old.items ++ decimal number) }
+pub fn push_number<N: Integer>(out: &mut Vec<u8>, number: N) -> Added
+    ensures { OnOk result (out.new.items ≡ out.old.items ++ N.text number) }
 {
     push(out, Buffer::new().format(number))
 }
@@ -32,20 +32,13 @@ pub fn digits(number: u64) -> usize
     Buffer::new().format(number).len()
 }
 
-/// Adds the digits of a great number.
-pub fn push_wide(out: &mut Vec<u8>, number: u128) -> Added
-    ensures { OnOk result (out.new.items ≡ out.old.items ++ decimal number) }
-{
-    push(out, Buffer::new().format(number))
-}
-
 /// Adds a number with markup before and after it.
 #[tactic(auto, unfolding(crate::specs::Writing::one_number))]
 pub fn push_one(out: &mut Vec<u8>, before: &str, number: u128, after: &str) -> Added
     ensures { OnOk result (out.new.items ≡ out.old.items ++ one_number before.now number after.now) }
 {
     push(out, before)?;
-    push_wide(out, number)?;
+    push_number(out, number)?;
     push(out, after)
 }
 
@@ -64,7 +57,7 @@ pub fn push_two(
     push(out, before)?;
     push_number(out, first)?;
     push(out, between)?;
-    push_wide(out, second)?;
+    push_number(out, second)?;
     push(out, after)
 }
 

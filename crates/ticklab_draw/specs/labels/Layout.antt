@@ -37,24 +37,15 @@ left_most n = if nat_lt n 2 then 96 else if n == 2 then 56 else if n == 3 then 3
 abbrev pub top_most : ℕ → ℕ
 top_most n = if nat_lt n 2 then 56 else if n == 2 then 46 else if n == 3 then 62 else 64
 
--- how far the upper place of a cycle lies to the right of the left one, and the right one of the upper;
--- level 0 is the outermost
-abbrev pub across : ℕ → ℕ → ℕ
-across n level =
-    if n == 2 then 40
-    else if n == 3 then (if level == 0 then 60 else 23)
-    else if level == 0 then 80
-    else if level == 1 then 32
-    else 12
-
--- and how far above the two others
-abbrev pub down : ℕ → ℕ → ℕ
-down n level =
-    if n == 2 then 69
-    else if n == 3 then (if level == 0 then 104 else 40)
-    else if level == 0 then 138
-    else if level == 1 then 55
-    else 21
+-- how far the upper place of a cycle lies to the right of the left one, and the right one of the upper; and how far
+-- above the two others; level 0 is the outermost
+abbrev pub reach : ℕ → ℕ → ℕ × ℕ
+reach n level =
+    if n == 2 then (40, 69)
+    else if n == 3 then (if level == 0 then (60, 104) else (23, 40))
+    else if level == 0 then (80, 138)
+    else if level == 1 then (32, 55)
+    else (12, 21)
 
 -- a process without a label stands above the cycles, the last at the right
 abbrev pub seat : ℕ → ℕ → ℕ
@@ -62,10 +53,10 @@ seat n p = frame_width n + 26 * p + 10 - 26 * n
 
 -- from the left and upper end of a cycle to the place of a digit: 0 is above, 1 at the right, 2 at the left
 abbrev pub right : ℕ → ℕ → ℕ → ℕ
-right n level digit = across n level * next_digit digit
+right n level digit = (reach n level).0 * next_digit digit
 
 abbrev pub below : ℕ → ℕ → ℕ → ℕ
-below n level digit = down n level * min digit 1
+below n level digit = (reach n level).1 * min digit 1
 
 -- the rows of the table, and the digits in them
 abbrev pub row_top : ℕ → ℕ

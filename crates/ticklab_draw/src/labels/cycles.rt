@@ -56,14 +56,8 @@ fn push_step(out: &mut Vec<u8>, n: u8, level: usize, digit: u8) -> Added
     requires { digit < 3 }
     ensures { OnOk result (out.new.items ≡ out.old.items ++ step_text n level digit) }
 {
-    push_two(
-        out,
-        " translate(",
-        right(n, level, digit),
-        " ",
-        u128::from(below(n, level, digit)),
-        ")",
-    )
+    let (right, below) = (right(n, level, digit), below(n, level, digit));
+    push_two(out, " translate(", right, " ", u128::from(below), ")")
 }
 
 #[tactic(auto, unfolding(crate::specs::labels::Figures::present_text))]

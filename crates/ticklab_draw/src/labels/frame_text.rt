@@ -49,14 +49,8 @@ fn push_frame_place(out: &mut Vec<u8>, n: u8, at: u64) -> Added
     requires { at ≤ 400 }
     ensures { OnOk result (out.new.items ≡ out.old.items ++ frame_place n at) }
 {
-    push_two(
-        out,
-        " transform='translate(",
-        frame_left(n, at),
-        " ",
-        u128::from(frame_top(n, at)),
-        ")'>\n",
-    )
+    let (begin, left) = (" transform='translate(", frame_left(n, at));
+    push_two(out, begin, left, " ", u128::from(frame_top(n, at)), ")'>\n")
 }
 
 #[tactic(auto, unfolding(crate::specs::labels::Captions::heading_text))]

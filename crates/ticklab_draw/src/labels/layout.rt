@@ -1,6 +1,6 @@
 // Where things stand, in pixels, by the number of processes.
 ghost use Rattle.std.specs.Prelude.{◌≡◌, ◌≤◌, ◌<◌};
-ghost use Rattle.ticklab_draw.specs.labels.Layout.{across, below, cell_left, down, frame_height, frame_left, frame_top, frame_width, is_nested, left_most, page_height, page_width, right, row_frames, row_top, seat, top_most};
+ghost use Rattle.ticklab_draw.specs.labels.Layout.{below, cell_left, frame_height, frame_left, frame_top, frame_width, is_nested, left_most, page_height, page_width, reach, right, row_frames, row_top, seat, top_most};
 
 /// Whether labels are drawn in nested cycles: six processes would have 243 places in them.
 pub fn is_nested(n: u8) -> bool
@@ -93,9 +93,8 @@ pub fn page_height(n: u8, count: u64) -> u64
 // Of a cycle of this level: how far its upper place lies to the right of the left one, and the right place to
 // the right of the upper one; and how far its upper place lies above the two others. Level 0 is the outermost.
 fn reach(n: u8, level: usize) -> (u64, u64)
-    ensures across { result.0 ≡ across n level }
+    ensures reach { result ≡ reach n level }
     ensures narrow { result.0 ≤ 80 }
-    ensures down { result.1 ≡ down n level }
     ensures low { result.1 ≤ 138 }
 {
     match (n, level) {

@@ -1,5 +1,5 @@
 // The frames of a list of moves.
-ghost use Rattle.std.specs.Prelude.{◌≡◌, ◌+◌, ◌<◌, ◌≤◌, All, IfOk, length};
+ghost use Rattle.std.specs.Prelude.{◌≡◌, ◌+◌, ◌<◌, ◌≤◌, All, IfOk, length, Some};
 ghost use Rattle.language_schedules.specs.Moves.{mover};
 ghost use Rattle.word_core.specs.Order.{IsOrdered};
 ghost use Rattle.word_core.specs.Stamps.{moved};
@@ -27,27 +27,35 @@ pub fn frames(alloc: Global, n: u8, moves: &[Move]) -> Result<Vec<Frame>, NoMemo
     ensures frames { IfOk result (λ frames. frames.items ≡ frames_of n moves.now) }
     ensures count { IfOk result (λ frames. length frames.items ≡ length moves.now + 1) }
 {
-    let mut labels = LabelWord::start(n);
+    let labels = LabelWord::start(n);
+    let mut frame = Frame { made: None, labels };
     let mut frames = Vec::new(alloc);
-    frames.push(Frame { made: None, labels })?;
+    frames.push(frame)?;
     for &made in moves {
-        labels = moved(&labels, made);
-        frames.push(Frame {
-            made: Some(made),
-            labels,
-        })?;
+        frame = frame.after(made);
+        frames.push(frame)?;
     }
     Ok(frames)
 }
 
-fn moved(labels: &LabelWord, made: Move) -> LabelWord
-    requires in_range { mover made < length labels.now }
-    requires ordered { IsOrdered labels.now }
-    ensures moved { result ≡ moved made labels.now }
-    ensures ordered { IsOrdered result }
-{
-    match made {
-        Move::Stamp(process) => labels.stamped(process),
-        Move::Clear(process) => labels.cleared(process),
+impl Frame {
+    // The frame after one more move.
+    fn after(&self, made: Move) -> Frame
+        requires in_range { mover made < length self.now.labels }
+        requires ordered { IsOrdered self.now.labels }
+        ensures made { result.made ≡ Some made }
+        ensures moved { result.labels ≡ moved made self.now.labels }
+        ensures ordered { IsOrdered result.labels }
+    {
+        match made {
+            Move::Stamp(process) => Frame {
+                made: Some(made),
+                labels: self.labels.stamped(process),
+            },
+            Move::Clear(process) => Frame {
+                made: Some(made),
+                labels: self.labels.cleared(process),
+            },
+        }
     }
 }
