@@ -312,13 +312,8 @@ impl<'a> Shrinker<'a> {
                     kept = left;
                     size = size.saturating_mul(2);
                 }
-                None => {
-                    if size > 1 {
-                        size = 1;
-                    } else {
-                        process += 1;
-                    }
-                }
+                None if size > 1 => size = 1,
+                None => process += 1,
             }
         }
         Ok(kept)

@@ -1,4 +1,4 @@
-use Rattle.std.proofs.Common.{◌≡◌, ◌+◌, [], ap, ◌∙◌, sym, subst, arith}
+use Rattle.std.proofs.Common.{◌+◌, [], ap, ◌∙◌, sym, subst, arith}
 use Rattle.tick_kinds.specs.Resolution.{resolved}
 use Rattle.tick_source.specs.Source.{source}
 use Rattle.searches_explore.specs.Lines.{is_fault, lines_of}

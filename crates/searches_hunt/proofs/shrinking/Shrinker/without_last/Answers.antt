@@ -4,7 +4,7 @@ use Rattle.searches_explore.specs.Lines.{lines_of}
 use Rattle.searches_hunt.specs.prover.Parts.{IsFaultOf}
 use Rattle.searches_hunt.proofs.Left.{fault_all, fault_seen, some_at}
 use Rattle.searches_hunt.proofs.shrinking.Shrinker.without_last.Goals as goal
-use Rattle.searches_hunt.proofs.shrinking.Shrinker.without_last.Goals.{in-Some, in-None+then-size-gt1, in-None+else-size-gt1}
+use Rattle.searches_hunt.proofs.shrinking.Shrinker.without_last.Goals.{in-Some, in-None, in-None-2}
 
 pub returns-then-len-le-SHORT : goal.returns-then-len-le-SHORT
 returns-then-len-le-SHORT c = fault_all (resolved c.args.self.now.program.now) (lines_of c.args.self.now.lines.now) c.args.schedule.items c.requires
@@ -30,6 +30,6 @@ processes-preserved c =
             (some_at (λ made. IsFaultOf a lines seen made.items) c.in_ok-left.field-0 w.in-Some.left w.in-Some.is c.in_ok-left.ensures.fault)),
         first_of (omega (arith, w.size-is, w.saturating_mul-size.ensures, inv.1), grind (arith, w.size-is, w.saturating_mul-size.ensures, inv.1)),
       )
-      | in-None+then-size-gt1 w ↦ (subst (λ v. IsFaultOf a lines whole v.items) (sym w.kept-is) inv.0, omega (arith, w.size-is))
-      | in-None+else-size-gt1 w ↦ (subst (λ v. IsFaultOf a lines whole v.items) (sym w.kept-is) inv.0, omega (arith, w.size-is, inv.1))
+      | in-None w ↦ (subst (λ v. IsFaultOf a lines whole v.items) (sym w.kept-is) inv.0, omega (arith, w.size-is))
+      | in-None-2 w ↦ (subst (λ v. IsFaultOf a lines whole v.items) (sym w.kept-is) inv.0, omega (arith, w.size-is, inv.1))
     ]
