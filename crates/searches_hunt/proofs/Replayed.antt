@@ -17,24 +17,46 @@ module _ (a : WholeProgram ℕ) where
       → s' ≡ source a (schedule ++ p ∷ [])
   led_on schedule p s s' is step = step ∙ ap (source_step a.processes p) is ∙ sym (run_append a.processes schedule (p ∷ []) (source_start a))
 
-  pub step_taken : (schedule : List ℕ) (i : ℕ) (s s' : SourceState) → i < length schedule → s ≡ source a (take i schedule)
-      → s' ≡ source_step a.processes (get_or schedule i 0) s → s' ≡ source a (take (i + 1) schedule)
-  step_taken schedule i s s' inside is step =
-      led_on (take i schedule) (get_or schedule i 0) s s' is step ∙ ap (source a) (sym (take_more schedule i 0 inside))
+  -- of as many processes as there are
+  of_all : (n p : ℕ) (s s' : SourceState) → n ≡ a.processes → s' ≡ source_step n p s → s' ≡ source_step a.processes p s
+  of_all n p s s' all step = step ∙ ap (λ m. source_step m p s) all
+
+  pub step_taken : (schedule : List ℕ) (i n : ℕ) (s s' : SourceState) → i < length schedule → n ≡ a.processes → s ≡ source a (take i schedule)
+      → s' ≡ source_step n (get_or schedule i 0) s → s' ≡ source a (take (i + 1) schedule)
+  step_taken schedule i n s s' inside all is step =
+      let p = get_or schedule i 0 in
+      led_on (take i schedule) p s s' is (of_all n p s s' all step) ∙ ap (source a) (sym (take_more schedule i 0 inside))
 
   -- it is noted, or it did nothing
   abbrev pub IsNoted : ℕ → List ℕ → List ℕ → SourceState → SourceState → Type 0
   IsNoted p made made' s s' = (made' ≡ made ++ p ∷ []) ⊎ ((made' ≡ made) × (s' ≡ s))
 
-  pub noted_leads : (p : ℕ) (made made' : List ℕ) (s s' : SourceState) → s ≡ source a made → s' ≡ source_step a.processes p s
+  noted_leads : (p : ℕ) (made made' : List ℕ) (s s' : SourceState) → s ≡ source a made → s' ≡ source_step a.processes p s
       → IsNoted p made made' s s' → s' ≡ source a made'
   noted_leads p made made' s s' is step = ⊎_elim
       (λ noted. led_on made p s s' is step ∙ ap (source a) (sym noted))
       (λ (same, idle). idle ∙ is ∙ ap (source a) (sym same))
 
-  pub noted_left : (schedule : List ℕ) (i : ℕ) (made made' : List ℕ) (s s' : SourceState) → i < length schedule → IsLeft made (take i schedule)
+  noted_left : (schedule : List ℕ) (i : ℕ) (made made' : List ℕ) (s s' : SourceState) → i < length schedule → IsLeft made (take i schedule)
       → IsNoted (get_or schedule i 0) made made' s s' → IsLeft made' (take (i + 1) schedule)
   noted_left schedule i made made' s s' inside left noted = left_on i made made' schedule inside left (⊎_elim inl (λ (same, idle). inr same) noted)
+
+  -- what is known after the next step of a schedule: where it leads, and what was noted
+  pub record IsOn (schedule : List ℕ) (i : ℕ) (made' : List ℕ) (s' : SourceState) : Type 0 where
+    pub whole : s' ≡ source a (take (i + 1) schedule)
+    pub made : s' ≡ source a made'
+    pub left : IsLeft made' (take (i + 1) schedule)
+
+  pub is_on : (schedule : List ℕ) (i n : ℕ) (made made' : List ℕ) (s s' : SourceState) → i < length schedule → n ≡ a.processes
+      → s ≡ source a (take i schedule) → s ≡ source a made → IsLeft made (take i schedule)
+      → s' ≡ source_step n (get_or schedule i 0) s → IsNoted (get_or schedule i 0) made made' s s' → IsOn schedule i made' s'
+  is_on schedule i n made made' s s' inside all whole is left step noted =
+      let p = get_or schedule i 0 in
+      record {
+        whole = step_taken schedule i n s s' inside all whole step;
+        made = noted_leads p made made' s s' is (of_all n p s s' all step) noted;
+        left = noted_left schedule i made made' s s' inside left noted;
+      }
 
   module _ (lines : List Formula) (schedule : List ℕ) where
     -- no fault after so many steps, nor before

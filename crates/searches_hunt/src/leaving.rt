@@ -36,20 +36,37 @@ fn keep(rest: &mut Vec<u8>, is_kept: bool, item: u8) -> Result<(), NoMemory>
     Ok(())
 }
 
-/// What is left of it without the steps of process `p` from one place to another.
+/// Which steps are left out.
+#[derive(Clone, Copy)]
+pub enum Spared<'a> {
+    /// Those of a process from one place to another.
+    OfProcess { process: u8, from: usize, to: usize },
+    /// Those that are marked.
+    Marked(&'a [bool]),
+}
+
+impl<'a> Spared<'a> {
+    // Whether it has the step of this process at this place.
+    fn has(&self, at: usize, step: u8) -> bool {
+        match *self {
+            Spared::OfProcess { process, from, to } => process == step && from <= at && at < to,
+            Spared::Marked(marks) => marks.get(at).copied().unwrap_or(false),
+        }
+    }
+}
+
+/// What is left of a schedule without these steps.
 pub fn without_steps(
     alloc: Global,
     schedule: &[u8],
-    p: u8,
-    from: usize,
-    to: usize,
+    spared: Spared<'_>,
 ) -> Result<Vec<u8>, NoMemory>
     ensures { IfOk result (λ rest. IsLeft rest.items schedule.now) }
 {
     let mut rest = Vec::with_capacity(alloc, schedule.len())?;
     for at in 0..schedule.len() {
         let process = schedule[at];
-        keep(&mut rest, at < from || to <= at || process != p, process)?;
+        keep(&mut rest, !spared.has(at, process), process)?;
     }
     Ok(rest)
 }
@@ -69,4 +86,18 @@ pub fn place_after(schedule: &[u8], from: usize, p: u8, steps: usize) -> usize
         }
     }
     schedule.len()
+}
+
+/// The place from which on there are so many steps of process `p`; the start where there are not as many.
+pub fn place_of_last(schedule: &[u8], p: u8, steps: usize) -> usize {
+    let mut left = steps;
+    for at in (0..schedule.len()).rev() {
+        if schedule[at] == p {
+            if left <= 1 {
+                return at;
+            }
+            left -= 1;
+        }
+    }
+    0
 }

@@ -22,6 +22,7 @@ mod tallying;
 mod trials;
 mod tried;
 mod trying;
+mod vain;
 
 pub use answer::Hunted;
 pub use base::{NoMemory, Trap};

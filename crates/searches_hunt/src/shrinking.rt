@@ -1,12 +1,13 @@
-ghost use Rattle.std.specs.Prelude.{◌≡◌, ◌-◌, ◌<◌, length, slice_get, IfNone, IfOk, IfSome, true};
+ghost use Rattle.std.specs.Prelude.{◌≡◌, ◌-◌, ◌<◌, length, slice_get, IfOk, true};
 ghost use Rattle.tick_kinds.specs.Resolution.{resolved};
 ghost use Rattle.searches_explore.specs.Lines.{lines_of};
 ghost use Rattle.searches_hunt.specs.Hunts.{IsPartOf};
-ghost use Rattle.searches_hunt.specs.Never.{IsFaultless, NeedsAll};
-ghost use Rattle.searches_hunt.specs.prover.Parts.{IsFault, IsFaultOf, IsLeft};
+ghost use Rattle.searches_hunt.specs.Never.{NeedsAll};
+ghost use Rattle.searches_hunt.specs.prover.Parts.{IsFault, IsLeft};
 
-use crate::leaving::{place_after, without, without_steps};
+use crate::leaving::{Spared, place_after, place_of_last, without, without_steps};
 use crate::trying::to_fault;
+use crate::vain::vain_looks;
 use base::NoMemory;
 use language_properties::Property;
 use searches_explore::needless_steps;
@@ -22,24 +23,12 @@ const MOST_STEPS: usize = 8_000_000;
 
 const SHORT: usize = 2_000;
 
-// What leads to the fault of what is left of a schedule, if it has one and fewer items are left.
-fn fewer(
+/// A program and the lines that must never hold in its states: they say which schedules lead to a fault.
+#[derive(Clone, Copy)]
+struct Shrinker<'a> {
     alloc: Global,
-    program: &Program,
-    lines: &[Property],
-    schedule: &[u8],
-    rest: &[u8],
-) -> Result<Option<Vec<u8>>, NoMemory>
-    requires fault { IsFault (resolved program.now) (lines_of lines.now) schedule.now }
-    requires left { IsLeft rest.now schedule.now }
-    ensures fault { IfOk result (λ o. IfSome o (λ fewer. IsFaultOf (resolved program.now) (lines_of lines.now) schedule.now fewer.items)) }
-    ensures fewer { IfOk result (λ o. IfSome o (λ fewer. length fewer.items < length schedule.now)) }
-    ensures none { IfOk result (λ o. IfNone o (length rest.now < length schedule.now → IsFaultless (resolved program.now) (lines_of lines.now) rest.now)) }
-{
-    if rest.len() >= schedule.len() {
-        return Ok(None);
-    }
-    to_fault(alloc, program, lines, rest)
+    program: &'a Program,
+    lines: &'a [Property],
 }
 
 // What is left without the items from this place on, so many of all or, with those between, of one process; and
@@ -59,7 +48,15 @@ fn without_piece(
     match of {
         Some(p) => {
             let to = place_after(schedule, at, p, size);
-            let rest = without_steps(alloc, schedule, p, at, to)?;
+            let rest = without_steps(
+                alloc,
+                schedule,
+                Spared::OfProcess {
+                    process: p,
+                    from: at,
+                    to,
+                },
+            )?;
             Ok((to, rest))
         }
         None => {
@@ -70,83 +67,12 @@ fn without_piece(
     }
 }
 
-// Leaves out each piece without which there still is a fault, from the front on: so many items at once, of all or of
-// one process.
-fn without_pieces(
-    alloc: Global,
-    program: &Program,
-    lines: &[Property],
-    schedule: Vec<u8>,
-    of: Option<u8>,
-    size: usize,
-) -> Result<Vec<u8>, NoMemory>
-    requires fault { IsFault (resolved program.now) (lines_of lines.now) schedule.items }
-    requires size { 0 < size }
-    ensures { IfOk result (λ kept. IsFaultOf (resolved program.now) (lines_of lines.now) schedule.items kept.items) }
-{
-    let mut kept = schedule;
-    let mut at = 0;
-    'pieces: while at < kept.len() {
-        let (to, rest) = without_piece(alloc, &kept, at, of, size)?;
-        match fewer(alloc, program, lines, &kept, &rest)? {
-            Some(left) => kept = left,
-            None => at = to,
-        }
-    }
-    Ok(kept)
-}
-
 // About how many steps the tries of all pieces of a size take.
 fn steps_by(length: usize, size: usize, processes: u8) -> usize
     requires { 0 < size }
 {
     let tries = (length / size).saturating_mul(usize::from(processes) + 1);
     tries.saturating_mul(length)
-}
-
-// Pieces of half the schedule, of a quarter, and so on, of each process and of all, while some can be left out.
-fn in_pieces(
-    alloc: Global,
-    program: &Program,
-    lines: &[Property],
-    schedule: Vec<u8>,
-) -> Result<Vec<u8>, NoMemory>
-    requires { IsFault (resolved program.now) (lines_of lines.now) schedule.items }
-    ensures { IfOk result (λ kept. IsFaultOf (resolved program.now) (lines_of lines.now) schedule.items kept.items) }
-{
-    let mut kept = schedule;
-    let mut size = kept.len();
-    'sizes: while size > 0 {
-        let before = kept.len();
-        kept = of_each(alloc, program, lines, kept, size)?;
-        if kept.len() == before && before / size >= ENOUGH_PIECES {
-            return Ok(kept);
-        }
-        size = usize::min(size, kept.len()) / 2;
-        if size > 0 && steps_by(kept.len(), size, program.processes()) > MOST_STEPS {
-            return Ok(kept);
-        }
-    }
-    Ok(kept)
-}
-
-// Pieces of so many steps of each process, and then of so many items.
-fn of_each(
-    alloc: Global,
-    program: &Program,
-    lines: &[Property],
-    schedule: Vec<u8>,
-    size: usize,
-) -> Result<Vec<u8>, NoMemory>
-    requires fault { IsFault (resolved program.now) (lines_of lines.now) schedule.items }
-    requires size { 0 < size }
-    ensures { IfOk result (λ kept. IsFaultOf (resolved program.now) (lines_of lines.now) schedule.items kept.items) }
-{
-    let mut kept = schedule;
-    for p in 0..program.processes() {
-        kept = without_pieces(alloc, program, lines, kept, Some(p), size)?;
-    }
-    without_pieces(alloc, program, lines, kept, None, size)
 }
 
 // Whether the item before this place is the same: to leave out the one or the other comes to the same.
@@ -158,46 +84,6 @@ fn is_as_before(schedule: &[u8], at: usize) -> bool
         Some(before) => schedule[before] == schedule[at],
         None => false,
     }
-}
-
-// Leaves out each item without which there still is a fault, from the front on, and then as many more as can be. If
-// none was left out, the fault needs each.
-fn without_items(
-    alloc: Global,
-    program: &Program,
-    lines: &[Property],
-    schedule: Vec<u8>,
-) -> Result<Vec<u8>, NoMemory>
-    requires { IsFault (resolved program.now) (lines_of lines.now) schedule.items }
-    ensures left { IfOk result (λ kept. IsFaultOf (resolved program.now) (lines_of lines.now) schedule.items kept.items) }
-    ensures needed { IfOk result (λ kept. length kept.items ≡ length schedule.items
-        → NeedsAll (resolved program.now) (lines_of lines.now) kept.items) }
-{
-    let mut kept = schedule;
-    let mut at = 0;
-    let mut size = 1;
-    'items: while at < kept.len() {
-        if is_as_before(&kept, at) {
-            at += 1;
-        } else {
-            let to = at + usize::min(size, kept.len() - at);
-            let rest = without(alloc, &kept, at, to)?;
-            match fewer(alloc, program, lines, &kept, &rest)? {
-                Some(left) => {
-                    kept = left;
-                    size = size.saturating_mul(2);
-                }
-                None => {
-                    if size > 1 {
-                        size = 1;
-                    } else {
-                        at = to;
-                    }
-                }
-            }
-        }
-    }
-    Ok(kept)
 }
 
 // What is left without the step of this place, if there is one.
@@ -221,80 +107,230 @@ fn without_places(alloc: Global, schedule: &[u8], places: &[usize]) -> Result<Ve
     Ok(rest)
 }
 
-// Leaves out more and more steps of the process of this place, from there on, while there still is a fault.
-fn without_more(
-    alloc: Global,
-    program: &Program,
-    lines: &[Property],
-    schedule: Vec<u8>,
-    at: usize,
-) -> Result<Vec<u8>, NoMemory>
-    requires { IsFault (resolved program.now) (lines_of lines.now) schedule.items }
-    ensures { IfOk result (λ kept. IsFaultOf (resolved program.now) (lines_of lines.now) schedule.items kept.items) }
-{
-    let mut kept = schedule;
-    let mut size = 2;
-    'more: while at < kept.len() {
-        let p = kept[at];
-        let (_, rest) = without_piece(alloc, &kept, at, Some(p), size)?;
-        match fewer(alloc, program, lines, &kept, &rest)? {
+impl<'a> Shrinker<'a> {
+    ghost use Rattle.std.specs.Prelude.{◌≡◌, ◌<◌, length, IfNone, IfOk, IfSome};
+    ghost use Rattle.tick_kinds.specs.Resolution.{resolved};
+    ghost use Rattle.searches_explore.specs.Lines.{lines_of};
+    ghost use Rattle.searches_hunt.specs.Never.{IsFaultless};
+    ghost use Rattle.searches_hunt.specs.prover.Parts.{IsFault, IsFaultOf, IsLeft, IsPassed};
+
+    // What leads to the fault of what is left of a schedule, if it has one and fewer items are left.
+    fn fewer(&self, schedule: &[u8], rest: &[u8]) -> Result<Option<Vec<u8>>, NoMemory>
+        requires fault { IsFault (resolved self.now.program.now) (lines_of self.now.lines.now) schedule.now }
+        requires left { IsLeft rest.now schedule.now }
+        ensures fault { IfOk result (λ o. IfSome o (λ fewer. IsFaultOf (resolved self.now.program.now) (lines_of self.now.lines.now) schedule.now fewer.items)) }
+        ensures fewer { IfOk result (λ o. IfSome o (λ fewer. length fewer.items < length schedule.now)) }
+        ensures none { IfOk result (λ o. IfNone o (length rest.now < length schedule.now → IsFaultless (resolved self.now.program.now) (lines_of self.now.lines.now) rest.now)) }
+    {
+        if rest.len() >= schedule.len() {
+            return Ok(None);
+        }
+        to_fault(self.alloc, self.program, self.lines, rest)
+    }
+
+    // Leaves out each piece without which there still is a fault, from the front on: so many items at once, of all or of
+    // one process.
+    fn without_pieces(
+        &self,
+        schedule: Vec<u8>,
+        of: Option<u8>,
+        size: usize,
+    ) -> Result<Vec<u8>, NoMemory>
+        requires fault { IsFault (resolved self.now.program.now) (lines_of self.now.lines.now) schedule.items }
+        requires size { 0 < size }
+        ensures { IfOk result (λ kept. IsFaultOf (resolved self.now.program.now) (lines_of self.now.lines.now) schedule.items kept.items) }
+    {
+        let mut kept = schedule;
+        let mut at = 0;
+        'pieces: while at < kept.len() {
+            let (to, rest) = without_piece(self.alloc, &kept, at, of, size)?;
+            match self.fewer(&kept, &rest)? {
+                Some(left) => kept = left,
+                None => at = to,
+            }
+        }
+        Ok(kept)
+    }
+
+    // Pieces of half the schedule, of a quarter, and so on, of each process and of all, while some can be left out.
+    fn in_pieces(&self, schedule: Vec<u8>) -> Result<Vec<u8>, NoMemory>
+        requires { IsFault (resolved self.now.program.now) (lines_of self.now.lines.now) schedule.items }
+        ensures { IfOk result (λ kept. IsFaultOf (resolved self.now.program.now) (lines_of self.now.lines.now) schedule.items kept.items) }
+    {
+        let mut kept = schedule;
+        let mut size = kept.len();
+        'sizes: while size > 0 {
+            let before = kept.len();
+            kept = self.of_each(kept, size)?;
+            if kept.len() == before && before / size >= ENOUGH_PIECES {
+                return Ok(kept);
+            }
+            size = usize::min(size, kept.len()) / 2;
+            if size > 0 && steps_by(kept.len(), size, self.program.processes()) > MOST_STEPS {
+                return Ok(kept);
+            }
+        }
+        Ok(kept)
+    }
+
+    // Pieces of so many steps of each process, and then of so many items.
+    fn of_each(&self, schedule: Vec<u8>, size: usize) -> Result<Vec<u8>, NoMemory>
+        requires fault { IsFault (resolved self.now.program.now) (lines_of self.now.lines.now) schedule.items }
+        requires size { 0 < size }
+        ensures { IfOk result (λ kept. IsFaultOf (resolved self.now.program.now) (lines_of self.now.lines.now) schedule.items kept.items) }
+    {
+        let mut kept = schedule;
+        for p in 0..self.program.processes() {
+            kept = self.without_pieces(kept, Some(p), size)?;
+        }
+        self.without_pieces(kept, None, size)
+    }
+
+    // Leaves out each item without which there still is a fault, from the front on, and then as many more as can be. If
+    // none was left out, the fault needs each.
+    fn without_items(&self, schedule: Vec<u8>) -> Result<Vec<u8>, NoMemory>
+        requires { IsFault (resolved self.now.program.now) (lines_of self.now.lines.now) schedule.items }
+        ensures { IfOk result (λ kept. IsPassed (resolved self.now.program.now) (lines_of self.now.lines.now) schedule.items kept.items) }
+    {
+        let mut kept = schedule;
+        let mut at = 0;
+        let mut size = 1;
+        'items: while at < kept.len() {
+            if is_as_before(&kept, at) {
+                at += 1;
+            } else {
+                let to = at + usize::min(size, kept.len() - at);
+                let rest = without(self.alloc, &kept, at, to)?;
+                match self.fewer(&kept, &rest)? {
+                    Some(left) => {
+                        kept = left;
+                        size = size.saturating_mul(2);
+                    }
+                    None => {
+                        if size > 1 {
+                            size = 1;
+                        } else {
+                            at = to;
+                        }
+                    }
+                }
+            }
+        }
+        Ok(kept)
+    }
+
+    // Leaves out more and more steps of the process of this place, from there on, while there still is a fault.
+    fn without_more(&self, schedule: Vec<u8>, at: usize) -> Result<Vec<u8>, NoMemory>
+        requires { IsFault (resolved self.now.program.now) (lines_of self.now.lines.now) schedule.items }
+        ensures { IfOk result (λ kept. IsFaultOf (resolved self.now.program.now) (lines_of self.now.lines.now) schedule.items kept.items) }
+    {
+        let mut kept = schedule;
+        let mut size = 2;
+        'more: while at < kept.len() {
+            let p = kept[at];
+            let (_, rest) = without_piece(self.alloc, &kept, at, Some(p), size)?;
+            match self.fewer(&kept, &rest)? {
+                Some(left) => {
+                    kept = left;
+                    size = size.saturating_mul(2);
+                }
+                None => return Ok(kept),
+            }
+        }
+        Ok(kept)
+    }
+
+    // Leaves out the steps of these places, of which the last is one of a process that may do without more, if there still
+    // is a fault; else each item without which there is.
+    fn without_needless(&self, schedule: Vec<u8>, places: &[usize]) -> Result<Vec<u8>, NoMemory>
+        requires { IsFault (resolved self.now.program.now) (lines_of self.now.lines.now) schedule.items }
+        ensures { IfOk result (λ kept. IsPassed (resolved self.now.program.now) (lines_of self.now.lines.now) schedule.items kept.items) }
+    {
+        let rest = without_places(self.alloc, &schedule, places)?;
+        match self.fewer(&schedule, &rest)? {
             Some(left) => {
-                kept = left;
-                size = size.saturating_mul(2);
+                let last = places.last().copied().unwrap_or(0);
+                self.without_more(left, last)
             }
-            None => return Ok(kept),
+            None => self.without_items(schedule),
         }
     }
-    Ok(kept)
-}
 
-// Leaves out the steps of these places, of which the last is one of a process that may do without more, if there still
-// is a fault; else each item without which there is.
-fn without_needless(
-    alloc: Global,
-    program: &Program,
-    lines: &[Property],
-    schedule: Vec<u8>,
-    places: &[usize],
-) -> Result<Vec<u8>, NoMemory>
-    requires { IsFault (resolved program.now) (lines_of lines.now) schedule.items }
-    ensures left { IfOk result (λ kept. IsFaultOf (resolved program.now) (lines_of lines.now) schedule.items kept.items) }
-    ensures needed { IfOk result (λ kept. length kept.items ≡ length schedule.items
-        → NeedsAll (resolved program.now) (lines_of lines.now) kept.items) }
-{
-    let rest = without_places(alloc, &schedule, places)?;
-    match fewer(alloc, program, lines, &schedule, &rest)? {
-        Some(left) => {
-            let last = places.last().copied().unwrap_or(0);
-            without_more(alloc, program, lines, left, last)
+    // One pass over the items. If none was left out, the fault needs each. In a long schedule all items are tried at once.
+    fn without_some(&self, schedule: Vec<u8>) -> Result<Vec<u8>, NoMemory>
+        requires { IsFault (resolved self.now.program.now) (lines_of self.now.lines.now) schedule.items }
+        ensures { IfOk result (λ kept. IsPassed (resolved self.now.program.now) (lines_of self.now.lines.now) schedule.items kept.items) }
+    {
+        if schedule.len() <= SHORT {
+            return self.without_items(schedule);
         }
-        None => without_items(alloc, program, lines, schedule),
-    }
-}
-
-// One pass over the items. If none was left out, the fault needs each. In a long schedule all items are tried at once.
-fn without_some(
-    alloc: Global,
-    program: &Program,
-    lines: &[Property],
-    schedule: Vec<u8>,
-) -> Result<Vec<u8>, NoMemory>
-    requires { IsFault (resolved program.now) (lines_of lines.now) schedule.items }
-    ensures left { IfOk result (λ kept. IsFaultOf (resolved program.now) (lines_of lines.now) schedule.items kept.items) }
-    ensures needed { IfOk result (λ kept. length kept.items ≡ length schedule.items
-        → NeedsAll (resolved program.now) (lines_of lines.now) kept.items) }
-{
-    if schedule.len() <= SHORT {
-        return without_items(alloc, program, lines, schedule);
-    }
-    match needless_steps(alloc, program, lines, &schedule)? {
-        Some(places) => {
-            if places.len() == 0 {
-                return Ok(schedule);
+        match needless_steps(self.alloc, self.program, self.lines, &schedule)? {
+            Some(places) => {
+                if places.len() == 0 {
+                    return Ok(schedule);
+                }
+                self.without_needless(schedule, &places)
             }
-            without_needless(alloc, program, lines, schedule, &places)
+            None => self.without_items(schedule),
         }
-        None => without_items(alloc, program, lines, schedule),
+    }
+
+    // What is left without the steps with which a process looked in vain, if there still is a fault.
+    fn without_vain_looks(&self, schedule: Vec<u8>) -> Result<Vec<u8>, NoMemory>
+        requires { IsFault (resolved self.now.program.now) (lines_of self.now.lines.now) schedule.items }
+        ensures { IfOk result (λ kept. IsFaultOf (resolved self.now.program.now) (lines_of self.now.lines.now) schedule.items kept.items) }
+    {
+        if schedule.len() <= SHORT {
+            return Ok(schedule);
+        }
+        let vain = vain_looks(self.alloc, self.program, &schedule)?;
+        let rest = without_steps(self.alloc, &schedule, Spared::Marked(&vain))?;
+        match self.fewer(&schedule, &rest)? {
+            Some(left) => Ok(left),
+            None => Ok(schedule),
+        }
+    }
+
+    // Leaves out the last steps of each process while there still is a fault: more and more of them at once.
+    fn without_last(&self, schedule: Vec<u8>) -> Result<Vec<u8>, NoMemory>
+        requires { IsFault (resolved self.now.program.now) (lines_of self.now.lines.now) schedule.items }
+        ensures { IfOk result (λ kept. IsFaultOf (resolved self.now.program.now) (lines_of self.now.lines.now) schedule.items kept.items) }
+    {
+        if schedule.len() <= SHORT {
+            return Ok(schedule);
+        }
+        let mut kept = schedule;
+        let mut size = 1;
+        let mut process = 0;
+        'processes: while process < self.program.processes() {
+            let from = place_of_last(&kept, process, size);
+            let to = kept.len();
+            let last = Spared::OfProcess { process, from, to };
+            let rest = without_steps(self.alloc, &kept, last)?;
+            match self.fewer(&kept, &rest)? {
+                Some(left) => {
+                    kept = left;
+                    size = size.saturating_mul(2);
+                }
+                None if size > 1 => size = 1,
+                None => process += 1,
+            }
+        }
+        Ok(kept)
+    }
+
+    // One round: the last steps of each process, and where all are needed one pass. If none was left out, the fault
+    // needs each.
+    fn one_round(&self, schedule: Vec<u8>) -> Result<Vec<u8>, NoMemory>
+        requires { IsFault (resolved self.now.program.now) (lines_of self.now.lines.now) schedule.items }
+        ensures { IfOk result (λ kept. IsPassed (resolved self.now.program.now) (lines_of self.now.lines.now) schedule.items kept.items) }
+    {
+        let before = schedule.len();
+        let kept = self.without_last(schedule)?;
+        if kept.len() < before {
+            return Ok(kept);
+        }
+        self.without_some(kept)
     }
 }
 
@@ -310,11 +346,17 @@ pub fn shrink(
     ensures needed { IfOk result (λ kept. NeedsAll (resolved program.now) (lines_of lines.now) kept.items) }
     ensures part { IfOk result (λ kept. IsPartOf kept.items schedule.items) }
 {
-    let mut kept = in_pieces(alloc, program, lines, schedule)?;
+    let shrinker = Shrinker {
+        alloc,
+        program,
+        lines,
+    };
+    let pieces = shrinker.in_pieces(schedule)?;
+    let mut kept = shrinker.without_vain_looks(pieces)?;
     let mut before = kept.len() + 1;
     'passes: while kept.len() < before {
         before = kept.len();
-        kept = without_some(alloc, program, lines, kept)?;
+        kept = shrinker.one_round(kept)?;
     }
     Ok(kept)
 }

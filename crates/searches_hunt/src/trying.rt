@@ -2,8 +2,9 @@ ghost use Rattle.std.specs.Prelude.{◌≡◌, ◌⊎◌, ◌<◌, ◌++◌, ◌
 ghost use Rattle.std.specs.List.{All};
 ghost use Rattle.tick_kinds.specs.Resolution.{resolved};
 ghost use Rattle.tick_source.specs.Source.{source_step};
+ghost use Rattle.searches_explore.specs.Explored.{has_trapped, is_trap};
 ghost use Rattle.searches_explore.specs.Lines.{is_fault, lines_of};
-ghost use Rattle.searches_hunt.specs.Draws.{random_schedule};
+ghost use Rattle.searches_hunt.specs.Draws.{next_drawing, random_schedule};
 ghost use Rattle.searches_hunt.specs.Never.{IsFaultless};
 ghost use Rattle.searches_hunt.specs.prover.Parts.{IsFaultOf};
 ghost use Rattle.searches_hunt.specs.prover.Tries.{FaultsWithin};
@@ -15,6 +16,26 @@ use base::{NoMemory, Status};
 use language_properties::Property;
 use std::alloc::Global;
 use tick_kinds::Program;
+
+// Makes the next step of a run, and answers whether its process goes on.
+fn step_drawn(
+    program: &Program,
+    plan: Plan,
+    drawing: &mut Drawing,
+    tried: &mut Tried<'_>,
+) -> Result<Status, NoMemory>
+    requires processes { tried.old.processes ≡ (resolved program.now).processes }
+    requires process { drawing.old.process < (resolved program.now).processes }
+    ensures drew { drawing.new ≡ next_drawing plan.mode (resolved program.now).processes drawing.old }
+    ensures process { drawing.new.process < (resolved program.now).processes }
+    ensures next { IfOk result (λ s. tried.new.machine ≡ source_step (resolved program.now).processes drawing.new.process tried.old.machine) }
+    ensures trapped { has_trapped tried.old.machine ≡ false → IfOk result (λ s. has_trapped tried.new.machine ≡ is_trap s) }
+    ensures lines { tried.new.lines ≡ tried.old.lines }
+    ensures processes { tried.new.processes ≡ tried.old.processes }
+{
+    let p = drawing.step(plan.mode, program.processes());
+    tried.step(p)
+}
 
 /// After how many steps of its schedule this run has a fault, if it has one: a process has trapped or a line is
 /// broken.
@@ -29,15 +50,13 @@ pub fn steps_to_fault(
         (IsFaultless (resolved program.now) (lines_of lines.now) (random_schedule plan (resolved program.now).processes run))
         (FaultsWithin (resolved program.now) (lines_of lines.now) plan run)) }
 {
-    let n = program.processes();
     let mut tried = Tried::new(alloc, program, lines)?;
     if tried.is_fault(Status::Running) {
         return Ok(Some(0));
     }
     let mut drawing = Drawing::new(plan.seed, run);
     for made in 0..plan.steps {
-        let p = drawing.step(plan.mode, n);
-        let status = tried.step(p)?;
+        let status = step_drawn(program, plan, &mut drawing, &mut tried)?;
         if tried.is_fault(status) {
             return Ok(Some(made + 1));
         }

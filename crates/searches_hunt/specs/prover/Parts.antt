@@ -1,10 +1,11 @@
 -- What holds of a schedule that leads to a fault, while items of it are left out.
-use Rattle.std.specs.Prelude.{◌≡◌, ◌<◌, ℕ, true, List, [], ◌∷◌}
+use Rattle.std.specs.Prelude.{◌≡◌, ◌<◌, ℕ, true, List, [], ◌∷◌, length}
 use Rattle.std.specs.List.{All}
 use Rattle.base.specs.Plain.{WholeProgram}
 use Rattle.language_properties.specs.Properties.{Formula}
 use Rattle.tick_source.specs.Source.{source}
 use Rattle.searches_explore.specs.Lines.{is_fault}
+use Rattle.searches_explore.specs.Needed.{NeedsAll}
 
 -- what is left of a list where some of its items are left out
 pub data IsLeft : List ℕ → List ℕ → Type 0 where
@@ -21,3 +22,8 @@ pub record IsFault (a : WholeProgram ℕ) (lines : List Formula) (schedule : Lis
 pub record IsFaultOf (a : WholeProgram ℕ) (lines : List Formula) (whole part : List ℕ) : Type 0 where
   pub fault : IsFault a lines part
   pub left : IsLeft part whole
+
+-- What a pass leaves: it is still so, and where nothing was left out, the fault needs each step.
+pub record IsPassed (a : WholeProgram ℕ) (lines : List Formula) (whole part : List ℕ) : Type 0 where
+  pub of_whole : IsFaultOf a lines whole part
+  pub needed : length part ≡ length whole → NeedsAll a lines part

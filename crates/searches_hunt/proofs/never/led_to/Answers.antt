@@ -1,8 +1,7 @@
 use Rattle.std.proofs.Common.{ap, ◌∙◌, arith}
-use Rattle.std.specs.Prelude.{slice_index}
 use Rattle.std.proofs.lemmas.List.{take_all}
 use Rattle.tick_kinds.specs.Resolution.{resolved}
-use Rattle.tick_source.specs.Source.{source, source_step}
+use Rattle.tick_source.specs.Source.{source}
 use Rattle.searches_hunt.proofs.Replayed.{step_taken}
 use Rattle.searches_hunt.proofs.never.led_to.Goals as goal
 
@@ -11,15 +10,10 @@ loop-p-init c = record { led = c.in_ok-tried.ensures.start; lines = c.in_ok-trie
 
 pub loop-p-preserved : goal.loop-p-preserved
 loop-p-preserved c =
-    let a = resolved c.args.program.now in
-    let schedule = c.args.schedule.now in
-    let i = c.loop-p.p-index in
-    let p = slice_index schedule i in
-    let s = c.loop-p.tried.machine in
-    let s' = c.step.new.self.machine in
     let inv = c.loop-p.invariant in
     record {
-      led = step_taken a schedule i s s' c.loop-p-test.true inv.led (c.in_ok-step.ensures.next ∙ ap (λ n. source_step n p s) inv.processes);
+      led = step_taken (resolved c.args.program.now) c.args.schedule.now c.loop-p.p-index c.loop-p.tried.processes c.loop-p.tried.machine c.step.new.self.machine
+          c.loop-p-test.true inv.processes inv.led c.in_ok-step.ensures.next;
       lines = ap (λ l. l.now) c.in_ok-step.ensures.lines ∙ inv.lines;
       processes = c.in_ok-step.ensures.processes ∙ inv.processes;
     }

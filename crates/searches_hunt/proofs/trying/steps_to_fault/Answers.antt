@@ -1,10 +1,9 @@
-use Rattle.std.proofs.Common.{◌≡◌, ◌+◌, ◌<◌, true, false, ap, ◌∙◌, sym, subst, arith}
+use Rattle.std.proofs.Common.{◌≡◌, ◌+◌, true, refl, ap, ◌∙◌, sym, subst, arith}
 use Rattle.tick_kinds.specs.Resolution.{resolved}
-use Rattle.tick_source.specs.Source.{source_run, source_step}
+use Rattle.tick_source.specs.Source.{source_run}
 use Rattle.searches_explore.specs.Lines.{is_fault, lines_of}
-use Rattle.searches_hunt.specs.Draws.{next_drawing}
-use Rattle.searches_hunt.specs.prover.Tries.{first_steps, IsFaultlessTo}
-use Rattle.searches_hunt.proofs.Drawings.{faultless_start, made_on, steps_on, faultless_on, stopped_whole, faultless_whole}
+use Rattle.searches_hunt.specs.prover.Tries.{IsFaultlessTo}
+use Rattle.searches_hunt.proofs.Drawings.{faultless_start, made_on, steps_on, stopped_whole, faultless_whole}
 use Rattle.searches_hunt.proofs.trying.steps_to_fault.Goals as goal
 
 pub returns-then-is_fault : goal.returns-then-is_fault
@@ -19,45 +18,31 @@ returns-then-is_fault c =
 
 pub returns-then-is_fault-2 : goal.returns-then-is_fault-2
 returns-then-is_fault-2 c =
-    let a = resolved c.args.program.now in
-    let plan = c.args.plan in
     let lines = lines_of c.args.lines.now in
-    let s = c.loop-made.tried.machine in
-    let s' = c.step.new.self.machine in
-    let d = c.loop-made.drawing in
-    let drew = c.step-p.ensures.drawn ∙ ap (λ n. next_drawing plan.mode n d) c.processes-n.ensures.count in
-    let step : s' ≡ source_step a.processes c.step-p.result s =
-    c.in_ok-status.ensures.next ∙ ap (λ n. source_step n c.step-p.result s) c.loop-made.invariant.2 in
+    let s' = c.step_drawn.new.tried.machine in
+    let told = c.in_ok-status.ensures in
     let same : is_fault lines s' ≡ true =
-    ap (λ ls. is_fault (lines_of ls) s') (sym (ap (λ l. l.now) c.in_ok-status.ensures.lines ∙ c.loop-made.invariant.1))
+    ap (λ ls. is_fault (lines_of ls) s') (sym (ap (λ l. l.now) told.lines ∙ c.loop-made.invariant.1))
     ∙ sym c.is_fault-in-loop-made.ensures ∙ c.if-is_fault-2.true in
     record {
       within = omega (arith, c.loop-made-test.true);
-      fault = ap (is_fault lines) (sym (made_on a plan c.args.run lines c.loop-made.made c.step-p.result s s' d c.step-p.new.self
-          c.loop-made.invariant.0 drew c.step-p.ensures.result step)) ∙ same;
+      fault = ap (is_fault lines) (sym (made_on (resolved c.args.program.now) c.args.plan c.args.run lines c.loop-made.made c.step_drawn.new.drawing.process c.loop-made.tried.machine s'
+          c.loop-made.drawing c.step_drawn.new.drawing c.loop-made.invariant.0 told.drew refl told.next)) ∙ same;
     }
 
 pub returns-then-have_stopped : goal.returns-then-have_stopped
 returns-then-have_stopped c =
     let a = resolved c.args.program.now in
     let plan = c.args.plan in
-    let lines = lines_of c.args.lines.now in
     let k = c.loop-made.made in
-    let s = c.loop-made.tried.machine in
-    let s' = c.step.new.self.machine in
-    let d = c.loop-made.drawing in
-    let drew = c.step-p.ensures.drawn ∙ ap (λ n. next_drawing plan.mode n d) c.processes-n.ensures.count in
-    let step : s' ≡ source_step a.processes c.step-p.result s =
-    c.in_ok-status.ensures.next ∙ ap (λ n. source_step n c.step-p.result s) c.loop-made.invariant.2 in
-    let none : is_fault lines s' ≡ false =
-    ap (λ ls. is_fault (lines_of ls) s') (sym (ap (λ l. l.now) c.in_ok-status.ensures.lines ∙ c.loop-made.invariant.1))
-    ∙ sym c.is_fault-in-loop-made.ensures ∙ c.if-is_fault-2.false in
-    let made : s' ≡ first_steps a plan c.args.run (k + 1) =
-    made_on a plan c.args.run lines k c.step-p.result s s' d c.step-p.new.self c.loop-made.invariant.0 drew c.step-p.ensures.result step in
-    let without : IsFaultlessTo a lines plan c.args.run (k + 1) =
-    faultless_on a plan c.args.run lines k c.loop-made.invariant.0.faultless (ap (is_fault lines) (sym made) ∙ none) in
-    stopped_whole a plan c.args.run lines (k + 1) s' made without
-    (λ schedule. ap (λ n. source_run n schedule s') (sym (c.in_ok-status.ensures.processes ∙ c.loop-made.invariant.2)) ∙ c.have_stopped.ensures c.if-have_stopped.true schedule)
+    let s' = c.step_drawn.new.tried.machine in
+    let told = c.in_ok-status.ensures in
+    let on = steps_on a plan c.args.run (lines_of c.args.lines.now) k c.step_drawn.new.drawing.process c.loop-made.tried.machine s'
+    c.loop-made.drawing c.step_drawn.new.drawing c.loop-made.invariant.0 told.drew refl told.next told.process
+    (ap (λ ls. is_fault (lines_of ls) s') (sym (ap (λ l. l.now) told.lines ∙ c.loop-made.invariant.1))
+    ∙ sym c.is_fault-in-loop-made.ensures ∙ c.if-is_fault-2.false) in
+    stopped_whole a plan c.args.run (lines_of c.args.lines.now) (k + 1) s' on.made on.faultless
+    (λ schedule. ap (λ n. source_run n schedule s') (sym (told.processes ∙ c.loop-made.invariant.2)) ∙ c.have_stopped.ensures c.if-have_stopped.true schedule)
 
 pub loop-made-init : goal.loop-made-init
 loop-made-init c =
@@ -69,7 +54,7 @@ loop-made-init c =
         made = c.in_ok-tried.ensures.start;
         drew = c.new-drawing.ensures.start;
         faultless = faultless_start a c.args.plan c.args.run (lines_of c.args.lines.now) none;
-        process = omega (arith, c.new-drawing.ensures.process, c.processes-n.ensures.some, c.processes-n.ensures.count);
+        process = omega (arith, c.new-drawing.ensures.process, c.in_ok-tried.ensures.some, c.in_ok-tried.ensures.processes);
       },
       c.in_ok-tried.ensures.lines,
       c.in_ok-tried.ensures.processes,
@@ -77,22 +62,14 @@ loop-made-init c =
 
 pub loop-made-preserved : goal.loop-made-preserved
 loop-made-preserved c =
-    let a = resolved c.args.program.now in
-    let plan = c.args.plan in
-    let lines = lines_of c.args.lines.now in
-    let s = c.loop-made.tried.machine in
-    let s' = c.step.new.self.machine in
-    let d = c.loop-made.drawing in
-    let drew = c.step-p.ensures.drawn ∙ ap (λ n. next_drawing plan.mode n d) c.processes-n.ensures.count in
-    let below : c.step-p.new.self.process < a.processes = omega (arith, c.step-p.ensures.process, c.processes-n.ensures.count) in
-    let step : s' ≡ source_step a.processes c.step-p.result s =
-    c.in_ok-status.ensures.next ∙ ap (λ n. source_step n c.step-p.result s) c.loop-made.invariant.2 in
-    let same = ap (λ l. l.now) c.in_ok-status.ensures.lines ∙ c.loop-made.invariant.1 in
-    let none : is_fault lines s' ≡ false =
-    ap (λ ls. is_fault (lines_of ls) s') (sym same) ∙ sym c.is_fault-in-loop-made.ensures ∙ c.if-is_fault-2.false in (
-      steps_on a plan c.args.run lines c.loop-made.made c.step-p.result s s' d c.step-p.new.self c.loop-made.invariant.0 drew c.step-p.ensures.result step below none,
+    let s' = c.step_drawn.new.tried.machine in
+    let told = c.in_ok-status.ensures in
+    let same = ap (λ l. l.now) told.lines ∙ c.loop-made.invariant.1 in (
+      steps_on (resolved c.args.program.now) c.args.plan c.args.run (lines_of c.args.lines.now) c.loop-made.made c.step_drawn.new.drawing.process c.loop-made.tried.machine s'
+          c.loop-made.drawing c.step_drawn.new.drawing c.loop-made.invariant.0 told.drew refl told.next told.process
+          (ap (λ ls. is_fault (lines_of ls) s') (sym same) ∙ sym c.is_fault-in-loop-made.ensures ∙ c.if-is_fault-2.false),
       same,
-      c.in_ok-status.ensures.processes ∙ c.loop-made.invariant.2,
+      told.processes ∙ c.loop-made.invariant.2,
     )
 
 pub returns : goal.returns

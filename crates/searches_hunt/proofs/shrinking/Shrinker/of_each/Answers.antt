@@ -3,19 +3,19 @@ use Rattle.tick_kinds.specs.Resolution.{resolved}
 use Rattle.searches_explore.specs.Lines.{lines_of}
 use Rattle.searches_hunt.specs.prover.Parts.{IsFaultOf}
 use Rattle.searches_hunt.proofs.Left.{fault_again, fault_all}
-use Rattle.searches_hunt.proofs.shrinking.of_each.Goals as goal
+use Rattle.searches_hunt.proofs.shrinking.Shrinker.of_each.Goals as goal
 
 pub loop-p-init : goal.loop-p-init
-loop-p-init c = fault_all (resolved c.args.program.now) (lines_of c.args.lines.now) c.args.schedule.items c.requires.fault
+loop-p-init c = fault_all (resolved c.args.self.now.program.now) (lines_of c.args.self.now.lines.now) c.args.schedule.items c.requires.fault
 
 pub loop-p-preserved : goal.loop-p-preserved
 loop-p-preserved c =
-    fault_again (resolved c.args.program.now) (lines_of c.args.lines.now) c.args.schedule.items c.loop-p.kept.items c.in_ok-kept.kept.items c.loop-p.invariant c.in_ok-kept.ensures
+    fault_again (resolved c.args.self.now.program.now) (lines_of c.args.self.now.lines.now) c.args.schedule.items c.loop-p.kept.items c.in_ok-kept.kept.items c.loop-p.invariant c.in_ok-kept.ensures
 
 pub returns : goal.returns
 returns c =
-    let a = resolved c.args.program.now in
-    let lines = lines_of c.args.lines.now in
+    let a = resolved c.args.self.now.program.now in
+    let lines = lines_of c.args.self.now.lines.now in
     let whole = c.args.schedule.items in
     let kept = c.loop-p.kept.items in
     IfOk-weaker c.without_pieces-2.result (λ s. IsFaultOf a lines kept s.items) (λ s. IsFaultOf a lines whole s.items)

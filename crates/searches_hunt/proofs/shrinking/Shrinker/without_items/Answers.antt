@@ -7,20 +7,20 @@ use Rattle.searches_hunt.specs.Never.{IsFaultless}
 use Rattle.searches_hunt.specs.prover.Parts.{IsFaultOf}
 use Rattle.searches_hunt.proofs.Runs.{most_or_more}
 use Rattle.searches_hunt.proofs.Left.{fault_all, fault_seen, left_short, length_without, none_at, some_at, without_same}
-use Rattle.searches_hunt.proofs.shrinking.without_items.Goals as goal
-use Rattle.searches_hunt.proofs.shrinking.without_items.Goals.{in-Some, in-None+then-size-gt1, in-None+else-size-gt1}
+use Rattle.searches_hunt.proofs.shrinking.Shrinker.without_items.Goals as goal
+use Rattle.searches_hunt.proofs.shrinking.Shrinker.without_items.Goals.{in-Some, in-None+then-size-gt1, in-None+else-size-gt1}
 
 pub items-init : goal.items-init
 items-init c = (
-  fault_all (resolved c.args.program.now) (lines_of c.args.lines.now) c.args.schedule.items c.requires,
+  fault_all (resolved c.args.self.now.program.now) (lines_of c.args.self.now.lines.now) c.args.schedule.items c.requires,
   λ same place h. absurd (omega arith),
   omega arith,
 )
 
 pub items-preserved-then-is_as_before : goal.items-preserved-then-is_as_before
 items-preserved-then-is_as_before c =
-    let a = resolved c.args.program.now in
-    let lines = lines_of c.args.lines.now in
+    let a = resolved c.args.self.now.program.now in
+    let lines = lines_of c.args.self.now.lines.now in
     let at = c.items.at in
     let kept = c.items.kept.items in
     let inv = c.items.invariant in
@@ -38,8 +38,8 @@ items-preserved-then-is_as_before c =
 
 pub items-preserved : goal.items-preserved
 items-preserved c =
-    let a = resolved c.args.program.now in
-    let lines = lines_of c.args.lines.now in
+    let a = resolved c.args.self.now.program.now in
+    let lines = lines_of c.args.self.now.lines.now in
     let whole = c.args.schedule.items in
     let at = c.items.at in
     let kept = c.items.kept.items in

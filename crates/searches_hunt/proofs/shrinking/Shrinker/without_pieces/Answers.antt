@@ -3,16 +3,16 @@ use Rattle.tick_kinds.specs.Resolution.{resolved}
 use Rattle.searches_explore.specs.Lines.{lines_of}
 use Rattle.searches_hunt.specs.prover.Parts.{IsFaultOf}
 use Rattle.searches_hunt.proofs.Left.{fault_all, fault_seen, some_at}
-use Rattle.searches_hunt.proofs.shrinking.without_pieces.Goals as goal
-use Rattle.searches_hunt.proofs.shrinking.without_pieces.Goals.{in-Some, in-None}
+use Rattle.searches_hunt.proofs.shrinking.Shrinker.without_pieces.Goals as goal
+use Rattle.searches_hunt.proofs.shrinking.Shrinker.without_pieces.Goals.{in-Some, in-None}
 
 pub pieces-init : goal.pieces-init
-pieces-init c = fault_all (resolved c.args.program.now) (lines_of c.args.lines.now) c.args.schedule.items c.requires.fault
+pieces-init c = fault_all (resolved c.args.self.now.program.now) (lines_of c.args.self.now.lines.now) c.args.schedule.items c.requires.fault
 
 pub pieces-preserved : goal.pieces-preserved
 pieces-preserved c =
-    let a = resolved c.args.program.now in
-    let lines = lines_of c.args.lines.now in
+    let a = resolved c.args.self.now.program.now in
+    let lines = lines_of c.args.self.now.lines.now in
     let whole = c.args.schedule.items in
     let seen = c.deref-in-pieces.result.now in
     elim c.match-branch-3.branch [
