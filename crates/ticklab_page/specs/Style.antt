@@ -9,7 +9,7 @@ opening =
     ++ codes "<head>\n"
     ++ codes "<meta charset=\"utf-8\">\n"
     ++ codes "<meta name=\"viewport\" content=\"width=device-width,initial-scale=1\">\n"
-    ++ codes "<meta http-equiv=\"Content-Security-Policy\" content=\"default-src 'none';style-src 'unsafe-inline';script-src 'sha256-vkSHq+4mMqgOevLho+JGeNpbssHiPQbLikZanovwO34='\">\n"
+    ++ codes "<meta http-equiv=\"Content-Security-Policy\" content=\"default-src 'none';style-src 'unsafe-inline';script-src 'sha256-ZgFg1YiOrExyzRkM8AKWQqXTw4qTfoy6MSZtwhHNqEU='\">\n"
 
 -- for dark and light, for narrow pages and for paper
 unfoldable pub sheet : List ℕ

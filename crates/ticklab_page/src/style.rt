@@ -12,7 +12,7 @@ pub fn opening() -> &'static str
 <head>
 <meta charset=\"utf-8\">
 <meta name=\"viewport\" content=\"width=device-width,initial-scale=1\">
-<meta http-equiv=\"Content-Security-Policy\" content=\"default-src 'none';style-src 'unsafe-inline';script-src 'sha256-vkSHq+4mMqgOevLho+JGeNpbssHiPQbLikZanovwO34='\">
+<meta http-equiv=\"Content-Security-Policy\" content=\"default-src 'none';style-src 'unsafe-inline';script-src 'sha256-ZgFg1YiOrExyzRkM8AKWQqXTw4qTfoy6MSZtwhHNqEU='\">
 "
 }
 
