@@ -1,12 +1,13 @@
 """The functions of a crate, by the lines that they stand in and by the path under which a check names them.
 
-The files are laid out by `rt fmt`: a function begins at the left edge, or four spaces in, within an `impl`.
+The files are laid out by `rt fmt`: a function begins at the left edge, or four spaces in, within an `impl` or a trait.
 """
 import os
 import re
 
 HEAD = re.compile(r"^(\s*)(?:pub(?:\([\w:]+\))?\s+)?(const\s+)?(?:unsafe\s+|extern\s+\"C\"\s+)*fn\s+(\w+)")
 IMPL = re.compile(r"^impl\b(?:<[^{]*?>)?\s+(.*?)\s*(?:\{|where\b|$)")
+TRAIT = re.compile(r"^(?:pub(?:\([\w:]+\))?\s+)?trait\s+(\w+)")
 TYPE = re.compile(r"(?m)^(?:pub(?:\([\w:]+\))?\s+)?(?:struct|enum|union)\s+(\w+)")
 CYCLE = re.compile(r"#\[cycle\((\w+)\)\]")
 
@@ -82,6 +83,8 @@ def functions_of(file, text, types):
     for number, line in enumerate(lines, 1):
         if line.startswith("impl"):
             owner = owner_of(line)
+        elif trait := TRAIT.match(line):
+            owner = trait[1]
         elif line.startswith("}"):
             ends[len(heads)] = ends.get(len(heads), number)
             owner = ""
