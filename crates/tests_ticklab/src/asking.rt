@@ -18,6 +18,7 @@ pub fn asked_for(alloc: Global, words: &[&str]) -> Result<String, Fail> {
     let words = words_of(alloc, words)?;
     match asked(alloc, words.as_slice())? {
         Line::Request(request) => Ok(format!(in alloc; "{request:?}")?),
+        Line::Schedule(request) => Ok(format!(in alloc; "the schedule of {request:?}")?),
         Line::Help(_text) => Ok(String::from_str(alloc, "help")?),
         Line::Refused(text) => Ok(format!(in alloc; "{text}")?),
     }

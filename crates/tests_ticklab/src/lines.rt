@@ -3,7 +3,15 @@ use crate::asking::asked_for;
 use std::test::Fail;
 use tests_shared::is_same;
 
-static ASKED: [(&[&str], &str); 18] = [
+static ASKED: [(&[&str], &str); 20] = [
+    (
+        &["explore", "a", "--schedule-only"],
+        "the schedule of Explore { file: \"a\", never: [], limit: 1000000, steps: MergedFirst }",
+    ),
+    (
+        &["page", "a", "0", "--title", "b", "--lift"],
+        "Page { file: \"a\", schedule: \"0\", never: [], side: Lifted, title: Some(\"b\") }",
+    ),
     (
         &["explore", "a.tick"],
         "Explore { file: \"a.tick\", never: [], limit: 1000000, steps: MergedFirst }",
