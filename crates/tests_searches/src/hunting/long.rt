@@ -1,20 +1,20 @@
-//! A long schedule, most of whose steps have to stay.
+//! Long schedules, most of whose steps have to stay.
 
-use crate::hunting::programs::IN_STEP;
+use crate::hunting::programs::{IN_STEP, THREE_IN_STEP};
 use crate::hunting::replay::{needs_all, traps};
 use searches_hunt::{Hunted, Mode, Plan, hunt};
+use std::alloc::Global;
 use std::test::Fail;
 use tests_shared::{accepted, holds};
 
-#[test]
-fn needs_each_of_thousands(rt: HostRuntime) -> Result<(), Fail> {
-    let alloc = rt.alloc();
-    let program = accepted(alloc, IN_STEP)?;
+// The schedule that is found has thousands of steps, and needs each.
+fn needs_thousands(alloc: Global, text: &str, mode: Mode) -> Result<(), Fail> {
+    let program = accepted(alloc, text)?;
     let plan = Plan {
         seed: 0,
         runs: 1,
         steps: 40_000,
-        mode: Mode::Uniform,
+        mode,
     };
     let Hunted::Found { run: _, schedule } = hunt(alloc, &program, plan)? else {
         return Err("no trap was found")?;
@@ -22,4 +22,19 @@ fn needs_each_of_thousands(rt: HostRuntime) -> Result<(), Fail> {
     holds(schedule.len() > 2_000, schedule.len())?;
     holds(traps(alloc, &program, &schedule)?, schedule.len())?;
     needs_all(alloc, &program, &schedule)
+}
+
+#[test]
+fn two_drawn_step_by_step(rt: HostRuntime) -> Result<(), Fail> {
+    needs_thousands(rt.alloc(), IN_STEP, Mode::Uniform)
+}
+
+#[test]
+fn three_drawn_step_by_step(rt: HostRuntime) -> Result<(), Fail> {
+    needs_thousands(rt.alloc(), THREE_IN_STEP, Mode::Uniform)
+}
+
+#[test]
+fn three_in_bursts(rt: HostRuntime) -> Result<(), Fail> {
+    needs_thousands(rt.alloc(), THREE_IN_STEP, Mode::Bursts)
 }

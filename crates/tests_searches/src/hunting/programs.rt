@@ -205,3 +205,20 @@ begin
   }
 end
 ";
+
+/// None counts on before the next has come as far. It traps where one has come to 201.
+pub static THREE_IN_STEP: &str = "\
+processes 3;
+var count, other, left;
+reg counts;
+begin
+  while 1 {
+    other = get counts ((me + 1) % n);
+    if (other < count) { } else {
+      count = (count + 1);
+      put counts count;
+      left = (200 - count);
+    }
+  }
+end
+";
