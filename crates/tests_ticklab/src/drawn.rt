@@ -7,6 +7,7 @@ use std::str;
 use std::test::Fail;
 use tests_shared::{holds, is_same};
 use ticklab_answers::{Response, drawn};
+use ticklab_line::{Drawing, Side};
 
 static SCHEDULE: &str = "1 0*4 1";
 
@@ -17,7 +18,14 @@ fn drawn_of(alloc: Global, name: &str, bytes: &[u8]) -> Answered {
         name,
         SCHEDULE,
         &[],
-        false,
+        Side::Program,
+        Drawing {
+            title: None,
+            from: 1,
+            to: 10_000_000,
+            is_shared: false,
+            width: 1_000,
+        },
     )
 }
 

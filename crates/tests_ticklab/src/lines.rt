@@ -3,7 +3,7 @@ use crate::asking::asked_for;
 use std::test::Fail;
 use tests_shared::is_same;
 
-static ASKED: [(&[&str], &str); 20] = [
+static ASKED: [(&[&str], &str); 21] = [
     (
         &["explore", "a", "--schedule-only"],
         "the schedule of Explore { file: \"a\", never: [], limit: 1000000, steps: MergedFirst }",
