@@ -7,8 +7,7 @@ use Rattle.ticklab_answers.proofs.commands.exploring.found_by.Goals as goal
 
 pub returns : goal.returns
 returns g c =
-    let a = c.args.spelled.now.program in
     let held = c.args.lines.now in
-    let H = hearing g.W.Progress.begins g.W.Watch.hears in
-    then_ok c.shown.result (λ x shows. found_as c.args.input.now a held.properties.items (map place_of held.places.items) c.args.limit H _ _
-    c.args.is_merged c.in_ok-explored.explored x c.in_ok-explored.ensures shows) c.shown.ensures
+    then_ok c.shown.result (λ x shows. found_as c.args.input.now c.args.spelled.now.program held.properties.items (map place_of held.places.items)
+    c.args.limit (hearing g.W.Progress.begins g.W.Watch.hears) _ _ c.args.is_merged c.in_ok-explored.explored x c.in_ok-explored.ensures shows)
+    c.shown.ensures
