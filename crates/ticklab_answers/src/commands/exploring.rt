@@ -1,5 +1,5 @@
 //! `ticklab explore`.
-ghost use Rattle.std.specs.Prelude.{◌≡◌, ◌<◌, ◌++◌, All, IfErr, IfOk, MatchResult, OnOk, length, map, string_bytes, true};
+ghost use Rattle.std.specs.Prelude.{◌≡◌, if◌then◌else◌, ◌<◌, ◌++◌, All, IfErr, IfOk, MatchResult, OnOk, length, map, string_bytes, true};
 ghost use Rattle.tick_kinds.specs.Resolution.{resolved};
 ghost use Rattle.tick_source.specs.Source.{source};
 ghost use Rattle.searches_explore.specs.Lines.{is_fault, lines_of};
@@ -370,11 +370,18 @@ pub fn push_more(text: &mut String, is_merged: bool, states: u32) -> Result<(), 
 fn next_line(is_merged: bool) -> &'static str
     ensures { result.now ≡ next_line is_merged }
 {
-    if is_merged {
-        "try a larger --limit, hunt, or fewer processes or rounds\n"
-    } else {
-        "try it without --single, a larger --limit, hunt, or fewer processes or rounds\n"
-    }
+    either(
+        is_merged,
+        "try a larger --limit, hunt, or fewer processes or rounds\n",
+        "try it without --single, a larger --limit, hunt, or fewer processes or rounds\n",
+    )
+}
+
+/// The first text where this holds, else the other.
+pub fn either(first: bool, one: &'static str, other: &'static str) -> &'static str
+    ensures { result.now ≡ (if first then one.now else other.now) }
+{
+    if first { one } else { other }
 }
 
 pub fn limit_line(alloc: Global, is_merged: bool, states: u32) -> Result<String, AllocError>
