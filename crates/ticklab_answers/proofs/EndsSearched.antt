@@ -25,7 +25,7 @@ use Rattle.ticklab_answers.specs.Found.{IsQuiet, MeetsLimit, TellsShortest}
 use Rattle.ticklab_answers.specs.Hearing.{Heard, HearsOf, IsHeard}
 use Rattle.ticklab_answers.specs.Shown.{ShowsEnds, ShowsHalved}
 use Rattle.ticklab_answers.specs.declared.response.Response.{Response}
-use Rattle.ticklab_answers.specs.prover.Searches.{AreEndsKnownBy, AreEndsSearchedBy, AreHeardFor, IsKnownBy, is_end_limit, states_of}
+use Rattle.ticklab_answers.specs.prover.Searches.{AreEndsKnownBy, AreEndsSearchedBy, AreHeardFor, IsSearchedBy, is_end_limit, states_of}
 use Rattle.ticklab_answers.proofs.Heard.{heard_as, heard_then}
 use Rattle.ticklab_answers.proofs.Searched.{break_told, fault_by, fault_heard, limit_told, meets_limit, quiet_told, told_both, trap_told}
 
@@ -92,18 +92,23 @@ ends_as P Q (Ends count) f is = f is
 ends_as P Q (CanEnd count) f is = tt
 ends_as P Q (Limit count) f is = tt
 
--- the search was by steps of this kind
+-- what a search has of faults, and of ends by steps of this kind
 pub ends_searched_as : (m n : Bool) → n ≡ m → (a : WholeProgram ℕ) (lines : List Property) (asked : MustStop) (limit : ℕ) {W : Type 0} (hears : HearsOf W)
-    (before after : W) (e : EndExplored) → IsKnownBy m a lines limit (never_answer e) → IfStuck e (StuckBy m a asked)
+    (before after : W) (e : EndExplored) → IsSearchedBy n a lines limit hears before after (never_answer e) → IfStuck e (StuckBy m a asked)
     → IfLoop e (IsLoopAfter a) → IfCanEnd e (CanAlwaysEnd a asked)
     → IfEndless e (λ prefix cycle. (m ≡ false) × IsEndlessBy a asked prefix cycle × GoesOn a asked prefix cycle)
-    → IfEnds e ((m ≡ false) × EndsIfFair a asked) → IsHeard hears before after (AreHeardFor m a lines (never_answer e))
-    → AreEndsSearchedBy n a lines asked limit hears before after e
-ends_searched_as m n same a lines asked limit hears before after e never blocked loops can for_ever fair watched =
-    subst (λ (k : Bool). AreEndsSearchedBy k a lines asked limit hears before after e) (sym same) (record {
-      known = record { never = never; blocked = blocked; loops = loops; can = can; endless = for_ever; ends = fair };
-      watched = watched;
-    })
+    → IfEnds e ((m ≡ false) × EndsIfFair a asked) → AreEndsSearchedBy n a lines asked limit hears before after e
+ends_searched_as m n same a lines asked limit hears before after e searched blocked loops can for_ever fair = record {
+  known = record {
+    never = searched.known;
+    blocked = subst (λ (k : Bool). IfStuck e (StuckBy k a asked)) (sym same) blocked;
+    loops = loops;
+    can = can;
+    endless = subst (λ (k : Bool). IfEndless e (λ prefix cycle. (k ≡ false) × IsEndlessBy a asked prefix cycle × GoesOn a asked prefix cycle)) (sym same) for_ever;
+    ends = subst (λ (k : Bool). IfEnds e ((k ≡ false) × EndsIfFair a asked)) (sym same) fair;
+  };
+  watched = searched.watched;
+}
 
 module _ (input : List ℕ) (a : WholeProgram Name) (lines : List Property) (places : List TextPlace) (limit : ℕ) (asked : MustStop) where
   -- nothing is wrong, and all states were seen

@@ -19,12 +19,12 @@ module _ {W : Type 0} (begins : W → Bool → W → Type 0) (sees : W → ℕ �
   seen_all before after [] is = is
   seen_all before after (one ∷ told) (between, first, rest) = (between, first, seen_all between after told rest)
 
-  -- a search that began
-  pub began : (before between after : W) (m : Bool) (a : WholeProgram ℕ) (lines : List Property) (e : NeverExplored) → begins before m between
-      → IsWatched sees between after (AreToldFor (SeesBy m a (lines_of lines)) e) → IsHeard (hearing begins sees) before after (AreHeardFor m a lines e)
-  began before between after m a lines e first watched = record {
+  -- a search that began, by steps of this kind
+  pub began : (before between after : W) (m n : Bool) → n ≡ m → (a : WholeProgram ℕ) (lines : List Property) (e : NeverExplored)
+      → begins before n between → IsWatched sees between after (AreToldFor (SeesBy m a (lines_of lines)) e) → IsHeard (hearing begins sees) before after (AreHeardFor m a lines e)
+  began before between after m n same a lines e first watched = record {
     heard = begun m ∷ map seen watched.told;
-    is = (between, first, seen_all between after watched.told watched.heard);
+    is = (between, subst (λ (k : Bool). begins before k between) same first, seen_all between after watched.told watched.heard);
     lawful = record { told = watched.told; are = watched.lawful; whole = refl };
   }
 

@@ -1,5 +1,7 @@
 -- The picture of a run, of whose program the names and the number of processes were read.
-use Rattle.std.proofs.Common.{◌≡◌, ◌∙◌, ℕ, Bool, true, false, List, [], ◌∷◌, ap, if◌then◌else◌, map, refl, string_bytes, Option}
+use Rattle.std.proofs.Common.{◌≡◌, ◌∙◌, ℕ, Bool, true, false, List, [], ◌∷◌, ap, if◌then◌else◌, map, refl, string_bytes, subst, IfOk, Option, Result}
+use Rattle.std.specs.Prelude.{Vec}
+use Rattle.std.specs.Global.{Global}
 use Rattle.base.specs.Plain.{Name, WholeProgram}
 use Rattle.base.specs.View.{name_of}
 use Rattle.base.specs.declared.tree.Named.{Named}
@@ -45,3 +47,13 @@ picture_by title look false lines places a schedule out n rows marks mark count 
   is_mark = is;
   drawn = same_picture title look n a.processes rows (row_names a) marks (program_marks (resolved a) schedule) mark out count named same drawn;
 }
+
+-- what was drawn of a title, a look and steps that are these
+pub pictured_as : {E : Type 0} (r : Result (Vec ℕ Global) E) (title other : List ℕ) (look like : Look) (is_code : Bool) (lines : List Formula)
+    (places : List TextPlace) (a : WholeProgram Name) (steps shown : List ℕ) → title ≡ other → look ≡ like → steps ≡ shown
+    → IfOk r (λ out. IsRunPicture title look is_code lines places a steps out.items)
+    → IfOk r (λ out. IsRunPicture other like is_code lines places a shown out.items)
+pictured_as r title other look like is_code lines places a steps shown same_title same_look same_steps drawn =
+    subst (λ (t : List ℕ). IfOk r (λ out. IsRunPicture t like is_code lines places a shown out.items)) same_title
+    (subst (λ (l : Look). IfOk r (λ out. IsRunPicture title l is_code lines places a shown out.items)) same_look
+    (subst (λ (ps : List ℕ). IfOk r (λ out. IsRunPicture title look is_code lines places a ps out.items)) same_steps drawn))

@@ -5,8 +5,11 @@ use Rattle.std.specs.Global.{Global}
 use Rattle.std.specs.declared.io.Error.{Error}
 use Rattle.ticklab_line.specs.Lines.{Answers}
 use Rattle.ticklab_line.specs.declared.asking.Line.{Line}
-use Rattle.ticklab_answers.specs.Answers.{GivenWords, GivesWords, IsOfWordsOrFile, NamesOfLine}
+use Rattle.ticklab_answers.specs.Answers.{GivenWords, GivesWords, IsOfWordsOrFile, NamesOfLine, RespondsTo, RespondsToWords}
 use Rattle.ticklab_answers.specs.Faults.{IsOfFileThat}
+use Rattle.ticklab_answers.specs.Hearing.{HearsOf}
+use Rattle.ticklab_answers.specs.Reading.{ReadsOf, ReadsInputOf}
+use Rattle.ticklab_answers.specs.Tallies.{RunsOf}
 use Rattle.ticklab_answers.specs.declared.fault.LabFault.{LabFault}
 use Rattle.ticklab_answers.specs.declared.fault.LabFault.TheVariants.{Words, Unread, Host, Answer}
 use Rattle.ticklab_answers.specs.declared.response.Response.{Response}
@@ -29,3 +32,17 @@ module _ (given : Result GivenWords Error) (words : Vec (String Global) Global) 
   pub failed : (r : Result Response LabFault) → IfErr r (IsOfFileThat (NamesOfLine matched)) → IfErr r (IsOfWordsOrFile given)
   failed (Ok x) h = tt
   failed (Err fault) h = named_by given gives fault h
+
+  -- an answer to the line is one to the words
+  module _ {F M W : Type 0} (Reads : ReadsOf F) (ReadsInput : ReadsInputOf F) (Ran : RunsOf M) (hears : HearsOf W) (before after : F) (rested ran : M)
+      (quiet heard : W) (x : Response) (held : RespondsTo Reads ReadsInput Ran hears before after rested ran quiet heard matched x) where
+    answered_by : (given : Result GivenWords Error) → GivesWords given words → RespondsToWords Reads ReadsInput Ran hears before after rested ran quiet heard given x
+    answered_by (Ok given) gives = (
+      l,
+      subst (λ (ws : List (String Global)). Answers (map string_bytes ws) l) gives (subst (λ (ws : List (String Global)). Answers (map string_bytes ws) l) same answers),
+      subst (λ (m : Line). RespondsTo Reads ReadsInput Ran hears before after rested ran quiet heard m x) (sym is) held,
+    )
+    answered_by (Err error) gives = absurd gives
+
+    pub responded : RespondsToWords Reads ReadsInput Ran hears before after rested ran quiet heard given x
+    responded = answered_by given gives

@@ -15,10 +15,10 @@ use Rattle.tick_source.specs.Source.{SourceState, source}
 use Rattle.searches_explore.specs.Explored.{has_trapped}
 use Rattle.searches_explore.specs.Lines.{IsFirstBroken, breaks, is_broken, is_fault, line_value, lines_of}
 use Rattle.searches_states.specs.Answer.{IfFound}
-use Rattle.searches_states.specs.Watching.{AreTold}
+use Rattle.searches_states.specs.Watching.{AreTold, IsWatched}
 use Rattle.searches_states.specs.declared.searching.Searched.{Searched}
 use Rattle.searches_states.specs.declared.searching.Searched.TheVariants.{Found, Limit as Full, Nowhere}
-use Rattle.searches_explore.specs.Never.{IfBroken, IfFault, IfLimit, IfSafe, IfTrapped, never_searched_of}
+use Rattle.searches_explore.specs.Never.{AreToldFor, IfBroken, IfFault, IfLimit, IfSafe, IfTrapped, never_searched_of}
 use Rattle.searches_explore.specs.declared.never_answer.NeverExplored.{NeverExplored}
 use Rattle.searches_explore.specs.declared.never_answer.NeverExplored.TheVariants.{Trapped, Broken, Safe, Limit}
 use Rattle.searches_hunt.specs.Minimal.{IfBroken as IfBreaks, IfTrapped as IfTraps, schedule_of}
@@ -28,11 +28,11 @@ use Rattle.searches_hunt.specs.declared.minimal.Minimal.TheVariants as M
 use Rattle.ticklab_answers.specs.Asking.{TextPlace}
 use Rattle.ticklab_answers.specs.BySteps.{BrokenBy, LimitBy, SafeBy, SeesBy, TrapBy}
 use Rattle.ticklab_answers.specs.Found.{IsFoundBy, IsFoundFirst, IsQuiet, MeetsLimit, TellsBoth, TellsFault, TellsLimit, TellsSafe, TellsShortest, broken, fault, first_fault, first_safe, first_unknown, minimal_break, minimal_trap, safe, shortest, trapped, unknown}
-use Rattle.ticklab_answers.specs.Hearing.{Heard, HearsOf, IsHeard, IsSearchHeard}
+use Rattle.ticklab_answers.specs.Hearing.{Heard, HearsOf, IsHeard, IsSearchHeard, hearing}
 use Rattle.ticklab_answers.specs.Shown.{Shows, ShowsMinimal}
 use Rattle.ticklab_answers.specs.declared.response.Response.{Response}
 use Rattle.ticklab_answers.specs.prover.Searches.{AreHeardFor, IsKnownBy, IsSearchedBy, is_limit}
-use Rattle.ticklab_answers.proofs.Heard.{heard_as, heard_then}
+use Rattle.ticklab_answers.proofs.Heard.{began, heard_as, heard_then}
 use Rattle.ticklab_answers.proofs.NeverLines.{lawful_by, line_within, within_by}
 
 -- what is known of it
@@ -48,14 +48,18 @@ known_as m a lines limit e traps breaks never full = record {
   within = within_by a lines m e breaks;
 }
 
--- the search was by steps of this kind
-pub searched_as : (m n : Bool) → n ≡ m → (a : WholeProgram ℕ) (lines : List Property) (limit : ℕ) {W : Type 0} (hears : HearsOf W) (before after : W)
-    (e : NeverExplored) → IfTrapped e (TrapBy m a (lines_of lines)) → IfBroken e (BrokenBy m a (lines_of lines))
-    → IfSafe e (SafeBy m a (lines_of lines) limit) → IfLimit e (LimitBy m a (lines_of lines) limit)
-    → IsHeard hears before after (AreHeardFor m a lines e) → IsSearchedBy n a lines limit hears before after e
-searched_as m n same a lines limit hears before after e traps breaks never full watched =
-    subst (λ (k : Bool). IsSearchedBy k a lines limit hears before after e) (sym same)
-    (record { known = known_as m a lines limit e traps breaks never full; watched = watched })
+-- a search that began, by steps of this kind, of lines that are these
+pub searched_as : {W : Type 0} (begins : W → Bool → W → Type 0) (sees : W → ℕ → ℕ → W → Type 0) (before between after : W) (m n : Bool) → n ≡ m
+    → (a : WholeProgram ℕ) (given lines : List Property) → given ≡ lines → (limit : ℕ) (e : NeverExplored) → begins before n between
+    → IfTrapped e (TrapBy m a (lines_of given)) → IfBroken e (BrokenBy m a (lines_of given))
+    → IfSafe e (SafeBy m a (lines_of given) limit) → IfLimit e (LimitBy m a (lines_of given) limit)
+    → IsWatched sees between after (AreToldFor (SeesBy m a (lines_of given)) e) → IsSearchedBy n a lines limit (hearing begins sees) before after e
+searched_as begins sees before between after m n same a given lines held limit e first traps breaks never full watched =
+    subst (λ (k : Bool). IsSearchedBy k a lines limit (hearing begins sees) before after e) (sym same)
+    (subst (λ (asked : List Property). IsSearchedBy m a asked limit (hearing begins sees) before after e) held (record {
+      known = known_as m a given limit e traps breaks never full;
+      watched = began begins sees before between after m n same a given e first watched;
+    }))
 
 abbrev is_found : Searched → Bool
 is_found (Found schedule) = true

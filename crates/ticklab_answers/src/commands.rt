@@ -2,7 +2,7 @@
 ghost use Rattle.std.specs.Prelude.{◌≡◌, IfErr, IfOk};
 ghost use Rattle.std.specs.Vec.Iter.{into_iter_items};
 ghost use Rattle.ticklab_line.specs.Commands.{plain_request};
-ghost use Rattle.ticklab_answers.specs.Answers.{GivesWords, IsOfWordsOrFile, NamesOf, Responds, RespondsAlone, RespondsToWords};
+ghost use Rattle.ticklab_answers.specs.Answers.{GivesWords, IsOfWordsOrFile, NamesOf, Responds, RespondsToWords};
 ghost use Rattle.ticklab_answers.specs.Faults.{IsOfFileThat, IsOfWords};
 ghost use Rattle.ticklab_answers.specs.Hearing.{hearing};
 
@@ -56,27 +56,12 @@ pub fn response_to<F: Files, M: Runner, T: Trials, W: Progress>(
     match asked(alloc, words.as_slice())? {
         Line::Request(request) => answered(alloc, files, runner, trials, progress, request),
         Line::Schedule(request) => {
-            answered_alone(alloc, files, runner, trials, progress, request)
+            let whole = answered(alloc, files, runner, trials, progress, request)?;
+            Ok(schedule_alone(alloc, whole)?)
         }
         Line::Help(text) => Ok(help(alloc, text)),
         Line::Refused(text) => Ok(no_command(alloc, text)),
     }
-}
-
-// The schedule alone of the answer.
-fn answered_alone<F: Files, M: Runner, T: Trials, W: Progress>(
-    alloc: Global,
-    files: &mut F,
-    runner: &mut M,
-    trials: &T,
-    progress: &mut W,
-    request: Request<&str, Vec<&str>>,
-) -> Result<Response, LabFault>
-    ensures ok { IfOk result (RespondsAlone F.Reads F.ReadsInput M.Ran (hearing W.begins W.hears) files.old files.new runner.old runner.new progress.old progress.new (plain_request request.entry)) }
-    ensures err { IfErr result (IsOfFileThat (NamesOf (plain_request request.entry))) }
-{
-    let whole = answered(alloc, files, runner, trials, progress, request)?;
-    Ok(schedule_alone(alloc, whole)?)
 }
 
 fn answered<F: Files, M: Runner, T: Trials, W: Progress>(

@@ -2,7 +2,7 @@
 use Rattle.std.specs.Prelude.{ℕ, ◌+◌, Bool, true, false, List, [], ◌∷◌, ◌++◌, codes}
 use Rattle.std.specs.Str.Lines.{lines}
 use Rattle.ticklab_page.specs.Shown.{shown}
-use Rattle.ticklab_page.specs.Writing.{around, markup}
+use Rattle.ticklab_page.specs.Writing.{markup, twice}
 
 abbrev pub line_items : List (List ℕ) → List ℕ
 line_items [] = []
@@ -10,7 +10,7 @@ line_items (line ∷ more) = markup (codes "<li>") ++ shown line ++ markup (code
 
 -- the step of this number, from 1
 unfoldable pub step_head : ℕ → List ℕ
-step_head number = around (codes "<li id=\"step-") number [] ++ around (codes "\"><a href=\"#step-") number (codes "\">")
+step_head number = twice (codes "<li id=\"step-") number (codes "\"><a href=\"#step-") (codes "\">")
 
 -- and how a trace tells it
 unfoldable pub step_item : ℕ → List ℕ → List ℕ

@@ -18,7 +18,7 @@ use Rattle.ticklab_page.specs.Shown.{shown}
 use Rattle.ticklab_page.specs.States.{table_text}
 use Rattle.ticklab_page.specs.Steps.{first_trap, of_instruction, of_statement, opened_at}
 use Rattle.ticklab_page.specs.Style.{opening, sheet}
-use Rattle.ticklab_page.specs.Writing.{around, markup}
+use Rattle.ticklab_page.specs.Writing.{around, markup, twice}
 
 unfoldable pub title_text : List ℕ → List ℕ
 title_text title =
@@ -31,17 +31,18 @@ about opened count n =
     ++ around [] count [] ++ around (codes " steps of a run; processes: ") n (codes "</p>\n")
 
 unfoldable pub step_link : ℕ → List ℕ
-step_link number = around (codes "<a href=\"#step-") number [] ++ around (codes "\">step ") number (codes "</a>")
+step_link number = twice (codes "<a href=\"#step-") number (codes "\">step ") (codes "</a>")
 
-unfoldable pub trapped_at : ℕ → List ℕ
-trapped_at step = markup (codes "<p class=\"fault\">A process traps at ") ++ step_link step ++ markup (codes ".</p>\n")
+-- the link to a step between markup
+unfoldable pub linked : List ℕ → ℕ → List ℕ → List ℕ
+linked before step after = markup before ++ step_link step ++ markup after
 
 abbrev pub trap_text : Option ℕ → List ℕ
 trap_text None = []
-trap_text (Some step) = trapped_at step
+trap_text (Some step) = linked (codes "<p class=\"fault\">A process traps at ") step (codes ".</p>\n")
 
 unfoldable pub broken_at : ℕ → List ℕ
-broken_at step = markup (codes "<p class=\"fault\">After ") ++ step_link step ++ markup (codes " this breaks, which must never hold: <code>")
+broken_at step = linked (codes "<p class=\"fault\">After ") step (codes " this breaks, which must never hold: <code>")
 
 abbrev pub broken_text : Option Broken → List ℕ
 broken_text None = []

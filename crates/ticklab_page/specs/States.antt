@@ -20,19 +20,19 @@ value_rows letter n number (name ∷ names) = value_row letter n number name ++ 
 abbrev pub status_row : ℕ → List ℕ
 status_row n = fixed_row (codes "<tr data-k=\"s\"><th scope=\"row\">status</th>") n (codes "<td>running</td>")
 
-unfoldable pub line_row : Bool → ℕ → List ℕ
-line_row true n = fixed_row (codes "<tr data-k=\"at\"><th scope=\"row\">place of its last step</th>") n (codes "<td>-</td>")
-line_row false n = fixed_row (codes "<tr data-k=\"at\"><th scope=\"row\">line of its last step</th>") n (codes "<td>-</td>")
-
-unfoldable pub held_row : Bool → ℕ → List ℕ
-held_row true n = fixed_row (codes "<tr data-k=\"t\"><th scope=\"row\">label</th>") n (codes "<td>.</td>")
-held_row false n = fixed_row (codes "<tr data-k=\"t\"><th scope=\"row\">ticket</th>") n (codes "<td>0</td>")
+abbrev pub step_rows : Bool → ℕ → List ℕ
+step_rows true n =
+    fixed_row (codes "<tr data-k=\"at\"><th scope=\"row\">place of its last step</th>") n (codes "<td>-</td>")
+    ++ fixed_row (codes "<tr data-k=\"t\"><th scope=\"row\">label</th>") n (codes "<td>.</td>")
+step_rows false n =
+    fixed_row (codes "<tr data-k=\"at\"><th scope=\"row\">line of its last step</th>") n (codes "<td>-</td>")
+    ++ fixed_row (codes "<tr data-k=\"t\"><th scope=\"row\">ticket</th>") n (codes "<td>0</td>")
 
 abbrev pub rank_row : ℕ → List ℕ
 rank_row n = fixed_row (codes "<tr data-k=\"o\"><th scope=\"row\">rank</th>") n (codes "<td>-</td>")
 
 unfoldable pub process_rows : Bool → ℕ → List ℕ
-process_rows is_code n = status_row n ++ line_row is_code n ++ held_row is_code n ++ rank_row n
+process_rows is_code n = status_row n ++ step_rows is_code n ++ rank_row n
 
 unfoldable pub column_head : ℕ → List ℕ
 column_head p = around (codes "<th scope=\"col\">P") p (codes "</th>")

@@ -10,6 +10,10 @@ markup text = text
 unfoldable pub around : List ℕ → ℕ → List ℕ → List ℕ
 around before number after = before ++ decimal number ++ after
 
+-- the same number at two places, with such texts before it, between and after it
+unfoldable pub twice : List ℕ → ℕ → List ℕ → List ℕ → List ℕ
+twice before number between after = around before number [] ++ around between number after
+
 -- so many times the same
 abbrev pub times : ℕ → List ℕ → List ℕ
 times zero text = []

@@ -4,7 +4,7 @@ ghost use Rattle.std.specs.Str.Lines.{lines};
 ghost use Rattle.code_text.specs.CodeText.{instr_text};
 ghost use Rattle.ticklab_page.specs.Lists.{line_items, listing_head, listing_text, step_head, step_item, step_items, steps_text, steps_top};
 
-use crate::writing::{Added, push, push_around, push_shown};
+use crate::writing::{Added, push, push_shown, push_twice};
 use code_core::{Code, Instr};
 use code_text::push_instruction;
 use std::alloc::{AllocError, Global};
@@ -122,6 +122,5 @@ fn push_step_item(page: &mut Vec<u8>, number: u64, line: &str) -> Added
 fn push_step_head(page: &mut Vec<u8>, number: u64) -> Added
     ensures { OnOk result (page.new.items ≡ page.old.items ++ step_head number) }
 {
-    push_around(page, "<li id=\"step-", number, "")?;
-    push_around(page, "\"><a href=\"#step-", number, "\">")
+    push_twice(page, "<li id=\"step-", number, "\"><a href=\"#step-", "\">")
 }

@@ -2,7 +2,7 @@
 ghost use Rattle.std.specs.Prelude.{◌≡◌, ◌≤◌, ◌++◌, IfOk, OnOk, length, map, option_map};
 ghost use Rattle.ticklab_trace.specs.Places.{told_standing};
 ghost use Rattle.ticklab_draw.specs.Never.{broken_of};
-ghost use Rattle.ticklab_page.specs.Pages.{about, broken_at, broken_text, buttons, changes_text, code_page, details_head, page_text, picture_text, picture_top, source_page, step_link, title_text, top_text, trap_text, trapped_at};
+ghost use Rattle.ticklab_page.specs.Pages.{about, broken_at, broken_text, buttons, changes_text, code_page, details_head, linked, page_text, picture_text, picture_top, source_page, step_link, title_text, top_text, trap_text};
 ghost use Rattle.ticklab_page.specs.Runs.{run_of};
 
 use crate::changes::{instruction_changes, statement_changes};
@@ -11,7 +11,7 @@ use crate::script::script;
 use crate::states::push_table;
 use crate::steps::{first_trap, first_trap_of_code, opened_at};
 use crate::style::{opening, sheet};
-use crate::writing::{Added, push, push_around, push_shown};
+use crate::writing::{Added, push, push_around, push_shown, push_twice};
 use base::NoMemory;
 use base::tree::Named;
 use code_core::Code;
@@ -177,17 +177,23 @@ fn push_trap(out: &mut Vec<u8>, trap: Option<usize>) -> Added
 {
     match trap {
         None => Ok(()),
-        Some(step) => push_trapped_at(out, step),
+        Some(step) => push_linked(
+            out,
+            "<p class=\"fault\">A process traps at ",
+            step,
+            ".</p>\n",
+        ),
     }
 }
 
-#[tactic(auto, unfolding(crate::specs::Pages::trapped_at))]
-fn push_trapped_at(out: &mut Vec<u8>, step: usize) -> Added
-    ensures { OnOk result (out.new.items ≡ out.old.items ++ trapped_at step) }
+// Adds the link to a step between markup.
+#[tactic(auto, unfolding(crate::specs::Pages::linked))]
+fn push_linked(out: &mut Vec<u8>, before: &str, step: usize, after: &str) -> Added
+    ensures { OnOk result (out.new.items ≡ out.old.items ++ linked before.now step after.now) }
 {
-    push(out, "<p class=\"fault\">A process traps at ")?;
+    push(out, before)?;
     push_step_link(out, step)?;
-    push(out, ".</p>\n")
+    push(out, after)
 }
 
 fn push_broken(out: &mut Vec<u8>, never: Option<NeverMark<'_>>) -> Added
@@ -207,17 +213,15 @@ fn push_broken(out: &mut Vec<u8>, never: Option<NeverMark<'_>>) -> Added
 fn push_broken_at(out: &mut Vec<u8>, step: usize) -> Added
     ensures { OnOk result (out.new.items ≡ out.old.items ++ broken_at step) }
 {
-    push(out, "<p class=\"fault\">After ")?;
-    push_step_link(out, step)?;
-    push(out, " this breaks, which must never hold: <code>")
+    let breaks = " this breaks, which must never hold: <code>";
+    push_linked(out, "<p class=\"fault\">After ", step, breaks)
 }
 
 #[tactic(auto, unfolding(crate::specs::Pages::step_link))]
 fn push_step_link(out: &mut Vec<u8>, step: usize) -> Added
     ensures { OnOk result (out.new.items ≡ out.old.items ++ step_link step) }
 {
-    push_around(out, "<a href=\"#step-", step as u64, "")?;
-    push_around(out, "\">step ", step as u64, "</a>")
+    push_twice(out, "<a href=\"#step-", step as u64, "\">step ", "</a>")
 }
 
 // The buttons, and the sentence that is read out.

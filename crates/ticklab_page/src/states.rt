@@ -1,7 +1,7 @@
 // The table of the state.
 ghost use Rattle.std.specs.Prelude.{◌≡◌, ◌++◌, OnOk};
 ghost use Rattle.ticklab_draw.specs.Words.{names};
-ghost use Rattle.ticklab_page.specs.States.{column_head, fixed_row, held_row, line_row, process_rows, rank_row, status_row, table_head, table_text, table_top, value_row, value_rows};
+ghost use Rattle.ticklab_page.specs.States.{column_head, fixed_row, process_rows, rank_row, status_row, step_rows, table_head, table_text, table_top, value_row, value_rows};
 ghost use Rattle.ticklab_page.specs.Writing.{for_each};
 
 use crate::writing::{Added, push, push_around, push_shown, push_times};
@@ -67,8 +67,7 @@ fn push_process_rows(page: &mut Vec<u8>, is_code: bool, n: u8) -> Added
     ensures { OnOk result (page.new.items ≡ page.old.items ++ process_rows is_code n) }
 {
     push_status_row(page, n)?;
-    push_line_row(page, is_code, n)?;
-    push_held_row(page, is_code, n)?;
+    push_step_rows(page, is_code, n)?;
     push_rank_row(page, n)
 }
 
@@ -86,26 +85,18 @@ fn push_rank_row(page: &mut Vec<u8>, n: u8) -> Added
     push_row(page, rank, n, "<td>-</td>")
 }
 
-#[tactic(auto, unfolding(crate::specs::States::line_row))]
-fn push_line_row(page: &mut Vec<u8>, is_code: bool, n: u8) -> Added
-    ensures { OnOk result (page.new.items ≡ page.old.items ++ line_row is_code n) }
+// The last step of each process, and what it holds.
+fn push_step_rows(page: &mut Vec<u8>, is_code: bool, n: u8) -> Added
+    ensures { OnOk result (page.new.items ≡ page.old.items ++ step_rows is_code n) }
 {
     if is_code {
         let place = "<tr data-k=\"at\"><th scope=\"row\">place of its last step</th>";
-        return push_row(page, place, n, "<td>-</td>");
-    }
-    let line = "<tr data-k=\"at\"><th scope=\"row\">line of its last step</th>";
-    push_row(page, line, n, "<td>-</td>")
-}
-
-#[tactic(auto, unfolding(crate::specs::States::held_row))]
-fn push_held_row(page: &mut Vec<u8>, is_code: bool, n: u8) -> Added
-    ensures { OnOk result (page.new.items ≡ page.old.items ++ held_row is_code n) }
-{
-    if is_code {
+        push_row(page, place, n, "<td>-</td>")?;
         let label = "<tr data-k=\"t\"><th scope=\"row\">label</th>";
         return push_row(page, label, n, "<td>.</td>");
     }
+    let line = "<tr data-k=\"at\"><th scope=\"row\">line of its last step</th>";
+    push_row(page, line, n, "<td>-</td>")?;
     let ticket = "<tr data-k=\"t\"><th scope=\"row\">ticket</th>";
     push_row(page, ticket, n, "<td>0</td>")
 }

@@ -1,7 +1,7 @@
 // Adds markup and texts of files to a page.
 ghost use Rattle.std.specs.Prelude.{◌≡◌, ◌++◌, OnOk};
 ghost use Rattle.ticklab_page.specs.Shown.{shown, shown_byte};
-ghost use Rattle.ticklab_page.specs.Writing.{around, markup, times};
+ghost use Rattle.ticklab_page.specs.Writing.{around, markup, times, twice};
 
 use itoa::Buffer;
 use std::alloc::AllocError;
@@ -25,6 +25,21 @@ pub fn push_around(page: &mut Vec<u8>, before: &str, number: u64, after: &str) -
     push(page, before)?;
     push(page, Buffer::new().format(number))?;
     push(page, after)
+}
+
+/// Adds a number at two places, with markup before it, between and after it.
+#[tactic(auto, unfolding(crate::specs::Writing::twice))]
+pub fn push_twice(
+    page: &mut Vec<u8>,
+    before: &str,
+    number: u64,
+    between: &str,
+    after: &str,
+) -> Added
+    ensures { OnOk result (page.new.items ≡ page.old.items ++ twice before.now number between.now after.now) }
+{
+    push_around(page, before, number, "")?;
+    push_around(page, between, number, after)
 }
 
 /// Adds a text that is no markup.

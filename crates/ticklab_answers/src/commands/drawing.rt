@@ -9,7 +9,7 @@ ghost use Rattle.ticklab_answers.specs.Asking.{place_of, texts_of};
 ghost use Rattle.ticklab_answers.specs.Breaking.{IsMarkedFor, mark_of};
 ghost use Rattle.ticklab_answers.specs.Codes.{HasCode, IsCodeless, program_code};
 ghost use Rattle.ticklab_answers.specs.Faults.{IsEither, IsOfFileThat};
-ghost use Rattle.ticklab_answers.specs.Pictures.{IsPictureFor, IsRunPicture, look_of, title_of};
+ghost use Rattle.ticklab_answers.specs.Pictures.{IsRunPicture, look_of, title_of};
 ghost use Rattle.ticklab_answers.specs.Runs.{Draws};
 ghost use Rattle.ticklab_answers.specs.Stops.{IfRefused};
 
@@ -46,27 +46,6 @@ pub fn drawn<F: Files>(
     told(alloc, files, file, schedule, never, &telling, side)
 }
 
-/// The picture that is asked for; `name` is that of the program's file.
-pub fn picture_for(
-    alloc: Global,
-    name: &str,
-    drawing: &Drawing<&str>,
-    program: &Program,
-    lines: &NeverLines<'_>,
-    schedule: &[u8],
-    is_code: bool,
-) -> Result<Vec<u8>, NoAnswer>
-    requires lines { length lines.now.properties.items ≡ length lines.now.places.items }
-    requires schedule { All (λ p. p < (resolved program.now).processes) schedule.now }
-    ensures ok { IfOk result (λ out. IsPictureFor (plain_drawing drawing.now) is_code name.now (lines_of lines.now.properties.items) (map place_of lines.now.places.items) program.now schedule.now out.items) }
-    ensures refused { IfErr result (λ stop. IfRefused stop (IsCodeless is_code name.now program.now)) }
-{
-    let title = title_of(drawing.title, name);
-    let look = look_of(drawing);
-    let shown = steps_to(drawing.to, schedule);
-    picture_of(alloc, name, title, look, program, lines, shown, is_code)
-}
-
 /// The title that is asked for, else the name of the file without its folder.
 pub fn title_of<'t>(title: Option<&'t str>, name: &'t str) -> &'t [u8]
     ensures { result.now ≡ title_of (option_map (λ text. text.now) title.entry) name.now }
@@ -77,7 +56,8 @@ pub fn title_of<'t>(title: Option<&'t str>, name: &'t str) -> &'t [u8]
     }
 }
 
-fn look_of(drawing: &Drawing<&str>) -> Look
+/// How the picture looks that is asked for.
+pub fn look_of(drawing: &Drawing<&str>) -> Look
     ensures { result ≡ look_of (plain_drawing drawing.now) }
 {
     Look {
@@ -87,8 +67,8 @@ fn look_of(drawing: &Drawing<&str>) -> Look
     }
 }
 
-// The steps up to one of this number.
-fn steps_to(to: u32, schedule: &[u8]) -> &[u8]
+/// The steps up to one of this number.
+pub fn steps_to(to: u32, schedule: &[u8]) -> &[u8]
     ensures { result.now ≡ take to schedule.now }
 {
     &schedule[..schedule.len().min(to as usize)]

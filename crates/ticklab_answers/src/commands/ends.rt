@@ -28,11 +28,10 @@ use crate::response::{DONE, LIMIT, Response, answer};
 use crate::stop::NoAnswer;
 use crate::trapping::{broken_shown, trap_shown};
 use base::{NoMemory, set_at};
-use language_questions::{Ends, Property};
+use language_questions::Ends;
 pub use loops::loop_shown;
 use searches_explore::{EndExplored, MustStop, explore_ends, explore_ends_merged};
 use std::alloc::Global;
-use tick_kinds::Program;
 use ticketc_refusals::SpelledProgram;
 use ticklab_line::Steps;
 pub use wording::push_processes;
@@ -129,11 +128,7 @@ fn found_by<W: Progress>(
     requires as_many { length lines.now.properties.items ≡ length lines.now.places.items }
     ensures { IfOk result (λ response. IsHeard (hearing W.begins W.hears) progress.old progress.new (IsEndsFoundBy input.now spelled.now.program (lines_of lines.now.properties.items) (map place_of lines.now.places.items) limit asked is_merged response)) }
 {
-    let program = &spelled.program;
-    let properties = lines.properties.as_slice();
-    let explored = explored_by(
-        alloc, program, properties, asked, limit, is_merged, progress,
-    )?;
+    let explored = explored_by(alloc, spelled, lines, asked, limit, is_merged, progress)?;
     shown(alloc, is_merged, asked, spelled, input, lines, explored)
 }
 
@@ -154,9 +149,7 @@ fn found_first<W: Progress>(
     if is_nobody(asked) {
         return found_by(alloc, asked, spelled, input, lines, limit, true, progress);
     }
-    let program = &spelled.program;
-    let properties = lines.properties.as_slice();
-    let explored = explored_by(alloc, program, properties, asked, limit, true, progress)?;
+    let explored = explored_by(alloc, spelled, lines, asked, limit, true, progress)?;
     match fault_of(explored) {
         Ok(schedule) => shortest_found(alloc, spelled, input, lines, schedule, limit, progress),
         Err(merged) => match limit_of(&merged) {
@@ -206,9 +199,7 @@ fn more_found<W: Progress>(
     requires seen { is_end_limit merged ≡ false }
     ensures { IfOk result (λ response. IsHeard (hearing W.begins W.hears) progress.old progress.new (TellsMore input.now spelled.now.program (lines_of lines.now.properties.items) (map place_of lines.now.places.items) limit asked (states_of merged) response)) }
 {
-    let program = &spelled.program;
-    let properties = lines.properties.as_slice();
-    let single = explored_by(alloc, program, properties, asked, limit, false, progress)?;
+    let single = explored_by(alloc, spelled, lines, asked, limit, false, progress)?;
     match limit_of(&single) {
         Some(states) => half_shown(alloc, asked, spelled, input, lines, merged, states),
         None => shown(alloc, false, asked, spelled, input, lines, single),
@@ -218,23 +209,26 @@ fn more_found<W: Progress>(
 // By merged steps, or by single ones.
 fn explored_by<W: Progress>(
     alloc: Global,
-    program: &Program,
-    lines: &[Property],
+    spelled: &SpelledProgram,
+    lines: &NeverLines<'_>,
     asked: MustStop,
     limit: u32,
     is_merged: bool,
     progress: &mut W,
 ) -> Result<EndExplored, NoMemory>
-    ensures { IfOk result (AreEndsSearchedBy is_merged (resolved program.now) lines.now asked limit (hearing W.begins W.hears) progress.old progress.new) }
+    ensures { IfOk result (AreEndsSearchedBy is_merged (resolved spelled.now.program) lines.now.properties.items asked limit (hearing W.begins W.hears) progress.old progress.new) }
 {
+    let program = &spelled.program;
+    let properties = lines.properties.as_slice();
     progress.begin(is_merged);
     if is_merged {
-        let explored = explore_ends_merged(alloc, program, lines, asked, limit, progress)?;
+        let explored = explore_ends_merged(alloc, program, properties, asked, limit, progress)?;
         return Ok(explored);
     }
-    let explored = explore_ends(alloc, program, lines, asked, limit, progress)?;
+    let explored = explore_ends(alloc, program, properties, asked, limit, progress)?;
     Ok(explored)
 }
+
 /// Whether the search of `explore` asks for ends too, where a file says this of them.
 pub fn asks_ends(ends: Option<Ends>) -> bool
     ensures { result ≡ asks_ends ends }

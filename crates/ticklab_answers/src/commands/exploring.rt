@@ -1,5 +1,5 @@
 //! `ticklab explore`.
-ghost use Rattle.std.specs.Prelude.{◌≡◌, ◌<◌, ◌++◌, All, IfErr, IfOk, MatchResult, OnOk, length, map, string_bytes, true};
+ghost use Rattle.std.specs.Prelude.{◌≡◌, if◌then◌else◌, ◌<◌, ◌++◌, All, IfErr, IfOk, MatchResult, OnOk, length, map, string_bytes, true};
 ghost use Rattle.tick_kinds.specs.Resolution.{resolved};
 ghost use Rattle.tick_source.specs.Source.{source};
 ghost use Rattle.searches_explore.specs.Lines.{is_fault, lines_of};
@@ -31,11 +31,9 @@ use crate::response::{DONE, LIMIT, Response, answer, settled};
 use crate::stop::NoAnswer;
 use crate::trapping::{broken_shown, trap_shown};
 use base::NoMemory;
-use language_questions::Property;
 use searches_explore::{NeverExplored, explore_never, explore_never_merged};
 use searches_hunt::{Minimal, shrink_fault};
 use std::alloc::{AllocError, Global};
-use tick_kinds::Program;
 use ticketc_refusals::SpelledProgram;
 use ticklab_line::Steps;
 
@@ -148,15 +146,7 @@ fn found_by<W: Progress>(
     requires as_many { length lines.now.properties.items ≡ length lines.now.places.items }
     ensures { IfOk result (λ response. IsHeard (hearing W.begins W.hears) progress.old progress.new (IsFoundBy input.now spelled.now.program (lines_of lines.now.properties.items) (map place_of lines.now.places.items) limit is_merged response)) }
 {
-    let properties = lines.properties.as_slice();
-    let explored = explored_by(
-        alloc,
-        &spelled.program,
-        properties,
-        limit,
-        is_merged,
-        progress,
-    )?;
+    let explored = explored_by(alloc, spelled, lines, limit, is_merged, progress)?;
     shown(alloc, is_merged, spelled, input, lines, &explored)
 }
 
@@ -173,8 +163,7 @@ fn found_first<W: Progress>(
     requires as_many { length lines.now.properties.items ≡ length lines.now.places.items }
     ensures { IfOk result (λ response. IsHeard (hearing W.begins W.hears) progress.old progress.new (IsFoundFirst input.now spelled.now.program (lines_of lines.now.properties.items) (map place_of lines.now.places.items) limit response)) }
 {
-    let properties = lines.properties.as_slice();
-    let explored = explored_by(alloc, &spelled.program, properties, limit, true, progress)?;
+    let explored = explored_by(alloc, spelled, lines, limit, true, progress)?;
     match fault_of(explored) {
         Ok(schedule) => shortest_found(alloc, spelled, input, lines, schedule, limit, progress),
         Err(none) => shown(alloc, true, spelled, input, lines, &none),
@@ -209,9 +198,9 @@ pub fn shortest_found<W: Progress>(
     requires fault { is_fault (lines_of lines.now.properties.items) (source (resolved spelled.now.program) schedule.items) ≡ true }
     ensures { IfOk result (λ response. IsHeard (hearing W.begins W.hears) progress.old progress.new (TellsShortest input.now spelled.now.program (lines_of lines.now.properties.items) (map place_of lines.now.places.items) limit response)) }
 {
-    let properties = lines.properties.as_slice();
-    let explored = explored_by(alloc, &spelled.program, properties, limit, false, progress)?;
+    let explored = explored_by(alloc, spelled, lines, limit, false, progress)?;
     if is_limit(&explored) {
+        let properties = lines.properties.as_slice();
         let minimal = shrink_fault(alloc, &spelled.program, properties, schedule)?;
         return minimal_shown(alloc, spelled, input, lines, &minimal);
     }
@@ -230,20 +219,22 @@ fn is_limit(explored: &NeverExplored) -> bool
 // By merged steps, or by single ones.
 fn explored_by<W: Progress>(
     alloc: Global,
-    program: &Program,
-    lines: &[Property],
+    spelled: &SpelledProgram,
+    lines: &NeverLines<'_>,
     limit: u32,
     is_merged: bool,
     progress: &mut W,
 ) -> Result<NeverExplored, NoMemory>
-    ensures { IfOk result (IsSearchedBy is_merged (resolved program.now) lines.now limit (hearing W.begins W.hears) progress.old progress.new) }
+    ensures { IfOk result (IsSearchedBy is_merged (resolved spelled.now.program) lines.now.properties.items limit (hearing W.begins W.hears) progress.old progress.new) }
 {
+    let program = &spelled.program;
+    let properties = lines.properties.as_slice();
     progress.begin(is_merged);
     if is_merged {
-        let explored = explore_never_merged(alloc, program, lines, limit, progress)?;
+        let explored = explore_never_merged(alloc, program, properties, limit, progress)?;
         return Ok(explored);
     }
-    let explored = explore_never(alloc, program, lines, limit, progress)?;
+    let explored = explore_never(alloc, program, properties, limit, progress)?;
     Ok(explored)
 }
 
@@ -379,11 +370,18 @@ pub fn push_more(text: &mut String, is_merged: bool, states: u32) -> Result<(), 
 fn next_line(is_merged: bool) -> &'static str
     ensures { result.now ≡ next_line is_merged }
 {
-    if is_merged {
-        "try a larger --limit, hunt, or fewer processes or rounds\n"
-    } else {
-        "try it without --single, a larger --limit, hunt, or fewer processes or rounds\n"
-    }
+    either(
+        is_merged,
+        "try a larger --limit, hunt, or fewer processes or rounds\n",
+        "try it without --single, a larger --limit, hunt, or fewer processes or rounds\n",
+    )
+}
+
+/// The first text where this holds, else the other.
+pub fn either(first: bool, one: &'static str, other: &'static str) -> &'static str
+    ensures { result.now ≡ (if first then one.now else other.now) }
+{
+    if first { one } else { other }
 }
 
 pub fn limit_line(alloc: Global, is_merged: bool, states: u32) -> Result<String, AllocError>

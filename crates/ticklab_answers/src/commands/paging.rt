@@ -7,7 +7,7 @@ ghost use Rattle.ticklab_answers.specs.Asking.{place_of, texts_of};
 ghost use Rattle.ticklab_answers.specs.Codes.{HasNoCode, IsCodeless};
 ghost use Rattle.ticklab_answers.specs.Faults.{IsEither, IsOfFileThat};
 ghost use Rattle.ticklab_answers.specs.Lines.{long_run_line};
-ghost use Rattle.ticklab_answers.specs.Pages.{IsCodePage, IsPage, IsPageAround, IsProgramPage, whole_look};
+ghost use Rattle.ticklab_answers.specs.Pages.{IsCodePage, IsPage, IsProgramPage, whole_look};
 ghost use Rattle.ticklab_answers.specs.Runs.{IsTooLong, IsWithin, Pages, plain_telling};
 ghost use Rattle.ticklab_answers.specs.Stops.{IfRefused};
 
@@ -102,9 +102,10 @@ pub fn page_of(
     let look = whole_look();
     let drawn = picture_of(alloc, name, title, look, program, lines, schedule, is_code)?;
     let drawn = drawn.as_slice();
-    page_around(
-        alloc, name, title, drawn, spelled, input, lines, schedule, is_code,
-    )
+    if is_code {
+        return code_page_of(alloc, name, title, drawn, program, schedule);
+    }
+    Ok(source_page_of(alloc, title, drawn, spelled, input, lines, schedule)?)
 }
 
 // The picture of a page is that of `draw` without options.
@@ -116,30 +117,6 @@ fn whole_look() -> Look
         is_shared: false,
         width: 1000,
     }
-}
-
-// The page around this picture.
-fn page_around(
-    alloc: Global,
-    name: &str,
-    title: &[u8],
-    drawn: &[u8],
-    spelled: &SpelledProgram,
-    input: &[u8],
-    lines: &NeverLines<'_>,
-    schedule: &[u8],
-    is_code: bool,
-) -> Result<Vec<u8>, NoAnswer>
-    requires lines { length lines.now.properties.items ≡ length lines.now.places.items }
-    requires schedule { All (λ p. p < (resolved spelled.now.program).processes) schedule.now }
-    requires program { SpelledIn input.now spelled.now }
-    ensures ok { IfOk result (λ out. IsPageAround title.now drawn.now is_code (lines_of lines.now.properties.items) (map place_of lines.now.places.items) input.now spelled.now.program schedule.now out.items) }
-    ensures refused { IfErr result (λ stop. IfRefused stop (IsCodeless is_code name.now spelled.now.program)) }
-{
-    if is_code {
-        return code_page_of(alloc, name, title, drawn, &spelled.program, schedule);
-    }
-    Ok(source_page_of(alloc, title, drawn, spelled, input, lines, schedule)?)
 }
 
 fn source_page_of(

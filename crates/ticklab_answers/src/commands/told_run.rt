@@ -10,7 +10,7 @@ ghost use Rattle.ticklab_answers.specs.Responses.{Gives};
 ghost use Rattle.ticklab_answers.specs.Runs.{IsRun, IsTold, IsToldWith, IsUnrun, TellsRun, is_of_code, plain_telling, schedule_on};
 ghost use Rattle.ticklab_answers.specs.Stops.{IfRefused};
 
-use crate::commands::drawing::{picture_for, title_of};
+use crate::commands::drawing::{look_of, picture_of, steps_to, title_of};
 use crate::commands::paging::{page_of, within_a_page};
 use crate::commands::tracing::trace_of;
 use crate::fault::LabFault;
@@ -152,13 +152,14 @@ fn telling_of(
             schedule,
             is_code,
         ),
-        Telling::Picture(drawing) => picture_for(
+        Telling::Picture(drawing) => picture_of(
             alloc,
             name,
-            drawing,
+            title_of(drawing.title, name),
+            look_of(drawing),
             &spelled.program,
             lines,
-            schedule,
+            steps_to(drawing.to, schedule),
             is_code,
         ),
     }

@@ -1,9 +1,9 @@
 //! The lines of the answers to `explore --ends`.
-ghost use Rattle.std.specs.Prelude.{◌≡◌, if◌then◌else◌, ◌≤◌, ◌+◌, ◌++◌, IfOk, OnOk, length, string_bytes};
+ghost use Rattle.std.specs.Prelude.{◌≡◌, ◌≤◌, ◌+◌, ◌++◌, IfOk, OnOk, length, string_bytes};
 ghost use Rattle.std.specs.List.{list_any};
 ghost use Rattle.ticklab_answers.specs.Lines.{asked_text, can_end_line, can_end_text, endless_line, ends_line, ends_text, half_line, is_nobody, marked, no_process_line, numbers_text, processes_text, quiet_text, stuck_line};
 
-use crate::commands::exploring::{push_more, push_states, safe_text};
+use crate::commands::exploring::{either, push_more, push_states, safe_text};
 use base::push_number;
 use searches_explore::MustStop;
 use std::alloc::{AllocError, Global};
@@ -181,12 +181,6 @@ pub fn half_line(
     push_more(&mut line, false, limit)?;
     line.push_str("\ntry a larger --limit, or fewer processes or rounds\n")?;
     Ok(line)
-}
-
-fn either(first: bool, one: &'static str, other: &'static str) -> &'static str
-    ensures { result.now ≡ (if first then one.now else other.now) }
-{
-    if first { one } else { other }
 }
 
 /// They can always end, and under a schedule they don't.

@@ -1,9 +1,7 @@
-use Rattle.std.proofs.Common.{List, map, subst}
-use Rattle.language_properties.specs.declared.property.Property.{Property}
+use Rattle.std.proofs.Common.{map}
 use Rattle.tick_kinds.specs.Resolution.{resolved}
 use Rattle.ticklab_answers.specs.Asking.{place_of}
 use Rattle.ticklab_answers.specs.Hearing.{hearing}
-use Rattle.ticklab_answers.specs.prover.Searches.{AreEndsSearchedBy}
 use Rattle.ticklab_answers.proofs.Breaks.{then_ok}
 use Rattle.ticklab_answers.proofs.EndsSearched.{ends_found_as, stuck_lawful}
 use Rattle.ticklab_answers.proofs.commands.ends.found_by.Goals as goal
@@ -18,6 +16,4 @@ returns g c =
     let held = c.args.lines.now in
     let H = hearing g.W.Progress.begins g.W.Watch.hears in
     then_ok c.shown.result (λ x shows. ends_found_as c.args.input.now a held.properties.items (map place_of held.places.items) c.args.limit c.args.asked H _ _
-    c.args.is_merged c.in_ok-explored.explored x
-    (subst (λ (lines : List Property). AreEndsSearchedBy c.args.is_merged (resolved a) lines c.args.asked c.args.limit H c.args.progress.now
-    c.explored_by.new.progress c.in_ok-explored.explored) c.as_slice-properties.ensures.value c.in_ok-explored.ensures) shows) c.shown.ensures
+    c.args.is_merged c.in_ok-explored.explored x c.in_ok-explored.ensures shows) c.shown.ensures

@@ -1,5 +1,4 @@
 use Rattle.std.proofs.Common.{◌≡◌, ◌∙◌, ℕ, true, List, map, subst, sym}
-use Rattle.language_properties.specs.declared.property.Property.{Property}
 use Rattle.tick_kinds.specs.Resolution.{resolved}
 use Rattle.ticklab_answers.specs.Asking.{place_of}
 use Rattle.ticklab_answers.specs.Hearing.{hearing}
@@ -24,12 +23,9 @@ pub shortest_found-requires-clause-fault : goal.shortest_found-requires-clause-f
 shortest_found-requires-clause-fault g c =
     let a = resolved c.args.spelled.now.program in
     let props = c.args.lines.now.properties.items in
-    let H = hearing g.W.Progress.begins g.W.Watch.hears in
     let e = never_answer c.in_ok-explored.explored in
-    let searched = subst (λ (lines : List Property). AreEndsSearchedBy true a lines c.args.asked c.args.limit H c.args.progress.now
-    c.explored_by.new.progress c.in_ok-explored.explored) c.as_slice-properties.ensures.value c.in_ok-explored.ensures in
     of_found (λ (schedule : List ℕ). is_fault (lines_of props) (source a schedule) ≡ true) e c.in-Ok.schedule c.in-Ok.ensures
-    (fault_by a props true c.args.limit e searched.known.never)
+    (fault_by a props true c.args.limit e c.in_ok-explored.ensures.known.never)
 
 pub returns-in-Ok : goal.returns-in-Ok
 returns-in-Ok g c =
@@ -38,8 +34,7 @@ returns-in-Ok g c =
     let H = hearing g.W.Progress.begins g.W.Watch.hears in
     then_ok c.shortest_found.result (λ x told. fault_first c.args.input.now a held.properties.items (map place_of held.places.items) c.args.limit c.args.asked
     H _ _ _ c.in_ok-explored.explored c.in-Ok.schedule x
-    (subst (λ (lines : List Property). AreEndsSearchedBy true (resolved a) lines c.args.asked c.args.limit H c.args.progress.now
-    c.explored_by.new.progress c.in_ok-explored.explored) c.as_slice-properties.ensures.value c.in_ok-explored.ensures) c.in-Ok.ensures told)
+    c.in_ok-explored.ensures c.in-Ok.ensures told)
     c.shortest_found.ensures
 
 pub returns-in-Some : goal.returns-in-Some
@@ -50,9 +45,7 @@ returns-in-Some g c =
     then_ok c.shown.result (λ x shows. unknown_first c.args.input.now a held.properties.items (map place_of held.places.items) c.args.limit c.args.asked H _ _
     c.in-Err.merged c.in-Some.field-0 x c.in-Some.ensures
     (subst (λ (e : EndExplored). AreEndsSearchedBy true (resolved a) held.properties.items c.args.asked c.args.limit H c.args.progress.now
-    c.explored_by.new.progress e) (sym c.in-Err.ensures.0)
-    (subst (λ (lines : List Property). AreEndsSearchedBy true (resolved a) lines c.args.asked c.args.limit H c.args.progress.now
-    c.explored_by.new.progress c.in_ok-explored.explored) c.as_slice-properties.ensures.value c.in_ok-explored.ensures)) shows) c.shown.ensures
+    c.explored_by.new.progress e) (sym c.in-Err.ensures.0) c.in_ok-explored.ensures) shows) c.shown.ensures
 
 pub returns-in-None : goal.returns-in-None
 returns-in-None g c =
@@ -60,8 +53,6 @@ returns-in-None g c =
     let held = c.args.lines.now in
     let H = hearing g.W.Progress.begins g.W.Watch.hears in
     let searched = subst (λ (e : EndExplored). AreEndsSearchedBy true (resolved a) held.properties.items c.args.asked c.args.limit H c.args.progress.now
-    c.explored_by.new.progress e) (sym c.in-Err.ensures.0)
-    (subst (λ (lines : List Property). AreEndsSearchedBy true (resolved a) lines c.args.asked c.args.limit H c.args.progress.now
-    c.explored_by.new.progress c.in_ok-explored.explored) c.as_slice-properties.ensures.value c.in_ok-explored.ensures) in
+    c.explored_by.new.progress e) (sym c.in-Err.ensures.0) c.in_ok-explored.ensures in
     then_ok c.more_found.result (λ x told. quiet_first c.args.input.now a held.properties.items (map place_of held.places.items) c.args.limit c.args.asked
     c.in-Err.merged searched.known c.in-Err.ensures.1 c.in-None.ensures H _ _ _ x searched.watched told) c.more_found.ensures

@@ -1,31 +1,20 @@
-use Rattle.std.proofs.Common.{false, List, map, subst}
-use Rattle.language_properties.specs.declared.property.Property.{Property}
-use Rattle.tick_kinds.specs.Resolution.{resolved}
+use Rattle.std.proofs.Common.{map}
 use Rattle.ticklab_answers.specs.Asking.{place_of}
 use Rattle.ticklab_answers.specs.Hearing.{hearing}
-use Rattle.ticklab_answers.specs.prover.Searches.{AreEndsSearchedBy}
 use Rattle.ticklab_answers.proofs.Breaks.{then_ok}
 use Rattle.ticklab_answers.proofs.EndsSearched.{half_as, more_as}
 use Rattle.ticklab_answers.proofs.commands.ends.more_found.Goals as goal
 
 pub returns-in-Some : goal.returns-in-Some
 returns-in-Some g c =
-    let a = c.args.spelled.now.program in
     let held = c.args.lines.now in
-    let H = hearing g.W.Progress.begins g.W.Watch.hears in
-    then_ok c.half_shown.result (λ x shows. half_as c.args.input.now a held.properties.items (map place_of held.places.items) c.args.limit c.args.asked
-    c.args.merged c.requires.known c.requires.quiet c.requires.seen H _ _ c.in_ok-single.single x
-    (subst (λ (lines : List Property). AreEndsSearchedBy false (resolved a) lines c.args.asked c.args.limit H c.args.progress.now
-    c.explored_by.new.progress c.in_ok-single.single) c.as_slice-properties.ensures.value c.in_ok-single.ensures)
-    c.in-Some.states c.in-Some.ensures shows) c.half_shown.ensures
+    then_ok c.half_shown.result (λ x shows. half_as c.args.input.now c.args.spelled.now.program held.properties.items (map place_of held.places.items)
+    c.args.limit c.args.asked c.args.merged c.requires.known c.requires.quiet c.requires.seen (hearing g.W.Progress.begins g.W.Watch.hears) _ _
+    c.in_ok-single.single x c.in_ok-single.ensures c.in-Some.states c.in-Some.ensures shows) c.half_shown.ensures
 
 pub returns-in-None : goal.returns-in-None
 returns-in-None g c =
-    let a = c.args.spelled.now.program in
     let held = c.args.lines.now in
-    let H = hearing g.W.Progress.begins g.W.Watch.hears in
-    then_ok c.shown.result (λ x shows. more_as c.args.input.now a held.properties.items (map place_of held.places.items) c.args.limit c.args.asked
-    c.args.merged c.requires.known c.requires.quiet c.requires.seen H _ _ c.in_ok-single.single x
-    (subst (λ (lines : List Property). AreEndsSearchedBy false (resolved a) lines c.args.asked c.args.limit H c.args.progress.now
-    c.explored_by.new.progress c.in_ok-single.single) c.as_slice-properties.ensures.value c.in_ok-single.ensures)
-    c.in-None.ensures shows) c.shown.ensures
+    then_ok c.shown.result (λ x shows. more_as c.args.input.now c.args.spelled.now.program held.properties.items (map place_of held.places.items)
+    c.args.limit c.args.asked c.args.merged c.requires.known c.requires.quiet c.requires.seen (hearing g.W.Progress.begins g.W.Watch.hears) _ _
+    c.in_ok-single.single x c.in_ok-single.ensures c.in-None.ensures shows) c.shown.ensures

@@ -1,19 +1,13 @@
-use Rattle.std.proofs.Common.{List, map, subst}
-use Rattle.language_properties.specs.declared.property.Property.{Property}
-use Rattle.tick_kinds.specs.Resolution.{resolved}
+use Rattle.std.proofs.Common.{map}
 use Rattle.ticklab_answers.specs.Asking.{place_of}
 use Rattle.ticklab_answers.specs.Hearing.{hearing}
-use Rattle.ticklab_answers.specs.prover.Searches.{IsSearchedBy}
 use Rattle.ticklab_answers.proofs.Breaks.{then_ok}
 use Rattle.ticklab_answers.proofs.Searched.{found_as}
 use Rattle.ticklab_answers.proofs.commands.exploring.found_by.Goals as goal
 
 pub returns : goal.returns
 returns g c =
-    let a = c.args.spelled.now.program in
     let held = c.args.lines.now in
-    let H = hearing g.W.Progress.begins g.W.Watch.hears in
-    then_ok c.shown.result (λ x shows. found_as c.args.input.now a held.properties.items (map place_of held.places.items) c.args.limit H _ _
-    c.args.is_merged c.in_ok-explored.explored x
-    (subst (λ (lines : List Property). IsSearchedBy c.args.is_merged (resolved a) lines c.args.limit H c.args.progress.now c.explored_by.new.progress
-    c.in_ok-explored.explored) c.as_slice-properties.ensures.value c.in_ok-explored.ensures) shows) c.shown.ensures
+    then_ok c.shown.result (λ x shows. found_as c.args.input.now c.args.spelled.now.program held.properties.items (map place_of held.places.items)
+    c.args.limit (hearing g.W.Progress.begins g.W.Watch.hears) _ _ c.args.is_merged c.in_ok-explored.explored x c.in_ok-explored.ensures shows)
+    c.shown.ensures

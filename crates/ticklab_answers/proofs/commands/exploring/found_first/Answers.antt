@@ -1,5 +1,4 @@
 use Rattle.std.proofs.Common.{◌≡◌, ℕ, true, List, map, subst, sym}
-use Rattle.language_properties.specs.declared.property.Property.{Property}
 use Rattle.tick_kinds.specs.Resolution.{resolved}
 use Rattle.ticklab_answers.specs.Asking.{place_of}
 use Rattle.ticklab_answers.specs.Hearing.{hearing}
@@ -15,11 +14,8 @@ pub shortest_found-requires-clause-fault : goal.shortest_found-requires-clause-f
 shortest_found-requires-clause-fault g c =
     let a = resolved c.args.spelled.now.program in
     let props = c.args.lines.now.properties.items in
-    let H = hearing g.W.Progress.begins g.W.Watch.hears in
-    let searched = subst (λ (lines : List Property). IsSearchedBy true a lines c.args.limit H c.args.progress.now c.explored_by.new.progress
-    c.in_ok-explored.explored) c.as_slice-properties.ensures.value c.in_ok-explored.ensures in
     of_found (λ (schedule : List ℕ). is_fault (lines_of props) (source a schedule) ≡ true) c.in_ok-explored.explored c.in-Ok.schedule c.in-Ok.ensures
-    (fault_by a props true c.args.limit c.in_ok-explored.explored searched.known)
+    (fault_by a props true c.args.limit c.in_ok-explored.explored c.in_ok-explored.ensures.known)
 
 pub returns-in-Ok : goal.returns-in-Ok
 returns-in-Ok g c =
@@ -28,8 +24,7 @@ returns-in-Ok g c =
     let H = hearing g.W.Progress.begins g.W.Watch.hears in
     then_ok c.shortest_found.result (λ x told. both_first c.args.input.now a held.properties.items (map place_of held.places.items) c.args.limit H _ _ _
     c.in_ok-explored.explored c.in-Ok.schedule x
-    (subst (λ (lines : List Property). IsSearchedBy true (resolved a) lines c.args.limit H c.args.progress.now c.explored_by.new.progress
-    c.in_ok-explored.explored) c.as_slice-properties.ensures.value c.in_ok-explored.ensures) c.in-Ok.ensures told) c.shortest_found.ensures
+    c.in_ok-explored.ensures c.in-Ok.ensures told) c.shortest_found.ensures
 
 pub returns-in-Err : goal.returns-in-Err
 returns-in-Err g c =
@@ -39,6 +34,4 @@ returns-in-Err g c =
     then_ok c.shown.result (λ x shows. none_first c.args.input.now a held.properties.items (map place_of held.places.items) c.args.limit H _ _
     c.in-Err.none x
     (subst (λ (e : NeverExplored). IsSearchedBy true (resolved a) held.properties.items c.args.limit H c.args.progress.now c.explored_by.new.progress e)
-    (sym c.in-Err.ensures.0)
-    (subst (λ (lines : List Property). IsSearchedBy true (resolved a) lines c.args.limit H c.args.progress.now c.explored_by.new.progress
-    c.in_ok-explored.explored) c.as_slice-properties.ensures.value c.in_ok-explored.ensures)) c.in-Err.ensures.1 shows) c.shown.ensures
+    (sym c.in-Err.ensures.0) c.in_ok-explored.ensures) c.in-Err.ensures.1 shows) c.shown.ensures

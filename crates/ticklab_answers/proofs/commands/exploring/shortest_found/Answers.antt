@@ -6,7 +6,6 @@ use Rattle.ticklab_answers.specs.Hearing.{hearing}
 use Rattle.searches_explore.specs.Lines.{lines_of}
 use Rattle.searches_hunt.specs.Minimal.{IfBroken, IfTrapped}
 use Rattle.searches_hunt.specs.Never.{IsMinimalBroken, IsMinimalTrapped}
-use Rattle.ticklab_answers.specs.prover.Searches.{IsSearchedBy}
 use Rattle.ticklab_answers.proofs.Breaks.{then_ok}
 use Rattle.ticklab_answers.proofs.Searched.{minimal_as, shortest_as}
 use Rattle.ticklab_answers.proofs.commands.exploring.shortest_found.Goals as goal
@@ -20,8 +19,7 @@ returns-then-is_limit g c =
     let k = c.in_ok-minimal.minimal in
     then_ok c.minimal_shown.result (λ x shows. minimal_as c.args.input.now a held.properties.items (map place_of held.places.items) c.args.limit H _ _
     c.in_ok-explored.explored k x
-    (subst (λ (lines : List Property). IsSearchedBy false (resolved a) lines c.args.limit H c.args.progress.now c.explored_by.new.progress
-    c.in_ok-explored.explored) value c.in_ok-explored.ensures)
+    c.in_ok-explored.ensures
     (sym c.is_limit.ensures ∙ c.if-is_limit.true)
     (subst (λ (lines : List Property). IfTrapped k (IsMinimalTrapped (resolved a) (lines_of lines))) value c.in_ok-minimal.ensures.trapped)
     (subst (λ (lines : List Property). IfBroken k (IsMinimalBroken (resolved a) (lines_of lines))) value c.in_ok-minimal.ensures.broken)
@@ -33,7 +31,5 @@ returns g c =
     let held = c.args.lines.now in
     let H = hearing g.W.Progress.begins g.W.Watch.hears in
     then_ok c.shown.result (λ x shows. shortest_as c.args.input.now a held.properties.items (map place_of held.places.items) c.args.limit H _ _
-    c.args.schedule.items c.requires.fault c.in_ok-explored.explored x
-    (subst (λ (lines : List Property). IsSearchedBy false (resolved a) lines c.args.limit H c.args.progress.now c.explored_by.new.progress
-    c.in_ok-explored.explored) c.as_slice-properties.ensures.value c.in_ok-explored.ensures)
+    c.args.schedule.items c.requires.fault c.in_ok-explored.explored x c.in_ok-explored.ensures
     (sym c.is_limit.ensures ∙ c.if-is_limit.false) shows) c.shown.ensures

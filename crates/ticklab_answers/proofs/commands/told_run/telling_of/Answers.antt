@@ -2,6 +2,7 @@ use Rattle.std.proofs.Common.{ℕ, List, IfOk, map, subst}
 use Rattle.searches_explore.specs.Lines.{lines_of}
 use Rattle.ticklab_answers.specs.Asking.{place_of}
 use Rattle.ticklab_answers.specs.Pages.{IsPage}
+use Rattle.ticklab_answers.proofs.Pictured.{pictured_as}
 use Rattle.ticklab_answers.proofs.commands.told_run.telling_of.Goals as goal
 
 pub returns-in-Trace-clause-ok : goal.returns-in-Trace-clause-ok
@@ -15,4 +16,8 @@ returns-in-Page-clause-ok c =
     c.title_of.ensures c.page_of.ensures.ok)
 
 pub returns-in-Picture-clause-ok : goal.returns-in-Picture-clause-ok
-returns-in-Picture-clause-ok c = rw c.in-Picture.is c.picture_for.ensures.ok
+returns-in-Picture-clause-ok c =
+    let lines = c.args.asked.now.lines in
+    rw c.in-Picture.is
+    (pictured_as c.picture_of.result _ _ _ _ c.args.is_code (lines_of lines.properties.items) (map place_of lines.places.items) c.args.asked.now.spelled.program
+    _ _ c.title_of-in-Picture.ensures c.look_of.ensures c.steps_to.ensures c.picture_of.ensures.ok)
