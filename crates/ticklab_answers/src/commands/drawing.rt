@@ -49,11 +49,11 @@ pub fn drawn<F: Files>(
 pub fn picture_for(
     alloc: Global,
     name: &str,
+    is_code: bool,
     drawing: &Drawing<&str>,
     program: &Program,
     lines: &NeverLines<'_>,
     schedule: &[u8],
-    is_code: bool,
 ) -> Result<Vec<u8>, NoAnswer>
     requires lines { length lines.now.properties.items ≡ length lines.now.places.items }
     requires schedule { All (λ p. p < (resolved program.now).processes) schedule.now }

@@ -141,11 +141,11 @@ fn telling_of(
         Telling::Picture(drawing) => picture_for(
             alloc,
             name,
+            is_code,
             drawing,
             &spelled.program,
             lines,
             schedule,
-            is_code,
         ),
     }
 }
