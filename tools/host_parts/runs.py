@@ -1,0 +1,100 @@
+"""Runs a program with ends of each kind, and tells what came of it."""
+import os
+import pty
+import select
+import signal
+import subprocess
+import tempfile
+import time
+
+# How long a run may take, and how many bytes a reader takes that leaves.
+PATIENCE, TAKEN = 60, 10
+
+
+class Came:
+    """What came of a run: its status, negative where a signal ended it, and what was read of both outputs."""
+
+    def __init__(self, status, out, told):
+        self.status, self.out, self.told = status, out, told
+
+
+def unread():
+    """An output that nobody reads any more."""
+    reads, writes = os.pipe()
+    os.close(reads)
+    return os.fdopen(writes, "wb")
+
+
+ENDS = {
+    "kept": tempfile.TemporaryFile,
+    "full": lambda: open("/dev/full", "wb"),
+    "unread": unread,
+    # (closed in the program that is started)
+    "closed": lambda: open(os.devnull, "r+b"),
+}
+
+
+def closing(kinds):
+    """What closes, in the program that is started, the ends of the kind `closed`."""
+    numbers = [number for number, kind in enumerate(kinds) if kind == "closed"]
+    return lambda: [os.close(number) for number in numbers]
+
+
+def run(path, words, given, out="kept", err="kept", reads=None):
+    """Runs a program over ends of these kinds; its input is a file, or closed where `reads` says so."""
+    with tempfile.TemporaryFile() as source, ENDS[out]() as to, ENDS[err]() as tells:
+        source.write(given)
+        source.seek(0)
+        ran = subprocess.run(
+            [path, *words], stdin=source, stdout=to, stderr=tells, timeout=PATIENCE, check=False,
+            preexec_fn=closing((reads, out, err)),
+        )
+        return Came(ran.returncode, held(to, out), held(tells, err))
+
+
+def held(file, kind):
+    if kind != "kept":
+        return b""
+    file.seek(0)
+    return file.read()
+
+
+def run_to_one_who_leaves(path, words):
+    """Its reader takes some bytes and leaves."""
+    with subprocess.Popen([path, *words], stdout=subprocess.PIPE, stderr=subprocess.PIPE) as running:
+        taken = os.read(running.stdout.fileno(), TAKEN)
+        running.stdout.close()
+        told = running.stderr.read()
+        return Came(running.wait(PATIENCE), taken, told)
+
+
+def run_on_terminal(path, words, key=None, after=b""):
+    """Standard error and input are a terminal, the output is a file. Where there is a key, it is struck once the
+    terminal shows this."""
+    with tempfile.TemporaryFile() as to:
+        child, terminal = pty.fork()
+        if child == 0:
+            os.dup2(to.fileno(), 1)
+            os.execv(path, [path, *words])
+        shown, ends = b"", time.monotonic() + PATIENCE
+        while more := shown_next(terminal, ends):
+            shown += more
+            if key and after in shown:
+                os.write(terminal, key)
+                key = None
+        if time.monotonic() > ends:
+            os.kill(child, signal.SIGKILL)
+        status = os.waitstatus_to_exitcode(os.waitpid(child, 0)[1])
+        os.close(terminal)
+        return Came(status, held(to, "kept"), shown)
+
+
+def shown_next(terminal, ends):
+    """What the terminal shows next; nothing once the program has ended, or its time is over."""
+    if not select.select([terminal], [], [], max(0, ends - time.monotonic()))[0]:
+        return b""
+    try:
+        return os.read(terminal, 65536)
+    except OSError:
+        # (Linux tells so that nobody has the other side any more)
+        return b""
