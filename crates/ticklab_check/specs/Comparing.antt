@@ -11,9 +11,12 @@ use Rattle.ticklab_check.specs.declared.found.Found.TheVariants as F
 -- what is found, beside what was expected
 abbrev pub compared : Found → Expected → Verdict
 compared (F.Safe states) X.Safe = V.AsExpected
+compared (F.Ends states) X.Safe = V.AsExpected
 compared F.Trap X.Trap = V.AsExpected
 compared F.Never X.Never = V.AsExpected
 compared (F.Stuck states) X.Stuck = V.AsExpected
+compared (F.Endless states) X.Stuck = V.AsExpected
+compared (F.Unsettled states) expected = V.Limit
 compared (F.Limit states) expected = V.Limit
 compared found expected = V.Otherwise
 

@@ -4,6 +4,7 @@ use Rattle.std.specs.List.{AllZip}
 use Rattle.std.specs.Fmt.{decimal}
 use Rattle.language_questions.specs.declared.questions.Expected.{Expected}
 use Rattle.language_questions.specs.declared.questions.Expected.TheVariants as X
+use Rattle.searches_states.specs.declared.limits.Limits.{Limits}
 use Rattle.ticklab_check.specs.Checking.{SourceComesTo}
 use Rattle.ticklab_check.specs.Comparing.{compared, verdict_of}
 use Rattle.ticklab_check.specs.declared.checked.Checked.{Checked}
@@ -19,9 +20,12 @@ use Rattle.ticklab_check.specs.declared.tally.Tally.{Tally}
 
 abbrev pub found_text : Found → List ℕ
 found_text (F.Safe states) = codes "safe"
+found_text (F.Ends states) = codes "safe"
 found_text F.Trap = codes "trap"
 found_text F.Never = codes "broken #! never line"
 found_text (F.Stuck states) = codes "stuck"
+found_text (F.Endless states) = codes "endless"
+found_text (F.Unsettled states) = codes "limit, whether all end was not found out"
 found_text (F.Limit states) = codes "limit"
 
 -- the word behind `#! expect`
@@ -39,15 +43,21 @@ verdict_text V.Otherwise expected = codes ", but " ++ expected_text expected ++ 
 verdict_text V.Limit expected = []
 
 abbrev pub count_text : ℕ → List ℕ
-count_text states = decimal states ++ (if states == 1 then codes " merged state" else codes " merged states")
+count_text states = decimal states ++ (if states == 1 then codes " state" else codes " states")
+
+abbrev pub merged_text : ℕ → List ℕ
+merged_text states = decimal states ++ (if states == 1 then codes " merged state" else codes " merged states")
 
 -- how many states there are, where that is known
 abbrev pub states_text : Found → List ℕ
-states_text (F.Safe states) = codes ", " ++ count_text states
+states_text (F.Safe states) = codes ", " ++ merged_text states
+states_text (F.Ends states) = codes ", " ++ count_text states
 states_text F.Trap = []
 states_text F.Never = []
-states_text (F.Stuck states) = codes ", " ++ count_text states
-states_text (F.Limit states) = codes ", more than " ++ count_text states
+states_text (F.Stuck states) = codes ", " ++ merged_text states
+states_text (F.Endless states) = codes ", " ++ count_text states
+states_text (F.Unsettled states) = codes ", " ++ merged_text states
+states_text (F.Limit states) = codes ", more than " ++ merged_text states
 
 -- hundredths of a second, as seconds
 abbrev pub seconds_text : ℕ → List ℕ
@@ -96,8 +106,8 @@ status_of t = if t.otherwise == 0 then (if t.limit == 0 then 0 else 6) else 5
 
 -- Each file comes to what is told of it, in the order of the files, after however long a time; at the end stands how many
 -- there are of each verdict.
-pub record IsReport (limit : ℕ) (sources : List Source) (report : Report) : Type 0 where
+pub record IsReport (limits : Limits) (sources : List Source) (report : Report) : Type 0 where
   pub timed : List Timed
-  pub come : AllZip (λ source timed. SourceComesTo limit source timed.checked) sources timed
+  pub come : AllZip (λ source timed. SourceComesTo limits source timed.checked) sources timed
   pub text : report.text.items ≡ files_text sources timed ++ tally_text (tally_of timed)
   pub status : report.status ≡ status_of (tally_of timed)

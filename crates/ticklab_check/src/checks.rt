@@ -6,6 +6,7 @@ use crate::checked::Timed;
 use crate::searching::checked_file;
 use crate::source::Source;
 use base::NoMemory;
+use searches_explore::Limits;
 use std::alloc::Global;
 
 /// Says what time it is.
@@ -19,9 +20,14 @@ pub trait Checks: Drop + Sized {
     /// The same, that searches at most so many files at once; 0 counts as 1.
     fn with_jobs(&self, jobs: u32) -> Self;
 
-    /// What each file comes to, in their order.
-    fn checked(&self, alloc: Global, sources: &[Source], limit: u32) -> Result<Vec<Timed>, NoMemory>
-        ensures { IfOk result (λ files. AllZip (λ source timed. SourceComesTo limit source timed.checked) sources.now files.items) };
+    /// What each file comes to, in their order. Each search has these limits for itself.
+    fn checked(
+        &self,
+        alloc: Global,
+        sources: &[Source],
+        limits: Limits,
+    ) -> Result<Vec<Timed>, NoMemory>
+        ensures { IfOk result (λ files. AllZip (λ source timed. SourceComesTo limits source timed.checked) sources.now files.items) };
 }
 
 /// Searches one file after the other.
@@ -39,11 +45,11 @@ impl<T: Stopwatch + Copy> Checks for InTurn<T> {
         &self,
         alloc: Global,
         sources: &[Source],
-        limit: u32,
+        limits: Limits,
     ) -> Result<Vec<Timed>, NoMemory> {
         let mut files = Vec::new(alloc);
         for source in sources {
-            let timed = timed_file(alloc, &self.stopwatch, source, limit)?;
+            let timed = timed_file(alloc, &self.stopwatch, source, limits)?;
             files.push(timed)?;
         }
         Ok(files)
@@ -55,12 +61,12 @@ pub fn timed_file<T: Stopwatch>(
     alloc: Global,
     stopwatch: &T,
     source: &Source,
-    limit: u32,
+    limits: Limits,
 ) -> Result<Timed, NoMemory>
-    ensures { IfOk result (λ timed. SourceComesTo limit source.now timed.checked) }
+    ensures { IfOk result (λ timed. SourceComesTo limits source.now timed.checked) }
 {
     let start = stopwatch.hundredths();
-    let checked = checked_file(alloc, source, limit)?;
+    let checked = checked_file(alloc, source, limits)?;
     Ok(Timed {
         checked,
         hundredths: stopwatch.hundredths().saturating_sub(start),

@@ -23,10 +23,13 @@ pub fn compared(found: Found, expected: Expected) -> Verdict
 {
     match (found, expected) {
         (Found::Limit { .. }, _) => Verdict::Limit,
+        (Found::Unsettled { .. }, _) => Verdict::Limit,
         (Found::Safe { .. }, Expected::Safe)
+        | (Found::Ends { .. }, Expected::Safe)
         | (Found::Trap, Expected::Trap)
         | (Found::Never, Expected::Never)
-        | (Found::Stuck { .. }, Expected::Stuck) => Verdict::AsExpected,
+        | (Found::Stuck { .. }, Expected::Stuck)
+        | (Found::Endless { .. }, Expected::Stuck) => Verdict::AsExpected,
         _ => Verdict::Otherwise,
     }
 }

@@ -6,6 +6,7 @@ use crate::source::Source;
 use crate::tally::tally_of;
 use crate::wording::{push_files, push_tally};
 use base::NoMemory;
+use searches_explore::Limits;
 use std::alloc::Global;
 
 /// What is told of files.
@@ -16,16 +17,16 @@ pub struct Report {
     pub status: u8,
 }
 
-/// Checks files, each as far as its program has at most `limit` states: a line for each, and how many are as expected.
+/// Checks files, each within these limits: a line for each, and how many are as expected.
 pub fn check<C: Checks>(
     alloc: Global,
     checks: &C,
     sources: &[Source],
-    limit: u32,
+    limits: Limits,
 ) -> Result<Report, NoMemory>
-    ensures { IfOk result (IsReport limit sources.now) }
+    ensures { IfOk result (IsReport limits sources.now) }
 {
-    let files = checks.checked(alloc, sources, limit)?;
+    let files = checks.checked(alloc, sources, limits)?;
     let tally = tally_of(&files);
     let mut text = Vec::new(alloc);
     push_files(&mut text, sources, &files)?;

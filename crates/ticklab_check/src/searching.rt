@@ -5,8 +5,8 @@ ghost use Rattle.searches_explore.specs.Lines.{lines_of};
 ghost use Rattle.tick_kinds.specs.Resolution.{resolved};
 ghost use Rattle.ticketc_refusals.specs.Refusals.{ProgramIn};
 ghost use Rattle.ticklab_explain.specs.Questions.{IsQuestionReport};
-ghost use Rattle.ticklab_check.specs.Checking.{ComesTo, IsFound, SourceComesTo, asked_for};
-ghost use Rattle.ticklab_check.specs.prover.Answers.{found_of, found_of_ends};
+ghost use Rattle.ticklab_check.specs.Checking.{ComesTo, IsFound, IsFoundOfAsked, SourceComesTo, asked_for};
+ghost use Rattle.ticklab_check.specs.prover.Answers.{found_of, merged_found, settled};
 
 use crate::checked::Checked;
 use crate::comparing::expected_of;
@@ -15,7 +15,8 @@ use crate::source::Source;
 use base::NoMemory;
 use language_questions::{Ends, NeverLine, Property, QuestionFault, Questions, questions_of};
 use searches_explore::{
-    EndExplored, MustStop, NeverExplored, Unwatched, explore_ends_merged, explore_never_merged,
+    EndExplored, Limits, MustStop, NeverExplored, Unwatched, explore_ends, explore_ends_merged,
+    explore_never_merged,
 };
 use std::alloc::{AllocError, Global};
 use std::str;
@@ -23,14 +24,14 @@ use tick_kinds::Program;
 use ticketc_refusals::program_in;
 use ticklab_explain::{explain_question, explain_refusal};
 
-/// What a file comes to, as far as its program has at most `limit` states.
-pub fn checked_file(alloc: Global, source: &Source, limit: u32) -> Result<Checked, NoMemory>
-    ensures { IfOk result (SourceComesTo limit source.now) }
+/// What a file comes to, within these limits.
+pub fn checked_file(alloc: Global, source: &Source, limits: Limits) -> Result<Checked, NoMemory>
+    ensures { IfOk result (SourceComesTo limits source.now) }
 {
     let name = source.name.as_str();
     let input = source.bytes.as_slice();
     match program_in(alloc, input)? {
-        Ok(program) => checked_program(alloc, name, input, &program, limit),
+        Ok(program) => checked_program(alloc, name, input, &program, limits),
         Err(refusal) => {
             let report = explain_refusal(alloc, name, input, refusal)?;
             Ok(Checked::Refused(report))
@@ -43,16 +44,16 @@ fn checked_program(
     name: &str,
     input: &[u8],
     program: &Program,
-    limit: u32,
+    limits: Limits,
 ) -> Result<Checked, NoMemory>
     requires { ProgramIn input.now program.now }
-    ensures { IfOk result (ComesTo limit name.now input.now) }
+    ensures { IfOk result (ComesTo limits name.now input.now) }
 {
     let Ok(text) = str::from_utf8(input) else {
         unreachable!()
     };
     match questions_of(alloc, program, text) {
-        Ok(questions) => searched(alloc, name, input, program, questions, limit),
+        Ok(questions) => searched(alloc, name, input, program, questions, limits),
         Err(fault) => {
             let report = question_report(alloc, name, input, fault)?;
             Ok(Checked::Refused(report))
@@ -84,16 +85,16 @@ fn searched(
     input: &[u8],
     program: &Program,
     questions: Questions,
-    limit: u32,
+    limits: Limits,
 ) -> Result<Checked, NoMemory>
     requires program { ProgramIn input.now program.now }
     requires asks { questions_in program.now input.now ≡ Ok (asked_of questions) }
-    ensures { IfOk result (ComesTo limit name.now input.now) }
+    ensures { IfOk result (ComesTo limits name.now input.now) }
 {
     let asked = asked_for(questions.ends);
     let expected = expected_of(questions.expected);
     let lines = properties_of(alloc, questions.never)?;
-    let found = found_in(alloc, program, &lines, asked, limit)?;
+    let found = found_in(alloc, program, &lines, asked, limits)?;
     Ok(Checked::Searched { found, expected })
 }
 
@@ -124,26 +125,16 @@ fn found_in(
     program: &Program,
     lines: &[Property],
     asked: Option<MustStop>,
-    limit: u32,
+    limits: Limits,
 ) -> Result<Found, NoMemory>
-    ensures { IfOk result (IsFound (resolved program.now) (lines_of lines.now) limit asked) }
+    ensures { IfOk result (IsFound (resolved program.now) (lines_of lines.now) limits asked) }
 {
     match asked {
         None => {
-            let explored = explore_never_merged(alloc, program, lines, limit, &mut Unwatched)?;
+            let explored = explore_never_merged(alloc, program, lines, limits, &mut Unwatched)?;
             Ok(found_of(&explored))
         }
-        Some(asked) => {
-            let explored = explore_ends_merged(
-                alloc,
-                program,
-                lines,
-                asked,
-                limit,
-                &mut Unwatched,
-            )?;
-            Ok(found_of_ends(&explored))
-        }
+        Some(asked) => found_of_asked(alloc, program, lines, asked, limits),
     }
 }
 
@@ -158,19 +149,48 @@ fn found_of(explored: &NeverExplored) -> Found
     }
 }
 
-// The search is one by merged steps, which finds no endless schedule and not that there is none.
-fn found_of_ends(explored: &EndExplored) -> Found
-    ensures { result ≡ found_of_ends explored.now }
+// By merged steps first; where those asked for can always end, whether they will is asked by single ones.
+fn found_of_asked(
+    alloc: Global,
+    program: &Program,
+    lines: &[Property],
+    asked: MustStop,
+    limits: Limits,
+) -> Result<Found, NoMemory>
+    ensures { IfOk result (IsFoundOfAsked (resolved program.now) (lines_of lines.now) limits asked) }
+{
+    let merged = explore_ends_merged(alloc, program, lines, asked, limits, &mut Unwatched)?;
+    match merged_found(&merged) {
+        Found::Unsettled { states } => {
+            let single = explore_ends(alloc, program, lines, asked, limits, &mut Unwatched)?;
+            Ok(settled(&single, states))
+        }
+        found => Ok(found),
+    }
+}
+
+// By merged steps no endless schedule is found, nor that there is none.
+fn merged_found(explored: &EndExplored) -> Found
+    ensures { result ≡ merged_found explored.now }
 {
     match explored {
         EndExplored::Trapped(_) => Found::Trap,
         EndExplored::Broken { .. } => Found::Never,
-        EndExplored::Stuck { states, .. } | EndExplored::Endless { states, .. } => {
-            Found::Stuck { states: *states }
-        }
-        EndExplored::Ends { states } | EndExplored::CanEnd { states } => {
-            Found::Safe { states: *states }
-        }
+        EndExplored::Stuck { states, .. } => Found::Stuck { states: *states },
+        EndExplored::Endless { states, .. }
+        | EndExplored::Ends { states }
+        | EndExplored::CanEnd { states } => Found::Unsettled { states: *states },
         EndExplored::Limit { states } => Found::Limit { states: *states },
+    }
+}
+
+// What single steps find, where there are so many merged states and those asked for can always end.
+fn settled(explored: &EndExplored, merged: u32) -> Found
+    ensures { result ≡ settled explored.now merged }
+{
+    match explored {
+        EndExplored::Endless { states, .. } => Found::Endless { states: *states },
+        EndExplored::Ends { states } => Found::Ends { states: *states },
+        _ => Found::Unsettled { states: merged },
     }
 }

@@ -1,7 +1,7 @@
 // Adds what is told of files to a text.
 ghost use Rattle.std.specs.Prelude.{◌≡◌, ◌++◌, ◌==◌, OnOk, length, string_bytes};
 ghost use Rattle.std.specs.Fmt.{decimal};
-ghost use Rattle.ticklab_check.specs.Wording.{checked_text, count_text, expected_text, file_text, files_text, found_text, searched_line, seconds_text, states_text, tally_text, verdict_text};
+ghost use Rattle.ticklab_check.specs.Wording.{checked_text, count_text, expected_text, file_text, files_text, found_text, merged_text, searched_line, seconds_text, states_text, tally_text, verdict_text};
 
 use crate::checked::{Checked, Timed, Verdict};
 use crate::comparing::compared;
@@ -61,10 +61,12 @@ fn found_text(found: Found) -> &'static str
     ensures { result.now ≡ found_text found }
 {
     match found {
-        Found::Safe { .. } => "safe",
+        Found::Safe { .. } | Found::Ends { .. } => "safe",
         Found::Trap => "trap",
         Found::Never => "broken #! never line",
         Found::Stuck { .. } => "stuck",
+        Found::Endless { .. } => "endless",
+        Found::Unsettled { .. } => "limit, whether all end was not found out",
         Found::Limit { .. } => "limit",
     }
 }
@@ -99,19 +101,30 @@ fn push_states(text: &mut Vec<u8>, found: Found) -> Added
 {
     match found {
         Found::Trap | Found::Never => Ok(()),
-        Found::Safe { states } | Found::Stuck { states } => {
+        Found::Safe { states } | Found::Stuck { states } | Found::Unsettled { states } => {
+            push(text, ", ")?;
+            push_merged(text, states)
+        }
+        Found::Ends { states } | Found::Endless { states } => {
             push(text, ", ")?;
             push_count(text, states)
         }
         Found::Limit { states } => {
             push(text, ", more than ")?;
-            push_count(text, states)
+            push_merged(text, states)
         }
     }
 }
 
 fn push_count(text: &mut Vec<u8>, states: u32) -> Added
     ensures { OnOk result (text.new.items ≡ text.old.items ++ count_text states) }
+{
+    push_decimal(text, u64::from(states))?;
+    push(text, if states == 1 { " state" } else { " states" })
+}
+
+fn push_merged(text: &mut Vec<u8>, states: u32) -> Added
+    ensures { OnOk result (text.new.items ≡ text.old.items ++ merged_text states) }
 {
     push_decimal(text, u64::from(states))?;
     push(

@@ -12,11 +12,11 @@ returns c =
     let asked = asked_of c.args.questions in
     let a = resolved c.args.program.now in
     let lines = ap lines_of (c.deref.ensures.value ∙ c.in_ok-lines.ensures) ∙ lines_kept c.args.questions.never.items in
-    let found = subst (λ (lines : List Formula). IsFound a lines c.args.limit c.asked_for-asked.result c.in_ok-found.found) lines c.in_ok-found.ensures in record {
+    let found = subst (λ (lines : List Formula). IsFound a lines c.args.limits c.asked_for-asked.result c.in_ok-found.found) lines c.in_ok-found.ensures in record {
       program = c.args.program.now;
       is = c.requires.program;
       asked = asked;
       asks = c.requires.asks;
-      finds = subst (λ who. IsFound a (map (λ line. line.0) asked.never) c.args.limit who c.in_ok-found.found) c.asked_for-asked.ensures found;
+      finds = subst (λ who. IsFound a (map (λ line. line.0) asked.never) c.args.limits who c.in_ok-found.found) c.asked_for-asked.ensures found;
       expects = c.expected_of-expected.ensures;
     }

@@ -7,7 +7,7 @@ use Rattle.ticklab_check.proofs.checks.InTurnChecks.checked.Goals as goal
 
 pub loop-source-preserved : goal.loop-source-preserved
 loop-source-preserved g c =
-    let R : Source → Timed → Type 0 = λ source timed. SourceComesTo c.args.limit source timed.checked in
+    let R : Source → Timed → Type 0 = λ source timed. SourceComesTo c.args.limits source timed.checked in
     let sources = c.args.sources.now in
     let i = c.loop-source.source-index in
     subst (λ (files : List Timed). AreSoFar R sources (i + 1) files) (sym c.in_ok-push.ensures.items)
@@ -16,5 +16,5 @@ loop-source-preserved g c =
 
 pub returns : goal.returns
 returns g c =
-    all_of_them (λ source timed. SourceComesTo c.args.limit source timed.checked) c.args.sources.now c.loop-source.source-index c.loop-source.files.items
+    all_of_them (λ source timed. SourceComesTo c.args.limits source timed.checked) c.args.sources.now c.loop-source.source-index c.loop-source.files.items
     c.loop-source-test.false c.loop-source.invariant

@@ -3,4 +3,4 @@ use Rattle.ticklab_check.proofs.Listing.{AreSoFar}
 use Rattle.ticklab_check.proofs.checks.InTurnChecks.checked.Given as goal
 
 abbrev pub invariant-loop-source : goal.invariant-loop-source
-invariant-loop-source g l = AreSoFar (λ source timed. SourceComesTo l.limit source timed.checked) l.sources l.source-index l.files.items
+invariant-loop-source g l = AreSoFar (λ source timed. SourceComesTo l.limits source timed.checked) l.sources l.source-index l.files.items
