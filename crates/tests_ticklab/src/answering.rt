@@ -1,6 +1,7 @@
 //! The calls on an input whose file has a fixed name, made once more where memory was refused; and whole
 //! answers.
 use crate::reading::OneFile;
+use searches_explore::Limits;
 use std::alloc::Global;
 use std::str;
 use std::test::Fail;
@@ -18,7 +19,7 @@ static NAME: &str = "a.tick";
 pub fn explored_by<W: Progress>(
     alloc: Global,
     input: &[u8],
-    limit: u32,
+    limits: Limits,
     steps: Steps,
     watch: &mut W,
 ) -> Answered {
@@ -26,8 +27,8 @@ pub fn explored_by<W: Progress>(
         name: NAME,
         bytes: input,
     };
-    match explored(alloc, &mut files, watch, NAME, &[], limit, steps) {
-        Err(Answer(NoMemory)) => explored(alloc, &mut files, watch, NAME, &[], limit, steps),
+    match explored(alloc, &mut files, watch, NAME, &[], limits, steps) {
+        Err(Answer(NoMemory)) => explored(alloc, &mut files, watch, NAME, &[], limits, steps),
         answered => answered,
     }
 }

@@ -100,9 +100,9 @@ impl Runner for NoThreads {
 struct Nobody;
 
 impl Watch for Nobody {
-    ghost hears = { λ _ _ _ _. Unit {0} };
+    ghost hears = { λ _ _ _ _ _. Unit {0} };
 
-    fn seen(&mut self, _states: u32, _gone: u32) {}
+    fn seen(&mut self, _states: u32, _gone: u32, _bytes: u64) {}
 }
 
 impl Progress for Nobody {

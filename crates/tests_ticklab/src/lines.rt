@@ -3,10 +3,10 @@ use crate::asking::asked_for;
 use std::test::Fail;
 use tests_shared::is_same;
 
-static ASKED: [(&[&str], &str); 21] = [
+static ASKED: [(&[&str], &str); 23] = [
     (
         &["explore", "a", "--schedule-only"],
-        "the schedule of Explore { file: \"a\", never: [], limit: 1000000, steps: MergedFirst }",
+        "the schedule of Explore { file: \"a\", never: [], limit: 4294967295, memory: 1000, steps: MergedFirst }",
     ),
     (
         &["page", "a", "0", "--title", "b", "--lift"],
@@ -14,27 +14,35 @@ static ASKED: [(&[&str], &str); 21] = [
     ),
     (
         &["explore", "a.tick"],
-        "Explore { file: \"a.tick\", never: [], limit: 1000000, steps: MergedFirst }",
+        "Explore { file: \"a.tick\", never: [], limit: 4294967295, memory: 1000, steps: MergedFirst }",
     ),
     (
         &["explore", "--limit", "4294967295", "-"],
-        "Explore { file: \"-\", never: [], limit: 4294967295, steps: MergedFirst }",
+        "Explore { file: \"-\", never: [], limit: 4294967295, memory: 1000, steps: MergedFirst }",
     ),
     (
         &["explore", "a", "--limit=0", "--merged"],
-        "Explore { file: \"a\", never: [], limit: 0, steps: Merged }",
+        "Explore { file: \"a\", never: [], limit: 0, memory: 1000, steps: Merged }",
+    ),
+    (
+        &["explore", "--memory=1", "a"],
+        "Explore { file: \"a\", never: [], limit: 4294967295, memory: 1, steps: MergedFirst }",
+    ),
+    (
+        &["explore", "a", "--ends", "--memory", "1000000", "--limit", "5"],
+        "Ends { file: \"a\", never: [], process: None, limit: 5, memory: 1000000, steps: MergedFirst }",
     ),
     (
         &["explore", "--never", "n", "a", "--never=1 < n"],
-        "Explore { file: \"a\", never: [\"n\", \"1 < n\"], limit: 1000000, steps: MergedFirst }",
+        "Explore { file: \"a\", never: [\"n\", \"1 < n\"], limit: 4294967295, memory: 1000, steps: MergedFirst }",
     ),
     (
         &["explore", "a", "--never", "n", "--ends", "2"],
-        "Ends { file: \"a\", never: [\"n\"], process: Some(2), limit: 1000000, steps: MergedFirst }",
+        "Ends { file: \"a\", never: [\"n\"], process: Some(2), limit: 4294967295, memory: 1000, steps: MergedFirst }",
     ),
     (
         &["explore", "a", "--merged", "--ends"],
-        "Ends { file: \"a\", never: [], process: None, limit: 1000000, steps: Merged }",
+        "Ends { file: \"a\", never: [], process: None, limit: 4294967295, memory: 1000, steps: Merged }",
     ),
     (
         &["lasso", "a", "0 1", "@b"],
@@ -106,6 +114,26 @@ static ASKED: [(&[&str], &str); 21] = [
 fn each_request(rt: HostRuntime) -> Result<(), Fail> {
     for (words, wanted) in &ASKED {
         is_same(&asked_for(rt.alloc(), words)?.as_str(), wanted)?;
+    }
+    Ok(())
+}
+
+// Numbers of megabytes that are none.
+static REFUSED: [(&str, &str); 4] = [
+    ("0", "0 is not in 1..=1000000"),
+    ("1000001", "1000001 is not in 1..=1000000"),
+    ("4294967296", "4294967296 is not in 1..=1000000"),
+    ("few", "invalid digit found in string"),
+];
+
+#[test]
+fn no_memory(rt: HostRuntime) -> Result<(), Fail> {
+    for (value, why) in &REFUSED {
+        let told = asked_for(rt.alloc(), &["explore", "a", "--memory", value])?;
+        let wanted = format!(in rt.alloc();
+            "error: invalid value '{value}' for '--memory <MB>': {why}\n\nFor more information, try '--help'.\n"
+        )?;
+        is_same(&told.as_str(), &wanted.as_str())?;
     }
     Ok(())
 }

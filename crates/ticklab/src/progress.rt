@@ -1,8 +1,9 @@
 //! How far a search is, told on standard error where that is a terminal.
-ghost use Rattle.std.specs.Prelude.{◌≡◌, false};
+ghost use Rattle.std.specs.Prelude.{◌≡◌, ◌<◌, false};
 
 use searches_explore::Watch;
 use std::io::IsTerminal;
+use std::time::Instant;
 use ticklab_answers::Progress;
 
 /// A line that is written over while a search goes on.
@@ -12,6 +13,8 @@ pub struct HostProgress<'a> {
     is_told: bool,
     /// The search is by merged steps.
     is_merged: bool,
+    /// When it began, where the clock says so.
+    since: Option<Instant>,
 }
 
 impl<'a> HostProgress<'a> {
@@ -22,20 +25,39 @@ impl<'a> HostProgress<'a> {
             rt,
             is_told: false,
             is_merged: false,
+            since: None,
+        }
+    }
+
+    // How long the search takes, in milliseconds: at least 1.
+    fn millis(&self) -> u64
+        ensures { 0 < result }
+    {
+        let Some(since) = self.since else {
+            return 1;
+        };
+        match since.elapsed(self.rt) {
+            Ok(taken) => u64::try_from(taken.as_millis())
+                .unwrap_or(u64::MAX)
+                .max(1),
+            Err(_unknown) => 1,
         }
     }
 }
 
 impl<'a> Watch for HostProgress<'a> {
-    ghost hears = { λ before states gone after. Unit {0} };
+    ghost hears = { λ before states gone bytes after. Unit {0} };
 
-    fn seen(&mut self, states: u32, gone: u32) {
+    fn seen(&mut self, states: u32, gone: u32, bytes: u64) {
         if self.rt.stderr().is_terminal() {
             self.is_told = true;
             let steps = if self.is_merged { "merged" } else { "single" };
             let open = states.saturating_sub(gone);
+            let rate = u64::from(states) * 1000 / self.millis();
+            let megabytes = bytes / 1_000_000;
+            let each = bytes / u64::from(states.max(1));
             let _written = eprint!(self.rt;
-                "\rticklab: {steps} steps: {states} states seen, {open} not yet gone on from          "
+                "\rticklab: {steps}: {states} states, {open} open, {rate}/s, {megabytes} MB, {each} bytes each   "
             );
         }
     }
@@ -49,6 +71,7 @@ impl<'a> Progress for HostProgress<'a> {
         self.end();
         self.is_told = false;
         self.is_merged = is_merged;
+        self.since = Instant::now(self.rt).ok();
     }
 
     // Leaves the line, if there is one.

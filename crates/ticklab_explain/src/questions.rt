@@ -104,12 +104,22 @@ fn told(fault: QuestionFault) -> (Span, &'static str, &'static str)
         QuestionFault::NoSuchWord(span) => (
             span,
             "no question begins with this word",
-            "behind `#!` stands `never` or `ends`",
+            "behind `#!` stands `never`, `ends` or `expect`",
         ),
         QuestionFault::EndsTwice(span) => (
             span,
             "a line above says already who has to end",
             "one line names all of them, as `#! ends 0 2`",
+        ),
+        QuestionFault::NotExpected(span) => (
+            span,
+            "nothing is expected by this word",
+            "behind `#! expect` stands `safe`, `trap`, `never` or `stuck`",
+        ),
+        QuestionFault::ExpectTwice(span) => (
+            span,
+            "a line above says already what is expected",
+            "one thing is expected of a file",
         ),
         QuestionFault::NoMemory => (Span { start: 0, end: 0 }, "out of memory", ""),
     }

@@ -22,8 +22,9 @@ abbrev pub Asked : Type 0
 Asked = Request Text (List Text)
 
 abbrev pub explore_app : App
-explore_app = with_rule (with_rule (with_rule (with_rule (with_rule (with_rule (with_file (codes "explore"))
+explore_app = with_rule (with_rule (with_rule (with_rule (with_rule (with_rule (with_rule (with_file (codes "explore"))
     (number_rule (codes "limit") (up_to 4294967295)))
+    (number_rule (codes "memory") (from_one_to 1000000)))
     (flag_rule (codes "merged")))
     (flag_rule (codes "single")))
     (repeated_rule (codes "never")))
@@ -83,7 +84,11 @@ ticklab = with_app (with_app (with_app (with_app (with_app (with_app (with_app (
     explore_app) lasso_app) hunt_app) trace_app) draw_app) page_app) explain_app) labels_app
 
 abbrev pub limit_in : List Row → Option ℕ
-limit_in = number_or 32 (codes "limit") 1000000
+limit_in = number_or 32 (codes "limit") 4294967295
+
+-- megabytes
+abbrev pub memory_in : List Row → Option ℕ
+memory_in = number_or 32 (codes "memory") 1000
 
 -- by merged steps first, unless one kind of steps is asked for
 abbrev pub steps_in : List Row → Steps
@@ -94,15 +99,15 @@ steps_in rows =
 
 -- all schedules, with the texts of what must never hold
 abbrev pub schedules_of : List Text → List Row → Option Asked
-schedules_of never rows = for_file rows (λ file. for_number_or 32 (codes "limit") 1000000 rows (λ limit.
-    Some (Explore file never limit (steps_in rows))))
+schedules_of never rows = for_file rows (λ file. for_number_or 32 (codes "limit") 4294967295 rows (λ limit.
+    for_number_or 32 (codes "memory") 1000 rows (λ memory. Some (Explore file never limit memory (steps_in rows)))))
 
 abbrev pub schedules_in : List Row → Option Asked
 schedules_in rows = schedules_of (list_of (codes "never") rows) rows
 
 abbrev pub ends_of : List Text → Option ℕ → List Row → Option Asked
-ends_of never process rows = for_file rows (λ file. for_number_or 32 (codes "limit") 1000000 rows (λ limit.
-    Some (Ends file never process limit (steps_in rows))))
+ends_of never process rows = for_file rows (λ file. for_number_or 32 (codes "limit") 4294967295 rows (λ limit.
+    for_number_or 32 (codes "memory") 1000 rows (λ memory. Some (Ends file never process limit memory (steps_in rows)))))
 
 -- no text after `--ends`, or one
 abbrev pub ends_in : List Text → List Row → List Text → Option Asked
@@ -186,8 +191,8 @@ abbrev pub plain_drawing : Drawing (Bor Text) → Drawing Text
 plain_drawing d = record { title = option_map (λ text. text.now) d.title; from = d.from; to = d.to; is_shared = d.is_shared; width = d.width }
 
 abbrev pub plain_request : Request (Bor Text) (Vec (Bor Text) Global) → Asked
-plain_request (Explore file never limit steps) = Explore file.now (map (λ text. text.now) never.items) limit steps
-plain_request (Ends file never process limit steps) = Ends file.now (map (λ text. text.now) never.items) process limit steps
+plain_request (Explore file never limit memory steps) = Explore file.now (map (λ text. text.now) never.items) limit memory steps
+plain_request (Ends file never process limit memory steps) = Ends file.now (map (λ text. text.now) never.items) process limit memory steps
 plain_request (Lasso file prefix cycle) = Lasso file.now prefix.now cycle.now
 plain_request (Hunt file never seed runs from steps is_uniform jobs) = Hunt file.now (map (λ text. text.now) never.items) seed runs from steps is_uniform jobs
 plain_request (Runs file times turns) = Runs file.now times turns
@@ -199,22 +204,24 @@ plain_request (Labels processes moves) = Labels processes moves.now
 
 -- words, and what they ask for: each command but `hunt`, with its options and without
 abbrev pub rows : List (List Text × Asked)
-rows = (codes "explore" ∷ codes "a" ∷ codes "--limit" ∷ codes "7" ∷ [], Explore (codes "a") [] 7 MergedFirst)
-    ∷ (codes "explore" ∷ codes "--merged" ∷ codes "a" ∷ [], Explore (codes "a") [] 1000000 Merged)
-    ∷ (codes "explore" ∷ codes "a" ∷ codes "--single" ∷ [], Explore (codes "a") [] 1000000 Single)
-    ∷ (codes "explore" ∷ codes "--never" ∷ codes "n" ∷ codes "a" ∷ [], Explore (codes "a") (codes "n" ∷ []) 1000000 MergedFirst)
+rows = (codes "explore" ∷ codes "a" ∷ codes "--limit" ∷ codes "7" ∷ [], Explore (codes "a") [] 7 1000 MergedFirst)
+    ∷ (codes "explore" ∷ codes "--memory" ∷ codes "20" ∷ codes "a" ∷ codes "--limit=7" ∷ [], Explore (codes "a") [] 7 20 MergedFirst)
+    ∷ (codes "explore" ∷ codes "--merged" ∷ codes "a" ∷ [], Explore (codes "a") [] 4294967295 1000 Merged)
+    ∷ (codes "explore" ∷ codes "a" ∷ codes "--single" ∷ [], Explore (codes "a") [] 4294967295 1000 Single)
+    ∷ (codes "explore" ∷ codes "--never" ∷ codes "n" ∷ codes "a" ∷ [], Explore (codes "a") (codes "n" ∷ []) 4294967295 1000 MergedFirst)
     ∷ (
       codes "explore" ∷ codes "a" ∷ codes "--never=1 < n" ∷ codes "--merged" ∷ codes "--never" ∷ codes "0" ∷ [],
-      Explore (codes "a") (codes "1 < n" ∷ codes "0" ∷ []) 1000000 Merged,
+      Explore (codes "a") (codes "1 < n" ∷ codes "0" ∷ []) 4294967295 1000 Merged,
     )
-    ∷ (codes "explore" ∷ codes "a" ∷ codes "--ends" ∷ [], Ends (codes "a") [] None 1000000 MergedFirst)
-    ∷ (codes "explore" ∷ codes "a" ∷ codes "--ends" ∷ codes "2" ∷ [], Ends (codes "a") [] (Some 2) 1000000 MergedFirst)
-    ∷ (codes "explore" ∷ codes "--ends=5" ∷ codes "a" ∷ codes "--limit" ∷ codes "7" ∷ [], Ends (codes "a") [] (Some 5) 7 MergedFirst)
-    ∷ (codes "explore" ∷ codes "a" ∷ codes "--never" ∷ codes "n" ∷ codes "--ends" ∷ [], Ends (codes "a") (codes "n" ∷ []) None 1000000 MergedFirst)
-    ∷ (codes "explore" ∷ codes "a" ∷ codes "--merged" ∷ codes "--ends" ∷ [], Ends (codes "a") [] None 1000000 Merged)
-    ∷ (codes "explore" ∷ codes "--single" ∷ codes "--ends=1" ∷ codes "a" ∷ [], Ends (codes "a") [] (Some 1) 1000000 Single)
-    ∷ (codes "explore" ∷ codes "a" ∷ codes "--ends" ∷ codes "0" ∷ codes "--merged" ∷ [], Ends (codes "a") [] (Some 0) 1000000 Merged)
-    ∷ (codes "explore" ∷ codes "--schedule-only" ∷ codes "a" ∷ codes "--ends" ∷ [], Ends (codes "a") [] None 1000000 MergedFirst)
+    ∷ (codes "explore" ∷ codes "a" ∷ codes "--ends" ∷ [], Ends (codes "a") [] None 4294967295 1000 MergedFirst)
+    ∷ (codes "explore" ∷ codes "a" ∷ codes "--ends" ∷ codes "2" ∷ [], Ends (codes "a") [] (Some 2) 4294967295 1000 MergedFirst)
+    ∷ (codes "explore" ∷ codes "--ends=5" ∷ codes "a" ∷ codes "--limit" ∷ codes "7" ∷ [], Ends (codes "a") [] (Some 5) 7 1000 MergedFirst)
+    ∷ (codes "explore" ∷ codes "--ends=5" ∷ codes "a" ∷ codes "--memory=1000000" ∷ [], Ends (codes "a") [] (Some 5) 4294967295 1000000 MergedFirst)
+    ∷ (codes "explore" ∷ codes "a" ∷ codes "--never" ∷ codes "n" ∷ codes "--ends" ∷ [], Ends (codes "a") (codes "n" ∷ []) None 4294967295 1000 MergedFirst)
+    ∷ (codes "explore" ∷ codes "a" ∷ codes "--merged" ∷ codes "--ends" ∷ [], Ends (codes "a") [] None 4294967295 1000 Merged)
+    ∷ (codes "explore" ∷ codes "--single" ∷ codes "--ends=1" ∷ codes "a" ∷ [], Ends (codes "a") [] (Some 1) 4294967295 1000 Single)
+    ∷ (codes "explore" ∷ codes "a" ∷ codes "--ends" ∷ codes "0" ∷ codes "--merged" ∷ [], Ends (codes "a") [] (Some 0) 4294967295 1000 Merged)
+    ∷ (codes "explore" ∷ codes "--schedule-only" ∷ codes "a" ∷ codes "--ends" ∷ [], Ends (codes "a") [] None 4294967295 1000 MergedFirst)
     ∷ (codes "lasso" ∷ codes "a" ∷ codes "0 1" ∷ codes "@b" ∷ [], Lasso (codes "a") (codes "0 1") (codes "@b"))
     ∷ (codes "trace" ∷ codes "a" ∷ codes "0 1*3" ∷ [], Trace (codes "a") (codes "0 1*3") [] Program)
     ∷ (

@@ -33,7 +33,7 @@ abbrev pub form_asked : List Text → Form
 form_asked words = form_of (command_in (line words))
 
 pub record CommandsLaw : Type 0 where
-  pub explore : (rest : Text) → Asks (codes "explore" ∷ (97 ∷ rest) ∷ []) (Explore (97 ∷ rest) [] 1000000 MergedFirst)
+  pub explore : (rest : Text) → Asks (codes "explore" ∷ (97 ∷ rest) ∷ []) (Explore (97 ∷ rest) [] 4294967295 1000 MergedFirst)
   pub code_never : IsTaken (codes "trace" ∷ codes "a" ∷ codes "0" ∷ codes "--never=1" ∷ codes "--code" ∷ []) (Some (beside_never (codes "trace") (codes "--code")))
   pub drawn_code_never : IsTaken (codes "draw" ∷ codes "--code" ∷ codes "a" ∷ codes "0" ∷ codes "--never" ∷ codes "n" ∷ []) (Some (beside_never (codes "draw") (codes "--code")))
   pub lift_never : IsTaken (codes "draw" ∷ codes "a" ∷ codes "0" ∷ codes "--never" ∷ codes "n" ∷ codes "--lift" ∷ []) (Some (beside_never (codes "draw") (codes "--lift")))
@@ -104,6 +104,8 @@ pub record NoCommandsLaw : Type 0 where
   pub no_moves : Tells (codes "labels" ∷ codes "2" ∷ []) (kind.MissingRequiredArgument ∷ [])
   pub no_number : Tells (codes "explore" ∷ codes "a" ∷ codes "--limit" ∷ codes "x" ∷ []) (kind.ValueValidation ∷ [])
   pub large_number : Tells (codes "explore" ∷ codes "a" ∷ codes "--limit" ∷ codes "4294967296" ∷ []) (kind.ValueValidation ∷ [])
+  pub no_memory : Tells (codes "explore" ∷ codes "a" ∷ codes "--memory" ∷ codes "0" ∷ []) (kind.ValueValidation ∷ [])
+  pub much_memory : Tells (codes "explore" ∷ codes "a" ∷ codes "--memory=1000001" ∷ []) (kind.ValueValidation ∷ [])
   pub no_step : Tells (codes "draw" ∷ codes "a" ∷ codes "0" ∷ codes "--from" ∷ codes "0" ∷ []) (kind.ValueValidation ∷ [])
   pub too_narrow : Tells (codes "draw" ∷ codes "a" ∷ codes "0" ∷ codes "--width=299" ∷ []) (kind.ValueValidation ∷ [])
   pub trace_title : Tells (codes "trace" ∷ codes "a" ∷ codes "0" ∷ codes "--title" ∷ codes "b" ∷ []) (kind.UnknownArgument ∷ [])

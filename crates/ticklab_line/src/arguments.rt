@@ -114,6 +114,13 @@ pub fn length<'a>() -> ValueParser<'a>
     value_parser!(u32).range(0..=10_000_000)
 }
 
+/// How much memory the states of a search may take.
+pub fn megabytes<'a>() -> ValueParser<'a>
+    ensures { result ≡ from_one_to 1000000 }
+{
+    value_parser!(u32).range(1..=1_000_000)
+}
+
 /// How many schedules of a hunt are tried side by side.
 pub fn jobs<'a>() -> ValueParser<'a>
     ensures { result ≡ from_one_to 64 }

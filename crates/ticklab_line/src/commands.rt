@@ -4,12 +4,12 @@ ghost use Rattle.clap.specs.Matches.{found_of};
 ghost use Rattle.clap.specs.Walk.{first_of, rows_of};
 ghost use Rattle.clap.specs.Simple.{app_of, subcommand_rows_of};
 ghost use Rattle.ticklab_line.specs.CommandLine.{IsCommand, IsLine};
-ghost use Rattle.ticklab_line.specs.Commands.{command_wanted, draw_app, drawing_in, ends_in, ends_of, explain_app, explain_in, explore_app, explore_in, hunt_app, hunt_in, labels_app, labels_in, lasso_app, lasso_in, limit_in, named, page_app, plain_drawing, plain_request, plan_of, run_app, run_in, run_of, runs_in, schedules_of, side_in, steps_in, ticklab, trace_app};
+ghost use Rattle.ticklab_line.specs.Commands.{command_wanted, draw_app, drawing_in, ends_in, ends_of, explain_app, explain_in, explore_app, explore_in, hunt_app, hunt_in, labels_app, labels_in, lasso_app, lasso_in, limit_in, memory_in, named, page_app, plain_drawing, plain_request, plan_of, run_app, run_in, run_of, runs_in, schedules_of, side_in, steps_in, ticklab, trace_app};
 ghost use Rattle.ticklab_line.specs.Commands.{request_in as found_request};
 
 use crate::arguments::{
-    ends, flag, further, jobs, json, length, option, processes, repeated, schedule_only, step,
-    text, threads, width, word,
+    ends, flag, further, jobs, json, length, megabytes, option, processes, repeated, schedule_only,
+    step, text, threads, width, word,
 };
 use crate::parts::{STATUSES, filed, named, taking, with};
 use crate::values::{
@@ -60,11 +60,13 @@ pub struct Drawing<T> {
 /// is read yet.
 #[derive(Debug, Drop)]
 pub enum Request<T, L> {
-    /// All schedules of a program, as far as it has at most so many states, and what must never hold.
+    /// All schedules of a program, as far as it has at most so many states, which take at most so many megabytes; and
+    /// what must never hold.
     Explore {
         file: T,
         never: L,
         limit: u32,
+        memory: u32,
         steps: Steps,
     },
     /// The same, and whether all processes can still end after each schedule, or one of them.
@@ -73,6 +75,7 @@ pub enum Request<T, L> {
         never: L,
         process: Option<u8>,
         limit: u32,
+        memory: u32,
         steps: Steps,
     },
     /// A schedule that repeats a part of itself for ever, and who runs on there.
@@ -216,7 +219,17 @@ fn explore<'a>(alloc: Global) -> Result<Command<'a>, AllocError>
             "limit",
             "STATES",
             value_parser!(u32),
-            "Gives up where there are more states than this [default: 1000000]",
+            "Gives up where there are more states than this [default: 4294967295]",
+        ),
+    );
+    let explore = taking(
+        explore,
+        option(
+            alloc,
+            "memory",
+            "MB",
+            megabytes(),
+            "Gives up where the states take more memory than this, 1 to 1000000 megabytes [default: 1000]",
         ),
     );
     let explore = taking(
@@ -265,6 +278,7 @@ fn schedules_of<'a>(given: &ArgMatches<'a>, never: Vec<&'a str>) -> Option<Lent<
         file: text_in(given, "file")?,
         never,
         limit: limit_in(given)?,
+        memory: memory_in(given)?,
         steps: steps_in(given),
     })
 }
@@ -301,6 +315,7 @@ fn ends_of<'a>(given: &ArgMatches<'a>, never: Vec<&'a str>, process: Option<u8>)
         never,
         process,
         limit: limit_in(given)?,
+        memory: memory_in(given)?,
         steps,
     })
 }
@@ -308,7 +323,13 @@ fn ends_of<'a>(given: &ArgMatches<'a>, never: Vec<&'a str>, process: Option<u8>)
 fn limit_in(given: &ArgMatches<'_>) -> Option<u32>
     ensures { result ≡ limit_in (rows_of (found_of given.now)) }
 {
-    number_or(given, "limit", 1_000_000)
+    number_or(given, "limit", u32::MAX)
+}
+
+fn memory_in(given: &ArgMatches<'_>) -> Option<u32>
+    ensures { result ≡ memory_in (rows_of (found_of given.now)) }
+{
+    number_or(given, "memory", 1000)
 }
 
 fn lasso<'a>(alloc: Global) -> Result<Command<'a>, AllocError>

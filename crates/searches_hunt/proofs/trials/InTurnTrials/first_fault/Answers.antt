@@ -13,8 +13,8 @@ loop-run-init c = λ other above below. absurd (omega arith)
 
 pub returns-in-Some : goal.returns-in-Some
 returns-in-Some c =
-    let a = resolved c.args.program.now in
-    let lines = lines_of c.args.lines.now in
+    let a = resolved c.args.sought.program.now in
+    let lines = lines_of c.args.sought.lines.now in
     let plan = c.args.plan in
     let run = c.loop-run.run in
     let steps = c.in-Some.field-0 in

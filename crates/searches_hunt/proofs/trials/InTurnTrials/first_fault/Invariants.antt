@@ -8,4 +8,4 @@ use Rattle.searches_hunt.proofs.trials.InTurnTrials.first_fault.Given as goal
 -- no run before it has a fault
 abbrev pub invariant-loop-run : goal.invariant-loop-run
 invariant-loop-run l =
-    (other : ℕ) → l.from ≤ other → other < l.run → IsFaultless (resolved l.program) (lines_of l.lines) (random_schedule l.plan (resolved l.program).processes other)
+    (other : ℕ) → l.from ≤ other → other < l.run → IsFaultless (resolved l.sought.program.now) (lines_of l.sought.lines.now) (random_schedule l.plan (resolved l.sought.program.now).processes other)
