@@ -10,6 +10,8 @@ use Rattle.base.specs.declared.event.Act.TheVariants as A
 use Rattle.code_core.specs.declared.instr.Instr.{Instr}
 use Rattle.code_text.specs.CodeText.{instr_text}
 use Rattle.language_properties.specs.Values.{Valued}
+use Rattle.language_schedules.specs.Written.{schedule_text}
+use Rattle.searches_hunt.specs.declared.plan.Plan.{Plan}
 use Rattle.serde_json.specs.Data.{Data, null, boolean, number, string, array, object, Items, Members, no_members, member, put}
 use Rattle.serde_json.specs.View.{items_of}
 use Rattle.serde_json.specs.Written.{has_float, items_have_float, members_have_float}
@@ -19,8 +21,9 @@ use Rattle.ticklab_trace.specs.declared.steps.Written.{Written}
 use Rattle.ticklab_trace.specs.declared.steps.StatementStep.{StatementStep}
 use Rattle.ticklab_trace.specs.declared.steps.InstructionStep.{InstructionStep}
 use Rattle.ticklab_json.specs.Events.{event_data}
+use Rattle.ticklab_json.specs.Hunts.{fault_text, hunt_data, plan_members}
 use Rattle.ticklab_json.specs.Members.{count, with_member}
-use Rattle.ticklab_json.specs.Steps.{BrokenLine, break_data, breaks_at, broken_at, heading, if_lost, instruction_data, instruction_members, label_order, rank_data, ranks_to, start_data, statement_data, statement_members, stopped, taken, ticket_order, value_members, with_place, written_data}
+use Rattle.ticklab_json.specs.Steps.{BrokenLine, break_data, breaks_at, broken_at, heading, if_lost, instruction_data, instruction_members, label_order, rank_data, ranks_to, start_data, statement_data, statement_list, statement_members, stopped, taken, ticket_order, value_members, with_place, written_data}
 
 left : (a b : Bool) → (a || b) ≡ false → a ≡ false
 left false b h = refl
@@ -164,6 +167,29 @@ pub start_exact : (broken : Option BrokenLine) (d v : Data) → Some d ≡ broke
 start_exact broken d v is told =
     let exact : has_float d ≡ false = subst IsExact (sym is) (broken_exact 0 broken) in
     ap has_float told ∙ both (has_float d) false exact refl
+
+-- and what a hunt has found
+steps_exact : (a : WholeProgram Name) (spots : List Standing) (k : ℕ) (steps : List StatementStep)
+    → items_have_float (items_of (statement_list a spots None k steps)) ≡ false
+steps_exact a spots k [] = refl
+steps_exact a spots k (step ∷ steps) =
+    both (has_float (statement_data a spots None k step)) (items_have_float (items_of (statement_list a spots None (k + 1) steps)))
+    (statement_exact a spots None k step) (steps_exact a spots (k + 1) steps)
+
+pub found_exact : (plan : Plan) (from : ℕ) (a : WholeProgram Name) (spots : List Standing) (schedule : List ℕ) (steps : List StatementStep) (broken : Option BrokenLine)
+    → has_float (hunt_data plan from (Some (record { schedule = schedule; trace = statement_list a spots None 0 steps; broken = broken }))) ≡ false
+found_exact plan from a spots schedule steps broken =
+    let a1 = put (codes "schedule") (string (schedule_text schedule)) (put (codes "answer") (string (fault_text broken)) (plan_members plan from)) in
+    let trace = array (items_of (statement_list a spots None 0 steps)) in
+    with_exact (codes "breaks") (option_map break_data broken) (put (codes "trace") trace a1) (mapped break_data break_exact broken)
+    (put_exact (codes "trace") trace a1 (steps_exact a spots 0 steps) refl)
+
+pub told_exact : (plan : Plan) (from : ℕ) (a : WholeProgram Name) (spots : List Standing) (schedule : List ℕ) (steps : List StatementStep) (broken : Option BrokenLine)
+    (trace : List Data) (v : Data) → trace ≡ statement_list a spots None 0 steps → v ≡ hunt_data plan from (Some (record { schedule = schedule; trace = trace; broken = broken }))
+    → has_float v ≡ false
+told_exact plan from a spots schedule steps broken trace v same told =
+    ap has_float (told ∙ ap (λ t. hunt_data plan from (Some (record { schedule = schedule; trace = t; broken = broken }))) same)
+    ∙ found_exact plan from a spots schedule steps broken
 
 lost_exact : (is : Bool) → IsExact (if_lost is)
 lost_exact true = refl

@@ -1,3 +1,4 @@
 pub mod Members
 pub mod Events
 pub mod Steps
+pub mod Hunts

@@ -1,8 +1,8 @@
 //! The steps of a program as objects.
-ghost use Rattle.std.specs.Prelude.{◌≡◌, ◌<◌, IfOk, OnOk, map, option_and_then, option_map, slice_get, slice_index, string_bytes};
+ghost use Rattle.std.specs.Prelude.{◌≡◌, ◌<◌, IfOk, None, OnOk, map, option_and_then, option_map, slice_get, slice_index, string_bytes};
 ghost use Rattle.serde_json.specs.View.{members_view, view};
 ghost use Rattle.ticklab_json.specs.Members.{lines};
-ghost use Rattle.ticklab_json.specs.Steps.{broken_at, broken_line, start_data, start_list, statement_data, statement_objects, stopped, taken, with_place, written_data};
+ghost use Rattle.ticklab_json.specs.Steps.{broken_at, broken_line, start_data, start_list, statement_data, statement_list, statement_objects, stopped, taken, with_place, written_data};
 ghost use Rattle.ticklab_trace.specs.Places.{told_standing};
 
 use crate::breaking::{Breaking, broken_at};
@@ -35,6 +35,23 @@ pub fn source_objects(
         push_line(&mut text, alloc, &value)?;
     }
     Ok(text)
+}
+
+/// An object for each step.
+pub fn statement_values(
+    alloc: Global,
+    program: &Program,
+    spots: &[StatementPlace<'_>],
+    steps: &[StatementStep],
+) -> Result<Vec<Value>, NoMemory>
+    ensures { IfOk result (λ values. map view values.items ≡ statement_list program.now (map told_standing spots.now) None 0 steps.now) }
+{
+    let mut values = Vec::with_capacity(alloc, steps.len())?;
+    for (number, step) in steps.iter().enumerate() {
+        let value = statement(alloc, program, spots, None, number, *step)?;
+        values.push(value)?;
+    }
+    Ok(values)
 }
 
 // The line that breaks before the first step.

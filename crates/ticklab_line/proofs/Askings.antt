@@ -51,6 +51,7 @@ one_told (first ∷ kinds) k found (line.Help text) among told =
 one_told (first ∷ kinds) k found (line.Refused text) among told = (k, told, among)
 one_told (first ∷ kinds) k found (line.Request request) among told = absurd told
 one_told (first ∷ kinds) k found (line.Schedule request) among told = absurd told
+one_told (first ∷ kinds) k found (line.Json request) among told = absurd told
 
 pub told_answers : (app : App) (words : List Text) (error : Error) (l : Line)
     → app ≡ ticklab

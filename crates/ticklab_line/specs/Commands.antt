@@ -35,7 +35,7 @@ abbrev pub lasso_app : App
 lasso_app = with_rule (with_rule (with_file (codes "lasso")) (word_rule (codes "prefix"))) (word_rule (codes "cycle"))
 
 abbrev pub hunt_app : App
-hunt_app = with_rule (with_rule (with_rule (with_rule (with_rule (with_rule (with_rule (with_rule (with_rule (with_file (codes "hunt"))
+hunt_app = with_rule (with_rule (with_rule (with_rule (with_rule (with_rule (with_rule (with_rule (with_rule (with_rule (with_file (codes "hunt"))
     (number_rule (codes "seed") (Unsigned 0 18446744073709551615)))
     (number_rule (codes "runs") (up_to 4294967295)))
     (number_rule (codes "from") (up_to 4294967295)))
@@ -44,6 +44,7 @@ hunt_app = with_rule (with_rule (with_rule (with_rule (with_rule (with_rule (wit
     (flag_rule (codes "uniform")))
     (repeated_rule (codes "never")))
     (flag_rule (codes "schedule-only")))
+    (flag_rule (codes "json")))
     threads_rule
 
 -- `trace`, `draw` and `page`
@@ -52,6 +53,9 @@ run_app name = with_rule (with_rule (with_rule (with_rule (with_file name) (word
     (flag_rule (codes "code")))
     (flag_rule (codes "lift")))
     (repeated_rule (codes "never"))
+
+abbrev pub trace_app : App
+trace_app = with_rule (run_app (codes "trace")) (flag_rule (codes "json"))
 
 abbrev pub draw_app : App
 draw_app = with_rule (with_rule (with_rule (with_rule (with_rule (run_app (codes "draw"))
@@ -77,7 +81,7 @@ command_wanted =
 
 abbrev pub ticklab : App
 ticklab = with_app (with_app (with_app (with_app (with_app (with_app (with_app (with_app command_wanted
-    explore_app) lasso_app) hunt_app) (run_app (codes "trace"))) draw_app) page_app) explain_app) labels_app
+    explore_app) lasso_app) hunt_app) trace_app) draw_app) page_app) explain_app) labels_app
 
 abbrev pub limit_in : List Row → Option ℕ
 limit_in = number_or 32 (codes "limit") 4294967295
@@ -224,6 +228,7 @@ rows = (codes "explore" ∷ codes "a" ∷ codes "--limit" ∷ codes "7" ∷ [], 
       codes "trace" ∷ codes "--never" ∷ codes "n" ∷ codes "a" ∷ codes "0" ∷ codes "--never=1" ∷ [],
       Trace (codes "a") (codes "0") (codes "n" ∷ codes "1" ∷ []) Program,
     )
+    ∷ (codes "trace" ∷ codes "--json" ∷ codes "a" ∷ codes "0" ∷ codes "--code" ∷ [], Trace (codes "a") (codes "0") [] Code)
     ∷ (codes "trace" ∷ codes "-" ∷ codes "@b" ∷ codes "--code" ∷ [], Trace (codes "-") (codes "@b") [] Code)
     ∷ (codes "draw" ∷ codes "a" ∷ [] ∷ [], Draw (codes "a") [] [] Program whole_run)
     ∷ (codes "draw" ∷ codes "--code" ∷ codes "a" ∷ codes "0" ∷ [], Draw (codes "a") (codes "0") [] Code whole_run)

@@ -1,5 +1,5 @@
--- Which options do not go together: of `hunt` `--threads`, and each option of a hunt by random schedules; of `explore`
--- `--merged` and `--single`; of `trace`, `draw` and `page` `--never`, and `--code` or `--lift`.
+-- Which options do not go together: of `hunt` `--threads`, and each option of a hunt by random schedules, and `--json` and
+-- `--schedule-only`; of `explore` `--merged` and `--single`; of `trace`, `draw` and `page` `--never`, and `--code` or `--lift`.
 use Rattle.std.specs.Prelude.{Bool, true, false, List, ◌++◌, ◌&&◌, ◌||◌, Option, Some, None, codes, bytes_eq, map}
 use Rattle.std.specs.Prelude.{if◌then◌else◌, find, is_some, option_and_then, option_map}
 use Rattle.std.specs.Option.{option_map_or}
@@ -17,7 +17,7 @@ pub record Shown : Type 0 where
 abbrev pub is_of_plan : Text → Bool
 is_of_plan id = bytes_eq id (codes "seed") || (bytes_eq id (codes "runs")
     || (bytes_eq id (codes "from") || (bytes_eq id (codes "steps") || (bytes_eq id (codes "jobs")
-    || (bytes_eq id (codes "uniform") || (bytes_eq id (codes "never") || bytes_eq id (codes "schedule-only")))))))
+    || (bytes_eq id (codes "uniform") || (bytes_eq id (codes "never") || (bytes_eq id (codes "schedule-only") || bytes_eq id (codes "json"))))))))
 
 -- the first option of a plan that is given, as it is shown
 abbrev pub plan_option : List Row → Option Text
@@ -30,6 +30,7 @@ plan_option rows =
     else if is_set (codes "uniform") rows then Some (codes "--uniform")
     else if is_given (codes "never") rows then Some (codes "--never <EXPR>")
     else if is_set (codes "schedule-only") rows then Some (codes "--schedule-only")
+    else if is_set (codes "json") rows then Some (codes "--json")
     else None
 
 abbrev pub may_conflict : Text → Bool
@@ -57,6 +58,12 @@ merged_and_single = record { command = codes "explore"; words = codes " <FILE>";
 
 abbrev pub steps_conflict : List Row → Option Shown
 steps_conflict rows = if is_set (codes "merged") rows && is_set (codes "single") rows then Some merged_and_single else None
+
+abbrev pub json_and_schedule : Shown
+json_and_schedule = record { command = codes "hunt"; words = codes " <FILE>"; first = codes "--json"; second = codes "--schedule-only" }
+
+abbrev pub json_conflict : List Row → Option Shown
+json_conflict rows = if is_set (codes "json") rows && is_set (codes "schedule-only") rows then Some json_and_schedule else None
 
 -- the command of this name that takes a schedule
 abbrev pub run_named : Text → Text
@@ -88,6 +95,7 @@ abbrev pub conflict_of : Text → List Row → Option Shown
 conflict_of name rows =
     if is_some (threads_conflict rows) then threads_conflict rows
     else if is_some (steps_conflict rows) then steps_conflict rows
+    else if is_some (json_conflict rows) then json_conflict rows
     else code_conflict name rows
 
 abbrev pub conflict_in : Option (Text × List Row) → Option Shown

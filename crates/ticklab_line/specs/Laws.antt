@@ -1,10 +1,10 @@
 -- What command lines ask for, computed from the description of the command line alone.
-use Rattle.std.specs.Prelude.{◌≡◌, Bool, true, false, List, [], ◌∷◌, Option, Some, None, codes, map}
+use Rattle.std.specs.Prelude.{◌≡◌, true, false, List, [], ◌∷◌, Option, Some, None, codes, map}
 use Rattle.clap.specs.Walk.{Text}
 use Rattle.clap.specs.Kinds.{Kinds}
 use Rattle.clap.specs.declared.error.kind.ErrorKind.TheVariants as kind
 use Rattle.ticklab_line.specs.Commands.{Asked, request_in, rows}
-use Rattle.ticklab_line.specs.Lines.{command_in, faults, is_schedule_only}
+use Rattle.ticklab_line.specs.Lines.{Form, as_json, as_text, command_in, faults, form_of, schedule_alone}
 use Rattle.ticklab_line.specs.Conflicts.{Shown, beside_never, conflict_in, merged_and_single}
 use Rattle.ticklab_line.specs.declared.commands.Request.TheVariants.{Explore, Hunt, Runs}
 use Rattle.ticklab_line.specs.declared.commands.Steps.TheVariants.{MergedFirst}
@@ -28,9 +28,9 @@ Tells words kinds = faults (line words) ≡ kinds
 abbrev pub read : List Text → Kinds × Option Shown × Option Asked
 read words = (faults (line words), conflict_in (command_in (line words)), request_in (command_in (line words)))
 
--- whether the schedule of an answer is asked for alone
-abbrev pub asks_alone : List Text → Bool
-asks_alone words = is_schedule_only (command_in (line words))
+-- in which form the answer is asked for
+abbrev pub form_asked : List Text → Form
+form_asked words = form_of (command_in (line words))
 
 pub record CommandsLaw : Type 0 where
   pub explore : (rest : Text) → Asks (codes "explore" ∷ (97 ∷ rest) ∷ []) (Explore (97 ∷ rest) [] 4294967295 1000 MergedFirst)
@@ -38,11 +38,13 @@ pub record CommandsLaw : Type 0 where
   pub drawn_code_never : IsTaken (codes "draw" ∷ codes "--code" ∷ codes "a" ∷ codes "0" ∷ codes "--never" ∷ codes "n" ∷ []) (Some (beside_never (codes "draw") (codes "--code")))
   pub lift_never : IsTaken (codes "draw" ∷ codes "a" ∷ codes "0" ∷ codes "--never" ∷ codes "n" ∷ codes "--lift" ∷ []) (Some (beside_never (codes "draw") (codes "--lift")))
   pub page_lift : IsTaken (codes "page" ∷ codes "a" ∷ codes "0" ∷ codes "--lift" ∷ codes "--never" ∷ codes "n" ∷ []) (Some (beside_never (codes "page") (codes "--lift")))
-  pub alone : asks_alone (codes "explore" ∷ codes "a" ∷ codes "--schedule-only" ∷ []) ≡ true
-  pub alone_of_ends : asks_alone (codes "explore" ∷ codes "--schedule-only" ∷ codes "a" ∷ codes "--ends" ∷ []) ≡ true
-  pub alone_of_a_hunt : asks_alone (codes "hunt" ∷ codes "a" ∷ codes "--schedule-only" ∷ []) ≡ true
-  pub whole : asks_alone (codes "explore" ∷ codes "a" ∷ codes "--ends" ∷ []) ≡ false
-  pub whole_of_a_trace : asks_alone (codes "trace" ∷ codes "a" ∷ codes "0" ∷ []) ≡ false
+  pub alone : form_asked (codes "explore" ∷ codes "a" ∷ codes "--schedule-only" ∷ []) ≡ schedule_alone
+  pub alone_of_ends : form_asked (codes "explore" ∷ codes "--schedule-only" ∷ codes "a" ∷ codes "--ends" ∷ []) ≡ schedule_alone
+  pub alone_of_a_hunt : form_asked (codes "hunt" ∷ codes "a" ∷ codes "--schedule-only" ∷ []) ≡ schedule_alone
+  pub whole : form_asked (codes "explore" ∷ codes "a" ∷ codes "--ends" ∷ []) ≡ as_text
+  pub whole_of_a_trace : form_asked (codes "trace" ∷ codes "a" ∷ codes "0" ∷ []) ≡ as_text
+  pub json : form_asked (codes "trace" ∷ codes "--json" ∷ codes "a" ∷ codes "0" ∷ []) ≡ as_json
+  pub json_of_a_hunt : form_asked (codes "hunt" ∷ codes "a" ∷ codes "--json" ∷ []) ≡ as_json
   pub merged_single : IsTaken (codes "explore" ∷ codes "a" ∷ codes "--merged" ∷ codes "--single" ∷ []) (Some merged_and_single)
   pub single_merged : IsTaken (codes "explore" ∷ codes "--single" ∷ codes "a" ∷ codes "--ends" ∷ codes "--merged" ∷ []) (Some merged_and_single)
   pub all : map (λ row. read row.0) rows ≡ map (λ row. ([], None, Some row.1)) rows
@@ -80,6 +82,10 @@ pub record HuntsLaw : Type 0 where
   pub threads_uniform : Conflicts (threads (codes "--uniform" ∷ [])) shown_threads (codes "--uniform")
   pub threads_never : Conflicts (threads (codes "--never" ∷ codes "n" ∷ [])) shown_threads (codes "--never <EXPR>")
   pub threads_schedule : Conflicts (threads (codes "--schedule-only" ∷ [])) shown_threads (codes "--schedule-only")
+  pub threads_json : Conflicts (threads (codes "--json" ∷ [])) shown_threads (codes "--json")
+  pub json_threads : Conflicts (codes "--json" ∷ threads []) (codes "--json") shown_threads
+  pub json_schedule : Conflicts (codes "--json" ∷ codes "--schedule-only" ∷ []) (codes "--json") (codes "--schedule-only")
+  pub schedule_json : Conflicts (codes "--schedule-only" ∷ codes "--json" ∷ []) (codes "--json") (codes "--schedule-only")
   pub steps_threads : Conflicts (codes "--steps" ∷ codes "5" ∷ threads []) (codes "--steps <N>") shown_threads
   pub uniform_threads : Conflicts (codes "--uniform" ∷ threads []) (codes "--uniform") shown_threads
   pub all : Conflicts (codes "--steps" ∷ codes "5" ∷ threads (codes "--uniform" ∷ codes "--seed" ∷ codes "1" ∷ [])) (codes "--seed <N>") shown_threads
@@ -103,5 +109,6 @@ pub record NoCommandsLaw : Type 0 where
   pub no_step : Tells (codes "draw" ∷ codes "a" ∷ codes "0" ∷ codes "--from" ∷ codes "0" ∷ []) (kind.ValueValidation ∷ [])
   pub too_narrow : Tells (codes "draw" ∷ codes "a" ∷ codes "0" ∷ codes "--width=299" ∷ []) (kind.ValueValidation ∷ [])
   pub trace_title : Tells (codes "trace" ∷ codes "a" ∷ codes "0" ∷ codes "--title" ∷ codes "b" ∷ []) (kind.UnknownArgument ∷ [])
+  pub draw_json : Tells (codes "draw" ∷ codes "a" ∷ codes "0" ∷ codes "--json" ∷ []) (kind.UnknownArgument ∷ [])
   pub no_process : Tells (codes "explore" ∷ codes "a" ∷ codes "--ends" ∷ codes "6" ∷ []) (kind.ValueValidation ∷ [])
   pub one_number : Tells (codes "hunt" ∷ codes "a" ∷ codes "--threads" ∷ codes "5" ∷ []) (kind.WrongNumberOfValues ∷ [])

@@ -1,5 +1,5 @@
 -- What the words of a command line ask for.
-use Rattle.std.specs.Prelude.{◌≡◌, ◌≢◌, Bool, true, false, List, [], ◌∷◌, MatchOption, Option, Some, None, Vec, codes, string_bytes}
+use Rattle.std.specs.Prelude.{◌≡◌, ◌≢◌, List, [], ◌∷◌, MatchOption, Option, Some, None, Vec, codes, if◌then◌else◌, string_bytes}
 use Rattle.std.specs.Borrow.{Bor}
 use Rattle.std.specs.Global.{Global}
 use Rattle.clap.specs.Walk.{Row, Text}
@@ -28,22 +28,38 @@ faults words = fault_of ticklab words
 abbrev pub number_text : Text
 number_text = codes "error: a number is out of its range\n"
 
--- whether the schedule of an answer is asked for alone
-abbrev pub is_schedule_only : Option (Text × List Row) → Bool
-is_schedule_only None = false
-is_schedule_only (Some found) = is_set (codes "schedule-only") found.1
+-- in which form an answer is asked for: as a text, its schedule alone, or as JSON
+pub data Form : Type 0 where
+  as_text : Form
+  schedule_alone : Form
+  as_json : Form
 
--- the whole answer to a request is asked for, or its schedule alone
+abbrev pub form_in : List Row → Form
+form_in rows =
+    if is_set (codes "schedule-only") rows then schedule_alone
+    else if is_set (codes "json") rows then as_json
+    else as_text
+
+abbrev pub form_of : Option (Text × List Row) → Form
+form_of None = as_text
+form_of (Some found) = form_in found.1
+
+-- the answer to a request is asked for in this form
+abbrev pub IsAskedAs : Form → Request (Bor Text) (Vec (Bor Text) Global) → Line → Type 0
+IsAskedAs form request (line.Request asked) = (form ≡ as_text) × (asked ≡ request)
+IsAskedAs form request (line.Schedule asked) = (form ≡ schedule_alone) × (asked ≡ request)
+IsAskedAs form request (line.Json asked) = (form ≡ as_json) × (asked ≡ request)
+IsAskedAs form request (line.Help text) = ⊥
+IsAskedAs form request (line.Refused text) = ⊥
+
 abbrev pub IsAskedBy : Option (Text × List Row) → Request (Bor Text) (Vec (Bor Text) Global) → Line → Type 0
-IsAskedBy found request (line.Request asked) = (is_schedule_only found ≡ false) × (asked ≡ request)
-IsAskedBy found request (line.Schedule asked) = (is_schedule_only found ≡ true) × (asked ≡ request)
-IsAskedBy found request (line.Help text) = ⊥
-IsAskedBy found request (line.Refused text) = ⊥
+IsAskedBy found = IsAskedAs (form_of found)
 
 -- what is answered to words that have no conflict
 abbrev pub IsMeant : Option (Text × List Row) → Line → Type 0
-IsMeant found (line.Request request) = (is_schedule_only found ≡ false) × (request_in found ≡ Some (plain_request request))
-IsMeant found (line.Schedule request) = (is_schedule_only found ≡ true) × (request_in found ≡ Some (plain_request request))
+IsMeant found (line.Request request) = (form_of found ≡ as_text) × (request_in found ≡ Some (plain_request request))
+IsMeant found (line.Schedule request) = (form_of found ≡ schedule_alone) × (request_in found ≡ Some (plain_request request))
+IsMeant found (line.Json request) = (form_of found ≡ as_json) × (request_in found ≡ Some (plain_request request))
 IsMeant found (line.Help text) = ⊥
 IsMeant found (line.Refused text) = (request_in found ≡ None) × (string_bytes text ≡ number_text)
 

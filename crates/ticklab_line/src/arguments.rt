@@ -55,6 +55,13 @@ pub fn schedule_only<'a>(alloc: Global) -> Arg<'a>
     )
 }
 
+/// Of a command that can answer as JSON.
+pub fn json<'a>(alloc: Global) -> Arg<'a>
+    ensures { IsWord (flag_rule (codes "json")) result }
+{
+    flag(alloc, "json", "Prints the answer as JSON")
+}
+
 /// An option with a number. What stands for it where it is left out is for the help alone.
 pub fn option<'a>(
     alloc: Global,

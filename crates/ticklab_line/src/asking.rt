@@ -1,7 +1,9 @@
 ghost use Rattle.std.specs.Prelude.{◌≡◌, ◌≢◌, IfOk, map, string_bytes};
+ghost use Rattle.clap.specs.Matches.{found_of};
 ghost use Rattle.clap.specs.Simple.{subcommand_rows_of};
 ghost use Rattle.clap.specs.Values.{kind_of};
-ghost use Rattle.ticklab_line.specs.Lines.{Answers, IsAskedBy, IsFound, IsMeant, IsToldBy, number_text};
+ghost use Rattle.clap.specs.Walk.{rows_of};
+ghost use Rattle.ticklab_line.specs.Lines.{Answers, IsAskedAs, IsAskedBy, IsFound, IsMeant, IsToldBy, form_in, number_text};
 
 use crate::commands::{Lent, command_line, request_in};
 use crate::conflicts::{conflict_in, conflict_text};
@@ -16,6 +18,8 @@ pub enum Line<'a> {
     Request(Lent<'a>),
     /// The schedule alone of the answer to this.
     Schedule(Lent<'a>),
+    /// The answer to this as JSON.
+    Json(Lent<'a>),
     /// The help that was asked for.
     Help(String),
     /// The words are no command, and why.
@@ -55,15 +59,21 @@ fn line_of<'a>(matches: &ArgMatches<'a>, request: Lent<'a>) -> Line<'a>
     ensures { IsAskedBy (subcommand_rows_of matches.now) request.entry result }
 {
     match matches.subcommand() {
-        Some((_name, given)) => {
-            if is_set(given, "schedule-only") {
-                Line::Schedule(request)
-            } else {
-                Line::Request(request)
-            }
-        }
+        Some((_name, given)) => line_as(given, request),
         None => Line::Request(request),
     }
+}
+
+fn line_as<'a>(given: &ArgMatches<'a>, request: Lent<'a>) -> Line<'a>
+    ensures { IsAskedAs (form_in (rows_of (found_of given.now))) request.entry result }
+{
+    if is_set(given, "schedule-only") {
+        return Line::Schedule(request);
+    }
+    if is_set(given, "json") {
+        return Line::Json(request);
+    }
+    Line::Request(request)
 }
 
 // Where `clap` took a number that is out of its range.

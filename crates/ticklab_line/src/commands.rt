@@ -4,12 +4,12 @@ ghost use Rattle.clap.specs.Matches.{found_of};
 ghost use Rattle.clap.specs.Walk.{first_of, rows_of};
 ghost use Rattle.clap.specs.Simple.{app_of, subcommand_rows_of};
 ghost use Rattle.ticklab_line.specs.CommandLine.{IsCommand, IsLine};
-ghost use Rattle.ticklab_line.specs.Commands.{command_wanted, draw_app, drawing_in, ends_in, ends_of, explain_app, explain_in, explore_app, explore_in, hunt_app, hunt_in, labels_app, labels_in, lasso_app, lasso_in, limit_in, memory_in, named, page_app, plain_drawing, plain_request, plan_of, run_app, run_in, run_of, runs_in, schedules_of, side_in, steps_in, ticklab};
+ghost use Rattle.ticklab_line.specs.Commands.{command_wanted, draw_app, drawing_in, ends_in, ends_of, explain_app, explain_in, explore_app, explore_in, hunt_app, hunt_in, labels_app, labels_in, lasso_app, lasso_in, limit_in, memory_in, named, page_app, plain_drawing, plain_request, plan_of, run_app, run_in, run_of, runs_in, schedules_of, side_in, steps_in, ticklab, trace_app};
 ghost use Rattle.ticklab_line.specs.Commands.{request_in as found_request};
 
 use crate::arguments::{
-    ends, flag, further, jobs, length, megabytes, option, processes, repeated, schedule_only, step,
-    text, threads, width, word,
+    ends, flag, further, jobs, json, length, megabytes, option, processes, repeated, schedule_only,
+    step, text, threads, width, word,
 };
 use crate::parts::{STATUSES, filed, named, taking, with};
 use crate::values::{
@@ -152,10 +152,7 @@ pub fn command_line<'a>(alloc: Global) -> Result<Command<'a>, AllocError>
     let line = with(Ok(ticklab(alloc)), explore(alloc));
     let line = with(line, lasso(alloc));
     let line = with(line, hunt(alloc));
-    let line = with(
-        line,
-        run(alloc, "trace", "Prints a line for each step of a run"),
-    );
+    let line = with(line, trace(alloc));
     let line = with(line, draw(alloc));
     let line = with(line, page(alloc));
     let line = with(line, explain(alloc));
@@ -450,6 +447,7 @@ fn hunt<'a>(alloc: Global) -> Result<Command<'a>, AllocError>
         ),
     );
     let hunt = taking(hunt, schedule_only(alloc));
+    let hunt = taking(hunt, json(alloc));
     taking(hunt, threads(alloc))
 }
 
@@ -529,6 +527,13 @@ fn run<'a>(alloc: Global, name: &'a str, about: &'a str) -> Result<Command<'a>, 
             "Marks too where this property holds first, like a line #! never EXPR of the program; it may be given again; not with --code or --lift",
         ),
     )
+}
+
+fn trace<'a>(alloc: Global) -> Result<Command<'a>, AllocError>
+    ensures { IsCommand trace_app result }
+{
+    let trace = run(alloc, "trace", "Prints a line for each step of a run");
+    taking(trace, json(alloc))
 }
 
 fn draw<'a>(alloc: Global) -> Result<Command<'a>, AllocError>

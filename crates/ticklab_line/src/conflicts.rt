@@ -3,7 +3,7 @@ ghost use Rattle.std.specs.Prelude.{◌≡◌, IfOk, map, option_map, string_byt
 ghost use Rattle.clap.specs.Matches.{found_of};
 ghost use Rattle.clap.specs.Walk.{rows_of};
 ghost use Rattle.clap.specs.Simple.{subcommand_rows_of};
-ghost use Rattle.ticklab_line.specs.Conflicts.{code_conflict, code_option, conflict_in as conflict_found, conflict_of, conflict_text, in_order, may_conflict, plan_option, run_named, shown, steps_conflict, threads_conflict, threads_lead};
+ghost use Rattle.ticklab_line.specs.Conflicts.{code_conflict, code_option, conflict_in as conflict_found, conflict_of, conflict_text, in_order, json_conflict, may_conflict, plan_option, run_named, shown, steps_conflict, threads_conflict, threads_lead};
 
 use crate::values::{is_set, text_in, texts_in};
 use clap::ArgMatches;
@@ -40,6 +40,9 @@ fn conflict_of(name: &str, given: &ArgMatches<'_>) -> Option<Conflict<'static>>
     if let Some(conflict) = steps_conflict(given) {
         return Some(conflict);
     }
+    if let Some(conflict) = json_conflict(given) {
+        return Some(conflict);
+    }
     code_conflict(name, given)
 }
 
@@ -53,6 +56,21 @@ fn steps_conflict(given: &ArgMatches<'_>) -> Option<Conflict<'static>>
             words: FILE,
             first: "--merged",
             second: "--single",
+        });
+    }
+    None
+}
+
+// `--json` and `--schedule-only` of `hunt`.
+fn json_conflict(given: &ArgMatches<'_>) -> Option<Conflict<'static>>
+    ensures { option_map shown result ≡ json_conflict (rows_of (found_of given.now)) }
+{
+    if is_set(given, "json") && is_set(given, "schedule-only") {
+        return Some(Conflict {
+            command: "hunt",
+            words: FILE,
+            first: "--json",
+            second: "--schedule-only",
         });
     }
     None
@@ -151,6 +169,9 @@ fn plan_option(given: &ArgMatches<'_>) -> Option<&'static str>
     if is_set(given, "schedule-only") {
         return Some("--schedule-only");
     }
+    if is_set(given, "json") {
+        return Some("--json");
+    }
     None
 }
 
@@ -180,6 +201,7 @@ fn may_conflict(id: &str) -> bool
             | "uniform"
             | "never"
             | "schedule-only"
+            | "json"
     )
 }
 

@@ -17,4 +17,5 @@ returns c =
     let uniform = c.taking-hunt-6.ensures _ _ jobs c.flag.ensures in
     let never = c.taking-hunt-7.ensures _ _ uniform c.repeated.ensures in
     let schedule = c.taking-hunt-8.ensures _ _ never c.schedule_only.ensures in
-    c.taking.ensures _ _ schedule c.threads.ensures
+    let json = c.taking-hunt-9.ensures _ _ schedule c.json.ensures in
+    c.taking.ensures _ _ json c.threads.ensures
