@@ -6,5 +6,5 @@ use Rattle.ticklab_check.proofs.searching.checked_program.Goals as goal
 pub returns-in_ok-report-in-Err : goal.returns-in_ok-report-in-Err
 returns-in_ok-report-in-Err c =
     let fault = subst (λ (text : List ℕ). questions_in c.args.program.now text ≡ Err c.in-Err.fault) c.in-Ok.ensures.cases.0
-        (c.in-Err.ensures.fault c.in_ok-report-in-Err.ensures.0) in
+    (c.in-Err.ensures.fault c.in_ok-report-in-Err.ensures.0) in
     no_question c.args.program.now c.in-Err.fault c.requires fault c.in_ok-report-in-Err.ensures.1
