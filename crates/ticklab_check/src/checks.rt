@@ -31,14 +31,16 @@ pub trait Checks: Drop + Sized {
 }
 
 /// Searches one file after the other.
-#[derive(Clone, Copy)]
-pub struct InTurn<T> {
-    pub stopwatch: T,
+#[derive(Drop)]
+pub struct InTurn<'a, T> {
+    pub stopwatch: &'a T,
 }
 
-impl<T: Stopwatch + Copy> Checks for InTurn<T> {
-    fn with_jobs(&self, _jobs: u32) -> InTurn<T> {
-        *self
+impl<'a, T: Stopwatch> Checks for InTurn<'a, T> {
+    fn with_jobs(&self, _jobs: u32) -> InTurn<'a, T> {
+        InTurn {
+            stopwatch: self.stopwatch,
+        }
     }
 
     fn checked(
@@ -49,7 +51,7 @@ impl<T: Stopwatch + Copy> Checks for InTurn<T> {
     ) -> Result<Vec<Timed>, NoMemory> {
         let mut files = Vec::new(alloc);
         for source in sources {
-            let timed = timed_file(alloc, &self.stopwatch, source, limits)?;
+            let timed = timed_file(alloc, self.stopwatch, source, limits)?;
             files.push(timed)?;
         }
         Ok(files)
