@@ -1,10 +1,9 @@
 // One file: what a search of its program finds, or why it is refused.
-ghost use Rattle.std.specs.Prelude.{◌≡◌, ◌≢◌, IfOk, Ok, map};
+ghost use Rattle.std.specs.Prelude.{◌≡◌, IfOk, Ok, map};
 ghost use Rattle.language_questions.specs.Lines.{asked_of, questions_in};
 ghost use Rattle.searches_explore.specs.Lines.{lines_of};
 ghost use Rattle.tick_kinds.specs.Resolution.{resolved};
 ghost use Rattle.ticketc_refusals.specs.Refusals.{ProgramIn};
-ghost use Rattle.ticklab_explain.specs.Questions.{IsQuestionReport};
 ghost use Rattle.ticklab_check.specs.Checking.{ComesTo, IsFound, IsFoundOfAsked, SourceComesTo, asked_for};
 ghost use Rattle.ticklab_check.specs.prover.Answers.{found_of, merged_found, settled};
 
@@ -13,7 +12,7 @@ use crate::comparing::expected_of;
 use crate::found::Found;
 use crate::source::Source;
 use base::NoMemory;
-use language_questions::{Ends, NeverLine, Property, QuestionFault, Questions, questions_of};
+use language_questions::{Ends, NeverLine, Property, Questions, questions_of};
 use searches_explore::{
     EndExplored, Limits, MustStop, NeverExplored, Unwatched, explore_ends, explore_ends_merged,
     explore_never_merged,
@@ -55,26 +54,8 @@ fn checked_program(
     match questions_of(alloc, program, text) {
         Ok(questions) => searched(alloc, name, input, program, questions, limits),
         Err(fault) => {
-            let report = question_report(alloc, name, input, fault)?;
+            let report = explain_question(alloc, name, input, fault)?;
             Ok(Checked::Refused(report))
-        }
-    }
-}
-
-// The report of a fault in a line of a text, which has this name.
-fn question_report(
-    alloc: Global,
-    name: &str,
-    text: &[u8],
-    fault: QuestionFault,
-) -> Result<Vec<u8>, NoMemory>
-    ensures { IfOk result (λ report. (fault ≢ QuestionFault.NoMemory) × IsQuestionReport name.now text.now fault report.items) }
-{
-    match fault {
-        QuestionFault::NoMemory => Err(NoMemory),
-        fault => {
-            let report = explain_question(alloc, name, text, fault)?;
-            Ok(report)
         }
     }
 }

@@ -1,5 +1,5 @@
 // The report of what is wrong with a question about a program.
-ghost use Rattle.std.specs.Prelude.{◌≡◌, ◌++◌, IfOk, OnOk, codes};
+ghost use Rattle.std.specs.Prelude.{◌≡◌, ◌≢◌, ◌++◌, IfOk, OnOk, codes};
 ghost use Rattle.base.specs.Lines.{line_end};
 ghost use Rattle.ticklab_explain.specs.Questions.{IsPointed, IsQuestionReport, question_hint, question_message, question_span};
 
@@ -11,8 +11,22 @@ use language_questions::QuestionFault;
 use std::alloc::Global;
 
 /// What is wrong with a question in a text, as a report for people: its place, the line with a caret, and what may
-/// help. `name` is that of the text's file.
+/// help. `name` is that of the text's file. Where memory was refused there is no report.
 pub fn explain_question(
+    alloc: Global,
+    name: &str,
+    text: &[u8],
+    fault: QuestionFault,
+) -> Result<Vec<u8>, NoMemory>
+    ensures { IfOk result (λ report. (fault ≢ QuestionFault.NoMemory) × IsQuestionReport name.now text.now fault report.items) }
+{
+    match fault {
+        QuestionFault::NoMemory => Err(NoMemory),
+        fault => reported(alloc, name, text, fault),
+    }
+}
+
+fn reported(
     alloc: Global,
     name: &str,
     text: &[u8],

@@ -1,7 +1,7 @@
 use Rattle.std.proofs.Common.{ℕ, List, subst}
 use Rattle.base.specs.declared.span.Span.{Span}
 use Rattle.ticklab_explain.specs.Questions.{IsPointed, question_message}
-use Rattle.ticklab_explain.proofs.questions.explain_question.Goals as goal
+use Rattle.ticklab_explain.proofs.questions.reported.Goals as goal
 
 pub returns : goal.returns
 returns c =
