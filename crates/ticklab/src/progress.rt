@@ -37,9 +37,10 @@ impl<'a> HostProgress<'a> {
             return 1;
         };
         match since.elapsed(self.rt) {
-            Ok(taken) => u64::try_from(taken.as_millis())
-                .unwrap_or(u64::MAX)
-                .max(1),
+            Ok(taken) => match u64::try_from(taken.as_millis()) {
+                Ok(millis) => millis.max(1),
+                Err(_ages) => 1,
+            },
             Err(_unknown) => 1,
         }
     }

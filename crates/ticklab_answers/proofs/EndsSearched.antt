@@ -8,6 +8,7 @@ use Rattle.language_properties.specs.Properties.{Formula}
 use Rattle.language_properties.specs.declared.property.Property.{Property}
 use Rattle.tick_kinds.specs.Resolution.{resolved}
 use Rattle.tick_source.specs.Source.{source}
+use Rattle.searches_states.specs.declared.limits.Limits.{Limits}
 use Rattle.searches_states.specs.declared.must_stop.MustStop.{MustStop}
 use Rattle.searches_states.specs.declared.searching.Searched.TheVariants.{Found}
 use Rattle.searches_explore.specs.Ending.{CanAlwaysEnd, EndsIfFair, GoesOn, IfCanEnd, IfEndless, IfEnds, IfLoop, IfStuck, IsEndlessBy, IsLoopAfter, never_answer}
@@ -93,12 +94,12 @@ ends_as P Q (CanEnd count) f is = tt
 ends_as P Q (Limit count) f is = tt
 
 -- what a search has of faults, and of ends by steps of this kind
-pub ends_searched_as : (m n : Bool) → n ≡ m → (a : WholeProgram ℕ) (lines : List Property) (asked : MustStop) (limit : ℕ) {W : Type 0} (hears : HearsOf W)
-    (before after : W) (e : EndExplored) → IsSearchedBy n a lines limit hears before after (never_answer e) → IfStuck e (StuckBy m a asked)
+pub ends_searched_as : (m n : Bool) → n ≡ m → (a : WholeProgram ℕ) (lines : List Property) (asked : MustStop) (limits : Limits) {W : Type 0} (hears : HearsOf W)
+    (before after : W) (e : EndExplored) → IsSearchedBy n a lines limits hears before after (never_answer e) → IfStuck e (StuckBy m a asked)
     → IfLoop e (IsLoopAfter a) → IfCanEnd e (CanAlwaysEnd a asked)
     → IfEndless e (λ prefix cycle. (m ≡ false) × IsEndlessBy a asked prefix cycle × GoesOn a asked prefix cycle)
-    → IfEnds e ((m ≡ false) × EndsIfFair a asked) → AreEndsSearchedBy n a lines asked limit hears before after e
-ends_searched_as m n same a lines asked limit hears before after e searched blocked loops can for_ever fair = record {
+    → IfEnds e ((m ≡ false) × EndsIfFair a asked) → AreEndsSearchedBy n a lines asked limits hears before after e
+ends_searched_as m n same a lines asked limits hears before after e searched blocked loops can for_ever fair = record {
   known = record {
     never = searched.known;
     blocked = subst (λ (k : Bool). IfStuck e (StuckBy k a asked)) (sym same) blocked;
@@ -110,31 +111,31 @@ ends_searched_as m n same a lines asked limit hears before after e searched bloc
   watched = searched.watched;
 }
 
-module _ (input : List ℕ) (a : WholeProgram Name) (lines : List Property) (places : List TextPlace) (limit : ℕ) (asked : MustStop) where
+module _ (input : List ℕ) (a : WholeProgram Name) (lines : List Property) (places : List TextPlace) (limits : Limits) (asked : MustStop) where
   -- nothing is wrong, and all states were seen
-  told_ends : (m : Bool) (e : EndExplored) (x : Response) (heard : List Heard) → AreEndsKnownBy m (resolved a) lines asked limit e
-      → IfFault (never_answer e) (λ schedule. ⊥) → is_end_limit e ≡ false → ShowsEnds m asked input a places e x
-      → AreHeardFor m (resolved a) lines (never_answer e) heard → TellsEnds input a (lines_of lines) places limit asked m x heard
+  told_ends : (m : Bool) (e : EndExplored) (x : Response) (heard : List Heard) → AreEndsKnownBy m (resolved a) lines asked limits e
+      → IfFault (never_answer e) (λ schedule. ⊥) → is_end_limit e ≡ false → ShowsEnds m asked input a places limits e x
+      → AreHeardFor m (resolved a) lines (never_answer e) heard → TellsEnds input a (lines_of lines) places limits asked m x heard
   told_ends m (Trapped s) x heard known none seen shows on = absurd none
   told_ends m (Broken s line v) x heard known none seen shows on = absurd none
   told_ends m (Stuck s lead_in cycle count) x heard known none seen shows on =
       stuck s.items lead_in.items cycle.items count known.blocked known.loops
-      (quiet_told input a lines places limit m count heard known.never.safe on) shows
+      (quiet_told input a lines places limits m count heard known.never.safe on) shows
   told_ends m (Endless prefix cycle count) x heard known none seen shows on =
       endless prefix.items cycle.items count known.endless.0 known.can known.endless.1 known.endless.2
-      (quiet_told input a lines places limit m count heard known.never.safe on) shows
+      (quiet_told input a lines places limits m count heard known.never.safe on) shows
   told_ends m (Ends count) x heard known none seen shows on =
-      ends count known.ends.0 known.can known.ends.1 (quiet_told input a lines places limit m count heard known.never.safe on) shows
+      ends count known.ends.0 known.can known.ends.1 (quiet_told input a lines places limits m count heard known.never.safe on) shows
   told_ends m (CanEnd count) x heard known none seen shows on =
-      can_end count known.can (quiet_told input a lines places limit m count heard known.never.safe on) shows
+      can_end count known.can (quiet_told input a lines places limits m count heard known.never.safe on) shows
   told_ends m (Limit count) x heard known none seen shows on = absurd (false≢true (sym seen))
 
-  told_by : (m : Bool) (e : EndExplored) (x : Response) (heard : List Heard) → AreEndsKnownBy m (resolved a) lines asked limit e
-      → ShowsEnds m asked input a places e x → AreHeardFor m (resolved a) lines (never_answer e) heard
-      → IsEndsFoundBy input a (lines_of lines) places limit asked m x heard
-  told_by m (Trapped s) x heard known shows on = ends_fault (trap_told input a lines places limit m s x heard known.never.trapped shows on)
+  told_by : (m : Bool) (e : EndExplored) (x : Response) (heard : List Heard) → AreEndsKnownBy m (resolved a) lines asked limits e
+      → ShowsEnds m asked input a places limits e x → AreHeardFor m (resolved a) lines (never_answer e) heard
+      → IsEndsFoundBy input a (lines_of lines) places limits asked m x heard
+  told_by m (Trapped s) x heard known shows on = ends_fault (trap_told input a lines places limits m s x heard known.never.trapped shows on)
   told_by m (Broken s line v) x heard known shows on =
-      ends_fault (break_told input a lines places limit m s line v x heard known.never.broken shows on)
+      ends_fault (break_told input a lines places limits m s line v x heard known.never.broken shows on)
   told_by m (Stuck s lead_in cycle count) x heard known shows on =
       no_fault (told_ends m (Stuck s lead_in cycle count) x heard known tt refl shows on)
   told_by m (Endless prefix cycle count) x heard known shows on =
@@ -142,23 +143,23 @@ module _ (input : List ℕ) (a : WholeProgram Name) (lines : List Property) (pla
   told_by m (Ends count) x heard known shows on = no_fault (told_ends m (Ends count) x heard known tt refl shows on)
   told_by m (CanEnd count) x heard known shows on = no_fault (told_ends m (CanEnd count) x heard known tt refl shows on)
   told_by m (Limit count) x heard known shows on =
-      ends_unknown (limit_told input a lines places limit m count x heard known.never.at_limit shows on)
+      ends_unknown (limit_told input a lines places limits m count x heard known.never.at_limit shows on)
 
   -- merged steps found nothing wrong, and saw all states
-  module _ (e : EndExplored) (known : AreEndsKnownBy true (resolved a) lines asked limit e) (none : IfFault (never_answer e) (λ schedule. ⊥))
+  module _ (e : EndExplored) (known : AreEndsKnownBy true (resolved a) lines asked limits e) (none : IfFault (never_answer e) (λ schedule. ⊥))
       (seen : is_end_limit e ≡ false) where
-    quiet_of : (d : EndExplored) → AreEndsKnownBy true (resolved a) lines asked limit d → IfFault (never_answer d) (λ schedule. ⊥)
+    quiet_of : (d : EndExplored) → AreEndsKnownBy true (resolved a) lines asked limits d → IfFault (never_answer d) (λ schedule. ⊥)
         → is_end_limit d ≡ false → (heard : List Heard) → AreHeardFor true (resolved a) lines (never_answer d) heard
-        → IsQuiet true (resolved a) (lines_of lines) limit (states_of d) heard
+        → IsQuiet true (resolved a) (lines_of lines) limits (states_of d) heard
     quiet_of (Trapped s) known none seen heard on = absurd none
     quiet_of (Broken s line v) known none seen heard on = absurd none
-    quiet_of (Stuck s lead_in cycle count) known none seen heard on = quiet_told input a lines places limit true count heard known.never.safe on
-    quiet_of (Endless prefix cycle count) known none seen heard on = quiet_told input a lines places limit true count heard known.never.safe on
-    quiet_of (Ends count) known none seen heard on = quiet_told input a lines places limit true count heard known.never.safe on
-    quiet_of (CanEnd count) known none seen heard on = quiet_told input a lines places limit true count heard known.never.safe on
+    quiet_of (Stuck s lead_in cycle count) known none seen heard on = quiet_told input a lines places limits true count heard known.never.safe on
+    quiet_of (Endless prefix cycle count) known none seen heard on = quiet_told input a lines places limits true count heard known.never.safe on
+    quiet_of (Ends count) known none seen heard on = quiet_told input a lines places limits true count heard known.never.safe on
+    quiet_of (CanEnd count) known none seen heard on = quiet_told input a lines places limits true count heard known.never.safe on
     quiet_of (Limit count) known none seen heard on = absurd (false≢true (sym seen))
 
-    never_faults : (d : EndExplored) → AreEndsKnownBy true (resolved a) lines asked limit d → IfFault (never_answer d) (λ schedule. ⊥)
+    never_faults : (d : EndExplored) → AreEndsKnownBy true (resolved a) lines asked limits d → IfFault (never_answer d) (λ schedule. ⊥)
         → is_end_limit d ≡ false → (schedule : List ℕ) → is_fault (lines_of lines) (source (resolved a) schedule) ≡ false
     never_faults (Trapped s) known none seen = absurd none
     never_faults (Broken s line v) known none seen = absurd none
@@ -175,10 +176,10 @@ module _ (input : List ℕ) (a : WholeProgram Name) (lines : List Property) (pla
     no_other (N.Safe count) is = tt
     no_other (N.Limit count) is = tt
 
-    told_half : (d : EndExplored) → AreEndsKnownBy true (resolved a) lines asked limit d → IfFault (never_answer d) (λ schedule. ⊥)
+    told_half : (d : EndExplored) → AreEndsKnownBy true (resolved a) lines asked limits d → IfFault (never_answer d) (λ schedule. ⊥)
         → is_end_limit d ≡ false → (others : ℕ) (x : Response) (heard : List Heard)
-        → MeetsLimit false (resolved a) (lines_of lines) limit others heard → ShowsHalved asked input a places others d x
-        → TellsMore input a (lines_of lines) places limit asked (states_of d) x heard
+        → MeetsLimit false (resolved a) (lines_of lines) limits others heard → ShowsHalved asked input a places limits others d x
+        → TellsMore input a (lines_of lines) places limits asked (states_of d) x heard
     told_half (Trapped s) known none seen others x heard meets shows = absurd none
     told_half (Broken s line v) known none seen others x heard meets shows = absurd none
     told_half (Stuck s lead_in cycle count) known none seen others x heard meets shows =
@@ -188,31 +189,31 @@ module _ (input : List ℕ) (a : WholeProgram Name) (lines : List Property) (pla
     told_half (CanEnd count) known none seen others x heard meets shows = half known.can others meets shows
     told_half (Limit count) known none seen others x heard meets shows = absurd (false≢true (sym seen))
 
-    limit_met : (d : EndExplored) (others : ℕ) → d ≡ Limit others → AreEndsKnownBy false (resolved a) lines asked limit d → (heard : List Heard)
-        → AreHeardFor false (resolved a) lines (never_answer d) heard → MeetsLimit false (resolved a) (lines_of lines) limit others heard
+    limit_met : (d : EndExplored) (others : ℕ) → d ≡ Limit others → AreEndsKnownBy false (resolved a) lines asked limits d → (heard : List Heard)
+        → AreHeardFor false (resolved a) lines (never_answer d) heard → MeetsLimit false (resolved a) (lines_of lines) limits others heard
     limit_met d others is single heard on =
-        meets_limit input a lines places limit false others heard
-        (subst (λ (o : EndExplored). IfLimit (never_answer o) (LimitBy false (resolved a) (lines_of lines) limit)) is single.never.at_limit)
+        meets_limit input a lines places limits false others heard
+        (subst (λ (o : EndExplored). IfLimit (never_answer o) (LimitBy false (resolved a) (lines_of lines) limits)) is single.never.at_limit)
         (subst (λ (o : EndExplored). AreHeardFor false (resolved a) lines (never_answer o) heard) is on)
 
     module _ {W : Type 0} (hears : HearsOf W) (before after : W) (d : EndExplored) (x : Response)
-        (single : AreEndsSearchedBy false (resolved a) lines asked limit hears before after d) where
-      pub more_as : is_end_limit d ≡ false → ShowsEnds false asked input a places d x
-          → IsHeard hears before after (TellsMore input a (lines_of lines) places limit asked (states_of e) x)
+        (single : AreEndsSearchedBy false (resolved a) lines asked limits hears before after d) where
+      pub more_as : is_end_limit d ≡ false → ShowsEnds false asked input a places limits d x
+          → IsHeard hears before after (TellsMore input a (lines_of lines) places limits asked (states_of e) x)
       more_as all shows =
           heard_as hears before after (λ heard on. more (told_ends false d x heard single.known
-          (no_other (never_answer d) (fault_by (resolved a) lines false limit (never_answer d) single.known.never)) all shows on)) single.watched
+          (no_other (never_answer d) (fault_by (resolved a) lines false limits (never_answer d) single.known.never)) all shows on)) single.watched
 
-      pub half_as : (others : ℕ) → d ≡ Limit others → ShowsHalved asked input a places others e x
-          → IsHeard hears before after (TellsMore input a (lines_of lines) places limit asked (states_of e) x)
+      pub half_as : (others : ℕ) → d ≡ Limit others → ShowsHalved asked input a places limits others e x
+          → IsHeard hears before after (TellsMore input a (lines_of lines) places limits asked (states_of e) x)
       half_as others is shows =
           heard_as hears before after (λ heard on. told_half e known none seen others x heard (limit_met d others is single.known heard on) shows)
           single.watched
 
     pub quiet_first : {W : Type 0} (hears : HearsOf W) (before between after : W) (x : Response)
         → IsHeard hears before between (AreHeardFor true (resolved a) lines (never_answer e))
-        → IsHeard hears between after (TellsMore input a (lines_of lines) places limit asked (states_of e) x)
-        → IsHeard hears before after (IsEndsFoundFirst input a (lines_of lines) places limit asked x)
+        → IsHeard hears between after (TellsMore input a (lines_of lines) places limits asked (states_of e) x)
+        → IsHeard hears before after (IsEndsFoundFirst input a (lines_of lines) places limits asked x)
     quiet_first hears before between after x merged single =
         heard_then hears before between after (λ first more on then. first_quiet (record {
           states = states_of e;
@@ -224,36 +225,36 @@ module _ (input : List ℕ) (a : WholeProgram Name) (lines : List Property) (pla
         })) merged single
 
   module _ {W : Type 0} (hears : HearsOf W) (before after : W) where
-    pub ends_found_as : (m : Bool) (e : EndExplored) (x : Response) → AreEndsSearchedBy m (resolved a) lines asked limit hears before after e
-        → ShowsEnds m asked input a places e x → IsHeard hears before after (IsEndsFoundBy input a (lines_of lines) places limit asked m x)
+    pub ends_found_as : (m : Bool) (e : EndExplored) (x : Response) → AreEndsSearchedBy m (resolved a) lines asked limits hears before after e
+        → ShowsEnds m asked input a places limits e x → IsHeard hears before after (IsEndsFoundBy input a (lines_of lines) places limits asked m x)
     ends_found_as m e x searched shows = heard_as hears before after (λ heard on. told_by m e x heard searched.known shows on) searched.watched
 
     pub unknown_first : (e : EndExplored) (states : ℕ) (x : Response) → e ≡ Limit states
-        → AreEndsSearchedBy true (resolved a) lines asked limit hears before after e → ShowsEnds true asked input a places e x
-        → IsHeard hears before after (IsEndsFoundFirst input a (lines_of lines) places limit asked x)
+        → AreEndsSearchedBy true (resolved a) lines asked limits hears before after e → ShowsEnds true asked input a places limits e x
+        → IsHeard hears before after (IsEndsFoundFirst input a (lines_of lines) places limits asked x)
     unknown_first e states x is searched shows =
-        heard_as hears before after (λ heard on. first_unknown (limit_told input a lines places limit true states x heard
-        (subst (λ (o : EndExplored). IfLimit (never_answer o) (LimitBy true (resolved a) (lines_of lines) limit)) is searched.known.never.at_limit)
-        (subst (λ (o : EndExplored). ShowsEnds true asked input a places o x) is shows)
+        heard_as hears before after (λ heard on. first_unknown (limit_told input a lines places limits true states x heard
+        (subst (λ (o : EndExplored). IfLimit (never_answer o) (LimitBy true (resolved a) (lines_of lines) limits)) is searched.known.never.at_limit)
+        (subst (λ (o : EndExplored). ShowsEnds true asked input a places limits o x) is shows)
         (subst (λ (o : EndExplored). AreHeardFor true (resolved a) lines (never_answer o) heard) is on))) searched.watched
 
     pub fault_first : (between : W) (e : EndExplored) (schedule : Vec ℕ Global) (x : Response)
-        → AreEndsSearchedBy true (resolved a) lines asked limit hears before between e → never_searched_of (never_answer e) ≡ Found schedule
-        → IsHeard hears between after (TellsShortest input a (lines_of lines) places limit x)
-        → IsHeard hears before after (IsEndsFoundFirst input a (lines_of lines) places limit asked x)
+        → AreEndsSearchedBy true (resolved a) lines asked limits hears before between e → never_searched_of (never_answer e) ≡ Found schedule
+        → IsHeard hears between after (TellsShortest input a (lines_of lines) places limits x)
+        → IsHeard hears before after (IsEndsFoundFirst input a (lines_of lines) places limits asked x)
     fault_first between e schedule x searched is single =
-        heard_then hears before between after (λ first more on then. first_fault (told_both input a lines places limit x first more
-        (fault_heard input a lines places limit (never_answer e) schedule first is on) then)) searched.watched single
+        heard_then hears before between after (λ first more on then. first_fault (told_both input a lines places limits x first more
+        (fault_heard input a lines places limits (never_answer e) schedule first is on) then)) searched.watched single
 
 -- what is found, where the places and who is asked for are these
 pub ends_moved : {W : Type 0} (hears : HearsOf W) (before after : W) (steps : Steps) (input : List ℕ) (a : WholeProgram Name) (lines : List Formula)
-    (places others : List TextPlace) (asked other : MustStop) (limit : ℕ) (x : Response) (P : List Heard → Type 0)
-    → places ≡ others → asked ≡ other → ((heard : List Heard) → IsEndsFound input a lines others limit other steps x heard → P heard)
-    → IsHeard hears before after (IsEndsFound input a lines places limit asked steps x) → IsHeard hears before after P
-ends_moved hears before after steps input a lines places others asked other limit x P same_places same_asked f found =
+    (places others : List TextPlace) (asked other : MustStop) (limits : Limits) (x : Response) (P : List Heard → Type 0)
+    → places ≡ others → asked ≡ other → ((heard : List Heard) → IsEndsFound input a lines others limits other steps x heard → P heard)
+    → IsHeard hears before after (IsEndsFound input a lines places limits asked steps x) → IsHeard hears before after P
+ends_moved hears before after steps input a lines places others asked other limits x P same_places same_asked f found =
     heard_as hears before after (λ heard on. f heard
-    (subst (λ (to : MustStop). IsEndsFound input a lines others limit to steps x heard) same_asked
-    (subst (λ (at : List TextPlace). IsEndsFound input a lines at limit asked steps x heard) same_places on))) found
+    (subst (λ (to : MustStop). IsEndsFound input a lines others limits to steps x heard) same_asked
+    (subst (λ (at : List TextPlace). IsEndsFound input a lines at limits asked steps x heard) same_places on))) found
 
 -- the report of a process that there isn't
 pub past_told : {W : Type 0} (before : W) (name : List ℕ) (texts : List (List ℕ)) (process : Option ℕ) (input : List ℕ) (p : WholeProgram Name) → IsOf input p → (n : ℕ) → n ≡ (resolved p).processes

@@ -13,7 +13,7 @@ use Rattle.ticklab_answers.specs.Responses.{Refuses}
 use Rattle.ticklab_answers.specs.declared.response.Response.{Response}
 use Rattle.ticklab_answers.specs.prover.Searches.{AreHeardFor}
 
-module _ {W : Type 0} (begins : W → Bool → W → Type 0) (sees : W → ℕ → ℕ → W → Type 0) where
+module _ {W : Type 0} (begins : W → Bool → W → Type 0) (sees : W → ℕ → ℕ → ℕ → W → Type 0) where
   seen_all : (before after : W) (told : List Told) → watching.Hears sees before told after
       → Hears (hearing begins sees) before (map seen told) after
   seen_all before after [] is = is

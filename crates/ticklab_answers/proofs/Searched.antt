@@ -1,5 +1,5 @@
 -- What an answer says, from what was explored and what the answer shows of it.
-use Rattle.std.proofs.Common.{◌≡◌, ◌∙◌, ◌++◌, ◌<◌, ℕ, Bool, true, false, List, All, ap, length, refl, subst, sym}
+use Rattle.std.proofs.Common.{◌≡◌, ◌∙◌, ◌+◌, ◌++◌, ◌<◌, ℕ, Bool, true, false, List, All, ap, length, refl, subst, sym}
 use Rattle.std.proofs.lemmas.Bool.{false≢true, or_right}
 use Rattle.std.proofs.Math.Bool.{true-or}
 use Rattle.std.specs.Prelude.{◌||◌, Vec}
@@ -15,7 +15,8 @@ use Rattle.tick_source.specs.Source.{SourceState, source}
 use Rattle.searches_explore.specs.Explored.{has_trapped}
 use Rattle.searches_explore.specs.Lines.{IsFirstBroken, breaks, is_broken, is_fault, line_value, lines_of}
 use Rattle.searches_states.specs.Answer.{IfFound}
-use Rattle.searches_states.specs.Watching.{AreTold, IsWatched}
+use Rattle.searches_states.specs.Watching.{AreTold, AreToldToEnd, IsWatched}
+use Rattle.searches_states.specs.declared.limits.Limits.{Limits}
 use Rattle.searches_states.specs.declared.searching.Searched.{Searched}
 use Rattle.searches_states.specs.declared.searching.Searched.TheVariants.{Found, Limit as Full, Nowhere}
 use Rattle.searches_explore.specs.Never.{AreToldFor, IfBroken, IfFault, IfLimit, IfSafe, IfTrapped, never_searched_of}
@@ -28,7 +29,7 @@ use Rattle.searches_hunt.specs.declared.minimal.Minimal.TheVariants as M
 use Rattle.ticklab_answers.specs.Asking.{TextPlace}
 use Rattle.ticklab_answers.specs.BySteps.{BrokenBy, LimitBy, SafeBy, SeesBy, TrapBy}
 use Rattle.ticklab_answers.specs.Found.{IsFoundBy, IsFoundFirst, IsQuiet, MeetsLimit, TellsBoth, TellsFault, TellsLimit, TellsSafe, TellsShortest, broken, fault, first_fault, first_safe, first_unknown, minimal_break, minimal_trap, safe, shortest, trapped, unknown}
-use Rattle.ticklab_answers.specs.Hearing.{Heard, HearsOf, IsHeard, IsSearchHeard, hearing}
+use Rattle.ticklab_answers.specs.Hearing.{Heard, HearsOf, IsHeard, IsSearchHeard, IsSearchHeardToEnd, hearing}
 use Rattle.ticklab_answers.specs.Shown.{Shows, ShowsMinimal}
 use Rattle.ticklab_answers.specs.declared.response.Response.{Response}
 use Rattle.ticklab_answers.specs.prover.Searches.{AreHeardFor, IsKnownBy, IsSearchedBy, is_limit}
@@ -36,10 +37,10 @@ use Rattle.ticklab_answers.proofs.Heard.{began, heard_as, heard_then}
 use Rattle.ticklab_answers.proofs.NeverLines.{lawful_by, line_within, within_by}
 
 -- what is known of it
-pub known_as : (m : Bool) (a : WholeProgram ℕ) (lines : List Property) (limit : ℕ) (e : NeverExplored) → IfTrapped e (TrapBy m a (lines_of lines))
-    → IfBroken e (BrokenBy m a (lines_of lines)) → IfSafe e (SafeBy m a (lines_of lines) limit) → IfLimit e (LimitBy m a (lines_of lines) limit)
-    → IsKnownBy m a lines limit e
-known_as m a lines limit e traps breaks never full = record {
+pub known_as : (m : Bool) (a : WholeProgram ℕ) (lines : List Property) (limits : Limits) (e : NeverExplored) → IfTrapped e (TrapBy m a (lines_of lines))
+    → IfBroken e (BrokenBy m a (lines_of lines)) → IfSafe e (SafeBy m a (lines_of lines) limits) → IfLimit e (LimitBy m a (lines_of lines) limits)
+    → IsKnownBy m a lines limits e
+known_as m a lines limits e traps breaks never full = record {
   trapped = traps;
   broken = breaks;
   safe = never;
@@ -49,15 +50,15 @@ known_as m a lines limit e traps breaks never full = record {
 }
 
 -- a search that began, by steps of this kind, of lines that are these
-pub searched_as : {W : Type 0} (begins : W → Bool → W → Type 0) (sees : W → ℕ → ℕ → W → Type 0) (before between after : W) (m n : Bool) → n ≡ m
-    → (a : WholeProgram ℕ) (given lines : List Property) → given ≡ lines → (limit : ℕ) (e : NeverExplored) → begins before n between
+pub searched_as : {W : Type 0} (begins : W → Bool → W → Type 0) (sees : W → ℕ → ℕ → ℕ → W → Type 0) (before between after : W) (m n : Bool) → n ≡ m
+    → (a : WholeProgram ℕ) (given lines : List Property) → given ≡ lines → (limits : Limits) (e : NeverExplored) → begins before n between
     → IfTrapped e (TrapBy m a (lines_of given)) → IfBroken e (BrokenBy m a (lines_of given))
-    → IfSafe e (SafeBy m a (lines_of given) limit) → IfLimit e (LimitBy m a (lines_of given) limit)
-    → IsWatched sees between after (AreToldFor (SeesBy m a (lines_of given)) e) → IsSearchedBy n a lines limit (hearing begins sees) before after e
-searched_as begins sees before between after m n same a given lines held limit e first traps breaks never full watched =
-    subst (λ (k : Bool). IsSearchedBy k a lines limit (hearing begins sees) before after e) (sym same)
-    (subst (λ (asked : List Property). IsSearchedBy m a asked limit (hearing begins sees) before after e) held (record {
-      known = known_as m a given limit e traps breaks never full;
+    → IfSafe e (SafeBy m a (lines_of given) limits) → IfLimit e (LimitBy m a (lines_of given) limits)
+    → IsWatched sees between after (AreToldFor (SeesBy m a (lines_of given)) e) → IsSearchedBy n a lines limits (hearing begins sees) before after e
+searched_as begins sees before between after m n same a given lines held limits e first traps breaks never full watched =
+    subst (λ (k : Bool). IsSearchedBy k a lines limits (hearing begins sees) before after e) (sym same)
+    (subst (λ (asked : List Property). IsSearchedBy m a asked limits (hearing begins sees) before after e) held (record {
+      known = known_as m a given limits e traps breaks never full;
       watched = began begins sees before between after m n same a given e first watched;
     }))
 
@@ -82,14 +83,14 @@ module _ (a : WholeProgram ℕ) (lines : List Property) where
   break_is_fault s line v is = ap (λ (b : Bool). b || has_trapped s) (first_breaks (lines_of lines) s line v is) ∙ true-or (has_trapped s)
 
   -- what is found by steps of either kind
-  pub fault_by : (m : Bool) (limit : ℕ) (e : NeverExplored) → IsKnownBy m a lines limit e
+  pub fault_by : (m : Bool) (limits : Limits) (e : NeverExplored) → IsKnownBy m a lines limits e
       → IfFault e (λ schedule. is_fault (lines_of lines) (source a schedule) ≡ true)
-  fault_by false limit (Trapped s) known = trap_is_fault (source a s.items) known.trapped.traps
-  fault_by true limit (Trapped s) known = trap_is_fault (source a s.items) known.trapped.traps
-  fault_by false limit (Broken s line v) known = break_is_fault (source a s.items) line v known.broken.broken.first
-  fault_by true limit (Broken s line v) known = break_is_fault (source a s.items) line v known.broken.first
-  fault_by m limit (Safe states) known = tt
-  fault_by m limit (Limit states) known = tt
+  fault_by false limits (Trapped s) known = trap_is_fault (source a s.items) known.trapped.traps
+  fault_by true limits (Trapped s) known = trap_is_fault (source a s.items) known.trapped.traps
+  fault_by false limits (Broken s line v) known = break_is_fault (source a s.items) line v known.broken.broken.first
+  fault_by true limits (Broken s line v) known = break_is_fault (source a s.items) line v known.broken.first
+  fault_by m limits (Safe states) known = tt
+  fault_by m limits (Limit states) known = tt
 
   -- of what needs all its steps
   pub minimal_lawful : (k : Minimal) → IfTraps k (IsMinimalTrapped a (lines_of lines)) → IfBreaks k (IsMinimalBroken a (lines_of lines))
@@ -105,54 +106,59 @@ module _ (a : WholeProgram ℕ) (lines : List Property) where
 pub of_found : (P : List ℕ → Type 0) (e : NeverExplored) (schedule : Vec ℕ Global) → never_searched_of e ≡ Found schedule → IfFault e P → P schedule.items
 of_found P e schedule is held = subst (λ (s : Searched). IfFound s P) is held
 
-module _ (input : List ℕ) (a : WholeProgram Name) (lines : List Property) (places : List TextPlace) (limit : ℕ) where
+module _ (input : List ℕ) (a : WholeProgram Name) (lines : List Property) (places : List TextPlace) (limits : Limits) where
   -- so far a search is heard, of which this is known
   on_the_way : {m : Bool} {e : NeverExplored} {heard : List Heard} (gone : ℕ) (on : AreHeardFor m (resolved a) lines e heard)
       → AreTold (SeesBy m (resolved a) (lines_of lines)) gone on.told → IsSearchHeard m (resolved a) (lines_of lines) gone heard
   on_the_way gone on are = record { told = on.told; are = are; whole = on.whole }
 
+  -- and so to its end
+  to_the_end : {m : Bool} {e : NeverExplored} {heard : List Heard} (below states gone : ℕ) (on : AreHeardFor m (resolved a) lines e heard)
+      → AreToldToEnd (SeesBy m (resolved a) (lines_of lines)) below states gone on.told → IsSearchHeardToEnd m (resolved a) (lines_of lines) below states gone heard
+  to_the_end below states gone on are = record { told = on.told; are = are; whole = on.whole }
+
   pub trap_told : (m : Bool) (s : Vec ℕ Global) (x : Response) (heard : List Heard) → TrapBy m (resolved a) (lines_of lines) s.items
-      → Shows m input a places (Trapped s) x → AreHeardFor m (resolved a) lines (Trapped s) heard
-      → TellsFault input a (lines_of lines) places limit m x heard
+      → Shows m input a places limits (Trapped s) x → AreHeardFor m (resolved a) lines (Trapped s) heard
+      → TellsFault input a (lines_of lines) places limits m x heard
   trap_told m s x heard traps shows on = trapped s.items traps on.are.0 (on_the_way on.are.0 on on.are.1) shows
 
   pub break_told : (m : Bool) (s : Vec ℕ Global) (line : ℕ) (v : Valued) (x : Response) (heard : List Heard)
       → BrokenBy m (resolved a) (lines_of lines) s.items line v
-      → Shows m input a places (Broken s line v) x → AreHeardFor m (resolved a) lines (Broken s line v) heard
-      → TellsFault input a (lines_of lines) places limit m x heard
+      → Shows m input a places limits (Broken s line v) x → AreHeardFor m (resolved a) lines (Broken s line v) heard
+      → TellsFault input a (lines_of lines) places limits m x heard
   break_told m s line v x heard breaks shows on = broken s.items line v breaks on.are.0 (on_the_way on.are.0 on on.are.1) shows
 
-  pub quiet_told : (m : Bool) (states : ℕ) (heard : List Heard) → SafeBy m (resolved a) (lines_of lines) limit states
-      → AreHeardFor m (resolved a) lines (Safe states) heard → IsQuiet m (resolved a) (lines_of lines) limit states heard
-  quiet_told m states heard never on = record { safe = never; on_the_way = on_the_way states on on.are }
+  pub quiet_told : (m : Bool) (states : ℕ) (heard : List Heard) → SafeBy m (resolved a) (lines_of lines) limits states
+      → AreHeardFor m (resolved a) lines (Safe states) heard → IsQuiet m (resolved a) (lines_of lines) limits states heard
+  quiet_told m states heard never on = record { safe = never; on_the_way = to_the_end states states states on on.are }
 
-  safe_told : (m : Bool) (states : ℕ) (x : Response) (heard : List Heard) → SafeBy m (resolved a) (lines_of lines) limit states
-      → Shows m input a places (Safe states) x → AreHeardFor m (resolved a) lines (Safe states) heard
-      → TellsSafe input a (lines_of lines) places limit m x heard
+  safe_told : (m : Bool) (states : ℕ) (x : Response) (heard : List Heard) → SafeBy m (resolved a) (lines_of lines) limits states
+      → Shows m input a places limits (Safe states) x → AreHeardFor m (resolved a) lines (Safe states) heard
+      → TellsSafe input a (lines_of lines) places limits m x heard
   safe_told m states x heard never shows on = record {
     states = states;
     quiet = quiet_told m states heard never on;
     shown = shows;
   }
 
-  pub meets_limit : (m : Bool) (states : ℕ) (heard : List Heard) → LimitBy m (resolved a) (lines_of lines) limit states
-      → AreHeardFor m (resolved a) lines (Limit states) heard → MeetsLimit m (resolved a) (lines_of lines) limit states heard
-  meets_limit m states heard full on = record { more = full; gone = on.are.0; on_the_way = on_the_way on.are.0 on on.are.1 }
+  pub meets_limit : (m : Bool) (states : ℕ) (heard : List Heard) → LimitBy m (resolved a) (lines_of lines) limits states
+      → AreHeardFor m (resolved a) lines (Limit states) heard → MeetsLimit m (resolved a) (lines_of lines) limits states heard
+  meets_limit m states heard full on = record { more = full; gone = on.are.0; on_the_way = to_the_end (on.are.0 + 1) states on.are.0 on on.are.1 }
 
-  pub limit_told : (m : Bool) (states : ℕ) (x : Response) (heard : List Heard) → LimitBy m (resolved a) (lines_of lines) limit states
-      → Shows m input a places (Limit states) x → AreHeardFor m (resolved a) lines (Limit states) heard
-      → TellsLimit input a (lines_of lines) places limit m x heard
+  pub limit_told : (m : Bool) (states : ℕ) (x : Response) (heard : List Heard) → LimitBy m (resolved a) (lines_of lines) limits states
+      → Shows m input a places limits (Limit states) x → AreHeardFor m (resolved a) lines (Limit states) heard
+      → TellsLimit input a (lines_of lines) places limits m x heard
   limit_told m states x heard full shows on = record { states = states; meets = meets_limit m states heard full on; shown = shows }
 
-  told_by : (m : Bool) (e : NeverExplored) (x : Response) (heard : List Heard) → IsKnownBy m (resolved a) lines limit e
-      → Shows m input a places e x → AreHeardFor m (resolved a) lines e heard → IsFoundBy input a (lines_of lines) places limit m x heard
+  told_by : (m : Bool) (e : NeverExplored) (x : Response) (heard : List Heard) → IsKnownBy m (resolved a) lines limits e
+      → Shows m input a places limits e x → AreHeardFor m (resolved a) lines e heard → IsFoundBy input a (lines_of lines) places limits m x heard
   told_by m (Trapped s) x heard known shows on = fault (trap_told m s x heard known.trapped shows on)
   told_by m (Broken s line v) x heard known shows on = fault (break_told m s line v x heard known.broken shows on)
   told_by m (Safe states) x heard known shows on = safe (safe_told m states x heard known.safe shows on)
   told_by m (Limit states) x heard known shows on = unknown (limit_told m states x heard known.at_limit shows on)
 
-  told_first : (e : NeverExplored) (x : Response) (heard : List Heard) → IsKnownBy true (resolved a) lines limit e → IfFault e (λ schedule. ⊥)
-      → Shows true input a places e x → AreHeardFor true (resolved a) lines e heard → IsFoundFirst input a (lines_of lines) places limit x heard
+  told_first : (e : NeverExplored) (x : Response) (heard : List Heard) → IsKnownBy true (resolved a) lines limits e → IfFault e (λ schedule. ⊥)
+      → Shows true input a places limits e x → AreHeardFor true (resolved a) lines e heard → IsFoundFirst input a (lines_of lines) places limits x heard
   told_first (Trapped s) x heard known none shows on = absurd none
   told_first (Broken s line v) x heard known none shows on = absurd none
   told_first (Safe states) x heard known none shows on = first_safe (safe_told true states x heard known.safe shows on)
@@ -160,16 +166,16 @@ module _ (input : List ℕ) (a : WholeProgram Name) (lines : List Property) (pla
 
   -- there is a fault
   module _ (schedule : List ℕ) (wrong : is_fault (lines_of lines) (source (resolved a) schedule) ≡ true) where
-    told_shortest : (e : NeverExplored) (x : Response) (heard : List Heard) → IsKnownBy false (resolved a) lines limit e → is_limit e ≡ false
-        → Shows false input a places e x → AreHeardFor false (resolved a) lines e heard → TellsShortest input a (lines_of lines) places limit x heard
+    told_shortest : (e : NeverExplored) (x : Response) (heard : List Heard) → IsKnownBy false (resolved a) lines limits e → is_limit e ≡ false
+        → Shows false input a places limits e x → AreHeardFor false (resolved a) lines e heard → TellsShortest input a (lines_of lines) places limits x heard
     told_shortest (Trapped s) x heard known seen shows on = shortest (trap_told false s x heard known.trapped shows on)
     told_shortest (Broken s line v) x heard known seen shows on = shortest (break_told false s line v x heard known.broken shows on)
     told_shortest (Safe states) x heard known seen shows on = absurd (false≢true (sym (known.safe.never schedule) ∙ wrong))
     told_shortest (Limit states) x heard known seen shows on = absurd (false≢true (sym seen))
 
-  told_minimal : (e : NeverExplored) (k : Minimal) (x : Response) (heard : List Heard) → IsKnownBy false (resolved a) lines limit e → is_limit e ≡ true
+  told_minimal : (e : NeverExplored) (k : Minimal) (x : Response) (heard : List Heard) → IsKnownBy false (resolved a) lines limits e → is_limit e ≡ true
       → IfTraps k (IsMinimalTrapped (resolved a) (lines_of lines)) → IfBreaks k (IsMinimalBroken (resolved a) (lines_of lines))
-      → ShowsMinimal input a places k x → AreHeardFor false (resolved a) lines e heard → TellsShortest input a (lines_of lines) places limit x heard
+      → ShowsMinimal input a places k x → AreHeardFor false (resolved a) lines e heard → TellsShortest input a (lines_of lines) places limits x heard
   told_minimal (Limit states) (M.Trapped s) x heard known full traps breaks shows on =
       minimal_trap states (meets_limit false states heard known.at_limit on) s.items traps shows
   told_minimal (Limit states) (M.Broken s line v) x heard known full traps breaks shows on =
@@ -188,7 +194,7 @@ module _ (input : List ℕ) (a : WholeProgram Name) (lines : List Property) (pla
 
   -- by merged steps, and then by single ones
   pub told_both : (x : Response) (first more : List Heard) → (gone : ℕ) × IsSearchHeard true (resolved a) (lines_of lines) gone first
-      → TellsShortest input a (lines_of lines) places limit x more → TellsBoth input a (lines_of lines) places limit x (first ++ more)
+      → TellsShortest input a (lines_of lines) places limits x more → TellsBoth input a (lines_of lines) places limits x (first ++ more)
   told_both x first more merged single = record {
     gone = merged.0;
     first = first;
@@ -199,31 +205,31 @@ module _ (input : List ℕ) (a : WholeProgram Name) (lines : List Property) (pla
   }
 
   module _ {W : Type 0} (hears : HearsOf W) (before after : W) where
-    pub found_as : (m : Bool) (e : NeverExplored) (x : Response) → IsSearchedBy m (resolved a) lines limit hears before after e
-        → Shows m input a places e x → IsHeard hears before after (IsFoundBy input a (lines_of lines) places limit m x)
+    pub found_as : (m : Bool) (e : NeverExplored) (x : Response) → IsSearchedBy m (resolved a) lines limits hears before after e
+        → Shows m input a places limits e x → IsHeard hears before after (IsFoundBy input a (lines_of lines) places limits m x)
     found_as m e x searched shows = heard_as hears before after (λ heard on. told_by m e x heard searched.known shows on) searched.watched
 
-    pub none_first : (e : NeverExplored) (x : Response) → IsSearchedBy true (resolved a) lines limit hears before after e → IfFault e (λ schedule. ⊥)
-        → Shows true input a places e x → IsHeard hears before after (IsFoundFirst input a (lines_of lines) places limit x)
+    pub none_first : (e : NeverExplored) (x : Response) → IsSearchedBy true (resolved a) lines limits hears before after e → IfFault e (λ schedule. ⊥)
+        → Shows true input a places limits e x → IsHeard hears before after (IsFoundFirst input a (lines_of lines) places limits x)
     none_first e x searched none shows =
         heard_as hears before after (λ heard on. told_first e x heard searched.known none shows on) searched.watched
 
     pub shortest_as : (schedule : List ℕ) → is_fault (lines_of lines) (source (resolved a) schedule) ≡ true → (e : NeverExplored) (x : Response)
-        → IsSearchedBy false (resolved a) lines limit hears before after e → is_limit e ≡ false → Shows false input a places e x
-        → IsHeard hears before after (TellsShortest input a (lines_of lines) places limit x)
+        → IsSearchedBy false (resolved a) lines limits hears before after e → is_limit e ≡ false → Shows false input a places limits e x
+        → IsHeard hears before after (TellsShortest input a (lines_of lines) places limits x)
     shortest_as schedule wrong e x searched seen shows =
         heard_as hears before after (λ heard on. told_shortest schedule wrong e x heard searched.known seen shows on) searched.watched
 
-    pub minimal_as : (e : NeverExplored) (k : Minimal) (x : Response) → IsSearchedBy false (resolved a) lines limit hears before after e
+    pub minimal_as : (e : NeverExplored) (k : Minimal) (x : Response) → IsSearchedBy false (resolved a) lines limits hears before after e
         → is_limit e ≡ true → IfTraps k (IsMinimalTrapped (resolved a) (lines_of lines)) → IfBreaks k (IsMinimalBroken (resolved a) (lines_of lines))
-        → ShowsMinimal input a places k x → IsHeard hears before after (TellsShortest input a (lines_of lines) places limit x)
+        → ShowsMinimal input a places k x → IsHeard hears before after (TellsShortest input a (lines_of lines) places limits x)
     minimal_as e k x searched full traps breaks shows =
         heard_as hears before after (λ heard on. told_minimal e k x heard searched.known full traps breaks shows on) searched.watched
 
     pub both_first : (between : W) (e : NeverExplored) (schedule : Vec ℕ Global) (x : Response)
-        → IsSearchedBy true (resolved a) lines limit hears before between e → never_searched_of e ≡ Found schedule
-        → IsHeard hears between after (TellsShortest input a (lines_of lines) places limit x)
-        → IsHeard hears before after (IsFoundFirst input a (lines_of lines) places limit x)
+        → IsSearchedBy true (resolved a) lines limits hears before between e → never_searched_of e ≡ Found schedule
+        → IsHeard hears between after (TellsShortest input a (lines_of lines) places limits x)
+        → IsHeard hears before after (IsFoundFirst input a (lines_of lines) places limits x)
     both_first between e schedule x searched is single =
         heard_then hears before between after
         (λ first more on then. first_fault (told_both x first more (fault_heard e schedule first is on) then)) searched.watched single

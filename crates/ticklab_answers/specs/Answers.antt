@@ -1,9 +1,10 @@
 -- The answer to the words of a command line: each command, with what it reads, runs and tells.
-use Rattle.std.specs.Prelude.{◌≡◌, ⊤, ℕ, List, Result, Ok, Err, String, Vec, map, string_bytes}
+use Rattle.std.specs.Prelude.{◌≡◌, ◌*◌, ⊤, ℕ, List, Result, Ok, Err, String, Vec, map, string_bytes}
 use Rattle.std.specs.Global.{Global}
 use Rattle.std.specs.Vec.Iter.{into_iter_items}
 use Rattle.std.specs.declared.io.Error.{Error}
 use Rattle.std.specs.declared.vec.IntoIter.{IntoIter}
+use Rattle.searches_states.specs.declared.limits.Limits.{Limits}
 use Rattle.ticklab_line.specs.Commands.{Asked, plain_request}
 use Rattle.ticklab_line.specs.Lines.{Answers}
 use Rattle.ticklab_line.specs.declared.asking.Line.{Line}
@@ -33,15 +34,19 @@ abbrev pub GivesWords : Result GivenWords Error → Vec (String Global) Global �
 GivesWords (Ok given) words = words.items ≡ into_iter_items given
 GivesWords (Err error) words = ⊥
 
+-- so many states, in so many megabytes of 1,000,000 bytes
+abbrev pub limits_of : ℕ → ℕ → Limits
+limits_of states megabytes = record { states = states; bytes = megabytes * 1000000 }
+
 -- Files, a runner and a watch are as they are before and after. Nothing is read that the words don't name, the runner
 -- makes the runs of `hunt --threads` and no other, and the watch hears of the searches of an `explore` and of nothing else.
 module _ {F M W : Type 0} (Reads : ReadsOf F) (ReadsInput : ReadsInputOf F) (Ran : RunsOf M) (hears : HearsOf W)
     (before after : F) (rested ran : M) (quiet heard : W) where
   abbrev pub Responds : Asked → Response → Type 0
-  Responds (Explore file never limit steps) response =
-      (ran ≡ rested) × Explores Reads ReadsInput hears before after quiet heard file never limit steps response
-  Responds (Ends file never process limit steps) response =
-      (ran ≡ rested) × ExploresEnds Reads ReadsInput hears before after quiet heard file never process limit steps response
+  Responds (Explore file never limit memory steps) response =
+      (ran ≡ rested) × Explores Reads ReadsInput hears before after quiet heard file never (limits_of limit memory) steps response
+  Responds (Ends file never process limit memory steps) response =
+      (ran ≡ rested) × ExploresEnds Reads ReadsInput hears before after quiet heard file never process (limits_of limit memory) steps response
   Responds (Lasso file prefix cycle) response =
       (ran ≡ rested) × (heard ≡ quiet) × Lassoes Reads ReadsInput before after file prefix cycle response
   Responds (Hunt file never seed runs from steps is_uniform jobs) response =
@@ -76,8 +81,8 @@ module _ {F M W : Type 0} (Reads : ReadsOf F) (ReadsInput : ReadsInputOf F) (Ran
 
 -- the names of files that a request has
 abbrev pub NamesOf : Asked → List ℕ → Type 0
-NamesOf (Explore file never limit steps) name = name ≡ file
-NamesOf (Ends file never process limit steps) name = name ≡ file
+NamesOf (Explore file never limit memory steps) name = name ≡ file
+NamesOf (Ends file never process limit memory steps) name = name ≡ file
 NamesOf (Lasso file prefix cycle) name = IsOfThree file prefix cycle name
 NamesOf (Hunt file never seed runs from steps is_uniform jobs) name = name ≡ file
 NamesOf (Runs file times turns) name = name ≡ file

@@ -1,42 +1,43 @@
 -- What is found of a program under every schedule, what is shown of it, and what a watch hears on the way.
-use Rattle.std.specs.Prelude.{◌≡◌, ◌++◌, ℕ, Bool, true, false, List, length}
+use Rattle.std.specs.Prelude.{◌≡◌, ◌+◌, ◌++◌, ℕ, Bool, true, false, List, length}
 use Rattle.base.specs.Plain.{Name, WholeProgram}
 use Rattle.language_properties.specs.Properties.{Formula}
 use Rattle.language_properties.specs.Values.{Valued}
 use Rattle.tick_kinds.specs.Resolution.{resolved}
+use Rattle.searches_states.specs.declared.limits.Limits.{Limits}
 use Rattle.searches_hunt.specs.Never.{IsMinimalBroken, IsMinimalTrapped}
 use Rattle.ticklab_line.specs.declared.commands.Steps.{Steps}
 use Rattle.ticklab_line.specs.declared.commands.Steps.TheVariants.{MergedFirst, Single, Merged}
 use Rattle.ticklab_answers.specs.Asking.{TextPlace}
 use Rattle.ticklab_answers.specs.BySteps.{BrokenBy, LimitBy, SafeBy, TrapBy, break_line_by, line_by}
-use Rattle.ticklab_answers.specs.Hearing.{Heard, IsSearchHeard}
+use Rattle.ticklab_answers.specs.Hearing.{Heard, IsSearchHeard, IsSearchHeardToEnd}
 use Rattle.ticklab_answers.specs.Lines.{minimal_break_line, minimal_line}
 use Rattle.ticklab_answers.specs.Shown.{ShowsBroken, ShowsLimit, ShowsSafe, ShowsTrap}
 use Rattle.ticklab_answers.specs.declared.response.Response.{Response}
 
 -- By steps of this kind nothing is wrong under any schedule, there are so many states, and all of them are gone.
-pub record IsQuiet (is_merged : Bool) (a : WholeProgram ℕ) (lines : List Formula) (limit states : ℕ) (heard : List Heard) : Type 0 where
-  pub safe : SafeBy is_merged a lines limit states
-  pub on_the_way : IsSearchHeard is_merged a lines states heard
+pub record IsQuiet (is_merged : Bool) (a : WholeProgram ℕ) (lines : List Formula) (limits : Limits) (states : ℕ) (heard : List Heard) : Type 0 where
+  pub safe : SafeBy is_merged a lines limits states
+  pub on_the_way : IsSearchHeardToEnd is_merged a lines states states states heard
 
--- There are more states than the limit.
-pub record MeetsLimit (is_merged : Bool) (a : WholeProgram ℕ) (lines : List Formula) (limit states : ℕ) (heard : List Heard) : Type 0 where
-  pub more : LimitBy is_merged a lines limit states
+-- A limit is met, and there are more states than these.
+pub record MeetsLimit (is_merged : Bool) (a : WholeProgram ℕ) (lines : List Formula) (limits : Limits) (states : ℕ) (heard : List Heard) : Type 0 where
+  pub more : LimitBy is_merged a lines limits states
   pub gone : ℕ
-  pub on_the_way : IsSearchHeard is_merged a lines gone heard
+  pub on_the_way : IsSearchHeardToEnd is_merged a lines (gone + 1) states gone heard
 
--- Of the program that an input is, where these lines, which stand at these places, must never hold; as far as there are
--- at most so many states.
-module _ (input : List ℕ) (a : WholeProgram Name) (lines : List Formula) (places : List TextPlace) (limit : ℕ) where
+-- Of the program that an input is, where these lines, which stand at these places, must never hold; as far as these
+-- limits let a search go.
+module _ (input : List ℕ) (a : WholeProgram Name) (lines : List Formula) (places : List TextPlace) (limits : Limits) where
   pub record TellsSafe (is_merged : Bool) (response : Response) (heard : List Heard) : Type 0 where
     pub states : ℕ
-    pub quiet : IsQuiet is_merged (resolved a) lines limit states heard
+    pub quiet : IsQuiet is_merged (resolved a) lines limits states heard
     pub shown : ShowsSafe is_merged (length places) states response
 
   pub record TellsLimit (is_merged : Bool) (response : Response) (heard : List Heard) : Type 0 where
     pub states : ℕ
-    pub meets : MeetsLimit is_merged (resolved a) lines limit states heard
-    pub shown : ShowsLimit is_merged states response
+    pub meets : MeetsLimit is_merged (resolved a) lines limits states heard
+    pub shown : ShowsLimit is_merged limits states response
 
   -- A process traps or a line breaks under a schedule; by single steps it is a shortest.
   pub data TellsFault (is_merged : Bool) (response : Response) (heard : List Heard) : Type 0 where
@@ -53,14 +54,14 @@ module _ (input : List ℕ) (a : WholeProgram Name) (lines : List Formula) (plac
     unknown : TellsLimit is_merged response heard → IsFoundBy is_merged response heard
     fault : TellsFault is_merged response heard → IsFoundBy is_merged response heard
 
-  -- What is told of a fault that merged steps have found: a shortest schedule, by single steps; where these meet the
+  -- What is told of a fault that merged steps have found: a shortest schedule, by single steps; where these meet a
   -- limit, a schedule that needs all its steps.
   pub data TellsShortest (response : Response) (heard : List Heard) : Type 0 where
     shortest : TellsFault false response heard → TellsShortest response heard
-    minimal_trap : (states : ℕ) → MeetsLimit false (resolved a) lines limit states heard
+    minimal_trap : (states : ℕ) → MeetsLimit false (resolved a) lines limits states heard
         → (schedule : List ℕ) → IsMinimalTrapped (resolved a) lines schedule
         → ShowsTrap minimal_line input a schedule response → TellsShortest response heard
-    minimal_break : (states : ℕ) → MeetsLimit false (resolved a) lines limit states heard
+    minimal_break : (states : ℕ) → MeetsLimit false (resolved a) lines limits states heard
         → (schedule : List ℕ) (line : ℕ) (v : Valued) → IsMinimalBroken (resolved a) lines schedule line v
         → ShowsBroken minimal_break_line input a places schedule line v response → TellsShortest response heard
 

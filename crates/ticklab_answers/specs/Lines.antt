@@ -8,6 +8,7 @@ use Rattle.language_schedules.specs.Written.{schedule_text}
 use Rattle.language_schedules.specs.declared.schedule.ScheduleFault.{ScheduleFault}
 use Rattle.language_schedules.specs.declared.schedule.ScheduleFault.TheVariants.{BadItem, NoSuchProcess, TooLong, NoMemory}
 use Rattle.tick_play.specs.Lines.{trap_text}
+use Rattle.searches_states.specs.declared.limits.Limits.{Limits}
 use Rattle.searches_states.specs.declared.must_stop.MustStop.{MustStop}
 use Rattle.searches_states.specs.declared.must_stop.MustStop.TheVariants.{All, Each}
 use Rattle.searches_hunt.specs.declared.plan.Plan.{Plan}
@@ -68,13 +69,19 @@ safe_line is_merged lines states = safe_text lines ++ codes " under any schedule
 abbrev pub more_text : Bool → ℕ → List ℕ
 more_text is_merged states = codes "there are more than " ++ states_text is_merged states
 
--- what may help
-abbrev pub next_line : Bool → List ℕ
-next_line true = codes "try a larger --limit, hunt, or fewer processes or rounds\n"
-next_line false = codes "try it without --single, a larger --limit, hunt, or fewer processes or rounds\n"
+-- what may help: more of what was met, which is the limit of states where as many are told
+abbrev pub larger_text : Limits → ℕ → List ℕ
+larger_text limits states = if states == limits.states then codes "a larger --limit" else codes "a larger --memory"
 
-abbrev pub limit_line : Bool → ℕ → List ℕ
-limit_line is_merged states = more_text is_merged states ++ codes ": nothing is said of all schedules\n" ++ next_line is_merged
+abbrev pub try_text : Bool → List ℕ
+try_text true = codes "try "
+try_text false = codes "try it without --single, "
+
+abbrev pub next_line : Bool → Limits → ℕ → List ℕ
+next_line is_merged limits states = try_text is_merged ++ larger_text limits states ++ codes ", hunt, or fewer processes or rounds\n"
+
+abbrev pub limit_line : Bool → Limits → ℕ → List ℕ
+limit_line is_merged limits states = more_text is_merged states ++ codes ": nothing is said of all schedules\n" ++ next_line is_merged limits states
 
 -- how many runs of a plan there are from this one on, of which the last is 4294967294; and what they are
 abbrev pub runs_from : Plan → ℕ → ℕ
@@ -182,11 +189,14 @@ can_end_line is_merged lines asked states =
     if is_nobody asked then ends_line is_merged lines asked states
     else (can_end_text is_merged lines asked states ++ unknown_text is_merged ++ codes "\n")
 
+-- what may help where single steps met a limit
+abbrev pub half_next : Limits → ℕ → List ℕ
+half_next limits others = codes "\ntry " ++ larger_text limits others ++ codes ", or fewer processes or rounds\n"
+
 -- the same of merged steps, where by single ones there are more states than this
-abbrev pub half_line : ℕ → MustStop → ℕ → ℕ → List ℕ
-half_line lines asked states limit =
-    can_end_text true lines asked states ++ codes "found out: " ++ more_text false limit
-    ++ codes "\ntry a larger --limit, or fewer processes or rounds\n"
+abbrev pub half_line : ℕ → MustStop → ℕ → Limits → ℕ → List ℕ
+half_line lines asked states limits others =
+    can_end_text true lines asked states ++ codes "found out: " ++ more_text false others ++ half_next limits others
 
 -- they can always end, and under an endless schedule they don't
 abbrev pub endless_line : ℕ → MustStop → List ℕ

@@ -6,6 +6,7 @@ use Rattle.searches_explore.specs.declared.never_answer.NeverExplored.{NeverExpl
 use Rattle.searches_explore.specs.declared.never_answer.NeverExplored.TheVariants.{Trapped, Broken, Safe, Limit}
 use Rattle.searches_explore.specs.declared.end_answer.EndExplored.{EndExplored}
 use Rattle.searches_explore.specs.declared.end_answer.EndExplored.TheVariants as E
+use Rattle.searches_states.specs.declared.limits.Limits.{Limits}
 use Rattle.searches_states.specs.declared.must_stop.MustStop.{MustStop}
 use Rattle.searches_hunt.specs.declared.minimal.Minimal.{Minimal}
 use Rattle.searches_hunt.specs.declared.minimal.Minimal.TheVariants as M
@@ -48,20 +49,20 @@ pub record ShowsBroken (found input : List ℕ) (a : WholeProgram Name) (places 
 abbrev pub ShowsSafe : Bool → ℕ → ℕ → Response → Type 0
 ShowsSafe is_merged lines states = Gives 0 (λ out. out ≡ safe_line is_merged lines states)
 
-abbrev pub ShowsLimit : Bool → ℕ → Response → Type 0
-ShowsLimit is_merged states = Gives 6 (λ out. out ≡ limit_line is_merged states)
+abbrev pub ShowsLimit : Bool → Limits → ℕ → Response → Type 0
+ShowsLimit is_merged limits states = Gives 6 (λ out. out ≡ limit_line is_merged limits states)
 
 -- no process traps, and none of so many lines breaks, in the runs of this plan from this one on
 abbrev pub ShowsNothing : ℕ → Plan → ℕ → Response → Type 0
 ShowsNothing lines plan from = Gives 0 (λ out. out ≡ nothing_line lines plan from)
 
--- by steps of one kind; the lines that must never hold stand at these places
-abbrev pub Shows : Bool → List ℕ → WholeProgram Name → List TextPlace → NeverExplored → Response → Type 0
-Shows is_merged input a places (Trapped schedule) response = ShowsTrap (line_by is_merged) input a schedule.items response
-Shows is_merged input a places (Broken schedule line v) response =
+-- by steps of one kind, within these limits; the lines that must never hold stand at these places
+abbrev pub Shows : Bool → List ℕ → WholeProgram Name → List TextPlace → Limits → NeverExplored → Response → Type 0
+Shows is_merged input a places limits (Trapped schedule) response = ShowsTrap (line_by is_merged) input a schedule.items response
+Shows is_merged input a places limits (Broken schedule line v) response =
     ShowsBroken (break_line_by is_merged) input a places schedule.items line v response
-Shows is_merged input a places (Safe states) response = ShowsSafe is_merged (length places) states response
-Shows is_merged input a places (Limit states) response = ShowsLimit is_merged states response
+Shows is_merged input a places limits (Safe states) response = ShowsSafe is_merged (length places) states response
+Shows is_merged input a places limits (Limit states) response = ShowsLimit is_merged limits states response
 
 -- a schedule that needs all its steps
 abbrev pub ShowsMinimal : List ℕ → WholeProgram Name → List TextPlace → Minimal → Response → Type 0
@@ -90,23 +91,23 @@ abbrev pub ShowsCanEnd : Bool → ℕ → MustStop → ℕ → Response → Type
 ShowsCanEnd is_merged lines asked states = Gives 0 (λ out. out ≡ can_end_line is_merged lines asked states)
 
 -- by merged steps they can, and by single ones there are more states than this
-abbrev pub ShowsHalf : ℕ → MustStop → ℕ → ℕ → Response → Type 0
-ShowsHalf lines asked states limit = Gives 6 (λ out. out ≡ half_line lines asked states limit)
+abbrev pub ShowsHalf : ℕ → MustStop → ℕ → Limits → ℕ → Response → Type 0
+ShowsHalf lines asked states limits others = Gives 6 (λ out. out ≡ half_line lines asked states limits others)
 
 -- the lines that must never hold stand at these places
-abbrev pub ShowsEnds : Bool → MustStop → List ℕ → WholeProgram Name → List TextPlace → EndExplored → Response → Type 0
-ShowsEnds is_merged asked input a places (E.Trapped schedule) response = ShowsTrap (line_by is_merged) input a schedule.items response
-ShowsEnds is_merged asked input a places (E.Broken schedule line v) response =
+abbrev pub ShowsEnds : Bool → MustStop → List ℕ → WholeProgram Name → List TextPlace → Limits → EndExplored → Response → Type 0
+ShowsEnds is_merged asked input a places limits (E.Trapped schedule) response = ShowsTrap (line_by is_merged) input a schedule.items response
+ShowsEnds is_merged asked input a places limits (E.Broken schedule line v) response =
     ShowsBroken (break_line_by is_merged) input a places schedule.items line v response
-ShowsEnds is_merged asked input a places (E.Stuck schedule lead_in cycle states) response =
+ShowsEnds is_merged asked input a places limits (E.Stuck schedule lead_in cycle states) response =
     ShowsStuck is_merged (length places) asked input a schedule.items lead_in.items cycle.items response
-ShowsEnds is_merged asked input a places (E.Endless prefix cycle states) response =
+ShowsEnds is_merged asked input a places limits (E.Endless prefix cycle states) response =
     ShowsEndless (length places) asked input a prefix.items cycle.items response
-ShowsEnds is_merged asked input a places (E.Ends states) response = ShowsAllEnd (length places) asked states response
-ShowsEnds is_merged asked input a places (E.CanEnd states) response = ShowsCanEnd is_merged (length places) asked states response
-ShowsEnds is_merged asked input a places (E.Limit states) response = ShowsLimit is_merged states response
+ShowsEnds is_merged asked input a places limits (E.Ends states) response = ShowsAllEnd (length places) asked states response
+ShowsEnds is_merged asked input a places limits (E.CanEnd states) response = ShowsCanEnd is_merged (length places) asked states response
+ShowsEnds is_merged asked input a places limits (E.Limit states) response = ShowsLimit is_merged limits states response
 
 -- what merged steps find, where by single ones there are more states than this
-abbrev pub ShowsHalved : MustStop → List ℕ → WholeProgram Name → List TextPlace → ℕ → EndExplored → Response → Type 0
-ShowsHalved asked input a places limit (E.CanEnd states) response = ShowsHalf (length places) asked states limit response
-ShowsHalved asked input a places limit e response = ShowsEnds true asked input a places e response
+abbrev pub ShowsHalved : MustStop → List ℕ → WholeProgram Name → List TextPlace → Limits → ℕ → EndExplored → Response → Type 0
+ShowsHalved asked input a places limits others (E.CanEnd states) response = ShowsHalf (length places) asked states limits others response
+ShowsHalved asked input a places limits others e response = ShowsEnds true asked input a places limits e response

@@ -2,7 +2,7 @@
 ghost use Rattle.std.specs.Prelude.{◌≡◌, IfErr, IfOk};
 ghost use Rattle.std.specs.Vec.Iter.{into_iter_items};
 ghost use Rattle.ticklab_line.specs.Commands.{plain_request};
-ghost use Rattle.ticklab_answers.specs.Answers.{GivesWords, IsOfWordsOrFile, NamesOf, Responds, RespondsToWords};
+ghost use Rattle.ticklab_answers.specs.Answers.{GivesWords, IsOfWordsOrFile, NamesOf, Responds, RespondsToWords, limits_of};
 ghost use Rattle.ticklab_answers.specs.Faults.{IsOfFileThat, IsOfWords};
 ghost use Rattle.ticklab_answers.specs.Hearing.{hearing};
 
@@ -30,6 +30,7 @@ pub use hunting::{hunted, plan_of};
 pub use labels::labelled;
 pub use lasso::lassoed;
 pub use paging::paged;
+use searches_explore::Limits;
 use searches_hunt::Trials;
 use std::alloc::Global;
 use std::env::Args;
@@ -64,6 +65,16 @@ pub fn response_to<F: Files, M: Runner, T: Trials, W: Progress>(
     }
 }
 
+// So many states, in so many megabytes.
+fn limits_of(states: u32, megabytes: u32) -> Limits
+    ensures { result ≡ limits_of states megabytes }
+{
+    Limits {
+        states,
+        bytes: u64::from(megabytes) * 1_000_000,
+    }
+}
+
 fn answered<F: Files, M: Runner, T: Trials, W: Progress>(
     alloc: Global,
     files: &mut F,
@@ -80,17 +91,23 @@ fn answered<F: Files, M: Runner, T: Trials, W: Progress>(
             file,
             never,
             limit,
+            memory,
             steps,
-        } => explored(alloc, files, progress, file, &never, limit, steps),
+        } => {
+            let limits = limits_of(limit, memory);
+            explored(alloc, files, progress, file, &never, limits, steps)
+        }
         Request::Ends {
             file,
             never,
             process,
             limit,
+            memory,
             steps,
         } => {
             let never = never.as_slice();
-            explored_ends(alloc, files, progress, file, never, process, limit, steps)
+            let limits = limits_of(limit, memory);
+            explored_ends(alloc, files, progress, file, never, process, limits, steps)
         }
         Request::Lasso {
             file,

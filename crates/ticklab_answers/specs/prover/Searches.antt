@@ -7,6 +7,7 @@ use Rattle.searches_states.specs.Watching.{Told}
 use Rattle.searches_explore.specs.Lines.{lines_of}
 use Rattle.searches_explore.specs.Never.{AreToldFor, IfBroken, IfFault, IfLimit, IfSafe, IfTrapped}
 use Rattle.searches_explore.specs.declared.never_answer.NeverExplored.{NeverExplored}
+use Rattle.searches_states.specs.declared.limits.Limits.{Limits}
 use Rattle.searches_states.specs.declared.must_stop.MustStop.{MustStop}
 use Rattle.searches_explore.specs.Ending.{CanAlwaysEnd, EndsIfFair, GoesOn, IfCanEnd, IfEndless, IfEnds, IfLoop, IfStuck, IsEndlessBy, IsLoopAfter, never_answer}
 use Rattle.searches_explore.specs.declared.end_answer.EndExplored.{EndExplored}
@@ -39,29 +40,29 @@ states_of (E.CanEnd states) = states
 states_of e = 0
 
 -- what holds of the answer
-pub record IsKnownBy (m : Bool) (a : WholeProgram ℕ) (lines : List Property) (limit : ℕ) (e : NeverExplored) : Type 0 where
+pub record IsKnownBy (m : Bool) (a : WholeProgram ℕ) (lines : List Property) (limits : Limits) (e : NeverExplored) : Type 0 where
   pub trapped : IfTrapped e (TrapBy m a (lines_of lines))
   pub broken : IfBroken e (BrokenBy m a (lines_of lines))
-  pub safe : IfSafe e (SafeBy m a (lines_of lines) limit)
-  pub at_limit : IfLimit e (LimitBy m a (lines_of lines) limit)
+  pub safe : IfSafe e (SafeBy m a (lines_of lines) limits)
+  pub at_limit : IfLimit e (LimitBy m a (lines_of lines) limits)
   pub lawful : IfFault e (All (λ p. p < a.processes))
   pub within : IfBroken e (λ schedule line v. line < length lines)
 
-pub record IsSearchedBy (m : Bool) (a : WholeProgram ℕ) (lines : List Property) (limit : ℕ) {W : Type 0} (hears : HearsOf W) (before after : W)
+pub record IsSearchedBy (m : Bool) (a : WholeProgram ℕ) (lines : List Property) (limits : Limits) {W : Type 0} (hears : HearsOf W) (before after : W)
     (e : NeverExplored) : Type 0 where
-  pub known : IsKnownBy m a lines limit e
+  pub known : IsKnownBy m a lines limits e
   pub watched : IsHeard hears before after (AreHeardFor m a lines e)
 
 -- The same where these processes have to end. By merged steps no endless schedule is found, nor that there is none.
-pub record AreEndsKnownBy (m : Bool) (a : WholeProgram ℕ) (lines : List Property) (asked : MustStop) (limit : ℕ) (e : EndExplored) : Type 0 where
-  pub never : IsKnownBy m a lines limit (never_answer e)
+pub record AreEndsKnownBy (m : Bool) (a : WholeProgram ℕ) (lines : List Property) (asked : MustStop) (limits : Limits) (e : EndExplored) : Type 0 where
+  pub never : IsKnownBy m a lines limits (never_answer e)
   pub blocked : IfStuck e (StuckBy m a asked)
   pub loops : IfLoop e (IsLoopAfter a)
   pub can : IfCanEnd e (CanAlwaysEnd a asked)
   pub endless : IfEndless e (λ prefix cycle. (m ≡ false) × IsEndlessBy a asked prefix cycle × GoesOn a asked prefix cycle)
   pub ends : IfEnds e ((m ≡ false) × EndsIfFair a asked)
 
-pub record AreEndsSearchedBy (m : Bool) (a : WholeProgram ℕ) (lines : List Property) (asked : MustStop) (limit : ℕ) {W : Type 0} (hears : HearsOf W)
+pub record AreEndsSearchedBy (m : Bool) (a : WholeProgram ℕ) (lines : List Property) (asked : MustStop) (limits : Limits) {W : Type 0} (hears : HearsOf W)
     (before after : W) (e : EndExplored) : Type 0 where
-  pub known : AreEndsKnownBy m a lines asked limit e
+  pub known : AreEndsKnownBy m a lines asked limits e
   pub watched : IsHeard hears before after (AreHeardFor m a lines (never_answer e))

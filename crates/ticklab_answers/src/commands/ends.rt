@@ -30,7 +30,7 @@ use crate::trapping::{broken_shown, trap_shown};
 use base::{NoMemory, set_at};
 use language_questions::Ends;
 pub use loops::loop_shown;
-use searches_explore::{EndExplored, MustStop, explore_ends, explore_ends_merged};
+use searches_explore::{EndExplored, Limits, MustStop, explore_ends, explore_ends_merged};
 use std::alloc::Global;
 use ticketc_refusals::SpelledProgram;
 use ticklab_line::Steps;
@@ -40,8 +40,8 @@ use wording::{
 };
 
 /// Whether those processes of the program end that its file asks, or this one: after every schedule, whether they still
-/// can, and whether they do where each process that runs steps again and again; as far as the program has at most
-/// `limit` states. A trap is told first, and a line `#! never` of the file that breaks, or one of these texts that are
+/// can, and whether they do where each process that runs steps again and again; as far as `limits` let a
+/// search go. A trap is told first, and a line `#! never` of the file that breaks, or one of these texts that are
 /// the same. By merged steps alone only the first is asked. The progress is told of each search.
 pub fn explored_ends<F: Files, W: Progress>(
     alloc: Global,
@@ -50,10 +50,10 @@ pub fn explored_ends<F: Files, W: Progress>(
     file: &str,
     never: &[&str],
     process: Option<u8>,
-    limit: u32,
+    limits: Limits,
     steps: Steps,
 ) -> Result<Response, LabFault>
-    ensures ok { IfOk result (ExploresEnds F.Reads F.ReadsInput (hearing W.begins W.hears) files.old files.new progress.old progress.new file.now (texts_of never.now) process limit steps) }
+    ensures ok { IfOk result (ExploresEnds F.Reads F.ReadsInput (hearing W.begins W.hears) files.old files.new progress.old progress.new file.now (texts_of never.now) process limits steps) }
     ensures err { IfErr result (IsOfFile file.now) }
 {
     let input = bytes_of(alloc, files, file)?;
@@ -63,7 +63,7 @@ pub fn explored_ends<F: Files, W: Progress>(
         never,
         input.as_slice(),
         process,
-        limit,
+        limits,
         steps,
         progress,
     );
@@ -76,18 +76,18 @@ fn all_ends<W: Progress>(
     never: &[&str],
     input: &[u8],
     process: Option<u8>,
-    limit: u32,
+    limits: Limits,
     steps: Steps,
     progress: &mut W,
 ) -> Result<Response, NoAnswer>
-    ensures ok { IfOk result (λ response. IsHeard (hearing W.begins W.hears) progress.old progress.new (IsEndsExplored steps name.now (texts_of never.now) process limit input.now response)) }
+    ensures ok { IfOk result (λ response. IsHeard (hearing W.begins W.hears) progress.old progress.new (IsEndsExplored steps name.now (texts_of never.now) process limits input.now response)) }
     ensures refused { IfErr result (λ stop. IfRefused stop (λ report. IsEndsRefused name.now (texts_of never.now) process input.now report × (progress.old ≡ progress.new))) }
 {
     let (spelled, questions) = spelled_program_of(alloc, name, input)?;
     let asked = asked_of(alloc, questions.ends, process, spelled.program.processes())?;
     let lines = never_lines(alloc, name, input, &spelled.program, questions, never)?;
     Ok(ends_found(
-        alloc, asked, &spelled, input, &lines, limit, steps, progress,
+        alloc, asked, &spelled, input, &lines, limits, steps, progress,
     )?)
 }
 
@@ -98,18 +98,18 @@ pub fn ends_found<W: Progress>(
     spelled: &SpelledProgram,
     input: &[u8],
     lines: &NeverLines<'_>,
-    limit: u32,
+    limits: Limits,
     steps: Steps,
     progress: &mut W,
 ) -> Result<Response, NoMemory>
     requires program { SpelledIn input.now spelled.now }
     requires as_many { length lines.now.properties.items ≡ length lines.now.places.items }
-    ensures { IfOk result (λ response. IsHeard (hearing W.begins W.hears) progress.old progress.new (IsEndsFound input.now spelled.now.program (lines_of lines.now.properties.items) (map place_of lines.now.places.items) limit asked steps response)) }
+    ensures { IfOk result (λ response. IsHeard (hearing W.begins W.hears) progress.old progress.new (IsEndsFound input.now spelled.now.program (lines_of lines.now.properties.items) (map place_of lines.now.places.items) limits asked steps response)) }
 {
     match steps {
-        Steps::MergedFirst => found_first(alloc, asked, spelled, input, lines, limit, progress),
-        Steps::Single => found_by(alloc, asked, spelled, input, lines, limit, false, progress),
-        Steps::Merged => found_by(alloc, asked, spelled, input, lines, limit, true, progress),
+        Steps::MergedFirst => found_first(alloc, asked, spelled, input, lines, limits, progress),
+        Steps::Single => found_by(alloc, asked, spelled, input, lines, limits, false, progress),
+        Steps::Merged => found_by(alloc, asked, spelled, input, lines, limits, true, progress),
     }
 }
 
@@ -120,16 +120,18 @@ fn found_by<W: Progress>(
     spelled: &SpelledProgram,
     input: &[u8],
     lines: &NeverLines<'_>,
-    limit: u32,
+    limits: Limits,
     is_merged: bool,
     progress: &mut W,
 ) -> Result<Response, NoMemory>
     requires program { SpelledIn input.now spelled.now }
     requires as_many { length lines.now.properties.items ≡ length lines.now.places.items }
-    ensures { IfOk result (λ response. IsHeard (hearing W.begins W.hears) progress.old progress.new (IsEndsFoundBy input.now spelled.now.program (lines_of lines.now.properties.items) (map place_of lines.now.places.items) limit asked is_merged response)) }
+    ensures { IfOk result (λ response. IsHeard (hearing W.begins W.hears) progress.old progress.new (IsEndsFoundBy input.now spelled.now.program (lines_of lines.now.properties.items) (map place_of lines.now.places.items) limits asked is_merged response)) }
 {
-    let explored = explored_by(alloc, spelled, lines, asked, limit, is_merged, progress)?;
-    shown(alloc, is_merged, asked, spelled, input, lines, explored)
+    let explored = explored_by(alloc, spelled, lines, asked, limits, is_merged, progress)?;
+    shown(
+        alloc, is_merged, asked, spelled, input, lines, limits, explored,
+    )
 }
 
 // By merged steps first, and by single ones where these tell more.
@@ -139,22 +141,24 @@ fn found_first<W: Progress>(
     spelled: &SpelledProgram,
     input: &[u8],
     lines: &NeverLines<'_>,
-    limit: u32,
+    limits: Limits,
     progress: &mut W,
 ) -> Result<Response, NoMemory>
     requires program { SpelledIn input.now spelled.now }
     requires as_many { length lines.now.properties.items ≡ length lines.now.places.items }
-    ensures { IfOk result (λ response. IsHeard (hearing W.begins W.hears) progress.old progress.new (IsEndsFoundFirst input.now spelled.now.program (lines_of lines.now.properties.items) (map place_of lines.now.places.items) limit asked response)) }
+    ensures { IfOk result (λ response. IsHeard (hearing W.begins W.hears) progress.old progress.new (IsEndsFoundFirst input.now spelled.now.program (lines_of lines.now.properties.items) (map place_of lines.now.places.items) limits asked response)) }
 {
     if is_nobody(asked) {
-        return found_by(alloc, asked, spelled, input, lines, limit, true, progress);
+        return found_by(alloc, asked, spelled, input, lines, limits, true, progress);
     }
-    let explored = explored_by(alloc, spelled, lines, asked, limit, true, progress)?;
+    let explored = explored_by(alloc, spelled, lines, asked, limits, true, progress)?;
     match fault_of(explored) {
-        Ok(schedule) => shortest_found(alloc, spelled, input, lines, schedule, limit, progress),
+        Ok(schedule) => shortest_found(alloc, spelled, input, lines, schedule, limits, progress),
         Err(merged) => match limit_of(&merged) {
-            Some(_) => shown(alloc, true, asked, spelled, input, lines, merged),
-            None => more_found(alloc, asked, spelled, input, lines, limit, merged, progress),
+            Some(_) => shown(alloc, true, asked, spelled, input, lines, limits, merged),
+            None => more_found(
+                alloc, asked, spelled, input, lines, limits, merged, progress,
+            ),
         },
     }
 }
@@ -170,7 +174,7 @@ fn fault_of(explored: EndExplored) -> Result<Vec<u8>, EndExplored>
     }
 }
 
-// How many states there are more of, where the search met its limit.
+// How many states there are more of, where the search met a limit.
 fn limit_of(explored: &EndExplored) -> Option<u32>
     ensures { MatchOption result (is_end_limit explored.now ≡ false) (λ states. explored.now ≡ EndExplored.Limit states) }
 {
@@ -180,7 +184,7 @@ fn limit_of(explored: &EndExplored) -> Option<u32>
     }
 }
 
-// What single steps find of ends, where merged ones have found nothing wrong and this of ends; where single ones meet the
+// What single steps find of ends, where merged ones have found nothing wrong and this of ends; where single ones meet a
 // limit, what merged ones have found.
 fn more_found<W: Progress>(
     alloc: Global,
@@ -188,21 +192,21 @@ fn more_found<W: Progress>(
     spelled: &SpelledProgram,
     input: &[u8],
     lines: &NeverLines<'_>,
-    limit: u32,
+    limits: Limits,
     merged: EndExplored,
     progress: &mut W,
 ) -> Result<Response, NoMemory>
     requires program { SpelledIn input.now spelled.now }
     requires as_many { length lines.now.properties.items ≡ length lines.now.places.items }
-    requires known { AreEndsKnownBy true (resolved spelled.now.program) lines.now.properties.items asked limit merged }
+    requires known { AreEndsKnownBy true (resolved spelled.now.program) lines.now.properties.items asked limits merged }
     requires quiet { IfFault (never_answer merged) (λ schedule. ⊥) }
     requires seen { is_end_limit merged ≡ false }
-    ensures { IfOk result (λ response. IsHeard (hearing W.begins W.hears) progress.old progress.new (TellsMore input.now spelled.now.program (lines_of lines.now.properties.items) (map place_of lines.now.places.items) limit asked (states_of merged) response)) }
+    ensures { IfOk result (λ response. IsHeard (hearing W.begins W.hears) progress.old progress.new (TellsMore input.now spelled.now.program (lines_of lines.now.properties.items) (map place_of lines.now.places.items) limits asked (states_of merged) response)) }
 {
-    let single = explored_by(alloc, spelled, lines, asked, limit, false, progress)?;
+    let single = explored_by(alloc, spelled, lines, asked, limits, false, progress)?;
     match limit_of(&single) {
-        Some(states) => half_shown(alloc, asked, spelled, input, lines, merged, states),
-        None => shown(alloc, false, asked, spelled, input, lines, single),
+        Some(others) => half_shown(alloc, asked, spelled, input, lines, limits, merged, others),
+        None => shown(alloc, false, asked, spelled, input, lines, limits, single),
     }
 }
 
@@ -212,20 +216,20 @@ fn explored_by<W: Progress>(
     spelled: &SpelledProgram,
     lines: &NeverLines<'_>,
     asked: MustStop,
-    limit: u32,
+    limits: Limits,
     is_merged: bool,
     progress: &mut W,
 ) -> Result<EndExplored, NoMemory>
-    ensures { IfOk result (AreEndsSearchedBy is_merged (resolved spelled.now.program) lines.now.properties.items asked limit (hearing W.begins W.hears) progress.old progress.new) }
+    ensures { IfOk result (AreEndsSearchedBy is_merged (resolved spelled.now.program) lines.now.properties.items asked limits (hearing W.begins W.hears) progress.old progress.new) }
 {
     let program = &spelled.program;
     let properties = lines.properties.as_slice();
     progress.begin(is_merged);
     if is_merged {
-        let explored = explore_ends_merged(alloc, program, properties, asked, limit, progress)?;
+        let explored = explore_ends_merged(alloc, program, properties, asked, limits, progress)?;
         return Ok(explored);
     }
-    let explored = explore_ends(alloc, program, properties, asked, limit, progress)?;
+    let explored = explore_ends(alloc, program, properties, asked, limits, progress)?;
     Ok(explored)
 }
 
@@ -282,8 +286,9 @@ fn half_shown(
     spelled: &SpelledProgram,
     input: &[u8],
     lines: &NeverLines<'_>,
+    limits: Limits,
     merged: EndExplored,
-    limit: u32,
+    others: u32,
 ) -> Result<Response, NoMemory>
     requires fault { IfFault (never_answer merged) (All (λ p. p < (resolved spelled.now.program).processes)) }
     requires line { IfBroken (never_answer merged) (λ schedule line v. line < length lines.now.places.items) }
@@ -291,14 +296,14 @@ fn half_shown(
     requires loops { IfLoop merged (λ schedule lead_in cycle. All (λ p. p < (resolved spelled.now.program).processes) lead_in × All (λ p. p < (resolved spelled.now.program).processes) cycle) }
     requires endless { IfEndless merged (λ prefix cycle. All (λ p. p < (resolved spelled.now.program).processes) prefix × All (λ p. p < (resolved spelled.now.program).processes) cycle) }
     requires program { SpelledIn input.now spelled.now }
-    ensures { IfOk result (ShowsHalved asked input.now spelled.now.program (map place_of lines.now.places.items) limit merged) }
+    ensures { IfOk result (ShowsHalved asked input.now spelled.now.program (map place_of lines.now.places.items) limits others merged) }
 {
     match merged {
         EndExplored::CanEnd { states } => {
-            let line = half_line(alloc, lines.places.len(), asked, states, limit)?;
+            let line = half_line(alloc, lines.places.len(), asked, states, limits, others)?;
             Ok(answer(alloc, LIMIT, line))
         }
-        other => shown(alloc, true, asked, spelled, input, lines, other),
+        other => shown(alloc, true, asked, spelled, input, lines, limits, other),
     }
 }
 
@@ -310,6 +315,7 @@ fn shown(
     spelled: &SpelledProgram,
     input: &[u8],
     lines: &NeverLines<'_>,
+    limits: Limits,
     explored: EndExplored,
 ) -> Result<Response, NoMemory>
     requires fault { IfFault (never_answer explored) (All (λ p. p < (resolved spelled.now.program).processes)) }
@@ -318,7 +324,7 @@ fn shown(
     requires loops { IfLoop explored (λ schedule lead_in cycle. All (λ p. p < (resolved spelled.now.program).processes) lead_in × All (λ p. p < (resolved spelled.now.program).processes) cycle) }
     requires endless { IfEndless explored (λ prefix cycle. All (λ p. p < (resolved spelled.now.program).processes) prefix × All (λ p. p < (resolved spelled.now.program).processes) cycle) }
     requires program { SpelledIn input.now spelled.now }
-    ensures { IfOk result (ShowsEnds is_merged asked input.now spelled.now.program (map place_of lines.now.places.items) explored) }
+    ensures { IfOk result (ShowsEnds is_merged asked input.now spelled.now.program (map place_of lines.now.places.items) limits explored) }
 {
     match explored {
         EndExplored::Trapped(schedule) => {
@@ -355,7 +361,7 @@ fn shown(
             Ok(answer(alloc, DONE, line))
         }
         EndExplored::Limit { states } => {
-            let line = limit_line(alloc, is_merged, states)?;
+            let line = limit_line(alloc, is_merged, limits, states)?;
             Ok(answer(alloc, LIMIT, line))
         }
     }

@@ -13,7 +13,7 @@ ghost use Rattle.ticklab_answers.specs.Exploring.{Explores, IsExplored, IsUnexpl
 ghost use Rattle.ticklab_answers.specs.Faults.{IsOfFile};
 ghost use Rattle.ticklab_answers.specs.Found.{IsFound, IsFoundBy, IsFoundFirst, TellsShortest};
 ghost use Rattle.ticklab_answers.specs.Hearing.{IsHeard, hearing};
-ghost use Rattle.ticklab_answers.specs.Lines.{limit_line, more_text, next_line, safe_line, safe_text, states_text};
+ghost use Rattle.ticklab_answers.specs.Lines.{larger_text, limit_line, more_text, next_line, safe_line, safe_text, states_text, try_text};
 ghost use Rattle.ticklab_answers.specs.Shown.{Shows, ShowsMinimal};
 ghost use Rattle.ticklab_answers.specs.Stops.{IfRefused, IsRefusal};
 ghost use Rattle.ticklab_answers.specs.prover.Searches.{IsSearchedBy, is_limit};
@@ -31,7 +31,7 @@ use crate::response::{DONE, LIMIT, Response, answer, settled};
 use crate::stop::NoAnswer;
 use crate::trapping::{broken_shown, trap_shown};
 use base::NoMemory;
-use searches_explore::{NeverExplored, explore_never, explore_never_merged};
+use searches_explore::{Limits, NeverExplored, explore_never, explore_never_merged};
 use searches_hunt::{Minimal, shrink_fault};
 use std::alloc::{AllocError, Global};
 use ticketc_refusals::SpelledProgram;
@@ -49,7 +49,7 @@ const SHORTEST_BREAK: &str =
 const SOME_BREAK: &str = "a #! never line breaks under this schedule:";
 
 /// Whether a process of the program traps under some schedule, or a line `#! never` of the file breaks or one of
-/// these texts that are the same, as far as the program has at most `limit` states. Where a line `#! ends` of the file
+/// these texts that are the same, as far as `limits` let a search go. Where a line `#! ends` of the file
 /// names somebody, what comes of that is asked too. The progress is told of each search. By merged steps the private
 /// ones of a process go with the step before them: there are fewer states, and a schedule that is found need not be a
 /// shortest one.
@@ -59,15 +59,15 @@ pub fn explored<F: Files, W: Progress>(
     progress: &mut W,
     file: &str,
     never: &[&str],
-    limit: u32,
+    limits: Limits,
     steps: Steps,
 ) -> Result<Response, LabFault>
-    ensures ok { IfOk result (Explores F.Reads F.ReadsInput (hearing W.begins W.hears) files.old files.new progress.old progress.new file.now (texts_of never.now) limit steps) }
+    ensures ok { IfOk result (Explores F.Reads F.ReadsInput (hearing W.begins W.hears) files.old files.new progress.old progress.new file.now (texts_of never.now) limits steps) }
     ensures err { IfErr result (IsOfFile file.now) }
 {
     let input = bytes_of(alloc, files, file)?;
     let bytes = input.as_slice();
-    let searched = all_schedules(alloc, file, never, bytes, limit, steps, progress);
+    let searched = all_schedules(alloc, file, never, bytes, limits, steps, progress);
     Ok(ended(alloc, progress, searched)?)
 }
 
@@ -89,11 +89,11 @@ fn all_schedules<W: Progress>(
     name: &str,
     never: &[&str],
     input: &[u8],
-    limit: u32,
+    limits: Limits,
     steps: Steps,
     progress: &mut W,
 ) -> Result<Response, NoAnswer>
-    ensures ok { IfOk result (λ response. IsHeard (hearing W.begins W.hears) progress.old progress.new (IsExplored steps name.now (texts_of never.now) limit input.now response)) }
+    ensures ok { IfOk result (λ response. IsHeard (hearing W.begins W.hears) progress.old progress.new (IsExplored steps name.now (texts_of never.now) limits input.now response)) }
     ensures refused { IfErr result (λ stop. IfRefused stop (λ report. IsUnexplored name.now (texts_of never.now) input.now report × (progress.old ≡ progress.new))) }
 {
     let asked = match asked_program(alloc, name, input, never) {
@@ -104,10 +104,10 @@ fn all_schedules<W: Progress>(
     let lines = &asked.lines;
     if asks_ends(asked.ends) {
         let who = asked_in(asked.ends);
-        let response = ends_found(alloc, who, spelled, input, lines, limit, steps, progress)?;
+        let response = ends_found(alloc, who, spelled, input, lines, limits, steps, progress)?;
         return Ok(response);
     }
-    let response = found(alloc, steps, spelled, input, lines, limit, progress)?;
+    let response = found(alloc, steps, spelled, input, lines, limits, progress)?;
     Ok(response)
 }
 
@@ -118,17 +118,17 @@ fn found<W: Progress>(
     spelled: &SpelledProgram,
     input: &[u8],
     lines: &NeverLines<'_>,
-    limit: u32,
+    limits: Limits,
     progress: &mut W,
 ) -> Result<Response, NoMemory>
     requires program { SpelledIn input.now spelled.now }
     requires as_many { length lines.now.properties.items ≡ length lines.now.places.items }
-    ensures { IfOk result (λ response. IsHeard (hearing W.begins W.hears) progress.old progress.new (IsFound input.now spelled.now.program (lines_of lines.now.properties.items) (map place_of lines.now.places.items) limit steps response)) }
+    ensures { IfOk result (λ response. IsHeard (hearing W.begins W.hears) progress.old progress.new (IsFound input.now spelled.now.program (lines_of lines.now.properties.items) (map place_of lines.now.places.items) limits steps response)) }
 {
     match steps {
-        Steps::MergedFirst => found_first(alloc, spelled, input, lines, limit, progress),
-        Steps::Single => found_by(alloc, false, spelled, input, lines, limit, progress),
-        Steps::Merged => found_by(alloc, true, spelled, input, lines, limit, progress),
+        Steps::MergedFirst => found_first(alloc, spelled, input, lines, limits, progress),
+        Steps::Single => found_by(alloc, false, spelled, input, lines, limits, progress),
+        Steps::Merged => found_by(alloc, true, spelled, input, lines, limits, progress),
     }
 }
 
@@ -139,15 +139,15 @@ fn found_by<W: Progress>(
     spelled: &SpelledProgram,
     input: &[u8],
     lines: &NeverLines<'_>,
-    limit: u32,
+    limits: Limits,
     progress: &mut W,
 ) -> Result<Response, NoMemory>
     requires program { SpelledIn input.now spelled.now }
     requires as_many { length lines.now.properties.items ≡ length lines.now.places.items }
-    ensures { IfOk result (λ response. IsHeard (hearing W.begins W.hears) progress.old progress.new (IsFoundBy input.now spelled.now.program (lines_of lines.now.properties.items) (map place_of lines.now.places.items) limit is_merged response)) }
+    ensures { IfOk result (λ response. IsHeard (hearing W.begins W.hears) progress.old progress.new (IsFoundBy input.now spelled.now.program (lines_of lines.now.properties.items) (map place_of lines.now.places.items) limits is_merged response)) }
 {
-    let explored = explored_by(alloc, spelled, lines, limit, is_merged, progress)?;
-    shown(alloc, is_merged, spelled, input, lines, &explored)
+    let explored = explored_by(alloc, spelled, lines, limits, is_merged, progress)?;
+    shown(alloc, is_merged, spelled, input, lines, limits, &explored)
 }
 
 // By merged steps first, and by single ones where these find a fault.
@@ -156,17 +156,17 @@ fn found_first<W: Progress>(
     spelled: &SpelledProgram,
     input: &[u8],
     lines: &NeverLines<'_>,
-    limit: u32,
+    limits: Limits,
     progress: &mut W,
 ) -> Result<Response, NoMemory>
     requires program { SpelledIn input.now spelled.now }
     requires as_many { length lines.now.properties.items ≡ length lines.now.places.items }
-    ensures { IfOk result (λ response. IsHeard (hearing W.begins W.hears) progress.old progress.new (IsFoundFirst input.now spelled.now.program (lines_of lines.now.properties.items) (map place_of lines.now.places.items) limit response)) }
+    ensures { IfOk result (λ response. IsHeard (hearing W.begins W.hears) progress.old progress.new (IsFoundFirst input.now spelled.now.program (lines_of lines.now.properties.items) (map place_of lines.now.places.items) limits response)) }
 {
-    let explored = explored_by(alloc, spelled, lines, limit, true, progress)?;
+    let explored = explored_by(alloc, spelled, lines, limits, true, progress)?;
     match fault_of(explored) {
-        Ok(schedule) => shortest_found(alloc, spelled, input, lines, schedule, limit, progress),
-        Err(none) => shown(alloc, true, spelled, input, lines, &none),
+        Ok(schedule) => shortest_found(alloc, spelled, input, lines, schedule, limits, progress),
+        Err(none) => shown(alloc, true, spelled, input, lines, limits, &none),
     }
 }
 
@@ -182,29 +182,29 @@ fn fault_of(explored: NeverExplored) -> Result<Vec<u8>, NeverExplored>
 }
 
 /// What is told of a fault that merged steps have found, where this schedule leads to it: a shortest schedule, by single
-/// steps; where these meet the limit, what is left of this one when each step is left out that can be.
+/// steps; where these meet a limit, what is left of this one when each step is left out that can be.
 pub fn shortest_found<W: Progress>(
     alloc: Global,
     spelled: &SpelledProgram,
     input: &[u8],
     lines: &NeverLines<'_>,
     schedule: Vec<u8>,
-    limit: u32,
+    limits: Limits,
     progress: &mut W,
 ) -> Result<Response, NoMemory>
     requires program { SpelledIn input.now spelled.now }
     requires as_many { length lines.now.properties.items ≡ length lines.now.places.items }
     requires lawful { All (λ p. p < (resolved spelled.now.program).processes) schedule.items }
     requires fault { is_fault (lines_of lines.now.properties.items) (source (resolved spelled.now.program) schedule.items) ≡ true }
-    ensures { IfOk result (λ response. IsHeard (hearing W.begins W.hears) progress.old progress.new (TellsShortest input.now spelled.now.program (lines_of lines.now.properties.items) (map place_of lines.now.places.items) limit response)) }
+    ensures { IfOk result (λ response. IsHeard (hearing W.begins W.hears) progress.old progress.new (TellsShortest input.now spelled.now.program (lines_of lines.now.properties.items) (map place_of lines.now.places.items) limits response)) }
 {
-    let explored = explored_by(alloc, spelled, lines, limit, false, progress)?;
+    let explored = explored_by(alloc, spelled, lines, limits, false, progress)?;
     if is_limit(&explored) {
         let properties = lines.properties.as_slice();
         let minimal = shrink_fault(alloc, &spelled.program, properties, schedule)?;
         return minimal_shown(alloc, spelled, input, lines, &minimal);
     }
-    shown(alloc, false, spelled, input, lines, &explored)
+    shown(alloc, false, spelled, input, lines, limits, &explored)
 }
 
 fn is_limit(explored: &NeverExplored) -> bool
@@ -221,20 +221,20 @@ fn explored_by<W: Progress>(
     alloc: Global,
     spelled: &SpelledProgram,
     lines: &NeverLines<'_>,
-    limit: u32,
+    limits: Limits,
     is_merged: bool,
     progress: &mut W,
 ) -> Result<NeverExplored, NoMemory>
-    ensures { IfOk result (IsSearchedBy is_merged (resolved spelled.now.program) lines.now.properties.items limit (hearing W.begins W.hears) progress.old progress.new) }
+    ensures { IfOk result (IsSearchedBy is_merged (resolved spelled.now.program) lines.now.properties.items limits (hearing W.begins W.hears) progress.old progress.new) }
 {
     let program = &spelled.program;
     let properties = lines.properties.as_slice();
     progress.begin(is_merged);
     if is_merged {
-        let explored = explore_never_merged(alloc, program, properties, limit, progress)?;
+        let explored = explore_never_merged(alloc, program, properties, limits, progress)?;
         return Ok(explored);
     }
-    let explored = explore_never(alloc, program, properties, limit, progress)?;
+    let explored = explore_never(alloc, program, properties, limits, progress)?;
     Ok(explored)
 }
 
@@ -245,12 +245,13 @@ fn shown(
     spelled: &SpelledProgram,
     input: &[u8],
     lines: &NeverLines<'_>,
+    limits: Limits,
     explored: &NeverExplored,
 ) -> Result<Response, NoMemory>
     requires schedule { IfFault explored.now (All (λ p. p < (resolved spelled.now.program).processes)) }
     requires line { IfBroken explored.now (λ schedule line v. line < length lines.now.places.items) }
     requires program { SpelledIn input.now spelled.now }
-    ensures { IfOk result (Shows is_merged input.now spelled.now.program (map place_of lines.now.places.items) explored.now) }
+    ensures { IfOk result (Shows is_merged input.now spelled.now.program (map place_of lines.now.places.items) limits explored.now) }
 {
     match explored {
         NeverExplored::Safe { states } => {
@@ -270,7 +271,7 @@ fn shown(
             broken_shown(alloc, found, spelled, input, lines, schedule, *line, *value)
         }
         NeverExplored::Limit { states } => {
-            let line = limit_line(alloc, is_merged, *states)?;
+            let line = limit_line(alloc, is_merged, limits, *states)?;
             Ok(answer(alloc, LIMIT, line))
         }
     }
@@ -366,15 +367,36 @@ pub fn push_more(text: &mut String, is_merged: bool, states: u32) -> Result<(), 
     Ok(())
 }
 
-// What may help where there are more states than the limit.
-fn next_line(is_merged: bool) -> &'static str
-    ensures { result.now ≡ next_line is_merged }
+/// What may help where this limit was met, as so many states are told.
+pub fn larger(limits: Limits, states: u32) -> &'static str
+    ensures { result.now ≡ larger_text limits states }
 {
     either(
-        is_merged,
-        "try a larger --limit, hunt, or fewer processes or rounds\n",
-        "try it without --single, a larger --limit, hunt, or fewer processes or rounds\n",
+        states == limits.states,
+        "a larger --limit",
+        "a larger --memory",
     )
+}
+
+fn try_text(is_merged: bool) -> &'static str
+    ensures { result.now ≡ try_text is_merged }
+{
+    either(is_merged, "try ", "try it without --single, ")
+}
+
+// Adds what may help where a limit was met.
+fn push_next(
+    line: &mut String,
+    is_merged: bool,
+    limits: Limits,
+    states: u32,
+) -> Result<(), AllocError>
+    ensures { OnOk result (string_bytes line.new ≡ string_bytes line.old ++ next_line is_merged limits states) }
+{
+    line.push_str(try_text(is_merged))?;
+    line.push_str(larger(limits, states))?;
+    line.push_str(", hunt, or fewer processes or rounds\n")?;
+    Ok(())
 }
 
 /// The first text where this holds, else the other.
@@ -384,12 +406,17 @@ pub fn either(first: bool, one: &'static str, other: &'static str) -> &'static s
     if first { one } else { other }
 }
 
-pub fn limit_line(alloc: Global, is_merged: bool, states: u32) -> Result<String, AllocError>
-    ensures { IfOk result (λ line. string_bytes line ≡ limit_line is_merged states) }
+pub fn limit_line(
+    alloc: Global,
+    is_merged: bool,
+    limits: Limits,
+    states: u32,
+) -> Result<String, AllocError>
+    ensures { IfOk result (λ line. string_bytes line ≡ limit_line is_merged limits states) }
 {
     let mut line = String::new(alloc);
     push_more(&mut line, is_merged, states)?;
     line.push_str(": nothing is said of all schedules\n")?;
-    line.push_str(next_line(is_merged))?;
+    push_next(&mut line, is_merged, limits, states)?;
     Ok(line)
 }

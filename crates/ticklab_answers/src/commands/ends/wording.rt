@@ -1,11 +1,11 @@
 //! The lines of the answers to `explore --ends`.
 ghost use Rattle.std.specs.Prelude.{◌≡◌, ◌≤◌, ◌+◌, ◌++◌, IfOk, OnOk, length, string_bytes};
 ghost use Rattle.std.specs.List.{list_any};
-ghost use Rattle.ticklab_answers.specs.Lines.{asked_text, can_end_line, can_end_text, endless_line, ends_line, ends_text, half_line, is_nobody, marked, no_process_line, numbers_text, processes_text, quiet_text, stuck_line};
+ghost use Rattle.ticklab_answers.specs.Lines.{asked_text, can_end_line, can_end_text, endless_line, ends_line, ends_text, half_line, half_next, is_nobody, marked, no_process_line, numbers_text, processes_text, quiet_text, stuck_line};
 
-use crate::commands::exploring::{either, push_more, push_states, safe_text};
+use crate::commands::exploring::{either, larger, push_more, push_states, safe_text};
 use base::push_number;
-use searches_explore::MustStop;
+use searches_explore::{Limits, MustStop};
 use std::alloc::{AllocError, Global};
 
 fn push_asked(alloc: Global, text: &mut String, asked: MustStop) -> Result<(), AllocError>
@@ -166,20 +166,31 @@ pub fn can_end_line(
     Ok(line)
 }
 
+// Adds what may help where single steps met a limit.
+fn push_half_next(line: &mut String, limits: Limits, others: u32) -> Result<(), AllocError>
+    ensures { OnOk result (string_bytes line.new ≡ string_bytes line.old ++ half_next limits others) }
+{
+    line.push_str("\ntry ")?;
+    line.push_str(larger(limits, others))?;
+    line.push_str(", or fewer processes or rounds\n")?;
+    Ok(())
+}
+
 /// By merged steps they can always end; by single ones there are more states than these.
 pub fn half_line(
     alloc: Global,
     lines: usize,
     asked: MustStop,
     states: u32,
-    limit: u32,
+    limits: Limits,
+    others: u32,
 ) -> Result<String, AllocError>
-    ensures { IfOk result (λ line. string_bytes line ≡ half_line lines asked states limit) }
+    ensures { IfOk result (λ line. string_bytes line ≡ half_line lines asked states limits others) }
 {
     let mut line = can_end_text(alloc, true, lines, asked, states)?;
     line.push_str("found out: ")?;
-    push_more(&mut line, false, limit)?;
-    line.push_str("\ntry a larger --limit, or fewer processes or rounds\n")?;
+    push_more(&mut line, false, others)?;
+    push_half_next(&mut line, limits, others)?;
     Ok(line)
 }
 

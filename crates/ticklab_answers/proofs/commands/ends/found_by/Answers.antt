@@ -15,5 +15,5 @@ returns g c =
     let a = c.args.spelled.now.program in
     let held = c.args.lines.now in
     let H = hearing g.W.Progress.begins g.W.Watch.hears in
-    then_ok c.shown.result (λ x shows. ends_found_as c.args.input.now a held.properties.items (map place_of held.places.items) c.args.limit c.args.asked H _ _
+    then_ok c.shown.result (λ x shows. ends_found_as c.args.input.now a held.properties.items (map place_of held.places.items) c.args.limits c.args.asked H _ _
     c.args.is_merged c.in_ok-explored.explored x c.in_ok-explored.ensures shows) c.shown.ensures

@@ -25,14 +25,14 @@ shortest_found-requires-clause-fault g c =
     let props = c.args.lines.now.properties.items in
     let e = never_answer c.in_ok-explored.explored in
     of_found (λ (schedule : List ℕ). is_fault (lines_of props) (source a schedule) ≡ true) e c.in-Ok.schedule c.in-Ok.ensures
-    (fault_by a props true c.args.limit e c.in_ok-explored.ensures.known.never)
+    (fault_by a props true c.args.limits e c.in_ok-explored.ensures.known.never)
 
 pub returns-in-Ok : goal.returns-in-Ok
 returns-in-Ok g c =
     let a = c.args.spelled.now.program in
     let held = c.args.lines.now in
     let H = hearing g.W.Progress.begins g.W.Watch.hears in
-    then_ok c.shortest_found.result (λ x told. fault_first c.args.input.now a held.properties.items (map place_of held.places.items) c.args.limit c.args.asked
+    then_ok c.shortest_found.result (λ x told. fault_first c.args.input.now a held.properties.items (map place_of held.places.items) c.args.limits c.args.asked
     H _ _ _ c.in_ok-explored.explored c.in-Ok.schedule x
     c.in_ok-explored.ensures c.in-Ok.ensures told)
     c.shortest_found.ensures
@@ -42,9 +42,9 @@ returns-in-Some g c =
     let a = c.args.spelled.now.program in
     let held = c.args.lines.now in
     let H = hearing g.W.Progress.begins g.W.Watch.hears in
-    then_ok c.shown.result (λ x shows. unknown_first c.args.input.now a held.properties.items (map place_of held.places.items) c.args.limit c.args.asked H _ _
+    then_ok c.shown.result (λ x shows. unknown_first c.args.input.now a held.properties.items (map place_of held.places.items) c.args.limits c.args.asked H _ _
     c.in-Err.merged c.in-Some.field-0 x c.in-Some.ensures
-    (subst (λ (e : EndExplored). AreEndsSearchedBy true (resolved a) held.properties.items c.args.asked c.args.limit H c.args.progress.now
+    (subst (λ (e : EndExplored). AreEndsSearchedBy true (resolved a) held.properties.items c.args.asked c.args.limits H c.args.progress.now
     c.explored_by.new.progress e) (sym c.in-Err.ensures.0) c.in_ok-explored.ensures) shows) c.shown.ensures
 
 pub returns-in-None : goal.returns-in-None
@@ -52,7 +52,7 @@ returns-in-None g c =
     let a = c.args.spelled.now.program in
     let held = c.args.lines.now in
     let H = hearing g.W.Progress.begins g.W.Watch.hears in
-    let searched = subst (λ (e : EndExplored). AreEndsSearchedBy true (resolved a) held.properties.items c.args.asked c.args.limit H c.args.progress.now
+    let searched = subst (λ (e : EndExplored). AreEndsSearchedBy true (resolved a) held.properties.items c.args.asked c.args.limits H c.args.progress.now
     c.explored_by.new.progress e) (sym c.in-Err.ensures.0) c.in_ok-explored.ensures in
-    then_ok c.more_found.result (λ x told. quiet_first c.args.input.now a held.properties.items (map place_of held.places.items) c.args.limit c.args.asked
+    then_ok c.more_found.result (λ x told. quiet_first c.args.input.now a held.properties.items (map place_of held.places.items) c.args.limits c.args.asked
     c.in-Err.merged searched.known c.in-Err.ensures.1 c.in-None.ensures H _ _ _ x searched.watched told) c.more_found.ensures

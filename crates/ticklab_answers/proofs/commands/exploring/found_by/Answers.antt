@@ -9,5 +9,5 @@ pub returns : goal.returns
 returns g c =
     let held = c.args.lines.now in
     then_ok c.shown.result (λ x shows. found_as c.args.input.now c.args.spelled.now.program held.properties.items (map place_of held.places.items)
-    c.args.limit (hearing g.W.Progress.begins g.W.Watch.hears) _ _ c.args.is_merged c.in_ok-explored.explored x c.in_ok-explored.ensures shows)
+    c.args.limits (hearing g.W.Progress.begins g.W.Watch.hears) _ _ c.args.is_merged c.in_ok-explored.explored x c.in_ok-explored.ensures shows)
     c.shown.ensures

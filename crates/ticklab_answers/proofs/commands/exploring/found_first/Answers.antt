@@ -15,14 +15,14 @@ shortest_found-requires-clause-fault g c =
     let a = resolved c.args.spelled.now.program in
     let props = c.args.lines.now.properties.items in
     of_found (λ (schedule : List ℕ). is_fault (lines_of props) (source a schedule) ≡ true) c.in_ok-explored.explored c.in-Ok.schedule c.in-Ok.ensures
-    (fault_by a props true c.args.limit c.in_ok-explored.explored c.in_ok-explored.ensures.known)
+    (fault_by a props true c.args.limits c.in_ok-explored.explored c.in_ok-explored.ensures.known)
 
 pub returns-in-Ok : goal.returns-in-Ok
 returns-in-Ok g c =
     let a = c.args.spelled.now.program in
     let held = c.args.lines.now in
     let H = hearing g.W.Progress.begins g.W.Watch.hears in
-    then_ok c.shortest_found.result (λ x told. both_first c.args.input.now a held.properties.items (map place_of held.places.items) c.args.limit H _ _ _
+    then_ok c.shortest_found.result (λ x told. both_first c.args.input.now a held.properties.items (map place_of held.places.items) c.args.limits H _ _ _
     c.in_ok-explored.explored c.in-Ok.schedule x
     c.in_ok-explored.ensures c.in-Ok.ensures told) c.shortest_found.ensures
 
@@ -31,7 +31,7 @@ returns-in-Err g c =
     let a = c.args.spelled.now.program in
     let held = c.args.lines.now in
     let H = hearing g.W.Progress.begins g.W.Watch.hears in
-    then_ok c.shown.result (λ x shows. none_first c.args.input.now a held.properties.items (map place_of held.places.items) c.args.limit H _ _
+    then_ok c.shown.result (λ x shows. none_first c.args.input.now a held.properties.items (map place_of held.places.items) c.args.limits H _ _
     c.in-Err.none x
-    (subst (λ (e : NeverExplored). IsSearchedBy true (resolved a) held.properties.items c.args.limit H c.args.progress.now c.explored_by.new.progress e)
+    (subst (λ (e : NeverExplored). IsSearchedBy true (resolved a) held.properties.items c.args.limits H c.args.progress.now c.explored_by.new.progress e)
     (sym c.in-Err.ensures.0) c.in_ok-explored.ensures) c.in-Err.ensures.1 shows) c.shown.ensures

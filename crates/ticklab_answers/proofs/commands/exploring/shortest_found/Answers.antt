@@ -17,7 +17,7 @@ returns-then-is_limit g c =
     let H = hearing g.W.Progress.begins g.W.Watch.hears in
     let value = c.as_slice-properties.ensures.value in
     let k = c.in_ok-minimal.minimal in
-    then_ok c.minimal_shown.result (λ x shows. minimal_as c.args.input.now a held.properties.items (map place_of held.places.items) c.args.limit H _ _
+    then_ok c.minimal_shown.result (λ x shows. minimal_as c.args.input.now a held.properties.items (map place_of held.places.items) c.args.limits H _ _
     c.in_ok-explored.explored k x
     c.in_ok-explored.ensures
     (sym c.is_limit.ensures ∙ c.if-is_limit.true)
@@ -30,6 +30,6 @@ returns g c =
     let a = c.args.spelled.now.program in
     let held = c.args.lines.now in
     let H = hearing g.W.Progress.begins g.W.Watch.hears in
-    then_ok c.shown.result (λ x shows. shortest_as c.args.input.now a held.properties.items (map place_of held.places.items) c.args.limit H _ _
+    then_ok c.shown.result (λ x shows. shortest_as c.args.input.now a held.properties.items (map place_of held.places.items) c.args.limits H _ _
     c.args.schedule.items c.requires.fault c.in_ok-explored.explored x c.in_ok-explored.ensures
     (sym c.is_limit.ensures ∙ c.if-is_limit.false) shows) c.shown.ensures
