@@ -1,5 +1,5 @@
 //! How far a search is, told on standard error where that is a terminal.
-ghost use Rattle.std.specs.Prelude.{◌≡◌, ◌<◌, false};
+ghost use Rattle.std.specs.Prelude.{◌≡◌, false};
 
 use searches_explore::Watch;
 use std::io::IsTerminal;
@@ -29,20 +29,11 @@ impl<'a> HostProgress<'a> {
         }
     }
 
-    // How long the search takes, in milliseconds: at least 1.
-    fn millis(&self) -> u64
-        ensures { 0 < result }
-    {
-        let Some(since) = self.since else {
-            return 1;
-        };
-        match since.elapsed(self.rt) {
-            Ok(taken) => match u64::try_from(taken.as_millis()) {
-                Ok(millis) => millis.max(1),
-                Err(_ages) => 1,
-            },
-            Err(_unknown) => 1,
-        }
+    // How many states are seen a second, where the clock says so.
+    fn rate(&self, states: u32) -> Option<u64> {
+        let taken = self.since?.elapsed(self.rt).ok()?;
+        let millis = u64::try_from(taken.as_millis()).ok()?;
+        Some(u64::from(states) * 1000 / millis.max(1))
     }
 }
 
@@ -54,12 +45,14 @@ impl<'a> Watch for HostProgress<'a> {
             self.is_told = true;
             let steps = if self.is_merged { "merged" } else { "single" };
             let open = states.saturating_sub(gone);
-            let rate = u64::from(states) * 1000 / self.millis();
             let megabytes = bytes / 1_000_000;
             let each = bytes / u64::from(states.max(1));
             let _written = eprint!(self.rt;
-                "\rticklab: {steps}: {states} states, {open} open, {rate}/s, {megabytes} MB, {each} bytes each   "
+                "\rticklab: {steps}: {states} states, {open} open, {megabytes} MB, {each} bytes each"
             );
+            if let Some(rate) = self.rate(states) {
+                let _written = eprint!(self.rt; ", {rate} a second   ");
+            }
         }
     }
 }
