@@ -1,5 +1,5 @@
 -- What an answer of `explore --ends` says, from what was explored and what the answer shows of it.
-use Rattle.std.proofs.Common.{◌≡◌, ◌∙◌, ◌++◌, ◌<◌, ℕ, Bool, true, false, List, All, Option, refl, subst, sym}
+use Rattle.std.proofs.Common.{◌≡◌, ◌∙◌, ◌<◌, ℕ, Bool, true, false, List, All, Option, refl, subst, sym}
 use Rattle.std.proofs.lemmas.Bool.{false≢true}
 use Rattle.std.specs.Prelude.{Vec}
 use Rattle.std.specs.Global.{Global}
@@ -21,7 +21,7 @@ use Rattle.searches_explore.specs.declared.end_answer.EndExplored.TheVariants.{T
 use Rattle.ticklab_line.specs.declared.commands.Steps.{Steps}
 use Rattle.ticklab_answers.specs.Asking.{IsOf, TextPlace}
 use Rattle.ticklab_answers.specs.BySteps.{LimitBy, StuckBy}
-use Rattle.ticklab_answers.specs.Ends.{IsEndsFound, IsEndsFoundBy, IsEndsFoundFirst, IsEndsRefused, IsPast, TellsEnds, TellsHalves, TellsMore, can_end, endless, ends, ends_fault, ends_unknown, first_fault, first_quiet, first_unknown, half, more, no_fault, no_process, stuck, stuck_merged}
+use Rattle.ticklab_answers.specs.Ends.{IsEndsFound, IsEndsFoundBy, IsEndsFoundFirst, IsEndsRefused, IsPast, TellsEnds, TellsMore, can_end, endless, ends, ends_fault, ends_unknown, first_fault, first_quiet, first_unknown, half, more, no_fault, no_process, stuck, stuck_merged}
 use Rattle.ticklab_answers.specs.Found.{IsQuiet, MeetsLimit, TellsShortest}
 use Rattle.ticklab_answers.specs.Hearing.{Heard, HearsOf, IsHeard}
 use Rattle.ticklab_answers.specs.Shown.{ShowsEnds, ShowsHalved}

@@ -1,6 +1,6 @@
 -- What `trace`, `draw` and `page` answer: a trace, a picture or a page of the run of a program, or of its code, under a
 -- schedule.
-use Rattle.std.specs.Prelude.{◌≡◌, ◌≤◌, ◌<◌, ◌++◌, ⊤, ℕ, Bool, true, false, List, drop, length, map, option_map, slice_get, take, Option, Some, Ok}
+use Rattle.std.specs.Prelude.{◌≡◌, ◌≤◌, ◌<◌, ◌++◌, ⊤, ℕ, Bool, true, false, List, drop, length, option_map, slice_get, take, Option, Some, Ok}
 use Rattle.std.specs.Borrow.{Bor}
 use Rattle.base.specs.Plain.{Name, WholeProgram}
 use Rattle.tick_syntax.specs.Spelling.{Spells}

@@ -10,7 +10,7 @@ returns-in-Some g c =
     let held = c.args.lines.now in
     then_ok c.half_shown.result (λ x shows. half_as c.args.input.now c.args.spelled.now.program held.properties.items (map place_of held.places.items)
     c.args.limits c.args.asked c.args.merged c.requires.known c.requires.quiet c.requires.seen (hearing g.W.Progress.begins g.W.Watch.hears) _ _
-    c.in_ok-single.single x c.in_ok-single.ensures c.in-Some.states c.in-Some.ensures shows) c.half_shown.ensures
+    c.in_ok-single.single x c.in_ok-single.ensures c.in-Some.others c.in-Some.ensures shows) c.half_shown.ensures
 
 pub returns-in-None : goal.returns-in-None
 returns-in-None g c =

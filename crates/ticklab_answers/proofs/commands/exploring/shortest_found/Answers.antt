@@ -1,4 +1,4 @@
-use Rattle.std.proofs.Common.{◌∙◌, false, List, map, subst, sym}
+use Rattle.std.proofs.Common.{◌∙◌, List, map, subst, sym}
 use Rattle.language_properties.specs.declared.property.Property.{Property}
 use Rattle.tick_kinds.specs.Resolution.{resolved}
 use Rattle.ticklab_answers.specs.Asking.{place_of}
