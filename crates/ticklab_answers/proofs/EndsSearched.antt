@@ -115,7 +115,7 @@ module _ (input : List ℕ) (a : WholeProgram Name) (lines : List Property) (pla
   -- nothing is wrong, and all states were seen
   told_ends : (m : Bool) (e : EndExplored) (x : Response) (heard : List Heard) → AreEndsKnownBy m (resolved a) lines asked limits e
       → IfFault (never_answer e) (λ schedule. ⊥) → is_end_limit e ≡ false → ShowsEnds m asked input a places limits e x
-      → AreHeardFor m (resolved a) lines (never_answer e) heard → TellsEnds input a (lines_of lines) places limits asked m x heard
+      → AreHeardFor m (resolved a) lines limits (never_answer e) heard → TellsEnds input a (lines_of lines) places limits asked m x heard
   told_ends m (Trapped s) x heard known none seen shows on = absurd none
   told_ends m (Broken s line v) x heard known none seen shows on = absurd none
   told_ends m (Stuck s lead_in cycle count) x heard known none seen shows on =
@@ -131,7 +131,7 @@ module _ (input : List ℕ) (a : WholeProgram Name) (lines : List Property) (pla
   told_ends m (Limit count) x heard known none seen shows on = absurd (false≢true (sym seen))
 
   told_by : (m : Bool) (e : EndExplored) (x : Response) (heard : List Heard) → AreEndsKnownBy m (resolved a) lines asked limits e
-      → ShowsEnds m asked input a places limits e x → AreHeardFor m (resolved a) lines (never_answer e) heard
+      → ShowsEnds m asked input a places limits e x → AreHeardFor m (resolved a) lines limits (never_answer e) heard
       → IsEndsFoundBy input a (lines_of lines) places limits asked m x heard
   told_by m (Trapped s) x heard known shows on = ends_fault (trap_told input a lines places limits m s x heard known.never.trapped shows on)
   told_by m (Broken s line v) x heard known shows on =
@@ -149,7 +149,7 @@ module _ (input : List ℕ) (a : WholeProgram Name) (lines : List Property) (pla
   module _ (e : EndExplored) (known : AreEndsKnownBy true (resolved a) lines asked limits e) (none : IfFault (never_answer e) (λ schedule. ⊥))
       (seen : is_end_limit e ≡ false) where
     quiet_of : (d : EndExplored) → AreEndsKnownBy true (resolved a) lines asked limits d → IfFault (never_answer d) (λ schedule. ⊥)
-        → is_end_limit d ≡ false → (heard : List Heard) → AreHeardFor true (resolved a) lines (never_answer d) heard
+        → is_end_limit d ≡ false → (heard : List Heard) → AreHeardFor true (resolved a) lines limits (never_answer d) heard
         → IsQuiet true (resolved a) (lines_of lines) limits (states_of d) heard
     quiet_of (Trapped s) known none seen heard on = absurd none
     quiet_of (Broken s line v) known none seen heard on = absurd none
@@ -190,11 +190,11 @@ module _ (input : List ℕ) (a : WholeProgram Name) (lines : List Property) (pla
     told_half (Limit count) known none seen others x heard meets shows = absurd (false≢true (sym seen))
 
     limit_met : (d : EndExplored) (others : ℕ) → d ≡ Limit others → AreEndsKnownBy false (resolved a) lines asked limits d → (heard : List Heard)
-        → AreHeardFor false (resolved a) lines (never_answer d) heard → MeetsLimit false (resolved a) (lines_of lines) limits others heard
+        → AreHeardFor false (resolved a) lines limits (never_answer d) heard → MeetsLimit false (resolved a) (lines_of lines) limits others heard
     limit_met d others is single heard on =
         meets_limit input a lines places limits false others heard
         (subst (λ (o : EndExplored). IfLimit (never_answer o) (LimitBy false (resolved a) (lines_of lines) limits)) is single.never.at_limit)
-        (subst (λ (o : EndExplored). AreHeardFor false (resolved a) lines (never_answer o) heard) is on)
+        (subst (λ (o : EndExplored). AreHeardFor false (resolved a) lines limits (never_answer o) heard) is on)
 
     module _ {W : Type 0} (hears : HearsOf W) (before after : W) (d : EndExplored) (x : Response)
         (single : AreEndsSearchedBy false (resolved a) lines asked limits hears before after d) where
@@ -211,7 +211,7 @@ module _ (input : List ℕ) (a : WholeProgram Name) (lines : List Property) (pla
           single.watched
 
     pub quiet_first : {W : Type 0} (hears : HearsOf W) (before between after : W) (x : Response)
-        → IsHeard hears before between (AreHeardFor true (resolved a) lines (never_answer e))
+        → IsHeard hears before between (AreHeardFor true (resolved a) lines limits (never_answer e))
         → IsHeard hears between after (TellsMore input a (lines_of lines) places limits asked (states_of e) x)
         → IsHeard hears before after (IsEndsFoundFirst input a (lines_of lines) places limits asked x)
     quiet_first hears before between after x merged single =
@@ -236,7 +236,7 @@ module _ (input : List ℕ) (a : WholeProgram Name) (lines : List Property) (pla
         heard_as hears before after (λ heard on. first_unknown (limit_told input a lines places limits true states x heard
         (subst (λ (o : EndExplored). IfLimit (never_answer o) (LimitBy true (resolved a) (lines_of lines) limits)) is searched.known.never.at_limit)
         (subst (λ (o : EndExplored). ShowsEnds true asked input a places limits o x) is shows)
-        (subst (λ (o : EndExplored). AreHeardFor true (resolved a) lines (never_answer o) heard) is on))) searched.watched
+        (subst (λ (o : EndExplored). AreHeardFor true (resolved a) lines limits (never_answer o) heard) is on))) searched.watched
 
     pub fault_first : (between : W) (e : EndExplored) (schedule : Vec ℕ Global) (x : Response)
         → AreEndsSearchedBy true (resolved a) lines asked limits hears before between e → never_searched_of (never_answer e) ≡ Found schedule

@@ -1,5 +1,5 @@
 -- What an answer says, from what was explored and what the answer shows of it.
-use Rattle.std.proofs.Common.{◌≡◌, ◌∙◌, ◌+◌, ◌++◌, ◌<◌, ℕ, Bool, true, false, List, All, ap, length, refl, subst, sym}
+use Rattle.std.proofs.Common.{◌≡◌, ◌∙◌, ◌+◌, ◌++◌, ◌<◌, ◌≤◌, ◌*◌, ℕ, Bool, true, false, List, All, ap, length, refl, subst, sym}
 use Rattle.std.proofs.lemmas.Bool.{false≢true, or_right}
 use Rattle.std.proofs.Math.Bool.{true-or}
 use Rattle.std.specs.Prelude.{◌||◌, Vec}
@@ -20,6 +20,7 @@ use Rattle.searches_states.specs.declared.limits.Limits.{Limits}
 use Rattle.searches_states.specs.declared.searching.Searched.{Searched}
 use Rattle.searches_states.specs.declared.searching.Searched.TheVariants.{Found, Limit as Full, Nowhere}
 use Rattle.searches_explore.specs.Never.{AreToldFor, IfBroken, IfFault, IfLimit, IfSafe, IfTrapped, never_searched_of}
+use Rattle.searches_explore.specs.Searching.{IsFullFor}
 use Rattle.searches_explore.specs.declared.never_answer.NeverExplored.{NeverExplored}
 use Rattle.searches_explore.specs.declared.never_answer.NeverExplored.TheVariants.{Trapped, Broken, Safe, Limit}
 use Rattle.searches_hunt.specs.Minimal.{IfBroken as IfBreaks, IfTrapped as IfTraps, schedule_of}
@@ -54,12 +55,12 @@ pub searched_as : {W : Type 0} (begins : W → Bool → W → Type 0) (sees : W 
     → (a : WholeProgram ℕ) (given lines : List Property) → given ≡ lines → (limits : Limits) (e : NeverExplored) → begins before n between
     → IfTrapped e (TrapBy m a (lines_of given)) → IfBroken e (BrokenBy m a (lines_of given))
     → IfSafe e (SafeBy m a (lines_of given) limits) → IfLimit e (LimitBy m a (lines_of given) limits)
-    → IsWatched sees between after (AreToldFor (SeesBy m a (lines_of given)) e) → IsSearchedBy n a lines limits (hearing begins sees) before after e
+    → IsWatched sees between after (AreToldFor a (SeesBy m a (lines_of given)) limits e) → IsSearchedBy n a lines limits (hearing begins sees) before after e
 searched_as begins sees before between after m n same a given lines held limits e first traps breaks never full watched =
     subst (λ (k : Bool). IsSearchedBy k a lines limits (hearing begins sees) before after e) (sym same)
     (subst (λ (asked : List Property). IsSearchedBy m a asked limits (hearing begins sees) before after e) held (record {
       known = known_as m a given limits e traps breaks never full;
-      watched = began begins sees before between after m n same a given e first watched;
+      watched = began begins sees before between after m n same a given limits e first watched;
     }))
 
 abbrev is_found : Searched → Bool
@@ -108,32 +109,33 @@ of_found P e schedule is held = subst (λ (s : Searched). IfFound s P) is held
 
 module _ (input : List ℕ) (a : WholeProgram Name) (lines : List Property) (places : List TextPlace) (limits : Limits) where
   -- so far a search is heard, of which this is known
-  on_the_way : {m : Bool} {e : NeverExplored} {heard : List Heard} (gone : ℕ) (on : AreHeardFor m (resolved a) lines e heard)
+  on_the_way : {m : Bool} {e : NeverExplored} {heard : List Heard} (gone : ℕ) (on : AreHeardFor m (resolved a) lines limits e heard)
       → AreTold (SeesBy m (resolved a) (lines_of lines)) gone on.told → IsSearchHeard m (resolved a) (lines_of lines) gone heard
   on_the_way gone on are = record { told = on.told; are = are; whole = on.whole }
 
   -- and so to its end
-  to_the_end : {m : Bool} {e : NeverExplored} {heard : List Heard} (below states gone : ℕ) (on : AreHeardFor m (resolved a) lines e heard)
-      → AreToldToEnd (SeesBy m (resolved a) (lines_of lines)) below states gone on.told → IsSearchHeardToEnd m (resolved a) (lines_of lines) below states gone heard
-  to_the_end below states gone on are = record { told = on.told; are = are; whole = on.whole }
+  to_the_end : {m : Bool} {e : NeverExplored} {heard : List Heard} (held : ℕ → Type 0) (below states gone : ℕ) (on : AreHeardFor m (resolved a) lines limits e heard)
+      → AreToldToEnd (SeesBy m (resolved a) (lines_of lines)) held below states gone on.told
+      → IsSearchHeardToEnd m (resolved a) (lines_of lines) held below states gone heard
+  to_the_end held below states gone on are = record { told = on.told; are = are; whole = on.whole }
 
   pub trap_told : (m : Bool) (s : Vec ℕ Global) (x : Response) (heard : List Heard) → TrapBy m (resolved a) (lines_of lines) s.items
-      → Shows m input a places limits (Trapped s) x → AreHeardFor m (resolved a) lines (Trapped s) heard
+      → Shows m input a places limits (Trapped s) x → AreHeardFor m (resolved a) lines limits (Trapped s) heard
       → TellsFault input a (lines_of lines) places limits m x heard
   trap_told m s x heard traps shows on = trapped s.items traps on.are.0 (on_the_way on.are.0 on on.are.1) shows
 
   pub break_told : (m : Bool) (s : Vec ℕ Global) (line : ℕ) (v : Valued) (x : Response) (heard : List Heard)
       → BrokenBy m (resolved a) (lines_of lines) s.items line v
-      → Shows m input a places limits (Broken s line v) x → AreHeardFor m (resolved a) lines (Broken s line v) heard
+      → Shows m input a places limits (Broken s line v) x → AreHeardFor m (resolved a) lines limits (Broken s line v) heard
       → TellsFault input a (lines_of lines) places limits m x heard
   break_told m s line v x heard breaks shows on = broken s.items line v breaks on.are.0 (on_the_way on.are.0 on on.are.1) shows
 
   pub quiet_told : (m : Bool) (states : ℕ) (heard : List Heard) → SafeBy m (resolved a) (lines_of lines) limits states
-      → AreHeardFor m (resolved a) lines (Safe states) heard → IsQuiet m (resolved a) (lines_of lines) limits states heard
-  quiet_told m states heard never on = record { safe = never; on_the_way = to_the_end states states states on on.are }
+      → AreHeardFor m (resolved a) lines limits (Safe states) heard → IsQuiet m (resolved a) (lines_of lines) limits states heard
+  quiet_told m states heard never on = record { safe = never; on_the_way = to_the_end (λ bytes. 4 * states ≤ bytes) states states states on on.are }
 
   safe_told : (m : Bool) (states : ℕ) (x : Response) (heard : List Heard) → SafeBy m (resolved a) (lines_of lines) limits states
-      → Shows m input a places limits (Safe states) x → AreHeardFor m (resolved a) lines (Safe states) heard
+      → Shows m input a places limits (Safe states) x → AreHeardFor m (resolved a) lines limits (Safe states) heard
       → TellsSafe input a (lines_of lines) places limits m x heard
   safe_told m states x heard never shows on = record {
     states = states;
@@ -142,23 +144,23 @@ module _ (input : List ℕ) (a : WholeProgram Name) (lines : List Property) (pla
   }
 
   pub meets_limit : (m : Bool) (states : ℕ) (heard : List Heard) → LimitBy m (resolved a) (lines_of lines) limits states
-      → AreHeardFor m (resolved a) lines (Limit states) heard → MeetsLimit m (resolved a) (lines_of lines) limits states heard
-  meets_limit m states heard full on = record { more = full; gone = on.are.0; on_the_way = to_the_end (on.are.0 + 1) states on.are.0 on on.are.1 }
+      → AreHeardFor m (resolved a) lines limits (Limit states) heard → MeetsLimit m (resolved a) (lines_of lines) limits states heard
+  meets_limit m states heard full on = record { more = full; gone = on.are.0; on_the_way = to_the_end (IsFullFor (resolved a) limits states) (on.are.0 + 1) states on.are.0 on on.are.1 }
 
   pub limit_told : (m : Bool) (states : ℕ) (x : Response) (heard : List Heard) → LimitBy m (resolved a) (lines_of lines) limits states
-      → Shows m input a places limits (Limit states) x → AreHeardFor m (resolved a) lines (Limit states) heard
+      → Shows m input a places limits (Limit states) x → AreHeardFor m (resolved a) lines limits (Limit states) heard
       → TellsLimit input a (lines_of lines) places limits m x heard
   limit_told m states x heard full shows on = record { states = states; meets = meets_limit m states heard full on; shown = shows }
 
   told_by : (m : Bool) (e : NeverExplored) (x : Response) (heard : List Heard) → IsKnownBy m (resolved a) lines limits e
-      → Shows m input a places limits e x → AreHeardFor m (resolved a) lines e heard → IsFoundBy input a (lines_of lines) places limits m x heard
+      → Shows m input a places limits e x → AreHeardFor m (resolved a) lines limits e heard → IsFoundBy input a (lines_of lines) places limits m x heard
   told_by m (Trapped s) x heard known shows on = fault (trap_told m s x heard known.trapped shows on)
   told_by m (Broken s line v) x heard known shows on = fault (break_told m s line v x heard known.broken shows on)
   told_by m (Safe states) x heard known shows on = safe (safe_told m states x heard known.safe shows on)
   told_by m (Limit states) x heard known shows on = unknown (limit_told m states x heard known.at_limit shows on)
 
   told_first : (e : NeverExplored) (x : Response) (heard : List Heard) → IsKnownBy true (resolved a) lines limits e → IfFault e (λ schedule. ⊥)
-      → Shows true input a places limits e x → AreHeardFor true (resolved a) lines e heard → IsFoundFirst input a (lines_of lines) places limits x heard
+      → Shows true input a places limits e x → AreHeardFor true (resolved a) lines limits e heard → IsFoundFirst input a (lines_of lines) places limits x heard
   told_first (Trapped s) x heard known none shows on = absurd none
   told_first (Broken s line v) x heard known none shows on = absurd none
   told_first (Safe states) x heard known none shows on = first_safe (safe_told true states x heard known.safe shows on)
@@ -167,7 +169,7 @@ module _ (input : List ℕ) (a : WholeProgram Name) (lines : List Property) (pla
   -- there is a fault
   module _ (schedule : List ℕ) (wrong : is_fault (lines_of lines) (source (resolved a) schedule) ≡ true) where
     told_shortest : (e : NeverExplored) (x : Response) (heard : List Heard) → IsKnownBy false (resolved a) lines limits e → is_limit e ≡ false
-        → Shows false input a places limits e x → AreHeardFor false (resolved a) lines e heard → TellsShortest input a (lines_of lines) places limits x heard
+        → Shows false input a places limits e x → AreHeardFor false (resolved a) lines limits e heard → TellsShortest input a (lines_of lines) places limits x heard
     told_shortest (Trapped s) x heard known seen shows on = shortest (trap_told false s x heard known.trapped shows on)
     told_shortest (Broken s line v) x heard known seen shows on = shortest (break_told false s line v x heard known.broken shows on)
     told_shortest (Safe states) x heard known seen shows on = absurd (false≢true (sym (known.safe.never schedule) ∙ wrong))
@@ -175,7 +177,7 @@ module _ (input : List ℕ) (a : WholeProgram Name) (lines : List Property) (pla
 
   told_minimal : (e : NeverExplored) (k : Minimal) (x : Response) (heard : List Heard) → IsKnownBy false (resolved a) lines limits e → is_limit e ≡ true
       → IfTraps k (IsMinimalTrapped (resolved a) (lines_of lines)) → IfBreaks k (IsMinimalBroken (resolved a) (lines_of lines))
-      → ShowsMinimal input a places k x → AreHeardFor false (resolved a) lines e heard → TellsShortest input a (lines_of lines) places limits x heard
+      → ShowsMinimal input a places k x → AreHeardFor false (resolved a) lines limits e heard → TellsShortest input a (lines_of lines) places limits x heard
   told_minimal (Limit states) (M.Trapped s) x heard known full traps breaks shows on =
       minimal_trap states (meets_limit false states heard known.at_limit on) s.items traps shows
   told_minimal (Limit states) (M.Broken s line v) x heard known full traps breaks shows on =
@@ -186,7 +188,7 @@ module _ (input : List ℕ) (a : WholeProgram Name) (lines : List Property) (pla
 
   -- a search that is heard as far as it finds a fault
   pub fault_heard : (e : NeverExplored) (schedule : Vec ℕ Global) (heard : List Heard) → never_searched_of e ≡ Found schedule
-      → AreHeardFor true (resolved a) lines e heard → (gone : ℕ) × IsSearchHeard true (resolved a) (lines_of lines) gone heard
+      → AreHeardFor true (resolved a) lines limits e heard → (gone : ℕ) × IsSearchHeard true (resolved a) (lines_of lines) gone heard
   fault_heard (Trapped s) schedule heard is on = (on.are.0, on_the_way on.are.0 on on.are.1)
   fault_heard (Broken s line v) schedule heard is on = (on.are.0, on_the_way on.are.0 on on.are.1)
   fault_heard (Safe states) schedule heard is on = absurd (not_found {s = Nowhere states} refl is)

@@ -1,10 +1,11 @@
 -- What is found of a program under every schedule, what is shown of it, and what a watch hears on the way.
-use Rattle.std.specs.Prelude.{◌≡◌, ◌+◌, ◌++◌, ℕ, Bool, true, false, List, length}
+use Rattle.std.specs.Prelude.{◌≡◌, ◌≤◌, ◌+◌, ◌*◌, ◌++◌, ℕ, Bool, true, false, List, length}
 use Rattle.base.specs.Plain.{Name, WholeProgram}
 use Rattle.language_properties.specs.Properties.{Formula}
 use Rattle.language_properties.specs.Values.{Valued}
 use Rattle.tick_kinds.specs.Resolution.{resolved}
 use Rattle.searches_states.specs.declared.limits.Limits.{Limits}
+use Rattle.searches_explore.specs.Searching.{IsFullFor}
 use Rattle.searches_hunt.specs.Never.{IsMinimalBroken, IsMinimalTrapped}
 use Rattle.ticklab_line.specs.declared.commands.Steps.{Steps}
 use Rattle.ticklab_line.specs.declared.commands.Steps.TheVariants.{MergedFirst, Single, Merged}
@@ -18,13 +19,13 @@ use Rattle.ticklab_answers.specs.declared.response.Response.{Response}
 -- By steps of this kind nothing is wrong under any schedule, there are so many states, and all of them are gone.
 pub record IsQuiet (is_merged : Bool) (a : WholeProgram ℕ) (lines : List Formula) (limits : Limits) (states : ℕ) (heard : List Heard) : Type 0 where
   pub safe : SafeBy is_merged a lines limits states
-  pub on_the_way : IsSearchHeardToEnd is_merged a lines states states states heard
+  pub on_the_way : IsSearchHeardToEnd is_merged a lines (λ bytes. 4 * states ≤ bytes) states states states heard
 
 -- A limit is met, and there are more states than these.
 pub record MeetsLimit (is_merged : Bool) (a : WholeProgram ℕ) (lines : List Formula) (limits : Limits) (states : ℕ) (heard : List Heard) : Type 0 where
   pub more : LimitBy is_merged a lines limits states
   pub gone : ℕ
-  pub on_the_way : IsSearchHeardToEnd is_merged a lines (gone + 1) states gone heard
+  pub on_the_way : IsSearchHeardToEnd is_merged a lines (IsFullFor a limits states) (gone + 1) states gone heard
 
 -- Of the program that an input is, where these lines, which stand at these places, must never hold; as far as these
 -- limits let a search go.

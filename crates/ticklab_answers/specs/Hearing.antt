@@ -36,8 +36,10 @@ pub record IsSearchHeard (is_merged : Bool) (a : WholeProgram ℕ) (lines : List
   pub are : AreTold (SeesBy is_merged a lines) gone told
   pub whole : heard ≡ begun is_merged ∷ map seen told
 
--- The same of a search to its end: that so many states were seen, of which so many are gone, is heard last.
-pub record IsSearchHeardToEnd (is_merged : Bool) (a : WholeProgram ℕ) (lines : List Formula) (below states gone : ℕ) (heard : List Heard) : Type 0 where
+-- The same of a search to its end: that so many states were seen, of which so many are gone, is heard last, with a number
+-- of bytes of which `held` holds.
+pub record IsSearchHeardToEnd (is_merged : Bool) (a : WholeProgram ℕ) (lines : List Formula) (held : ℕ → Type 0) (below states gone : ℕ) (heard : List Heard)
+    : Type 0 where
   pub told : List Told
-  pub are : AreToldToEnd (SeesBy is_merged a lines) below states gone told
+  pub are : AreToldToEnd (SeesBy is_merged a lines) held below states gone told
   pub whole : heard ≡ begun is_merged ∷ map seen told

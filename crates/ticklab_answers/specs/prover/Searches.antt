@@ -17,9 +17,9 @@ use Rattle.ticklab_answers.specs.BySteps.{BrokenBy, LimitBy, SafeBy, SeesBy, Stu
 use Rattle.ticklab_answers.specs.Hearing.{Heard, HearsOf, IsHeard, begun, seen}
 
 -- what a watch hears of the search that comes to this
-pub record AreHeardFor (m : Bool) (a : WholeProgram ℕ) (lines : List Property) (e : NeverExplored) (heard : List Heard) : Type 0 where
+pub record AreHeardFor (m : Bool) (a : WholeProgram ℕ) (lines : List Property) (limits : Limits) (e : NeverExplored) (heard : List Heard) : Type 0 where
   pub told : List Told
-  pub are : AreToldFor (SeesBy m a (lines_of lines)) e told
+  pub are : AreToldFor a (SeesBy m a (lines_of lines)) limits e told
   pub whole : heard ≡ begun m ∷ map seen told
 
 -- whether the search met its limit
@@ -51,7 +51,7 @@ pub record IsKnownBy (m : Bool) (a : WholeProgram ℕ) (lines : List Property) (
 pub record IsSearchedBy (m : Bool) (a : WholeProgram ℕ) (lines : List Property) (limits : Limits) {W : Type 0} (hears : HearsOf W) (before after : W)
     (e : NeverExplored) : Type 0 where
   pub known : IsKnownBy m a lines limits e
-  pub watched : IsHeard hears before after (AreHeardFor m a lines e)
+  pub watched : IsHeard hears before after (AreHeardFor m a lines limits e)
 
 -- The same where these processes have to end. By merged steps no endless schedule is found, nor that there is none.
 pub record AreEndsKnownBy (m : Bool) (a : WholeProgram ℕ) (lines : List Property) (asked : MustStop) (limits : Limits) (e : EndExplored) : Type 0 where
@@ -65,4 +65,4 @@ pub record AreEndsKnownBy (m : Bool) (a : WholeProgram ℕ) (lines : List Proper
 pub record AreEndsSearchedBy (m : Bool) (a : WholeProgram ℕ) (lines : List Property) (asked : MustStop) (limits : Limits) {W : Type 0} (hears : HearsOf W)
     (before after : W) (e : EndExplored) : Type 0 where
   pub known : AreEndsKnownBy m a lines asked limits e
-  pub watched : IsHeard hears before after (AreHeardFor m a lines (never_answer e))
+  pub watched : IsHeard hears before after (AreHeardFor m a lines limits (never_answer e))
