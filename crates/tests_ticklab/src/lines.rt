@@ -3,7 +3,7 @@ use crate::asking::asked_for;
 use std::test::Fail;
 use tests_shared::is_same;
 
-static ASKED: [(&[&str], &str); 23] = [
+static ASKED: [(&[&str], &str); 26] = [
     (
         &["explore", "a", "--schedule-only"],
         "the schedule of Explore { file: \"a\", never: [], limit: 4294967295, memory: 1000, steps: MergedFirst }",
@@ -43,6 +43,18 @@ static ASKED: [(&[&str], &str); 23] = [
     (
         &["explore", "a", "--merged", "--ends"],
         "Ends { file: \"a\", never: [], process: None, limit: 4294967295, memory: 1000, steps: Merged }",
+    ),
+    (
+        &["check", "a"],
+        "Check { paths: [\"a\"], limit: 4294967295, memory: 1000, jobs: 64 }",
+    ),
+    (
+        &["check", "a/", "--limit", "0", "-", "b c"],
+        "Check { paths: [\"a/\", \"-\", \"b c\"], limit: 0, memory: 1000, jobs: 64 }",
+    ),
+    (
+        &["check", "--jobs=3", "--memory", "7", "--", "--a"],
+        "Check { paths: [\"--a\"], limit: 4294967295, memory: 7, jobs: 3 }",
     ),
     (
         &["lasso", "a", "0 1", "@b"],

@@ -9,7 +9,8 @@ use Rattle.ticklab_line.specs.Commands.{Asked, plain_request}
 use Rattle.ticklab_line.specs.Lines.{Answers}
 use Rattle.ticklab_line.specs.declared.asking.Line.{Line}
 use Rattle.ticklab_line.specs.declared.asking.Line.TheVariants as line
-use Rattle.ticklab_line.specs.declared.commands.Request.TheVariants.{Explore, Ends, Lasso, Hunt, Runs, Trace, Draw, Page, Explain, Labels}
+use Rattle.ticklab_line.specs.declared.commands.Request.TheVariants.{Explore, Ends, Check, Lasso, Hunt, Runs, Trace, Draw, Page, Explain, Labels}
+use Rattle.ticklab_answers.specs.Checks.{ChecksAll, IsUnderOne, ListsOf}
 use Rattle.ticklab_answers.specs.Ends.{ExploresEnds}
 use Rattle.ticklab_answers.specs.Explanations.{Explains}
 use Rattle.ticklab_answers.specs.Exploring.{Explores}
@@ -38,15 +39,18 @@ GivesWords (Err error) words = ⊥
 abbrev pub limits_of : ℕ → ℕ → Limits
 limits_of states megabytes = record { states = states; bytes = megabytes * 1000000 }
 
--- Files, a runner and a watch are as they are before and after. Nothing is read that the words don't name, the runner
--- makes the runs of `hunt --threads` and no other, and the watch hears of the searches of an `explore` and of nothing else.
-module _ {F M W : Type 0} (Reads : ReadsOf F) (ReadsInput : ReadsInputOf F) (Ran : RunsOf M) (hears : HearsOf W)
+-- Files, a runner and a watch are as they are before and after. Nothing is read that the words don't name, or that isn't in
+-- a folder that they name. The runner makes the runs of `hunt --threads` and no other, and the watch hears of the searches
+-- of an `explore` and of nothing else.
+module _ {F M W : Type 0} (Reads : ReadsOf F) (ReadsInput : ReadsInputOf F) (Lists : ListsOf F) (Ran : RunsOf M) (hears : HearsOf W)
     (before after : F) (rested ran : M) (quiet heard : W) where
   abbrev pub Responds : Asked → Response → Type 0
   Responds (Explore file never limit memory steps) response =
       (ran ≡ rested) × Explores Reads ReadsInput hears before after quiet heard file never (limits_of limit memory) steps response
   Responds (Ends file never process limit memory steps) response =
       (ran ≡ rested) × ExploresEnds Reads ReadsInput hears before after quiet heard file never process (limits_of limit memory) steps response
+  Responds (Check paths limit memory jobs) response =
+      (ran ≡ rested) × (heard ≡ quiet) × ChecksAll Reads ReadsInput Lists before after paths (limits_of limit memory) response
   Responds (Lasso file prefix cycle) response =
       (ran ≡ rested) × (heard ≡ quiet) × Lassoes Reads ReadsInput before after file prefix cycle response
   Responds (Hunt file never seed runs from steps is_uniform jobs) response =
@@ -83,6 +87,7 @@ module _ {F M W : Type 0} (Reads : ReadsOf F) (ReadsInput : ReadsInputOf F) (Ran
 abbrev pub NamesOf : Asked → List ℕ → Type 0
 NamesOf (Explore file never limit memory steps) name = name ≡ file
 NamesOf (Ends file never process limit memory steps) name = name ≡ file
+NamesOf (Check paths limit memory jobs) name = IsUnderOne paths name
 NamesOf (Lasso file prefix cycle) name = IsOfThree file prefix cycle name
 NamesOf (Hunt file never seed runs from steps is_uniform jobs) name = name ≡ file
 NamesOf (Runs file times turns) name = name ≡ file
