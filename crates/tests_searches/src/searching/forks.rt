@@ -78,7 +78,14 @@ fn searched(alloc: Global, forks: &Forks, start: u32, limit: u32) -> Result<EndS
     requires { start < 4 }
 {
     let limits = Limits::of_states(limit);
-    match search_ends(alloc, forks, MustStop::All, &[start], limits, &mut Unwatched) {
+    match search_ends(
+        alloc,
+        forks,
+        MustStop::All,
+        &[start],
+        limits,
+        &mut Unwatched,
+    ) {
         Err(NoMemory) => search_ends(
             alloc,
             forks,

@@ -74,6 +74,12 @@ impl Machine for Counting {
 fn many_states_of_many_words(rt: HostRuntime) -> Result<(), Fail> {
     let alloc = rt.alloc();
     let start = [0; 30];
-    let found = search(alloc, &Counting { top: 19 }, &start, Limits::of_states(10_000), &mut Unwatched)?;
+    let found = search(
+        alloc,
+        &Counting { top: 19 },
+        &start,
+        Limits::of_states(10_000),
+        &mut Unwatched,
+    )?;
     holds(found == Searched::Nowhere { states: 8_000 }, 0)
 }
