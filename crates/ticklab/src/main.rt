@@ -28,7 +28,7 @@ fn main(rt: HostRuntime) -> ExitCode {
         },
         &mut OnThreads::new(&rt),
         &OnProcessors::new(&rt),
-        &SideBySide::new(&rt),
+        &SideBySide::new(&rt, &rt),
         &mut HostProgress::new(&rt),
         args(&rt),
     )

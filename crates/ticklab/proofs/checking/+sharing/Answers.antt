@@ -7,7 +7,7 @@ use Rattle.ticklab.proofs.Pieces.{as_one, of_ok}
 use Rattle.ticklab.proofs.checking.+sharing.Goals as goal
 
 pub returns : goal.returns
-returns g n c =
+returns g t c =
     let R : Source → Timed → Type 0 = λ source timed. SourceComesTo c.args.limits source timed.checked in
     let sources = c.args.sources.now in
     let first = c.split_at.result.0.now in
