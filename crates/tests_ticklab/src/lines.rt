@@ -3,7 +3,7 @@ use crate::asking::asked_for;
 use std::test::Fail;
 use tests_shared::is_same;
 
-static ASKED: [(&[&str], &str); 21] = [
+static ASKED: [(&[&str], &str); 24] = [
     (
         &["explore", "a", "--schedule-only"],
         "the schedule of Explore { file: \"a\", never: [], limit: 1000000, steps: MergedFirst }",
@@ -35,6 +35,18 @@ static ASKED: [(&[&str], &str); 21] = [
     (
         &["explore", "a", "--merged", "--ends"],
         "Ends { file: \"a\", never: [], process: None, limit: 1000000, steps: Merged }",
+    ),
+    (
+        &["check", "a"],
+        "Check { paths: [\"a\"], limit: 1000000, jobs: 64 }",
+    ),
+    (
+        &["check", "a/", "--limit", "0", "-", "b c"],
+        "Check { paths: [\"a/\", \"-\", \"b c\"], limit: 0, jobs: 64 }",
+    ),
+    (
+        &["check", "--jobs=3", "--", "--a"],
+        "Check { paths: [\"--a\"], limit: 1000000, jobs: 3 }",
     ),
     (
         &["lasso", "a", "0 1", "@b"],

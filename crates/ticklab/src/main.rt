@@ -1,13 +1,15 @@
 //! `ticklab` shows what a ticket program does: under every schedule, under random ones, and step by step.
 //!
-//! There is only `main`, with the files of the host and the line that tells how far a search is. `main` calls
-//! `ended` of `ticklab_answers`, which does everything else.
+//! There is only `main`, with the files of the host, the line that tells how far a search is, and the threads and the
+//! clock of `check`. `main` calls `ended` of `ticklab_answers`, which does everything else.
 //! Start with `ended` of `ticklab_answers`.
 #![tactic(auto)]
 
+mod checking;
 mod files;
 mod progress;
 
+use crate::checking::SideBySide;
 use crate::files::HostFiles;
 use crate::progress::HostProgress;
 use searches_parallel::OnProcessors;
@@ -26,6 +28,7 @@ fn main(rt: HostRuntime) -> ExitCode {
         },
         &mut OnThreads::new(&rt),
         &OnProcessors::new(&rt),
+        &SideBySide::new(&rt, &rt),
         &mut HostProgress::new(&rt),
         args(&rt),
     )

@@ -5,6 +5,7 @@ pub mod Chosen
 pub mod EndsSearched
 pub mod Heard
 pub mod HuntSearched
+pub mod Listed
 pub mod Looped
 pub mod NeverLines
 pub mod Pictured

@@ -6,6 +6,7 @@ use Rattle.std.specs.declared.io.Error.{Error}
 use Rattle.ticklab_line.specs.Lines.{Answers}
 use Rattle.ticklab_line.specs.declared.asking.Line.{Line}
 use Rattle.ticklab_answers.specs.Answers.{GivenWords, GivesWords, IsOfWordsOrFile, NamesOfLine, RespondsTo, RespondsToWords}
+use Rattle.ticklab_answers.specs.Checks.{ListsOf}
 use Rattle.ticklab_answers.specs.Faults.{IsOfFileThat}
 use Rattle.ticklab_answers.specs.Hearing.{HearsOf}
 use Rattle.ticklab_answers.specs.Reading.{ReadsOf, ReadsInputOf}
@@ -34,15 +35,15 @@ module _ (given : Result GivenWords Error) (words : Vec (String Global) Global) 
   failed (Err fault) h = named_by given gives fault h
 
   -- an answer to the line is one to the words
-  module _ {F M W : Type 0} (Reads : ReadsOf F) (ReadsInput : ReadsInputOf F) (Ran : RunsOf M) (hears : HearsOf W) (before after : F) (rested ran : M)
-      (quiet heard : W) (x : Response) (held : RespondsTo Reads ReadsInput Ran hears before after rested ran quiet heard matched x) where
-    answered_by : (given : Result GivenWords Error) → GivesWords given words → RespondsToWords Reads ReadsInput Ran hears before after rested ran quiet heard given x
+  module _ {F M W : Type 0} (Reads : ReadsOf F) (ReadsInput : ReadsInputOf F) (Lists : ListsOf F) (Ran : RunsOf M) (hears : HearsOf W) (before after : F) (rested ran : M)
+      (quiet heard : W) (x : Response) (held : RespondsTo Reads ReadsInput Lists Ran hears before after rested ran quiet heard matched x) where
+    answered_by : (given : Result GivenWords Error) → GivesWords given words → RespondsToWords Reads ReadsInput Lists Ran hears before after rested ran quiet heard given x
     answered_by (Ok given) gives = (
       l,
       subst (λ (ws : List (String Global)). Answers (map string_bytes ws) l) gives (subst (λ (ws : List (String Global)). Answers (map string_bytes ws) l) same answers),
-      subst (λ (m : Line). RespondsTo Reads ReadsInput Ran hears before after rested ran quiet heard m x) (sym is) held,
+      subst (λ (m : Line). RespondsTo Reads ReadsInput Lists Ran hears before after rested ran quiet heard m x) (sym is) held,
     )
     answered_by (Err error) gives = absurd gives
 
-    pub responded : RespondsToWords Reads ReadsInput Ran hears before after rested ran quiet heard given x
+    pub responded : RespondsToWords Reads ReadsInput Lists Ran hears before after rested ran quiet heard given x
     responded = answered_by given gives

@@ -8,7 +8,8 @@ use Rattle.ticklab_line.specs.Commands.{Asked, plain_request}
 use Rattle.ticklab_line.specs.Lines.{Answers}
 use Rattle.ticklab_line.specs.declared.asking.Line.{Line}
 use Rattle.ticklab_line.specs.declared.asking.Line.TheVariants as line
-use Rattle.ticklab_line.specs.declared.commands.Request.TheVariants.{Explore, Ends, Lasso, Hunt, Runs, Trace, Draw, Page, Explain, Labels}
+use Rattle.ticklab_line.specs.declared.commands.Request.TheVariants.{Explore, Ends, Check, Lasso, Hunt, Runs, Trace, Draw, Page, Explain, Labels}
+use Rattle.ticklab_answers.specs.Checks.{ChecksAll, IsUnderOne, ListsOf}
 use Rattle.ticklab_answers.specs.Ends.{ExploresEnds}
 use Rattle.ticklab_answers.specs.Explanations.{Explains}
 use Rattle.ticklab_answers.specs.Exploring.{Explores}
@@ -33,15 +34,18 @@ abbrev pub GivesWords : Result GivenWords Error → Vec (String Global) Global �
 GivesWords (Ok given) words = words.items ≡ into_iter_items given
 GivesWords (Err error) words = ⊥
 
--- Files, a runner and a watch are as they are before and after. Nothing is read that the words don't name, the runner
--- makes the runs of `hunt --threads` and no other, and the watch hears of the searches of an `explore` and of nothing else.
-module _ {F M W : Type 0} (Reads : ReadsOf F) (ReadsInput : ReadsInputOf F) (Ran : RunsOf M) (hears : HearsOf W)
+-- Files, a runner and a watch are as they are before and after. Nothing is read that the words don't name, or that isn't in
+-- a folder that they name. The runner makes the runs of `hunt --threads` and no other, and the watch hears of the searches
+-- of an `explore` and of nothing else.
+module _ {F M W : Type 0} (Reads : ReadsOf F) (ReadsInput : ReadsInputOf F) (Lists : ListsOf F) (Ran : RunsOf M) (hears : HearsOf W)
     (before after : F) (rested ran : M) (quiet heard : W) where
   abbrev pub Responds : Asked → Response → Type 0
   Responds (Explore file never limit steps) response =
       (ran ≡ rested) × Explores Reads ReadsInput hears before after quiet heard file never limit steps response
   Responds (Ends file never process limit steps) response =
       (ran ≡ rested) × ExploresEnds Reads ReadsInput hears before after quiet heard file never process limit steps response
+  Responds (Check paths limit jobs) response =
+      (ran ≡ rested) × (heard ≡ quiet) × ChecksAll Reads ReadsInput Lists before after paths limit response
   Responds (Lasso file prefix cycle) response =
       (ran ≡ rested) × (heard ≡ quiet) × Lassoes Reads ReadsInput before after file prefix cycle response
   Responds (Hunt file never seed runs from steps is_uniform jobs) response =
@@ -78,6 +82,7 @@ module _ {F M W : Type 0} (Reads : ReadsOf F) (ReadsInput : ReadsInputOf F) (Ran
 abbrev pub NamesOf : Asked → List ℕ → Type 0
 NamesOf (Explore file never limit steps) name = name ≡ file
 NamesOf (Ends file never process limit steps) name = name ≡ file
+NamesOf (Check paths limit jobs) name = IsUnderOne paths name
 NamesOf (Lasso file prefix cycle) name = IsOfThree file prefix cycle name
 NamesOf (Hunt file never seed runs from steps is_uniform jobs) name = name ≡ file
 NamesOf (Runs file times turns) name = name ≡ file

@@ -2,6 +2,7 @@ pub mod Answers
 pub mod Asking
 pub mod Breaking
 pub mod BySteps
+pub mod Checks
 pub mod Codes
 pub mod Ends
 pub mod Explanations

@@ -3,6 +3,7 @@ use Rattle.std.specs.Prelude.{◌≡◌, ℕ, IfOk, List, [], Option, Result, Ok
 use Rattle.std.specs.Io.KnownBytes.{Appends}
 use Rattle.std.specs.declared.io.Error.{Error}
 use Rattle.ticklab_answers.specs.Answers.{GivenWords, RespondsToWords}
+use Rattle.ticklab_answers.specs.Checks.{ListsOf}
 use Rattle.ticklab_answers.specs.Hearing.{HearsOf}
 use Rattle.ticklab_answers.specs.Faults.{status_of}
 use Rattle.ticklab_answers.specs.Reading.{ReadsOf, ReadsInputOf}
@@ -33,10 +34,10 @@ pub record IsShown (old new : Outputs) (P : Response → Type 0) (status : ℕ) 
   pub err : Grows old.err new.err response.told.items
 
 -- What the words come to, over files, a runner, a watch and outputs as they are before and after.
-abbrev pub Ends : {F M W : Type 0} → ReadsOf F → ReadsInputOf F → RunsOf M → HearsOf W → F → F → M → M → W → W → Outputs → Outputs
+abbrev pub Ends : {F M W : Type 0} → ReadsOf F → ReadsInputOf F → ListsOf F → RunsOf M → HearsOf W → F → F → M → M → W → W → Outputs → Outputs
     → Result GivenWords Error → ℕ → Type 0
-Ends Reads ReadsInput Ran hears files read rested ran quiet heard old new given status =
-    IsShown old new (RespondsToWords Reads ReadsInput Ran hears files read rested ran quiet heard given) status
+Ends Reads ReadsInput Lists Ran hears files read rested ran quiet heard old new given status =
+    IsShown old new (RespondsToWords Reads ReadsInput Lists Ran hears files read rested ran quiet heard given) status
 
 abbrev pub exit_of : Result ℕ LabFault → ℕ
 exit_of (Ok status) = status

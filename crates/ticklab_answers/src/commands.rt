@@ -6,6 +6,7 @@ ghost use Rattle.ticklab_answers.specs.Answers.{GivesWords, IsOfWordsOrFile, Nam
 ghost use Rattle.ticklab_answers.specs.Faults.{IsOfFileThat, IsOfWords};
 ghost use Rattle.ticklab_answers.specs.Hearing.{hearing};
 
+mod checking;
 mod drawing;
 mod ends;
 mod explaining;
@@ -22,6 +23,7 @@ use crate::fault::LabFault;
 use crate::host::Files;
 use crate::progress::Progress;
 use crate::response::{Response, help, no_command, schedule_alone};
+pub use checking::checked;
 pub use drawing::drawn;
 pub use ends::explored_ends;
 pub use explaining::explained;
@@ -36,27 +38,29 @@ use std::env::Args;
 use std::io;
 pub use tallying::tallied;
 use tick_merge::Runner;
+use ticklab_check::Checks;
 use ticklab_line::{Line, Request, asked};
 pub use tracing::{source_text, spots_in, traced};
 
-/// The answer to the words of the command line. Runs of a code are made by the runner alone, and random ones of a program
-/// are tried by `trials`.
-pub fn response_to<F: Files, M: Runner, T: Trials, W: Progress>(
+/// The answer to the words of the command line. Runs of a code are made by the runner alone, random ones of a program
+/// are tried by `trials`, and files are checked by `checks`.
+pub fn response_to<F: Files, M: Runner, T: Trials, C: Checks, W: Progress>(
     alloc: Global,
     files: &mut F,
     runner: &mut M,
     trials: &T,
+    checks: &C,
     progress: &mut W,
     given: io::Result<Args>,
 ) -> Result<Response, LabFault>
-    ensures ok { IfOk result (RespondsToWords F.Reads F.ReadsInput M.Ran (hearing W.begins W.hears) files.old files.new runner.old runner.new progress.old progress.new given) }
+    ensures ok { IfOk result (RespondsToWords F.Reads F.ReadsInput F.Lists M.Ran (hearing W.begins W.hears) files.old files.new runner.old runner.new progress.old progress.new given) }
     ensures err { IfErr result (IsOfWordsOrFile given) }
 {
     let words = words_of(alloc, given)?;
     match asked(alloc, words.as_slice())? {
-        Line::Request(request) => answered(alloc, files, runner, trials, progress, request),
+        Line::Request(request) => answered(alloc, files, runner, trials, checks, progress, request),
         Line::Schedule(request) => {
-            let whole = answered(alloc, files, runner, trials, progress, request)?;
+            let whole = answered(alloc, files, runner, trials, checks, progress, request)?;
             Ok(schedule_alone(alloc, whole)?)
         }
         Line::Help(text) => Ok(help(alloc, text)),
@@ -64,15 +68,16 @@ pub fn response_to<F: Files, M: Runner, T: Trials, W: Progress>(
     }
 }
 
-fn answered<F: Files, M: Runner, T: Trials, W: Progress>(
+fn answered<F: Files, M: Runner, T: Trials, C: Checks, W: Progress>(
     alloc: Global,
     files: &mut F,
     runner: &mut M,
     trials: &T,
+    checks: &C,
     progress: &mut W,
     request: Request<&str, Vec<&str>>,
 ) -> Result<Response, LabFault>
-    ensures ok { IfOk result (Responds F.Reads F.ReadsInput M.Ran (hearing W.begins W.hears) files.old files.new runner.old runner.new progress.old progress.new (plain_request request.entry)) }
+    ensures ok { IfOk result (Responds F.Reads F.ReadsInput F.Lists M.Ran (hearing W.begins W.hears) files.old files.new runner.old runner.new progress.old progress.new (plain_request request.entry)) }
     ensures err { IfErr result (IsOfFileThat (NamesOf (plain_request request.entry))) }
 {
     match request {
@@ -91,6 +96,9 @@ fn answered<F: Files, M: Runner, T: Trials, W: Progress>(
         } => {
             let never = never.as_slice();
             explored_ends(alloc, files, progress, file, never, process, limit, steps)
+        }
+        Request::Check { paths, limit, jobs } => {
+            checked(alloc, files, &checks.with_jobs(jobs), &paths, limit)
         }
         Request::Lasso {
             file,

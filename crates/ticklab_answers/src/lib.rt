@@ -2,8 +2,9 @@
 //!
 //! `ticklab_line` says what the words of the command line ask for. Each command has a file in `src/commands`, which
 //! reads its files, makes its answer and says what that is. An answer is a `Response`: what goes to standard output, what
-//! goes to standard error, and the exit status. Files come from a `Files`, a `Runner` makes the runs on threads, and a
-//! `Progress` is told how far a search is. `ended` has the words answered, and then writes.
+//! goes to standard error, and the exit status. Files come from a `Files`, a `Runner` makes the runs on threads, a `Checks`
+//! searches the files of `check`, and a `Progress` is told how far a search is. `ended` has the words answered, and then
+//! writes.
 //! `specs/Answers.antt` has a case for each command. `laws` says what `explore` says of the code.
 //! Start with `ended`.
 #![tactic(auto)]
@@ -26,7 +27,8 @@ mod trapping;
 mod writing;
 
 pub use commands::{
-    drawn, explained, explored, explored_ends, hunted, labelled, lassoed, paged, tallied, traced,
+    checked, drawn, explained, explored, explored_ends, hunted, labelled, lassoed, paged, tallied,
+    traced,
 };
 pub use ending::ended;
 pub use fault::{AnswerFault, LabFault};

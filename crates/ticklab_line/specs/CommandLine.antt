@@ -13,6 +13,13 @@ use Rattle.clap.specs.declared.builder.value_parser.ValueParser.TheVariants.{Sig
 abbrev pub word_rule : Text → Rule
 word_rule name = record (new_rule name) { value_names = 1; required = true }
 
+-- one word or more
+abbrev pub words_rule : Text → Rule
+words_rule name = record (word_rule name) {
+  range = Some (record { start_inclusive = 1; end_inclusive = 18446744073709551615 });
+  action = Some Append;
+}
+
 -- a word that may be there
 abbrev pub further_rule : Text → Rule
 further_rule name = record (new_rule name) { value_names = 1 }

@@ -7,13 +7,13 @@ use Rattle.std.specs.Option.{option_map_or}
 use Rattle.clap.specs.Walk.{Row, Text, all_of, first_of}
 use Rattle.clap.specs.Simple.{App, new_app, on_top, with_rule}
 use Rattle.clap.specs.declared.builder.value_parser.ValueParser.TheVariants.{Signed, Unsigned}
-use Rattle.ticklab_line.specs.CommandLine.{ends_rule, flag_rule, from_one_to, further_rule, number_rule, processes_rule, repeated_rule, text_rule, threads_rule, up_to, with_app, with_file, word_rule}
+use Rattle.ticklab_line.specs.CommandLine.{ends_rule, flag_rule, from_one_to, further_rule, number_rule, processes_rule, repeated_rule, text_rule, threads_rule, up_to, with_app, with_file, word_rule, words_rule}
 use Rattle.ticklab_line.specs.Found.{for_file, for_number, for_number_or, is_set, list_of, number_of, number_or}
 use Rattle.ticklab_line.specs.declared.commands.Steps.{Steps}
 use Rattle.ticklab_line.specs.declared.commands.Steps.TheVariants.{Merged, MergedFirst, Single}
 use Rattle.ticklab_line.specs.declared.commands.Drawing.{Drawing}
 use Rattle.ticklab_line.specs.declared.commands.Request.{Request}
-use Rattle.ticklab_line.specs.declared.commands.Request.TheVariants.{Explore, Ends, Lasso, Hunt, Runs, Trace, Draw, Page, Explain, Labels}
+use Rattle.ticklab_line.specs.declared.commands.Request.TheVariants.{Explore, Ends, Check, Lasso, Hunt, Runs, Trace, Draw, Page, Explain, Labels}
 use Rattle.ticklab_line.specs.declared.commands.Side.{Side}
 use Rattle.ticklab_line.specs.declared.commands.Side.TheVariants.{Program, Code, Lifted}
 
@@ -29,6 +29,11 @@ explore_app = with_rule (with_rule (with_rule (with_rule (with_rule (with_rule (
     (repeated_rule (codes "never")))
     (flag_rule (codes "schedule-only")))
     ends_rule
+
+abbrev pub check_app : App
+check_app = with_rule (with_rule (with_rule (new_app (codes "check")) (words_rule (codes "path")))
+    (number_rule (codes "limit") (up_to 4294967295)))
+    (number_rule (codes "jobs") (from_one_to 64))
 
 abbrev pub lasso_app : App
 lasso_app = with_rule (with_rule (with_file (codes "lasso")) (word_rule (codes "prefix"))) (word_rule (codes "cycle"))
@@ -75,8 +80,8 @@ command_wanted =
     on_top (λ s. record s { subcommand_required = true; arg_required_else_help = true }) (new_app (codes "ticklab"))
 
 abbrev pub ticklab : App
-ticklab = with_app (with_app (with_app (with_app (with_app (with_app (with_app (with_app command_wanted
-    explore_app) lasso_app) hunt_app) (run_app (codes "trace"))) draw_app) page_app) explain_app) labels_app
+ticklab = with_app (with_app (with_app (with_app (with_app (with_app (with_app (with_app (with_app command_wanted
+    explore_app) check_app) lasso_app) hunt_app) (run_app (codes "trace"))) draw_app) page_app) explain_app) labels_app
 
 abbrev pub limit_in : List Row → Option ℕ
 limit_in = number_or 32 (codes "limit") 1000000
@@ -108,6 +113,14 @@ ends_in never rows texts = None
 
 abbrev pub explore_in : List Row → Option Asked
 explore_in rows = option_map_or (ends_in (list_of (codes "never") rows) rows) (all_of (codes "ends") rows) (schedules_in rows)
+
+-- files and folders, of which there is at least one
+abbrev pub check_of : List Text → List Row → Option Asked
+check_of paths rows = for_number_or 32 (codes "limit") 1000000 rows (λ limit. for_number_or 32 (codes "jobs") 64 rows (λ jobs.
+    Some (Check paths limit jobs)))
+
+abbrev pub check_in : List Row → Option Asked
+check_in rows = check_of (list_of (codes "path") rows) rows
 
 abbrev pub lasso_in : List Row → Option Asked
 lasso_in rows = for_file rows (λ file. option_and_then (λ prefix.
@@ -165,6 +178,7 @@ labels_in rows = for_number 8 (codes "processes") rows (λ processes.
 abbrev pub named : Text → List Row → Option Asked
 named name rows =
     if bytes_eq name (codes "explore") then explore_in rows
+    else if bytes_eq name (codes "check") then check_in rows
     else if bytes_eq name (codes "lasso") then lasso_in rows
     else if bytes_eq name (codes "hunt") then hunt_in rows
     else if bytes_eq name (codes "trace") then run_in name rows
@@ -184,6 +198,7 @@ plain_drawing d = record { title = option_map (λ text. text.now) d.title; from 
 abbrev pub plain_request : Request (Bor Text) (Vec (Bor Text) Global) → Asked
 plain_request (Explore file never limit steps) = Explore file.now (map (λ text. text.now) never.items) limit steps
 plain_request (Ends file never process limit steps) = Ends file.now (map (λ text. text.now) never.items) process limit steps
+plain_request (Check paths limit jobs) = Check (map (λ text. text.now) paths.items) limit jobs
 plain_request (Lasso file prefix cycle) = Lasso file.now prefix.now cycle.now
 plain_request (Hunt file never seed runs from steps is_uniform jobs) = Hunt file.now (map (λ text. text.now) never.items) seed runs from steps is_uniform jobs
 plain_request (Runs file times turns) = Runs file.now times turns
@@ -211,6 +226,11 @@ rows = (codes "explore" ∷ codes "a" ∷ codes "--limit" ∷ codes "7" ∷ [], 
     ∷ (codes "explore" ∷ codes "--single" ∷ codes "--ends=1" ∷ codes "a" ∷ [], Ends (codes "a") [] (Some 1) 1000000 Single)
     ∷ (codes "explore" ∷ codes "a" ∷ codes "--ends" ∷ codes "0" ∷ codes "--merged" ∷ [], Ends (codes "a") [] (Some 0) 1000000 Merged)
     ∷ (codes "explore" ∷ codes "--schedule-only" ∷ codes "a" ∷ codes "--ends" ∷ [], Ends (codes "a") [] None 1000000 MergedFirst)
+    ∷ (codes "check" ∷ codes "a" ∷ [], Check (codes "a" ∷ []) 1000000 64)
+    ∷ (
+      codes "check" ∷ codes "--jobs" ∷ codes "2" ∷ codes "a" ∷ codes "b" ∷ codes "--limit=7" ∷ codes "a" ∷ [],
+      Check (codes "a" ∷ codes "b" ∷ codes "a" ∷ []) 7 2,
+    )
     ∷ (codes "lasso" ∷ codes "a" ∷ codes "0 1" ∷ codes "@b" ∷ [], Lasso (codes "a") (codes "0 1") (codes "@b"))
     ∷ (codes "trace" ∷ codes "a" ∷ codes "0 1*3" ∷ [], Trace (codes "a") (codes "0 1*3") [] Program)
     ∷ (

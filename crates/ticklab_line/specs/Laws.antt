@@ -94,6 +94,8 @@ pub record NoCommandsLaw : Type 0 where
   pub merged_true : Tells (codes "explore" ∷ codes "a" ∷ codes "--merged=true" ∷ []) (kind.TooManyValues ∷ [])
   pub version : Tells (codes "--version" ∷ []) (kind.UnknownArgument ∷ [])
   pub no_file : Tells (codes "explore" ∷ []) (kind.MissingRequiredArgument ∷ [])
+  pub no_path : Tells (codes "check" ∷ codes "--limit=7" ∷ []) (kind.MissingRequiredArgument ∷ [])
+  pub no_jobs : Tells (codes "check" ∷ codes "a" ∷ codes "--jobs=0" ∷ []) (kind.ValueValidation ∷ [])
   pub no_schedule : Tells (codes "trace" ∷ codes "a" ∷ []) (kind.MissingRequiredArgument ∷ [])
   pub no_moves : Tells (codes "labels" ∷ codes "2" ∷ []) (kind.MissingRequiredArgument ∷ [])
   pub no_number : Tells (codes "explore" ∷ codes "a" ∷ codes "--limit" ∷ codes "x" ∷ []) (kind.ValueValidation ∷ [])

@@ -1,7 +1,7 @@
 //! The arguments of commands, as they are described to `clap`.
 ghost use Rattle.std.specs.Prelude.{◌≡◌, codes, pos};
 ghost use Rattle.clap.specs.declared.builder.value_parser.ValueParser.TheVariants.{Signed, Unsigned};
-ghost use Rattle.ticklab_line.specs.CommandLine.{IsWord, ends_rule, flag_rule, from_one_to, further_rule, number_rule, processes_rule, repeated_rule, text_rule, threads_rule, up_to, word_rule};
+ghost use Rattle.ticklab_line.specs.CommandLine.{IsWord, ends_rule, flag_rule, from_one_to, further_rule, number_rule, processes_rule, repeated_rule, text_rule, threads_rule, up_to, word_rule, words_rule};
 
 use clap::builder::ValueParser;
 use clap::{Arg, ArgAction, value_parser};
@@ -14,6 +14,14 @@ pub fn word<'a>(alloc: Global, name: &'a str, value: &'a str, help: &'a str) -> 
     ensures { IsWord (word_rule name.entry.now) result }
 {
     further(alloc, name, value, help).required(true)
+}
+
+/// One word or more.
+pub fn words<'a>(alloc: Global, name: &'a str, value: &'a str, help: &'a str) -> Arg<'a>
+    ensures { IsWord (words_rule name.entry.now) result }
+{
+    let words = word(alloc, name, value, help).num_args(1..);
+    words.action(ArgAction::Append)
 }
 
 /// A word that may be left out.
@@ -107,7 +115,7 @@ pub fn length<'a>() -> ValueParser<'a>
     value_parser!(u32).range(0..=10_000_000)
 }
 
-/// How many schedules of a hunt are tried side by side.
+/// How many schedules of a hunt are tried side by side, or how many files are searched.
 pub fn jobs<'a>() -> ValueParser<'a>
     ensures { result ≡ from_one_to 64 }
 {

@@ -4,12 +4,12 @@ ghost use Rattle.clap.specs.Matches.{found_of};
 ghost use Rattle.clap.specs.Walk.{first_of, rows_of};
 ghost use Rattle.clap.specs.Simple.{app_of, subcommand_rows_of};
 ghost use Rattle.ticklab_line.specs.CommandLine.{IsCommand, IsLine};
-ghost use Rattle.ticklab_line.specs.Commands.{command_wanted, draw_app, drawing_in, ends_in, ends_of, explain_app, explain_in, explore_app, explore_in, hunt_app, hunt_in, labels_app, labels_in, lasso_app, lasso_in, limit_in, named, page_app, plain_drawing, plain_request, plan_of, run_app, run_in, run_of, runs_in, schedules_of, side_in, steps_in, ticklab};
+ghost use Rattle.ticklab_line.specs.Commands.{check_app, check_in, check_of, command_wanted, draw_app, drawing_in, ends_in, ends_of, explain_app, explain_in, explore_app, explore_in, hunt_app, hunt_in, labels_app, labels_in, lasso_app, lasso_in, limit_in, named, page_app, plain_drawing, plain_request, plan_of, run_app, run_in, run_of, runs_in, schedules_of, side_in, steps_in, ticklab};
 ghost use Rattle.ticklab_line.specs.Commands.{request_in as found_request};
 
 use crate::arguments::{
     ends, flag, further, jobs, length, option, processes, repeated, schedule_only, step, text,
-    threads, width, word,
+    threads, width, word, words,
 };
 use crate::parts::{STATUSES, filed, named, taking, with};
 use crate::values::{
@@ -74,6 +74,13 @@ pub enum Request<T, L> {
         process: Option<u8>,
         limit: u32,
         steps: Steps,
+    },
+    /// Files, and folders of files: whether each is as it says, as far as it has at most so many states; so many are
+    /// searched side by side.
+    Check {
+        paths: L,
+        limit: u32,
+        jobs: u32,
     },
     /// A schedule that repeats a part of itself for ever, and who runs on there.
     Lasso {
@@ -147,6 +154,7 @@ pub fn command_line<'a>(alloc: Global) -> Result<Command<'a>, AllocError>
     ensures { IsLine ticklab result }
 {
     let line = with(Ok(ticklab(alloc)), explore(alloc));
+    let line = with(line, check(alloc));
     let line = with(line, lasso(alloc));
     let line = with(line, hunt(alloc));
     let line = with(
@@ -194,6 +202,7 @@ fn request_named<'a>(
 {
     match name {
         "explore" => explore_in(alloc, given),
+        "check" => check_in(alloc, given),
         "lasso" => Ok(lasso_in(given)),
         "hunt" => hunt_in(alloc, given),
         "trace" | "draw" | "page" => run_in(alloc, name, given),
@@ -312,6 +321,59 @@ fn limit_in(given: &ArgMatches<'_>) -> Option<u32>
     ensures { result ≡ limit_in (rows_of (found_of given.now)) }
 {
     number_or(given, "limit", 1_000_000)
+}
+
+fn check<'a>(alloc: Global) -> Result<Command<'a>, AllocError>
+    ensures { IsCommand check_app result }
+{
+    let check = taking(
+        named(
+            alloc,
+            "check",
+            "Looks in each file, as explore --merged does, whether it is as its line #! expect says: safe, trap, never or stuck; safe without one",
+        ),
+        words(
+            alloc,
+            "path",
+            "PATH",
+            "A program, - for standard input, or a folder, for the .tick files in it by name",
+        ),
+    );
+    let check = taking(
+        check,
+        option(
+            alloc,
+            "limit",
+            "STATES",
+            value_parser!(u32),
+            "Gives a file up where it has more merged states than this [default: 1000000]",
+        ),
+    );
+    taking(
+        check,
+        option(
+            alloc,
+            "jobs",
+            "N",
+            jobs(),
+            "How many files are searched side by side, 1 to 64 [default: as many as there are processors]",
+        ),
+    )
+}
+
+fn check_in<'a>(alloc: Global, given: &ArgMatches<'a>) -> Result<Option<Lent<'a>>, AllocError>
+    ensures { IfOk result (λ found. option_map plain_request found ≡ check_in (rows_of (found_of given.now))) }
+{
+    let paths = list_in(alloc, given, "path")?;
+    Ok(check_of(given, paths))
+}
+
+fn check_of<'a>(given: &ArgMatches<'a>, paths: Vec<&'a str>) -> Option<Lent<'a>>
+    ensures { option_map plain_request result ≡ check_of (map (λ text. text.now) paths.entry.items) (rows_of (found_of given.now)) }
+{
+    let limit = limit_in(given)?;
+    let jobs = number_or(given, "jobs", 64)?;
+    Some(Request::Check { paths, limit, jobs })
 }
 
 fn lasso<'a>(alloc: Global) -> Result<Command<'a>, AllocError>

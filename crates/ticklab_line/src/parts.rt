@@ -9,13 +9,13 @@ use clap::{Arg, Command};
 use std::alloc::{AllocError, Global};
 
 pub const STATUSES: &str = "Exit status: \
-0 it is done: what was asked for is printed, and explore and hunt found nothing; \
+0 it is done: what was asked for is printed, explore and hunt found nothing, and check found all as expected; \
 1 the program, code, schedule or #! line is refused; \
 2 the command line is; \
 3 a file could not be read, or the answer not be written; \
 4 memory or a thread was refused; \
-5 explore or hunt found a schedule under which a process traps or a #! never line breaks; \
-6 explore met its limit; \
+5 explore or hunt found a schedule under which a process traps or a #! never line breaks, or check what was not expected; \
+6 explore or check met its limit; \
 7 explore found a schedule after which what was asked for can't end or never does, or lasso says that it never does. \
 All but the answer is told on standard error.";
 
