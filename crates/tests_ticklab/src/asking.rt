@@ -19,6 +19,7 @@ pub fn asked_for(alloc: Global, words: &[&str]) -> Result<String, Fail> {
     match asked(alloc, words.as_slice())? {
         Line::Request(request) => Ok(format!(in alloc; "{request:?}")?),
         Line::Schedule(request) => Ok(format!(in alloc; "the schedule of {request:?}")?),
+        Line::Json(request) => Ok(format!(in alloc; "as JSON {request:?}")?),
         Line::Help(_text) => Ok(String::from_str(alloc, "help")?),
         Line::Refused(text) => Ok(format!(in alloc; "{text}")?),
     }

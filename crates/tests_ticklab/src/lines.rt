@@ -3,7 +3,15 @@ use crate::asking::asked_for;
 use std::test::Fail;
 use tests_shared::is_same;
 
-static ASKED: [(&[&str], &str); 26] = [
+static ASKED: [(&[&str], &str); 28] = [
+    (
+        &["trace", "--json", "a", "0", "--lift"],
+        "as JSON Trace { file: \"a\", schedule: \"0\", never: [], side: Lifted }",
+    ),
+    (
+        &["hunt", "a", "--json"],
+        "as JSON Hunt { file: \"a\", never: [], seed: 0, runs: 10000, from: 0, steps: 300, is_uniform: false, jobs: 64 }",
+    ),
     (
         &["explore", "a", "--schedule-only"],
         "the schedule of Explore { file: \"a\", never: [], limit: 4294967295, memory: 1000, steps: MergedFirst }",

@@ -21,10 +21,11 @@ use Rattle.ticklab_answers.specs.Labels.{DrawsLabels}
 use Rattle.ticklab_answers.specs.Lasso.{IsOfThree, Lassoes}
 use Rattle.ticklab_answers.specs.Reading.{ReadsOf, ReadsInputOf}
 use Rattle.ticklab_answers.specs.Responses.{Gives, IsScheduleOf, Refuses}
-use Rattle.ticklab_answers.specs.Runs.{Draws, Pages, Traces}
+use Rattle.ticklab_answers.specs.Runs.{Draws, Pages, Traces, TracesAsJson}
 use Rattle.ticklab_answers.specs.Tallies.{RunsOf, Tallies}
 use Rattle.ticklab_answers.specs.declared.fault.LabFault.{LabFault}
 use Rattle.ticklab_answers.specs.declared.fault.LabFault.TheVariants.{Words, Unread, Host, Answer}
+use Rattle.ticklab_answers.specs.declared.form.Form.TheVariants.{Text, Json}
 use Rattle.ticklab_answers.specs.declared.response.Response.{Response}
 
 -- the words that the host gave
@@ -54,7 +55,7 @@ module _ {F M W : Type 0} (Reads : ReadsOf F) (ReadsInput : ReadsInputOf F) (Lis
   Responds (Lasso file prefix cycle) response =
       (ran ≡ rested) × (heard ≡ quiet) × Lassoes Reads ReadsInput before after file prefix cycle response
   Responds (Hunt file never seed runs from steps is_uniform jobs) response =
-      (ran ≡ rested) × (heard ≡ quiet) × Hunts Reads ReadsInput before after file never (plan_of seed runs steps is_uniform) from response
+      (ran ≡ rested) × (heard ≡ quiet) × Hunts Reads ReadsInput before after file never (plan_of seed runs steps is_uniform) from Text response
   Responds (Runs file times turns) response = (heard ≡ quiet) × Tallies Reads ReadsInput Ran before after rested ran file times turns response
   Responds (Trace file schedule never side) response =
       (ran ≡ rested) × (heard ≡ quiet) × Traces Reads ReadsInput before after file schedule never side response
@@ -65,6 +66,14 @@ module _ {F M W : Type 0} (Reads : ReadsOf F) (ReadsInput : ReadsInputOf F) (Lis
   Responds (Explain file schedule) response = (ran ≡ rested) × (heard ≡ quiet) × Explains Reads ReadsInput before after file schedule response
   Responds (Labels processes moves) response = (ran ≡ rested) × (heard ≡ quiet) × (after ≡ before) × DrawsLabels processes moves response
 
+  -- as JSON, where the command has such answers
+  abbrev pub RespondsAsJson : Asked → Response → Type 0
+  RespondsAsJson (Trace file schedule never side) response =
+      (ran ≡ rested) × (heard ≡ quiet) × TracesAsJson Reads ReadsInput before after file schedule never side response
+  RespondsAsJson (Hunt file never seed runs from steps is_uniform jobs) response =
+      (ran ≡ rested) × (heard ≡ quiet) × Hunts Reads ReadsInput before after file never (plan_of seed runs steps is_uniform) from Json response
+  RespondsAsJson request response = Responds request response
+
   -- the schedule alone of the answer to a request
   abbrev pub RespondsAlone : Asked → Response → Type 0
   RespondsAlone request response = (whole : Response) × Responds request whole × IsScheduleOf whole response
@@ -73,6 +82,7 @@ module _ {F M W : Type 0} (Reads : ReadsOf F) (ReadsInput : ReadsInputOf F) (Lis
   abbrev pub RespondsTo : Line → Response → Type 0
   RespondsTo (line.Request request) response = Responds (plain_request request) response
   RespondsTo (line.Schedule request) response = RespondsAlone (plain_request request) response
+  RespondsTo (line.Json request) response = RespondsAsJson (plain_request request) response
   RespondsTo (line.Help text) response =
       (ran ≡ rested) × (heard ≡ quiet) × (after ≡ before) × Gives 0 (λ out. out ≡ string_bytes text) response
   RespondsTo (line.Refused text) response =
@@ -100,6 +110,7 @@ NamesOf (Labels processes moves) name = ⊥
 abbrev pub NamesOfLine : Line → List ℕ → Type 0
 NamesOfLine (line.Request request) name = NamesOf (plain_request request) name
 NamesOfLine (line.Schedule request) name = NamesOf (plain_request request) name
+NamesOfLine (line.Json request) name = NamesOf (plain_request request) name
 NamesOfLine (line.Help text) name = ⊥
 NamesOfLine (line.Refused text) name = ⊥
 

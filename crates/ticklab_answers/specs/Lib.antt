@@ -10,12 +10,14 @@ pub mod Exploring
 pub mod Faults
 pub mod Found
 pub mod Hearing
+pub mod HuntObjects
 pub mod Hunting
 pub mod Labels
 pub mod Lasso
 pub mod Laws
 pub mod Lines
 pub mod Loops
+pub mod Objects
 pub mod Pages
 pub mod Pictures
 pub mod Reading

@@ -26,13 +26,14 @@ use Rattle.ticklab_answers.specs.Asking.{AsksNever, IsFileRefused, IsProgramFile
 use Rattle.ticklab_answers.specs.Breaking.{IsFirstBreak, NeverBreaks}
 use Rattle.ticklab_answers.specs.Codes.{HasCode, IsCodeless, program_code}
 use Rattle.ticklab_answers.specs.Lines.{broken_text, long_run_line}
+use Rattle.ticklab_answers.specs.Objects.{AreObjects}
 use Rattle.ticklab_answers.specs.Pages.{IsPage}
 use Rattle.ticklab_answers.specs.Pictures.{IsPictureFor, title_of}
 use Rattle.ticklab_answers.specs.Reading.{AfterBoth, ReadsOf, ReadsInputOf}
 use Rattle.ticklab_answers.specs.Responses.{Gives, Refuses}
 use Rattle.ticklab_answers.specs.declared.breaking.Break.{Break}
 use Rattle.ticklab_answers.specs.declared.commands.told_run.Telling.{Telling}
-use Rattle.ticklab_answers.specs.declared.commands.told_run.Telling.TheVariants.{Trace, Picture, Page}
+use Rattle.ticklab_answers.specs.declared.commands.told_run.Telling.TheVariants.{Trace, Picture, Page, Objects}
 use Rattle.ticklab_answers.specs.declared.response.Response.{Response}
 
 -- the schedule under which it runs, where this one is given
@@ -123,12 +124,14 @@ abbrev pub plain_telling : Telling (Bor (List ℕ)) → Telling (List ℕ)
 plain_telling Trace = Trace
 plain_telling (Picture drawing) = Picture (plain_drawing drawing)
 plain_telling (Page title) = Page (option_map (λ text. text.now) title)
+plain_telling Objects = Objects
 
--- a run is told as a trace, as a picture or as a page
+-- a run is told as a trace, as a picture, as a page or as objects of JSON
 abbrev pub IsToldWith : Telling (List ℕ) → Bool → List ℕ → List Formula → List TextPlace → List ℕ → WholeProgram Name → List ℕ → List ℕ → Type 0
 IsToldWith Trace is_code name lines places input = IsTrace is_code lines places input
 IsToldWith (Picture drawing) is_code name lines places input = IsPictureFor drawing is_code name lines places
 IsToldWith (Page title) is_code name lines places input = IsPage (title_of title name) is_code lines places input
+IsToldWith Objects is_code name lines places input = AreObjects is_code lines places input
 
 abbrev pub IsTold : Telling (List ℕ) → Side → (name : List ℕ) (texts : List (List ℕ)) (input : List ℕ) → Told texts input
 IsTold telling side name texts input asks =
@@ -142,6 +145,9 @@ TellsRun telling Reads ReadsInput before after file schedule never side response
 
 abbrev pub Traces : {F : Type 0} → ReadsOf F → ReadsInputOf F → F → F → List ℕ → List ℕ → List (List ℕ) → Side → Response → Type 0
 Traces Reads ReadsInput before after file schedule never side response = TellsRun Trace Reads ReadsInput before after file schedule never side response
+
+abbrev pub TracesAsJson : {F : Type 0} → ReadsOf F → ReadsInputOf F → F → F → List ℕ → List ℕ → List (List ℕ) → Side → Response → Type 0
+TracesAsJson Reads ReadsInput before after file schedule never side response = TellsRun Objects Reads ReadsInput before after file schedule never side response
 
 abbrev pub Draws : {F : Type 0} → ReadsOf F → ReadsInputOf F → F → F → List ℕ → List ℕ → List (List ℕ) → Side → Drawing (List ℕ) → Response → Type 0
 Draws Reads ReadsInput before after file schedule never side drawing response =

@@ -16,6 +16,9 @@ use Rattle.searches_hunt.specs.declared.plan.Plan.{Plan}
 use Rattle.ticklab_explain.specs.Questions.{IsPointed}
 use Rattle.ticklab_answers.specs.Asking.{TextPlace}
 use Rattle.ticklab_answers.specs.BySteps.{break_line_by, line_by}
+use Rattle.ticklab_answers.specs.HuntObjects.{GivesEmptyHunt, GivesHuntBroken, GivesHuntTrap}
+use Rattle.ticklab_answers.specs.declared.form.Form.{Form}
+use Rattle.ticklab_answers.specs.declared.form.Form.TheVariants.{Text, Json}
 use Rattle.ticklab_answers.specs.Lines.{broken_text, can_end_line, endless_line, ends_line, half_line, limit_line, minimal_break_line, minimal_line, nothing_line, safe_line, stuck_line, trap_lines}
 use Rattle.ticklab_answers.specs.Loops.{IsLoopText}
 use Rattle.ticklab_answers.specs.Responses.{Gives}
@@ -70,11 +73,25 @@ ShowsMinimal input a places (M.Trapped schedule) response = ShowsTrap minimal_li
 ShowsMinimal input a places (M.Broken schedule line v) response =
     ShowsBroken minimal_break_line input a places schedule.items line v response
 
-abbrev pub ShowsHunt : List ℕ → WholeProgram Name → List TextPlace → Plan → ℕ → NeverHunted → Response → Type 0
-ShowsHunt input a places plan from (H.Trapped run schedule) response = ShowsTrap minimal_line input a schedule.items response
-ShowsHunt input a places plan from (H.Broken run schedule line v) response =
-    ShowsBroken minimal_break_line input a places schedule.items line v response
-ShowsHunt input a places plan from H.Nothing response = ShowsNothing (length places) plan from response
+-- What a hunt has found, in each form.
+
+abbrev pub ShowsHuntTrap : Form → Plan → ℕ → List ℕ → WholeProgram Name → List ℕ → Response → Type 0
+ShowsHuntTrap Text plan from input a schedule = ShowsTrap minimal_line input a schedule
+ShowsHuntTrap Json plan from input a schedule = GivesHuntTrap plan from input a schedule
+
+abbrev pub ShowsHuntBroken : Form → Plan → ℕ → List ℕ → WholeProgram Name → List TextPlace → List ℕ → ℕ → Valued → Response → Type 0
+ShowsHuntBroken Text plan from input a places schedule line v = ShowsBroken minimal_break_line input a places schedule line v
+ShowsHuntBroken Json plan from input a places schedule line v = GivesHuntBroken plan from input a places schedule line v
+
+abbrev pub ShowsEmptyHunt : Form → ℕ → Plan → ℕ → Response → Type 0
+ShowsEmptyHunt Text lines plan from = ShowsNothing lines plan from
+ShowsEmptyHunt Json lines plan from = GivesEmptyHunt plan from
+
+abbrev pub ShowsHunt : Form → List ℕ → WholeProgram Name → List TextPlace → Plan → ℕ → NeverHunted → Response → Type 0
+ShowsHunt form input a places plan from (H.Trapped run schedule) response = ShowsHuntTrap form plan from input a schedule.items response
+ShowsHunt form input a places plan from (H.Broken run schedule line v) response =
+    ShowsHuntBroken form plan from input a places schedule.items line v response
+ShowsHunt form input a places plan from H.Nothing response = ShowsEmptyHunt form (length places) plan from response
 
 -- Of so many lines that must never hold none breaks.
 

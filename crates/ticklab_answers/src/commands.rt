@@ -2,7 +2,7 @@
 ghost use Rattle.std.specs.Prelude.{◌≡◌, IfErr, IfOk};
 ghost use Rattle.std.specs.Vec.Iter.{into_iter_items};
 ghost use Rattle.ticklab_line.specs.Commands.{plain_request};
-ghost use Rattle.ticklab_answers.specs.Answers.{GivesWords, IsOfWordsOrFile, NamesOf, Responds, RespondsToWords, limits_of};
+ghost use Rattle.ticklab_answers.specs.Answers.{GivesWords, IsOfWordsOrFile, NamesOf, Responds, RespondsAsJson, RespondsToWords, limits_of};
 ghost use Rattle.ticklab_answers.specs.Faults.{IsOfFileThat, IsOfWords};
 ghost use Rattle.ticklab_answers.specs.Hearing.{hearing};
 
@@ -11,15 +11,18 @@ mod drawing;
 mod ends;
 mod explaining;
 mod exploring;
+mod hunt_objects;
 mod hunting;
 mod labels;
 mod lasso;
+mod objects;
 mod paging;
 mod tallying;
 mod told_run;
 mod tracing;
 
 use crate::fault::LabFault;
+use crate::form::Form;
 use crate::host::Files;
 use crate::progress::Progress;
 use crate::response::{Response, help, no_command, schedule_alone};
@@ -31,6 +34,7 @@ pub use exploring::explored;
 pub use hunting::{hunted, plan_of};
 pub use labels::labelled;
 pub use lasso::lassoed;
+pub use objects::traced_as_json;
 pub use paging::paged;
 use searches_explore::Limits;
 use searches_hunt::Trials;
@@ -64,6 +68,9 @@ pub fn response_to<F: Files, M: Runner, T: Trials, C: Checks, W: Progress>(
             let whole = answered(alloc, files, runner, trials, checks, progress, request)?;
             Ok(schedule_alone(alloc, whole)?)
         }
+        Line::Json(request) => {
+            answered_as_json(alloc, files, runner, trials, checks, progress, request)
+        }
         Line::Help(text) => Ok(help(alloc, text)),
         Line::Refused(text) => Ok(no_command(alloc, text)),
     }
@@ -76,6 +83,44 @@ fn limits_of(states: u32, megabytes: u32) -> Limits
     Limits {
         states,
         bytes: u64::from(megabytes) * 1_000_000,
+    }
+}
+
+// As JSON, where the command has such answers.
+fn answered_as_json<F: Files, M: Runner, T: Trials, C: Checks, W: Progress>(
+    alloc: Global,
+    files: &mut F,
+    runner: &mut M,
+    trials: &T,
+    checks: &C,
+    progress: &mut W,
+    request: Request<&str, Vec<&str>>,
+) -> Result<Response, LabFault>
+    ensures ok { IfOk result (RespondsAsJson F.Reads F.ReadsInput F.Lists M.Ran (hearing W.begins W.hears) files.old files.new runner.old runner.new progress.old progress.new (plain_request request.entry)) }
+    ensures err { IfErr result (IsOfFileThat (NamesOf (plain_request request.entry))) }
+{
+    match request {
+        Request::Trace {
+            file,
+            schedule,
+            never,
+            side,
+        } => traced_as_json(alloc, files, file, schedule, &never, side),
+        Request::Hunt {
+            file,
+            never,
+            seed,
+            runs,
+            from,
+            steps,
+            is_uniform,
+            jobs,
+        } => {
+            let plan = plan_of(seed, runs, steps, is_uniform);
+            let trials = trials.with_jobs(jobs);
+            hunted(alloc, files, &trials, file, &never, plan, from, Form::Json)
+        }
+        request => answered(alloc, files, runner, trials, checks, progress, request),
     }
 }
 
@@ -147,6 +192,7 @@ fn answered<F: Files, M: Runner, T: Trials, C: Checks, W: Progress>(
                 &never,
                 plan,
                 from,
+                Form::Text,
             )
         }
         Request::Runs { file, times, turns } => tallied(alloc, files, runner, file, times, turns),

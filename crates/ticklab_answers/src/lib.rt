@@ -16,6 +16,7 @@ mod counts;
 mod ending;
 mod fault;
 mod files;
+mod form;
 mod host;
 pub mod laws;
 mod progress;
@@ -33,6 +34,7 @@ pub use commands::{
 pub use ending::ended;
 pub use fault::{AnswerFault, LabFault};
 pub use files::MOST_BYTES;
+pub use form::Form;
 pub use host::{Files, Host};
 pub use progress::Progress;
 pub use response::Response;

@@ -146,7 +146,8 @@ fn mark_of<'l>(count: usize, place: &PropertyPlace<'l>, broken: Break) -> NeverM
     }
 }
 
-fn part_of(text: &[u8], span: Span) -> &[u8]
+/// What stands there in a text.
+pub fn part_of(text: &[u8], span: Span) -> &[u8]
     ensures { result.now ≡ take (span.end - span.start) (drop span.start text.now) }
 {
     let start = span.start.min(text.len());

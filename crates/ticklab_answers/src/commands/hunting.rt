@@ -10,12 +10,15 @@ ghost use Rattle.ticklab_answers.specs.Hunting.{Hunts, IsHunted, plan_of};
 ghost use Rattle.ticklab_answers.specs.Lines.{from_text, nothing_line, plan_text, runs_from};
 ghost use Rattle.ticklab_answers.specs.Shown.{ShowsHunt};
 ghost use Rattle.ticklab_answers.specs.Stops.{IfRefused};
+ghost use Rattle.ticklab_answers.specs.declared.form.Form.TheVariants.{Text};
 
 use crate::asking::NeverLines;
 use crate::commands::exploring::safe_text;
+use crate::commands::hunt_objects::shown_as_json;
 use crate::counts::push_many;
 use crate::fault::LabFault;
 use crate::files::bytes_of;
+use crate::form::Form;
 use crate::host::Files;
 use crate::reading::asked_program;
 use crate::response::{DONE, Response, answer, settled};
@@ -61,12 +64,14 @@ pub fn hunted<F: Files, T: Trials>(
     never: &[&str],
     plan: Plan,
     from: u32,
+    form: Form,
 ) -> Result<Response, LabFault>
-    ensures ok { IfOk result (Hunts F.Reads F.ReadsInput files.old files.new file.now (texts_of never.now) plan from) }
+    ensures ok { IfOk result (Hunts F.Reads F.ReadsInput files.old files.new file.now (texts_of never.now) plan from form) }
     ensures err { IfErr result (IsOfFile file.now) }
 {
     let input = bytes_of(alloc, files, file)?;
-    let hunted = random_schedules(alloc, trials, file, never, input.as_slice(), plan, from);
+    let bytes = input.as_slice();
+    let hunted = random_schedules(alloc, trials, file, never, bytes, plan, from, form);
     Ok(settled(alloc, hunted)?)
 }
 
@@ -78,8 +83,9 @@ fn random_schedules<T: Trials>(
     input: &[u8],
     plan: Plan,
     from: u32,
+    form: Form,
 ) -> Result<Response, NoAnswer>
-    ensures ok { IfOk result (IsHunted name.now (texts_of never.now) plan from input.now) }
+    ensures ok { IfOk result (IsHunted name.now (texts_of never.now) plan from form input.now) }
     ensures refused { IfErr result (λ stop. IfRefused stop (IsUnexplored name.now (texts_of never.now) input.now)) }
 {
     let asked = match asked_program(alloc, name, input, never) {
@@ -90,11 +96,33 @@ fn random_schedules<T: Trials>(
     let lines = &asked.lines;
     let properties = lines.properties.as_slice();
     let hunted = hunt_by(trials, alloc, &spelled.program, properties, plan, from)?;
-    Ok(shown(alloc, spelled, input, lines, plan, from, &hunted)?)
+    Ok(shown(alloc, form, spelled, input, lines, plan, from, &hunted)?)
+}
+
+// The answer in this form.
+fn shown(
+    alloc: Global,
+    form: Form,
+    spelled: &SpelledProgram,
+    input: &[u8],
+    lines: &NeverLines<'_>,
+    plan: Plan,
+    from: u32,
+    hunted: &NeverHunted,
+) -> Result<Response, NoMemory>
+    requires schedule { IfFault hunted.now (λ run. All (λ p. p < (resolved spelled.now.program).processes)) }
+    requires line { IfBroken hunted.now (λ schedule line v. line < length lines.now.places.items) }
+    requires program { SpelledIn input.now spelled.now }
+    ensures { IfOk result (ShowsHunt form input.now spelled.now.program (map place_of lines.now.places.items) plan from hunted.now) }
+{
+    match form {
+        Form::Text => shown_as_text(alloc, spelled, input, lines, plan, from, hunted),
+        Form::Json => shown_as_json(alloc, spelled, input, lines, plan, from, hunted),
+    }
 }
 
 // The answer that tells what the hunt came to.
-fn shown(
+fn shown_as_text(
     alloc: Global,
     spelled: &SpelledProgram,
     input: &[u8],
@@ -106,7 +134,7 @@ fn shown(
     requires schedule { IfFault hunted.now (λ run. All (λ p. p < (resolved spelled.now.program).processes)) }
     requires line { IfBroken hunted.now (λ schedule line v. line < length lines.now.places.items) }
     requires program { SpelledIn input.now spelled.now }
-    ensures { IfOk result (ShowsHunt input.now spelled.now.program (map place_of lines.now.places.items) plan from hunted.now) }
+    ensures { IfOk result (ShowsHunt Text input.now spelled.now.program (map place_of lines.now.places.items) plan from hunted.now) }
 {
     match hunted {
         NeverHunted::Trapped { schedule, .. } => {

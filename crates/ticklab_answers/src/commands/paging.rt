@@ -59,7 +59,7 @@ pub fn within_a_page(
     ensures refused { IfErr result (λ stop. IfRefused stop (IsTooLong (plain_telling telling.now) from.now count)) }
 {
     match telling {
-        Telling::Trace | Telling::Picture(_) => Ok(()),
+        Telling::Trace | Telling::Picture(_) | Telling::Objects => Ok(()),
         Telling::Page(_) => {
             if count > MOST_STEPS {
                 let line = long_run_line(alloc, from, count)?;

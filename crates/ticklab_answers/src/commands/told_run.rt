@@ -11,6 +11,7 @@ ghost use Rattle.ticklab_answers.specs.Runs.{IsRun, IsTold, IsToldWith, IsUnrun,
 ghost use Rattle.ticklab_answers.specs.Stops.{IfRefused};
 
 use crate::commands::drawing::{look_of, picture_of, steps_to, title_of};
+use crate::commands::objects::objects_of;
 use crate::commands::paging::{page_of, within_a_page};
 use crate::commands::tracing::trace_of;
 use crate::fault::LabFault;
@@ -33,6 +34,8 @@ pub enum Telling<T> {
     Picture(Drawing<T>),
     /// A page of HTML, with this title where that is not the file's name.
     Page(Option<T>),
+    /// An object of JSON for each step.
+    Objects,
 }
 
 /// The run of the program under a schedule, or of its code, told so.
@@ -142,6 +145,7 @@ fn telling_of(
     let lines = &asked.lines;
     match telling {
         Telling::Trace => trace_of(alloc, name, spelled, input, lines, schedule, is_code),
+        Telling::Objects => objects_of(alloc, name, spelled, input, lines, schedule, is_code),
         Telling::Page(title) => page_of(
             alloc,
             name,

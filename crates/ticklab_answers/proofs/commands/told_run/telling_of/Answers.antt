@@ -8,6 +8,9 @@ use Rattle.ticklab_answers.proofs.commands.told_run.telling_of.Goals as goal
 pub returns-in-Trace-clause-ok : goal.returns-in-Trace-clause-ok
 returns-in-Trace-clause-ok c = rw c.in-Trace.is c.trace_of.ensures.ok
 
+pub returns-in-Objects-clause-ok : goal.returns-in-Objects-clause-ok
+returns-in-Objects-clause-ok c = rw c.in-Objects.is c.objects_of.ensures.ok
+
 pub returns-in-Page-clause-ok : goal.returns-in-Page-clause-ok
 returns-in-Page-clause-ok c =
     let lines = c.args.asked.now.lines in
