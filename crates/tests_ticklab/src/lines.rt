@@ -37,7 +37,9 @@ static ASKED: [(&[&str], &str); 28] = [
         "Explore { file: \"a\", never: [], limit: 4294967295, memory: 1, steps: MergedFirst }",
     ),
     (
-        &["explore", "a", "--ends", "--memory", "1000000", "--limit", "5"],
+        &[
+            "explore", "a", "--ends", "--memory", "1000000", "--limit", "5",
+        ],
         "Ends { file: \"a\", never: [], process: None, limit: 5, memory: 1000000, steps: MergedFirst }",
     ),
     (
