@@ -3,6 +3,7 @@
 complete -c ticklab -f
 complete -c ticklab -n 'test (count (commandline -opc)) -eq 1' -s h -l help -d 'Print help'
 complete -c ticklab -n 'test (count (commandline -opc)) -eq 1' -a explore -d 'Looks under every schedule for one under which a process traps, and then for a shortest one'
+complete -c ticklab -n 'test (count (commandline -opc)) -eq 1' -a check -d 'Looks in each file, as explore --merged does, whether it is as its line #! expect says: safe, trap, never or stuck; safe without one'
 complete -c ticklab -n 'test (count (commandline -opc)) -eq 1' -a lasso -d 'Says whether a schedule can repeat a part of itself for ever, each process that runs there again and again'
 complete -c ticklab -n 'test (count (commandline -opc)) -eq 1' -a hunt -d 'Looks under random schedules for one under which a process traps or a line #! never breaks, and leaves out of it what can be'
 complete -c ticklab -n 'test (count (commandline -opc)) -eq 1' -a trace -d 'Prints a line for each step of a run'
@@ -19,6 +20,10 @@ complete -c ticklab -n 'contains -- explore (commandline -opc)[2]' -l schedule-o
 complete -c ticklab -n 'contains -- explore (commandline -opc)[2]' -l ends -x -d 'Asks too whether all processes can still end after every schedule, or process P'
 complete -c ticklab -n 'contains -- explore (commandline -opc)[2]' -s h -l help -d 'Print help'
 complete -c ticklab -n 'contains -- explore (commandline -opc)[2]' -F
+complete -c ticklab -n 'contains -- check (commandline -opc)[2]' -l limit -x -d 'Gives a file up where it has more merged states than this [default: 1000000]'
+complete -c ticklab -n 'contains -- check (commandline -opc)[2]' -l jobs -x -d 'How many files are searched side by side, 1 to 64 [default: as many as there are processors]'
+complete -c ticklab -n 'contains -- check (commandline -opc)[2]' -s h -l help -d 'Print help'
+complete -c ticklab -n 'contains -- check (commandline -opc)[2]' -F
 complete -c ticklab -n 'contains -- lasso (commandline -opc)[2]' -s h -l help -d 'Print help'
 complete -c ticklab -n 'contains -- lasso (commandline -opc)[2]' -F
 complete -c ticklab -n 'contains -- hunt (commandline -opc)[2]' -l seed -x -d 'Where the random numbers start: the same seed gives the same answer [default: 0]'
@@ -60,4 +65,4 @@ complete -c ticklab -n 'contains -- explain (commandline -opc)[2]' -s h -l help 
 complete -c ticklab -n 'contains -- explain (commandline -opc)[2]' -F
 complete -c ticklab -n 'contains -- explain (commandline -opc)[2]' -a '(set -l word (commandline -ct); string match -q \'@*\' -- $word; and string replace -r \'^\' @ -- (__fish_complete_path (string sub -s 2 -- $word)))'
 complete -c ticklab -n 'contains -- labels (commandline -opc)[2]' -s h -l help -d 'Print help'
-complete -c ticklab -n 'contains -- help (commandline -opc)[2]' -a 'explore lasso hunt trace draw page explain labels help'
+complete -c ticklab -n 'contains -- help (commandline -opc)[2]' -a 'explore check lasso hunt trace draw page explain labels help'
