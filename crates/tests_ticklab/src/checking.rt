@@ -50,7 +50,7 @@ const NEVER: Row = (
 // Each waits for the other's first.
 const STUCK: Row = (
     "stuck",
-    "processes 2; reg r; var x; begin while (x == 0) { x = get r (1 - me); } put r 1; end\n#! ends 0\n#! expect stuck",
+    "processes 2; var x; reg r; begin while (x == 0) { x = get r (1 - me); } put r 1; end\n#! ends 0\n#! expect stuck",
     "stuck: stuck, as expected, 4 merged states, 12.34 s\n",
 );
 
@@ -75,7 +75,7 @@ const NOT_STUCK: Row = (
 // It is not said who has to end.
 const WAITING: Row = (
     "waiting",
-    "processes 2; reg r; var x; begin while (x == 0) { x = get r (1 - me); } put r 1; end\n#! expect never",
+    "processes 2; var x; reg r; begin while (x == 0) { x = get r (1 - me); } put r 1; end\n#! expect never",
     "waiting: safe, but never was expected, 4 merged states, 12.34 s\n",
 );
 
