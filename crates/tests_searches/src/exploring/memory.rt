@@ -98,7 +98,7 @@ struct Search {
     text: &'static str,
     /// How many states there are, and how many bytes one takes at least: of all together less than twice as many.
     states: u32,
-    each: u64,
+    each: u32,
 }
 
 // Within as many bytes as it holds without a limit it answers the same, within half as many it stops.
@@ -116,7 +116,7 @@ fn is_limited(alloc: Global, search: Search) -> Result<(), Fail> {
         &(ample.states, ample.gone, ample.is_more),
         &(states, states, true),
     )?;
-    let least = u64::from(states) * each;
+    let least = u64::from(states) * u64::from(each);
     holds(
         ample.bytes >= least && ample.bytes / 2 < least,
         (kind, ample.bytes),
