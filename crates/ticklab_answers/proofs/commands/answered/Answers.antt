@@ -1,4 +1,5 @@
 use Rattle.std.proofs.Common.{ℕ, Bor, IfErr, List, option_map, refl, subst}
+use Rattle.searches_states.specs.declared.limits.Limits.{Limits}
 use Rattle.ticklab_line.specs.Commands.{plain_drawing}
 use Rattle.ticklab_answers.specs.Asking.{texts_of}
 use Rattle.ticklab_answers.specs.Checks.{ChecksAll, IsUnderOne}
@@ -14,8 +15,10 @@ returns-in-Check-clause-ok g c =
     (λ x h. (
       refl,
       refl,
-      subst (λ (paths : List (Bor (List ℕ))). ChecksAll g.F.Files.Reads g.F.Files.ReadsInput g.F.Files.Lists c.args.files.now c.checked.new.files (texts_of paths) t.limit x)
-          c.deref-in-Check.ensures.value h,
+      subst (λ (limits : Limits). ChecksAll g.F.Files.Reads g.F.Files.ReadsInput g.F.Files.Lists c.args.files.now c.checked.new.files (texts_of t.paths.items) limits x)
+          c.limits_of-limits-in-Check.ensures
+          (subst (λ (paths : List (Bor (List ℕ))). ChecksAll g.F.Files.Reads g.F.Files.ReadsInput g.F.Files.Lists c.args.files.now c.checked.new.files (texts_of paths) c.limits_of-limits-in-Check.result x)
+          c.deref-in-Check.ensures.value h),
     )) c.checked.ensures.ok)
 
 pub returns-in-Check-clause-err : goal.returns-in-Check-clause-err
