@@ -126,6 +126,11 @@ class Source:
         ends = next(at for at in range(opens, len(before)) if before[at].endswith("{"))
         return "\n".join(before[opens : ends + 1])
 
+    def has_shared_proof(self, function):
+        """Whether there are pages of its proof as that of a function which calls itself."""
+        before, _, name = function.path.replace("::", "/").rpartition("/")
+        return os.path.isdir(f"{self.folder}/proofs/{before}/+{name}")
+
     def is_answered(self, function):
         """Whether a page of its proof says something of a function that belongs to a cycle, but for its measure."""
         own = re.compile(rf"(?m)^(?:abbrev )?pub (?:invariant-)?{function.name()}-")
