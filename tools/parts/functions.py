@@ -35,7 +35,7 @@ class Function:
 
     def may_stand_twice(self, types):
         """Whether it belongs to no trait, no constant is made by it, and it is no test."""
-        of_trait = self.owner[:1].isupper() and self.owner not in types
+        of_trait = bool(self.owner) and self.owner not in types
         return not (of_trait or self.is_const or "#[test" in "\n".join(self.text))
 
     def body(self):
