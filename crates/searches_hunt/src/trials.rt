@@ -38,17 +38,22 @@ impl Trials for InTurn {
     }
 
     fn first_fault(&self, sought: Sought, plan: Plan, from: u32) -> Result<Option<u32>, NoMemory> {
-        for run in from..from.saturating_add(plan.runs) {
-            if let Some(_) = steps_to_fault(
-                sought.alloc,
-                sought.program,
-                sought.lines,
-                plan,
-                run,
-            )? {
-                return Ok(Some(run));
-            }
-        }
-        Ok(None)
+        first_in_turn(sought, plan, from)
     }
+}
+
+fn first_in_turn(sought: Sought, plan: Plan, from: u32) -> Result<Option<u32>, NoMemory>
+    ensures { IfOk result (TellsFirst (resolved sought.entry.program.now) (lines_of sought.entry.lines.now) plan from) }
+{
+    let Sought {
+        alloc,
+        program,
+        lines,
+    } = sought;
+    for run in from..from.saturating_add(plan.runs) {
+        if let Some(_) = steps_to_fault(alloc, program, lines, plan, run)? {
+            return Ok(Some(run));
+        }
+    }
+    Ok(None)
 }

@@ -3,7 +3,7 @@ use Rattle.tick_kinds.specs.Resolution.{resolved}
 use Rattle.searches_explore.specs.Lines.{lines_of}
 use Rattle.searches_hunt.specs.Draws.{random_schedule}
 use Rattle.searches_hunt.specs.Never.{IsFaultless}
-use Rattle.searches_hunt.proofs.trials.InTurnTrials.first_fault.Given as goal
+use Rattle.searches_hunt.proofs.trials.first_in_turn.Given as goal
 
 -- no run before it has a fault
 abbrev pub invariant-loop-run : goal.invariant-loop-run

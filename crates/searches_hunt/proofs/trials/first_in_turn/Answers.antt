@@ -6,7 +6,7 @@ use Rattle.searches_hunt.specs.Draws.{random_schedule}
 use Rattle.searches_hunt.specs.Never.{IsFaultless}
 use Rattle.searches_hunt.specs.prover.Tries.{FaultsWithin}
 use Rattle.searches_hunt.proofs.Drawings.{fault_whole}
-use Rattle.searches_hunt.proofs.trials.InTurnTrials.first_fault.Goals as goal
+use Rattle.searches_hunt.proofs.trials.first_in_turn.Goals as goal
 
 pub loop-run-init : goal.loop-run-init
 loop-run-init c = λ other above below. absurd (omega arith)
