@@ -1,5 +1,5 @@
 -- What is told of a fault: as a report for people, and in parts.
-use Rattle.std.specs.Prelude.{◌≡◌, ⊤, ⊥, ℕ, List, ◌++◌, codes, length, min, Option, Some, None, option_map, string_bytes}
+use Rattle.std.specs.Prelude.{◌≡◌, ⊤, ℕ, List, ◌++◌, codes, length, min, Option, Some, None, option_map, string_bytes}
 use Rattle.base.specs.declared.span.Span.{Span}
 use Rattle.language_questions.specs.declared.fault.QuestionFault.{QuestionFault}
 use Rattle.ticketc_refusals.specs.RefusalLine.{number_and_name}

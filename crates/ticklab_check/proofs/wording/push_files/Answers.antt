@@ -7,7 +7,7 @@ use Rattle.ticklab_check.specs.declared.source.Source.{Source}
 use Rattle.ticklab_check.proofs.Offered.{next_two, no_two}
 use Rattle.ticklab_check.proofs.wording.push_files.Goals as goal
 
-lines : List (Source × Timed) → List ℕ
+abbrev lines : List (Source × Timed) → List ℕ
 lines files = flat_map (λ file. file_text file.0 file.1) files
 
 pub loop-place-preserved : goal.loop-place-preserved
