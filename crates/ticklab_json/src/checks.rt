@@ -1,5 +1,6 @@
 //! What files come to, as an object.
-ghost use Rattle.std.specs.Prelude.{◌≡◌, ◌∷◌, [], IfOk, OnOk, length, map};
+ghost use Rattle.std.specs.Prelude.{◌≡◌, ◌∷◌, [], IfOk, OnOk, length, map, string_bytes};
+ghost use Rattle.serde_json.specs.Data.{object};
 ghost use Rattle.serde_json.specs.View.{members_view, view};
 ghost use Rattle.ticklab_json.specs.Checks.{checked_word, file_data, file_list, file_members, findings_data, findings_members, found_word, states_of, verdict_word, with_checked, with_states};
 ghost use Rattle.ticklab_json.specs.Members.{lines};

@@ -15,8 +15,14 @@ use ticklab_explain::place::Place;
 pub fn fine_object(alloc: Global, name: &str) -> Result<String, NoMemory>
     ensures { IfOk result (λ text. string_bytes text ≡ lines (fine_data name.now ∷ [])) }
 {
-    let value = json!(in alloc; {"answer": "fine", "file": name})?;
+    let value = fine_value(alloc, name)?;
     Ok(one_line(alloc, &value)?)
+}
+
+fn fine_value(alloc: Global, name: &str) -> Result<Value, AllocError>
+    ensures { IfOk result (λ v. view v ≡ fine_data name.now) }
+{
+    json!(in alloc; {"answer": "fine", "file": name})
 }
 
 /// What is wrong with the file of this name, as an object in a line.
