@@ -166,14 +166,8 @@ fn answered<F: Files, M: Runner, T: Trials, C: Checks, W: Progress>(
             jobs,
         } => {
             let limits = limits_of(limit, memory);
-            checked(
-                alloc,
-                files,
-                &checks.with_jobs(jobs),
-                &paths,
-                limits,
-                Form::Text,
-            )
+            let checks = checks.with_jobs(jobs);
+            checked(alloc, files, &checks, &paths, limits, Form::Text)
         }
         Request::Lasso {
             file,
