@@ -2,7 +2,6 @@
 use Rattle.std.specs.Prelude.{ℕ, Bool, true, false, List, codes, map, Option, Some, None, string_bytes}
 use Rattle.std.specs.List.{zip}
 use Rattle.std.specs.Str.Lossy.{utf8_lossy}
-use Rattle.language_questions.specs.declared.questions.Expected.{Expected}
 use Rattle.serde_json.specs.Data.{Data, boolean, string, array, object, Members, no_members, member, put}
 use Rattle.serde_json.specs.View.{items_of}
 use Rattle.ticklab_check.specs.Comparing.{verdict_of}
