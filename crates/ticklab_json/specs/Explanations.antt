@@ -4,11 +4,11 @@ use Rattle.std.specs.Global.{Global}
 use Rattle.serde_json.specs.Data.{Data, string, object, Members, no_members, member, put}
 use Rattle.ticklab_explain.specs.declared.explanation.Explanation.{Explanation}
 use Rattle.ticklab_explain.specs.declared.place.Place.{Place}
-use Rattle.ticklab_json.specs.Members.{count, with_member}
+use Rattle.ticklab_json.specs.Members.{answer_members, count, with_member}
 
 -- that nothing is
 abbrev pub fine_data : List ℕ → Data
-fine_data name = object (member (codes "answer") (string (codes "fine")) (member (codes "file") (string name) no_members))
+fine_data name = object (answer_members (codes "fine") name)
 
 abbrev pub text_data : String Global → Data
 text_data text = string (string_bytes text)

@@ -5,9 +5,9 @@ ghost use Rattle.serde_json.specs.View.{members_view, view};
 ghost use Rattle.ticklab_json.specs.Checks.{checked_word, file_data, file_list, file_members, findings_data, findings_members, found_word, states_of, verdict_word, with_checked, with_states};
 ghost use Rattle.ticklab_json.specs.Members.{lines};
 
-use crate::members::{Members, one_line};
+use crate::members::{Members, answer_on, one_line};
 use base::NoMemory;
-use serde_json::{Map, Value, json, put};
+use serde_json::{Value, json, put};
 use std::alloc::{AllocError, Global};
 use ticklab_check::{Checked, Findings, Found, Source, Timed, Verdict, expected_text, verdict_of};
 
@@ -56,18 +56,10 @@ fn file_value(alloc: Global, source: &Source, timed: &Timed) -> Result<Value, Al
 fn file_members(alloc: Global, source: &Source, timed: &Timed) -> Result<Members, AllocError>
     ensures { IfOk result (λ members. members_view members.entries ≡ file_members source.now timed.now) }
 {
-    let answer = Value::try_from_str(alloc, checked_word(&timed.checked))?;
-    let file = Value::try_from_str(alloc, source.name.as_str())?;
     let verdict = Value::try_from_str(alloc, verdict_word(verdict_of(&timed.checked)))?;
-    let mut members = Map::new(alloc);
-    put(&mut members, alloc, "answer", answer)?;
-    put(&mut members, alloc, "file", file)?;
-    put(
-        &mut members,
-        alloc,
-        "hundredths",
-        Value::from(timed.hundredths),
-    )?;
+    let hundredths = Value::from(timed.hundredths);
+    let mut members = answer_on(alloc, checked_word(&timed.checked), source.name.as_str())?;
+    put(&mut members, alloc, "hundredths", hundredths)?;
     put(&mut members, alloc, "verdict", verdict)?;
     Ok(members)
 }

@@ -4,9 +4,9 @@ ghost use Rattle.serde_json.specs.View.{members_view, view};
 ghost use Rattle.ticklab_json.specs.Explanations.{explanation_data, fine_data, text_data, with_line};
 ghost use Rattle.ticklab_json.specs.Members.{lines};
 
-use crate::members::{Members, one_line, put_if};
+use crate::members::{Members, answer_on, one_line, put_if};
 use base::NoMemory;
-use serde_json::{Map, Value, json, put};
+use serde_json::{Value, put};
 use std::alloc::{AllocError, Global};
 use ticklab_explain::Explanation;
 use ticklab_explain::place::Place;
@@ -22,7 +22,7 @@ pub fn fine_object(alloc: Global, name: &str) -> Result<String, NoMemory>
 fn fine_value(alloc: Global, name: &str) -> Result<Value, AllocError>
     ensures { IfOk result (λ v. view v ≡ fine_data name.now) }
 {
-    json!(in alloc; {"answer": "fine", "file": name})
+    Ok(Value::Object(answer_on(alloc, "fine", name)?))
 }
 
 /// What is wrong with the file of this name, as an object in a line.
@@ -44,17 +44,9 @@ fn explanation_value(
 ) -> Result<Value, AllocError>
     ensures { IfOk result (λ v. view v ≡ explanation_data name.now explanation) }
 {
-    let answer = Value::try_from_str(alloc, "refused")?;
-    let file = Value::try_from_str(alloc, name)?;
-    let mut members = Map::new(alloc);
-    put(&mut members, alloc, "answer", answer)?;
-    put(&mut members, alloc, "file", file)?;
-    put(
-        &mut members,
-        alloc,
-        "message",
-        Value::String(explanation.message),
-    )?;
+    let message = Value::String(explanation.message);
+    let mut members = answer_on(alloc, "refused", name)?;
+    put(&mut members, alloc, "message", message)?;
     put_line(&mut members, alloc, explanation.place)?;
     put_if(&mut members, alloc, "hint", text_in(explanation.hint))?;
     put_if(&mut members, alloc, "ticketc", text_in(explanation.ticketc))?;

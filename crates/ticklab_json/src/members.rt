@@ -3,7 +3,7 @@ ghost use Rattle.std.specs.Prelude.{◌≡◌, ◌<◌, ◌++◌, ◌∷◌, [],
 ghost use Rattle.base.specs.Lines.{line_end};
 ghost use Rattle.serde_json.specs.View.{members_view, view};
 ghost use Rattle.serde_json.specs.Written.{compact_text, has_float};
-ghost use Rattle.ticklab_json.specs.Members.{lines, with_member};
+ghost use Rattle.ticklab_json.specs.Members.{answer_members, lines, with_member};
 ghost use Rattle.ticklab_json.specs.Steps.{heading};
 
 use serde_json::{Map, Value, put};
@@ -25,6 +25,18 @@ pub fn put_if(
         Some(value) => put(members, alloc, key, value),
         None => Ok(()),
     }
+}
+
+/// The answer on the file of this name.
+pub fn answer_on(alloc: Global, answer: &str, name: &str) -> Result<Members, AllocError>
+    ensures { IfOk result (λ members. members_view members.entries ≡ answer_members answer.now name.now) }
+{
+    let answer = Value::try_from_str(alloc, answer)?;
+    let file = Value::try_from_str(alloc, name)?;
+    let mut members = Map::new(alloc);
+    put(&mut members, alloc, "answer", answer)?;
+    put(&mut members, alloc, "file", file)?;
+    Ok(members)
 }
 
 /// The number of step `number` from 0 as it is told, from 1, and the process that made it.
