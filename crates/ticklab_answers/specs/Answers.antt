@@ -51,7 +51,7 @@ module _ {F M W : Type 0} (Reads : ReadsOf F) (ReadsInput : ReadsInputOf F) (Lis
   Responds (Ends file never process limit memory steps) response =
       (ran ≡ rested) × ExploresEnds Reads ReadsInput hears before after quiet heard file never process (limits_of limit memory) steps response
   Responds (Check paths limit memory jobs) response =
-      (ran ≡ rested) × (heard ≡ quiet) × ChecksAll Reads ReadsInput Lists before after paths (limits_of limit memory) response
+      (ran ≡ rested) × (heard ≡ quiet) × ChecksAll Reads ReadsInput Lists before after paths (limits_of limit memory) Text response
   Responds (Lasso file prefix cycle) response =
       (ran ≡ rested) × (heard ≡ quiet) × Lassoes Reads ReadsInput before after file prefix cycle response
   Responds (Hunt file never seed runs from steps is_uniform jobs) response =
@@ -63,7 +63,7 @@ module _ {F M W : Type 0} (Reads : ReadsOf F) (ReadsInput : ReadsInputOf F) (Lis
       (ran ≡ rested) × (heard ≡ quiet) × Draws Reads ReadsInput before after file schedule never side drawing response
   Responds (Page file schedule never side title) response =
       (ran ≡ rested) × (heard ≡ quiet) × Pages Reads ReadsInput before after file schedule never side title response
-  Responds (Explain file schedule) response = (ran ≡ rested) × (heard ≡ quiet) × Explains Reads ReadsInput before after file schedule response
+  Responds (Explain file schedule) response = (ran ≡ rested) × (heard ≡ quiet) × Explains Reads ReadsInput before after file schedule Text response
   Responds (Labels processes moves) response = (ran ≡ rested) × (heard ≡ quiet) × (after ≡ before) × DrawsLabels processes moves response
 
   -- as JSON, where the command has such answers

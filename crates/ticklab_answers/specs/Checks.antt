@@ -4,10 +4,15 @@ use Rattle.std.specs.Global.{Global}
 use Rattle.std.specs.List.{ends_with, filter}
 use Rattle.std.specs.List.Sorted.{IsPermutation, IsSorted}
 use Rattle.searches_states.specs.declared.limits.Limits.{Limits}
-use Rattle.ticklab_check.specs.Wording.{IsReport}
-use Rattle.ticklab_check.specs.declared.reporting.Report.{Report}
+use Rattle.ticklab_check.specs.Wording.{AreFindings, findings_text, status_of}
+use Rattle.ticklab_check.specs.declared.reporting.Findings.{Findings}
 use Rattle.ticklab_check.specs.declared.source.Source.{Source}
+use Rattle.ticklab_json.specs.Checks.{findings_data}
+use Rattle.ticklab_json.specs.Members.{lines}
 use Rattle.ticklab_answers.specs.Reading.{IsRead, ReadsOf, ReadsInputOf, is_input}
+use Rattle.ticklab_answers.specs.Responses.{Gives}
+use Rattle.ticklab_answers.specs.declared.form.Form.{Form}
+use Rattle.ticklab_answers.specs.declared.form.Form.TheVariants.{Text, Json}
 use Rattle.ticklab_answers.specs.declared.response.Response.{Response}
 
 -- What files are before a folder of a name is listed, the names of what is in it, unless it is no folder, and what files
@@ -75,16 +80,23 @@ module _ {F : Type 0} (Reads : ReadsOf F) (ReadsInput : ReadsInputOf F) where
       (between : F) × IsRead Reads ReadsInput before name source.bytes.items between × (string_bytes source.name ≡ name)
       × AreRead between names sources after
 
+-- for people, or as JSON
+abbrev pub findings_in : Form → List Source → Findings → List ℕ
+findings_in Text sources f = findings_text sources f
+findings_in Json sources f = lines (findings_data sources f ∷ [])
+
+-- These files are checked, and what they come to is told.
+pub record TellsFindings (limits : Limits) (sources : List Source) (form : Form) (response : Response) : Type 0 where
+  pub findings : Findings
+  pub are : AreFindings limits sources findings
+  pub gives : Gives (status_of findings.tally) (λ out. out ≡ findings_in form sources findings) response
+
 -- All folders are listed, then all files are read, and then they are checked.
 pub record ChecksAll {F : Type 0} (Reads : ReadsOf F) (ReadsInput : ReadsInputOf F) (Lists : ListsOf F) (before after : F) (paths : List (List ℕ)) (limits : Limits)
-    (response : Response) : Type 0 where
+    (form : Form) (response : Response) : Type 0 where
   pub names : List (List ℕ)
   pub listed : F
   pub named : AreNamed Lists before paths names listed
   pub sources : List Source
   pub read : AreRead Reads ReadsInput listed names sources after
-  pub report : Report
-  pub told : IsReport limits sources report
-  pub status : response.status ≡ report.status
-  pub out : response.out ≡ report.text
-  pub quiet : response.told.items ≡ []
+  pub told : TellsFindings limits sources form response

@@ -166,7 +166,8 @@ fn answered<F: Files, M: Runner, T: Trials, C: Checks, W: Progress>(
             jobs,
         } => {
             let limits = limits_of(limit, memory);
-            checked(alloc, files, &checks.with_jobs(jobs), &paths, limits)
+            let checks = checks.with_jobs(jobs);
+            checked(alloc, files, &checks, &paths, limits, Form::Text)
         }
         Request::Lasso {
             file,
@@ -216,7 +217,9 @@ fn answered<F: Files, M: Runner, T: Trials, C: Checks, W: Progress>(
             side,
             title,
         } => paged(alloc, files, file, schedule, &never, side, title),
-        Request::Explain { file, schedule } => explained(alloc, files, file, schedule),
+        Request::Explain { file, schedule } => {
+            explained(alloc, files, file, schedule, Form::Text)
+        }
         Request::Labels { processes, moves } => labelled(alloc, processes, moves),
     }
 }

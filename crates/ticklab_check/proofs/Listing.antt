@@ -1,26 +1,8 @@
--- The lines of files from a place on, and what the files up to one come to.
-use Rattle.std.proofs.Common.{◌≡◌, ◌∙◌, ◌+◌, ◌<◌, ◌≤◌, ◌++◌, ℕ, List, [], ◌∷◌, drop, get_or, length, ap₂, subst, sym}
+-- What the files up to one come to.
+use Rattle.std.proofs.Common.{◌≡◌, ◌+◌, ◌<◌, ◌≤◌, ◌++◌, ℕ, List, [], ◌∷◌, drop, get_or, length, subst, sym}
 use Rattle.std.proofs.Math.ListN.{drop_of_length-le}
 use Rattle.std.proofs.lemmas.List.{append-nil, append_assoc, drop_more}
 use Rattle.std.specs.List.{AllZip}
-use Rattle.ticklab_check.specs.Wording.{file_text, files_text}
-use Rattle.ticklab_check.specs.declared.checked.Timed.{Timed}
-use Rattle.ticklab_check.specs.declared.source.Source.{Source}
-
--- the line of the next file, and those after it
-pub next_line : (sources : List Source) (files : List Timed) (i : ℕ) (s : Source) (t : Timed) → i < length sources → i < length files
-    → s ≡ get_or sources i s → t ≡ get_or files i t
-    → files_text (drop i sources) (drop i files) ≡ file_text s t ++ files_text (drop (i + 1) sources) (drop (i + 1) files)
-unfolding files_text
-next_line sources files i s t in_sources in_files is_source is_file =
-    ap₂ (λ (a : List Source) (b : List Timed). files_text a b) (drop_more sources i s in_sources) (drop_more files i t in_files)
-    ∙ ap₂ (λ (a : Source) (b : Timed). file_text a b ++ files_text (drop (i + 1) sources) (drop (i + 1) files)) (sym is_source) (sym is_file)
-
--- after the last there is none
-pub no_line : (sources : List Source) (files : List Timed) (i : ℕ) → length files ≤ i → length sources ≤ i → files_text (drop i sources) (drop i files) ≡ []
-unfolding files_text
-no_line sources files i no_files no_sources =
-    ap₂ (λ (a : List Source) (b : List Timed). files_text a b) (drop_of_length-le sources no_sources) (drop_of_length-le files no_files)
 
 -- What was made of the items up to a place is related to them: with all that may follow.
 module _ {X Y : Type 0} (R : X → Y → Type 0) (xs : List X) where

@@ -1,6 +1,6 @@
 -- What is told of files, line by line, and the exit status.
 use Rattle.std.specs.Prelude.{◌≡◌, ◌+◌, ◌/◌, ◌%◌, ◌==◌, ◌++◌, ℕ, List, [], ◌∷◌, codes, if◌then◌else◌, string_bytes}
-use Rattle.std.specs.List.{AllZip}
+use Rattle.std.specs.List.{AllZip, flat_map, zip}
 use Rattle.std.specs.Fmt.{decimal}
 use Rattle.language_questions.specs.declared.questions.Expected.{Expected}
 use Rattle.language_questions.specs.declared.questions.Expected.TheVariants as X
@@ -14,7 +14,7 @@ use Rattle.ticklab_check.specs.declared.checked.Verdict.{Verdict}
 use Rattle.ticklab_check.specs.declared.checked.Verdict.TheVariants as V
 use Rattle.ticklab_check.specs.declared.found.Found.{Found}
 use Rattle.ticklab_check.specs.declared.found.Found.TheVariants as F
-use Rattle.ticklab_check.specs.declared.reporting.Report.{Report}
+use Rattle.ticklab_check.specs.declared.reporting.Findings.{Findings}
 use Rattle.ticklab_check.specs.declared.source.Source.{Source}
 use Rattle.ticklab_check.specs.declared.tally.Tally.{Tally}
 
@@ -77,10 +77,8 @@ abbrev pub file_text : Source → Timed → List ℕ
 file_text source timed = string_bytes source.name ++ checked_text timed.checked timed.hundredths
 
 -- the lines of all files, in order
-unfoldable pub files_text : List Source → List Timed → List ℕ
-files_text [] timed = []
-files_text sources [] = []
-files_text (source ∷ sources) (timed ∷ more) = file_text source timed ++ files_text sources more
+abbrev pub files_text : List Source → List Timed → List ℕ
+files_text sources timed = flat_map (λ file. file_text file.0 file.1) (zip sources timed)
 
 -- how many files there are of each verdict
 abbrev pub counted : Verdict → Tally → Tally
@@ -104,10 +102,12 @@ tally_text t =
 abbrev pub status_of : Tally → ℕ
 status_of t = if t.otherwise == 0 then (if t.limit == 0 then 0 else 6) else 5
 
--- Each file comes to what is told of it, in the order of the files, after however long a time; at the end stands how many
--- there are of each verdict.
-pub record IsReport (limits : Limits) (sources : List Source) (report : Report) : Type 0 where
-  pub timed : List Timed
-  pub come : AllZip (λ source timed. SourceComesTo limits source timed.checked) sources timed
-  pub text : report.text.items ≡ files_text sources timed ++ tally_text (tally_of timed)
-  pub status : report.status ≡ status_of (tally_of timed)
+-- what is told of these files
+abbrev pub findings_text : List Source → Findings → List ℕ
+findings_text sources f = files_text sources f.files.items ++ tally_text f.tally
+
+-- Each file comes to what is found, in the order of the files, after however long a time; and so many there are of each
+-- verdict.
+pub record AreFindings (limits : Limits) (sources : List Source) (f : Findings) : Type 0 where
+  pub come : AllZip (λ source timed. SourceComesTo limits source timed.checked) sources f.files.items
+  pub tally : f.tally ≡ tally_of f.files.items

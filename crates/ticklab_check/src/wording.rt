@@ -85,7 +85,8 @@ fn push_verdict(text: &mut Vec<u8>, verdict: Verdict, expected: Expected) -> Add
     }
 }
 
-fn expected_text(expected: Expected) -> &'static str
+/// The word behind `#! expect` that says this.
+pub fn expected_text(expected: Expected) -> &'static str
     ensures { result.now ≡ expected_text expected }
 {
     match expected {

@@ -63,8 +63,8 @@ fn push_help(report: &mut Vec<u8>, hint: &str) -> Added
     push(report, "\n")
 }
 
-// What is told of a fault: where it is, what is wrong, and what may help. Want of memory has no place.
-fn told(fault: QuestionFault) -> (Span, &'static str, &'static str)
+/// What is told of a fault: where it is, what is wrong, and what may help. Want of memory has no place.
+pub fn told(fault: QuestionFault) -> (Span, &'static str, &'static str)
     ensures span { result.0 ≡ question_span fault }
     ensures message { result.1.now ≡ question_message fault }
     ensures hint { result.2.now ≡ question_hint fault }

@@ -3,6 +3,8 @@
 use Rattle.std.proofs.Common.{◌≡◌, ℕ, zero, suc, ◌+◌, ◌==◌, ◌||◌, List, [], ◌∷◌, ◌++◌, map, take, length, Option, Some, None, option_map, Ordering, Less, Equal, Greater, Bool, true, false, true≢false, refl, sym, subst, ap, ◌∙◌, nat_cmp, Ok, Err}
 use Rattle.std.specs.Prelude.{codes, if◌then◌else◌, option_and_then, slice_get, ⊤}
 use Rattle.std.specs.Cmp.Lexicographic.{slice_cmp}
+use Rattle.std.specs.List.{zip}
+use Rattle.std.specs.Str.Lossy.{utf8_lossy}
 use Rattle.std.specs.Ordering.{match_ordering}
 use Rattle.base.specs.Plain.{Name, WholeProgram}
 use Rattle.base.specs.declared.event.Act.{Act}
@@ -12,14 +14,19 @@ use Rattle.code_text.specs.CodeText.{instr_text}
 use Rattle.language_properties.specs.Values.{Valued}
 use Rattle.language_schedules.specs.Written.{schedule_text}
 use Rattle.searches_hunt.specs.declared.plan.Plan.{Plan}
-use Rattle.serde_json.specs.Data.{Data, null, boolean, number, string, array, object, Items, Members, no_members, member, put}
+use Rattle.serde_json.specs.Data.{Data, boolean, string, array, Members, no_members, member, put}
 use Rattle.serde_json.specs.View.{items_of}
 use Rattle.serde_json.specs.Written.{has_float, items_have_float, members_have_float}
+use Rattle.ticklab_check.specs.Wording.{expected_text}
+use Rattle.ticklab_check.specs.declared.checked.Checked.{Checked}
+use Rattle.ticklab_check.specs.declared.checked.Checked.TheVariants as C
+use Rattle.ticklab_check.specs.declared.reporting.Findings.{Findings}
+use Rattle.ticklab_check.specs.declared.source.Source.{Source}
 use Rattle.ticklab_trace.specs.Places.{Standing}
 use Rattle.ticklab_trace.specs.TraceText.{label_rank, ticket_rank}
-use Rattle.ticklab_trace.specs.declared.steps.Written.{Written}
 use Rattle.ticklab_trace.specs.declared.steps.StatementStep.{StatementStep}
 use Rattle.ticklab_trace.specs.declared.steps.InstructionStep.{InstructionStep}
+use Rattle.ticklab_json.specs.Checks.{file_data, file_list, file_members, findings_data, states_of, with_checked, with_states}
 use Rattle.ticklab_json.specs.Events.{event_data}
 use Rattle.ticklab_json.specs.Hunts.{fault_text, hunt_data, plan_members}
 use Rattle.ticklab_json.specs.Members.{count, with_member}
@@ -208,3 +215,21 @@ made_exact a k step (Some i) =
 
 pub instruction_exact : (a : WholeProgram Name) (k : ℕ) (step : InstructionStep) → has_float (instruction_data a k step) ≡ false
 instruction_exact a k step = made_exact a k step step.instruction
+
+-- what files come to
+states_exact : (states : Option (Bool × ℕ)) (ms : Members) → members_have_float ms ≡ false → members_have_float (with_states states ms) ≡ false
+states_exact None ms h = h
+states_exact (Some (merged, states)) ms h =
+    put_exact (codes "states") (count states) (put (codes "merged") (boolean merged) ms) refl (put_exact (codes "merged") (boolean merged) ms refl h)
+
+checked_exact : (checked : Checked) (ms : Members) → members_have_float ms ≡ false → members_have_float (with_checked checked ms) ≡ false
+checked_exact (C.Refused report) ms h = put_exact (codes "report") (string (utf8_lossy report.items)) ms refl h
+checked_exact (C.Searched found expected) ms h =
+    states_exact (states_of found) (put (codes "expected") (string (expected_text expected)) ms)
+    (put_exact (codes "expected") (string (expected_text expected)) ms refl h)
+
+pub findings_exact : (sources : List Source) (f : Findings) → has_float (findings_data sources f) ≡ false
+findings_exact sources f =
+    let files = file_list sources f.files.items in
+    both (items_have_float (items_of files)) false
+    (items_exact (λ file. file_data file.0 file.1) (λ file. checked_exact file.1.checked (file_members file.0 file.1) refl) (zip sources f.files.items)) refl

@@ -1,18 +1,21 @@
 //! `ticklab check`.
-ghost use Rattle.std.specs.Prelude.{◌≡◌, ◌∷◌, [], IfErr, IfOk, map, option_map, string_bytes};
+ghost use Rattle.std.specs.Prelude.{◌≡◌, ◌∷◌, [], IfErr, IfOk, length, map, option_map, string_bytes};
 ghost use Rattle.std.specs.List.{filter};
 ghost use Rattle.ticklab_answers.specs.Asking.{texts_of};
-ghost use Rattle.ticklab_answers.specs.Checks.{AreIn, AreNamed, AreRead, ChecksAll, IsAmong, IsNamed, IsUnderOne, is_tick, name_in, slash_after};
+ghost use Rattle.ticklab_answers.specs.Checks.{AreIn, AreNamed, AreRead, ChecksAll, IsAmong, IsNamed, IsUnderOne, TellsFindings, findings_in, is_tick, name_in, slash_after};
 ghost use Rattle.ticklab_answers.specs.Faults.{IsOfFile, IsOfFileThat, IsOfHost};
 
 use crate::fault::{AnswerFault, LabFault};
 use crate::files::{bytes_of, is_input};
+use crate::form::Form;
 use crate::host::Files;
 use crate::response::{Response, output};
 use anyhow::anyhow;
+use base::NoMemory;
 use searches_explore::Limits;
 use std::alloc::{AllocError, Global};
-use ticklab_check::{Checks, Source, check};
+use ticklab_check::{Checks, Findings, Source, check};
+use ticklab_json::findings_object;
 
 /// Whether each of these files, and of the `.tick` files in these folders, is as it says, as far as these limits let each
 /// search go. All are read before the first is searched. They are searched by `checks`.
@@ -22,15 +25,42 @@ pub fn checked<F: Files, C: Checks>(
     checks: &C,
     paths: &[&str],
     limits: Limits,
+    form: Form,
 ) -> Result<Response, LabFault>
-    ensures ok { IfOk result (ChecksAll F.Reads F.ReadsInput F.Lists files.old files.new (texts_of paths.now) limits) }
+    ensures ok { IfOk result (ChecksAll F.Reads F.ReadsInput F.Lists files.old files.new (texts_of paths.now) limits form) }
     ensures err { IfErr result (IsOfFileThat (IsUnderOne (texts_of paths.now))) }
 {
     let names = names_of(alloc, files, paths)?;
     let sources = sources_of(alloc, files, names)?;
-    match check(alloc, checks, &sources, limits) {
-        Ok(report) => Ok(output(alloc, report.status, report.text)),
-        Err(fault) => Err(LabFault::Answer(AnswerFault::from(fault))),
+    Ok(sources_checked(alloc, checks, &sources, limits, form)?)
+}
+
+fn sources_checked<C: Checks>(
+    alloc: Global,
+    checks: &C,
+    sources: &[Source],
+    limits: Limits,
+    form: Form,
+) -> Result<Response, AnswerFault>
+    ensures { IfOk result (TellsFindings limits sources.now form) }
+{
+    let findings = check(alloc, checks, sources, limits)?;
+    let out = findings_told(alloc, sources, &findings, form)?;
+    Ok(output(alloc, findings.tally.status(), out))
+}
+
+fn findings_told(
+    alloc: Global,
+    sources: &[Source],
+    findings: &Findings,
+    form: Form,
+) -> Result<Vec<u8>, NoMemory>
+    requires { length sources.now ≡ length findings.now.files.items }
+    ensures { IfOk result (λ out. out.items ≡ findings_in form sources.now findings.now) }
+{
+    match form {
+        Form::Text => Ok(findings.text(alloc, sources)?),
+        Form::Json => Ok(findings_object(alloc, sources, findings)?.into_bytes()),
     }
 }
 

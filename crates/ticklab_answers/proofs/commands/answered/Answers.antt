@@ -5,6 +5,7 @@ use Rattle.ticklab_answers.specs.Asking.{texts_of}
 use Rattle.ticklab_answers.specs.Checks.{ChecksAll, IsUnderOne}
 use Rattle.ticklab_answers.specs.Faults.{IsOfFileThat}
 use Rattle.ticklab_answers.specs.Runs.{Draws, Pages, Traces}
+use Rattle.ticklab_answers.specs.declared.form.Form.TheVariants.{Text}
 use Rattle.ticklab_answers.proofs.Breaks.{then_ok}
 use Rattle.ticklab_answers.proofs.commands.answered.Goals as goal
 
@@ -15,9 +16,9 @@ returns-in-Check-clause-ok g c =
     (λ x h. (
       refl,
       refl,
-      subst (λ (limits : Limits). ChecksAll g.F.Files.Reads g.F.Files.ReadsInput g.F.Files.Lists c.args.files.now c.checked.new.files (texts_of t.paths.items) limits x)
+      subst (λ (limits : Limits). ChecksAll g.F.Files.Reads g.F.Files.ReadsInput g.F.Files.Lists c.args.files.now c.checked.new.files (texts_of t.paths.items) limits Text x)
           c.limits_of-limits-in-Check.ensures
-          (subst (λ (paths : List (Bor (List ℕ))). ChecksAll g.F.Files.Reads g.F.Files.ReadsInput g.F.Files.Lists c.args.files.now c.checked.new.files (texts_of paths) c.limits_of-limits-in-Check.result x)
+          (subst (λ (paths : List (Bor (List ℕ))). ChecksAll g.F.Files.Reads g.F.Files.ReadsInput g.F.Files.Lists c.args.files.now c.checked.new.files (texts_of paths) c.limits_of-limits-in-Check.result Text x)
           c.deref-in-Check.ensures.value h),
     )) c.checked.ensures.ok)
 

@@ -1,8 +1,7 @@
 use Rattle.std.proofs.Common.{List, map, string_bytes, subst}
-use Rattle.ticklab_check.specs.Wording.{IsReport}
 use Rattle.ticklab_check.specs.declared.source.Source.{Source}
 use Rattle.ticklab_answers.specs.Asking.{texts_of}
-use Rattle.ticklab_answers.specs.Checks.{IsAmong, IsUnderOne}
+use Rattle.ticklab_answers.specs.Checks.{IsAmong, IsUnderOne, TellsFindings}
 use Rattle.ticklab_answers.specs.Faults.{IsOfFileThat}
 use Rattle.ticklab_answers.proofs.Listed.{all_under, faulty_by, of_file_as}
 use Rattle.ticklab_answers.proofs.commands.checking.checked.Goals as goal
@@ -15,16 +14,14 @@ returns-in_err-sources-clause-err g c =
     (of_file_as (IsAmong names) (IsUnderOne texts) (all_under g.F.Files.Lists c.args.files.now c.names_of.new.files texts names c.in_ok-names.ensures.ok) _
     c.in_err-sources.ensures.err)
 
-pub returns-in-Ok-clause-ok : goal.returns-in-Ok-clause-ok
-returns-in-Ok-clause-ok g c = record {
+pub returns-in_ok-sources_checked-clause-ok : goal.returns-in_ok-sources_checked-clause-ok
+returns-in_ok-sources_checked-clause-ok g c = record {
   names = map string_bytes c.in_ok-names.names.items;
   listed = c.names_of.new.files;
   named = c.in_ok-names.ensures.ok;
   sources = c.in_ok-sources.sources.items;
   read = c.in_ok-sources.ensures.ok;
-  report = c.in-Ok.report;
-  told = subst (λ (sources : List Source). IsReport c.args.limits sources c.in-Ok.report) c.deref.ensures.value c.in-Ok.ensures;
-  status = c.output.ensures.status;
-  out = c.output.ensures.out;
-  quiet = c.output.ensures.told;
+  told =
+      subst (λ (sources : List Source). TellsFindings c.args.limits sources c.args.form c.in_ok-sources_checked.field-0) c.deref.ensures.value
+      c.in_ok-sources_checked.ensures;
 }
