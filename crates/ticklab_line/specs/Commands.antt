@@ -7,7 +7,7 @@ use Rattle.std.specs.Option.{option_map_or}
 use Rattle.clap.specs.Walk.{Row, Text, all_of, first_of}
 use Rattle.clap.specs.Simple.{App, new_app, on_top, with_rule}
 use Rattle.clap.specs.declared.builder.value_parser.ValueParser.TheVariants.{Signed, Unsigned}
-use Rattle.ticklab_line.specs.CommandLine.{ends_rule, flag_rule, from_one_to, further_rule, number_rule, processes_rule, repeated_rule, text_rule, threads_rule, up_to, with_app, with_file, word_rule, words_rule}
+use Rattle.ticklab_line.specs.CommandLine.{ends_rule, flag_rule, from_one_to, further_rule, jobs_rule, json_rule, limit_rule, memory_rule, number_rule, processes_rule, repeated_rule, text_rule, threads_rule, up_to, with_app, with_file, word_rule, words_rule}
 use Rattle.ticklab_line.specs.Found.{for_file, for_number, for_number_or, is_set, list_of, number_of, number_or}
 use Rattle.ticklab_line.specs.declared.commands.Steps.{Steps}
 use Rattle.ticklab_line.specs.declared.commands.Steps.TheVariants.{Merged, MergedFirst, Single}
@@ -22,20 +22,17 @@ abbrev pub Asked : Type 0
 Asked = Request Text (List Text)
 
 abbrev pub explore_app : App
-explore_app = with_rule (with_rule (with_rule (with_rule (with_rule (with_rule (with_rule (with_file (codes "explore"))
-    (number_rule (codes "limit") (up_to 4294967295)))
-    (number_rule (codes "memory") (from_one_to 1000000)))
+explore_app = with_rule (with_rule (with_rule (with_rule (with_rule (with_rule (with_rule (with_rule (with_file (codes "explore")) limit_rule) memory_rule)
     (flag_rule (codes "merged")))
     (flag_rule (codes "single")))
     (repeated_rule (codes "never")))
     (flag_rule (codes "schedule-only")))
+    json_rule)
     ends_rule
 
 abbrev pub check_app : App
-check_app = with_rule (with_rule (with_rule (with_rule (new_app (codes "check")) (words_rule (codes "path")))
-    (number_rule (codes "limit") (up_to 4294967295)))
-    (number_rule (codes "memory") (from_one_to 1000000)))
-    (number_rule (codes "jobs") (from_one_to 64))
+check_app = with_rule (with_rule (with_rule (with_rule (with_rule (new_app (codes "check")) (words_rule (codes "path")))
+    limit_rule) memory_rule) jobs_rule) json_rule
 
 abbrev pub lasso_app : App
 lasso_app = with_rule (with_rule (with_file (codes "lasso")) (word_rule (codes "prefix"))) (word_rule (codes "cycle"))
@@ -46,11 +43,11 @@ hunt_app = with_rule (with_rule (with_rule (with_rule (with_rule (with_rule (wit
     (number_rule (codes "runs") (up_to 4294967295)))
     (number_rule (codes "from") (up_to 4294967295)))
     (number_rule (codes "steps") (up_to 10000000)))
-    (number_rule (codes "jobs") (from_one_to 64)))
+    jobs_rule)
     (flag_rule (codes "uniform")))
     (repeated_rule (codes "never")))
     (flag_rule (codes "schedule-only")))
-    (flag_rule (codes "json")))
+    json_rule)
     threads_rule
 
 -- `trace`, `draw` and `page`
@@ -61,7 +58,7 @@ run_app name = with_rule (with_rule (with_rule (with_rule (with_file name) (word
     (repeated_rule (codes "never"))
 
 abbrev pub trace_app : App
-trace_app = with_rule (run_app (codes "trace")) (flag_rule (codes "json"))
+trace_app = with_rule (run_app (codes "trace")) json_rule
 
 abbrev pub draw_app : App
 draw_app = with_rule (with_rule (with_rule (with_rule (with_rule (run_app (codes "draw"))
@@ -75,15 +72,16 @@ abbrev pub page_app : App
 page_app = with_rule (run_app (codes "page")) (text_rule (codes "title"))
 
 abbrev pub explain_app : App
-explain_app = with_rule (with_file (codes "explain")) (further_rule (codes "schedule"))
+explain_app = with_rule (with_rule (with_file (codes "explain")) (further_rule (codes "schedule"))) json_rule
 
 abbrev pub labels_app : App
 labels_app = with_rule (with_rule (new_app (codes "labels")) processes_rule) (word_rule (codes "moves"))
 
--- a command has to come first
+-- a command has to come first; `--version` is an option of no command
 abbrev pub command_wanted : App
 command_wanted =
-    on_top (λ s. record s { subcommand_required = true; arg_required_else_help = true }) (new_app (codes "ticklab"))
+    on_top (λ s. record s { has_version = true; subcommand_required = true; arg_required_else_help = true })
+    (new_app (codes "ticklab"))
 
 abbrev pub ticklab : App
 ticklab = with_app (with_app (with_app (with_app (with_app (with_app (with_app (with_app (with_app command_wanted
@@ -238,7 +236,10 @@ rows = (codes "explore" ∷ codes "a" ∷ codes "--limit" ∷ codes "7" ∷ [], 
     ∷ (codes "explore" ∷ codes "--single" ∷ codes "--ends=1" ∷ codes "a" ∷ [], Ends (codes "a") [] (Some 1) 4294967295 1000 Single)
     ∷ (codes "explore" ∷ codes "a" ∷ codes "--ends" ∷ codes "0" ∷ codes "--merged" ∷ [], Ends (codes "a") [] (Some 0) 4294967295 1000 Merged)
     ∷ (codes "explore" ∷ codes "--schedule-only" ∷ codes "a" ∷ codes "--ends" ∷ [], Ends (codes "a") [] None 4294967295 1000 MergedFirst)
+    ∷ (codes "explore" ∷ codes "--json" ∷ codes "a" ∷ [], Explore (codes "a") [] 4294967295 1000 MergedFirst)
+    ∷ (codes "explore" ∷ codes "a" ∷ codes "--ends" ∷ codes "3" ∷ codes "--json" ∷ [], Ends (codes "a") [] (Some 3) 4294967295 1000 MergedFirst)
     ∷ (codes "check" ∷ codes "a" ∷ [], Check (codes "a" ∷ []) 4294967295 1000 64)
+    ∷ (codes "check" ∷ codes "a" ∷ codes "--json" ∷ codes "b" ∷ [], Check (codes "a" ∷ codes "b" ∷ []) 4294967295 1000 64)
     ∷ (
       codes "check" ∷ codes "--jobs" ∷ codes "2" ∷ codes "a" ∷ codes "b" ∷ codes "--memory=7" ∷ codes "a" ∷ [],
       Check (codes "a" ∷ codes "b" ∷ codes "a" ∷ []) 4294967295 7 2,
@@ -263,5 +264,7 @@ rows = (codes "explore" ∷ codes "a" ∷ codes "--limit" ∷ codes "7" ∷ [], 
     ∷ (codes "trace" ∷ codes "a" ∷ codes "--lift" ∷ codes "0" ∷ codes "--code" ∷ [], Trace (codes "a") (codes "0") [] Lifted)
     ∷ (codes "explain" ∷ codes "a" ∷ [], Explain (codes "a") None)
     ∷ (codes "explain" ∷ codes "a" ∷ codes "0" ∷ [], Explain (codes "a") (Some (codes "0")))
+    ∷ (codes "explain" ∷ codes "--json" ∷ codes "a" ∷ [], Explain (codes "a") None)
+    ∷ (codes "explain" ∷ codes "a" ∷ codes "--json" ∷ codes "0" ∷ [], Explain (codes "a") (Some (codes "0")))
     ∷ (codes "labels" ∷ codes "3" ∷ codes "0 c1" ∷ [], Labels 3 (codes "0 c1"))
     ∷ []

@@ -8,10 +8,10 @@ ghost use Rattle.ticklab_line.specs.Commands.{check_app, check_in, check_of, com
 ghost use Rattle.ticklab_line.specs.Commands.{request_in as found_request};
 
 use crate::arguments::{
-    ends, flag, further, jobs, json, length, megabytes, option, processes, repeated, schedule_only,
-    step, text, threads, width, word, words,
+    ends, flag, further, jobs, json, length, limit, memory, option, processes, repeated,
+    schedule_only, step, text, threads, width, word, words,
 };
-use crate::parts::{STATUSES, filed, named, taking, with};
+use crate::parts::{after_help, filed, named, taking, with};
 use crate::values::{
     byte, byte_in, is_set, large_number, large_number_or, list_in, number, number_or, text_in,
     texts_in,
@@ -153,6 +153,19 @@ const PROGRAM: &str = "The program; - for standard input";
 const ABOUT: &str =
     "Shows what a ticket program does under every schedule, under random ones, and step by step";
 
+const EXAMPLES: &str = after_help!(
+    "Examples:
+  ticklab explore lock.tick
+  ticklab check programs/
+  ticklab lasso lock.tick \"0 1\" \"1*2\"
+  ticklab hunt --seed 7 lock.tick
+  ticklab trace lock.tick \"0 1*3 0\"
+  ticklab draw lock.tick \"0 1*3 0\" > run.svg
+  ticklab page lock.tick \"0 1*3 0\" > run.html
+  ticklab explain lock.tick
+  ticklab labels 3 \"0 1 2 0\" > labels.svg"
+);
+
 /// The whole command line.
 pub fn command_line<'a>(alloc: Global) -> Result<Command<'a>, AllocError>
     ensures { IsLine ticklab result }
@@ -172,8 +185,9 @@ fn ticklab<'a>(alloc: Global) -> Command<'a>
     ensures { app_of result ≡ command_wanted }
 {
     Command::new(alloc, "ticklab")
+        .version("")
         .about(ABOUT)
-        .after_help(STATUSES)
+        .after_help(EXAMPLES)
         .subcommand_required(true)
         .arg_required_else_help(true)
 }
@@ -220,28 +234,11 @@ fn explore<'a>(alloc: Global) -> Result<Command<'a>, AllocError>
         alloc,
         "explore",
         "Looks under every schedule for one under which a process traps, and then for a shortest one",
+        after_help!("Example: ticklab explore lock.tick"),
         PROGRAM,
     );
-    let explore = taking(
-        explore,
-        option(
-            alloc,
-            "limit",
-            "STATES",
-            value_parser!(u32),
-            "Gives up where there are more states than this [default: 4294967295]",
-        ),
-    );
-    let explore = taking(
-        explore,
-        option(
-            alloc,
-            "memory",
-            "MB",
-            megabytes(),
-            "Gives up where the states take more memory than this, 1 to 1000000 megabytes [default: 1000]",
-        ),
-    );
+    let explore = taking(explore, limit(alloc));
+    let explore = taking(explore, memory(alloc));
     let explore = taking(
         explore,
         flag(
@@ -268,6 +265,7 @@ fn explore<'a>(alloc: Global) -> Result<Command<'a>, AllocError>
         ),
     );
     let explore = taking(explore, schedule_only(alloc));
+    let explore = taking(explore, json(alloc));
     taking(explore, ends(alloc))
 }
 
@@ -350,6 +348,7 @@ fn check<'a>(alloc: Global) -> Result<Command<'a>, AllocError>
             alloc,
             "check",
             "Looks in each file, as explore does, whether it is as its line #! expect says: safe, trap, never or stuck; safe without one",
+            after_help!("Example: ticklab check programs/"),
         ),
         words(
             alloc,
@@ -358,36 +357,16 @@ fn check<'a>(alloc: Global) -> Result<Command<'a>, AllocError>
             "A program, - for standard input, or a folder, for the .tick files in it by name",
         ),
     );
+    let check = taking(check, limit(alloc));
+    let check = taking(check, memory(alloc));
     let check = taking(
         check,
-        option(
+        jobs(
             alloc,
-            "limit",
-            "STATES",
-            value_parser!(u32),
-            "Gives a file up where it has more states than this",
-        ),
-    );
-    let check = taking(
-        check,
-        option(
-            alloc,
-            "memory",
-            "MB",
-            megabytes(),
-            "Gives a file up where its states take more megabytes than this [default: 1000]",
-        ),
-    );
-    taking(
-        check,
-        option(
-            alloc,
-            "jobs",
-            "N",
-            jobs(),
             "How many files are searched side by side, 1 to 64 [default: as many as there are processors]",
         ),
-    )
+    );
+    taking(check, json(alloc))
 }
 
 fn check_in<'a>(alloc: Global, given: &ArgMatches<'a>) -> Result<Option<Lent<'a>>, AllocError>
@@ -419,6 +398,7 @@ fn lasso<'a>(alloc: Global) -> Result<Command<'a>, AllocError>
             alloc,
             "lasso",
             "Says whether a schedule can repeat a part of itself for ever, each process that runs there again and again",
+            after_help!("Example: ticklab lasso lock.tick \"0 1\" \"1*2\""),
             PROGRAM,
         ),
         word(
@@ -456,6 +436,7 @@ fn hunt<'a>(alloc: Global) -> Result<Command<'a>, AllocError>
         alloc,
         "hunt",
         "Looks under random schedules for one under which a process traps or a line #! never breaks, and leaves out of it what can be",
+        after_help!("Example: ticklab hunt --seed 7 lock.tick"),
         PROGRAM,
     );
     let hunt = taking(
@@ -500,11 +481,8 @@ fn hunt<'a>(alloc: Global) -> Result<Command<'a>, AllocError>
     );
     let hunt = taking(
         hunt,
-        option(
+        jobs(
             alloc,
-            "jobs",
-            "N",
-            jobs(),
             "How many schedules are tried side by side, 1 to 64 [default: as many as there are processors]",
         ),
     );
@@ -569,11 +547,16 @@ fn plan_of<'a>(given: &ArgMatches<'a>, never: Vec<&'a str>) -> Option<Lent<'a>>
 }
 
 // A command that takes a program and a schedule.
-fn run<'a>(alloc: Global, name: &'a str, about: &'a str) -> Result<Command<'a>, AllocError>
+fn run<'a>(
+    alloc: Global,
+    name: &'a str,
+    about: &'a str,
+    after: &'a str,
+) -> Result<Command<'a>, AllocError>
     ensures { IsCommand (run_app name.entry.now) result }
 {
     let run = taking(
-        filed(alloc, name, about, PROGRAM),
+        filed(alloc, name, about, after, PROGRAM),
         word(
             alloc,
             "schedule",
@@ -611,7 +594,12 @@ fn run<'a>(alloc: Global, name: &'a str, about: &'a str) -> Result<Command<'a>, 
 fn trace<'a>(alloc: Global) -> Result<Command<'a>, AllocError>
     ensures { IsCommand trace_app result }
 {
-    let trace = run(alloc, "trace", "Prints a line for each step of a run");
+    let trace = run(
+        alloc,
+        "trace",
+        "Prints a line for each step of a run",
+        after_help!("Example: ticklab trace lock.tick \"0 1*3 0\""),
+    );
     taking(trace, json(alloc))
 }
 
@@ -619,7 +607,12 @@ fn draw<'a>(alloc: Global) -> Result<Command<'a>, AllocError>
     ensures { IsCommand draw_app result }
 {
     let draw = taking(
-        run(alloc, "draw", "Draws a run, as SVG on standard output"),
+        run(
+            alloc,
+            "draw",
+            "Draws a run, as SVG on standard output",
+            after_help!("Example: ticklab draw lock.tick \"0 1*3 0\" > run.svg"),
+        ),
         text(
             alloc,
             "title",
@@ -746,6 +739,7 @@ fn page<'a>(alloc: Global) -> Result<Command<'a>, AllocError>
         alloc,
         "page",
         "Writes a run as one page of HTML, to go through step by step, on standard output",
+        after_help!("Example: ticklab page lock.tick \"0 1*3 0\" > run.html"),
     );
     taking(
         page,
@@ -765,9 +759,10 @@ fn explain<'a>(alloc: Global) -> Result<Command<'a>, AllocError>
         alloc,
         "explain",
         "Says what is wrong with a program or a code, where, and what may help",
+        after_help!("Example: ticklab explain lock.tick"),
         "The program or the code; - for standard input",
     );
-    taking(
+    let explain = taking(
         explain,
         further(
             alloc,
@@ -775,7 +770,8 @@ fn explain<'a>(alloc: Global) -> Result<Command<'a>, AllocError>
             "SCHEDULE",
             "A schedule of it, to be explained too, or @ and the file that has it or an answer",
         ),
-    )
+    );
+    taking(explain, json(alloc))
 }
 
 fn explain_in<'a>(given: &ArgMatches<'a>) -> Option<Lent<'a>>
@@ -794,6 +790,7 @@ fn labels<'a>(alloc: Global) -> Result<Command<'a>, AllocError>
         alloc,
         "labels",
         "Draws the bounded labels of N processes, a frame for each stamp, as SVG on standard output",
+        after_help!("Example: ticklab labels 3 \"0 1 2 0\" > labels.svg"),
     );
     taking(
         taking(labels, processes(alloc)),

@@ -8,7 +8,12 @@ use crate::arguments::word;
 use clap::{Arg, Command};
 use std::alloc::{AllocError, Global};
 
-pub const STATUSES: &str = "Exit status: \
+// What stands after the help of a command: an example, and the statuses.
+macro_rules! after_help {
+    ($example:literal) => {
+        concat!(
+            $example,
+            "\n\nExit status: \
 0 it is done: what was asked for is printed, explore and hunt found nothing, and check found all as expected; \
 1 the program, code, schedule or #! line is refused; \
 2 the command line is; \
@@ -17,7 +22,12 @@ pub const STATUSES: &str = "Exit status: \
 5 explore or hunt found a schedule under which a process traps or a #! never line breaks, or check what was not expected; \
 6 explore or check met its limit; \
 7 explore found a schedule after which what was asked for can't end or never does, or lasso says that it never does. \
-All but the answer is told on standard error.";
+All but the answer is told on standard error."
+        )
+    };
+}
+
+pub(crate) use after_help;
 
 // The line with one more command.
 pub fn with<'a>(
@@ -51,10 +61,15 @@ pub fn taking<'a>(
     command?.arg(word)
 }
 
-pub fn named<'a>(alloc: Global, name: &'a str, about: &'a str) -> Result<Command<'a>, AllocError>
+pub fn named<'a>(
+    alloc: Global,
+    name: &'a str,
+    about: &'a str,
+    after: &'a str,
+) -> Result<Command<'a>, AllocError>
     ensures { IsCommand (new_app name.entry.now) result }
 {
-    Ok(Command::new(alloc, name).about(about).after_help(STATUSES))
+    Ok(Command::new(alloc, name).about(about).after_help(after))
 }
 
 // A command that takes a file.
@@ -62,9 +77,13 @@ pub fn filed<'a>(
     alloc: Global,
     name: &'a str,
     about: &'a str,
+    after: &'a str,
     file: &'a str,
 ) -> Result<Command<'a>, AllocError>
     ensures { IsCommand (with_file name.entry.now) result }
 {
-    taking(named(alloc, name, about), word(alloc, "file", "FILE", file))
+    taking(
+        named(alloc, name, about, after),
+        word(alloc, "file", "FILE", file),
+    )
 }
