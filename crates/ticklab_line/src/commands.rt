@@ -11,7 +11,8 @@ use crate::arguments::{
     ends, flag, further, jobs, json, length, limit, memory, option, processes, repeated,
     schedule_only, step, text, threads, width, word, words,
 };
-use crate::parts::{after_help, filed, named, taking, with};
+use crate::examples::EXAMPLES;
+use crate::parts::{filed, named, taking, with};
 use crate::values::{
     byte, byte_in, is_set, large_number, large_number_or, list_in, number, number_or, text_in,
     texts_in,
@@ -53,6 +54,15 @@ pub struct Drawing<T> {
     pub is_shared: bool,
     /// How wide it is, in pixels.
     pub width: u32,
+}
+
+/// A run of a program, or of its code, and what must never hold.
+#[derive(Debug, Drop)]
+pub struct AskedRun<T, L> {
+    pub file: T,
+    pub schedule: T,
+    pub never: L,
+    pub side: Side,
 }
 
 /// A command with what goes with it, its texts and its lists of texts in whatever form they are held. A file is a
@@ -111,28 +121,11 @@ pub enum Request<T, L> {
         turns: u64,
     },
     /// A run step by step, and where what must never hold does.
-    Trace {
-        file: T,
-        schedule: T,
-        never: L,
-        side: Side,
-    },
+    Trace(AskedRun<T, L>),
     /// A run as a picture, and where what must never hold does.
-    Draw {
-        file: T,
-        schedule: T,
-        never: L,
-        side: Side,
-        drawing: Drawing<T>,
-    },
+    Draw(AskedRun<T, L>, Drawing<T>),
     /// A run as a page of HTML, with this title where that is not the file's name.
-    Page {
-        file: T,
-        schedule: T,
-        never: L,
-        side: Side,
-        title: Option<T>,
-    },
+    Page(AskedRun<T, L>, Option<T>),
     /// What is wrong with a program or a code, or with a schedule of it.
     Explain {
         file: T,
@@ -152,19 +145,6 @@ const PROGRAM: &str = "The program; - for standard input";
 
 const ABOUT: &str =
     "Shows what a ticket program does under every schedule, under random ones, and step by step";
-
-const EXAMPLES: &str = after_help!(
-    "Examples:
-  ticklab explore lock.tick
-  ticklab check programs/
-  ticklab lasso lock.tick \"0 1\" \"1*2\"
-  ticklab hunt --seed 7 lock.tick
-  ticklab trace lock.tick \"0 1*3 0\"
-  ticklab draw lock.tick \"0 1*3 0\" > run.svg
-  ticklab page lock.tick \"0 1*3 0\" > run.html
-  ticklab explain lock.tick
-  ticklab labels 3 \"0 1 2 0\" > labels.svg"
-);
 
 /// The whole command line.
 pub fn command_line<'a>(alloc: Global) -> Result<Command<'a>, AllocError>
@@ -234,7 +214,6 @@ fn explore<'a>(alloc: Global) -> Result<Command<'a>, AllocError>
         alloc,
         "explore",
         "Looks under every schedule for one under which a process traps, and then for a shortest one",
-        after_help!("Example: ticklab explore lock.tick"),
         PROGRAM,
     );
     let explore = taking(explore, limit(alloc));
@@ -348,7 +327,6 @@ fn check<'a>(alloc: Global) -> Result<Command<'a>, AllocError>
             alloc,
             "check",
             "Looks in each file, as explore does, whether it is as its line #! expect says: safe, trap, never or stuck; safe without one",
-            after_help!("Example: ticklab check programs/"),
         ),
         words(
             alloc,
@@ -398,7 +376,6 @@ fn lasso<'a>(alloc: Global) -> Result<Command<'a>, AllocError>
             alloc,
             "lasso",
             "Says whether a schedule can repeat a part of itself for ever, each process that runs there again and again",
-            after_help!("Example: ticklab lasso lock.tick \"0 1\" \"1*2\""),
             PROGRAM,
         ),
         word(
@@ -436,7 +413,6 @@ fn hunt<'a>(alloc: Global) -> Result<Command<'a>, AllocError>
         alloc,
         "hunt",
         "Looks under random schedules for one under which a process traps or a line #! never breaks, and leaves out of it what can be",
-        after_help!("Example: ticklab hunt --seed 7 lock.tick"),
         PROGRAM,
     );
     let hunt = taking(
@@ -547,16 +523,11 @@ fn plan_of<'a>(given: &ArgMatches<'a>, never: Vec<&'a str>) -> Option<Lent<'a>>
 }
 
 // A command that takes a program and a schedule.
-fn run<'a>(
-    alloc: Global,
-    name: &'a str,
-    about: &'a str,
-    after: &'a str,
-) -> Result<Command<'a>, AllocError>
+fn run<'a>(alloc: Global, name: &'a str, about: &'a str) -> Result<Command<'a>, AllocError>
     ensures { IsCommand (run_app name.entry.now) result }
 {
     let run = taking(
-        filed(alloc, name, about, after, PROGRAM),
+        filed(alloc, name, about, PROGRAM),
         word(
             alloc,
             "schedule",
@@ -594,12 +565,7 @@ fn run<'a>(
 fn trace<'a>(alloc: Global) -> Result<Command<'a>, AllocError>
     ensures { IsCommand trace_app result }
 {
-    let trace = run(
-        alloc,
-        "trace",
-        "Prints a line for each step of a run",
-        after_help!("Example: ticklab trace lock.tick \"0 1*3 0\""),
-    );
+    let trace = run(alloc, "trace", "Prints a line for each step of a run");
     taking(trace, json(alloc))
 }
 
@@ -607,12 +573,7 @@ fn draw<'a>(alloc: Global) -> Result<Command<'a>, AllocError>
     ensures { IsCommand draw_app result }
 {
     let draw = taking(
-        run(
-            alloc,
-            "draw",
-            "Draws a run, as SVG on standard output",
-            after_help!("Example: ticklab draw lock.tick \"0 1*3 0\" > run.svg"),
-        ),
+        run(alloc, "draw", "Draws a run, as SVG on standard output"),
         text(
             alloc,
             "title",
@@ -687,30 +648,16 @@ fn run_in<'a>(
 fn run_of<'a>(name: &str, given: &ArgMatches<'a>, never: Vec<&'a str>) -> Option<Lent<'a>>
     ensures { option_map plain_request result ≡ run_of name.now (map (λ text. text.now) never.entry.items) (rows_of (found_of given.now)) }
 {
-    let file = text_in(given, "file")?;
-    let schedule = text_in(given, "schedule")?;
-    let side = side_in(given);
+    let run = AskedRun {
+        file: text_in(given, "file")?,
+        schedule: text_in(given, "schedule")?,
+        never,
+        side: side_in(given),
+    };
     match name {
-        "draw" => Some(Request::Draw {
-            file,
-            schedule,
-            never,
-            side,
-            drawing: drawing_in(given)?,
-        }),
-        "page" => Some(Request::Page {
-            file,
-            schedule,
-            never,
-            side,
-            title: title_in(given),
-        }),
-        _ => Some(Request::Trace {
-            file,
-            schedule,
-            never,
-            side,
-        }),
+        "draw" => Some(Request::Draw(run, drawing_in(given)?)),
+        "page" => Some(Request::Page(run, title_in(given))),
+        _ => Some(Request::Trace(run)),
     }
 }
 
@@ -739,7 +686,6 @@ fn page<'a>(alloc: Global) -> Result<Command<'a>, AllocError>
         alloc,
         "page",
         "Writes a run as one page of HTML, to go through step by step, on standard output",
-        after_help!("Example: ticklab page lock.tick \"0 1*3 0\" > run.html"),
     );
     taking(
         page,
@@ -759,7 +705,6 @@ fn explain<'a>(alloc: Global) -> Result<Command<'a>, AllocError>
         alloc,
         "explain",
         "Says what is wrong with a program or a code, where, and what may help",
-        after_help!("Example: ticklab explain lock.tick"),
         "The program or the code; - for standard input",
     );
     let explain = taking(
@@ -790,7 +735,6 @@ fn labels<'a>(alloc: Global) -> Result<Command<'a>, AllocError>
         alloc,
         "labels",
         "Draws the bounded labels of N processes, a frame for each stamp, as SVG on standard output",
-        after_help!("Example: ticklab labels 3 \"0 1 2 0\" > labels.svg"),
     );
     taking(
         taking(labels, processes(alloc)),

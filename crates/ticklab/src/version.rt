@@ -1,0 +1,2 @@
+/// What `ticklab --version` tells.
+pub const VERSION: &str = "0";
