@@ -49,12 +49,12 @@ pub use tracing::{source_text, spots_in};
 /// are tried by `trials`, and files are checked by `checks`. `version` is that of the program.
 pub fn response_to<F: Files, M: Runner, T: Trials, C: Checks, W: Progress>(
     alloc: Global,
+    version: &str,
     files: &mut F,
     runner: &mut M,
     trials: &T,
     checks: &C,
     progress: &mut W,
-    version: &str,
     given: io::Result<Args>,
 ) -> Result<Response, LabFault>
     ensures ok { IfOk result (RespondsToWords F.Reads F.ReadsInput F.Lists M.Ran (hearing W.begins W.hears) files.old files.new runner.old runner.new progress.old progress.new version.now given) }

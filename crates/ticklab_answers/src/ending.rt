@@ -35,12 +35,12 @@ pub fn ended<F: Files, O: Write, T: Write, M: Runner, S: Trials, C: Checks, W: P
 {
     match response_to(
         alloc,
+        host.version,
         &mut host.files,
         runner,
         trials,
         checks,
         progress,
-        host.version,
         given,
     ) {
         Ok(response) => match told(&mut host.out, &mut host.err, &response) {

@@ -2,13 +2,13 @@
 ghost use Rattle.std.specs.Prelude.{◌≡◌, ◌<◌, ◌-◌, All, IfErr, IfOk, drop, length, map, option_map, take, true, if◌then◌else◌};
 ghost use Rattle.ticklab_line.specs.Commands.{plain_drawing};
 ghost use Rattle.tick_kinds.specs.Resolution.{resolved};
+ghost use Rattle.ticklab_answers.specs.Pictures.{IsRunPicture, look_of, title_of};
 ghost use Rattle.searches_explore.specs.Lines.{lines_of};
 ghost use Rattle.ticklab_draw.specs.Marks.{marks_of_code, program_marks};
 ghost use Rattle.ticklab_draw.specs.Never.{broken_of};
 ghost use Rattle.ticklab_answers.specs.Asking.{place_of};
 ghost use Rattle.ticklab_answers.specs.Breaking.{IsMarkedFor, broken_at, mark_of};
 ghost use Rattle.ticklab_answers.specs.Codes.{HasCode, IsCodeless, program_code};
-ghost use Rattle.ticklab_answers.specs.Pictures.{IsRunPicture, look_of, title_of};
 ghost use Rattle.ticklab_answers.specs.Stops.{IfRefused};
 
 use crate::asking::NeverLines;

@@ -17,11 +17,11 @@ use ticklab_trace::{StatementPlace, StatementStep};
 /// An object for each of these steps, each in a line. That of the step after which the line is broken tells that too.
 pub fn broken_objects(
     alloc: Global,
+    place: &PropertyPlace<'_>,
+    broken: Break,
     program: &Program,
     spots: &[StatementPlace<'_>],
     steps: &[StatementStep],
-    place: &PropertyPlace<'_>,
-    broken: Break,
 ) -> Result<Vec<u8>, NoMemory>
     ensures { IfOk result (λ out. AreBrokenObjects (record { place = place_of place.now; broken = broken }) program.now (map told_standing spots.now) steps.now out.items) }
 {

@@ -2,13 +2,13 @@
 ghost use Rattle.std.specs.Prelude.{◌≡◌, ◌<◌, All, IfErr, IfOk, length, map};
 ghost use Rattle.tick_kinds.specs.Resolution.{resolved};
 ghost use Rattle.ticklab_line.specs.Commands.{plain_run};
+ghost use Rattle.ticklab_answers.specs.Runs.{IsRun, IsTold, IsToldWith, IsUnrun, TellsRun, is_of_code, plain_telling, schedule_on};
 ghost use Rattle.ticketc_refusals.specs.Refusals.{SpelledIn};
 ghost use Rattle.searches_explore.specs.Lines.{lines_of};
 ghost use Rattle.ticklab_answers.specs.Asking.{place_of, texts_of};
 ghost use Rattle.ticklab_answers.specs.Codes.{IsCodeless};
 ghost use Rattle.ticklab_answers.specs.Faults.{IsEither, IsOfFileThat};
 ghost use Rattle.ticklab_answers.specs.Responses.{Gives};
-ghost use Rattle.ticklab_answers.specs.Runs.{IsRun, IsTold, IsToldWith, IsUnrun, TellsRun, is_of_code, plain_telling, schedule_on};
 ghost use Rattle.ticklab_answers.specs.Stops.{IfRefused};
 
 use crate::commands::drawing::{look_of, picture_of, steps_to, title_of};

@@ -138,7 +138,7 @@ fn told_with(
 {
     match form {
         Form::Text => broken_lines(alloc, program, spots, steps, line),
-        Form::Json => broken_objects(alloc, program, spots, steps, &line.place, line.broken),
+        Form::Json => broken_objects(alloc, &line.place, line.broken, program, spots, steps),
     }
 }
 
