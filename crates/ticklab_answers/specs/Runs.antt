@@ -146,6 +146,6 @@ IsTold telling side name texts input asks =
     × IsToldWith telling (is_of_code side) name asks.lines (places_by name input asks.file.asked texts) input asks.file.program schedule out
 
 abbrev pub TellsRun : {F : Type 0} → Telling (List ℕ) → ReadsOf F → ReadsInputOf F → F → F → AskedRun (List ℕ) (List (List ℕ)) → Response → Type 0
-TellsRun telling Reads ReadsInput before after run response =
-    AfterBoth Reads ReadsInput before after run.file run.schedule
-    (λ input from text. AnswersRun telling run.side (IsTold telling run.side run.file run.never input) run.file from text response)
+TellsRun telling Reads ReadsInput before after asked response =
+    AfterBoth Reads ReadsInput before after asked.file asked.schedule
+    (λ input from text. AnswersRun telling asked.side (IsTold telling asked.side asked.file asked.never input) asked.file from text response)

@@ -54,7 +54,7 @@ pub fn steps_to(to: u32, schedule: &[u8]) -> &[u8]
 /// A picture with this title. It marks where what must never hold does first.
 pub fn picture_of(
     alloc: Global,
-    subject: &Subject<'_>,
+    subject: &Subject<'_, '_>,
     schedule: &[u8],
     title: &[u8],
     look: Look,
@@ -103,7 +103,7 @@ pub fn never_mark<'l>(
 // The mark of a broken line, one of so many.
 fn mark_of(count: usize, line: BrokenLine<'_>) -> NeverMark<'_>
     requires { line.broken.line < count }
-    ensures { broken_of result ≡ mark_of count (broken_at line) }
+    ensures { broken_of result ≡ mark_of count (broken_at line.entry) }
 {
     let number = if count == 1 {
         None

@@ -59,7 +59,7 @@ fn long_run_line(alloc: Global, from: &str, count: usize) -> Result<String, Allo
 /// The page with this title. It opens where what must never hold does first, or a process traps.
 pub fn page_of(
     alloc: Global,
-    subject: &Subject<'_>,
+    subject: &Subject<'_, '_>,
     schedule: &[u8],
     title: &[u8],
 ) -> Result<Vec<u8>, NoAnswer>

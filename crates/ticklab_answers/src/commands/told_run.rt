@@ -39,11 +39,11 @@ pub enum Telling<T> {
 
 /// Whose run is told: that of the program that an input is, or of its code.
 #[derive(Drop)]
-pub struct Subject<'s> {
+pub struct Subject<'s, 'a> {
     /// The name of the program's file.
     pub name: &'s str,
     pub input: &'s [u8],
-    pub asked: &'s AskedProgram<'s>,
+    pub asked: &'s AskedProgram<'a>,
     pub is_code: bool,
 }
 
@@ -135,7 +135,7 @@ fn is_of_code(side: Side) -> bool
 
 fn telling_of(
     alloc: Global,
-    subject: &Subject<'_>,
+    subject: &Subject<'_, '_>,
     schedule: &[u8],
     telling: &Telling<&str>,
 ) -> Result<Vec<u8>, NoAnswer>

@@ -32,7 +32,7 @@ use ticklab_trace::{
 /// What each step of the program did, or of its code, in this form.
 pub fn trace_of(
     alloc: Global,
-    subject: &Subject<'_>,
+    subject: &Subject<'_, '_>,
     schedule: &[u8],
     form: Form,
 ) -> Result<Vec<u8>, NoAnswer>
@@ -134,7 +134,7 @@ fn told_with(
     form: Form,
 ) -> Result<Vec<u8>, NoMemory>
     requires { line.broken.steps ≤ length steps.now }
-    ensures { IfOk result (λ out. AreToldWith form (broken_at line) program.now (map told_standing spots.now) steps.now out.items) }
+    ensures { IfOk result (λ out. AreToldWith form (broken_at line.entry) program.now (map told_standing spots.now) steps.now out.items) }
 {
     match form {
         Form::Text => broken_lines(alloc, program, spots, steps, line),
@@ -150,7 +150,7 @@ fn broken_lines(
     line: BrokenLine<'_>,
 ) -> Result<Vec<u8>, NoMemory>
     requires { line.broken.steps ≤ length steps.now }
-    ensures { IfOk result (λ out. AreBrokenLines (broken_at line) program.now (map told_standing spots.now) steps.now out.items) }
+    ensures { IfOk result (λ out. AreBrokenLines (broken_at line.entry) program.now (map told_standing spots.now) steps.now out.items) }
 {
     let broken = line.broken;
     let (before, after) = steps.split_at(broken.steps);
