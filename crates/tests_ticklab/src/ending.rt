@@ -162,6 +162,7 @@ type TestHost = Host<Shelf, Paper, Paper>;
 
 fn host(alloc: Global, is_torn: bool) -> TestHost {
     Host {
+        version: "7.1",
         files: Shelf {
             files: 0,
             inputs: 0,
@@ -220,7 +221,8 @@ const NOT_SAFE: &str =
 const MORE: &str =
     "out: limit, more than 1 merged state, 0.00 s\n0 as expected, 0 not, 1 at the limit\n";
 
-static ROWS: [Row<'static>; 14] = [
+static ROWS: [Row<'static>; 15] = [
+    ("--version", false, 0, Ok("ticklab 7.1\n"), (0, 0)),
     ("explore out", false, 0, Ok(NO_TRAP), (1, 0)),
     ("trace out 0", false, 0, Ok(OUT_7), (1, 0)),
     ("trace out @once", false, 0, Ok(OUT_7), (2, 0)),

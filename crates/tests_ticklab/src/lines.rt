@@ -3,10 +3,28 @@ use crate::asking::asked_for;
 use std::test::Fail;
 use tests_shared::is_same;
 
-static ASKED: [(&[&str], &str); 28] = [
+static ASKED: [(&[&str], &str); 34] = [
+    (&["--version"], "ticklab 7.1\n"),
+    (&["-V"], "ticklab 7.1\n"),
+    (
+        &["explore", "a", "--json"],
+        "as JSON Explore { file: \"a\", never: [], limit: 4294967295, memory: 1000, steps: MergedFirst }",
+    ),
+    (
+        &["explore", "a", "--ends", "--json"],
+        "as JSON Ends { file: \"a\", never: [], process: None, limit: 4294967295, memory: 1000, steps: MergedFirst }",
+    ),
+    (
+        &["check", "--json", "a"],
+        "as JSON Check { paths: [\"a\"], limit: 4294967295, memory: 1000, jobs: 64 }",
+    ),
+    (
+        &["explain", "a", "--json"],
+        "as JSON Explain { file: \"a\", schedule: None }",
+    ),
     (
         &["trace", "--json", "a", "0", "--lift"],
-        "as JSON Trace { file: \"a\", schedule: \"0\", never: [], side: Lifted }",
+        "as JSON Trace(AskedRun { file: \"a\", schedule: \"0\", never: [], side: Lifted })",
     ),
     (
         &["hunt", "a", "--json"],
@@ -18,7 +36,7 @@ static ASKED: [(&[&str], &str); 28] = [
     ),
     (
         &["page", "a", "0", "--title", "b", "--lift"],
-        "Page { file: \"a\", schedule: \"0\", never: [], side: Lifted, title: Some(\"b\") }",
+        "Page(AskedRun { file: \"a\", schedule: \"0\", never: [], side: Lifted }, Some(\"b\"))",
     ),
     (
         &["explore", "a.tick"],
@@ -99,26 +117,26 @@ static ASKED: [(&[&str], &str); 28] = [
     ),
     (
         &["trace", "a", "0 1*3"],
-        "Trace { file: \"a\", schedule: \"0 1*3\", never: [], side: Program }",
+        "Trace(AskedRun { file: \"a\", schedule: \"0 1*3\", never: [], side: Program })",
     ),
     (
         &["trace", "--code", "a", "@b"],
-        "Trace { file: \"a\", schedule: \"@b\", never: [], side: Code }",
+        "Trace(AskedRun { file: \"a\", schedule: \"@b\", never: [], side: Code })",
     ),
     (
         &["draw", "a", "", "--never", "1"],
-        "Draw { file: \"a\", schedule: \"\", never: [\"1\"], side: Program, drawing: Drawing { title: None, from: 1, to: 10000000, is_shared: false, width: 1000 } }",
+        "Draw(AskedRun { file: \"a\", schedule: \"\", never: [\"1\"], side: Program }, Drawing { title: None, from: 1, to: 10000000, is_shared: false, width: 1000 })",
     ),
     (
         &["draw", "a", "0", "--code"],
-        "Draw { file: \"a\", schedule: \"0\", never: [], side: Code, drawing: Drawing { title: None, from: 1, to: 10000000, is_shared: false, width: 1000 } }",
+        "Draw(AskedRun { file: \"a\", schedule: \"0\", never: [], side: Code }, Drawing { title: None, from: 1, to: 10000000, is_shared: false, width: 1000 })",
     ),
     (
         &[
             "draw", "a", "0", "--lift", "--title", "b", "--from=2", "--to", "10000000", "--shared",
             "--width", "20000",
         ],
-        "Draw { file: \"a\", schedule: \"0\", never: [], side: Lifted, drawing: Drawing { title: Some(\"b\"), from: 2, to: 10000000, is_shared: true, width: 20000 } }",
+        "Draw(AskedRun { file: \"a\", schedule: \"0\", never: [], side: Lifted }, Drawing { title: Some(\"b\"), from: 2, to: 10000000, is_shared: true, width: 20000 })",
     ),
     (&["explain", "a"], "Explain { file: \"a\", schedule: None }"),
     (

@@ -1,6 +1,6 @@
 //! `ticklab` shows what a ticket program does: under every schedule, under random ones, and step by step.
 //!
-//! There is only `main`, with the files of the host, the line that tells how far a search is, and the threads and the
+//! There is only `main`, with its version, the files of the host, the line that tells how far a search is, and the threads and the
 //! clock of `check`. `main` calls `ended` of `ticklab_answers`, which does everything else.
 //! Start with `ended` of `ticklab_answers`.
 #![tactic(auto)]
@@ -8,10 +8,12 @@
 mod checking;
 mod files;
 mod progress;
+mod version;
 
 use crate::checking::SideBySide;
 use crate::files::HostFiles;
 use crate::progress::HostProgress;
+use crate::version::VERSION;
 use searches_parallel::OnProcessors;
 use std::env::args;
 use std::process::ExitCode;
@@ -22,6 +24,7 @@ fn main(rt: HostRuntime) -> ExitCode {
     ended(
         rt.alloc(),
         &mut Host {
+            version: VERSION,
             files: HostFiles::new(&rt),
             out: rt.stdout(),
             err: rt.stderr(),

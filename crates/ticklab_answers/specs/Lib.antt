@@ -25,6 +25,7 @@ pub mod Responses
 pub mod Runs
 pub mod Serving
 pub mod Shown
+pub mod Steps
 pub mod Stops
 pub mod Tallies
 pub mod prover

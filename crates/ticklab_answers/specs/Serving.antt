@@ -33,11 +33,11 @@ pub record IsShown (old new : Outputs) (P : Response → Type 0) (status : ℕ) 
   pub out : Grows old.out new.out response.out.items
   pub err : Grows old.err new.err response.told.items
 
--- What the words come to, over files, a runner, a watch and outputs as they are before and after.
+-- What the words come to in a program of this version, over files, a runner, a watch and outputs as they are before and after.
 abbrev pub Ends : {F M W : Type 0} → ReadsOf F → ReadsInputOf F → ListsOf F → RunsOf M → HearsOf W → F → F → M → M → W → W → Outputs → Outputs
-    → Result GivenWords Error → ℕ → Type 0
-Ends Reads ReadsInput Lists Ran hears files read rested ran quiet heard old new given status =
-    IsShown old new (RespondsToWords Reads ReadsInput Lists Ran hears files read rested ran quiet heard given) status
+    → List ℕ → Result GivenWords Error → ℕ → Type 0
+Ends Reads ReadsInput Lists Ran hears files read rested ran quiet heard old new version given status =
+    IsShown old new (RespondsToWords Reads ReadsInput Lists Ran hears files read rested ran quiet heard version given) status
 
 abbrev pub exit_of : Result ℕ LabFault → ℕ
 exit_of (Ok status) = status

@@ -2,7 +2,7 @@
 ghost use Rattle.std.specs.Prelude.{◌≡◌, IfErr, IfOk};
 ghost use Rattle.std.specs.Vec.Iter.{into_iter_items};
 ghost use Rattle.ticklab_line.specs.Commands.{plain_request};
-ghost use Rattle.ticklab_answers.specs.Answers.{GivesWords, IsOfWordsOrFile, NamesOf, Responds, RespondsAsJson, RespondsToWords, limits_of};
+ghost use Rattle.ticklab_answers.specs.Answers.{GivesWords, IsOfWordsOrFile, NamesOf, Responds, RespondsToWords, limits_of};
 ghost use Rattle.ticklab_answers.specs.Faults.{IsOfFileThat, IsOfWords};
 ghost use Rattle.ticklab_answers.specs.Hearing.{hearing};
 
@@ -27,15 +27,12 @@ use crate::host::Files;
 use crate::progress::Progress;
 use crate::response::{Response, help, no_command, schedule_alone};
 pub use checking::checked;
-pub use drawing::drawn;
 pub use ends::explored_ends;
 pub use explaining::explained;
 pub use exploring::explored;
 pub use hunting::{hunted, plan_of};
 pub use labels::labelled;
 pub use lasso::lassoed;
-pub use objects::traced_as_json;
-pub use paging::paged;
 use searches_explore::Limits;
 use searches_hunt::Trials;
 use std::alloc::Global;
@@ -45,12 +42,14 @@ pub use tallying::tallied;
 use tick_merge::Runner;
 use ticklab_check::Checks;
 use ticklab_line::{Line, Request, asked};
-pub use tracing::{source_text, spots_in, traced};
+pub use told_run::{Telling, told};
+pub use tracing::{source_text, spots_in};
 
 /// The answer to the words of the command line. Runs of a code are made by the runner alone, random ones of a program
-/// are tried by `trials`, and files are checked by `checks`.
+/// are tried by `trials`, and files are checked by `checks`. `version` is that of the program.
 pub fn response_to<F: Files, M: Runner, T: Trials, C: Checks, W: Progress>(
     alloc: Global,
+    version: &str,
     files: &mut F,
     runner: &mut M,
     trials: &T,
@@ -58,20 +57,32 @@ pub fn response_to<F: Files, M: Runner, T: Trials, C: Checks, W: Progress>(
     progress: &mut W,
     given: io::Result<Args>,
 ) -> Result<Response, LabFault>
-    ensures ok { IfOk result (RespondsToWords F.Reads F.ReadsInput F.Lists M.Ran (hearing W.begins W.hears) files.old files.new runner.old runner.new progress.old progress.new given) }
-    ensures err { IfErr result (IsOfWordsOrFile given) }
+    ensures ok { IfOk result (RespondsToWords F.Reads F.ReadsInput F.Lists M.Ran (hearing W.begins W.hears) files.old files.new runner.old runner.new progress.old progress.new version.now given) }
+    ensures err { IfErr result (IsOfWordsOrFile version.now given) }
 {
     let words = words_of(alloc, given)?;
-    match asked(alloc, words.as_slice())? {
-        Line::Request(request) => answered(alloc, files, runner, trials, checks, progress, request),
+    match asked(alloc, words.as_slice(), version)? {
+        Line::Request(request) => {
+            let form = Form::Text;
+            answered(
+                alloc, files, runner, trials, checks, progress, request, form,
+            )
+        }
         Line::Schedule(request) => {
-            let whole = answered(alloc, files, runner, trials, checks, progress, request)?;
+            let form = Form::Text;
+            let whole = answered(
+                alloc, files, runner, trials, checks, progress, request, form,
+            )?;
             Ok(schedule_alone(alloc, whole)?)
         }
         Line::Json(request) => {
-            answered_as_json(alloc, files, runner, trials, checks, progress, request)
+            let form = Form::Json;
+            answered(
+                alloc, files, runner, trials, checks, progress, request, form,
+            )
         }
         Line::Help(text) => Ok(help(alloc, text)),
+        Line::Version(text) => Ok(help(alloc, text)),
         Line::Refused(text) => Ok(no_command(alloc, text)),
     }
 }
@@ -86,44 +97,7 @@ fn limits_of(states: u32, megabytes: u32) -> Limits
     }
 }
 
-// As JSON, where the command has such answers.
-fn answered_as_json<F: Files, M: Runner, T: Trials, C: Checks, W: Progress>(
-    alloc: Global,
-    files: &mut F,
-    runner: &mut M,
-    trials: &T,
-    checks: &C,
-    progress: &mut W,
-    request: Request<&str, Vec<&str>>,
-) -> Result<Response, LabFault>
-    ensures ok { IfOk result (RespondsAsJson F.Reads F.ReadsInput F.Lists M.Ran (hearing W.begins W.hears) files.old files.new runner.old runner.new progress.old progress.new (plain_request request.entry)) }
-    ensures err { IfErr result (IsOfFileThat (NamesOf (plain_request request.entry))) }
-{
-    match request {
-        Request::Trace {
-            file,
-            schedule,
-            never,
-            side,
-        } => traced_as_json(alloc, files, file, schedule, &never, side),
-        Request::Hunt {
-            file,
-            never,
-            seed,
-            runs,
-            from,
-            steps,
-            is_uniform,
-            jobs,
-        } => {
-            let plan = plan_of(seed, runs, steps, is_uniform);
-            let trials = trials.with_jobs(jobs);
-            hunted(alloc, files, &trials, file, &never, plan, from, Form::Json)
-        }
-        request => answered(alloc, files, runner, trials, checks, progress, request),
-    }
-}
-
+// As JSON where that is asked for and the command has such answers.
 fn answered<F: Files, M: Runner, T: Trials, C: Checks, W: Progress>(
     alloc: Global,
     files: &mut F,
@@ -132,8 +106,9 @@ fn answered<F: Files, M: Runner, T: Trials, C: Checks, W: Progress>(
     checks: &C,
     progress: &mut W,
     request: Request<&str, Vec<&str>>,
+    form: Form,
 ) -> Result<Response, LabFault>
-    ensures ok { IfOk result (Responds F.Reads F.ReadsInput F.Lists M.Ran (hearing W.begins W.hears) files.old files.new runner.old runner.new progress.old progress.new (plain_request request.entry)) }
+    ensures ok { IfOk result (Responds F.Reads F.ReadsInput F.Lists M.Ran (hearing W.begins W.hears) files.old files.new runner.old runner.new progress.old progress.new form (plain_request request.entry)) }
     ensures err { IfErr result (IsOfFileThat (NamesOf (plain_request request.entry))) }
 {
     match request {
@@ -167,7 +142,7 @@ fn answered<F: Files, M: Runner, T: Trials, C: Checks, W: Progress>(
         } => {
             let limits = limits_of(limit, memory);
             let checks = checks.with_jobs(jobs);
-            checked(alloc, files, &checks, &paths, limits, Form::Text)
+            checked(alloc, files, &checks, &paths, limits, form)
         }
         Request::Lasso {
             file,
@@ -185,41 +160,14 @@ fn answered<F: Files, M: Runner, T: Trials, C: Checks, W: Progress>(
             jobs,
         } => {
             let plan = plan_of(seed, runs, steps, is_uniform);
-            hunted(
-                alloc,
-                files,
-                &trials.with_jobs(jobs),
-                file,
-                &never,
-                plan,
-                from,
-                Form::Text,
-            )
+            let trials = trials.with_jobs(jobs);
+            hunted(alloc, files, &trials, file, &never, plan, from, form)
         }
         Request::Runs { file, times, turns } => tallied(alloc, files, runner, file, times, turns),
-        Request::Trace {
-            file,
-            schedule,
-            never,
-            side,
-        } => traced(alloc, files, file, schedule, &never, side),
-        Request::Draw {
-            file,
-            schedule,
-            never,
-            side,
-            drawing,
-        } => drawn(alloc, files, file, schedule, &never, side, drawing),
-        Request::Page {
-            file,
-            schedule,
-            never,
-            side,
-            title,
-        } => paged(alloc, files, file, schedule, &never, side, title),
-        Request::Explain { file, schedule } => {
-            explained(alloc, files, file, schedule, Form::Text)
-        }
+        Request::Trace(run) => told(alloc, files, &run, &Telling::Trace(form)),
+        Request::Draw(run, drawing) => told(alloc, files, &run, &Telling::Picture(drawing)),
+        Request::Page(run, title) => told(alloc, files, &run, &Telling::Page(title)),
+        Request::Explain { file, schedule } => explained(alloc, files, file, schedule, form),
         Request::Labels { processes, moves } => labelled(alloc, processes, moves),
     }
 }

@@ -30,9 +30,11 @@ pub trait Files {
         ensures { IfOk result (λ names. Self.Lists self.old name.now (option_map (λ names. names.items) names) self.new) };
 }
 
-/// What the program has of its host: its files, standard output and standard error.
+/// What the program has of its host: its version, its files, standard output and standard error.
 #[derive(Drop)]
 pub struct Host<F, O, T> {
+    /// What `--version` tells behind the program's name.
+    pub version: &'static str,
     pub files: F,
     pub out: O,
     pub err: T,

@@ -28,8 +28,7 @@ mod trapping;
 mod writing;
 
 pub use commands::{
-    checked, drawn, explained, explored, explored_ends, hunted, labelled, lassoed, paged, tallied,
-    traced,
+    Telling, checked, explained, explored, explored_ends, hunted, labelled, lassoed, tallied, told,
 };
 pub use ending::ended;
 pub use fault::{AnswerFault, LabFault};

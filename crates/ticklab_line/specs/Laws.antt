@@ -5,7 +5,7 @@ use Rattle.clap.specs.Kinds.{Kinds}
 use Rattle.clap.specs.declared.error.kind.ErrorKind.TheVariants as kind
 use Rattle.ticklab_line.specs.Commands.{Asked, request_in, rows}
 use Rattle.ticklab_line.specs.Lines.{Form, as_json, as_text, command_in, faults, form_of, schedule_alone}
-use Rattle.ticklab_line.specs.Conflicts.{Shown, beside_never, conflict_in, merged_and_single}
+use Rattle.ticklab_line.specs.Conflicts.{Shown, beside_never, conflict_in, json_and_schedule, merged_and_single, of_file}
 use Rattle.ticklab_line.specs.declared.commands.Request.TheVariants.{Explore, Hunt, Runs}
 use Rattle.ticklab_line.specs.declared.commands.Steps.TheVariants.{MergedFirst}
 
@@ -45,8 +45,16 @@ pub record CommandsLaw : Type 0 where
   pub whole_of_a_trace : form_asked (codes "trace" ∷ codes "a" ∷ codes "0" ∷ []) ≡ as_text
   pub json : form_asked (codes "trace" ∷ codes "--json" ∷ codes "a" ∷ codes "0" ∷ []) ≡ as_json
   pub json_of_a_hunt : form_asked (codes "hunt" ∷ codes "a" ∷ codes "--json" ∷ []) ≡ as_json
+  pub json_of_explore : form_asked (codes "explore" ∷ codes "--json" ∷ codes "a" ∷ []) ≡ as_json
+  pub json_of_ends : form_asked (codes "explore" ∷ codes "a" ∷ codes "--ends" ∷ codes "3" ∷ codes "--json" ∷ []) ≡ as_json
+  pub json_of_a_check : form_asked (codes "check" ∷ codes "a" ∷ codes "--json" ∷ codes "b" ∷ []) ≡ as_json
+  pub json_of_explain : form_asked (codes "explain" ∷ codes "a" ∷ codes "--json" ∷ codes "0" ∷ []) ≡ as_json
+  pub whole_of_explain : form_asked (codes "explain" ∷ codes "a" ∷ codes "0" ∷ []) ≡ as_text
+  pub whole_of_a_check : form_asked (codes "check" ∷ codes "a" ∷ []) ≡ as_text
   pub merged_single : IsTaken (codes "explore" ∷ codes "a" ∷ codes "--merged" ∷ codes "--single" ∷ []) (Some merged_and_single)
   pub single_merged : IsTaken (codes "explore" ∷ codes "--single" ∷ codes "a" ∷ codes "--ends" ∷ codes "--merged" ∷ []) (Some merged_and_single)
+  pub json_schedule : IsTaken (codes "explore" ∷ codes "a" ∷ codes "--json" ∷ codes "--schedule-only" ∷ []) (Some (json_and_schedule (codes "explore")))
+  pub schedule_json : IsTaken (codes "explore" ∷ codes "--schedule-only" ∷ codes "a" ∷ codes "--ends" ∷ codes "--json" ∷ []) (Some (json_and_schedule (codes "explore")))
   pub all : map (λ row. read row.0) rows ≡ map (λ row. ([], None, Some row.1)) rows
 
 -- the words after `hunt` and a program ask for this
@@ -55,7 +63,7 @@ HuntsBy words = Asks (codes "hunt" ∷ codes "a" ∷ words)
 
 -- they have two options that do not go together, shown so
 abbrev pub Conflicts : List Text → Text → Text → Type 0
-Conflicts words first second = IsTaken (codes "hunt" ∷ codes "a" ∷ words) (Some (record { command = codes "hunt"; words = codes " <FILE>"; first = first; second = second }))
+Conflicts words first second = IsTaken (codes "hunt" ∷ codes "a" ∷ words) (Some (of_file (codes "hunt") first second))
 
 -- `--threads 5 9` and more words
 abbrev pub threads : List Text → List Text
@@ -98,7 +106,11 @@ pub record NoCommandsLaw : Type 0 where
   pub hunt_help : Tells (codes "hunt" ∷ codes "-h" ∷ []) (kind.DisplayHelp ∷ [])
   pub help_command : Tells (codes "help" ∷ []) (kind.DisplayHelp ∷ kind.InvalidSubcommand ∷ [])
   pub merged_true : Tells (codes "explore" ∷ codes "a" ∷ codes "--merged=true" ∷ []) (kind.TooManyValues ∷ [])
-  pub version : Tells (codes "--version" ∷ []) (kind.UnknownArgument ∷ [])
+  pub version : Tells (codes "--version" ∷ []) (kind.DisplayVersion ∷ [])
+  pub short_version : Tells (codes "-V" ∷ []) (kind.DisplayVersion ∷ [])
+  pub version_first : Tells (codes "--version" ∷ codes "explore" ∷ codes "a" ∷ []) (kind.DisplayVersion ∷ [])
+  pub explore_version : Tells (codes "explore" ∷ codes "a" ∷ codes "--version" ∷ []) (kind.UnknownArgument ∷ [])
+  pub labels_version : Tells (codes "labels" ∷ codes "-V" ∷ []) (kind.UnknownArgument ∷ [])
   pub no_file : Tells (codes "explore" ∷ []) (kind.MissingRequiredArgument ∷ [])
   pub no_path : Tells (codes "check" ∷ codes "--limit=7" ∷ []) (kind.MissingRequiredArgument ∷ [])
   pub no_jobs : Tells (codes "check" ∷ codes "a" ∷ codes "--jobs=0" ∷ []) (kind.ValueValidation ∷ [])

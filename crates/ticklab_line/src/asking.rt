@@ -3,7 +3,7 @@ ghost use Rattle.clap.specs.Matches.{found_of};
 ghost use Rattle.clap.specs.Simple.{subcommand_rows_of};
 ghost use Rattle.clap.specs.Values.{kind_of};
 ghost use Rattle.clap.specs.Walk.{rows_of};
-ghost use Rattle.ticklab_line.specs.Lines.{Answers, IsAskedAs, IsAskedBy, IsFound, IsMeant, IsToldBy, form_in, number_text};
+ghost use Rattle.ticklab_line.specs.Lines.{Answers, IsAskedAs, IsAskedBy, IsFound, IsMeant, IsToldBy, form_in, number_text, version_text};
 
 use crate::commands::{Lent, command_line, request_in};
 use crate::conflicts::{conflict_in, conflict_text};
@@ -22,18 +22,20 @@ pub enum Line<'a> {
     Json(Lent<'a>),
     /// The help that was asked for.
     Help(String),
+    /// The program's name and its version.
+    Version(String),
     /// The words are no command, and why.
     Refused(String),
 }
 
-/// What the words of a command line ask for, of which the first is the program's name. The only error is
-/// that memory was refused.
-pub fn asked<'a>(alloc: Global, words: &'a [String]) -> Result<Line<'a>, AllocError>
-    ensures { IfOk result (Answers (map string_bytes words.entry.now)) }
+/// What the words of a command line ask for, of which the first is the program's name, of a program of this version.
+/// The only error is that memory was refused.
+pub fn asked<'a>(alloc: Global, words: &'a [String], version: &str) -> Result<Line<'a>, AllocError>
+    ensures { IfOk result (Answers version.now (map string_bytes words.entry.now)) }
 {
     match command_line(alloc)?.try_get_matches_from(words) {
         Ok(matches) => found(alloc, &matches),
-        Err(error) => told(alloc, error),
+        Err(error) => told(alloc, error, version),
     }
 }
 
@@ -83,20 +85,36 @@ fn number_refused(alloc: Global) -> Result<String, AllocError>
     String::from_str(alloc, "error: a number is out of its range\n")
 }
 
-fn told<'a>(alloc: Global, error: Error) -> Result<Line<'a>, AllocError>
-    ensures { IfOk result (λ line. IsToldBy (kind_of error) line × (kind_of error ≢ ErrorKind.OutOfMemory)) }
+fn told<'a>(alloc: Global, error: Error, version: &str) -> Result<Line<'a>, AllocError>
+    ensures { IfOk result (λ line. IsToldBy version.now (kind_of error) line × (kind_of error ≢ ErrorKind.OutOfMemory)) }
 {
     match error.kind() {
         ErrorKind::OutOfMemory => Err(AllocError),
-        kind => Ok(line_told(kind, format!(in alloc; "{error}")?)),
+        kind => line_told(alloc, kind, format!(in alloc; "{error}")?, version),
     }
 }
 
-fn line_told<'a>(kind: ErrorKind, text: String) -> Line<'a>
-    ensures { IsToldBy kind result }
+fn line_told<'a>(
+    alloc: Global,
+    kind: ErrorKind,
+    text: String,
+    version: &str,
+) -> Result<Line<'a>, AllocError>
+    ensures { IfOk result (IsToldBy version.now kind) }
 {
     match kind {
-        ErrorKind::DisplayHelp => Line::Help(text),
-        _ => Line::Refused(text),
+        ErrorKind::DisplayHelp => Ok(Line::Help(text)),
+        ErrorKind::DisplayVersion => Ok(Line::Version(version_text(alloc, version)?)),
+        _ => Ok(Line::Refused(text)),
     }
+}
+
+// (Of the text that `clap` has no clause speaks.)
+fn version_text(alloc: Global, version: &str) -> Result<String, AllocError>
+    ensures { IfOk result (λ text. string_bytes text ≡ version_text version.now) }
+{
+    let mut text = String::from_str(alloc, "ticklab ")?;
+    text.push_str(version)?;
+    text.push_str("\n")?;
+    Ok(text)
 }

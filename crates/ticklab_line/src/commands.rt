@@ -8,10 +8,11 @@ ghost use Rattle.ticklab_line.specs.Commands.{check_app, check_in, check_of, com
 ghost use Rattle.ticklab_line.specs.Commands.{request_in as found_request};
 
 use crate::arguments::{
-    ends, flag, further, jobs, json, length, megabytes, option, processes, repeated, schedule_only,
-    step, text, threads, width, word, words,
+    ends, flag, further, jobs, json, length, limit, memory, option, processes, repeated,
+    schedule_only, step, text, threads, width, word, words,
 };
-use crate::parts::{STATUSES, filed, named, taking, with};
+use crate::examples::EXAMPLES;
+use crate::parts::{filed, named, taking, with};
 use crate::values::{
     byte, byte_in, is_set, large_number, large_number_or, list_in, number, number_or, text_in,
     texts_in,
@@ -53,6 +54,15 @@ pub struct Drawing<T> {
     pub is_shared: bool,
     /// How wide it is, in pixels.
     pub width: u32,
+}
+
+/// A run of a program, or of its code, and what must never hold.
+#[derive(Debug, Drop)]
+pub struct AskedRun<T, L> {
+    pub file: T,
+    pub schedule: T,
+    pub never: L,
+    pub side: Side,
 }
 
 /// A command with what goes with it, its texts and its lists of texts in whatever form they are held. A file is a
@@ -111,28 +121,11 @@ pub enum Request<T, L> {
         turns: u64,
     },
     /// A run step by step, and where what must never hold does.
-    Trace {
-        file: T,
-        schedule: T,
-        never: L,
-        side: Side,
-    },
+    Trace(AskedRun<T, L>),
     /// A run as a picture, and where what must never hold does.
-    Draw {
-        file: T,
-        schedule: T,
-        never: L,
-        side: Side,
-        drawing: Drawing<T>,
-    },
+    Draw(AskedRun<T, L>, Drawing<T>),
     /// A run as a page of HTML, with this title where that is not the file's name.
-    Page {
-        file: T,
-        schedule: T,
-        never: L,
-        side: Side,
-        title: Option<T>,
-    },
+    Page(AskedRun<T, L>, Option<T>),
     /// What is wrong with a program or a code, or with a schedule of it.
     Explain {
         file: T,
@@ -172,8 +165,9 @@ fn ticklab<'a>(alloc: Global) -> Command<'a>
     ensures { app_of result ≡ command_wanted }
 {
     Command::new(alloc, "ticklab")
+        .version("")
         .about(ABOUT)
-        .after_help(STATUSES)
+        .after_help(EXAMPLES)
         .subcommand_required(true)
         .arg_required_else_help(true)
 }
@@ -222,26 +216,8 @@ fn explore<'a>(alloc: Global) -> Result<Command<'a>, AllocError>
         "Looks under every schedule for one under which a process traps, and then for a shortest one",
         PROGRAM,
     );
-    let explore = taking(
-        explore,
-        option(
-            alloc,
-            "limit",
-            "STATES",
-            value_parser!(u32),
-            "Gives up where there are more states than this [default: 4294967295]",
-        ),
-    );
-    let explore = taking(
-        explore,
-        option(
-            alloc,
-            "memory",
-            "MB",
-            megabytes(),
-            "Gives up where the states take more memory than this, 1 to 1000000 megabytes [default: 1000]",
-        ),
-    );
+    let explore = taking(explore, limit(alloc));
+    let explore = taking(explore, memory(alloc));
     let explore = taking(
         explore,
         flag(
@@ -268,6 +244,7 @@ fn explore<'a>(alloc: Global) -> Result<Command<'a>, AllocError>
         ),
     );
     let explore = taking(explore, schedule_only(alloc));
+    let explore = taking(explore, json(alloc));
     taking(explore, ends(alloc))
 }
 
@@ -358,36 +335,16 @@ fn check<'a>(alloc: Global) -> Result<Command<'a>, AllocError>
             "A program, - for standard input, or a folder, for the .tick files in it by name",
         ),
     );
+    let check = taking(check, limit(alloc));
+    let check = taking(check, memory(alloc));
     let check = taking(
         check,
-        option(
+        jobs(
             alloc,
-            "limit",
-            "STATES",
-            value_parser!(u32),
-            "Gives a file up where it has more states than this",
-        ),
-    );
-    let check = taking(
-        check,
-        option(
-            alloc,
-            "memory",
-            "MB",
-            megabytes(),
-            "Gives a file up where its states take more megabytes than this [default: 1000]",
-        ),
-    );
-    taking(
-        check,
-        option(
-            alloc,
-            "jobs",
-            "N",
-            jobs(),
             "How many files are searched side by side, 1 to 64 [default: as many as there are processors]",
         ),
-    )
+    );
+    taking(check, json(alloc))
 }
 
 fn check_in<'a>(alloc: Global, given: &ArgMatches<'a>) -> Result<Option<Lent<'a>>, AllocError>
@@ -500,11 +457,8 @@ fn hunt<'a>(alloc: Global) -> Result<Command<'a>, AllocError>
     );
     let hunt = taking(
         hunt,
-        option(
+        jobs(
             alloc,
-            "jobs",
-            "N",
-            jobs(),
             "How many schedules are tried side by side, 1 to 64 [default: as many as there are processors]",
         ),
     );
@@ -694,30 +648,16 @@ fn run_in<'a>(
 fn run_of<'a>(name: &str, given: &ArgMatches<'a>, never: Vec<&'a str>) -> Option<Lent<'a>>
     ensures { option_map plain_request result ≡ run_of name.now (map (λ text. text.now) never.entry.items) (rows_of (found_of given.now)) }
 {
-    let file = text_in(given, "file")?;
-    let schedule = text_in(given, "schedule")?;
-    let side = side_in(given);
+    let run = AskedRun {
+        file: text_in(given, "file")?,
+        schedule: text_in(given, "schedule")?,
+        never,
+        side: side_in(given),
+    };
     match name {
-        "draw" => Some(Request::Draw {
-            file,
-            schedule,
-            never,
-            side,
-            drawing: drawing_in(given)?,
-        }),
-        "page" => Some(Request::Page {
-            file,
-            schedule,
-            never,
-            side,
-            title: title_in(given),
-        }),
-        _ => Some(Request::Trace {
-            file,
-            schedule,
-            never,
-            side,
-        }),
+        "draw" => Some(Request::Draw(run, drawing_in(given)?)),
+        "page" => Some(Request::Page(run, title_in(given))),
+        _ => Some(Request::Trace(run)),
     }
 }
 
@@ -767,7 +707,7 @@ fn explain<'a>(alloc: Global) -> Result<Command<'a>, AllocError>
         "Says what is wrong with a program or a code, where, and what may help",
         "The program or the code; - for standard input",
     );
-    taking(
+    let explain = taking(
         explain,
         further(
             alloc,
@@ -775,7 +715,8 @@ fn explain<'a>(alloc: Global) -> Result<Command<'a>, AllocError>
             "SCHEDULE",
             "A schedule of it, to be explained too, or @ and the file that has it or an answer",
         ),
-    )
+    );
+    taking(explain, json(alloc))
 }
 
 fn explain_in<'a>(given: &ArgMatches<'a>) -> Option<Lent<'a>>

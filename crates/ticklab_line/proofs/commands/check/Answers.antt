@@ -1,13 +1,8 @@
-use Rattle.std.proofs.Common.{◌∙◌, ap}
-use Rattle.ticklab_line.specs.CommandLine.{number_rule}
 use Rattle.ticklab_line.proofs.commands.check.Goals as goal
 
 pub returns : goal.returns
 returns c =
     let paths = c.taking-check.ensures _ _ c.named.ensures c.words.ensures in
-    let limit = c.taking-check-2.ensures _ _ paths
-    (c.option.ensures.0 ∙ ap (number_rule _) c.value_parser.ensures, c.option.ensures.1) in
-    let memory = c.taking-check-3.ensures _ _ limit
-    (c.option-2.ensures.0 ∙ ap (number_rule _) c.megabytes.ensures, c.option-2.ensures.1) in
-    c.taking.ensures _ _ memory
-    (c.option-3.ensures.0 ∙ ap (number_rule _) c.jobs.ensures, c.option-3.ensures.1)
+    let memory = c.taking-check-3.ensures _ _ (c.taking-check-2.ensures _ _ paths c.limit.ensures) c.memory.ensures in
+    let jobs = c.taking-check-4.ensures _ _ memory c.jobs.ensures in
+    c.taking.ensures _ _ jobs c.json.ensures
