@@ -2,6 +2,7 @@ pub mod Breaks
 pub mod Carried
 pub mod CarriedEnds
 pub mod Chosen
+pub mod Painting
 pub mod EndsSearched
 pub mod Heard
 pub mod HuntSearched

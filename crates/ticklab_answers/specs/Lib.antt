@@ -4,6 +4,7 @@ pub mod Breaking
 pub mod BySteps
 pub mod Checks
 pub mod Codes
+pub mod Colours
 pub mod Ends
 pub mod Explanations
 pub mod Exploring

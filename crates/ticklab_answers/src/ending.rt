@@ -31,7 +31,7 @@ pub fn ended<F: Files, O: Write, T: Write, M: Runner, S: Trials, C: Checks, W: P
     progress: &mut W,
     given: io::Result<Args>,
 ) -> ExitCode
-    ensures { Exits (Ends F.Reads F.ReadsInput F.Lists M.Ran (hearing W.begins W.hears) host.old.files host.new.files runner.old runner.new progress.old progress.new (record { out = O.contents host.old.out; err = T.contents host.old.err }) (record { out = O.contents host.new.out; err = T.contents host.new.err }) host.old.version.now given) (exit_status result) }
+    ensures { Exits (Ends F.Reads F.ReadsInput F.Lists M.Ran (hearing W.begins W.hears) host.old.files host.new.files runner.old runner.new progress.old progress.new (record { out = O.contents host.old.out; err = T.contents host.old.err }) (record { out = O.contents host.new.out; err = T.contents host.new.err }) host.old.version.now host.old.colours given) (exit_status result) }
 {
     match response_to(
         alloc,
@@ -43,10 +43,13 @@ pub fn ended<F: Files, O: Write, T: Write, M: Runner, S: Trials, C: Checks, W: P
         progress,
         given,
     ) {
-        Ok(response) => match told(&mut host.out, &mut host.err, &response) {
-            Ok(status) => ExitCode::from(status),
-            Err(fault) => failed(&mut host.err, &fault),
-        },
+        Ok(response) => {
+            let colours = host.colours;
+            match told(alloc, &mut host.out, &mut host.err, colours, &response) {
+                Ok(status) => ExitCode::from(status),
+                Err(fault) => failed(&mut host.err, &fault),
+            }
+        }
         Err(fault) => failed(&mut host.err, &fault),
     }
 }

@@ -1,6 +1,7 @@
 ghost use Rattle.std.specs.Prelude.{ℕ, List, IfOk, Option, String, option_map};
 ghost use Rattle.std.specs.Global.{Global};
 
+use crate::colours::Colours;
 use std::alloc::Global;
 use std::io;
 
@@ -30,7 +31,8 @@ pub trait Files {
         ensures { IfOk result (λ names. Self.Lists self.old name.now (option_map (λ names. names.items) names) self.new) };
 }
 
-/// What the program has of its host: its version, its files, standard output and standard error.
+/// What the program has of its host: its version, its files, standard output and standard error, and which of these show
+/// colours.
 #[derive(Drop)]
 pub struct Host<F, O, T> {
     /// What `--version` tells behind the program's name.
@@ -38,4 +40,5 @@ pub struct Host<F, O, T> {
     pub files: F,
     pub out: O,
     pub err: T,
+    pub colours: Colours,
 }

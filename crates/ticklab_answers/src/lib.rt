@@ -11,6 +11,7 @@
 
 mod asking;
 mod breaking;
+mod colours;
 mod commands;
 mod counts;
 mod ending;
@@ -27,6 +28,7 @@ mod stop;
 mod trapping;
 mod writing;
 
+pub use colours::Colours;
 pub use commands::{
     Telling, checked, explained, explored, explored_ends, hunted, labelled, lassoed, tallied, told,
 };
