@@ -13,8 +13,13 @@ mark_of-requires c =
     let lines = c.args.lines.now in
     let P : Option BrokenLine → Type 0 =
     λ found. IsFirstAt (resolved c.args.program.now) (lines_of lines.properties.items) (map place_of lines.places.items) c.args.schedule.now (option_map broken_at found) in
-    omega (arith, c.len.ensures, lines.places.ok.0, length-map lines.places.items place_of,
-    line_within _ _ _ _ (broken_at c.in-Some.line) (subst P c.in-Some.is c.in_ok-first_broken_line.ensures))
+    omega (
+      arith,
+      c.len.ensures,
+      lines.places.ok.0,
+      length-map lines.places.items place_of,
+      line_within _ _ _ _ (broken_at c.in-Some.line) (subst P c.in-Some.is c.in_ok-first_broken_line.ensures),
+    )
 
 pub returns-in-None : goal.returns-in-None
 returns-in-None c =
