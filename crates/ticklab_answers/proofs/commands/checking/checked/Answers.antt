@@ -14,8 +14,8 @@ returns-in_err-sources-clause-err g c =
     (of_file_as (IsAmong names) (IsUnderOne texts) (all_under g.F.Files.Lists c.args.files.now c.names_of.new.files texts names c.in_ok-names.ensures.ok) _
     c.in_err-sources.ensures.err)
 
-pub returns-in_ok-sources_checked-clause-ok : goal.returns-in_ok-sources_checked-clause-ok
-returns-in_ok-sources_checked-clause-ok g c = record {
+pub returns-clause-ok : goal.returns-clause-ok
+returns-clause-ok g c = record {
   names = map string_bytes c.in_ok-names.names.items;
   listed = c.names_of.new.files;
   named = c.in_ok-names.ensures.ok;
