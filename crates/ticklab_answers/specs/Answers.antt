@@ -47,9 +47,9 @@ module _ {F M W : Type 0} (Reads : ReadsOf F) (ReadsInput : ReadsInputOf F) (Lis
     (before after : F) (rested ran : M) (quiet heard : W) where
   abbrev pub Responds : Asked → Response → Type 0
   Responds (Explore file never limit memory steps) response =
-      (ran ≡ rested) × Explores Reads ReadsInput hears before after quiet heard file never (limits_of limit memory) steps response
+      (ran ≡ rested) × Explores Reads ReadsInput hears before after quiet heard file never (limits_of limit memory) steps Text response
   Responds (Ends file never process limit memory steps) response =
-      (ran ≡ rested) × ExploresEnds Reads ReadsInput hears before after quiet heard file never process (limits_of limit memory) steps response
+      (ran ≡ rested) × ExploresEnds Reads ReadsInput hears before after quiet heard file never process (limits_of limit memory) steps Text response
   Responds (Check paths limit memory jobs) response =
       (ran ≡ rested) × (heard ≡ quiet) × ChecksAll Reads ReadsInput Lists before after paths (limits_of limit memory) response
   Responds (Lasso file prefix cycle) response =

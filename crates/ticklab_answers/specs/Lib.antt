@@ -10,7 +10,6 @@ pub mod Exploring
 pub mod Faults
 pub mod Found
 pub mod Hearing
-pub mod HuntObjects
 pub mod Hunting
 pub mod Labels
 pub mod Lasso
@@ -22,9 +21,11 @@ pub mod Pages
 pub mod Pictures
 pub mod Reading
 pub mod Responses
+pub mod RunObjects
 pub mod Runs
 pub mod Serving
 pub mod Shown
+pub mod Sought
 pub mod Stops
 pub mod Tallies
 pub mod prover

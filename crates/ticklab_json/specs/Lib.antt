@@ -2,3 +2,4 @@ pub mod Members
 pub mod Events
 pub mod Steps
 pub mod Hunts
+pub mod Found

@@ -1,9 +1,9 @@
 //! Members that may be left out, and lines.
-ghost use Rattle.std.specs.Prelude.{◌≡◌, ◌<◌, ◌++◌, IfOk, OnOk, false, option_map, string_bytes};
+ghost use Rattle.std.specs.Prelude.{◌≡◌, ◌<◌, ◌++◌, ◌∷◌, [], IfOk, OnOk, false, option_map, string_bytes};
 ghost use Rattle.base.specs.Lines.{line_end};
 ghost use Rattle.serde_json.specs.View.{members_view, view};
 ghost use Rattle.serde_json.specs.Written.{compact_text, has_float};
-ghost use Rattle.ticklab_json.specs.Members.{with_member};
+ghost use Rattle.ticklab_json.specs.Members.{lines, with_member};
 ghost use Rattle.ticklab_json.specs.Steps.{heading};
 
 use serde_json::{Map, Value, put};
@@ -46,4 +46,14 @@ pub fn push_line(text: &mut String, alloc: Global, value: &Value) -> Result<(), 
     let line = value.to_string(alloc)?;
     text.push_str(&line)?;
     text.push_str("\n")
+}
+
+/// A value in a line.
+pub fn line_of(alloc: Global, value: &Value) -> Result<String, AllocError>
+    requires { has_float (view value.now) ≡ false }
+    ensures { IfOk result (λ text. string_bytes text ≡ lines (view value.now ∷ [])) }
+{
+    let mut text = String::new(alloc);
+    push_line(&mut text, alloc, value)?;
+    Ok(text)
 }

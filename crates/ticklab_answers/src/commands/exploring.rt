@@ -1,40 +1,44 @@
 //! `ticklab explore`.
-ghost use Rattle.std.specs.Prelude.{◌≡◌, if◌then◌else◌, ◌<◌, ◌++◌, All, IfErr, IfOk, MatchResult, OnOk, length, map, string_bytes, true};
-ghost use Rattle.tick_kinds.specs.Resolution.{resolved};
+ghost use Rattle.std.specs.Prelude.{◌≡◌, if◌then◌else◌, ◌<◌, ◌++◌, IfErr, IfOk, MatchResult, OnOk, length, string_bytes, true};
 ghost use Rattle.tick_source.specs.Source.{source};
+ghost use Rattle.tick_kinds.specs.Resolution.{resolved};
 ghost use Rattle.searches_explore.specs.Lines.{is_fault, lines_of};
 ghost use Rattle.searches_explore.specs.Never.{IfBroken, IfFault, never_searched_of};
 ghost use Rattle.searches_hunt.specs.Minimal.{IfBroken as IfBreaks, schedule_of};
+ghost use Rattle.base.specs.Lines.{line_end};
 ghost use Rattle.searches_states.specs.declared.searching.Searched.TheVariants.{Found};
-ghost use Rattle.ticketc_refusals.specs.Refusals.{SpelledIn};
-ghost use Rattle.ticklab_answers.specs.Asking.{place_of, texts_of};
+ghost use Rattle.ticklab_answers.specs.Asking.{texts_of};
 ghost use Rattle.ticklab_answers.specs.BySteps.{break_line_by, line_by};
 ghost use Rattle.ticklab_answers.specs.Exploring.{Explores, IsExplored, IsUnexplored};
 ghost use Rattle.ticklab_answers.specs.Faults.{IsOfFile};
 ghost use Rattle.ticklab_answers.specs.Found.{IsFound, IsFoundBy, IsFoundFirst, TellsShortest};
 ghost use Rattle.ticklab_answers.specs.Hearing.{IsHeard, hearing};
 ghost use Rattle.ticklab_answers.specs.Lines.{larger_text, limit_line, more_text, next_line, safe_line, safe_text, states_text, try_text};
-ghost use Rattle.ticklab_answers.specs.Shown.{Shows, ShowsMinimal};
+ghost use Rattle.ticklab_answers.specs.Responses.{Gives};
+ghost use Rattle.ticklab_answers.specs.Shown.{IsStatesAnswer, SaysBroken, SaysTrap, Shows, ShowsLimit, ShowsMinimal, ShowsSafe};
+ghost use Rattle.ticklab_answers.specs.Sought.{IsLawful, IsSound, sought_by};
 ghost use Rattle.ticklab_answers.specs.Stops.{IfRefused, IsRefusal};
 ghost use Rattle.ticklab_answers.specs.prover.Searches.{IsSearchedBy, is_limit};
 
-use crate::asking::NeverLines;
 use crate::commands::ends::{asked_in, asks_ends, ends_found};
 use crate::commands::hunting::{MINIMAL, MINIMAL_BREAK};
 use crate::counts::push_many;
+use crate::extent::{Extent, extent_of};
 use crate::fault::{AnswerFault, LabFault};
 use crate::files::bytes_of;
+use crate::form::Form;
 use crate::host::Files;
 use crate::progress::Progress;
 use crate::reading::asked_program;
 use crate::response::{DONE, LIMIT, Response, answer, settled};
+use crate::search::Search;
 use crate::stop::NoAnswer;
 use crate::trapping::{broken_shown, trap_shown};
-use base::NoMemory;
+use base::{NoMemory, Trap};
 use searches_explore::{Limits, NeverExplored, explore_never, explore_never_merged};
 use searches_hunt::{Minimal, shrink_fault};
 use std::alloc::{AllocError, Global};
-use ticketc_refusals::SpelledProgram;
+use ticklab_json::{Head, found_states};
 use ticklab_line::Steps;
 
 /// How a trap is told that comes under no shorter schedule.
@@ -61,13 +65,14 @@ pub fn explored<F: Files, W: Progress>(
     never: &[&str],
     limits: Limits,
     steps: Steps,
+    form: Form,
 ) -> Result<Response, LabFault>
-    ensures ok { IfOk result (Explores F.Reads F.ReadsInput (hearing W.begins W.hears) files.old files.new progress.old progress.new file.now (texts_of never.now) limits steps) }
+    ensures ok { IfOk result (Explores F.Reads F.ReadsInput (hearing W.begins W.hears) files.old files.new progress.old progress.new file.now (texts_of never.now) limits steps form) }
     ensures err { IfErr result (IsOfFile file.now) }
 {
     let input = bytes_of(alloc, files, file)?;
     let bytes = input.as_slice();
-    let searched = all_schedules(alloc, file, never, bytes, limits, steps, progress);
+    let searched = all_schedules(alloc, file, never, bytes, limits, steps, form, progress);
     Ok(ended(alloc, progress, searched)?)
 }
 
@@ -91,82 +96,78 @@ fn all_schedules<W: Progress>(
     input: &[u8],
     limits: Limits,
     steps: Steps,
+    form: Form,
     progress: &mut W,
 ) -> Result<Response, NoAnswer>
-    ensures ok { IfOk result (λ response. IsHeard (hearing W.begins W.hears) progress.old progress.new (IsExplored steps name.now (texts_of never.now) limits input.now response)) }
+    ensures ok { IfOk result (λ response. IsHeard (hearing W.begins W.hears) progress.old progress.new (IsExplored steps name.now (texts_of never.now) limits form input.now response)) }
     ensures refused { IfErr result (λ stop. IfRefused stop (λ report. IsUnexplored name.now (texts_of never.now) input.now report × (progress.old ≡ progress.new))) }
 {
     let asked = match asked_program(alloc, name, input, never) {
         Ok(asked) => asked,
         Err(stop) => return Err(stop),
     };
-    let spelled = &asked.spelled;
-    let lines = &asked.lines;
+    let search = Search {
+        spelled: &asked.spelled,
+        input,
+        lines: &asked.lines,
+        form,
+    };
     if asks_ends(asked.ends) {
         let who = asked_in(asked.ends);
-        let response = ends_found(alloc, who, spelled, input, lines, limits, steps, progress)?;
+        let response = ends_found(alloc, &search, who, limits, steps, progress)?;
         return Ok(response);
     }
-    let response = found(alloc, steps, spelled, input, lines, limits, progress)?;
+    let response = found(alloc, &search, limits, steps, progress)?;
     Ok(response)
 }
 
-// What is found where these lines must never hold.
+// What is found of the program.
 fn found<W: Progress>(
     alloc: Global,
-    steps: Steps,
-    spelled: &SpelledProgram,
-    input: &[u8],
-    lines: &NeverLines<'_>,
+    search: &Search<'_>,
     limits: Limits,
+    steps: Steps,
     progress: &mut W,
 ) -> Result<Response, NoMemory>
-    requires program { SpelledIn input.now spelled.now }
-    requires as_many { length lines.now.properties.items ≡ length lines.now.places.items }
-    ensures { IfOk result (λ response. IsHeard (hearing W.begins W.hears) progress.old progress.new (IsFound input.now spelled.now.program (lines_of lines.now.properties.items) (map place_of lines.now.places.items) limits steps response)) }
+    requires sound { IsSound search.now }
+    ensures { IfOk result (λ response. IsHeard (hearing W.begins W.hears) progress.old progress.new (IsFound (sought_by search.now) limits steps response)) }
 {
     match steps {
-        Steps::MergedFirst => found_first(alloc, spelled, input, lines, limits, progress),
-        Steps::Single => found_by(alloc, false, spelled, input, lines, limits, progress),
-        Steps::Merged => found_by(alloc, true, spelled, input, lines, limits, progress),
+        Steps::MergedFirst => found_first(alloc, search, limits, progress),
+        Steps::Single => found_by(alloc, search, limits, false, progress),
+        Steps::Merged => found_by(alloc, search, limits, true, progress),
     }
 }
 
 // The same by steps of one kind alone.
 fn found_by<W: Progress>(
     alloc: Global,
-    is_merged: bool,
-    spelled: &SpelledProgram,
-    input: &[u8],
-    lines: &NeverLines<'_>,
+    search: &Search<'_>,
     limits: Limits,
+    is_merged: bool,
     progress: &mut W,
 ) -> Result<Response, NoMemory>
-    requires program { SpelledIn input.now spelled.now }
-    requires as_many { length lines.now.properties.items ≡ length lines.now.places.items }
-    ensures { IfOk result (λ response. IsHeard (hearing W.begins W.hears) progress.old progress.new (IsFoundBy input.now spelled.now.program (lines_of lines.now.properties.items) (map place_of lines.now.places.items) limits is_merged response)) }
+    requires sound { IsSound search.now }
+    ensures { IfOk result (λ response. IsHeard (hearing W.begins W.hears) progress.old progress.new (IsFoundBy (sought_by search.now) limits is_merged response)) }
 {
-    let explored = explored_by(alloc, spelled, lines, limits, is_merged, progress)?;
-    shown(alloc, is_merged, spelled, input, lines, limits, &explored)
+    let explored = explored_by(alloc, search, limits, is_merged, progress)?;
+    shown(alloc, search, limits, is_merged, &explored)
 }
 
 // By merged steps first, and by single ones where these find a fault.
 fn found_first<W: Progress>(
     alloc: Global,
-    spelled: &SpelledProgram,
-    input: &[u8],
-    lines: &NeverLines<'_>,
+    search: &Search<'_>,
     limits: Limits,
     progress: &mut W,
 ) -> Result<Response, NoMemory>
-    requires program { SpelledIn input.now spelled.now }
-    requires as_many { length lines.now.properties.items ≡ length lines.now.places.items }
-    ensures { IfOk result (λ response. IsHeard (hearing W.begins W.hears) progress.old progress.new (IsFoundFirst input.now spelled.now.program (lines_of lines.now.properties.items) (map place_of lines.now.places.items) limits response)) }
+    requires sound { IsSound search.now }
+    ensures { IfOk result (λ response. IsHeard (hearing W.begins W.hears) progress.old progress.new (IsFoundFirst (sought_by search.now) limits response)) }
 {
-    let explored = explored_by(alloc, spelled, lines, limits, true, progress)?;
+    let explored = explored_by(alloc, search, limits, true, progress)?;
     match fault_of(explored) {
-        Ok(schedule) => shortest_found(alloc, spelled, input, lines, schedule, limits, progress),
-        Err(none) => shown(alloc, true, spelled, input, lines, limits, &none),
+        Ok(schedule) => shortest_found(alloc, search, limits, schedule, progress),
+        Err(none) => shown(alloc, search, limits, true, &none),
     }
 }
 
@@ -185,26 +186,23 @@ fn fault_of(explored: NeverExplored) -> Result<Vec<u8>, NeverExplored>
 /// steps; where these meet a limit, what is left of this one when each step is left out that can be.
 pub fn shortest_found<W: Progress>(
     alloc: Global,
-    spelled: &SpelledProgram,
-    input: &[u8],
-    lines: &NeverLines<'_>,
-    schedule: Vec<u8>,
+    search: &Search<'_>,
     limits: Limits,
+    schedule: Vec<u8>,
     progress: &mut W,
 ) -> Result<Response, NoMemory>
-    requires program { SpelledIn input.now spelled.now }
-    requires as_many { length lines.now.properties.items ≡ length lines.now.places.items }
-    requires lawful { All (λ p. p < (resolved spelled.now.program).processes) schedule.items }
-    requires fault { is_fault (lines_of lines.now.properties.items) (source (resolved spelled.now.program) schedule.items) ≡ true }
-    ensures { IfOk result (λ response. IsHeard (hearing W.begins W.hears) progress.old progress.new (TellsShortest input.now spelled.now.program (lines_of lines.now.properties.items) (map place_of lines.now.places.items) limits response)) }
+    requires sound { IsSound search.now }
+    requires lawful { IsLawful search.now schedule.items }
+    requires fault { is_fault (lines_of search.now.lines.now.properties.items) (source (resolved search.now.spelled.now.program) schedule.items) ≡ true }
+    ensures { IfOk result (λ response. IsHeard (hearing W.begins W.hears) progress.old progress.new (TellsShortest (sought_by search.now) limits response)) }
 {
-    let explored = explored_by(alloc, spelled, lines, limits, false, progress)?;
+    let explored = explored_by(alloc, search, limits, false, progress)?;
     if is_limit(&explored) {
-        let properties = lines.properties.as_slice();
-        let minimal = shrink_fault(alloc, &spelled.program, properties, schedule)?;
-        return minimal_shown(alloc, spelled, input, lines, &minimal);
+        let properties = search.lines.properties.as_slice();
+        let minimal = shrink_fault(alloc, &search.spelled.program, properties, schedule)?;
+        return minimal_shown(alloc, search, &minimal);
     }
-    shown(alloc, false, spelled, input, lines, limits, &explored)
+    shown(alloc, search, limits, false, &explored)
 }
 
 fn is_limit(explored: &NeverExplored) -> bool
@@ -219,16 +217,15 @@ fn is_limit(explored: &NeverExplored) -> bool
 // By merged steps, or by single ones.
 fn explored_by<W: Progress>(
     alloc: Global,
-    spelled: &SpelledProgram,
-    lines: &NeverLines<'_>,
+    search: &Search<'_>,
     limits: Limits,
     is_merged: bool,
     progress: &mut W,
 ) -> Result<NeverExplored, NoMemory>
-    ensures { IfOk result (IsSearchedBy is_merged (resolved spelled.now.program) lines.now.properties.items limits (hearing W.begins W.hears) progress.old progress.new) }
+    ensures { IfOk result (IsSearchedBy is_merged (resolved search.now.spelled.now.program) search.now.lines.now.properties.items limits (hearing W.begins W.hears) progress.old progress.new) }
 {
-    let program = &spelled.program;
-    let properties = lines.properties.as_slice();
+    let program = &search.spelled.program;
+    let properties = search.lines.properties.as_slice();
     progress.begin(is_merged);
     if is_merged {
         let explored = explore_never_merged(alloc, program, properties, limits, progress)?;
@@ -241,26 +238,20 @@ fn explored_by<W: Progress>(
 // The answer that tells what was explored.
 fn shown(
     alloc: Global,
-    is_merged: bool,
-    spelled: &SpelledProgram,
-    input: &[u8],
-    lines: &NeverLines<'_>,
+    search: &Search<'_>,
     limits: Limits,
+    is_merged: bool,
     explored: &NeverExplored,
 ) -> Result<Response, NoMemory>
-    requires schedule { IfFault explored.now (All (λ p. p < (resolved spelled.now.program).processes)) }
-    requires line { IfBroken explored.now (λ schedule line v. line < length lines.now.places.items) }
-    requires program { SpelledIn input.now spelled.now }
-    ensures { IfOk result (Shows is_merged input.now spelled.now.program (map place_of lines.now.places.items) limits explored.now) }
+    requires sound { IsSound search.now }
+    requires schedule { IfFault explored.now (IsLawful search.now) }
+    requires line { IfBroken explored.now (λ schedule line v. line < length search.now.lines.now.places.items) }
+    ensures { IfOk result (Shows is_merged (sought_by search.now) limits explored.now) }
 {
     match explored {
-        NeverExplored::Safe { states } => {
-            let line = safe_line(alloc, is_merged, lines.places.len(), *states)?;
-            Ok(answer(alloc, DONE, line))
-        }
+        NeverExplored::Safe { states } => Ok(safe_shown(alloc, search, is_merged, *states)?),
         NeverExplored::Trapped(schedule) => {
-            let found = trap_line(is_merged);
-            trap_shown(alloc, found, spelled, input, schedule)
+            trap_said(alloc, search, trap_line(is_merged), schedule)
         }
         NeverExplored::Broken {
             schedule,
@@ -268,11 +259,10 @@ fn shown(
             value,
         } => {
             let found = break_line(is_merged);
-            broken_shown(alloc, found, spelled, input, lines, schedule, *line, *value)
+            broken_said(alloc, search, found, schedule, *line, *value)
         }
         NeverExplored::Limit { states } => {
-            let line = limit_line(alloc, is_merged, limits, *states)?;
-            Ok(answer(alloc, LIMIT, line))
+            Ok(limit_shown(alloc, search, is_merged, limits, *states)?)
         }
     }
 }
@@ -280,27 +270,126 @@ fn shown(
 // The answer that tells a schedule which needs all its steps.
 fn minimal_shown(
     alloc: Global,
-    spelled: &SpelledProgram,
-    input: &[u8],
-    lines: &NeverLines<'_>,
+    search: &Search<'_>,
     minimal: &Minimal,
 ) -> Result<Response, NoMemory>
-    requires schedule { All (λ p. p < (resolved spelled.now.program).processes) (schedule_of minimal.now) }
-    requires line { IfBreaks minimal.now (λ schedule line v. line < length lines.now.places.items) }
-    requires program { SpelledIn input.now spelled.now }
-    ensures { IfOk result (ShowsMinimal input.now spelled.now.program (map place_of lines.now.places.items) minimal.now) }
+    requires sound { IsSound search.now }
+    requires schedule { IsLawful search.now (schedule_of minimal.now) }
+    requires line { IfBreaks minimal.now (λ schedule line v. line < length search.now.lines.now.places.items) }
+    ensures { IfOk result (ShowsMinimal (sought_by search.now) minimal.now) }
 {
     match minimal {
-        Minimal::Trapped(schedule) => trap_shown(alloc, MINIMAL, spelled, input, schedule),
+        Minimal::Trapped(schedule) => trap_said(alloc, search, MINIMAL, schedule),
         Minimal::Broken {
             schedule,
             line,
             value,
-        } => {
-            let found = MINIMAL_BREAK;
-            broken_shown(alloc, found, spelled, input, lines, schedule, *line, *value)
-        }
+        } => broken_said(alloc, search, MINIMAL_BREAK, schedule, *line, *value),
     }
+}
+
+/// A schedule under which a process traps. How it was found this line says.
+pub fn trap_said(
+    alloc: Global,
+    search: &Search<'_>,
+    line: &str,
+    schedule: &[u8],
+) -> Result<Response, NoMemory>
+    requires sound { IsSound search.now }
+    requires schedule { IsLawful search.now schedule.now }
+    ensures { IfOk result (SaysTrap line.now (sought_by search.now) schedule.now) }
+{
+    trap_shown(alloc, search, line, Head::Says(line), schedule)
+}
+
+/// The same of a schedule after which the line of this number breaks.
+pub fn broken_said(
+    alloc: Global,
+    search: &Search<'_>,
+    says: &str,
+    schedule: &[u8],
+    line: usize,
+    value: Result<u32, Trap>,
+) -> Result<Response, NoMemory>
+    requires sound { IsSound search.now }
+    requires schedule { IsLawful search.now schedule.now }
+    requires line { line < length search.now.lines.now.places.items }
+    ensures { IfOk result (SaysBroken says.now (sought_by search.now) schedule.now line value) }
+{
+    let head = Head::Says(says);
+    broken_shown(alloc, search, says, head, schedule, line, value)
+}
+
+// Nothing is wrong, and there are so many states.
+fn safe_shown(
+    alloc: Global,
+    search: &Search<'_>,
+    is_merged: bool,
+    states: u32,
+) -> Result<Response, AllocError>
+    ensures { IfOk result (ShowsSafe (sought_by search.now) is_merged states) }
+{
+    let extent = extent_of(search, is_merged, states);
+    let says = safe_line(alloc, extent)?;
+    states_shown(alloc, search.form, DONE, "safe", extent, &says, "")
+}
+
+/// There are more states than these.
+pub fn limit_shown(
+    alloc: Global,
+    search: &Search<'_>,
+    is_merged: bool,
+    limits: Limits,
+    states: u32,
+) -> Result<Response, AllocError>
+    ensures { IfOk result (ShowsLimit (sought_by search.now) is_merged limits states) }
+{
+    let extent = extent_of(search, is_merged, states);
+    let says = limit_line(alloc, is_merged, states)?;
+    let more = next_line(alloc, is_merged, limits, states)?;
+    states_shown(alloc, search.form, LIMIT, "limit", extent, &says, &more)
+}
+
+/// An answer without a schedule: what is said in a line, with more behind it; an object has the states in place of that.
+pub fn states_shown(
+    alloc: Global,
+    form: Form,
+    status: u8,
+    word: &str,
+    extent: Extent,
+    says: &str,
+    more: &str,
+) -> Result<Response, AllocError>
+    ensures { IfOk result (Gives status (IsStatesAnswer form word.now says.now extent.is_merged extent.states more.now)) }
+{
+    let text = states_answer(alloc, form, word, extent, says, more)?;
+    Ok(answer(alloc, status, text))
+}
+
+fn states_answer(
+    alloc: Global,
+    form: Form,
+    word: &str,
+    extent: Extent,
+    says: &str,
+    more: &str,
+) -> Result<String, AllocError>
+    ensures { IfOk result (λ text. IsStatesAnswer form word.now says.now extent.is_merged extent.states more.now (string_bytes text)) }
+{
+    match form {
+        Form::Text => lines_of(alloc, says, more),
+        Form::Json => found_states(alloc, word, says, extent.is_merged, extent.states),
+    }
+}
+
+// A line, with more behind it.
+fn lines_of(alloc: Global, line: &str, more: &str) -> Result<String, AllocError>
+    ensures { IfOk result (λ text. string_bytes text ≡ line.now ++ line_end ++ more.now) }
+{
+    let mut text = String::from_str(alloc, line)?;
+    text.push_str("\n")?;
+    text.push_str(more)?;
+    Ok(text)
 }
 
 /// How a trap was found.
@@ -332,18 +421,13 @@ pub fn push_states(text: &mut String, is_merged: bool, states: u32) -> Result<()
     }
 }
 
-fn safe_line(
-    alloc: Global,
-    is_merged: bool,
-    lines: usize,
-    states: u32,
-) -> Result<String, AllocError>
-    ensures { IfOk result (λ line. string_bytes line ≡ safe_line is_merged lines states) }
+fn safe_line(alloc: Global, extent: Extent) -> Result<String, AllocError>
+    ensures { IfOk result (λ line. string_bytes line ≡ safe_line extent.is_merged extent.lines extent.states) }
 {
-    let mut line = String::from_str(alloc, safe_text(lines))?;
+    let mut line = String::from_str(alloc, safe_text(extent.lines))?;
     line.push_str(" under any schedule (")?;
-    push_states(&mut line, is_merged, states)?;
-    line.push_str(")\n")?;
+    push_states(&mut line, extent.is_merged, extent.states)?;
+    line.push_str(")")?;
     Ok(line)
 }
 
@@ -367,6 +451,15 @@ pub fn push_more(text: &mut String, is_merged: bool, states: u32) -> Result<(), 
     Ok(())
 }
 
+fn limit_line(alloc: Global, is_merged: bool, states: u32) -> Result<String, AllocError>
+    ensures { IfOk result (λ line. string_bytes line ≡ limit_line is_merged states) }
+{
+    let mut line = String::new(alloc);
+    push_more(&mut line, is_merged, states)?;
+    line.push_str(": nothing is said of all schedules")?;
+    Ok(line)
+}
+
 /// What may help where this limit was met, as so many states are told.
 pub fn larger(limits: Limits, states: u32) -> &'static str
     ensures { result.now ≡ larger_text limits states }
@@ -384,19 +477,19 @@ fn try_text(is_merged: bool) -> &'static str
     either(is_merged, "try ", "try it without --single, ")
 }
 
-// Adds what may help where a limit was met.
-fn push_next(
-    line: &mut String,
+// What may help where a limit was met.
+fn next_line(
+    alloc: Global,
     is_merged: bool,
     limits: Limits,
     states: u32,
-) -> Result<(), AllocError>
-    ensures { OnOk result (string_bytes line.new ≡ string_bytes line.old ++ next_line is_merged limits states) }
+) -> Result<String, AllocError>
+    ensures { IfOk result (λ line. string_bytes line ≡ next_line is_merged limits states) }
 {
-    line.push_str(try_text(is_merged))?;
+    let mut line = String::from_str(alloc, try_text(is_merged))?;
     line.push_str(larger(limits, states))?;
     line.push_str(", hunt, or fewer processes or rounds\n")?;
-    Ok(())
+    Ok(line)
 }
 
 /// The first text where this holds, else the other.
@@ -404,19 +497,4 @@ pub fn either(first: bool, one: &'static str, other: &'static str) -> &'static s
     ensures { result.now ≡ (if first then one.now else other.now) }
 {
     if first { one } else { other }
-}
-
-pub fn limit_line(
-    alloc: Global,
-    is_merged: bool,
-    limits: Limits,
-    states: u32,
-) -> Result<String, AllocError>
-    ensures { IfOk result (λ line. string_bytes line ≡ limit_line is_merged limits states) }
-{
-    let mut line = String::new(alloc);
-    push_more(&mut line, is_merged, states)?;
-    line.push_str(": nothing is said of all schedules\n")?;
-    push_next(&mut line, is_merged, limits, states)?;
-    Ok(line)
 }
