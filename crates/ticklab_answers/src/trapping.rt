@@ -4,14 +4,14 @@ ghost use Rattle.ticklab_explain.specs.Questions.{IsPointed};
 ghost use Rattle.ticklab_json.specs.Found.{head_members};
 ghost use Rattle.ticklab_answers.specs.Asking.{place_of};
 ghost use Rattle.ticklab_answers.specs.Lines.{broken_text};
-ghost use Rattle.ticklab_answers.specs.Shown.{IsBrokenAnswer, IsTrapAnswer, IsTrapText, ShowsBroken, ShowsTrap};
+ghost use Rattle.ticklab_answers.specs.Shown.{IsBrokenAnswer, IsTrapText, ShowsBroken, ShowsTrap};
 ghost use Rattle.ticklab_answers.specs.Sought.{IsLawful, IsSound, sought_by};
 
 use crate::asking::PropertyPlace;
 use crate::commands::{break_object, run_object, source_text};
 use crate::form::Form;
-use crate::response::{Response, TRAPPED, answer, output};
-use crate::search::Search;
+use crate::response::{TRAPPED, answer, output};
+use crate::search::{Answered, Search};
 use base::{NoMemory, Trap, push_number};
 use language_schedules::write_schedule;
 use std::alloc::{AllocError, Global};
@@ -53,49 +53,30 @@ fn broken_text(alloc: Global, value: Result<u32, Trap>) -> Result<String, AllocE
 }
 
 /// The schedule, and what each of its steps does. How it was found a text says in this line, and an object in its head.
-pub fn trap_shown(
-    alloc: Global,
-    search: &Search<'_>,
-    found: &str,
-    head: Head<'_>,
-    schedule: &[u8],
-) -> Result<Response, NoMemory>
+pub fn trap_shown(search: &Search<'_>, found: &str, head: Head<'_>, schedule: &[u8]) -> Answered
     requires sound { IsSound search.now }
     requires schedule { IsLawful search.now schedule.now }
     ensures { IfOk result (ShowsTrap found.now (head_members head.entry) (sought_by search.now) schedule.now) }
 {
-    let text = trap_answer(alloc, search, found, head, schedule)?;
-    Ok(answer(alloc, TRAPPED, text))
-}
-
-// In the form that is asked for.
-fn trap_answer(
-    alloc: Global,
-    search: &Search<'_>,
-    found: &str,
-    head: Head<'_>,
-    schedule: &[u8],
-) -> Result<String, NoMemory>
-    requires sound { IsSound search.now }
-    requires schedule { IsLawful search.now schedule.now }
-    ensures { IfOk result (λ text. IsTrapAnswer search.now.form found.now (head_members head.entry) search.now.input.now search.now.spelled.now.program schedule.now (string_bytes text)) }
-{
+    let alloc = search.alloc;
     match search.form {
-        Form::Text => trap_text(alloc, search, found, schedule),
-        Form::Json => run_object(alloc, search, head, schedule, None),
+        Form::Text => {
+            let text = trap_text(search, found, schedule)?;
+            Ok(answer(alloc, TRAPPED, text))
+        }
+        Form::Json => {
+            let text = run_object(search, head, schedule, None)?;
+            Ok(answer(alloc, TRAPPED, text))
+        }
     }
 }
 
-fn trap_text(
-    alloc: Global,
-    search: &Search<'_>,
-    found: &str,
-    schedule: &[u8],
-) -> Result<String, NoMemory>
+fn trap_text(search: &Search<'_>, found: &str, schedule: &[u8]) -> Result<String, NoMemory>
     requires sound { IsSound search.now }
     requires schedule { IsLawful search.now schedule.now }
     ensures { IfOk result (λ text. IsTrapText found.now search.now.input.now search.now.spelled.now.program schedule.now (string_bytes text)) }
 {
+    let alloc = search.alloc;
     let written = write_schedule(alloc, schedule)?;
     let steps = source_text(alloc, search.spelled, search.input, schedule)?;
     let mut text = String::from_str(alloc, found)?;
@@ -108,26 +89,25 @@ fn trap_text(
 
 /// The same, and which of the lines breaks, by its number from 0, with what it comes to.
 pub fn broken_shown(
-    alloc: Global,
     search: &Search<'_>,
     found: &str,
     head: Head<'_>,
     schedule: &[u8],
     line: usize,
     value: Result<u32, Trap>,
-) -> Result<Response, NoMemory>
+) -> Answered
     requires sound { IsSound search.now }
     requires schedule { IsLawful search.now schedule.now }
     requires line { line < length search.now.lines.now.places.items }
     ensures { IfOk result (ShowsBroken found.now (head_members head.entry) (sought_by search.now) schedule.now line value) }
 {
     let place = &search.lines.places[line];
-    let out = broken_answer(alloc, search, found, head, schedule, place, value)?;
-    Ok(output(alloc, TRAPPED, out))
+    let out = broken_answer(search, found, head, schedule, place, value)?;
+    Ok(output(search.alloc, TRAPPED, out))
 }
 
+// The line stands here.
 fn broken_answer(
-    alloc: Global,
     search: &Search<'_>,
     found: &str,
     head: Head<'_>,
@@ -141,11 +121,11 @@ fn broken_answer(
 {
     match search.form {
         Form::Text => {
-            let text = trap_text(alloc, search, found, schedule)?;
-            with_line(alloc, text.into_bytes(), place, value)
+            let text = trap_text(search, found, schedule)?;
+            with_line(search.alloc, text.into_bytes(), place, value)
         }
         Form::Json => {
-            let text = break_object(alloc, search, head, schedule, place, value)?;
+            let text = break_object(search, head, schedule, place, value)?;
             Ok(text.into_bytes())
         }
     }

@@ -8,7 +8,7 @@ ghost use Rattle.ticklab_answers.specs.Asking.{texts_of};
 ghost use Rattle.ticklab_answers.specs.Ends.{ExploresEnds, IsEndsExplored, IsEndsFound, IsEndsFoundBy, IsEndsFoundFirst, IsEndsRefused, IsPast, IsThere, TellsMore, asked_by, asks_ends};
 ghost use Rattle.ticklab_answers.specs.Faults.{IsOfFile};
 ghost use Rattle.ticklab_answers.specs.Hearing.{IsHeard, hearing};
-ghost use Rattle.ticklab_answers.specs.Shown.{ShowsAllEnd, ShowsCanEnd, ShowsEndless, ShowsEnds, ShowsHalved, ShowsStuck, can_end_word};
+ghost use Rattle.ticklab_answers.specs.Shown.{ShowsAllEnd, ShowsCanEnd, ShowsEndless, ShowsEnds, ShowsHalf, ShowsHalved, ShowsStuck, can_end_word};
 ghost use Rattle.ticklab_answers.specs.Sought.{AreLawful, IsLawful, IsSound, sought_by};
 ghost use Rattle.ticklab_answers.specs.Stops.{IfRefused};
 ghost use Rattle.ticklab_answers.specs.prover.Searches.{AreEndsKnownBy, AreEndsSearchedBy, IsShowable, is_end_limit, states_of};
@@ -28,14 +28,14 @@ use crate::host::Files;
 use crate::progress::Progress;
 use crate::reading::spelled_program_of;
 use crate::response::{DONE, LIMIT, Response};
-use crate::search::Search;
+use crate::search::{Answered, Search, Task};
 use crate::stop::NoAnswer;
 use base::{NoMemory, set_at};
 use language_questions::Ends;
 use loops::loop_shown;
 pub use loops::loop_text;
 use searches_explore::{EndExplored, Limits, MustStop, explore_ends, explore_ends_merged};
-use std::alloc::{AllocError, Global};
+use std::alloc::Global;
 use ticklab_json::Loop;
 use ticklab_line::Steps;
 pub use wording::push_processes;
@@ -95,69 +95,55 @@ fn all_ends<W: Progress>(
     let asked = asked_of(alloc, questions.ends, process, spelled.program.processes())?;
     let lines = never_lines(alloc, name, input, &spelled.program, questions, never)?;
     let search = Search {
+        alloc,
         spelled: &spelled,
         input,
         lines: &lines,
         form,
     };
-    Ok(ends_found(alloc, &search, asked, limits, steps, progress)?)
+    let task = Task {
+        search,
+        limits,
+        asked,
+    };
+    Ok(ends_found(&task, steps, progress)?)
 }
 
 /// What is found of the program where these processes are asked for.
-pub fn ends_found<W: Progress>(
-    alloc: Global,
-    search: &Search<'_>,
-    asked: MustStop,
-    limits: Limits,
-    steps: Steps,
-    progress: &mut W,
-) -> Result<Response, NoMemory>
-    requires sound { IsSound search.now }
-    ensures { IfOk result (λ response. IsHeard (hearing W.begins W.hears) progress.old progress.new (IsEndsFound (sought_by search.now) limits asked steps response)) }
+pub fn ends_found<W: Progress>(task: &Task<'_>, steps: Steps, progress: &mut W) -> Answered
+    requires sound { IsSound task.now.search }
+    ensures { IfOk result (λ response. IsHeard (hearing W.begins W.hears) progress.old progress.new (IsEndsFound (sought_by task.now.search) task.now.limits task.now.asked steps response)) }
 {
     match steps {
-        Steps::MergedFirst => found_first(alloc, search, asked, limits, progress),
-        Steps::Single => found_by(alloc, search, asked, limits, false, progress),
-        Steps::Merged => found_by(alloc, search, asked, limits, true, progress),
+        Steps::MergedFirst => found_first(task, progress),
+        Steps::Single => found_by(task, false, progress),
+        Steps::Merged => found_by(task, true, progress),
     }
 }
 
-// The same by steps of one kind alone.
-fn found_by<W: Progress>(
-    alloc: Global,
-    search: &Search<'_>,
-    asked: MustStop,
-    limits: Limits,
-    is_merged: bool,
-    progress: &mut W,
-) -> Result<Response, NoMemory>
-    requires sound { IsSound search.now }
-    ensures { IfOk result (λ response. IsHeard (hearing W.begins W.hears) progress.old progress.new (IsEndsFoundBy (sought_by search.now) limits asked is_merged response)) }
+// By steps of one kind alone.
+fn found_by<W: Progress>(task: &Task<'_>, is_merged: bool, progress: &mut W) -> Answered
+    requires sound { IsSound task.now.search }
+    ensures { IfOk result (λ response. IsHeard (hearing W.begins W.hears) progress.old progress.new (IsEndsFoundBy (sought_by task.now.search) task.now.limits task.now.asked is_merged response)) }
 {
-    let explored = explored_by(alloc, search, asked, limits, is_merged, progress)?;
-    shown(alloc, search, asked, limits, is_merged, explored)
+    let explored = explored_by(task, is_merged, progress)?;
+    shown(task, is_merged, explored)
 }
 
 // By merged steps first, and by single ones where these tell more.
-fn found_first<W: Progress>(
-    alloc: Global,
-    search: &Search<'_>,
-    asked: MustStop,
-    limits: Limits,
-    progress: &mut W,
-) -> Result<Response, NoMemory>
-    requires sound { IsSound search.now }
-    ensures { IfOk result (λ response. IsHeard (hearing W.begins W.hears) progress.old progress.new (IsEndsFoundFirst (sought_by search.now) limits asked response)) }
+fn found_first<W: Progress>(task: &Task<'_>, progress: &mut W) -> Answered
+    requires sound { IsSound task.now.search }
+    ensures { IfOk result (λ response. IsHeard (hearing W.begins W.hears) progress.old progress.new (IsEndsFoundFirst (sought_by task.now.search) task.now.limits task.now.asked response)) }
 {
-    if is_nobody(asked) {
-        return found_by(alloc, search, asked, limits, true, progress);
+    if is_nobody(task.asked) {
+        return found_by(task, true, progress);
     }
-    let explored = explored_by(alloc, search, asked, limits, true, progress)?;
+    let explored = explored_by(task, true, progress)?;
     match fault_of(explored) {
-        Ok(schedule) => shortest_found(alloc, search, limits, schedule, progress),
+        Ok(schedule) => shortest_found(task, schedule, progress),
         Err(merged) => match limit_of(&merged) {
-            Some(_) => shown(alloc, search, asked, limits, true, merged),
-            None => more_found(alloc, search, asked, limits, merged, progress),
+            Some(_) => shown(task, true, merged),
+            None => more_found(task, merged, progress),
         },
     }
 }
@@ -185,38 +171,34 @@ fn limit_of(explored: &EndExplored) -> Option<u32>
 
 // What single steps find of ends, where merged ones have found nothing wrong and this of ends; where single ones meet a
 // limit, what merged ones have found.
-fn more_found<W: Progress>(
-    alloc: Global,
-    search: &Search<'_>,
-    asked: MustStop,
-    limits: Limits,
-    merged: EndExplored,
-    progress: &mut W,
-) -> Result<Response, NoMemory>
-    requires sound { IsSound search.now }
-    requires known { AreEndsKnownBy true (resolved search.now.spelled.now.program) search.now.lines.now.properties.items asked limits merged }
+fn more_found<W: Progress>(task: &Task<'_>, merged: EndExplored, progress: &mut W) -> Answered
+    requires sound { IsSound task.now.search }
+    requires known { AreEndsKnownBy true (resolved task.now.search.spelled.now.program) task.now.search.lines.now.properties.items task.now.asked task.now.limits merged }
     requires quiet { IfFault (never_answer merged) (λ schedule. ⊥) }
     requires seen { is_end_limit merged ≡ false }
-    ensures { IfOk result (λ response. IsHeard (hearing W.begins W.hears) progress.old progress.new (TellsMore (sought_by search.now) limits asked (states_of merged) response)) }
+    ensures { IfOk result (λ response. IsHeard (hearing W.begins W.hears) progress.old progress.new (TellsMore (sought_by task.now.search) task.now.limits task.now.asked (states_of merged) response)) }
 {
-    let single = explored_by(alloc, search, asked, limits, false, progress)?;
+    let single = explored_by(task, false, progress)?;
     match limit_of(&single) {
-        Some(others) => half_shown(alloc, search, asked, limits, merged, others),
-        None => shown(alloc, search, asked, limits, false, single),
+        Some(others) => half_shown(task, merged, others),
+        None => shown(task, false, single),
     }
 }
 
 // By merged steps, or by single ones.
 fn explored_by<W: Progress>(
-    alloc: Global,
-    search: &Search<'_>,
-    asked: MustStop,
-    limits: Limits,
+    task: &Task<'_>,
     is_merged: bool,
     progress: &mut W,
 ) -> Result<EndExplored, NoMemory>
-    ensures { IfOk result (AreEndsSearchedBy is_merged (resolved search.now.spelled.now.program) search.now.lines.now.properties.items asked limits (hearing W.begins W.hears) progress.old progress.new) }
+    ensures { IfOk result (AreEndsSearchedBy is_merged (resolved task.now.search.spelled.now.program) task.now.search.lines.now.properties.items task.now.asked task.now.limits (hearing W.begins W.hears) progress.old progress.new) }
 {
+    let Task {
+        search,
+        limits,
+        asked,
+    } = *task;
+    let alloc = search.alloc;
     let program = &search.spelled.program;
     let properties = search.lines.properties.as_slice();
     progress.begin(is_merged);
@@ -275,54 +257,31 @@ pub fn asked_in(ends: Option<Ends>) -> MustStop
 }
 
 // The answer that tells what merged steps have found, where by single ones there are more states than these.
-fn half_shown(
-    alloc: Global,
-    search: &Search<'_>,
-    asked: MustStop,
-    limits: Limits,
-    merged: EndExplored,
-    others: u32,
-) -> Result<Response, NoMemory>
-    requires sound { IsSound search.now }
-    requires shown { IsShowable search.now merged }
-    ensures { IfOk result (ShowsHalved asked (sought_by search.now) limits others merged) }
+fn half_shown(task: &Task<'_>, merged: EndExplored, others: u32) -> Answered
+    requires sound { IsSound task.now.search }
+    requires shown { IsShowable task.now.search merged }
+    ensures { IfOk result (ShowsHalved task.now.asked (sought_by task.now.search) task.now.limits others merged) }
 {
     match merged {
-        EndExplored::CanEnd { states } => {
-            let extent = extent_of(search, true, states);
-            let says = half_line(alloc, extent.lines, asked, states, others)?;
-            let more = half_next(alloc, limits, others)?;
-            Ok(states_shown(alloc, search.form, LIMIT, "limit", extent, &says, &more)?)
-        }
-        other => shown(alloc, search, asked, limits, true, other),
+        EndExplored::CanEnd { states } => can_half_shown(task, states, others),
+        other => shown(task, true, other),
     }
 }
 
 // The answer that tells what was explored. What `explore` would find it tells in the same way.
-fn shown(
-    alloc: Global,
-    search: &Search<'_>,
-    asked: MustStop,
-    limits: Limits,
-    is_merged: bool,
-    explored: EndExplored,
-) -> Result<Response, NoMemory>
-    requires sound { IsSound search.now }
-    requires shown { IsShowable search.now explored }
-    ensures { IfOk result (ShowsEnds is_merged asked (sought_by search.now) limits explored) }
+fn shown(task: &Task<'_>, is_merged: bool, explored: EndExplored) -> Answered
+    requires sound { IsSound task.now.search }
+    requires shown { IsShowable task.now.search explored }
+    ensures { IfOk result (ShowsEnds is_merged task.now.asked (sought_by task.now.search) task.now.limits explored) }
 {
+    let search = &task.search;
     match explored {
-        EndExplored::Trapped(schedule) => {
-            trap_said(alloc, search, trap_line(is_merged), &schedule)
-        }
+        EndExplored::Trapped(schedule) => trap_said(search, trap_line(is_merged), &schedule),
         EndExplored::Broken {
             schedule,
             line,
             value,
-        } => {
-            let found = break_line(is_merged);
-            broken_said(alloc, search, found, &schedule, line, value)
-        }
+        } => broken_said(search, break_line(is_merged), &schedule, line, value),
         EndExplored::Stuck {
             schedule,
             lead_in,
@@ -334,87 +293,77 @@ fn shown(
                 lead_in: &lead_in,
                 cycle: &cycle,
             };
-            stuck_shown(alloc, search, asked, is_merged, looped)
+            stuck_shown(task, is_merged, looped)
         }
-        EndExplored::Endless { prefix, cycle, .. } => {
-            endless_shown(alloc, search, asked, &prefix, &cycle)
-        }
-        EndExplored::Ends { states } => Ok(ends_shown(alloc, search, asked, states)?),
-        EndExplored::CanEnd { states } => {
-            Ok(can_end_shown(alloc, search, asked, is_merged, states)?)
-        }
-        EndExplored::Limit { states } => {
-            Ok(limit_shown(alloc, search, is_merged, limits, states)?)
-        }
+        EndExplored::Endless { prefix, cycle, .. } => endless_shown(task, &prefix, &cycle),
+        EndExplored::Ends { states } => ends_shown(task, states),
+        EndExplored::CanEnd { states } => can_end_shown(task, is_merged, states),
+        EndExplored::Limit { states } => limit_shown(task, is_merged, states),
     }
 }
 
 // They can't end any more, and these steps repeat for ever.
-fn stuck_shown(
-    alloc: Global,
-    search: &Search<'_>,
-    asked: MustStop,
-    is_merged: bool,
-    looped: Loop<'_>,
-) -> Result<Response, NoMemory>
-    requires sound { IsSound search.now }
-    requires lawful { AreLawful (resolved search.now.spelled.now.program).processes looped.entry }
-    ensures { IfOk result (ShowsStuck (sought_by search.now) is_merged asked looped.entry.schedule.now looped.entry.lead_in.now looped.entry.cycle.now) }
+fn stuck_shown(task: &Task<'_>, is_merged: bool, looped: Loop<'_>) -> Answered
+    requires sound { IsSound task.now.search }
+    requires lawful { AreLawful (resolved task.now.search.spelled.now.program).processes looped.entry }
+    ensures { IfOk result (ShowsStuck (sought_by task.now.search) is_merged task.now.asked looped.entry.schedule.now looped.entry.lead_in.now looped.entry.cycle.now) }
 {
-    let says = stuck_line(alloc, is_merged, search.lines.places.len(), asked)?;
-    loop_shown(alloc, search, "stuck", &says, looped)
+    let search = &task.search;
+    let says = stuck_line(
+        search.alloc,
+        is_merged,
+        search.lines.places.len(),
+        task.asked,
+    )?;
+    loop_shown(search, "stuck", &says, looped)
 }
 
 // They can end, and where the cycle is gone round for ever they don't.
-fn endless_shown(
-    alloc: Global,
-    search: &Search<'_>,
-    asked: MustStop,
-    prefix: &[u8],
-    cycle: &[u8],
-) -> Result<Response, NoMemory>
-    requires sound { IsSound search.now }
-    requires prefix { IsLawful search.now prefix.now }
-    requires cycle { IsLawful search.now cycle.now }
-    ensures { IfOk result (ShowsEndless (sought_by search.now) asked prefix.now cycle.now) }
+fn endless_shown(task: &Task<'_>, prefix: &[u8], cycle: &[u8]) -> Answered
+    requires sound { IsSound task.now.search }
+    requires prefix { IsLawful task.now.search prefix.now }
+    requires cycle { IsLawful task.now.search cycle.now }
+    ensures { IfOk result (ShowsEndless (sought_by task.now.search) task.now.asked prefix.now cycle.now) }
 {
-    let says = endless_line(alloc, search.lines.places.len(), asked)?;
+    let search = &task.search;
+    let says = endless_line(search.alloc, search.lines.places.len(), task.asked)?;
     let looped = Loop {
         schedule: prefix,
         lead_in: &[],
         cycle,
     };
-    loop_shown(alloc, search, "endless", &says, looped)
+    loop_shown(search, "endless", &says, looped)
 }
 
 // They always end.
-fn ends_shown(
-    alloc: Global,
-    search: &Search<'_>,
-    asked: MustStop,
-    states: u32,
-) -> Result<Response, AllocError>
-    ensures { IfOk result (ShowsAllEnd (sought_by search.now) asked states) }
+fn ends_shown(task: &Task<'_>, states: u32) -> Answered
+    ensures { IfOk result (ShowsAllEnd (sought_by task.now.search) task.now.asked states) }
 {
+    let search = &task.search;
     let extent = extent_of(search, false, states);
-    let says = ends_line(alloc, asked, extent)?;
-    states_shown(alloc, search.form, DONE, "ends", extent, &says, "")
+    let says = ends_line(search.alloc, task.asked, extent)?;
+    states_shown(search, DONE, "ends", extent, &says, "")
 }
 
 // They always can.
-fn can_end_shown(
-    alloc: Global,
-    search: &Search<'_>,
-    asked: MustStop,
-    is_merged: bool,
-    states: u32,
-) -> Result<Response, AllocError>
-    ensures { IfOk result (ShowsCanEnd (sought_by search.now) is_merged asked states) }
+fn can_end_shown(task: &Task<'_>, is_merged: bool, states: u32) -> Answered
+    ensures { IfOk result (ShowsCanEnd (sought_by task.now.search) is_merged task.now.asked states) }
 {
-    let word = can_end_word(asked);
-    let extent = extent_of(search, is_merged, states);
-    let says = can_end_line(alloc, asked, extent)?;
-    states_shown(alloc, search.form, DONE, word, extent, &says, "")
+    let word = can_end_word(task.asked);
+    let extent = extent_of(&task.search, is_merged, states);
+    let says = can_end_line(task.search.alloc, task.asked, extent)?;
+    states_shown(&task.search, DONE, word, extent, &says, "")
+}
+
+// By merged steps they always can; by single ones there are more states than these.
+fn can_half_shown(task: &Task<'_>, states: u32, others: u32) -> Answered
+    ensures { IfOk result (ShowsHalf (sought_by task.now.search) task.now.asked states task.now.limits others) }
+{
+    let alloc = task.search.alloc;
+    let extent = extent_of(&task.search, true, states);
+    let says = half_line(alloc, extent.lines, task.asked, states, others)?;
+    let more = half_next(alloc, task.limits, others)?;
+    states_shown(&task.search, LIMIT, "limit", extent, &says, &more)
 }
 
 fn can_end_word(asked: MustStop) -> &'static str

@@ -31,7 +31,7 @@ use crate::host::Files;
 use crate::progress::Progress;
 use crate::reading::asked_program;
 use crate::response::{DONE, LIMIT, Response, answer, settled};
-use crate::search::Search;
+use crate::search::{Answered, Search, Task};
 use crate::stop::NoAnswer;
 use crate::trapping::{broken_shown, trap_shown};
 use base::{NoMemory, Trap};
@@ -107,67 +107,55 @@ fn all_schedules<W: Progress>(
         Err(stop) => return Err(stop),
     };
     let search = Search {
+        alloc,
         spelled: &asked.spelled,
         input,
         lines: &asked.lines,
         form,
     };
+    let task = Task {
+        search,
+        limits,
+        asked: asked_in(asked.ends),
+    };
     if asks_ends(asked.ends) {
-        let who = asked_in(asked.ends);
-        let response = ends_found(alloc, &search, who, limits, steps, progress)?;
+        let response = ends_found(&task, steps, progress)?;
         return Ok(response);
     }
-    let response = found(alloc, &search, limits, steps, progress)?;
+    let response = found(&task, steps, progress)?;
     Ok(response)
 }
 
 // What is found of the program.
-fn found<W: Progress>(
-    alloc: Global,
-    search: &Search<'_>,
-    limits: Limits,
-    steps: Steps,
-    progress: &mut W,
-) -> Result<Response, NoMemory>
-    requires sound { IsSound search.now }
-    ensures { IfOk result (λ response. IsHeard (hearing W.begins W.hears) progress.old progress.new (IsFound (sought_by search.now) limits steps response)) }
+fn found<W: Progress>(task: &Task<'_>, steps: Steps, progress: &mut W) -> Answered
+    requires sound { IsSound task.now.search }
+    ensures { IfOk result (λ response. IsHeard (hearing W.begins W.hears) progress.old progress.new (IsFound (sought_by task.now.search) task.now.limits steps response)) }
 {
     match steps {
-        Steps::MergedFirst => found_first(alloc, search, limits, progress),
-        Steps::Single => found_by(alloc, search, limits, false, progress),
-        Steps::Merged => found_by(alloc, search, limits, true, progress),
+        Steps::MergedFirst => found_first(task, progress),
+        Steps::Single => found_by(task, false, progress),
+        Steps::Merged => found_by(task, true, progress),
     }
 }
 
 // The same by steps of one kind alone.
-fn found_by<W: Progress>(
-    alloc: Global,
-    search: &Search<'_>,
-    limits: Limits,
-    is_merged: bool,
-    progress: &mut W,
-) -> Result<Response, NoMemory>
-    requires sound { IsSound search.now }
-    ensures { IfOk result (λ response. IsHeard (hearing W.begins W.hears) progress.old progress.new (IsFoundBy (sought_by search.now) limits is_merged response)) }
+fn found_by<W: Progress>(task: &Task<'_>, is_merged: bool, progress: &mut W) -> Answered
+    requires sound { IsSound task.now.search }
+    ensures { IfOk result (λ response. IsHeard (hearing W.begins W.hears) progress.old progress.new (IsFoundBy (sought_by task.now.search) task.now.limits is_merged response)) }
 {
-    let explored = explored_by(alloc, search, limits, is_merged, progress)?;
-    shown(alloc, search, limits, is_merged, &explored)
+    let explored = explored_by(task, is_merged, progress)?;
+    shown(task, is_merged, &explored)
 }
 
 // By merged steps first, and by single ones where these find a fault.
-fn found_first<W: Progress>(
-    alloc: Global,
-    search: &Search<'_>,
-    limits: Limits,
-    progress: &mut W,
-) -> Result<Response, NoMemory>
-    requires sound { IsSound search.now }
-    ensures { IfOk result (λ response. IsHeard (hearing W.begins W.hears) progress.old progress.new (IsFoundFirst (sought_by search.now) limits response)) }
+fn found_first<W: Progress>(task: &Task<'_>, progress: &mut W) -> Answered
+    requires sound { IsSound task.now.search }
+    ensures { IfOk result (λ response. IsHeard (hearing W.begins W.hears) progress.old progress.new (IsFoundFirst (sought_by task.now.search) task.now.limits response)) }
 {
-    let explored = explored_by(alloc, search, limits, true, progress)?;
+    let explored = explored_by(task, true, progress)?;
     match fault_of(explored) {
-        Ok(schedule) => shortest_found(alloc, search, limits, schedule, progress),
-        Err(none) => shown(alloc, search, limits, true, &none),
+        Ok(schedule) => shortest_found(task, schedule, progress),
+        Err(none) => shown(task, true, &none),
     }
 }
 
@@ -184,25 +172,20 @@ fn fault_of(explored: NeverExplored) -> Result<Vec<u8>, NeverExplored>
 
 /// What is told of a fault that merged steps have found, where this schedule leads to it: a shortest schedule, by single
 /// steps; where these meet a limit, what is left of this one when each step is left out that can be.
-pub fn shortest_found<W: Progress>(
-    alloc: Global,
-    search: &Search<'_>,
-    limits: Limits,
-    schedule: Vec<u8>,
-    progress: &mut W,
-) -> Result<Response, NoMemory>
-    requires sound { IsSound search.now }
-    requires lawful { IsLawful search.now schedule.items }
-    requires fault { is_fault (lines_of search.now.lines.now.properties.items) (source (resolved search.now.spelled.now.program) schedule.items) ≡ true }
-    ensures { IfOk result (λ response. IsHeard (hearing W.begins W.hears) progress.old progress.new (TellsShortest (sought_by search.now) limits response)) }
+pub fn shortest_found<W: Progress>(task: &Task<'_>, schedule: Vec<u8>, progress: &mut W) -> Answered
+    requires sound { IsSound task.now.search }
+    requires lawful { IsLawful task.now.search schedule.items }
+    requires fault { is_fault (lines_of task.now.search.lines.now.properties.items) (source (resolved task.now.search.spelled.now.program) schedule.items) ≡ true }
+    ensures { IfOk result (λ response. IsHeard (hearing W.begins W.hears) progress.old progress.new (TellsShortest (sought_by task.now.search) task.now.limits response)) }
 {
-    let explored = explored_by(alloc, search, limits, false, progress)?;
+    let search = &task.search;
+    let explored = explored_by(task, false, progress)?;
     if is_limit(&explored) {
         let properties = search.lines.properties.as_slice();
-        let minimal = shrink_fault(alloc, &search.spelled.program, properties, schedule)?;
-        return minimal_shown(alloc, search, &minimal);
+        let minimal = shrink_fault(search.alloc, &search.spelled.program, properties, schedule)?;
+        return minimal_shown(search, &minimal);
     }
-    shown(alloc, search, limits, false, &explored)
+    shown(task, false, &explored)
 }
 
 fn is_limit(explored: &NeverExplored) -> bool
@@ -216,14 +199,14 @@ fn is_limit(explored: &NeverExplored) -> bool
 
 // By merged steps, or by single ones.
 fn explored_by<W: Progress>(
-    alloc: Global,
-    search: &Search<'_>,
-    limits: Limits,
+    task: &Task<'_>,
     is_merged: bool,
     progress: &mut W,
 ) -> Result<NeverExplored, NoMemory>
-    ensures { IfOk result (IsSearchedBy is_merged (resolved search.now.spelled.now.program) search.now.lines.now.properties.items limits (hearing W.begins W.hears) progress.old progress.new) }
+    ensures { IfOk result (IsSearchedBy is_merged (resolved task.now.search.spelled.now.program) task.now.search.lines.now.properties.items task.now.limits (hearing W.begins W.hears) progress.old progress.new) }
 {
+    let Task { search, limits, .. } = *task;
+    let alloc = search.alloc;
     let program = &search.spelled.program;
     let properties = search.lines.properties.as_slice();
     progress.begin(is_merged);
@@ -236,149 +219,111 @@ fn explored_by<W: Progress>(
 }
 
 // The answer that tells what was explored.
-fn shown(
-    alloc: Global,
-    search: &Search<'_>,
-    limits: Limits,
-    is_merged: bool,
-    explored: &NeverExplored,
-) -> Result<Response, NoMemory>
-    requires sound { IsSound search.now }
-    requires schedule { IfFault explored.now (IsLawful search.now) }
-    requires line { IfBroken explored.now (λ schedule line v. line < length search.now.lines.now.places.items) }
-    ensures { IfOk result (Shows is_merged (sought_by search.now) limits explored.now) }
+fn shown(task: &Task<'_>, is_merged: bool, explored: &NeverExplored) -> Answered
+    requires sound { IsSound task.now.search }
+    requires schedule { IfFault explored.now (IsLawful task.now.search) }
+    requires line { IfBroken explored.now (λ schedule line v. line < length task.now.search.lines.now.places.items) }
+    ensures { IfOk result (Shows is_merged (sought_by task.now.search) task.now.limits explored.now) }
 {
+    let search = &task.search;
     match explored {
-        NeverExplored::Safe { states } => Ok(safe_shown(alloc, search, is_merged, *states)?),
-        NeverExplored::Trapped(schedule) => {
-            trap_said(alloc, search, trap_line(is_merged), schedule)
-        }
+        NeverExplored::Safe { states } => safe_shown(search, is_merged, *states),
+        NeverExplored::Trapped(schedule) => trap_said(search, trap_line(is_merged), schedule),
         NeverExplored::Broken {
             schedule,
             line,
             value,
         } => {
             let found = break_line(is_merged);
-            broken_said(alloc, search, found, schedule, *line, *value)
+            broken_said(search, found, schedule, *line, *value)
         }
-        NeverExplored::Limit { states } => {
-            Ok(limit_shown(alloc, search, is_merged, limits, *states)?)
-        }
+        NeverExplored::Limit { states } => limit_shown(task, is_merged, *states),
     }
 }
 
 // The answer that tells a schedule which needs all its steps.
-fn minimal_shown(
-    alloc: Global,
-    search: &Search<'_>,
-    minimal: &Minimal,
-) -> Result<Response, NoMemory>
+fn minimal_shown(search: &Search<'_>, minimal: &Minimal) -> Answered
     requires sound { IsSound search.now }
     requires schedule { IsLawful search.now (schedule_of minimal.now) }
     requires line { IfBreaks minimal.now (λ schedule line v. line < length search.now.lines.now.places.items) }
     ensures { IfOk result (ShowsMinimal (sought_by search.now) minimal.now) }
 {
     match minimal {
-        Minimal::Trapped(schedule) => trap_said(alloc, search, MINIMAL, schedule),
+        Minimal::Trapped(schedule) => trap_said(search, MINIMAL, schedule),
         Minimal::Broken {
             schedule,
             line,
             value,
-        } => broken_said(alloc, search, MINIMAL_BREAK, schedule, *line, *value),
+        } => broken_said(search, MINIMAL_BREAK, schedule, *line, *value),
     }
 }
 
 /// A schedule under which a process traps. How it was found this line says.
-pub fn trap_said(
-    alloc: Global,
-    search: &Search<'_>,
-    line: &str,
-    schedule: &[u8],
-) -> Result<Response, NoMemory>
+pub fn trap_said(search: &Search<'_>, line: &str, schedule: &[u8]) -> Answered
     requires sound { IsSound search.now }
     requires schedule { IsLawful search.now schedule.now }
     ensures { IfOk result (SaysTrap line.now (sought_by search.now) schedule.now) }
 {
-    trap_shown(alloc, search, line, Head::Says(line), schedule)
+    trap_shown(search, line, Head::Says(line), schedule)
 }
 
 /// The same of a schedule after which the line of this number breaks.
 pub fn broken_said(
-    alloc: Global,
     search: &Search<'_>,
     says: &str,
     schedule: &[u8],
     line: usize,
     value: Result<u32, Trap>,
-) -> Result<Response, NoMemory>
+) -> Answered
     requires sound { IsSound search.now }
     requires schedule { IsLawful search.now schedule.now }
     requires line { line < length search.now.lines.now.places.items }
     ensures { IfOk result (SaysBroken says.now (sought_by search.now) schedule.now line value) }
 {
-    let head = Head::Says(says);
-    broken_shown(alloc, search, says, head, schedule, line, value)
+    broken_shown(search, says, Head::Says(says), schedule, line, value)
 }
 
 // Nothing is wrong, and there are so many states.
-fn safe_shown(
-    alloc: Global,
-    search: &Search<'_>,
-    is_merged: bool,
-    states: u32,
-) -> Result<Response, AllocError>
+fn safe_shown(search: &Search<'_>, is_merged: bool, states: u32) -> Answered
     ensures { IfOk result (ShowsSafe (sought_by search.now) is_merged states) }
 {
     let extent = extent_of(search, is_merged, states);
-    let says = safe_line(alloc, extent)?;
-    states_shown(alloc, search.form, DONE, "safe", extent, &says, "")
+    let says = safe_line(search.alloc, extent)?;
+    states_shown(search, DONE, "safe", extent, &says, "")
 }
 
 /// There are more states than these.
-pub fn limit_shown(
-    alloc: Global,
-    search: &Search<'_>,
-    is_merged: bool,
-    limits: Limits,
-    states: u32,
-) -> Result<Response, AllocError>
-    ensures { IfOk result (ShowsLimit (sought_by search.now) is_merged limits states) }
+pub fn limit_shown(task: &Task<'_>, is_merged: bool, states: u32) -> Answered
+    ensures { IfOk result (ShowsLimit (sought_by task.now.search) is_merged task.now.limits states) }
 {
+    let search = &task.search;
     let extent = extent_of(search, is_merged, states);
-    let says = limit_line(alloc, is_merged, states)?;
-    let more = next_line(alloc, is_merged, limits, states)?;
-    states_shown(alloc, search.form, LIMIT, "limit", extent, &says, &more)
+    let says = limit_line(search.alloc, is_merged, states)?;
+    let more = next_line(search.alloc, is_merged, task.limits, states)?;
+    states_shown(search, LIMIT, "limit", extent, &says, &more)
 }
 
 /// An answer without a schedule: what is said in a line, with more behind it; an object has the states in place of that.
 pub fn states_shown(
-    alloc: Global,
-    form: Form,
+    search: &Search<'_>,
     status: u8,
     word: &str,
     extent: Extent,
     says: &str,
     more: &str,
-) -> Result<Response, AllocError>
-    ensures { IfOk result (Gives status (IsStatesAnswer form word.now says.now extent.is_merged extent.states more.now)) }
+) -> Answered
+    ensures { IfOk result (Gives status (IsStatesAnswer search.now.form word.now says.now extent.is_merged extent.states more.now)) }
 {
-    let text = states_answer(alloc, form, word, extent, says, more)?;
-    Ok(answer(alloc, status, text))
-}
-
-fn states_answer(
-    alloc: Global,
-    form: Form,
-    word: &str,
-    extent: Extent,
-    says: &str,
-    more: &str,
-) -> Result<String, AllocError>
-    ensures { IfOk result (λ text. IsStatesAnswer form word.now says.now extent.is_merged extent.states more.now (string_bytes text)) }
-{
-    match form {
-        Form::Text => lines_of(alloc, says, more),
-        Form::Json => found_states(alloc, word, says, extent.is_merged, extent.states),
+    let alloc = search.alloc;
+    match search.form {
+        Form::Text => {
+            let text = lines_of(alloc, says, more)?;
+            Ok(answer(alloc, status, text))
+        }
+        Form::Json => {
+            let text = found_states(alloc, word, says, extent.is_merged, extent.states)?;
+            Ok(answer(alloc, status, text))
+        }
     }
 }
 

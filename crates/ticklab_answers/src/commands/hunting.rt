@@ -18,10 +18,10 @@ use crate::form::Form;
 use crate::host::Files;
 use crate::reading::asked_program;
 use crate::response::{DONE, Response, answer, settled};
-use crate::search::Search;
+use crate::search::{Answered, Search};
 use crate::stop::NoAnswer;
 use crate::trapping::{broken_shown, trap_shown};
-use base::{NoMemory, push_number};
+use base::push_number;
 use searches_hunt::{Mode, NeverHunted, Plan, Trials, hunt_by};
 use std::alloc::{AllocError, Global};
 use ticklab_json::{Head, empty_hunt};
@@ -94,22 +94,17 @@ fn random_schedules<T: Trials>(
     let properties = lines.properties.as_slice();
     let hunted = hunt_by(trials, alloc, &spelled.program, properties, plan, from)?;
     let search = Search {
+        alloc,
         spelled,
         input,
         lines,
         form,
     };
-    Ok(shown(alloc, &search, plan, from, &hunted)?)
+    Ok(shown(&search, plan, from, &hunted)?)
 }
 
 // The answer that tells what the hunt came to.
-fn shown(
-    alloc: Global,
-    search: &Search<'_>,
-    plan: Plan,
-    from: u32,
-    hunted: &NeverHunted,
-) -> Result<Response, NoMemory>
+fn shown(search: &Search<'_>, plan: Plan, from: u32, hunted: &NeverHunted) -> Answered
     requires sound { IsSound search.now }
     requires schedule { IfFault hunted.now (λ run. IsLawful search.now) }
     requires line { IfBroken hunted.now (λ schedule line v. line < length search.now.lines.now.places.items) }
@@ -117,9 +112,7 @@ fn shown(
 {
     let head = Head::Runs { plan, from };
     match hunted {
-        NeverHunted::Trapped { schedule, .. } => {
-            trap_shown(alloc, search, MINIMAL, head, schedule)
-        }
+        NeverHunted::Trapped { schedule, .. } => { trap_shown(search, MINIMAL, head, schedule) }
         NeverHunted::Broken {
             schedule,
             line,
@@ -127,27 +120,21 @@ fn shown(
             ..
         } => {
             let found = MINIMAL_BREAK;
-            broken_shown(alloc, search, found, head, schedule, *line, *value)
+            broken_shown(search, found, head, schedule, *line, *value)
         }
         NeverHunted::Nothing => {
-            let lines = search.lines.places.len();
-            let text = empty_answer(alloc, search.form, lines, plan, from)?;
-            Ok(answer(alloc, DONE, text))
+            let text = empty_answer(search, plan, from)?;
+            Ok(answer(search.alloc, DONE, text))
         }
     }
 }
 
-fn empty_answer(
-    alloc: Global,
-    form: Form,
-    lines: usize,
-    plan: Plan,
-    from: u32,
-) -> Result<String, AllocError>
-    ensures { IfOk result (λ text. IsEmptyAnswer form lines plan from (string_bytes text)) }
+fn empty_answer(search: &Search<'_>, plan: Plan, from: u32) -> Result<String, AllocError>
+    ensures { IfOk result (λ text. IsEmptyAnswer search.now.form (length search.now.lines.now.places.items) plan from (string_bytes text)) }
 {
-    match form {
-        Form::Text => nothing_line(alloc, lines, plan, from),
+    let alloc = search.alloc;
+    match search.form {
+        Form::Text => nothing_line(alloc, search.lines.places.len(), plan, from),
         Form::Json => empty_hunt(alloc, plan, from),
     }
 }

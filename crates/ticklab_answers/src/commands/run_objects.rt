@@ -11,14 +11,12 @@ use crate::commands::drawing::part_of;
 use crate::commands::tracing::spots_in;
 use crate::search::Search;
 use base::{NoMemory, Trap};
-use std::alloc::Global;
 use ticklab_explain::place;
 use ticklab_json::{Breaking, Head, found_run};
 use ticklab_trace::source_steps;
 
 /// The schedule, and the line that stands here, which comes to this after it.
 pub fn break_object(
-    alloc: Global,
     search: &Search<'_>,
     head: Head<'_>,
     schedule: &[u8],
@@ -29,7 +27,7 @@ pub fn break_object(
     requires schedule { IsLawful search.now schedule.now }
     ensures { IfOk result (λ text. IsBreakObject (head_members head.entry) search.now.input.now search.now.spelled.now.program schedule.now (place_of place.now) value (string_bytes text)) }
 {
-    let text = String::from_utf8_lossy(alloc, part_of(place.text, place.span))?;
+    let text = String::from_utf8_lossy(search.alloc, part_of(place.text, place.span))?;
     let at = place::place_of(place.text, place.span.start.min(place.text.len()));
     let breaking = Breaking {
         steps: schedule.len(),
@@ -39,12 +37,11 @@ pub fn break_object(
         text: &text,
         value,
     };
-    run_object(alloc, search, head, schedule, Some(breaking))
+    run_object(search, head, schedule, Some(breaking))
 }
 
 /// The schedule, what each of its steps does, and the line that breaks after it, if one does.
 pub fn run_object(
-    alloc: Global,
     search: &Search<'_>,
     head: Head<'_>,
     schedule: &[u8],
@@ -54,6 +51,7 @@ pub fn run_object(
     requires schedule { IsLawful search.now schedule.now }
     ensures { IfOk result (λ text. IsRunObject (head_members head.entry) search.now.input.now search.now.spelled.now.program schedule.now (option_map broken_line broken.entry) (string_bytes text)) }
 {
+    let alloc = search.alloc;
     let program = &search.spelled.program;
     let spots = spots_in(alloc, search.spelled, search.input)?;
     let steps = source_steps(alloc, program, schedule)?;

@@ -6,13 +6,13 @@ ghost use Rattle.ticketc_refusals.specs.Refusals.{SpelledIn};
 ghost use Rattle.ticklab_trace.specs.Places.{told_standing};
 ghost use Rattle.ticklab_answers.specs.Lines.{cycle_line};
 ghost use Rattle.ticklab_answers.specs.Loops.{IsLoopObject, IsLoopText, is_write, lead_in_text, steps_text};
-ghost use Rattle.ticklab_answers.specs.Shown.{IsLoopAnswer, ShowsLoop};
+ghost use Rattle.ticklab_answers.specs.Shown.{ShowsLoop};
 ghost use Rattle.ticklab_answers.specs.Sought.{AreLawful, IsSound, sought_by};
 
 use crate::commands::spots_in;
 use crate::form::Form;
-use crate::response::{Response, STUCK, answer};
-use crate::search::Search;
+use crate::response::{STUCK, answer};
+use crate::search::{Answered, Search};
 use base::{Act, NoMemory};
 use language_schedules::write_schedule;
 use std::alloc::Global;
@@ -22,40 +22,25 @@ use ticklab_json::{Loop, found_loop};
 use ticklab_trace::{StatementPlace, StatementStep, source_steps, source_trace};
 
 /// What repeats for ever, with what each step does. How it was found this line says; an object has a word for it too.
-pub fn loop_shown(
-    alloc: Global,
-    search: &Search<'_>,
-    word: &str,
-    found: &str,
-    looped: Loop<'_>,
-) -> Result<Response, NoMemory>
+pub fn loop_shown(search: &Search<'_>, word: &str, found: &str, looped: Loop<'_>) -> Answered
     requires sound { IsSound search.now }
     requires lawful { AreLawful (resolved search.now.spelled.now.program).processes looped.entry }
     ensures { IfOk result (ShowsLoop word.now found.now (sought_by search.now) looped.entry.schedule.now looped.entry.lead_in.now looped.entry.cycle.now) }
 {
-    let text = loop_answer(alloc, search, word, found, looped)?;
-    Ok(answer(alloc, STUCK, text))
-}
-
-fn loop_answer(
-    alloc: Global,
-    search: &Search<'_>,
-    word: &str,
-    found: &str,
-    looped: Loop<'_>,
-) -> Result<String, NoMemory>
-    requires sound { IsSound search.now }
-    requires lawful { AreLawful (resolved search.now.spelled.now.program).processes looped.entry }
-    ensures { IfOk result (λ text. IsLoopAnswer search.now.form word.now found.now search.now.input.now search.now.spelled.now.program looped.entry.schedule.now looped.entry.lead_in.now looped.entry.cycle.now (string_bytes text)) }
-{
+    let alloc = search.alloc;
     match search.form {
-        Form::Text => loop_text(alloc, search.spelled, search.input, found, looped),
-        Form::Json => loop_object(alloc, search, word, found, looped),
+        Form::Text => {
+            let text = loop_text(alloc, search.spelled, search.input, found, looped)?;
+            Ok(answer(alloc, STUCK, text))
+        }
+        Form::Json => {
+            let text = loop_object(search, word, found, looped)?;
+            Ok(answer(alloc, STUCK, text))
+        }
     }
 }
 
 fn loop_object(
-    alloc: Global,
     search: &Search<'_>,
     word: &str,
     says: &str,
@@ -65,6 +50,7 @@ fn loop_object(
     requires lawful { AreLawful (resolved search.now.spelled.now.program).processes looped.entry }
     ensures { IfOk result (λ text. IsLoopObject word.now says.now search.now.input.now search.now.spelled.now.program looped.entry.schedule.now looped.entry.lead_in.now looped.entry.cycle.now (string_bytes text)) }
 {
+    let alloc = search.alloc;
     let program = &search.spelled.program;
     let spots = spots_in(alloc, search.spelled, search.input)?;
     let all = joined(alloc, looped)?;

@@ -11,11 +11,11 @@ use Rattle.ticklab_answers.proofs.commands.exploring.shortest_found.Goals as goa
 
 pub returns-then-is_limit : goal.returns-then-is_limit
 returns-then-is_limit g c =
-    let q = c.args.search.now in
+    let q = c.args.task.now.search in
     let H = hearing g.W.Progress.begins g.W.Watch.hears in
     let value = c.as_slice-properties.ensures.value in
     let k = c.in_ok-minimal.minimal in
-    then_ok c.minimal_shown.result (λ x shows. minimal_as q c.args.limits H _ _
+    then_ok c.minimal_shown.result (λ x shows. minimal_as q c.args.task.now.limits H _ _
     c.in_ok-explored.explored k x
     c.in_ok-explored.ensures
     (sym c.is_limit.ensures ∙ c.if-is_limit.true)
@@ -26,6 +26,6 @@ returns-then-is_limit g c =
 pub returns : goal.returns
 returns g c =
     let H = hearing g.W.Progress.begins g.W.Watch.hears in
-    then_ok c.shown.result (λ x shows. shortest_as c.args.search.now c.args.limits H _ _
+    then_ok c.shown.result (λ x shows. shortest_as c.args.task.now.search c.args.task.now.limits H _ _
     c.args.schedule.items c.requires.fault c.in_ok-explored.explored x c.in_ok-explored.ensures
     (sym c.is_limit.ensures ∙ c.if-is_limit.false) shows) c.shown.ensures
