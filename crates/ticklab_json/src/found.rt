@@ -15,7 +15,7 @@ use crate::source::statement_values;
 use base::NoMemory;
 use language_schedules::write_schedule;
 use searches_hunt::Plan;
-use serde_json::{Map, Value, json, put};
+use serde_json::{Map, Value, put};
 use std::alloc::{AllocError, Global};
 use tick_kinds::Program;
 use ticklab_trace::{StatementPlace, StatementStep};
@@ -153,10 +153,11 @@ pub fn found_states(
 ) -> Result<String, AllocError>
     ensures { IfOk result (λ text. string_bytes text ≡ lines (states_data answer.now says.now is_merged states ∷ [])) }
 {
-    let value = json!(in alloc; {
-        "answer": answer, "merged": is_merged, "says": says, "states": states
-    })?;
-    line_of(alloc, &value)
+    let mut members = says_members(alloc, says)?;
+    put_text(&mut members, alloc, "answer", answer)?;
+    put(&mut members, alloc, "merged", Value::from(is_merged))?;
+    put(&mut members, alloc, "states", Value::from(states))?;
+    line_of(alloc, &Value::Object(members))
 }
 
 /// Steps that repeat for ever, and what each step did, in the order of `Loop`.

@@ -112,7 +112,7 @@ fn shown(search: &Search<'_>, plan: Plan, from: u32, hunted: &NeverHunted) -> An
 {
     let head = Head::Runs { plan, from };
     match hunted {
-        NeverHunted::Trapped { schedule, .. } => { trap_shown(search, MINIMAL, head, schedule) }
+        NeverHunted::Trapped { schedule, .. } => trap_shown(search, MINIMAL, head, schedule),
         NeverHunted::Broken {
             schedule,
             line,
