@@ -37,6 +37,9 @@ abbrev pub states_text : Bool → ℕ → List ℕ
 states_text false count = many count (codes "state") (codes "states")
 states_text true count = many count (codes "merged state") (codes "merged states")
 
+abbrev pub counted_text : Bool → ℕ → List ℕ
+counted_text is_merged states = codes " (" ++ states_text is_merged states ++ codes ")"
+
 abbrev pub runs_text : ℕ → List ℕ
 runs_text count = many count (codes "run") (codes "runs")
 
@@ -64,7 +67,7 @@ abbrev pub safe_text : ℕ → List ℕ
 safe_text lines = if lines == 0 then codes "no process traps" else codes "no process traps and no #! never line breaks"
 
 abbrev pub safe_line : Bool → ℕ → ℕ → List ℕ
-safe_line is_merged lines states = safe_text lines ++ codes " under any schedule (" ++ states_text is_merged states ++ codes ")"
+safe_line is_merged lines states = safe_text lines ++ codes " under any schedule" ++ counted_text is_merged states
 
 abbrev pub more_text : Bool → ℕ → List ℕ
 more_text is_merged states = codes "there are more than " ++ states_text is_merged states
@@ -172,13 +175,13 @@ ends_text asked =
     else (asked_text asked ++ codes " can still end after every schedule, and will if each that runs steps again and again")
 
 abbrev pub ends_line : Bool → ℕ → MustStop → ℕ → List ℕ
-ends_line is_merged lines asked states = quiet_text lines ++ ends_text asked ++ codes " (" ++ states_text is_merged states ++ codes ")"
+ends_line is_merged lines asked states = quiet_text lines ++ ends_text asked ++ counted_text is_merged states
 
 -- they can always end, and it isn't known whether they do
 abbrev pub can_end_text : Bool → ℕ → MustStop → ℕ → List ℕ
 can_end_text is_merged lines asked states =
-    quiet_text lines ++ asked_text asked ++ codes " can still end after every schedule (" ++ states_text is_merged states
-    ++ codes "); of those in which each that runs steps again and again nothing was "
+    quiet_text lines ++ asked_text asked ++ codes " can still end after every schedule" ++ counted_text is_merged states
+    ++ codes "; of those in which each that runs steps again and again nothing was "
 
 -- why it isn't: endless schedules are asked for by single steps alone
 abbrev pub unknown_text : Bool → List ℕ

@@ -115,9 +115,9 @@ pub fn ends_found<W: Progress>(task: &Task<'_>, steps: Steps, progress: &mut W) 
     ensures { IfOk result (λ response. IsHeard (hearing W.begins W.hears) progress.old progress.new (IsEndsFound (sought_by task.now.search) task.now.limits task.now.asked steps response)) }
 {
     match steps {
-        Steps::MergedFirst => found_first(task, progress),
         Steps::Single => found_by(task, false, progress),
         Steps::Merged => found_by(task, true, progress),
+        Steps::MergedFirst => found_first(task, progress),
     }
 }
 
@@ -276,12 +276,12 @@ fn shown(task: &Task<'_>, is_merged: bool, explored: EndExplored) -> Answered
 {
     let search = &task.search;
     match explored {
-        EndExplored::Trapped(schedule) => trap_said(search, trap_line(is_merged), &schedule),
+        EndExplored::Trapped(schedule) => trap_said(search, &schedule, trap_line(is_merged)),
         EndExplored::Broken {
             schedule,
             line,
             value,
-        } => broken_said(search, break_line(is_merged), &schedule, line, value),
+        } => broken_said(search, &schedule, line, value, break_line(is_merged)),
         EndExplored::Stuck {
             schedule,
             lead_in,

@@ -13,7 +13,7 @@ ghost use Rattle.ticklab_answers.specs.Exploring.{Explores, IsExplored, IsUnexpl
 ghost use Rattle.ticklab_answers.specs.Faults.{IsOfFile};
 ghost use Rattle.ticklab_answers.specs.Found.{IsFound, IsFoundBy, IsFoundFirst, TellsShortest};
 ghost use Rattle.ticklab_answers.specs.Hearing.{IsHeard, hearing};
-ghost use Rattle.ticklab_answers.specs.Lines.{larger_text, limit_line, more_text, next_line, safe_line, safe_text, states_text, try_text};
+ghost use Rattle.ticklab_answers.specs.Lines.{counted_text, larger_text, limit_line, more_text, next_line, safe_line, safe_text, states_text, try_text};
 ghost use Rattle.ticklab_answers.specs.Responses.{Gives};
 ghost use Rattle.ticklab_answers.specs.Shown.{IsStatesAnswer, SaysBroken, SaysTrap, Shows, ShowsLimit, ShowsMinimal, ShowsSafe};
 ghost use Rattle.ticklab_answers.specs.Sought.{IsLawful, IsSound, sought_by};
@@ -228,14 +228,14 @@ fn shown(task: &Task<'_>, is_merged: bool, explored: &NeverExplored) -> Answered
     let search = &task.search;
     match explored {
         NeverExplored::Safe { states } => safe_shown(search, is_merged, *states),
-        NeverExplored::Trapped(schedule) => trap_said(search, trap_line(is_merged), schedule),
+        NeverExplored::Trapped(schedule) => trap_said(search, schedule, trap_line(is_merged)),
         NeverExplored::Broken {
             schedule,
             line,
             value,
         } => {
             let found = break_line(is_merged);
-            broken_said(search, found, schedule, *line, *value)
+            broken_said(search, schedule, *line, *value, found)
         }
         NeverExplored::Limit { states } => limit_shown(task, is_merged, *states),
     }
@@ -249,31 +249,31 @@ fn minimal_shown(search: &Search<'_>, minimal: &Minimal) -> Answered
     ensures { IfOk result (ShowsMinimal (sought_by search.now) minimal.now) }
 {
     match minimal {
-        Minimal::Trapped(schedule) => trap_said(search, MINIMAL, schedule),
+        Minimal::Trapped(schedule) => trap_said(search, schedule, MINIMAL),
         Minimal::Broken {
             schedule,
             line,
             value,
-        } => broken_said(search, MINIMAL_BREAK, schedule, *line, *value),
+        } => broken_said(search, schedule, *line, *value, MINIMAL_BREAK),
     }
 }
 
-/// A schedule under which a process traps. How it was found this line says.
-pub fn trap_said(search: &Search<'_>, line: &str, schedule: &[u8]) -> Answered
+/// A schedule under which a process traps, and what is said of how it was found.
+pub fn trap_said(search: &Search<'_>, schedule: &[u8], says: &str) -> Answered
     requires sound { IsSound search.now }
     requires schedule { IsLawful search.now schedule.now }
-    ensures { IfOk result (SaysTrap line.now (sought_by search.now) schedule.now) }
+    ensures { IfOk result (SaysTrap says.now (sought_by search.now) schedule.now) }
 {
-    trap_shown(search, line, Head::Says(line), schedule)
+    trap_shown(search, says, Head::Says(says), schedule)
 }
 
 /// The same of a schedule after which the line of this number breaks.
 pub fn broken_said(
     search: &Search<'_>,
-    says: &str,
     schedule: &[u8],
     line: usize,
     value: Result<u32, Trap>,
+    says: &str,
 ) -> Answered
     requires sound { IsSound search.now }
     requires schedule { IsLawful search.now schedule.now }
@@ -299,7 +299,7 @@ pub fn limit_shown(task: &Task<'_>, is_merged: bool, states: u32) -> Answered
     let search = &task.search;
     let extent = extent_of(search, is_merged, states);
     let says = limit_line(search.alloc, is_merged, states)?;
-    let more = next_line(search.alloc, is_merged, task.limits, states)?;
+    let more = next_line(search.alloc, task.limits, extent)?;
     states_shown(search, LIMIT, "limit", extent, &says, &more)
 }
 
@@ -355,8 +355,8 @@ pub fn break_line(is_merged: bool) -> &'static str
     }
 }
 
-/// Adds so many states; those between merged steps are told as merged.
-pub fn push_states(text: &mut String, is_merged: bool, states: u32) -> Result<(), AllocError>
+// Adds so many states; those between merged steps are told as merged.
+fn push_states(text: &mut String, is_merged: bool, states: u32) -> Result<(), AllocError>
     ensures { OnOk result (string_bytes text.new ≡ string_bytes text.old ++ states_text is_merged states) }
 {
     if is_merged {
@@ -370,10 +370,18 @@ fn safe_line(alloc: Global, extent: Extent) -> Result<String, AllocError>
     ensures { IfOk result (λ line. string_bytes line ≡ safe_line extent.is_merged extent.lines extent.states) }
 {
     let mut line = String::from_str(alloc, safe_text(extent.lines))?;
-    line.push_str(" under any schedule (")?;
-    push_states(&mut line, extent.is_merged, extent.states)?;
-    line.push_str(")")?;
+    line.push_str(" under any schedule")?;
+    push_counted(&mut line, extent)?;
     Ok(line)
+}
+
+/// Adds how many states there are.
+pub fn push_counted(text: &mut String, extent: Extent) -> Result<(), AllocError>
+    ensures { OnOk result (string_bytes text.new ≡ string_bytes text.old ++ counted_text extent.is_merged extent.states) }
+{
+    text.push_str(" (")?;
+    push_states(text, extent.is_merged, extent.states)?;
+    text.push_str(")")
 }
 
 /// What holds, where so many lines `#! never` are asked.
@@ -423,16 +431,11 @@ fn try_text(is_merged: bool) -> &'static str
 }
 
 // What may help where a limit was met.
-fn next_line(
-    alloc: Global,
-    is_merged: bool,
-    limits: Limits,
-    states: u32,
-) -> Result<String, AllocError>
-    ensures { IfOk result (λ line. string_bytes line ≡ next_line is_merged limits states) }
+fn next_line(alloc: Global, limits: Limits, extent: Extent) -> Result<String, AllocError>
+    ensures { IfOk result (λ line. string_bytes line ≡ next_line extent.is_merged limits extent.states) }
 {
-    let mut line = String::from_str(alloc, try_text(is_merged))?;
-    line.push_str(larger(limits, states))?;
+    let mut line = String::from_str(alloc, try_text(extent.is_merged))?;
+    line.push_str(larger(limits, extent.states))?;
     line.push_str(", hunt, or fewer processes or rounds\n")?;
     Ok(line)
 }

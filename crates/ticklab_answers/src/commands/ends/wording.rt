@@ -3,7 +3,7 @@ ghost use Rattle.std.specs.Prelude.{◌≡◌, ◌≤◌, ◌+◌, ◌++◌, IfO
 ghost use Rattle.std.specs.List.{list_any};
 ghost use Rattle.ticklab_answers.specs.Lines.{asked_text, can_end_line, can_end_text, endless_line, ends_line, ends_text, half_line, half_next, is_nobody, marked, no_process_line, numbers_text, processes_text, quiet_text, stuck_line};
 
-use crate::commands::exploring::{either, larger, push_more, push_states, safe_text};
+use crate::commands::exploring::{either, larger, push_counted, push_more, safe_text};
 use crate::extent::Extent;
 use base::push_number;
 use searches_explore::{Limits, MustStop};
@@ -106,9 +106,7 @@ pub fn ends_line(alloc: Global, asked: MustStop, extent: Extent) -> Result<Strin
 {
     let mut line = quiet(alloc, extent.lines)?;
     push_ends(alloc, &mut line, asked)?;
-    line.push_str(" (")?;
-    push_states(&mut line, extent.is_merged, extent.states)?;
-    line.push_str(")")?;
+    push_counted(&mut line, extent)?;
     Ok(line)
 }
 
@@ -130,9 +128,9 @@ fn can_end_text(alloc: Global, asked: MustStop, extent: Extent) -> Result<String
 {
     let mut text = quiet(alloc, extent.lines)?;
     push_asked(alloc, &mut text, asked)?;
-    text.push_str(" can still end after every schedule (")?;
-    push_states(&mut text, extent.is_merged, extent.states)?;
-    text.push_str("); of those in which each that runs steps again and again nothing was ")?;
+    text.push_str(" can still end after every schedule")?;
+    push_counted(&mut text, extent)?;
+    text.push_str("; of those in which each that runs steps again and again nothing was ")?;
     Ok(text)
 }
 
