@@ -297,7 +297,11 @@ pub fn limit_shown(task: &Task<'_>, is_merged: bool, states: u32) -> Answered
     ensures { IfOk result (ShowsLimit (sought_by task.now.search) is_merged task.now.limits states) }
 {
     let search = &task.search;
-    let extent = extent_of(search, is_merged, states);
+    let extent = Extent {
+        lines: search.lines.places.len(),
+        is_merged,
+        states,
+    };
     let says = limit_line(search.alloc, is_merged, states)?;
     let more = next_line(search.alloc, task.limits, extent)?;
     states_shown(search, LIMIT, "limit", extent, &says, &more)

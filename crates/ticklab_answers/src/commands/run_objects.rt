@@ -56,5 +56,6 @@ pub fn run_object(
     let spots = spots_in(alloc, search.spelled, search.input)?;
     let steps = source_steps(alloc, program, schedule)?;
     let spots = spots.as_slice();
-    found_run(alloc, head, program, spots, schedule, &steps, broken)
+    let text = found_run(alloc, head, program, spots, schedule, &steps, broken)?;
+    Ok(text)
 }

@@ -56,7 +56,8 @@ fn loop_object(
     let all = joined(alloc, looped)?;
     let steps = source_steps(alloc, program, all.as_slice())?;
     let spots = spots.as_slice();
-    found_loop(alloc, word, says, program, spots, looped, &steps)
+    let text = found_loop(alloc, word, says, program, spots, looped, &steps)?;
+    Ok(text)
 }
 
 /// How a schedule was found, and what repeats for ever after it, with what each step does: the steps that lead there,
