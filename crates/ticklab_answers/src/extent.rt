@@ -14,7 +14,7 @@ pub struct Extent {
 }
 
 /// So many states of a program.
-pub fn extent_of(search: &Search<'_>, is_merged: bool, states: u32) -> Extent
+pub fn extent_of(search: &Search<'_, '_>, is_merged: bool, states: u32) -> Extent
     ensures { result ≡ record { lines = length search.now.lines.now.places.items; is_merged = is_merged; states = states } }
 {
     Extent {

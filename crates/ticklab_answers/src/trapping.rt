@@ -53,7 +53,7 @@ fn broken_text(alloc: Global, value: Result<u32, Trap>) -> Result<String, AllocE
 }
 
 /// The schedule, and what each of its steps does. How it was found a text says in this line, and an object in its head.
-pub fn trap_shown(search: &Search<'_>, found: &str, head: Head<'_>, schedule: &[u8]) -> Answered
+pub fn trap_shown(search: &Search<'_, '_>, found: &str, head: Head<'_>, schedule: &[u8]) -> Answered
     requires sound { IsSound search.now }
     requires schedule { IsLawful search.now schedule.now }
     ensures { IfOk result (ShowsTrap found.now (head_members head.entry) (sought_by search.now) schedule.now) }
@@ -71,7 +71,7 @@ pub fn trap_shown(search: &Search<'_>, found: &str, head: Head<'_>, schedule: &[
     }
 }
 
-fn trap_text(search: &Search<'_>, found: &str, schedule: &[u8]) -> Result<String, NoMemory>
+fn trap_text(search: &Search<'_, '_>, found: &str, schedule: &[u8]) -> Result<String, NoMemory>
     requires sound { IsSound search.now }
     requires schedule { IsLawful search.now schedule.now }
     ensures { IfOk result (λ text. IsTrapText found.now search.now.input.now search.now.spelled.now.program schedule.now (string_bytes text)) }
@@ -89,7 +89,7 @@ fn trap_text(search: &Search<'_>, found: &str, schedule: &[u8]) -> Result<String
 
 /// The same, and which of the lines breaks, by its number from 0, with what it comes to.
 pub fn broken_shown(
-    search: &Search<'_>,
+    search: &Search<'_, '_>,
     found: &str,
     head: Head<'_>,
     schedule: &[u8],
@@ -108,7 +108,7 @@ pub fn broken_shown(
 
 // The line stands here.
 fn broken_answer(
-    search: &Search<'_>,
+    search: &Search<'_, '_>,
     found: &str,
     head: Head<'_>,
     schedule: &[u8],

@@ -110,7 +110,7 @@ fn all_ends<W: Progress>(
 }
 
 /// What is found of the program where these processes are asked for.
-pub fn ends_found<W: Progress>(task: &Task<'_>, steps: Steps, progress: &mut W) -> Answered
+pub fn ends_found<W: Progress>(task: &Task<'_, '_>, steps: Steps, progress: &mut W) -> Answered
     requires sound { IsSound task.now.search }
     ensures { IfOk result (λ response. IsHeard (hearing W.begins W.hears) progress.old progress.new (IsEndsFound (sought_by task.now.search) task.now.limits task.now.asked steps response)) }
 {
@@ -122,7 +122,7 @@ pub fn ends_found<W: Progress>(task: &Task<'_>, steps: Steps, progress: &mut W) 
 }
 
 // By steps of one kind alone.
-fn found_by<W: Progress>(task: &Task<'_>, is_merged: bool, progress: &mut W) -> Answered
+fn found_by<W: Progress>(task: &Task<'_, '_>, is_merged: bool, progress: &mut W) -> Answered
     requires sound { IsSound task.now.search }
     ensures { IfOk result (λ response. IsHeard (hearing W.begins W.hears) progress.old progress.new (IsEndsFoundBy (sought_by task.now.search) task.now.limits task.now.asked is_merged response)) }
 {
@@ -131,7 +131,7 @@ fn found_by<W: Progress>(task: &Task<'_>, is_merged: bool, progress: &mut W) -> 
 }
 
 // By merged steps first, and by single ones where these tell more.
-fn found_first<W: Progress>(task: &Task<'_>, progress: &mut W) -> Answered
+fn found_first<W: Progress>(task: &Task<'_, '_>, progress: &mut W) -> Answered
     requires sound { IsSound task.now.search }
     ensures { IfOk result (λ response. IsHeard (hearing W.begins W.hears) progress.old progress.new (IsEndsFoundFirst (sought_by task.now.search) task.now.limits task.now.asked response)) }
 {
@@ -171,7 +171,7 @@ fn limit_of(explored: &EndExplored) -> Option<u32>
 
 // What single steps find of ends, where merged ones have found nothing wrong and this of ends; where single ones meet a
 // limit, what merged ones have found.
-fn more_found<W: Progress>(task: &Task<'_>, merged: EndExplored, progress: &mut W) -> Answered
+fn more_found<W: Progress>(task: &Task<'_, '_>, merged: EndExplored, progress: &mut W) -> Answered
     requires sound { IsSound task.now.search }
     requires known { AreEndsKnownBy true (resolved task.now.search.spelled.now.program) task.now.search.lines.now.properties.items task.now.asked task.now.limits merged }
     requires quiet { IfFault (never_answer merged) (λ schedule. ⊥) }
@@ -187,7 +187,7 @@ fn more_found<W: Progress>(task: &Task<'_>, merged: EndExplored, progress: &mut 
 
 // By merged steps, or by single ones.
 fn explored_by<W: Progress>(
-    task: &Task<'_>,
+    task: &Task<'_, '_>,
     is_merged: bool,
     progress: &mut W,
 ) -> Result<EndExplored, NoMemory>
@@ -257,7 +257,7 @@ pub fn asked_in(ends: Option<Ends>) -> MustStop
 }
 
 // The answer that tells what merged steps have found, where by single ones there are more states than these.
-fn half_shown(task: &Task<'_>, merged: EndExplored, others: u32) -> Answered
+fn half_shown(task: &Task<'_, '_>, merged: EndExplored, others: u32) -> Answered
     requires sound { IsSound task.now.search }
     requires shown { IsShowable task.now.search merged }
     ensures { IfOk result (ShowsHalved task.now.asked (sought_by task.now.search) task.now.limits others merged) }
@@ -269,7 +269,7 @@ fn half_shown(task: &Task<'_>, merged: EndExplored, others: u32) -> Answered
 }
 
 // The answer that tells what was explored. What `explore` would find it tells in the same way.
-fn shown(task: &Task<'_>, is_merged: bool, explored: EndExplored) -> Answered
+fn shown(task: &Task<'_, '_>, is_merged: bool, explored: EndExplored) -> Answered
     requires sound { IsSound task.now.search }
     requires shown { IsShowable task.now.search explored }
     ensures { IfOk result (ShowsEnds is_merged task.now.asked (sought_by task.now.search) task.now.limits explored) }
@@ -303,9 +303,9 @@ fn shown(task: &Task<'_>, is_merged: bool, explored: EndExplored) -> Answered
 }
 
 // They can't end any more, and these steps repeat for ever.
-fn stuck_shown(task: &Task<'_>, is_merged: bool, looped: Loop<'_>) -> Answered
+fn stuck_shown(task: &Task<'_, '_>, is_merged: bool, looped: Loop<'_>) -> Answered
     requires sound { IsSound task.now.search }
-    requires lawful { AreLawful (resolved task.now.search.spelled.now.program).processes looped.entry }
+    requires lawful { AreLawful (resolved task.now.search.spelled.now.program).processes looped }
     ensures { IfOk result (ShowsStuck (sought_by task.now.search) is_merged task.now.asked looped.entry.schedule.now looped.entry.lead_in.now looped.entry.cycle.now) }
 {
     let search = &task.search;
@@ -319,7 +319,7 @@ fn stuck_shown(task: &Task<'_>, is_merged: bool, looped: Loop<'_>) -> Answered
 }
 
 // They can end, and where the cycle is gone round for ever they don't.
-fn endless_shown(task: &Task<'_>, prefix: &[u8], cycle: &[u8]) -> Answered
+fn endless_shown(task: &Task<'_, '_>, prefix: &[u8], cycle: &[u8]) -> Answered
     requires sound { IsSound task.now.search }
     requires prefix { IsLawful task.now.search prefix.now }
     requires cycle { IsLawful task.now.search cycle.now }
@@ -336,7 +336,7 @@ fn endless_shown(task: &Task<'_>, prefix: &[u8], cycle: &[u8]) -> Answered
 }
 
 // They always end.
-fn ends_shown(task: &Task<'_>, states: u32) -> Answered
+fn ends_shown(task: &Task<'_, '_>, states: u32) -> Answered
     ensures { IfOk result (ShowsAllEnd (sought_by task.now.search) task.now.asked states) }
 {
     let search = &task.search;
@@ -346,7 +346,7 @@ fn ends_shown(task: &Task<'_>, states: u32) -> Answered
 }
 
 // They always can.
-fn can_end_shown(task: &Task<'_>, is_merged: bool, states: u32) -> Answered
+fn can_end_shown(task: &Task<'_, '_>, is_merged: bool, states: u32) -> Answered
     ensures { IfOk result (ShowsCanEnd (sought_by task.now.search) is_merged task.now.asked states) }
 {
     let word = can_end_word(task.asked);
@@ -356,7 +356,7 @@ fn can_end_shown(task: &Task<'_>, is_merged: bool, states: u32) -> Answered
 }
 
 // By merged steps they always can; by single ones there are more states than these.
-fn can_half_shown(task: &Task<'_>, states: u32, others: u32) -> Answered
+fn can_half_shown(task: &Task<'_, '_>, states: u32, others: u32) -> Answered
     ensures { IfOk result (ShowsHalf (sought_by task.now.search) task.now.asked states task.now.limits others) }
 {
     let alloc = task.search.alloc;

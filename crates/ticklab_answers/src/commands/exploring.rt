@@ -127,7 +127,7 @@ fn all_schedules<W: Progress>(
 }
 
 // What is found of the program.
-fn found<W: Progress>(task: &Task<'_>, steps: Steps, progress: &mut W) -> Answered
+fn found<W: Progress>(task: &Task<'_, '_>, steps: Steps, progress: &mut W) -> Answered
     requires sound { IsSound task.now.search }
     ensures { IfOk result (λ response. IsHeard (hearing W.begins W.hears) progress.old progress.new (IsFound (sought_by task.now.search) task.now.limits steps response)) }
 {
@@ -139,7 +139,7 @@ fn found<W: Progress>(task: &Task<'_>, steps: Steps, progress: &mut W) -> Answer
 }
 
 // The same by steps of one kind alone.
-fn found_by<W: Progress>(task: &Task<'_>, is_merged: bool, progress: &mut W) -> Answered
+fn found_by<W: Progress>(task: &Task<'_, '_>, is_merged: bool, progress: &mut W) -> Answered
     requires sound { IsSound task.now.search }
     ensures { IfOk result (λ response. IsHeard (hearing W.begins W.hears) progress.old progress.new (IsFoundBy (sought_by task.now.search) task.now.limits is_merged response)) }
 {
@@ -148,7 +148,7 @@ fn found_by<W: Progress>(task: &Task<'_>, is_merged: bool, progress: &mut W) -> 
 }
 
 // By merged steps first, and by single ones where these find a fault.
-fn found_first<W: Progress>(task: &Task<'_>, progress: &mut W) -> Answered
+fn found_first<W: Progress>(task: &Task<'_, '_>, progress: &mut W) -> Answered
     requires sound { IsSound task.now.search }
     ensures { IfOk result (λ response. IsHeard (hearing W.begins W.hears) progress.old progress.new (IsFoundFirst (sought_by task.now.search) task.now.limits response)) }
 {
@@ -172,7 +172,11 @@ fn fault_of(explored: NeverExplored) -> Result<Vec<u8>, NeverExplored>
 
 /// What is told of a fault that merged steps have found, where this schedule leads to it: a shortest schedule, by single
 /// steps; where these meet a limit, what is left of this one when each step is left out that can be.
-pub fn shortest_found<W: Progress>(task: &Task<'_>, schedule: Vec<u8>, progress: &mut W) -> Answered
+pub fn shortest_found<W: Progress>(
+    task: &Task<'_, '_>,
+    schedule: Vec<u8>,
+    progress: &mut W,
+) -> Answered
     requires sound { IsSound task.now.search }
     requires lawful { IsLawful task.now.search schedule.items }
     requires fault { is_fault (lines_of task.now.search.lines.now.properties.items) (source (resolved task.now.search.spelled.now.program) schedule.items) ≡ true }
@@ -199,7 +203,7 @@ fn is_limit(explored: &NeverExplored) -> bool
 
 // By merged steps, or by single ones.
 fn explored_by<W: Progress>(
-    task: &Task<'_>,
+    task: &Task<'_, '_>,
     is_merged: bool,
     progress: &mut W,
 ) -> Result<NeverExplored, NoMemory>
@@ -219,7 +223,7 @@ fn explored_by<W: Progress>(
 }
 
 // The answer that tells what was explored.
-fn shown(task: &Task<'_>, is_merged: bool, explored: &NeverExplored) -> Answered
+fn shown(task: &Task<'_, '_>, is_merged: bool, explored: &NeverExplored) -> Answered
     requires sound { IsSound task.now.search }
     requires schedule { IfFault explored.now (IsLawful task.now.search) }
     requires line { IfBroken explored.now (λ schedule line v. line < length task.now.search.lines.now.places.items) }
@@ -242,7 +246,7 @@ fn shown(task: &Task<'_>, is_merged: bool, explored: &NeverExplored) -> Answered
 }
 
 // The answer that tells a schedule which needs all its steps.
-fn minimal_shown(search: &Search<'_>, minimal: &Minimal) -> Answered
+fn minimal_shown(search: &Search<'_, '_>, minimal: &Minimal) -> Answered
     requires sound { IsSound search.now }
     requires schedule { IsLawful search.now (schedule_of minimal.now) }
     requires line { IfBreaks minimal.now (λ schedule line v. line < length search.now.lines.now.places.items) }
@@ -259,7 +263,7 @@ fn minimal_shown(search: &Search<'_>, minimal: &Minimal) -> Answered
 }
 
 /// A schedule under which a process traps, and what is said of how it was found.
-pub fn trap_said(search: &Search<'_>, schedule: &[u8], says: &str) -> Answered
+pub fn trap_said(search: &Search<'_, '_>, schedule: &[u8], says: &str) -> Answered
     requires sound { IsSound search.now }
     requires schedule { IsLawful search.now schedule.now }
     ensures { IfOk result (SaysTrap says.now (sought_by search.now) schedule.now) }
@@ -269,7 +273,7 @@ pub fn trap_said(search: &Search<'_>, schedule: &[u8], says: &str) -> Answered
 
 /// The same of a schedule after which the line of this number breaks.
 pub fn broken_said(
-    search: &Search<'_>,
+    search: &Search<'_, '_>,
     schedule: &[u8],
     line: usize,
     value: Result<u32, Trap>,
@@ -284,7 +288,7 @@ pub fn broken_said(
 }
 
 // Nothing is wrong, and there are so many states.
-fn safe_shown(search: &Search<'_>, is_merged: bool, states: u32) -> Answered
+fn safe_shown(search: &Search<'_, '_>, is_merged: bool, states: u32) -> Answered
     ensures { IfOk result (ShowsSafe (sought_by search.now) is_merged states) }
 {
     let extent = extent_of(search, is_merged, states);
@@ -293,7 +297,7 @@ fn safe_shown(search: &Search<'_>, is_merged: bool, states: u32) -> Answered
 }
 
 /// There are more states than these.
-pub fn limit_shown(task: &Task<'_>, is_merged: bool, states: u32) -> Answered
+pub fn limit_shown(task: &Task<'_, '_>, is_merged: bool, states: u32) -> Answered
     ensures { IfOk result (ShowsLimit (sought_by task.now.search) is_merged task.now.limits states) }
 {
     let search = &task.search;
@@ -309,7 +313,7 @@ pub fn limit_shown(task: &Task<'_>, is_merged: bool, states: u32) -> Answered
 
 /// An answer without a schedule: what is said in a line, with more behind it; an object has the states in place of that.
 pub fn states_shown(
-    search: &Search<'_>,
+    search: &Search<'_, '_>,
     status: u8,
     word: &str,
     extent: Extent,

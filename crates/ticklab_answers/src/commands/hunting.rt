@@ -104,7 +104,7 @@ fn random_schedules<T: Trials>(
 }
 
 // The answer that tells what the hunt came to.
-fn shown(search: &Search<'_>, plan: Plan, from: u32, hunted: &NeverHunted) -> Answered
+fn shown(search: &Search<'_, '_>, plan: Plan, from: u32, hunted: &NeverHunted) -> Answered
     requires sound { IsSound search.now }
     requires schedule { IfFault hunted.now (λ run. IsLawful search.now) }
     requires line { IfBroken hunted.now (λ schedule line v. line < length search.now.lines.now.places.items) }
@@ -129,7 +129,7 @@ fn shown(search: &Search<'_>, plan: Plan, from: u32, hunted: &NeverHunted) -> An
     }
 }
 
-fn empty_answer(search: &Search<'_>, plan: Plan, from: u32) -> Result<String, AllocError>
+fn empty_answer(search: &Search<'_, '_>, plan: Plan, from: u32) -> Result<String, AllocError>
     ensures { IfOk result (λ text. IsEmptyAnswer search.now.form (length search.now.lines.now.places.items) plan from (string_bytes text)) }
 {
     let alloc = search.alloc;

@@ -17,7 +17,7 @@ use ticklab_trace::source_steps;
 
 /// The schedule, and the line that stands here, which comes to this after it.
 pub fn break_object(
-    search: &Search<'_>,
+    search: &Search<'_, '_>,
     head: Head<'_>,
     schedule: &[u8],
     place: &PropertyPlace<'_>,
@@ -42,7 +42,7 @@ pub fn break_object(
 
 /// The schedule, what each of its steps does, and the line that breaks after it, if one does.
 pub fn run_object(
-    search: &Search<'_>,
+    search: &Search<'_, '_>,
     head: Head<'_>,
     schedule: &[u8],
     broken: Option<Breaking<'_>>,

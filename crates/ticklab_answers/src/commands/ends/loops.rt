@@ -22,9 +22,9 @@ use ticklab_json::{Loop, found_loop};
 use ticklab_trace::{StatementPlace, StatementStep, source_steps, source_trace};
 
 /// What repeats for ever, with what each step does. How it was found this line says; an object has a word for it too.
-pub fn loop_shown(search: &Search<'_>, word: &str, found: &str, looped: Loop<'_>) -> Answered
+pub fn loop_shown(search: &Search<'_, '_>, word: &str, found: &str, looped: Loop<'_>) -> Answered
     requires sound { IsSound search.now }
-    requires lawful { AreLawful (resolved search.now.spelled.now.program).processes looped.entry }
+    requires lawful { AreLawful (resolved search.now.spelled.now.program).processes looped }
     ensures { IfOk result (ShowsLoop word.now found.now (sought_by search.now) looped.entry.schedule.now looped.entry.lead_in.now looped.entry.cycle.now) }
 {
     let alloc = search.alloc;
@@ -41,13 +41,13 @@ pub fn loop_shown(search: &Search<'_>, word: &str, found: &str, looped: Loop<'_>
 }
 
 fn loop_object(
-    search: &Search<'_>,
+    search: &Search<'_, '_>,
     word: &str,
     says: &str,
     looped: Loop<'_>,
 ) -> Result<String, NoMemory>
     requires sound { IsSound search.now }
-    requires lawful { AreLawful (resolved search.now.spelled.now.program).processes looped.entry }
+    requires lawful { AreLawful (resolved search.now.spelled.now.program).processes looped }
     ensures { IfOk result (λ text. IsLoopObject word.now says.now search.now.input.now search.now.spelled.now.program looped.entry.schedule.now looped.entry.lead_in.now looped.entry.cycle.now (string_bytes text)) }
 {
     let alloc = search.alloc;
@@ -69,7 +69,7 @@ pub fn loop_text(
     found: &str,
     looped: Loop<'_>,
 ) -> Result<String, NoMemory>
-    requires lawful { AreLawful (resolved spelled.now.program).processes looped.entry }
+    requires lawful { AreLawful (resolved spelled.now.program).processes looped }
     requires program { SpelledIn input.now spelled.now }
     ensures { IfOk result (λ text. IsLoopText found.now input.now spelled.now.program looped.entry.schedule.now looped.entry.lead_in.now looped.entry.cycle.now (string_bytes text)) }
 {
