@@ -26,9 +26,9 @@ returns-then-asks_ends-clause-ok g c =
     let x = c.in_ok-response.response in
     ends_moved (hearing g.W.Progress.begins g.W.Watch.hears) _ _ c.args.steps
     (record { input = c.args.input.now; program = c.in-Ok.asked.spelled.program; lines = lines_of held.properties.items; places = []; form = c.args.form })
-    (map place_of held.places.items) (places_by c.args.name.now c.args.input.now known.asked texts) c.asked_in-who.result
+    (map place_of held.places.items) (places_by c.args.name.now c.args.input.now known.asked texts) c.asked_in.result
     (asked_by known.asked.ends None) c.args.limits x (IsExplored c.args.steps c.args.name.now texts c.args.limits c.args.form c.args.input.now x)
-    known.stand (c.asked_in-who.ensures ∙ ap (λ (ends : Option Ends). asked_by ends None) (sym known.who))
+    known.stand (c.asked_in.ensures ∙ ap (λ (ends : Option Ends). asked_by ends None) (sym known.who))
     (λ heard found. ends_too (asks_of known) (ap asks_ends known.who ∙ sym c.asks_ends.ensures ∙ c.if-asks_ends.true) found)
     c.in_ok-response.ensures
 

@@ -1,21 +1,14 @@
-use Rattle.std.proofs.Common.{◌∙◌, ◌++◌, ◌<◌, ℕ, List, ap, arith, drop, length, map, rules, string_bytes, subst, sym, take}
-use Rattle.std.specs.List.{All}
-use Rattle.std.proofs.lemmas.List.Elements.{All-append}
+use Rattle.std.proofs.Common.{◌∙◌, ℕ, List, ap, arith, drop, length, map, rules, string_bytes, subst, take}
 use Rattle.tick_kinds.specs.Resolution.{resolved}
 use Rattle.ticklab_trace.specs.Places.{told_standing}
 use Rattle.ticklab_trace.specs.StatementSteps.{AreStatementSteps}
 use Rattle.ticklab_answers.specs.Lines.{cycle_line}
-use Rattle.ticklab_answers.proofs.ToldLoops.{counted, told_loop}
+use Rattle.ticklab_answers.proofs.ToldLoops.{all_lawful, counted, told_loop}
 use Rattle.ticklab_answers.proofs.commands.ends.loops.loop_text.Goals as goal
 
 pub source_steps-requires : goal.source_steps-requires
 source_steps-requires c =
-    let Lawful : ℕ → Type 0 = λ p. p < (resolved c.args.spelled.now.program).processes in
-    let schedule = c.args.looped.schedule.now in
-    let lead_in = c.args.looped.lead_in.now in
-    let cycle = c.args.looped.cycle.now in
-    subst (λ (all : List ℕ). All Lawful all) (sym (c.as_slice.ensures.value ∙ c.in_ok-all.ensures))
-    (All-append Lawful (schedule ++ lead_in) cycle (All-append Lawful schedule lead_in c.requires.lawful.schedule c.requires.lawful.lead_in) c.requires.lawful.cycle)
+    all_lawful (resolved c.args.spelled.now.program).processes c.args.looped c.as_slice.result.now c.requires.lawful (c.as_slice.ensures.value ∙ c.in_ok-all.ensures)
 
 pub split_at-requires : goal.split_at-requires
 split_at-requires c =
