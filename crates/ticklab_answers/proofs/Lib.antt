@@ -10,6 +10,7 @@ pub mod Listed
 pub mod Looped
 pub mod NeverLines
 pub mod Pictured
+pub mod Placed
 pub mod ProgramFiles
 pub mod Ran
 pub mod Refusals

@@ -6,11 +6,10 @@ use Rattle.std.specs.Prelude.{◌||◌, Vec}
 use Rattle.std.specs.Global.{Global}
 use Rattle.std.proofs.lemmas.List.Folds.{list_any_at}
 use Rattle.std.proofs.lemmas.Option.{get_or_from_slice_get, slice_get_within}
-use Rattle.base.specs.Plain.{Name, WholeProgram}
+use Rattle.base.specs.Plain.{WholeProgram}
 use Rattle.language_properties.specs.Properties.{Formula}
 use Rattle.language_properties.specs.Values.{Valued}
 use Rattle.language_properties.specs.declared.property.Property.{Property}
-use Rattle.tick_kinds.specs.Resolution.{resolved}
 use Rattle.tick_source.specs.Source.{SourceState, source}
 use Rattle.searches_explore.specs.Explored.{has_trapped}
 use Rattle.searches_explore.specs.Lines.{IsFirstBroken, breaks, is_broken, is_fault, line_value, lines_of}
@@ -27,14 +26,16 @@ use Rattle.searches_hunt.specs.Minimal.{IfBroken as IfBreaks, IfTrapped as IfTra
 use Rattle.searches_hunt.specs.Never.{IsMinimalBroken, IsMinimalTrapped}
 use Rattle.searches_hunt.specs.declared.minimal.Minimal.{Minimal}
 use Rattle.searches_hunt.specs.declared.minimal.Minimal.TheVariants as M
-use Rattle.ticklab_answers.specs.Asking.{TextPlace}
 use Rattle.ticklab_answers.specs.BySteps.{BrokenBy, LimitBy, SafeBy, SeesBy, TrapBy}
 use Rattle.ticklab_answers.specs.Found.{IsFoundBy, IsFoundFirst, IsQuiet, MeetsLimit, TellsBoth, TellsFault, TellsLimit, TellsSafe, TellsShortest, broken, fault, first_fault, first_safe, first_unknown, minimal_break, minimal_trap, safe, shortest, trapped, unknown}
 use Rattle.ticklab_answers.specs.Hearing.{Heard, HearsOf, IsHeard, IsSearchHeard, IsSearchHeardToEnd, hearing}
 use Rattle.ticklab_answers.specs.Shown.{Shows, ShowsMinimal}
+use Rattle.ticklab_answers.specs.Sought.{sought_by}
+use Rattle.ticklab_answers.specs.declared.search.Search.{Search}
 use Rattle.ticklab_answers.specs.declared.response.Response.{Response}
 use Rattle.ticklab_answers.specs.prover.Searches.{AreHeardFor, IsKnownBy, IsSearchedBy, is_limit}
 use Rattle.ticklab_answers.proofs.Heard.{began, heard_as, heard_then}
+use Rattle.ticklab_answers.proofs.Placed.{held_of, program_of}
 use Rattle.ticklab_answers.proofs.NeverLines.{lawful_by, line_within, within_by}
 
 -- what is known of it
@@ -107,77 +108,77 @@ module _ (a : WholeProgram ℕ) (lines : List Property) where
 pub of_found : (P : List ℕ → Type 0) (e : NeverExplored) (schedule : Vec ℕ Global) → never_searched_of e ≡ Found schedule → IfFault e P → P schedule.items
 of_found P e schedule is held = subst (λ (s : Searched). IfFound s P) is held
 
-module _ (input : List ℕ) (a : WholeProgram Name) (lines : List Property) (places : List TextPlace) (limits : Limits) where
+module _ (q : Search) (limits : Limits) where
   -- so far a search is heard, of which this is known
-  on_the_way : {m : Bool} {e : NeverExplored} {heard : List Heard} (gone : ℕ) (on : AreHeardFor m (resolved a) lines limits e heard)
-      → AreTold (SeesBy m (resolved a) (lines_of lines)) gone on.told → IsSearchHeard m (resolved a) (lines_of lines) gone heard
+  on_the_way : {m : Bool} {e : NeverExplored} {heard : List Heard} (gone : ℕ) (on : AreHeardFor m (program_of q) (held_of q) limits e heard)
+      → AreTold (SeesBy m (program_of q) (lines_of (held_of q))) gone on.told → IsSearchHeard m (program_of q) (lines_of (held_of q)) gone heard
   on_the_way gone on are = record { told = on.told; are = are; whole = on.whole }
 
   -- and so to its end
-  to_the_end : {m : Bool} {e : NeverExplored} {heard : List Heard} (held : ℕ → Type 0) (below states gone : ℕ) (on : AreHeardFor m (resolved a) lines limits e heard)
-      → AreToldToEnd (SeesBy m (resolved a) (lines_of lines)) held below states gone on.told
-      → IsSearchHeardToEnd m (resolved a) (lines_of lines) held below states gone heard
+  to_the_end : {m : Bool} {e : NeverExplored} {heard : List Heard} (held : ℕ → Type 0) (below states gone : ℕ) (on : AreHeardFor m (program_of q) (held_of q) limits e heard)
+      → AreToldToEnd (SeesBy m (program_of q) (lines_of (held_of q))) held below states gone on.told
+      → IsSearchHeardToEnd m (program_of q) (lines_of (held_of q)) held below states gone heard
   to_the_end held below states gone on are = record { told = on.told; are = are; whole = on.whole }
 
-  pub trap_told : (m : Bool) (s : Vec ℕ Global) (x : Response) (heard : List Heard) → TrapBy m (resolved a) (lines_of lines) s.items
-      → Shows m input a places limits (Trapped s) x → AreHeardFor m (resolved a) lines limits (Trapped s) heard
-      → TellsFault input a (lines_of lines) places limits m x heard
+  pub trap_told : (m : Bool) (s : Vec ℕ Global) (x : Response) (heard : List Heard) → TrapBy m (program_of q) (lines_of (held_of q)) s.items
+      → Shows m (sought_by q) limits (Trapped s) x → AreHeardFor m (program_of q) (held_of q) limits (Trapped s) heard
+      → TellsFault (sought_by q) limits m x heard
   trap_told m s x heard traps shows on = trapped s.items traps on.are.0 (on_the_way on.are.0 on on.are.1) shows
 
   pub break_told : (m : Bool) (s : Vec ℕ Global) (line : ℕ) (v : Valued) (x : Response) (heard : List Heard)
-      → BrokenBy m (resolved a) (lines_of lines) s.items line v
-      → Shows m input a places limits (Broken s line v) x → AreHeardFor m (resolved a) lines limits (Broken s line v) heard
-      → TellsFault input a (lines_of lines) places limits m x heard
+      → BrokenBy m (program_of q) (lines_of (held_of q)) s.items line v
+      → Shows m (sought_by q) limits (Broken s line v) x → AreHeardFor m (program_of q) (held_of q) limits (Broken s line v) heard
+      → TellsFault (sought_by q) limits m x heard
   break_told m s line v x heard breaks shows on = broken s.items line v breaks on.are.0 (on_the_way on.are.0 on on.are.1) shows
 
-  pub quiet_told : (m : Bool) (states : ℕ) (heard : List Heard) → SafeBy m (resolved a) (lines_of lines) limits states
-      → AreHeardFor m (resolved a) lines limits (Safe states) heard → IsQuiet m (resolved a) (lines_of lines) limits states heard
+  pub quiet_told : (m : Bool) (states : ℕ) (heard : List Heard) → SafeBy m (program_of q) (lines_of (held_of q)) limits states
+      → AreHeardFor m (program_of q) (held_of q) limits (Safe states) heard → IsQuiet m (program_of q) (lines_of (held_of q)) limits states heard
   quiet_told m states heard never on = record { safe = never; on_the_way = to_the_end (λ bytes. 4 * states ≤ bytes) states states states on on.are }
 
-  safe_told : (m : Bool) (states : ℕ) (x : Response) (heard : List Heard) → SafeBy m (resolved a) (lines_of lines) limits states
-      → Shows m input a places limits (Safe states) x → AreHeardFor m (resolved a) lines limits (Safe states) heard
-      → TellsSafe input a (lines_of lines) places limits m x heard
+  safe_told : (m : Bool) (states : ℕ) (x : Response) (heard : List Heard) → SafeBy m (program_of q) (lines_of (held_of q)) limits states
+      → Shows m (sought_by q) limits (Safe states) x → AreHeardFor m (program_of q) (held_of q) limits (Safe states) heard
+      → TellsSafe (sought_by q) limits m x heard
   safe_told m states x heard never shows on = record {
     states = states;
     quiet = quiet_told m states heard never on;
     shown = shows;
   }
 
-  pub meets_limit : (m : Bool) (states : ℕ) (heard : List Heard) → LimitBy m (resolved a) (lines_of lines) limits states
-      → AreHeardFor m (resolved a) lines limits (Limit states) heard → MeetsLimit m (resolved a) (lines_of lines) limits states heard
-  meets_limit m states heard full on = record { more = full; gone = on.are.0; on_the_way = to_the_end (IsFullFor (resolved a) limits states) (on.are.0 + 1) states on.are.0 on on.are.1 }
+  pub meets_limit : (m : Bool) (states : ℕ) (heard : List Heard) → LimitBy m (program_of q) (lines_of (held_of q)) limits states
+      → AreHeardFor m (program_of q) (held_of q) limits (Limit states) heard → MeetsLimit m (program_of q) (lines_of (held_of q)) limits states heard
+  meets_limit m states heard full on = record { more = full; gone = on.are.0; on_the_way = to_the_end (IsFullFor (program_of q) limits states) (on.are.0 + 1) states on.are.0 on on.are.1 }
 
-  pub limit_told : (m : Bool) (states : ℕ) (x : Response) (heard : List Heard) → LimitBy m (resolved a) (lines_of lines) limits states
-      → Shows m input a places limits (Limit states) x → AreHeardFor m (resolved a) lines limits (Limit states) heard
-      → TellsLimit input a (lines_of lines) places limits m x heard
+  pub limit_told : (m : Bool) (states : ℕ) (x : Response) (heard : List Heard) → LimitBy m (program_of q) (lines_of (held_of q)) limits states
+      → Shows m (sought_by q) limits (Limit states) x → AreHeardFor m (program_of q) (held_of q) limits (Limit states) heard
+      → TellsLimit (sought_by q) limits m x heard
   limit_told m states x heard full shows on = record { states = states; meets = meets_limit m states heard full on; shown = shows }
 
-  told_by : (m : Bool) (e : NeverExplored) (x : Response) (heard : List Heard) → IsKnownBy m (resolved a) lines limits e
-      → Shows m input a places limits e x → AreHeardFor m (resolved a) lines limits e heard → IsFoundBy input a (lines_of lines) places limits m x heard
+  told_by : (m : Bool) (e : NeverExplored) (x : Response) (heard : List Heard) → IsKnownBy m (program_of q) (held_of q) limits e
+      → Shows m (sought_by q) limits e x → AreHeardFor m (program_of q) (held_of q) limits e heard → IsFoundBy (sought_by q) limits m x heard
   told_by m (Trapped s) x heard known shows on = fault (trap_told m s x heard known.trapped shows on)
   told_by m (Broken s line v) x heard known shows on = fault (break_told m s line v x heard known.broken shows on)
   told_by m (Safe states) x heard known shows on = safe (safe_told m states x heard known.safe shows on)
   told_by m (Limit states) x heard known shows on = unknown (limit_told m states x heard known.at_limit shows on)
 
-  told_first : (e : NeverExplored) (x : Response) (heard : List Heard) → IsKnownBy true (resolved a) lines limits e → IfFault e (λ schedule. ⊥)
-      → Shows true input a places limits e x → AreHeardFor true (resolved a) lines limits e heard → IsFoundFirst input a (lines_of lines) places limits x heard
+  told_first : (e : NeverExplored) (x : Response) (heard : List Heard) → IsKnownBy true (program_of q) (held_of q) limits e → IfFault e (λ schedule. ⊥)
+      → Shows true (sought_by q) limits e x → AreHeardFor true (program_of q) (held_of q) limits e heard → IsFoundFirst (sought_by q) limits x heard
   told_first (Trapped s) x heard known none shows on = absurd none
   told_first (Broken s line v) x heard known none shows on = absurd none
   told_first (Safe states) x heard known none shows on = first_safe (safe_told true states x heard known.safe shows on)
   told_first (Limit states) x heard known none shows on = first_unknown (limit_told true states x heard known.at_limit shows on)
 
   -- there is a fault
-  module _ (schedule : List ℕ) (wrong : is_fault (lines_of lines) (source (resolved a) schedule) ≡ true) where
-    told_shortest : (e : NeverExplored) (x : Response) (heard : List Heard) → IsKnownBy false (resolved a) lines limits e → is_limit e ≡ false
-        → Shows false input a places limits e x → AreHeardFor false (resolved a) lines limits e heard → TellsShortest input a (lines_of lines) places limits x heard
+  module _ (schedule : List ℕ) (wrong : is_fault (lines_of (held_of q)) (source (program_of q) schedule) ≡ true) where
+    told_shortest : (e : NeverExplored) (x : Response) (heard : List Heard) → IsKnownBy false (program_of q) (held_of q) limits e → is_limit e ≡ false
+        → Shows false (sought_by q) limits e x → AreHeardFor false (program_of q) (held_of q) limits e heard → TellsShortest (sought_by q) limits x heard
     told_shortest (Trapped s) x heard known seen shows on = shortest (trap_told false s x heard known.trapped shows on)
     told_shortest (Broken s line v) x heard known seen shows on = shortest (break_told false s line v x heard known.broken shows on)
     told_shortest (Safe states) x heard known seen shows on = absurd (false≢true (sym (known.safe.never schedule) ∙ wrong))
     told_shortest (Limit states) x heard known seen shows on = absurd (false≢true (sym seen))
 
-  told_minimal : (e : NeverExplored) (k : Minimal) (x : Response) (heard : List Heard) → IsKnownBy false (resolved a) lines limits e → is_limit e ≡ true
-      → IfTraps k (IsMinimalTrapped (resolved a) (lines_of lines)) → IfBreaks k (IsMinimalBroken (resolved a) (lines_of lines))
-      → ShowsMinimal input a places k x → AreHeardFor false (resolved a) lines limits e heard → TellsShortest input a (lines_of lines) places limits x heard
+  told_minimal : (e : NeverExplored) (k : Minimal) (x : Response) (heard : List Heard) → IsKnownBy false (program_of q) (held_of q) limits e → is_limit e ≡ true
+      → IfTraps k (IsMinimalTrapped (program_of q) (lines_of (held_of q))) → IfBreaks k (IsMinimalBroken (program_of q) (lines_of (held_of q)))
+      → ShowsMinimal (sought_by q) k x → AreHeardFor false (program_of q) (held_of q) limits e heard → TellsShortest (sought_by q) limits x heard
   told_minimal (Limit states) (M.Trapped s) x heard known full traps breaks shows on =
       minimal_trap states (meets_limit false states heard known.at_limit on) s.items traps shows
   told_minimal (Limit states) (M.Broken s line v) x heard known full traps breaks shows on =
@@ -188,15 +189,15 @@ module _ (input : List ℕ) (a : WholeProgram Name) (lines : List Property) (pla
 
   -- a search that is heard as far as it finds a fault
   pub fault_heard : (e : NeverExplored) (schedule : Vec ℕ Global) (heard : List Heard) → never_searched_of e ≡ Found schedule
-      → AreHeardFor true (resolved a) lines limits e heard → (gone : ℕ) × IsSearchHeard true (resolved a) (lines_of lines) gone heard
+      → AreHeardFor true (program_of q) (held_of q) limits e heard → (gone : ℕ) × IsSearchHeard true (program_of q) (lines_of (held_of q)) gone heard
   fault_heard (Trapped s) schedule heard is on = (on.are.0, on_the_way on.are.0 on on.are.1)
   fault_heard (Broken s line v) schedule heard is on = (on.are.0, on_the_way on.are.0 on on.are.1)
   fault_heard (Safe states) schedule heard is on = absurd (not_found {s = Nowhere states} refl is)
   fault_heard (Limit states) schedule heard is on = absurd (not_found {s = Full states} refl is)
 
   -- by merged steps, and then by single ones
-  pub told_both : (x : Response) (first more : List Heard) → (gone : ℕ) × IsSearchHeard true (resolved a) (lines_of lines) gone first
-      → TellsShortest input a (lines_of lines) places limits x more → TellsBoth input a (lines_of lines) places limits x (first ++ more)
+  pub told_both : (x : Response) (first more : List Heard) → (gone : ℕ) × IsSearchHeard true (program_of q) (lines_of (held_of q)) gone first
+      → TellsShortest (sought_by q) limits x more → TellsBoth (sought_by q) limits x (first ++ more)
   told_both x first more merged single = record {
     gone = merged.0;
     first = first;
@@ -207,31 +208,31 @@ module _ (input : List ℕ) (a : WholeProgram Name) (lines : List Property) (pla
   }
 
   module _ {W : Type 0} (hears : HearsOf W) (before after : W) where
-    pub found_as : (m : Bool) (e : NeverExplored) (x : Response) → IsSearchedBy m (resolved a) lines limits hears before after e
-        → Shows m input a places limits e x → IsHeard hears before after (IsFoundBy input a (lines_of lines) places limits m x)
+    pub found_as : (m : Bool) (e : NeverExplored) (x : Response) → IsSearchedBy m (program_of q) (held_of q) limits hears before after e
+        → Shows m (sought_by q) limits e x → IsHeard hears before after (IsFoundBy (sought_by q) limits m x)
     found_as m e x searched shows = heard_as hears before after (λ heard on. told_by m e x heard searched.known shows on) searched.watched
 
-    pub none_first : (e : NeverExplored) (x : Response) → IsSearchedBy true (resolved a) lines limits hears before after e → IfFault e (λ schedule. ⊥)
-        → Shows true input a places limits e x → IsHeard hears before after (IsFoundFirst input a (lines_of lines) places limits x)
+    pub none_first : (e : NeverExplored) (x : Response) → IsSearchedBy true (program_of q) (held_of q) limits hears before after e → IfFault e (λ schedule. ⊥)
+        → Shows true (sought_by q) limits e x → IsHeard hears before after (IsFoundFirst (sought_by q) limits x)
     none_first e x searched none shows =
         heard_as hears before after (λ heard on. told_first e x heard searched.known none shows on) searched.watched
 
-    pub shortest_as : (schedule : List ℕ) → is_fault (lines_of lines) (source (resolved a) schedule) ≡ true → (e : NeverExplored) (x : Response)
-        → IsSearchedBy false (resolved a) lines limits hears before after e → is_limit e ≡ false → Shows false input a places limits e x
-        → IsHeard hears before after (TellsShortest input a (lines_of lines) places limits x)
+    pub shortest_as : (schedule : List ℕ) → is_fault (lines_of (held_of q)) (source (program_of q) schedule) ≡ true → (e : NeverExplored) (x : Response)
+        → IsSearchedBy false (program_of q) (held_of q) limits hears before after e → is_limit e ≡ false → Shows false (sought_by q) limits e x
+        → IsHeard hears before after (TellsShortest (sought_by q) limits x)
     shortest_as schedule wrong e x searched seen shows =
         heard_as hears before after (λ heard on. told_shortest schedule wrong e x heard searched.known seen shows on) searched.watched
 
-    pub minimal_as : (e : NeverExplored) (k : Minimal) (x : Response) → IsSearchedBy false (resolved a) lines limits hears before after e
-        → is_limit e ≡ true → IfTraps k (IsMinimalTrapped (resolved a) (lines_of lines)) → IfBreaks k (IsMinimalBroken (resolved a) (lines_of lines))
-        → ShowsMinimal input a places k x → IsHeard hears before after (TellsShortest input a (lines_of lines) places limits x)
+    pub minimal_as : (e : NeverExplored) (k : Minimal) (x : Response) → IsSearchedBy false (program_of q) (held_of q) limits hears before after e
+        → is_limit e ≡ true → IfTraps k (IsMinimalTrapped (program_of q) (lines_of (held_of q))) → IfBreaks k (IsMinimalBroken (program_of q) (lines_of (held_of q)))
+        → ShowsMinimal (sought_by q) k x → IsHeard hears before after (TellsShortest (sought_by q) limits x)
     minimal_as e k x searched full traps breaks shows =
         heard_as hears before after (λ heard on. told_minimal e k x heard searched.known full traps breaks shows on) searched.watched
 
     pub both_first : (between : W) (e : NeverExplored) (schedule : Vec ℕ Global) (x : Response)
-        → IsSearchedBy true (resolved a) lines limits hears before between e → never_searched_of e ≡ Found schedule
-        → IsHeard hears between after (TellsShortest input a (lines_of lines) places limits x)
-        → IsHeard hears before after (IsFoundFirst input a (lines_of lines) places limits x)
+        → IsSearchedBy true (program_of q) (held_of q) limits hears before between e → never_searched_of e ≡ Found schedule
+        → IsHeard hears between after (TellsShortest (sought_by q) limits x)
+        → IsHeard hears before after (IsFoundFirst (sought_by q) limits x)
     both_first between e schedule x searched is single =
         heard_then hears before between after
         (λ first more on then. first_fault (told_both x first more (fault_heard e schedule first is on) then)) searched.watched single

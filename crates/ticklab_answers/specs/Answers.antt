@@ -50,9 +50,9 @@ module _ {F M W : Type 0} (Reads : ReadsOf F) (ReadsInput : ReadsInputOf F) (Lis
   -- in this form, where the command has such answers
   abbrev pub Responds : Form → Asked → Response → Type 0
   Responds form (Explore file never limit memory steps) response =
-      (ran ≡ rested) × Explores Reads ReadsInput hears before after quiet heard file never (limits_of limit memory) steps response
+      (ran ≡ rested) × Explores Reads ReadsInput hears before after quiet heard file never (limits_of limit memory) steps form response
   Responds form (Ends file never process limit memory steps) response =
-      (ran ≡ rested) × ExploresEnds Reads ReadsInput hears before after quiet heard file never process (limits_of limit memory) steps response
+      (ran ≡ rested) × ExploresEnds Reads ReadsInput hears before after quiet heard file never process (limits_of limit memory) steps form response
   Responds form (Check paths limit memory jobs) response =
       (ran ≡ rested) × (heard ≡ quiet) × ChecksAll Reads ReadsInput Lists before after paths (limits_of limit memory) form response
   Responds form (Lasso file prefix cycle) response =

@@ -8,11 +8,12 @@ use Rattle.searches_hunt.specs.Never.{IsFirstFault, IsMinimalBroken, IsMinimalTr
 use Rattle.searches_hunt.specs.declared.plan.Mode.{Mode}
 use Rattle.searches_hunt.specs.declared.plan.Mode.TheVariants.{Bursts, Uniform}
 use Rattle.searches_hunt.specs.declared.plan.Plan.{Plan}
-use Rattle.ticklab_answers.specs.Asking.{AsksNever, places_by}
+use Rattle.ticklab_answers.specs.Asking.{AsksNever}
 use Rattle.ticklab_answers.specs.Exploring.{IsUnexplored}
 use Rattle.ticklab_answers.specs.Reading.{AfterFile, ReadsOf, ReadsInputOf}
 use Rattle.ticklab_answers.specs.Responses.{Refuses}
 use Rattle.ticklab_answers.specs.Shown.{ShowsEmptyHunt, ShowsHuntBroken, ShowsHuntTrap}
+use Rattle.ticklab_answers.specs.Sought.{sought_of}
 use Rattle.ticklab_answers.specs.declared.form.Form.{Form}
 use Rattle.ticklab_answers.specs.declared.response.Response.{Response}
 
@@ -33,12 +34,12 @@ pub data IsHunted (name : List ℕ) (texts : List (List ℕ)) (plan : Plan) (fro
       → IsFirstFault (resolved asks.file.program) asks.lines plan from run
       → IsPartOf schedule (random_schedule plan (resolved asks.file.program).processes run) → length schedule ≤ plan.steps
       → IsMinimalTrapped (resolved asks.file.program) asks.lines schedule
-      → ShowsHuntTrap form plan from input asks.file.program schedule response → IsHunted name texts plan from form input response
+      → ShowsHuntTrap plan from (sought_of name texts form input asks) schedule response → IsHunted name texts plan from form input response
   broken : (asks : AsksNever texts input) (run : ℕ) (schedule : List ℕ) (line : ℕ) (v : Valued)
       → IsFirstFault (resolved asks.file.program) asks.lines plan from run
       → IsPartOf schedule (random_schedule plan (resolved asks.file.program).processes run) → length schedule ≤ plan.steps
       → IsMinimalBroken (resolved asks.file.program) asks.lines schedule line v
-      → ShowsHuntBroken form plan from input asks.file.program (places_by name input asks.file.asked texts) schedule line v response
+      → ShowsHuntBroken plan from (sought_of name texts form input asks) schedule line v response
       → IsHunted name texts plan from form input response
   unhunted : Refuses 1 (IsUnexplored name texts input) response → IsHunted name texts plan from form input response
 

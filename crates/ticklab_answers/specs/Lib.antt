@@ -11,7 +11,6 @@ pub mod Exploring
 pub mod Faults
 pub mod Found
 pub mod Hearing
-pub mod HuntObjects
 pub mod Hunting
 pub mod Labels
 pub mod Lasso
@@ -23,9 +22,11 @@ pub mod Pages
 pub mod Pictures
 pub mod Reading
 pub mod Responses
+pub mod RunObjects
 pub mod Runs
 pub mod Serving
 pub mod Shown
+pub mod Sought
 pub mod Steps
 pub mod Stops
 pub mod Tallies

@@ -37,6 +37,9 @@ abbrev pub states_text : Bool → ℕ → List ℕ
 states_text false count = many count (codes "state") (codes "states")
 states_text true count = many count (codes "merged state") (codes "merged states")
 
+abbrev pub counted_text : Bool → ℕ → List ℕ
+counted_text is_merged states = codes " (" ++ states_text is_merged states ++ codes ")"
+
 abbrev pub runs_text : ℕ → List ℕ
 runs_text count = many count (codes "run") (codes "runs")
 
@@ -64,7 +67,7 @@ abbrev pub safe_text : ℕ → List ℕ
 safe_text lines = if lines == 0 then codes "no process traps" else codes "no process traps and no #! never line breaks"
 
 abbrev pub safe_line : Bool → ℕ → ℕ → List ℕ
-safe_line is_merged lines states = safe_text lines ++ codes " under any schedule (" ++ states_text is_merged states ++ codes ")\n"
+safe_line is_merged lines states = safe_text lines ++ codes " under any schedule" ++ counted_text is_merged states
 
 abbrev pub more_text : Bool → ℕ → List ℕ
 more_text is_merged states = codes "there are more than " ++ states_text is_merged states
@@ -80,8 +83,8 @@ try_text false = codes "try it without --single, "
 abbrev pub next_line : Bool → Limits → ℕ → List ℕ
 next_line is_merged limits states = try_text is_merged ++ larger_text limits states ++ codes ", hunt, or fewer processes or rounds\n"
 
-abbrev pub limit_line : Bool → Limits → ℕ → List ℕ
-limit_line is_merged limits states = more_text is_merged states ++ codes ": nothing is said of all schedules\n" ++ next_line is_merged limits states
+abbrev pub limit_line : Bool → ℕ → List ℕ
+limit_line is_merged states = more_text is_merged states ++ codes ": nothing is said of all schedules"
 
 -- how many runs of a plan there are from this one on, of which the last is 4294967294; and what they are
 abbrev pub runs_from : Plan → ℕ → ℕ
@@ -172,13 +175,13 @@ ends_text asked =
     else (asked_text asked ++ codes " can still end after every schedule, and will if each that runs steps again and again")
 
 abbrev pub ends_line : Bool → ℕ → MustStop → ℕ → List ℕ
-ends_line is_merged lines asked states = quiet_text lines ++ ends_text asked ++ codes " (" ++ states_text is_merged states ++ codes ")\n"
+ends_line is_merged lines asked states = quiet_text lines ++ ends_text asked ++ counted_text is_merged states
 
 -- they can always end, and it isn't known whether they do
 abbrev pub can_end_text : Bool → ℕ → MustStop → ℕ → List ℕ
 can_end_text is_merged lines asked states =
-    quiet_text lines ++ asked_text asked ++ codes " can still end after every schedule (" ++ states_text is_merged states
-    ++ codes "); of those in which each that runs steps again and again nothing was "
+    quiet_text lines ++ asked_text asked ++ codes " can still end after every schedule" ++ counted_text is_merged states
+    ++ codes "; of those in which each that runs steps again and again nothing was "
 
 -- why it isn't: endless schedules are asked for by single steps alone
 abbrev pub unknown_text : Bool → List ℕ
@@ -187,16 +190,15 @@ unknown_text is_merged = if is_merged then codes "asked" else codes "found out"
 abbrev pub can_end_line : Bool → ℕ → MustStop → ℕ → List ℕ
 can_end_line is_merged lines asked states =
     if is_nobody asked then ends_line is_merged lines asked states
-    else (can_end_text is_merged lines asked states ++ unknown_text is_merged ++ codes "\n")
+    else (can_end_text is_merged lines asked states ++ unknown_text is_merged)
 
 -- what may help where single steps met a limit
 abbrev pub half_next : Limits → ℕ → List ℕ
-half_next limits others = codes "\ntry " ++ larger_text limits others ++ codes ", or fewer processes or rounds\n"
+half_next limits others = codes "try " ++ larger_text limits others ++ codes ", or fewer processes or rounds\n"
 
 -- the same of merged steps, where by single ones there are more states than this
-abbrev pub half_line : ℕ → MustStop → ℕ → Limits → ℕ → List ℕ
-half_line lines asked states limits others =
-    can_end_text true lines asked states ++ codes "found out: " ++ more_text false others ++ half_next limits others
+abbrev pub half_line : ℕ → MustStop → ℕ → ℕ → List ℕ
+half_line lines asked states others = can_end_text true lines asked states ++ codes "found out: " ++ more_text false others
 
 -- they can always end, and under an endless schedule they don't
 abbrev pub endless_line : ℕ → MustStop → List ℕ

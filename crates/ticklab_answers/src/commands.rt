@@ -11,12 +11,12 @@ mod drawing;
 mod ends;
 mod explaining;
 mod exploring;
-mod hunt_objects;
 mod hunting;
 mod labels;
 mod lasso;
 mod objects;
 mod paging;
+mod run_objects;
 mod tallying;
 mod told_run;
 mod tracing;
@@ -33,6 +33,7 @@ pub use exploring::explored;
 pub use hunting::{hunted, plan_of};
 pub use labels::labelled;
 pub use lasso::lassoed;
+pub use run_objects::{break_object, run_object};
 use searches_explore::Limits;
 use searches_hunt::Trials;
 use std::alloc::Global;
@@ -120,7 +121,7 @@ fn answered<F: Files, M: Runner, T: Trials, C: Checks, W: Progress>(
             steps,
         } => {
             let limits = limits_of(limit, memory);
-            explored(alloc, files, progress, file, &never, limits, steps)
+            explored(alloc, files, progress, file, &never, limits, steps, form)
         }
         Request::Ends {
             file,
@@ -132,7 +133,9 @@ fn answered<F: Files, M: Runner, T: Trials, C: Checks, W: Progress>(
         } => {
             let never = never.as_slice();
             let limits = limits_of(limit, memory);
-            explored_ends(alloc, files, progress, file, never, process, limits, steps)
+            explored_ends(
+                alloc, files, progress, file, never, process, limits, steps, form,
+            )
         }
         Request::Check {
             paths,

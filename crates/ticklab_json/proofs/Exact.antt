@@ -14,7 +14,7 @@ use Rattle.code_text.specs.CodeText.{instr_text}
 use Rattle.language_properties.specs.Values.{Valued}
 use Rattle.language_schedules.specs.Written.{schedule_text}
 use Rattle.searches_hunt.specs.declared.plan.Plan.{Plan}
-use Rattle.serde_json.specs.Data.{Data, boolean, string, array, Members, no_members, member, put}
+use Rattle.serde_json.specs.Data.{Data, null, boolean, number, string, array, object, Items, Members, no_members, member, put}
 use Rattle.serde_json.specs.View.{items_of}
 use Rattle.serde_json.specs.Written.{has_float, items_have_float, members_have_float}
 use Rattle.ticklab_check.specs.Wording.{expected_text}
@@ -28,8 +28,10 @@ use Rattle.ticklab_trace.specs.declared.steps.StatementStep.{StatementStep}
 use Rattle.ticklab_trace.specs.declared.steps.InstructionStep.{InstructionStep}
 use Rattle.ticklab_json.specs.Checks.{file_data, file_list, file_members, findings_data, states_of, with_checked, with_states}
 use Rattle.ticklab_json.specs.Events.{event_data}
-use Rattle.ticklab_json.specs.Hunts.{fault_text, hunt_data, plan_members}
+use Rattle.ticklab_json.specs.Found.{fault_text, head_members, lead_in_data, loop_data, run_data}
 use Rattle.ticklab_json.specs.Members.{count, with_member}
+use Rattle.ticklab_json.specs.declared.found.Head.{Head}
+use Rattle.ticklab_json.specs.declared.found.Head.TheVariants.{Says, Runs}
 use Rattle.ticklab_json.specs.Steps.{BrokenLine, break_data, breaks_at, broken_at, heading, if_lost, instruction_data, instruction_members, label_order, rank_data, ranks_to, start_data, statement_data, statement_list, statement_members, stopped, taken, ticket_order, value_members, with_place, written_data}
 
 left : (a b : Bool) → (a || b) ≡ false → a ≡ false
@@ -175,7 +177,7 @@ start_exact broken d v is told =
     let exact : has_float d ≡ false = subst IsExact (sym is) (broken_exact 0 broken) in
     ap has_float told ∙ both (has_float d) false exact refl
 
--- and what a hunt has found
+-- and what a search has found
 steps_exact : (a : WholeProgram Name) (spots : List Standing) (k : ℕ) (steps : List StatementStep)
     → items_have_float (items_of (statement_list a spots None k steps)) ≡ false
 steps_exact a spots k [] = refl
@@ -183,20 +185,50 @@ steps_exact a spots k (step ∷ steps) =
     both (has_float (statement_data a spots None k step)) (items_have_float (items_of (statement_list a spots None (k + 1) steps)))
     (statement_exact a spots None k step) (steps_exact a spots (k + 1) steps)
 
-pub found_exact : (plan : Plan) (from : ℕ) (a : WholeProgram Name) (spots : List Standing) (schedule : List ℕ) (steps : List StatementStep) (broken : Option BrokenLine)
-    → has_float (hunt_data plan from (Some (record { schedule = schedule; trace = statement_list a spots None 0 steps; broken = broken }))) ≡ false
-found_exact plan from a spots schedule steps broken =
-    let a1 = put (codes "schedule") (string (schedule_text schedule)) (put (codes "answer") (string (fault_text broken)) (plan_members plan from)) in
-    let trace = array (items_of (statement_list a spots None 0 steps)) in
-    with_exact (codes "breaks") (option_map break_data broken) (put (codes "trace") trace a1) (mapped break_data break_exact broken)
-    (put_exact (codes "trace") trace a1 (steps_exact a spots 0 steps) refl)
+-- what stands beside a run
+head_exact : (head : Head) → members_have_float (head_members head) ≡ false
+head_exact (Says line) = refl
+head_exact (Runs plan from) = refl
 
-pub told_exact : (plan : Plan) (from : ℕ) (a : WholeProgram Name) (spots : List Standing) (schedule : List ℕ) (steps : List StatementStep) (broken : Option BrokenLine)
-    (trace : List Data) (v : Data) → trace ≡ statement_list a spots None 0 steps → v ≡ hunt_data plan from (Some (record { schedule = schedule; trace = trace; broken = broken }))
-    → has_float v ≡ false
-told_exact plan from a spots schedule steps broken trace v same told =
-    ap has_float (told ∙ ap (λ t. hunt_data plan from (Some (record { schedule = schedule; trace = t; broken = broken }))) same)
-    ∙ found_exact plan from a spots schedule steps broken
+run_exact : (head : Members) → members_have_float head ≡ false → (a : WholeProgram Name) (spots : List Standing) (schedule : List ℕ) (steps : List StatementStep)
+    (broken : Option BrokenLine)
+    → has_float (run_data head (record { schedule = schedule; trace = statement_list a spots None 0 steps; broken = broken })) ≡ false
+run_exact head exact a spots schedule steps broken =
+    let a1 = put (codes "answer") (string (fault_text broken)) head in
+    let h1 : members_have_float a1 ≡ false = put_exact (codes "answer") (string (fault_text broken)) head refl exact in
+    let a2 = put (codes "schedule") (string (schedule_text schedule)) a1 in
+    let h2 : members_have_float a2 ≡ false = put_exact (codes "schedule") (string (schedule_text schedule)) a1 refl h1 in
+    let trace = array (items_of (statement_list a spots None 0 steps)) in
+    with_exact (codes "breaks") (option_map break_data broken) (put (codes "trace") trace a2) (mapped break_data break_exact broken)
+    (put_exact (codes "trace") trace a2 (steps_exact a spots 0 steps) h2)
+
+pub run_told : (head : Head) (a : WholeProgram Name) (spots : List Standing) (schedule : List ℕ) (steps : List StatementStep) (broken : Option BrokenLine)
+    (trace : List Data) (v : Data) → trace ≡ statement_list a spots None 0 steps
+    → v ≡ run_data (head_members head) (record { schedule = schedule; trace = trace; broken = broken }) → has_float v ≡ false
+run_told head a spots schedule steps broken trace v same told =
+    ap has_float (told ∙ ap (λ t. run_data (head_members head) (record { schedule = schedule; trace = t; broken = broken })) same)
+    ∙ run_exact (head_members head) (head_exact head) a spots schedule steps broken
+
+-- and what it has found that repeats for ever
+lead_in_exact : (lead_in : List ℕ) → IsExact (lead_in_data lead_in)
+lead_in_exact [] = tt
+lead_in_exact (p ∷ lead_in) = refl
+
+loop_exact : (answer says : List ℕ) (a : WholeProgram Name) (spots : List Standing) (schedule lead_in cycle : List ℕ) (steps : List StatementStep)
+    → has_float (loop_data answer says (record { schedule = schedule; lead_in = lead_in; cycle = cycle; trace = statement_list a spots None 0 steps })) ≡ false
+loop_exact answer says a spots schedule lead_in cycle steps =
+    let trace = array (items_of (statement_list a spots None 0 steps)) in
+    with_exact (codes "lead_in") (lead_in_data lead_in)
+    (member (codes "answer") (string answer) (member (codes "cycle") (string (schedule_text cycle)) (member (codes "says") (string says)
+    (member (codes "schedule") (string (schedule_text schedule)) (member (codes "trace") trace no_members)))))
+    (lead_in_exact lead_in) (both (has_float trace) false (steps_exact a spots 0 steps) refl)
+
+pub loop_told : (answer says : List ℕ) (a : WholeProgram Name) (spots : List Standing) (schedule lead_in cycle : List ℕ) (steps : List StatementStep)
+    (trace : List Data) (v : Data) → trace ≡ statement_list a spots None 0 steps
+    → v ≡ loop_data answer says (record { schedule = schedule; lead_in = lead_in; cycle = cycle; trace = trace }) → has_float v ≡ false
+loop_told answer says a spots schedule lead_in cycle steps trace v same told =
+    ap has_float (told ∙ ap (λ t. loop_data answer says (record { schedule = schedule; lead_in = lead_in; cycle = cycle; trace = t })) same)
+    ∙ loop_exact answer says a spots schedule lead_in cycle steps
 
 lost_exact : (is : Bool) → IsExact (if_lost is)
 lost_exact true = refl

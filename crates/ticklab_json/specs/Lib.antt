@@ -4,3 +4,4 @@ pub mod Steps
 pub mod Hunts
 pub mod Checks
 pub mod Explanations
+pub mod Found

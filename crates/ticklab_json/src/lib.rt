@@ -1,9 +1,9 @@
 //! `ticklab_json` writes what `ticklab` answers as JSON.
 //!
 //! Each value that an answer has is told as an object whose keys stand in the order of their bytes. `specs/` says
-//! which: `Events` what others see of a step, `Steps` the steps of both machines, `Hunts` what a hunt has found, `Checks`
+//! which: `Events` what others see of a step, `Steps` the steps of both machines, `Found` what a search has found, `Checks`
 //! what files come to, `Explanations` what is wrong with one. An object of a trace is a line.
-//! Start with `source_objects` and `code_objects`.
+//! Start with `source_objects` and `found_run`.
 #![tactic(auto)]
 
 mod breaking;
@@ -11,6 +11,7 @@ mod checks;
 mod code;
 mod events;
 mod explanations;
+mod found;
 mod hunts;
 mod members;
 mod order;
@@ -21,5 +22,6 @@ pub use breaking::Breaking;
 pub use checks::findings_object;
 pub use code::code_objects;
 pub use explanations::{explanation_object, fine_object};
-pub use hunts::{empty_hunt, found_hunt};
+pub use found::{Head, Loop, found_loop, found_run, found_states};
+pub use hunts::empty_hunt;
 pub use source::source_objects;

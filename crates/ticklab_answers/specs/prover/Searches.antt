@@ -1,5 +1,5 @@
 -- What an exploration comes to, by single steps or by merged ones.
-use Rattle.std.specs.Prelude.{◌≡◌, ℕ, ◌<◌, ◌∷◌, Bool, true, false, List, length, map}
+use Rattle.std.specs.Prelude.{◌≡◌, ℕ, ◌<◌, ⊤, ◌∷◌, Bool, true, false, List, length, map}
 use Rattle.std.specs.List.{All}
 use Rattle.base.specs.Plain.{WholeProgram}
 use Rattle.language_properties.specs.declared.property.Property.{Property}
@@ -14,6 +14,8 @@ use Rattle.searches_explore.specs.declared.end_answer.EndExplored.{EndExplored}
 use Rattle.searches_explore.specs.declared.end_answer.EndExplored.TheVariants as E
 use Rattle.searches_explore.specs.declared.never_answer.NeverExplored.TheVariants as N
 use Rattle.ticklab_answers.specs.BySteps.{BrokenBy, LimitBy, SafeBy, SeesBy, StuckBy, TrapBy}
+use Rattle.ticklab_answers.specs.Sought.{IsLawful}
+use Rattle.ticklab_answers.specs.declared.search.Search.{Search}
 use Rattle.ticklab_answers.specs.Hearing.{Heard, HearsOf, IsHeard, begun, seen}
 
 -- what a watch hears of the search that comes to this
@@ -66,3 +68,11 @@ pub record AreEndsSearchedBy (m : Bool) (a : WholeProgram ℕ) (lines : List Pro
     (before after : W) (e : EndExplored) : Type 0 where
   pub known : AreEndsKnownBy m a lines asked limits e
   pub watched : IsHeard hears before after (AreHeardFor m a lines limits (never_answer e))
+
+-- its schedules are of the program, and there is the line that breaks
+abbrev pub IsShowable : Search → EndExplored → Type 0
+IsShowable s (E.Trapped schedule) = IsLawful s schedule.items
+IsShowable s (E.Broken schedule line v) = IsLawful s schedule.items × (line < length s.lines.now.places.items)
+IsShowable s (E.Stuck schedule lead_in cycle states) = IsLawful s schedule.items × IsLawful s lead_in.items × IsLawful s cycle.items
+IsShowable s (E.Endless prefix cycle states) = IsLawful s prefix.items × IsLawful s cycle.items
+IsShowable s e = ⊤
