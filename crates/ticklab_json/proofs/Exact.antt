@@ -13,8 +13,7 @@ use Rattle.code_core.specs.declared.instr.Instr.{Instr}
 use Rattle.code_text.specs.CodeText.{instr_text}
 use Rattle.language_properties.specs.Values.{Valued}
 use Rattle.language_schedules.specs.Written.{schedule_text}
-use Rattle.searches_hunt.specs.declared.plan.Plan.{Plan}
-use Rattle.serde_json.specs.Data.{Data, null, boolean, number, string, array, object, Items, Members, no_members, member, put}
+use Rattle.serde_json.specs.Data.{Data, boolean, string, array, Members, no_members, member, put}
 use Rattle.serde_json.specs.View.{items_of}
 use Rattle.serde_json.specs.Written.{has_float, items_have_float, members_have_float}
 use Rattle.ticklab_check.specs.Wording.{expected_text}
