@@ -80,6 +80,20 @@ const WAITING: Row = (
     "waiting: safe, but never was expected, 4 merged states, 12.34 s\n",
 );
 
+// Who has to end does, as single steps show.
+const ENDS: Row = (
+    "ends",
+    "processes 1; begin out 7; end\n#! ends all",
+    "ends: safe, 3 states, 12.34 s\n",
+);
+
+// By single steps there are more states than the limit.
+const UNSETTLED: Row = (
+    "unsettled",
+    "processes 1; begin out 1; out 2; out 3; out 4; end\n#! ends 0\n#! expect trap",
+    "unsettled: limit, whether all end was not found out, 2 merged states, 12.34 s\n",
+);
+
 const MANY: Row = (
     "many",
     "processes 2; begin stamp; stamp; end\n#! expect trap",
@@ -99,7 +113,7 @@ const NO_PROGRAM: Row = (
 );
 
 // Files, the last line, and the status.
-static CHECKS: [(&[Row], &str, u8); 6] = [
+static CHECKS: [(&[Row], &str, u8); 7] = [
     (&[OUT], "1 as expected, 0 not, 0 at the limit\n", 0),
     (
         &[TRAP, NEVER, EMPTY, STUCK, TRAP],
@@ -110,6 +124,11 @@ static CHECKS: [(&[Row], &str, u8); 6] = [
         &[NO_TRAP, TRAPPED, NOT_STUCK, WAITING],
         "0 as expected, 4 not, 0 at the limit\n",
         5,
+    ),
+    (
+        &[ENDS, UNSETTLED],
+        "1 as expected, 0 not, 1 at the limit\n",
+        6,
     ),
     (&[MANY, OUT], "1 as expected, 0 not, 1 at the limit\n", 6),
     (

@@ -1,5 +1,5 @@
 -- Files that were listed and read so far, with all that may follow.
-use Rattle.std.proofs.Common.{◌≡◌, ◌∙◌, ◌++◌, ◌+◌, ◌<◌, ◌≤◌, ℕ, Bool, Bor, true, false, List, [], ◌∷◌, drop, get_or, length, map, string_bytes, ap, refl, subst, sym, inl, inr, Some, None, Result, Ok, Err, IfErr, IsErrAnd}
+use Rattle.std.proofs.Common.{◌≡◌, ◌++◌, ℕ, Bool, Bor, true, false, List, [], ◌∷◌, map, string_bytes, refl, subst, sym, inl, inr, Some, None, Result, Ok, Err, IfErr, IsErrAnd}
 use Rattle.std.proofs.lemmas.List.{append-nil, append_assoc}
 use Rattle.std.specs.Prelude.{String}
 use Rattle.std.specs.Global.{Global}
