@@ -1,5 +1,6 @@
 //! Files that are checked: what is told of each, and the exit status.
 
+use searches_explore::Limits;
 use std::alloc::{AllocError, Global};
 use std::cell::Cell;
 use std::test::Fail;
@@ -150,7 +151,11 @@ fn is_checked(alloc: Global, rows: &[Row], last: &str, status: u8) -> Result<(),
         stopwatch: &stopwatch,
     };
     let sources = sources_of(alloc, rows)?;
-    let report = check(alloc, &in_turn, &sources, 4)?;
+    let limits = Limits {
+        states: 4,
+        bytes: 1_000_000_000,
+    };
+    let report = check(alloc, &in_turn, &sources, limits)?;
     let told = told_of(alloc, rows, last)?;
     is_same(&report.text.as_slice(), &told.as_bytes())?;
     is_same(&report.status, &status)
