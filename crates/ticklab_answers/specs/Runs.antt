@@ -1,5 +1,5 @@
--- What `trace`, `draw` and `page` answer: a trace as text or as JSON, a picture or a page of the run of a program, or of its code, under a
--- schedule.
+-- What `trace`, `draw` and `page` answer: a trace as text or as JSON, a picture or a page of the run of a program, or of its
+-- code, under a schedule.
 use Rattle.std.specs.Prelude.{◌≡◌, ◌≤◌, ◌<◌, ◌++◌, ⊤, ℕ, Bool, true, false, List, drop, length, option_map, take, Option, Some, None, Ok}
 use Rattle.std.specs.Borrow.{Bor}
 use Rattle.base.specs.Plain.{Name, WholeProgram}

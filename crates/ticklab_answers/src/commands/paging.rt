@@ -3,11 +3,11 @@ ghost use Rattle.std.specs.Prelude.{◌≡◌, ◌<◌, All, IfErr, IfOk, OnOk, 
 ghost use Rattle.tick_kinds.specs.Resolution.{resolved};
 ghost use Rattle.ticketc_refusals.specs.Refusals.{SpelledIn};
 ghost use Rattle.ticklab_answers.specs.Pages.{IsCodePage, IsPage, IsProgramPage, whole_look};
+ghost use Rattle.ticklab_answers.specs.Runs.{IsTooLong, IsWithin, plain_telling};
 ghost use Rattle.searches_explore.specs.Lines.{lines_of};
 ghost use Rattle.ticklab_answers.specs.Asking.{place_of};
 ghost use Rattle.ticklab_answers.specs.Codes.{HasNoCode, IsCodeless};
 ghost use Rattle.ticklab_answers.specs.Lines.{long_run_line};
-ghost use Rattle.ticklab_answers.specs.Runs.{IsTooLong, IsWithin, plain_telling};
 ghost use Rattle.ticklab_answers.specs.Stops.{IfRefused};
 
 use crate::commands::drawing::{never_mark, picture_of};
