@@ -1,5 +1,5 @@
 //! A schedule that was found, as an object.
-ghost use Rattle.std.specs.Prelude.{◌≡◌, IfOk, option_map, string_bytes};
+ghost use Rattle.std.specs.Prelude.{IfOk, option_map, string_bytes};
 ghost use Rattle.ticklab_json.specs.Found.{head_members};
 ghost use Rattle.ticklab_json.specs.Steps.{broken_line};
 ghost use Rattle.ticklab_answers.specs.Asking.{place_of};

@@ -1,4 +1,3 @@
-use Rattle.std.proofs.Common.{ap, subst, sym}
 use Rattle.ticklab_answers.specs.Asking.{place_of}
 use Rattle.ticklab_answers.proofs.NeverLines.{place_there}
 use Rattle.ticklab_answers.proofs.trapping.broken_shown.Goals as goal
