@@ -172,16 +172,10 @@ fn is_checked(alloc: Global, rows: &[Row], last: &str, status: u8) -> Result<(),
     let sources = sources_of(alloc, rows)?;
     let limits = Limits {
         states: 4,
-<<<<<<< HEAD
         bytes: u64::MAX,
     };
     let findings = check(alloc, &in_turn, &sources, limits)?;
     let text = findings.text(alloc, &sources)?;
-=======
-        bytes: 1_000_000_000,
-    };
-    let report = check(alloc, &in_turn, &sources, limits)?;
->>>>>>> db693a19fc3804497982f34dc1a95238f47f83d3
     let told = told_of(alloc, rows, last)?;
     is_same(&text.as_slice(), &told.as_bytes())?;
     is_same(&findings.tally.status(), &status)

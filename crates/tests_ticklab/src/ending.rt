@@ -12,7 +12,7 @@ use std::process::ExitCode;
 use std::test::Fail;
 use tests_shared::holds;
 use tick_merge::{RunFault, Runner};
-use ticklab_answers::{Files, Host, Progress, ended};
+use ticklab_answers::{Colours, Files, Host, Progress, ended};
 use ticklab_check::Stopwatch;
 
 static FILES: [(&str, &[u8]); 8] = [
@@ -169,6 +169,10 @@ fn host(alloc: Global, is_torn: bool) -> TestHost {
         },
         out: Paper::new(alloc, is_torn),
         err: Paper::new(alloc, false),
+        colours: Colours {
+            out: false,
+            err: false,
+        },
     }
 }
 
