@@ -8,7 +8,7 @@ use std::test::Fail;
 use tests_shared::is_same;
 use ticklab_answers::AnswerFault::NoMemory;
 use ticklab_answers::LabFault::Answer;
-use ticklab_answers::{LabFault, Progress, Response, explored, labelled};
+use ticklab_answers::{Form, LabFault, Progress, Response, explored, labelled};
 use ticklab_line::Steps;
 
 pub type Answered = Result<Response, LabFault>;
@@ -27,8 +27,9 @@ pub fn explored_by<W: Progress>(
         name: NAME,
         bytes: input,
     };
-    match explored(alloc, &mut files, watch, NAME, &[], limits, steps) {
-        Err(Answer(NoMemory)) => explored(alloc, &mut files, watch, NAME, &[], limits, steps),
+    let text = Form::Text;
+    match explored(alloc, &mut files, watch, NAME, &[], limits, steps, text) {
+        Err(Answer(NoMemory)) => explored(alloc, &mut files, watch, NAME, &[], limits, steps, text),
         answered => answered,
     }
 }
