@@ -68,14 +68,18 @@ def run_to_one_who_leaves(path, words):
         return Came(running.wait(PATIENCE), taken, told)
 
 
-def run_on_terminal(path, words, key=None, after=b""):
-    """Standard error and input are a terminal, the output is a file. Where there is a key, it is struck once the
-    terminal shows this."""
+def run_on_terminal(path, words, key=None, after=b"", no_color=None, has_output=False):
+    """Standard error and input are a terminal, the output is a file, unless it is the terminal too. Where there is a key,
+    it is struck once the terminal shows this. NO_COLOR is set to this, or not at all."""
+    environment = {name: value for name, value in os.environ.items() if name != "NO_COLOR"}
+    if no_color is not None:
+        environment["NO_COLOR"] = no_color
     with tempfile.TemporaryFile() as to:
         child, terminal = pty.fork()
         if child == 0:
-            os.dup2(to.fileno(), 1)
-            os.execv(path, [path, *words])
+            if not has_output:
+                os.dup2(to.fileno(), 1)
+            os.execve(path, [path, *words], environment)
         shown, ends = b"", time.monotonic() + PATIENCE
         while more := shown_next(terminal, ends):
             shown += more

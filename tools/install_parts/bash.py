@@ -43,7 +43,7 @@ REST = """    local -a left=($arguments) given=()
         mapfile -t COMPREPLY < <(compgen -W "$options" -- "$word")
     elif [[ $wanted == COMMAND ]]; then
         mapfile -t COMPREPLY < <(compgen -W "$commands" -- "$word")
-    elif [[ $wanted == FILE ]]; then
+    elif [[ $wanted == FILE || $wanted == PATH ]]; then
         compopt -o filenames 2>/dev/null
         mapfile -t COMPREPLY < <(compgen -f -- "$word")
     elif [[ $wanted == SCHEDULE && $word == @* ]]; then

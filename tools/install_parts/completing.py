@@ -15,7 +15,7 @@ FILES = ("there.tick", "two.tick")
 
 def completed(name, word, commands):
     """What a word may become that stands for something of this name."""
-    if name == "FILE":
+    if name in ("FILE", "PATH"):
         return [it for it in FILES if it.startswith(word)]
     if name == "SCHEDULE" and word.startswith("@"):
         return [f"@{it}" for it in FILES if f"@{it}".startswith(word)]

@@ -40,7 +40,7 @@ def lines_of(program, command):
     for option in command.options:
         yield f"{head} {option_words(option)}"
     names = [it.name for it in command.arguments]
-    if "FILE" in names:
+    if "FILE" in names or "PATH" in names:
         yield f"{head} -F"
     if "SCHEDULE" in names:
         yield f"{head} -a {quoted(SCHEDULE)}"

@@ -19,6 +19,7 @@ esac
 # How a word is completed, by the name that stands for it; others have a message alone.
 ACTIONS = {
     "FILE": "_files",
+    "PATH": "_files",
     "SCHEDULE": "{compset -P @ && _files}",
     "COMMAND": '{_describe -t commands command commands}',
 }

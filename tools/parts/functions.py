@@ -35,7 +35,7 @@ class Function:
 
     def may_stand_twice(self, types):
         """Whether it belongs to no trait, no constant is made by it, and it is no test."""
-        of_trait = self.owner[:1].isupper() and self.owner not in types
+        of_trait = bool(self.owner) and self.owner not in types
         return not (of_trait or self.is_const or "#[test" in "\n".join(self.text))
 
     def body(self):
@@ -125,6 +125,11 @@ class Source:
         opens = max(at for at, line in enumerate(before) if line.startswith("impl"))
         ends = next(at for at in range(opens, len(before)) if before[at].endswith("{"))
         return "\n".join(before[opens : ends + 1])
+
+    def has_shared_proof(self, function):
+        """Whether there are pages of its proof as that of a function which calls itself."""
+        before, _, name = function.path.replace("::", "/").rpartition("/")
+        return os.path.isdir(f"{self.folder}/proofs/{before}/+{name}")
 
     def is_answered(self, function):
         """Whether a page of its proof says something of a function that belongs to a cycle, but for its measure."""

@@ -8,7 +8,7 @@ a caller of a planted function has no proof either; nor does an answer that says
 import re
 
 END = re.compile(r"^(?:fn|impl|struct|trait|enum) (\S+): (.*)")
-OPEN = re.compile(r"^note: (?:\./)?src/\S+:\d+:\d+: .*it is not proved")
+OPEN = re.compile(r"^note: (?:\./)?(src/\S+):(\d+):(\d+): .*it is not proved")
 MEASURE = re.compile(r"^note: `decreases[\w-]*` of proofs/(\S+)/Invariants\.antt is yours to choose")
 TACTIC = re.compile(r"^(?:\./)?proofs/(\S+)/\w+\.antt:\d+:\d+: error: `[^`]*`: `(?:search|omega|grind)`: ")
 ERROR = re.compile(r"^(?:\./)?(src/\S+?):(\d+):\d+: .*\berror\b")
@@ -40,8 +40,11 @@ class Said:
                 self.goals.setdefault(at[1].replace("/", "::"), []).append(line)
 
     def goal_of(self, edit):
-        """The first open goal of a function that the edit turns, or, of a wide edit, whatever is no longer proved."""
+        """The first open goal of a function that the edit turns, or, of a wide edit, whatever is no longer proved. Of a
+        branch only the goals count that stand in it."""
         found = [goal for proof in sorted(edit.proofs()) for goal in self.goals.get(proof, [])]
+        if edit.is_branch:
+            found = [goal for goal in found if stands_in(goal, *edit.place())]
         if edit.is_wide and not self.is_proved:
             found += [goal for goals in self.goals.values() for goal in goals]
             found += [line for line in self.lines if ": error" in line]
@@ -75,3 +78,9 @@ class Said:
         if any(edit.is_wide for edit in group):
             return []
         return sorted(proof for proof, goals in self.goals.items() if goals and proof not in planted)
+
+
+def stands_in(goal, file, line, first, last):
+    """Whether what is said of a goal names a place in these columns of a line."""
+    at = OPEN.match(goal)
+    return bool(at) and at[1] == file and int(at[2]) == line and first <= int(at[3]) <= last

@@ -1,8 +1,9 @@
-ghost use Rattle.std.specs.Prelude.{◌≡◌, ◌<◌, length, map, replicate, slice_set};
+ghost use Rattle.std.specs.Prelude.{◌≡◌, ◌<◌, ◌==◌, if◌then◌else◌, length, map, replicate, slice_set, Ok};
 ghost use Rattle.std.specs.List.{range_with_len};
 ghost use Rattle.language_properties.specs.Properties.{formula_of};
-ghost use Rattle.language_properties.specs.Values.{answer, value, values, sum_from};
-ghost use Rattle.language_properties.specs.prover.Deciding.{decides, decided};
+ghost use Rattle.base.specs.Operators.{truth_value};
+ghost use Rattle.language_properties.specs.Values.{answer, of_process, sum_from, truth_of, value, values};
+ghost use Rattle.language_properties.specs.prover.Deciding.{decides, decided, left_decides};
 
 use crate::property::{Junction, Property, Quantifier, Question};
 use crate::visible::Visible;
@@ -33,6 +34,51 @@ fn answer<S: Visible>(state: &S, asked: Question, process: u8) -> u32
     }
 }
 
+// The same of the process of this number, if there is one.
+fn answer_of<S: Visible>(state: &S, asked: Question, process: u32) -> Result<u32, Trap>
+    ensures { result ≡ of_process (S.seen state.now) process (Ok (answer (S.seen state.now) asked process)) }
+{
+    if process < u32::from(state.processes()) {
+        Ok(answer(state, asked, process as u8))
+    } else {
+        Err(Trap::Index)
+    }
+}
+
+// Whether the first of two processes has the older ticket, if there are both.
+fn older_of<S: Visible>(state: &S, first: u32, second: u32) -> Result<u32, Trap>
+    ensures { result ≡ of_process (S.seen state.now) first (of_process (S.seen state.now) second (Ok (truth_value ((S.seen state.now).is_older first second)))) }
+{
+    let n = u32::from(state.processes());
+    if first < n && second < n {
+        Ok(u32::from(state.is_older(first as u8, second as u8)))
+    } else {
+        Err(Trap::Index)
+    }
+}
+
+// Whether the second operand doesn't count.
+fn left_decides(by: Junction, left: u32) -> bool
+    ensures { result ≡ left_decides by left }
+{
+    match by {
+        Junction::And => left == 0,
+        Junction::Or => left != 0,
+    }
+}
+
+fn truth(value: u32) -> u32
+    ensures { truth_of value ≡ Ok result }
+{
+    u32::from(value != 0)
+}
+
+fn negated(value: u32) -> u32
+    ensures { result ≡ (if value == 0 then 1 else 0) }
+{
+    u32::from(value == 0)
+}
+
 // What the processes are that quantifiers go through, where the one of this number goes through another.
 fn with(bound: [u8; MOST_BOUND], number: usize, process: u8) -> [u8; MOST_BOUND]
     ensures { result ≡ slice_set bound number process }
@@ -57,42 +103,26 @@ fn value_in<S: Visible>(
         Property::Bound(number) => Ok(u32::from(bound.get(*number).copied().unwrap_or(0))),
         Property::Of(asked, process) => {
             let process = value_in(state, bound, process)?;
-            if process < u32::from(state.processes()) {
-                Ok(answer(state, *asked, process as u8))
-            } else {
-                Err(Trap::Index)
-            }
+            answer_of(state, *asked, process)
         }
         Property::Older(first, second) => {
             let first = value_in(state, bound, first)?;
             let second = value_in(state, bound, second)?;
-            let n = u32::from(state.processes());
-            if first < n && second < n {
-                Ok(u32::from(state.is_older(first as u8, second as u8)))
-            } else {
-                Err(Trap::Index)
-            }
+            older_of(state, first, second)
         }
         Property::Binary(left, op, right) => {
             let left = value_in(state, bound, left)?;
             let right = value_in(state, bound, right)?;
             op.apply(left, right)
         }
-        Property::Joined(left, Junction::And, right) => {
+        Property::Joined(left, by, right) => {
             let left = value_in(state, bound, left)?;
-            if left == 0 {
-                return Ok(0);
+            if left_decides(*by, left) {
+                return Ok(truth(left));
             }
-            Ok(u32::from(value_in(state, bound, right)? != 0))
+            Ok(truth(value_in(state, bound, right)?))
         }
-        Property::Joined(left, Junction::Or, right) => {
-            let left = value_in(state, bound, left)?;
-            if left != 0 {
-                return Ok(1);
-            }
-            Ok(u32::from(value_in(state, bound, right)? != 0))
-        }
-        Property::Not(body) => Ok(u32::from(value_in(state, bound, body)? == 0)),
+        Property::Not(body) => Ok(negated(value_in(state, bound, body)?)),
         Property::Over(Quantifier::Some, number, body) => decide(state, true, bound, *number, body),
         Property::Over(Quantifier::All, number, body) => decide(state, false, bound, *number, body),
         Property::Over(Quantifier::Sum, number, body) => sum_of(state, bound, *number, body),

@@ -2,28 +2,37 @@
 use Rattle.std.proofs.Common.{◌≡◌, ℕ, true, false, List, [], ◌∷◌, ◌++◌, Some, None, Result, Ok, Err, refl, codes}
 use Rattle.language_properties.specs.Properties.{count}
 use Rattle.language_questions.proofs.Examples.{program, span}
-use Rattle.language_questions.specs.Lines.{Asked, each_from, ended_at, ends_from, listed_from, listed_with, questions_in, with_directive, with_ends, with_line, with_never}
+use Rattle.language_questions.specs.Lines.{Asked, each_from, ended_at, ends_from, expected_from, listed_from, listed_with, questions_in, with_directive, with_ends, with_expected, with_line, with_never}
 use Rattle.language_questions.specs.Reading.{asked_with, brackets_with, level, link_with, named_with, new_name_at, older_with, operand_with, over_with, process_by, process_with, property_with, rest_with, row_at, sign_at, whole_from}
 use Rattle.language_questions.specs.Spelled.{spelled}
 use Rattle.language_questions.specs.Tokens.{short_piece, sign_piece, token_at, token_from}
 use Rattle.language_questions.specs.declared.fault.QuestionFault.{QuestionFault}
 use Rattle.language_questions.specs.declared.fault.QuestionFault.TheVariants as F
 use Rattle.language_questions.specs.declared.questions.Ends.TheVariants as N
+use Rattle.language_questions.specs.declared.questions.Expected.TheVariants as X
 
 abbrev AskInAll : List ℕ → Result Asked QuestionFault → Type 0
 AskInAll text answer = questions_in program text ≡ answer
 
 -- a comment asks nothing, and a question ends at a `#`
-a_property : AskInAll (codes "end # n" ++ 10 ∷ codes " #! never n # so") (Ok (record { never = (count, span 18 19) ∷ []; ends = None }))
+a_property : AskInAll (codes "end # n" ++ 10 ∷ codes " #! never n # so") (Ok (record { never = (count, span 18 19) ∷ []; ends = None; expected = None }))
 unfolding questions_in with_line with_directive with_never with_ends whole_from level property_with rest_with link_with operand_with named_with brackets_with older_with asked_with process_with process_by over_with new_name_at row_at sign_at token_at token_from sign_piece short_piece spelled
 a_property = refl
 
 of_processes :
-    AskInAll (codes "#! ends 2 0") (Ok (record { never = []; ends = Some (N.Each (true ∷ false ∷ true ∷ false ∷ false ∷ false ∷ [])) }))
-    × AskInAll (codes "#! ends all") (Ok (record { never = []; ends = Some N.All }))
-    × AskInAll (codes "#! ends none") (Ok (record { never = []; ends = Some N.Nobody }))
+    AskInAll (codes "#! ends 2 0") (Ok (record { never = []; ends = Some (N.Each (true ∷ false ∷ true ∷ false ∷ false ∷ false ∷ [])); expected = None }))
+    × AskInAll (codes "#! ends all") (Ok (record { never = []; ends = Some N.All; expected = None }))
+    × AskInAll (codes "#! ends none") (Ok (record { never = []; ends = Some N.Nobody; expected = None }))
 unfolding questions_in with_line with_directive with_never with_ends ends_from each_from listed_from listed_with ended_at token_at token_from sign_piece short_piece spelled
 of_processes = (refl, refl, refl)
+
+of_the_file :
+    AskInAll (codes "#! expect stuck # so") (Ok (record { never = []; ends = None; expected = Some X.Stuck }))
+    × AskInAll (codes "#! expect") (Err (F.NotExpected (span 9 9)))
+    × AskInAll (codes "#! expect safe trap") (Err (F.Unexpected (span 15 19)))
+    × AskInAll (codes "#!expect safe" ++ 10 ∷ codes "#!expect safe") (Err (F.ExpectTwice (span 16 22)))
+unfolding questions_in with_line with_directive with_expected expected_from ended_at token_at token_from sign_piece short_piece spelled
+of_the_file = (refl, refl, refl, refl)
 
 faults :
     AskInAll (codes "#! nevr n") (Err (F.NoSuchWord (span 3 7)))

@@ -17,4 +17,6 @@ told (F.TwoMeanings span) r fails other = fails
 told (F.NoSuchProcess span) r fails other = fails
 told (F.NoSuchWord span) r fails other = fails
 told (F.EndsTwice span) r fails other = fails
+told (F.NotExpected span) r fails other = fails
+told (F.ExpectTwice span) r fails other = fails
 told F.NoMemory r fails other = absurd (other refl)

@@ -1,6 +1,7 @@
 -- What the lines of a file ask. A line asks something if its first characters but for blanks are `#!`:
 --
 --     line = "#!" "never" property | "#!" "ends" ( "all" | "none" | number { number } )
+--            | "#!" "expect" ( "safe" | "trap" | "never" | "stuck" )
 use Rattle.std.specs.Prelude.{ℕ, zero, suc, ◌+◌, ◌==◌, nat_eq, nat_lt, Bool, true, false, if◌then◌else◌, is_some, List, [], ◌∷◌, ◌++◌, codes, drop, map, replicate, slice_set, take, Option, Some, None, Result, Ok, Err}
 use Rattle.std.specs.List.{starts_with}
 use Rattle.std.specs.Str.{bytes_eq}
@@ -8,7 +9,7 @@ use Rattle.base.specs.Plain.{Name, WholeProgram}
 use Rattle.base.specs.Refusing.{◌>>=◌}
 use Rattle.base.specs.declared.span.Span.{Span}
 use Rattle.language_properties.specs.Properties.{Formula, formula_of}
-use Rattle.language_questions.specs.Directives.{directives}
+use Rattle.language_questions.specs.Directives.{directives, expectations}
 use Rattle.language_questions.specs.Extents.{end_of}
 use Rattle.language_questions.specs.Reading.{whole_from}
 use Rattle.language_questions.specs.Spelled.{spelled}
@@ -20,21 +21,24 @@ use Rattle.language_questions.specs.declared.fault.QuestionFault.{QuestionFault}
 use Rattle.language_questions.specs.declared.fault.QuestionFault.TheVariants as F
 use Rattle.language_questions.specs.declared.questions.Ends.{Ends}
 use Rattle.language_questions.specs.declared.questions.Ends.TheVariants as N
+use Rattle.language_questions.specs.declared.questions.Expected.{Expected}
 use Rattle.language_questions.specs.declared.questions.Questions.{Questions}
 use Rattle.language_questions.specs.declared.token.Meaning.{Meaning}
 use Rattle.language_questions.specs.declared.token.Meaning.TheVariants as M
 
--- The properties that no state may have, each with where its text stands, and who is asked whether it can still end.
+-- The properties that no state may have, each with where its text stands, who is asked whether it can still end, and
+-- what is expected of the file.
 pub record Asked : Type 0 where
   pub never : List (Formula × Span)
   pub ends : Option Ends
+  pub expected : Option Expected
 
 -- what the code holds of it
 abbrev pub asked_of : Questions → Asked
-asked_of q = record { never = map (λ line. (formula_of line.property, line.span)) q.never.items; ends = q.ends }
+asked_of q = record { never = map (λ line. (formula_of line.property, line.span)) q.never.items; ends = q.ends; expected = q.expected }
 
 abbrev pub no_questions : Asked
-no_questions = record { never = []; ends = None }
+no_questions = record { never = []; ends = None; expected = None }
 
 -- the letters and digits at a place, after blanks
 abbrev pub word_span : List ℕ → ℕ → Span
@@ -42,13 +46,13 @@ word_span text at = record { start = end_of E.Blanks text at; end = end_of E.Wor
 
 -- The text of a line ends where the line does.
 module _ (p : WholeProgram Name) (text : List ℕ) where
-  abbrev pub ended_by : Ends → Meaning → Span → Result Ends QuestionFault
-  ended_by ends M.End span = Ok ends
-  ended_by ends meaning span = Err (wrong meaning span)
+  abbrev pub ended_by : {T : Type 0} → T → Meaning → Span → Result T QuestionFault
+  ended_by said M.End span = Ok said
+  ended_by said meaning span = Err (wrong meaning span)
 
-  -- the end of the question, after what says who is asked
-  unfoldable pub ended_at : Ends → ℕ → Result Ends QuestionFault
-  ended_at ends at = ended_by ends (token_at p text at).meaning (token_at p text at).span
+  -- the end of the question, after what says who is asked, or what is expected
+  unfoldable pub ended_at : {T : Type 0} → T → ℕ → Result T QuestionFault
+  ended_at said at = ended_by said (token_at p text at).meaning (token_at p text at).span
 
   -- who is asked where this token stands after others of these, and `more` goes on after it
   abbrev pub listed_by : (List Bool → ℕ → Result Ends QuestionFault) → List Bool → Meaning → Span → Result Ends QuestionFault
@@ -92,10 +96,25 @@ module _ (p : WholeProgram Name) (text : List ℕ) where
       if is_some asked.ends then Err (F.EndsTwice span)
       else (ends_from span.end >>= λ ends. Ok (record asked { ends = Some ends }))
 
+  abbrev pub expected_by : Option Expected → Span → Result Expected QuestionFault
+  expected_by None span = Err (F.NotExpected span)
+  expected_by (Some expected) span = ended_at expected span.end
+
+  -- what is expected by what stands here
+  unfoldable pub expected_from : ℕ → Result Expected QuestionFault
+  expected_from at = expected_by (spelled expectations (letters_at text (word_span text at))) (word_span text at)
+
+  -- with what is expected by what stands after the word at this span
+  unfoldable pub with_expected : Asked → Span → Result Asked QuestionFault
+  with_expected asked span =
+      if is_some asked.expected then Err (F.ExpectTwice span)
+      else (expected_from span.end >>= λ expected. Ok (record asked { expected = Some expected }))
+
   abbrev pub directed : Option Directive → Asked → Span → Result Asked QuestionFault
   directed None asked span = Err (F.NoSuchWord span)
   directed (Some D.Never) asked span = with_never asked span.end
   directed (Some D.Ends) asked span = with_ends asked span
+  directed (Some D.Expect) asked span = with_expected asked span
 
   -- with what stands after `#!`
   unfoldable pub with_directive : Asked → ℕ → Result Asked QuestionFault

@@ -40,6 +40,12 @@ pub enum QuestionFault {
     /// A second `#! ends`.
     #[error("a line before bytes {0} says what has to end")]
     EndsTwice(Span),
+    /// What stands after `#! expect` is none of its words. The span is empty where it is no word.
+    #[error("nothing is expected by the word at bytes {0}")]
+    NotExpected(Span),
+    /// A second `#! expect`.
+    #[error("a line before bytes {0} says what is expected")]
+    ExpectTwice(Span),
     /// Memory was refused.
     #[error("out of memory")]
     NoMemory,

@@ -1,8 +1,8 @@
 //! `language_questions` reads questions from texts, by the names of an accepted program.
 //!
 //! A question is a property of states, which no state may have. `never_of` reads one; `questions_of` reads those of
-//! the lines of a file that begin with `#!`, and who is asked whether it can still end. `specs/Reading.antt` has the
-//! grammar, as functions of places of the text; they say too which fault a text has first.
+//! the lines of a file that begin with `#!`, who is asked whether it can still end, and what is expected of the file.
+//! `specs/Reading.antt` has the grammar, as functions of places of the text; they say too which fault a text has first.
 //! Start with `never_of`.
 #![tactic(auto)]
 
@@ -22,4 +22,4 @@ pub use fault::QuestionFault;
 pub use language_properties::Property;
 pub use lines::questions_of;
 pub use never::never_of;
-pub use questions::{Ends, NeverLine, Questions};
+pub use questions::{Ends, Expected, NeverLine, Questions};

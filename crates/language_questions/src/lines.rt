@@ -1,15 +1,15 @@
 // What the lines of a file ask.
 ghost use Rattle.std.specs.Prelude.{◌≡◌, ◌≢◌, ◌≤◌, IfErr, IfOk, Ok, Err, length, take};
 ghost use Rattle.base.specs.Refusing.{GivesBut};
-ghost use Rattle.language_questions.specs.Lines.{asked_of, each_from, ended_at, ends_from, listed_from, listed_with, questions_in, with_directive, with_ends, with_line, with_never, word_span};
+ghost use Rattle.language_questions.specs.Lines.{asked_of, each_from, ended_at, ends_from, expected_from, listed_from, listed_with, questions_in, with_directive, with_ends, with_expected, with_line, with_never, word_span};
 ghost use Rattle.language_questions.specs.Reading.{is_memory};
 ghost use Rattle.language_questions.specs.declared.fault.QuestionFault.TheVariants.{NoMemory};
 
 use crate::extents::Extent;
 use crate::fault::QuestionFault;
-use crate::questions::{Ends, NeverLine, Questions};
+use crate::questions::{Ends, Expected, NeverLine, Questions};
 use crate::reader::Reader;
-use crate::spelled::{Directive, directive_of};
+use crate::spelled::{Directive, directive_of, expected_of};
 use crate::token::Meaning;
 use base::set_at;
 use base::span::Span;
@@ -31,6 +31,7 @@ pub fn questions_of(
     let mut found = Questions {
         never: Vec::new(alloc),
         ends: None,
+        expected: None,
     };
     let mut start = 0;
     for (place, byte) in bytes.iter().enumerate() {
@@ -87,6 +88,7 @@ impl Reader<'_> {
             None => Err(QuestionFault::NoSuchWord(span)),
             Some(Directive::Never) => self.never(span.end, found),
             Some(Directive::Ends) => self.ends(span, found),
+            Some(Directive::Expect) => self.expect(span, found),
         }
     }
 
@@ -147,14 +149,41 @@ impl Reader<'_> {
         self.each(at)
     }
 
-    // The end of the question, after what says who is asked.
+    // Adds what is expected by what stands after the word at this span.
+    #[tactic(auto, unfolding(crate::specs::Lines::with_expected))]
+    fn expect(&self, span: Span, found: &mut Questions) -> Result<(), QuestionFault>
+        requires { span.end ≤ length self.now.text.now }
+        ensures { GivesBut is_memory (λ _. asked_of found.new) result (with_expected self.now.program.now self.now.text.now (asked_of found.old) span) }
+    {
+        if found.expected.is_some() {
+            return Err(QuestionFault::ExpectTwice(span));
+        }
+        let expected = self.expected_from(span.end)?;
+        found.expected = Some(expected);
+        Ok(())
+    }
+
+    // What is expected by what stands here.
+    #[tactic(auto, unfolding(crate::specs::Lines::expected_from))]
+    fn expected_from(&self, at: usize) -> Result<Expected, QuestionFault>
+        requires { at ≤ length self.now.text.now }
+        ensures { result ≡ expected_from self.now.program.now self.now.text.now at }
+    {
+        let span = self.word_span(at);
+        match expected_of(&self.text[span.start..span.end]) {
+            None => Err(QuestionFault::NotExpected(span)),
+            Some(expected) => self.ended(expected, span.end),
+        }
+    }
+
+    // The end of the question, after what says who is asked, or what is expected.
     #[tactic(auto, unfolding(crate::specs::Lines::ended_at))]
-    fn ended(&self, ends: Ends, at: usize) -> Result<Ends, QuestionFault>
-        ensures { result ≡ ended_at self.now.program.now self.now.text.now ends at }
+    fn ended<T: Copy>(&self, said: T, at: usize) -> Result<T, QuestionFault>
+        ensures { result ≡ ended_at self.now.program.now self.now.text.now said at }
     {
         let token = self.token(at);
         match token.meaning {
-            Meaning::End => Ok(ends),
+            Meaning::End => Ok(said),
             _ => Err(token.wrong()),
         }
     }

@@ -11,6 +11,19 @@ pub enum Ends {
     Each([bool; 6]),
 }
 
+/// What an author says of a program.
+#[derive(Clone, Copy, PartialEq, Eq)]
+pub enum Expected {
+    /// None of the others.
+    Safe,
+    /// A process traps.
+    Trap,
+    /// A line `#! never` breaks.
+    Never,
+    /// Those asked for don't end.
+    Stuck,
+}
+
 /// A line `#! never`.
 #[derive(Drop)]
 pub struct NeverLine {
@@ -26,4 +39,6 @@ pub struct Questions {
     pub never: Vec<NeverLine>,
     /// The line `#! ends`, if there is one.
     pub ends: Option<Ends>,
+    /// The line `#! expect`, if there is one.
+    pub expected: Option<Expected>,
 }

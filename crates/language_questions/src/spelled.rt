@@ -1,9 +1,10 @@
 ghost use Rattle.std.specs.Prelude.{◌≡◌};
-ghost use Rattle.language_questions.specs.Directives.{directives};
+ghost use Rattle.language_questions.specs.Directives.{directives, expectations};
 ghost use Rattle.language_questions.specs.Signs.{signs};
 ghost use Rattle.language_questions.specs.Spelled.{spelled, spelled_now};
 ghost use Rattle.language_questions.specs.Words.{words};
 
+use crate::questions::Expected;
 use crate::token::{Sign, Word};
 use language_properties::{Junction, Op, Quantifier};
 
@@ -12,6 +13,7 @@ use language_properties::{Junction, Op, Quantifier};
 pub enum Directive {
     Never,
     Ends,
+    Expect,
 }
 
 // Of values beside their spellings, the first that is spelled so.
@@ -32,7 +34,25 @@ fn spelled<T: Copy>(rows: &[(&str, T)], letters: &[u8]) -> Option<T>
 pub fn directive_of(letters: &[u8]) -> Option<Directive>
     ensures { result ≡ spelled directives letters.now }
 {
-    let rows = [("never", Directive::Never), ("ends", Directive::Ends)];
+    let rows = [
+        ("never", Directive::Never),
+        ("ends", Directive::Ends),
+        ("expect", Directive::Expect),
+    ];
+    spelled(&rows, letters)
+}
+
+/// What is expected by this word, if something is.
+#[tactic(auto, unfolding(crate::specs::Spelled::spelled, crate::specs::Spelled::spelled_now))]
+pub fn expected_of(letters: &[u8]) -> Option<Expected>
+    ensures { result ≡ spelled expectations letters.now }
+{
+    let rows = [
+        ("safe", Expected::Safe),
+        ("trap", Expected::Trap),
+        ("never", Expected::Never),
+        ("stuck", Expected::Stuck),
+    ];
     spelled(&rows, letters)
 }
 

@@ -171,6 +171,10 @@ module _ (a : WholeProgram ℕ) (lines : List Formula) where
   pub fault_again : (first second third : List ℕ) → IsFaultOf a lines first second → IsFaultOf a lines second third → IsFaultOf a lines first third
   fault_again first second third f s = record { fault = s.fault; left = left_again third second first s.left f.left }
 
+  pub fault_once_more : {E : Type 0} (first second : List ℕ) (found : Result (Vec ℕ Global) E) → IsFaultOf a lines first second
+      → IfOk found (λ s. IsFaultOf a lines second s.items) → IfOk found (λ s. IsFaultOf a lines first s.items)
+  fault_once_more first second found f = IfOk-weaker found _ _ (λ s. fault_again first second s.items f)
+
   -- of what is left of a schedule
   pub fault_of_left : (first second third : List ℕ) → IsLeft second first → IsFaultOf a lines second third → IsFaultOf a lines first third
   fault_of_left first second third f s = record { fault = s.fault; left = left_again third second first s.left f }

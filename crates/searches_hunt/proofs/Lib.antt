@@ -1,6 +1,5 @@
 mod Runs
 mod Left
-mod Asked
 mod Drawings
 mod Replayed
 mod Told

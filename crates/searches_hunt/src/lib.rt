@@ -34,4 +34,4 @@ pub use never_answer::NeverHunted;
 pub use plan::{Mode, Plan};
 pub use tallying::{Counted, tally};
 pub use tick_merge::RunFault;
-pub use trials::{InTurn, Trials};
+pub use trials::{InTurn, Sought, Trials};

@@ -13,7 +13,7 @@ use crate::drawing::draw;
 use crate::never_answer::NeverHunted;
 use crate::plan::Plan;
 use crate::shrinking::shrink;
-use crate::trials::Trials;
+use crate::trials::{Sought, Trials};
 use crate::tried::Tried;
 use crate::trying::steps_to_fault;
 use base::NoMemory;
@@ -107,7 +107,12 @@ pub fn hunt_by<T: Trials>(
     ensures short { IfOk result (λ h. IfFault h (λ run schedule. length schedule ≤ plan.steps)) }
     ensures nothing { IfOk result (λ h. IfNothing h (NoRunFaults (resolved program.now) (lines_of lines.now) plan from)) }
 {
-    let Some(run) = trials.first_fault(alloc, program, lines, plan, from)? else {
+    let sought = Sought {
+        alloc,
+        program,
+        lines,
+    };
+    let Some(run) = trials.first_fault(sought, plan, from)? else {
         return Ok(NeverHunted::Nothing);
     };
     let Some(steps) = steps_to_fault(alloc, program, lines, plan, run)? else {

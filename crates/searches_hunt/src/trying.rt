@@ -1,13 +1,13 @@
 ghost use Rattle.std.specs.Prelude.{◌≡◌, ◌⊎◌, ◌<◌, ◌++◌, ◌∷◌, [], false, IfOk, MatchOption};
 ghost use Rattle.std.specs.List.{All};
-ghost use Rattle.tick_kinds.specs.Resolution.{resolved};
-ghost use Rattle.tick_source.specs.Source.{source_step};
-ghost use Rattle.searches_explore.specs.Explored.{has_trapped, is_trap};
-ghost use Rattle.searches_explore.specs.Lines.{is_fault, lines_of};
 ghost use Rattle.searches_hunt.specs.Draws.{next_drawing, random_schedule};
 ghost use Rattle.searches_hunt.specs.Never.{IsFaultless};
 ghost use Rattle.searches_hunt.specs.prover.Parts.{IsFaultOf};
 ghost use Rattle.searches_hunt.specs.prover.Tries.{FaultsWithin};
+ghost use Rattle.tick_kinds.specs.Resolution.{resolved};
+ghost use Rattle.tick_source.specs.Source.{source_step};
+ghost use Rattle.searches_explore.specs.Explored.{has_trapped, is_trap};
+ghost use Rattle.searches_explore.specs.Lines.{is_fault, lines_of};
 
 use crate::drawing::Drawing;
 use crate::plan::Plan;

@@ -1,9 +1,6 @@
 use crate::sharing::side_by_side;
-use language_properties::Property;
-use searches_hunt::{NoMemory, Plan, Trials};
-use std::alloc::Global;
+use searches_hunt::{NoMemory, Plan, Sought, Trials};
 use std::thread::{Threads, available_parallelism};
-use tick_kinds::Program;
 
 /// How many runs a thread tries at most before the threads meet.
 const LARGEST_PIECE: u32 = 4096;
@@ -40,14 +37,7 @@ impl<'a, R: Threads> Trials for OnProcessors<'a, R> {
         }
     }
 
-    fn first_fault(
-        &self,
-        alloc: Global,
-        program: &Program,
-        lines: &[Property],
-        plan: Plan,
-        from: u32,
-    ) -> Result<Option<u32>, NoMemory> {
+    fn first_fault(&self, sought: Sought, plan: Plan, from: u32) -> Result<Option<u32>, NoMemory> {
         let threads = u8::max(1, self.jobs);
         let end = from.saturating_add(plan.runs);
         let mut next = from;
@@ -57,7 +47,7 @@ impl<'a, R: Threads> Trials for OnProcessors<'a, R> {
                 runs: u32::min(most, end - next),
                 ..plan
             };
-            let told = side_by_side(self.rt, alloc, program, lines, round, next, threads)?;
+            let told = side_by_side(self.rt, sought, round, next, threads)?;
             if let Some(run) = told {
                 return Ok(Some(run));
             }

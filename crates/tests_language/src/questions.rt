@@ -2,7 +2,7 @@
 
 use base::push_number;
 use language_properties::{Junction, Property, Quantifier, Question};
-use language_questions::{Ends, QuestionFault, Questions, never_of, questions_of};
+use language_questions::{Ends, Expected, QuestionFault, Questions, never_of, questions_of};
 use std::alloc::{AllocError, Global};
 use std::test::Fail;
 use tests_shared::{Checked, holds, is_same, repeated};
@@ -291,8 +291,8 @@ static QUANTIFIERS: [(&str, &str); 2] = [
     ),
 ];
 
-// Files, and what their lines ask: properties with the spans of their texts, and who has to end.
-static FILES: [(&str, &str); 9] = [
+// Files, and what their lines ask: properties with the spans of their texts, who has to end, and what is expected.
+static FILES: [(&str, &str); 13] = [
     ("", "-"),
     ("processes 3; # held[0]\nend #! x\n", "-"),
     ("#! never held[0]\n", "9..16 held[0]; -"),
@@ -308,10 +308,17 @@ static FILES: [(&str, &str); 9] = [
         "#! never all p: held[p]\n#! ends 1",
         "9..23 (all 0: held[#0]); 010000",
     ),
+    ("#! expect safe", "- safe"),
+    (" #!expect trap# so\n#! ends none", "none trap"),
+    (
+        "#! ends 1\n#! expect never\n#! never 1",
+        "35..36 1; 010000 never",
+    ),
+    ("#! expect\tstuck\r\n", "- stuck"),
 ];
 
 // Files with a fault, and what it says.
-static FILE_FAULTS: [(&str, &str); 16] = [
+static FILE_FAULTS: [(&str, &str); 21] = [
     (
         "#! nevr held[0]",
         "no question begins with the word at bytes 3..7",
@@ -358,6 +365,23 @@ static FILE_FAULTS: [(&str, &str); 16] = [
         "#! ends 1\n#! ends ?",
         "a line before bytes 13..17 says what has to end",
     ),
+    (
+        "#! expect Safe",
+        "nothing is expected by the word at bytes 10..14",
+    ),
+    (
+        "#! expect # safe",
+        "nothing is expected by the word at bytes 10..10",
+    ),
+    (
+        "#! expect traps",
+        "nothing is expected by the word at bytes 10..15",
+    ),
+    ("#! expect stuck 0", "no question goes on with bytes 16..17"),
+    (
+        "#! expect safe\n#! expect safe",
+        "a line before bytes 18..24 says what is expected",
+    ),
 ];
 
 fn push_ends(text: &mut String, ends: Option<Ends>) -> Result<(), AllocError> {
@@ -374,6 +398,16 @@ fn push_ends(text: &mut String, ends: Option<Ends>) -> Result<(), AllocError> {
     }
 }
 
+fn expected_text(expected: Option<Expected>) -> &'static str {
+    match expected {
+        None => "",
+        Some(Expected::Safe) => " safe",
+        Some(Expected::Trap) => " trap",
+        Some(Expected::Never) => " never",
+        Some(Expected::Stuck) => " stuck",
+    }
+}
+
 // All that is asked.
 fn push_all(text: &mut String, questions: &Questions) -> Result<(), AllocError> {
     for line in &questions.never {
@@ -384,7 +418,8 @@ fn push_all(text: &mut String, questions: &Questions) -> Result<(), AllocError> 
         push(text, &line.property)?;
         text.push_str("; ")?;
     }
-    push_ends(text, questions.ends)
+    push_ends(text, questions.ends)?;
+    text.push_str(expected_text(questions.expected))
 }
 
 #[test]

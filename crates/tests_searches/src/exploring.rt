@@ -1,4 +1,5 @@
-//! Tests of what a watch is told of an exploration. How many states programs have, and which of them trap,
+//! Tests of limits of memory, and of what a watch is told of an exploration. How many states programs have, and which of them trap,
 //! stands in `answers/states.txt`.
 
+mod memory;
 mod watching;

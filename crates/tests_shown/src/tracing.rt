@@ -4,5 +4,5 @@
 //! Start with `events`.
 
 mod events;
-mod programs;
+pub mod programs;
 mod spots;

@@ -1,4 +1,4 @@
-//! Tests of `HostReader` and `HostWriter`: what no clause says.
+//! Tests of `HostEnd`: what no clause says.
 //!
 //! Words are answered where memory is left. A call of the reader or the writer is one call of the host. Each
 //! kind of error except an interruption ends the program. Start with `ends`, which the other files use.

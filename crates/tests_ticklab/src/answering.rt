@@ -1,13 +1,14 @@
 //! The calls on an input whose file has a fixed name, made once more where memory was refused; and whole
 //! answers.
 use crate::reading::OneFile;
+use searches_explore::Limits;
 use std::alloc::Global;
 use std::str;
 use std::test::Fail;
 use tests_shared::is_same;
 use ticklab_answers::AnswerFault::NoMemory;
 use ticklab_answers::LabFault::Answer;
-use ticklab_answers::{LabFault, Progress, Response, explored, labelled};
+use ticklab_answers::{Form, LabFault, Progress, Response, explored, labelled};
 use ticklab_line::Steps;
 
 pub type Answered = Result<Response, LabFault>;
@@ -18,7 +19,7 @@ static NAME: &str = "a.tick";
 pub fn explored_by<W: Progress>(
     alloc: Global,
     input: &[u8],
-    limit: u32,
+    limits: Limits,
     steps: Steps,
     watch: &mut W,
 ) -> Answered {
@@ -26,8 +27,9 @@ pub fn explored_by<W: Progress>(
         name: NAME,
         bytes: input,
     };
-    match explored(alloc, &mut files, watch, NAME, &[], limit, steps) {
-        Err(Answer(NoMemory)) => explored(alloc, &mut files, watch, NAME, &[], limit, steps),
+    let text = Form::Text;
+    match explored(alloc, &mut files, watch, NAME, &[], limits, steps, text) {
+        Err(Answer(NoMemory)) => explored(alloc, &mut files, watch, NAME, &[], limits, steps, text),
         answered => answered,
     }
 }

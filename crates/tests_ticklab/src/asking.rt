@@ -16,9 +16,11 @@ pub fn words_of(alloc: Global, words: &[&str]) -> Result<Vec<String>, AllocError
 /// What the words ask for, as it is written for people who debug.
 pub fn asked_for(alloc: Global, words: &[&str]) -> Result<String, Fail> {
     let words = words_of(alloc, words)?;
-    match asked(alloc, words.as_slice())? {
+    match asked(alloc, words.as_slice(), "7.1")? {
         Line::Request(request) => Ok(format!(in alloc; "{request:?}")?),
         Line::Schedule(request) => Ok(format!(in alloc; "the schedule of {request:?}")?),
+        Line::Json(request) => Ok(format!(in alloc; "as JSON {request:?}")?),
+        Line::Version(text) => Ok(format!(in alloc; "{text}")?),
         Line::Help(_text) => Ok(String::from_str(alloc, "help")?),
         Line::Refused(text) => Ok(format!(in alloc; "{text}")?),
     }

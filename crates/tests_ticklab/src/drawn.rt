@@ -6,26 +6,30 @@ use std::alloc::{AllocError, Global};
 use std::str;
 use std::test::Fail;
 use tests_shared::{holds, is_same};
-use ticklab_answers::{Response, drawn};
-use ticklab_line::{Drawing, Side};
+use ticklab_answers::{Response, Telling, told};
+use ticklab_line::{AskedRun, Drawing, Side};
 
 static SCHEDULE: &str = "1 0*4 1";
 
 fn drawn_of(alloc: Global, name: &str, bytes: &[u8]) -> Answered {
-    drawn(
+    let run = AskedRun {
+        file: name,
+        schedule: SCHEDULE,
+        never: Vec::new(alloc),
+        side: Side::Program,
+    };
+    let drawing = Drawing {
+        title: None,
+        from: 1,
+        to: 10_000_000,
+        is_shared: false,
+        width: 1_000,
+    };
+    told(
         alloc,
         &mut OneFile { name, bytes },
-        name,
-        SCHEDULE,
-        &[],
-        Side::Program,
-        Drawing {
-            title: None,
-            from: 1,
-            to: 10_000_000,
-            is_shared: false,
-            width: 1_000,
-        },
+        &run,
+        &Telling::Picture(drawing),
     )
 }
 

@@ -12,15 +12,28 @@ use std::process::ExitCode;
 use std::test::Fail;
 use tests_shared::holds;
 use tick_merge::{RunFault, Runner};
-use ticklab_answers::{Files, Host, Progress, ended};
+use ticklab_answers::{Colours, Files, Host, Progress, ended};
+use ticklab_check::Stopwatch;
 
-static FILES: [(&str, &[u8]); 6] = [
+static FILES: [(&str, &[u8]); 8] = [
     ("out", b"processes 1; begin out 7; end"),
     ("trap", b"processes 1; var x; begin x = (1 / 0); end"),
     ("none", b"x"),
     ("twice", b"0*2"),
     ("once", b"0"),
     ("bytes", b"\xff"),
+    ("folder/a.tick", b"processes 1; begin end"),
+    (
+        "folder/b.tick",
+        b"processes 1; var x; begin x = (1 / 0); end\n#! expect trap",
+    ),
+];
+
+// What is in a folder, and what in another.
+static FOLDERS: [(&str, &[&str]); 3] = [
+    ("folder", &["b.tick", "c.tick.old", "a.tick", "tick"]),
+    ("folder/", &["b.tick", "a.tick"]),
+    ("empty", &["c.tick.old"]),
 ];
 
 const INPUT: &[u8] = b"processes 1; begin out 8; end";
@@ -37,6 +50,8 @@ impl Files for Shelf {
 
     ghost ReadsInput = { λ _ _ _ _. Unit {0} };
 
+    ghost Lists = { λ _ _ _ _. Unit {0} };
+
     fn file(&mut self, alloc: Global, name: &str, most: u64) -> io::Result<Vec<u8>> {
         self.files = self.files.saturating_add(1);
         for (held, bytes) in &FILES {
@@ -50,6 +65,36 @@ impl Files for Shelf {
     fn input(&mut self, alloc: Global, most: u64) -> io::Result<Vec<u8>> {
         self.inputs = self.inputs.saturating_add(1);
         first_of(alloc, INPUT, most)
+    }
+
+    fn folder(&mut self, alloc: Global, name: &str) -> io::Result<Option<Vec<String>>> {
+        if name == "away" {
+            return Err(Error::from(ErrorKind::NotFound));
+        }
+        for (folder, entries) in &FOLDERS {
+            if *folder == name {
+                return Ok(Some(names_of(alloc, entries)?));
+            }
+        }
+        Ok(None)
+    }
+}
+
+fn names_of(alloc: Global, entries: &[&str]) -> Result<Vec<String>, AllocError> {
+    let mut names = Vec::new(alloc);
+    for entry in entries {
+        names.push(String::from_str(alloc, entry)?)?;
+    }
+    Ok(names)
+}
+
+/// A clock that stands.
+#[derive(Drop)]
+struct Stopped;
+
+impl Stopwatch for Stopped {
+    fn hundredths(&self) -> u64 {
+        7
     }
 }
 
@@ -100,9 +145,9 @@ impl Runner for NoThreads {
 struct Nobody;
 
 impl Watch for Nobody {
-    ghost hears = { λ _ _ _ _. Unit {0} };
+    ghost hears = { λ _ _ _ _ _. Unit {0} };
 
-    fn seen(&mut self, _states: u32, _gone: u32) {}
+    fn seen(&mut self, _states: u32, _gone: u32, _bytes: u64) {}
 }
 
 impl Progress for Nobody {
@@ -117,12 +162,17 @@ type TestHost = Host<Shelf, Paper, Paper>;
 
 fn host(alloc: Global, is_torn: bool) -> TestHost {
     Host {
+        version: "7.1",
         files: Shelf {
             files: 0,
             inputs: 0,
         },
         out: Paper::new(alloc, is_torn),
         err: Paper::new(alloc, false),
+        colours: Colours {
+            out: false,
+            err: false,
+        },
     }
 }
 
@@ -163,7 +213,20 @@ const TRAPS: &str =
 const TOO_MANY: &str =
     "there are more than 1 merged state: nothing is said of all schedules\ntry a larger --limit, hunt, or fewer processes or rounds\n";
 
-static ROWS: [Row<'static>; 10] = [
+const FOLDER: &str =
+    "folder/a.tick: safe, 2 merged states, 0.00 s\nfolder/b.tick: trap, as expected, 0.00 s\n2 as expected, 0 not, 0 at the limit\n";
+
+const SEVERAL: &str =
+    "out: safe, 2 merged states, 0.00 s\nfolder/a.tick: safe, 2 merged states, 0.00 s\nfolder/b.tick: trap, as expected, 0.00 s\n-: safe, 2 merged states, 0.00 s\n4 as expected, 0 not, 0 at the limit\n";
+
+const NOT_SAFE: &str =
+    "trap: trap, but safe was expected, 0.00 s\n0 as expected, 1 not, 0 at the limit\n";
+
+const MORE: &str =
+    "out: limit, more than 1 merged state, 0.00 s\n0 as expected, 0 not, 1 at the limit\n";
+
+static ROWS: [Row<'static>; 15] = [
+    ("--version", false, 0, Ok("ticklab 7.1\n"), (0, 0)),
     ("explore out", false, 0, Ok(NO_TRAP), (1, 0)),
     ("trace out 0", false, 0, Ok(OUT_7), (1, 0)),
     ("trace out @once", false, 0, Ok(OUT_7), (2, 0)),
@@ -174,17 +237,34 @@ static ROWS: [Row<'static>; 10] = [
     ("hunt out --threads 1 5", false, 4, Err(NO_THREAD), (1, 0)),
     ("explore trap", false, 5, Ok(TRAPS), (1, 0)),
     ("explore out --limit 1", false, 6, Ok(TOO_MANY), (1, 0)),
+    ("check folder", false, 0, Ok(FOLDER), (2, 0)),
+    ("check out folder/ -", false, 0, Ok(SEVERAL), (3, 1)),
+    ("check trap --jobs 2", false, 5, Ok(NOT_SAFE), (1, 0)),
+    ("check --limit=1 out", false, 6, Ok(MORE), (1, 0)),
 ];
 
 // Of rows that end with 3: the words, whether standard output fails, what is told behind the program's name,
 // and how often a file is read.
-static FAILING: [(&str, bool, &str, u32); 6] = [
+static FAILING: [(&str, bool, &str, u32); 9] = [
     ("explore away", false, "away: entity not found", 1),
     // an empty word
     ("explore ", false, ": entity not found", 1),
     ("trace out @away", false, "away: entity not found", 2),
     ("trace out @bytes", false, "bytes: no UTF-8", 2),
     ("trace out 0", true, "broken pipe", 1),
+    ("check out away", false, "away: entity not found", 0),
+    (
+        "check empty",
+        false,
+        "empty: there is no .tick file in this folder",
+        0,
+    ),
+    (
+        "check trap folder/c.tick",
+        false,
+        "folder/c.tick: entity not found",
+        2,
+    ),
     ("--help", true, "broken pipe", 0),
 ];
 
@@ -206,6 +286,9 @@ fn ends_so(alloc: Global, row: &Row<'_>) -> Result<(), Fail> {
         &mut host,
         &mut NoThreads,
         &InTurn,
+        &ticklab_check::InTurn {
+            stopwatch: &Stopped,
+        },
         &mut Nobody,
         Ok(given),
     );
@@ -237,6 +320,9 @@ fn no_words(rt: HostRuntime) -> Result<(), Fail> {
         &mut host,
         &mut NoThreads,
         &InTurn,
+        &ticklab_check::InTurn {
+            stopwatch: &Stopped,
+        },
         &mut Nobody,
         none,
     );

@@ -16,6 +16,8 @@ impl<'a> Files for OneFile<'a> {
 
     ghost ReadsInput = { λ _ _ _ _. Unit {0} };
 
+    ghost Lists = { λ _ _ _ _. Unit {0} };
+
     fn file(&mut self, alloc: Global, name: &str, most: u64) -> io::Result<Vec<u8>> {
         if name != self.name {
             return Err(Error::from(ErrorKind::NotFound));
@@ -25,6 +27,10 @@ impl<'a> Files for OneFile<'a> {
 
     fn input(&mut self, _alloc: Global, _most: u64) -> io::Result<Vec<u8>> {
         Err(Error::from(ErrorKind::NotFound))
+    }
+
+    fn folder(&mut self, _alloc: Global, _name: &str) -> io::Result<Option<Vec<String>>> {
+        Ok(None)
     }
 }
 

@@ -1,6 +1,6 @@
 //! What a watch is told of a search, and that it changes no answer.
 use crate::answering::{explored_by, is_answer};
-use searches_explore::Watch;
+use searches_explore::{Limits, Watch};
 use std::alloc::Global;
 use std::test::Fail;
 use tests_shared::is_same;
@@ -37,11 +37,12 @@ impl Notes {
 }
 
 impl Watch for Notes {
-    ghost hears = { λ before states gone after. Unit {0} };
+    ghost hears = { λ before states gone bytes after. Unit {0} };
 
-    fn seen(&mut self, states: u32, gone: u32) {
+    fn seen(&mut self, states: u32, gone: u32, bytes: u64) {
         self.times = self.times.saturating_add(1);
-        self.is_more = self.is_more && states > self.states && gone > self.gone && states >= gone;
+        let is_more = states >= self.states && gone >= self.gone && states >= gone;
+        self.is_more = self.is_more && is_more && bytes >= u64::from(states) * 4;
         self.states = states;
         self.gone = gone;
     }
@@ -95,6 +96,11 @@ begin
 end
 ";
 
+const LIMITS: Limits = Limits {
+    states: 1_000_000,
+    bytes: 1_000_000_000,
+};
+
 const NO_TRAP: &str = "no process traps under any schedule";
 
 // Of a search by single steps, by merged ones, or by both: the input, the first line up to the number of states, which
@@ -107,37 +113,37 @@ static ROWS: [Row; 5] = [
         Steps::Single,
         "132651 states",
         (0, 1),
-        (2, 131_072),
+        (3, 132_651),
     ),
     // all its steps are private
-    (COUNTING, Steps::Merged, "8 merged states", (1, 0), (0, 0)),
+    (COUNTING, Steps::Merged, "8 merged states", (1, 0), (1, 8)),
     (
         COUNTING,
         Steps::MergedFirst,
         "8 merged states",
         (1, 0),
-        (0, 0),
+        (1, 8),
     ),
     (
         CLEARING,
         Steps::Merged,
         "74088 merged states",
         (1, 0),
-        (1, 65_536),
+        (2, 74_088),
     ),
     (
         CLEARING,
         Steps::MergedFirst,
         "74088 merged states",
         (1, 0),
-        (1, 65_536),
+        (2, 74_088),
     ),
 ];
 
 fn tells(alloc: Global, row: &Row) -> Result<(), Fail> {
     let (text, steps, states, begun, told) = *row;
     let mut notes = Notes::new();
-    let answered = explored_by(alloc, text.as_bytes(), 1_000_000, steps, &mut notes);
+    let answered = explored_by(alloc, text.as_bytes(), LIMITS, steps, &mut notes);
     is_answer(
         answered,
         0,
@@ -161,7 +167,7 @@ fn each_65536_states(rt: HostRuntime) -> Result<(), Fail> {
 fn both_searches(rt: HostRuntime) -> Result<(), Fail> {
     let (alloc, input) = (rt.alloc(), TRAPPING.as_bytes());
     let mut notes = Notes::new();
-    let answered = explored_by(alloc, input, 1_000_000, Steps::MergedFirst, &mut notes)?;
+    let answered = explored_by(alloc, input, LIMITS, Steps::MergedFirst, &mut notes)?;
     is_same(&answered.status, &5)?;
     is_same(&(notes.merged, notes.single), &(1, 1))?;
     is_same(&(notes.gone > 0 && notes.is_more), &true)

@@ -2,7 +2,7 @@
 
 ghost use Rattle.std.specs.Prelude.{◌≡◌, ◌≤◌, ◌<◌, ◌+◌, ◌++◌, ◌∷◌, [], IfOk, length, map, vec_len, vec_items, vec_capacity};
 ghost use Rattle.tick_run.specs.prover.Turns.{IsFor};
-ghost use Rattle.tick_run.specs.prover.Work.{AreReady, CanWork, Gathers, IsWork};
+ghost use Rattle.tick_run.specs.prover.Work.{CanStart, CanWork, Gathers, IsWork};
 
 use crate::gate::Gate;
 use crate::jobs::{Job, Limits};
@@ -59,20 +59,14 @@ pub fn run_all<G: Gate + Send, R: Threads + Wait>(
     jobs: Vec<Job<G>>,
     none: Gathered,
 ) -> Result<Gathered, RunFault>
-    requires fits { IsFor table.now code.now }
-    requires ready { AreReady table.now code.now limits.turns limits.outs jobs.items }
-    requires none { Gathers table.now code.now limits.turns limits.outs 0 none.passes.items (map (λ values. values.items) none.outputs.items) none.ends.items }
-    requires room { (vec_len jobs ≤ vec_capacity none.passes) × (vec_len jobs ≤ vec_capacity none.outputs) × (vec_len jobs ≤ vec_capacity none.ends) }
+    requires start { CanStart table.now code.now limits.turns limits.outs jobs none }
     ensures { IfOk result (λ all. Gathers table.now code.now limits.turns limits.outs (vec_len jobs) all.passes.items (map (λ values. values.items) all.outputs.items) all.ends.items) }
 {
     thread::scope(
         thread::scope_env(),
         rt,
         |scope| -> Result<Gathered, RunFault>
-            requires fits { IsFor table.now code.now }
-            requires ready { AreReady table.now code.now limits.turns limits.outs jobs.items }
-            requires none { Gathers table.now code.now limits.turns limits.outs 0 none.passes.items (map (λ values. values.items) none.outputs.items) none.ends.items }
-            requires room { (vec_len jobs ≤ vec_capacity none.passes) × (vec_len jobs ≤ vec_capacity none.outputs) × (vec_len jobs ≤ vec_capacity none.ends) }
+            requires start { CanStart table.now code.now limits.turns limits.outs jobs none }
             ensures { IfOk result (λ all. Gathers table.entry.now code.entry.now limits.turns limits.outs (vec_len jobs) all.passes.items (map (λ values. values.items) all.outputs.items) all.ends.items) }
         { run_jobs(rt, scope, table, code, limits, jobs, none) },
     )
@@ -89,10 +83,7 @@ fn run_jobs<'s, 'e, G: Gate + Send + 's, R: Threads>(
     mut jobs: Vec<Job<G>>,
     none: Gathered,
 ) -> Result<Gathered, RunFault>
-    requires fits { IsFor table.now code.now }
-    requires ready { AreReady table.now code.now limits.turns limits.outs jobs.items }
-    requires none { Gathers table.now code.now limits.turns limits.outs 0 none.passes.items (map (λ values. values.items) none.outputs.items) none.ends.items }
-    requires room { (vec_len jobs ≤ vec_capacity none.passes) × (vec_len jobs ≤ vec_capacity none.outputs) × (vec_len jobs ≤ vec_capacity none.ends) }
+    requires start { CanStart table.now code.now limits.turns limits.outs jobs none }
     ensures gathers { IfOk result (λ all. Gathers table.now code.now limits.turns limits.outs (vec_len jobs) all.passes.items (map (λ values. values.items) all.outputs.items) all.ends.items) }
     ensures room { IfOk result (λ all. (vec_capacity all.passes ≡ vec_capacity none.passes) × (vec_capacity all.outputs ≡ vec_capacity none.outputs) × (vec_capacity all.ends ≡ vec_capacity none.ends)) }
 {

@@ -8,14 +8,14 @@ use std::env::args;
 use std::process::ExitCode;
 use tick_run::OnThreads;
 use ticketc_answers::ended;
-use ticketc_io::{HostReader, HostWriter};
+use ticketc_io::HostEnd;
 
 fn main(rt: HostRuntime) -> ExitCode {
     ended(
         rt.alloc(),
         OnThreads::new(&rt),
         args(&rt),
-        &mut HostReader::new(rt.stdin()),
-        &mut HostWriter::new(rt.stdout()),
+        &mut HostEnd::new(rt.stdin()),
+        &mut HostEnd::new(rt.stdout()),
     )
 }

@@ -9,73 +9,53 @@ use crate::transfer::Transfer;
 use std::io;
 use std::io::{ErrorKind, Read, Write};
 
-/// A reader as an input.
+/// A reader of the standard library as an input, or a writer as an output.
 #[derive(Drop)]
-pub struct HostReader<R> {
-    reader: R,
+pub struct HostEnd<T> {
+    end: T,
     counts: Counts,
 }
 
-impl<R: Read> HostReader<R> {
-    /// An input over a reader that no call was made of.
-    pub fn new(reader: R) -> HostReader<R>
-        ensures reader { result.reader ≡ reader }
+impl<T> HostEnd<T> {
+    /// An end over a reader or a writer that no call was made of.
+    pub fn new(end: T) -> HostEnd<T>
+        ensures end { result.end ≡ end }
         ensures counts { result.counts ≡ record { calls = 0; failures = 0; interruptions = 0; ends = 0; last = None } }
     {
-        HostReader {
-            reader,
+        HostEnd {
+            end,
             counts: Counts::new(),
         }
     }
 }
 
-impl<R: Read> ByteSource for HostReader<R> {
-    ghost remaining = { λ s. R.remaining s.reader };
+impl<R: Read> ByteSource for HostEnd<R> {
+    ghost remaining = { λ s. R.remaining s.end };
 
     ghost counts = { λ s. s.counts };
 
     fn read(&mut self, buffer: &mut [u8]) -> Transfer
-        ensures bytes { ReadGives (R.remaining self.old.reader) (R.remaining self.new.reader) result buffer.new }
+        ensures bytes { ReadGives (R.remaining self.old.end) (R.remaining self.new.end) result buffer.new }
         ensures counted { self.new.counts ≡ after_read result self.old.counts }
-        ensures once { IsReadOnce (R.remaining self.old.reader) (R.remaining self.new.reader) result buffer.new }
+        ensures once { IsReadOnce (R.remaining self.old.end) (R.remaining self.new.end) result buffer.new }
     {
-        let transfer = transfer_of(self.reader.read(buffer));
+        let transfer = transfer_of(self.end.read(buffer));
         self.counts.count_read(transfer);
         transfer
     }
 }
 
-/// A writer as an output.
-#[derive(Drop)]
-pub struct HostWriter<W> {
-    writer: W,
-    counts: Counts,
-}
-
-impl<W: Write> HostWriter<W> {
-    /// An output over a writer that no call was made of.
-    pub fn new(writer: W) -> HostWriter<W>
-        ensures writer { result.writer ≡ writer }
-        ensures counts { result.counts ≡ record { calls = 0; failures = 0; interruptions = 0; ends = 0; last = None } }
-    {
-        HostWriter {
-            writer,
-            counts: Counts::new(),
-        }
-    }
-}
-
-impl<W: Write> ByteSink for HostWriter<W> {
-    ghost written = { λ s. W.contents s.writer };
+impl<W: Write> ByteSink for HostEnd<W> {
+    ghost written = { λ s. W.contents s.end };
 
     ghost counts = { λ s. s.counts };
 
     fn write(&mut self, bytes: &[u8]) -> Transfer
-        ensures bytes { WriteTakes (W.contents self.old.writer) (W.contents self.new.writer) result bytes.now }
+        ensures bytes { WriteTakes (W.contents self.old.end) (W.contents self.new.end) result bytes.now }
         ensures counted { self.new.counts ≡ after_write result bytes.now self.old.counts }
-        ensures once { IsWrittenOnce (W.contents self.old.writer) (W.contents self.new.writer) result bytes.now }
+        ensures once { IsWrittenOnce (W.contents self.old.end) (W.contents self.new.end) result bytes.now }
     {
-        let transfer = transfer_of(self.writer.write(bytes));
+        let transfer = transfer_of(self.end.write(bytes));
         self.counts.count_write(transfer, bytes);
         transfer
     }

@@ -66,19 +66,10 @@ fn with<'a>(
 ) -> Result<Line<'a>, AllocError>
     ensures { (app : App) (shape : Shape) → IsLine app line.entry → IsPart shape more.entry → IsLine (with_subcommand app shape) result }
 {
-    let (line, more) = both(line, more)?;
-    line.subcommand(more)
-}
-
-// Both, where both are there. (Whatever may fail where it owns a `Line` takes long to prove: this may, and owns
-// none.)
-fn both<A: Drop, B: Drop>(
-    first: Result<A, AllocError>,
-    second: Result<B, AllocError>,
-) -> Result<(A, B), AllocError>
-    ensures { IfOk result (λ pair. (first ≡ Ok pair.0) × (second ≡ Ok pair.1)) }
-{
-    Ok((first?, second?))
+    match (line, more) {
+        (Ok(line), Ok(more)) => line.subcommand(more),
+        (Err(error), _) | (_, Err(error)) => Err(error),
+    }
 }
 
 fn wanting_one<'a>(alloc: Global) -> Line<'a>

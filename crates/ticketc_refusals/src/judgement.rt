@@ -114,7 +114,10 @@ pub fn code_in(alloc: Global, input: &[u8]) -> Result<Result<Code, Refusal>, NoM
     };
     match read_code(alloc, text) {
         Ok(code) => Ok(Ok(code)),
-        Err(fault) => Ok(Err(of_code(fault)?)),
+        Err(fault) => match fault {
+            CodeFault::NoMemory => Err(NoMemory),
+            fault => Ok(Err(Refusal::Code(fault))),
+        },
     }
 }
 
@@ -125,30 +128,15 @@ pub fn code_refusal(alloc: Global, input: &[u8]) -> Result<Option<Refusal>, NoMe
     Ok(code_in(alloc, input)?.err())
 }
 
-fn of_code(fault: CodeFault) -> Result<Refusal, NoMemory>
-    ensures { IfOk result (λ refusal. (fault ≢ CodeFault.NoMemory) × (refusal ≡ Refusal.Code fault)) }
-{
-    match fault {
-        CodeFault::NoMemory => Err(NoMemory),
-        fault => Ok(Refusal::Code(fault)),
-    }
-}
-
 /// Why a text is no schedule of so many processes, where it is none.
 pub fn schedule_refusal(alloc: Global, text: &str, n: u8) -> Result<Option<Refusal>, NoMemory>
     ensures { IfOk result (λ found. MatchOption found ((steps : List ℕ) × (schedule_of n text.now ≡ Ok steps)) (IsScheduleRefused n text.now)) }
 {
     match read_schedule(alloc, text, n) {
         Ok(_steps) => Ok(None),
-        Err(fault) => Ok(Some(of_schedule(fault)?)),
-    }
-}
-
-fn of_schedule(fault: ScheduleFault) -> Result<Refusal, NoMemory>
-    ensures { IfOk result (λ refusal. (fault ≢ ScheduleFault.NoMemory) × (refusal ≡ Refusal.Schedule fault)) }
-{
-    match fault {
-        ScheduleFault::NoMemory => Err(NoMemory),
-        fault => Ok(Refusal::Schedule(fault)),
+        Err(fault) => match fault {
+            ScheduleFault::NoMemory => Err(NoMemory),
+            fault => Ok(Some(Refusal::Schedule(fault))),
+        },
     }
 }

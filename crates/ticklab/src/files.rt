@@ -1,10 +1,10 @@
-//! The files of the host, and standard input.
+//! The files and folders of the host, and standard input.
 ghost use Rattle.std.specs.Prelude.{◌≡◌, IfOk, IfSome, take};
 
 use std::alloc::Global;
 use std::fs::File;
-use std::io;
 use std::io::Read;
+use std::{fs, io};
 use ticklab_answers::Files;
 
 /// Files by their names, as the host has them.
@@ -27,12 +27,26 @@ impl<'a> Files for HostFiles<'a> {
 
     ghost ReadsInput = { λ _ _ _ _. Unit {0} };
 
+    ghost Lists = { λ _ _ _ _. Unit {0} };
+
     fn file(&mut self, alloc: Global, name: &str, most: u64) -> io::Result<Vec<u8>> {
         first_bytes(alloc, File::open(self.rt, name)?, most)
     }
 
     fn input(&mut self, alloc: Global, most: u64) -> io::Result<Vec<u8>> {
         first_bytes(alloc, self.rt.stdin(), most)
+    }
+
+    fn folder(&mut self, alloc: Global, name: &str) -> io::Result<Option<Vec<String>>> {
+        if !fs::metadata(self.rt, name)?.is_dir() {
+            return Ok(None);
+        }
+        let mut names = Vec::new(alloc);
+        for entry in fs::read_dir(self.rt, name)? {
+            let entry = entry?;
+            names.push(String::from_str(alloc, entry.file_name())?)?;
+        }
+        Ok(Some(names))
     }
 }
 

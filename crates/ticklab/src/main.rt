@@ -1,15 +1,21 @@
 //! `ticklab` shows what a ticket program does: under every schedule, under random ones, and step by step.
 //!
-//! There is only `main`, with the files of the host and the line that tells how far a search is. `main` calls
-//! `ended` of `ticklab_answers`, which does everything else.
+//! There is only `main`, with its version, the files of the host, whether it has colours, the line that tells how far a
+//! search is, and the threads and the clock of `check`. `main` calls `ended` of `ticklab_answers`, which does everything else.
 //! Start with `ended` of `ticklab_answers`.
 #![tactic(auto)]
 
+mod checking;
+mod colours;
 mod files;
 mod progress;
+mod version;
 
+use crate::checking::SideBySide;
+use crate::colours::colours_of;
 use crate::files::HostFiles;
 use crate::progress::HostProgress;
+use crate::version::VERSION;
 use searches_parallel::OnProcessors;
 use std::env::args;
 use std::process::ExitCode;
@@ -20,12 +26,15 @@ fn main(rt: HostRuntime) -> ExitCode {
     ended(
         rt.alloc(),
         &mut Host {
+            version: VERSION,
             files: HostFiles::new(&rt),
             out: rt.stdout(),
             err: rt.stderr(),
+            colours: colours_of(&rt),
         },
         &mut OnThreads::new(&rt),
         &OnProcessors::new(&rt),
+        &SideBySide::new(&rt, &rt),
         &mut HostProgress::new(&rt),
         args(&rt),
     )

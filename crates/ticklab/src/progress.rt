@@ -3,6 +3,7 @@ ghost use Rattle.std.specs.Prelude.{◌≡◌, false};
 
 use searches_explore::Watch;
 use std::io::IsTerminal;
+use std::time::Instant;
 use ticklab_answers::Progress;
 
 /// A line that is written over while a search goes on.
@@ -12,6 +13,8 @@ pub struct HostProgress<'a> {
     is_told: bool,
     /// The search is by merged steps.
     is_merged: bool,
+    /// When it began, where the clock says so.
+    since: Option<Instant>,
 }
 
 impl<'a> HostProgress<'a> {
@@ -22,21 +25,34 @@ impl<'a> HostProgress<'a> {
             rt,
             is_told: false,
             is_merged: false,
+            since: None,
         }
+    }
+
+    // How many states are seen a second, where the clock says so.
+    fn rate(&self, states: u32) -> Option<u64> {
+        let taken = self.since?.elapsed(self.rt).ok()?;
+        let millis = u64::try_from(taken.as_millis()).ok()?;
+        Some(u64::from(states) * 1000 / millis.max(1))
     }
 }
 
 impl<'a> Watch for HostProgress<'a> {
-    ghost hears = { λ before states gone after. Unit {0} };
+    ghost hears = { λ before states gone bytes after. Unit {0} };
 
-    fn seen(&mut self, states: u32, gone: u32) {
+    fn seen(&mut self, states: u32, gone: u32, bytes: u64) {
         if self.rt.stderr().is_terminal() {
             self.is_told = true;
             let steps = if self.is_merged { "merged" } else { "single" };
             let open = states.saturating_sub(gone);
+            let megabytes = bytes / 1_000_000;
+            let each = bytes / u64::from(states.max(1));
             let _written = eprint!(self.rt;
-                "\rticklab: {steps} steps: {states} states seen, {open} not yet gone on from          "
+                "\rticklab: {steps}: {states} states, {open} open, {megabytes} MB, {each} bytes each"
             );
+            if let Some(rate) = self.rate(states) {
+                let _written = eprint!(self.rt; ", {rate} a second   ");
+            }
         }
     }
 }
@@ -49,6 +65,7 @@ impl<'a> Progress for HostProgress<'a> {
         self.end();
         self.is_told = false;
         self.is_merged = is_merged;
+        self.since = Instant::now(self.rt).ok();
     }
 
     // Leaves the line, if there is one.

@@ -1,6 +1,6 @@
 -- A run that is followed step by step until a line first is broken, and the lines of a state one by one until one is.
-use Rattle.std.proofs.Common.{◌≡◌, ◌∙◌, ◌<◌, ◌≤◌, ◌+◌, ℕ, Bool, false, List, [], ◌∷◌, ◌++◌, length, get_or, map, take, refl, ap, sym, subst, arith, inl, inr, Option, Some, MatchOption, Result, Ok, Err, IfOk}
-use Rattle.std.specs.Prelude.{◌||◌, slice_get}
+use Rattle.std.proofs.Common.{◌≡◌, ◌∙◌, ◌<◌, ◌≤◌, ◌+◌, ℕ, Bool, false, List, [], ◌∷◌, ◌++◌, length, get_or, map, take, refl, ap, sym, subst, arith, inl, inr, Option, Some, MatchOption, Result, Ok, Err, IfOk, true≢false}
+use Rattle.std.specs.Prelude.{◌||◌, is_some, slice_get, unwrap_or}
 use Rattle.std.specs.List.{list_any}
 use Rattle.std.proofs.lemmas.Bool.{cases_lt}
 use Rattle.std.proofs.lemmas.List.{get_or-map, length-map, take_more}
@@ -11,7 +11,8 @@ use Rattle.language_properties.specs.declared.property.Property.{Property}
 use Rattle.language_properties.specs.Properties.{Formula, formula_of}
 use Rattle.searches_explore.specs.Lines.{IsFirstBroken, breaks, lines_of}
 use Rattle.tick_source.specs.Source.{SourceState, source, source_run, source_start, source_step}
-use Rattle.ticklab_answers.specs.Breaking.{IsFirstBreak, NeverBreaks}
+use Rattle.ticklab_answers.specs.Asking.{TextPlace}
+use Rattle.ticklab_answers.specs.Breaking.{BrokenAt, IsFirstAt, IsFirstBreak, NeverBreaks, breaking, unbroken}
 use Rattle.ticklab_answers.specs.declared.breaking.Break.{Break}
 
 -- what is held at an index, in whatever form the definitions have it
@@ -33,6 +34,18 @@ pub placed : {Y : Type 0} (a : WholeProgram ℕ) (lines : List Property) (places
     → IsFirstBreak a (lines_of lines) schedule b → length lines ≡ length places → b.line < length places
 placed a lines places schedule b first as_many =
     omega (arith, as_many, length-map lines formula_of, slice_get_within (lines_of lines) b.line first.broken.formula first.broken.there)
+
+-- what was found has a place, and comes after no more steps than there are
+module _ (a : WholeProgram ℕ) (lines : List Formula) (places : List TextPlace) (schedule : List ℕ) where
+  pub line_within : (found : BrokenAt) → IsFirstAt a lines places schedule (Some found) → found.broken.line < length places
+  line_within found (unbroken never none) = absurd (true≢false (ap is_some none))
+  line_within found (breaking b first place there same) =
+      subst (λ (f : BrokenAt). f.broken.line < length places) (sym (ap (λ o. unwrap_or o found) same)) (slice_get_within places b.line place there)
+
+  pub steps_within : (found : BrokenAt) → IsFirstAt a lines places schedule (Some found) → found.broken.steps ≤ length schedule
+  steps_within found (unbroken never none) = absurd (true≢false (ap is_some none))
+  steps_within found (breaking b first place there same) =
+      subst (λ (f : BrokenAt). f.broken.steps ≤ length schedule) (sym (ap (λ o. unwrap_or o found) same)) first.within
 
 pub then_ok : {T E : Type 0} {P Q : T → Type 0} (r : Result T E) → ((x : T) → P x → Q x) → IfOk r P → IfOk r Q
 then_ok (Ok x) f held = f x held

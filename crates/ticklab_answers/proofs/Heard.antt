@@ -2,6 +2,7 @@
 use Rattle.std.proofs.Common.{◌≡◌, ◌++◌, ℕ, Bool, List, [], ◌∷◌, map, refl, subst, sym}
 use Rattle.base.specs.Plain.{WholeProgram}
 use Rattle.language_properties.specs.declared.property.Property.{Property}
+use Rattle.searches_states.specs.declared.limits.Limits.{Limits}
 use Rattle.searches_states.specs.Watching.{Told, IsWatched}
 use Rattle.searches_states.specs.Watching as watching
 use Rattle.searches_explore.specs.Lines.{lines_of}
@@ -13,16 +14,16 @@ use Rattle.ticklab_answers.specs.Responses.{Refuses}
 use Rattle.ticklab_answers.specs.declared.response.Response.{Response}
 use Rattle.ticklab_answers.specs.prover.Searches.{AreHeardFor}
 
-module _ {W : Type 0} (begins : W → Bool → W → Type 0) (sees : W → ℕ → ℕ → W → Type 0) where
+module _ {W : Type 0} (begins : W → Bool → W → Type 0) (sees : W → ℕ → ℕ → ℕ → W → Type 0) where
   seen_all : (before after : W) (told : List Told) → watching.Hears sees before told after
       → Hears (hearing begins sees) before (map seen told) after
   seen_all before after [] is = is
   seen_all before after (one ∷ told) (between, first, rest) = (between, first, seen_all between after told rest)
 
   -- a search that began, by steps of this kind
-  pub began : (before between after : W) (m n : Bool) → n ≡ m → (a : WholeProgram ℕ) (lines : List Property) (e : NeverExplored)
-      → begins before n between → IsWatched sees between after (AreToldFor (SeesBy m a (lines_of lines)) e) → IsHeard (hearing begins sees) before after (AreHeardFor m a lines e)
-  began before between after m n same a lines e first watched = record {
+  pub began : (before between after : W) (m n : Bool) → n ≡ m → (a : WholeProgram ℕ) (lines : List Property) (limits : Limits) (e : NeverExplored)
+      → begins before n between → IsWatched sees between after (AreToldFor a (SeesBy m a (lines_of lines)) limits e) → IsHeard (hearing begins sees) before after (AreHeardFor m a lines limits e)
+  began before between after m n same a lines limits e first watched = record {
     heard = begun m ∷ map seen watched.told;
     is = (between, subst (λ (k : Bool). begins before k between) same first, seen_all between after watched.told watched.heard);
     lawful = record { told = watched.told; are = watched.lawful; whole = refl };

@@ -13,13 +13,15 @@ use Rattle.searches_hunt.specs.declared.never_answer.NeverHunted.TheVariants.{Tr
 use Rattle.searches_hunt.specs.declared.plan.Plan.{Plan}
 use Rattle.ticklab_answers.specs.Asking.{AsksNever, TextPlace, places_by}
 use Rattle.ticklab_answers.specs.Hunting.{IsHunted, broken, nothing, trapped}
-use Rattle.ticklab_answers.specs.Lines.{minimal_break_line}
-use Rattle.ticklab_answers.specs.Shown.{ShowsBroken, ShowsHunt, ShowsNothing}
+use Rattle.ticklab_answers.specs.Shown.{ShowsEmptyHunt, ShowsHunt, ShowsHuntBroken}
+use Rattle.ticklab_answers.specs.declared.form.Form.{Form}
+use Rattle.ticklab_answers.specs.Sought.{sought_of}
 use Rattle.ticklab_answers.specs.declared.response.Response.{Response}
 use Rattle.ticklab_answers.proofs.NeverLines.{line_within}
+use Rattle.ticklab_answers.proofs.Placed.{placed}
 
 -- with what must never hold of the program of an input
-pub hunted_by : (name : List ℕ) (texts : List (List ℕ)) (plan : Plan) (from : ℕ) (input : List ℕ) (asks : AsksNever texts input) (places : List TextPlace)
+pub hunted_by : (name : List ℕ) (texts : List (List ℕ)) (form : Form) (plan : Plan) (from : ℕ) (input : List ℕ) (asks : AsksNever texts input) (places : List TextPlace)
     → places ≡ places_by name input asks.file.asked texts → length places ≡ length asks.lines → (h : NeverHunted) (x : Response)
     → IfFault h (λ run schedule. IsFirstFault (resolved asks.file.program) asks.lines plan from run)
     → IfTrapped h (IsMinimalTrapped (resolved asks.file.program) asks.lines)
@@ -27,14 +29,14 @@ pub hunted_by : (name : List ℕ) (texts : List (List ℕ)) (plan : Plan) (from 
     → IfFault h (λ run schedule. IsPartOf schedule (random_schedule plan (resolved asks.file.program).processes run))
     → IfFault h (λ run schedule. length schedule ≤ plan.steps)
     → IfNothing h (NoRunFaults (resolved asks.file.program) asks.lines plan from)
-    → ShowsHunt input asks.file.program places plan from h x → IsHunted name texts plan from input x
-hunted_by name texts plan from input asks places same many (Trapped run s) x first traps breaks part short none shows =
+    → ShowsHunt (placed (sought_of name texts form input asks) places) plan from h x → IsHunted name texts plan from form input x
+hunted_by name texts form plan from input asks places same many (Trapped run s) x first traps breaks part short none shows =
     trapped asks run s.items first part short traps shows
-hunted_by name texts plan from input asks places same many (Broken run s line v) x first traps breaks part short none shows =
+hunted_by name texts form plan from input asks places same many (Broken run s line v) x first traps breaks part short none shows =
     broken asks run s.items line v first part short breaks
-    (subst (λ (ps : List TextPlace). ShowsBroken minimal_break_line input asks.file.program ps s.items line v x) same shows)
-hunted_by name texts plan from input asks places same many Nothing x first traps breaks part short none shows =
-    nothing asks none (subst (λ (n : ℕ). ShowsNothing n plan from x) many shows)
+    (subst (λ (at : List TextPlace). ShowsHuntBroken plan from (placed (sought_of name texts form input asks) at) s.items line v x) same shows)
+hunted_by name texts form plan from input asks places same many Nothing x first traps breaks part short none shows =
+    nothing asks none (subst (λ (n : ℕ). ShowsEmptyHunt form n plan from x) many shows)
 
 -- what a schedule and a line that are found are at least
 module _ (a : WholeProgram ℕ) (lines : List Property) where

@@ -2,12 +2,15 @@ pub mod Breaks
 pub mod Carried
 pub mod CarriedEnds
 pub mod Chosen
+pub mod Painting
 pub mod EndsSearched
 pub mod Heard
 pub mod HuntSearched
+pub mod Listed
 pub mod Looped
 pub mod NeverLines
 pub mod Pictured
+pub mod Placed
 pub mod ProgramFiles
 pub mod Ran
 pub mod Refusals

@@ -1,11 +1,12 @@
 -- Why there is no answer to the request that the words make.
-use Rattle.std.proofs.Common.{◌≡◌, List, Result, Ok, Err, IfErr, map, string_bytes, subst, sym}
+use Rattle.std.proofs.Common.{◌≡◌, ℕ, List, Result, Ok, Err, IfErr, map, string_bytes, subst, sym}
 use Rattle.std.specs.Prelude.{String, Vec}
 use Rattle.std.specs.Global.{Global}
 use Rattle.std.specs.declared.io.Error.{Error}
 use Rattle.ticklab_line.specs.Lines.{Answers}
 use Rattle.ticklab_line.specs.declared.asking.Line.{Line}
 use Rattle.ticklab_answers.specs.Answers.{GivenWords, GivesWords, IsOfWordsOrFile, NamesOfLine, RespondsTo, RespondsToWords}
+use Rattle.ticklab_answers.specs.Checks.{ListsOf}
 use Rattle.ticklab_answers.specs.Faults.{IsOfFileThat}
 use Rattle.ticklab_answers.specs.Hearing.{HearsOf}
 use Rattle.ticklab_answers.specs.Reading.{ReadsOf, ReadsInputOf}
@@ -15,34 +16,34 @@ use Rattle.ticklab_answers.specs.declared.fault.LabFault.TheVariants.{Words, Unr
 use Rattle.ticklab_answers.specs.declared.response.Response.{Response}
 
 -- the words ask for this line, which was matched
-module _ (given : Result GivenWords Error) (words : Vec (String Global) Global) (slice : List (String Global)) (l matched : Line)
-    (gives : GivesWords given words) (same : slice ≡ words.items) (answers : Answers (map string_bytes slice) l) (is : l ≡ matched) where
+module _ (version : List ℕ) (given : Result GivenWords Error) (words : Vec (String Global) Global) (slice : List (String Global)) (l matched : Line)
+    (gives : GivesWords given words) (same : slice ≡ words.items) (answers : Answers version (map string_bytes slice) l) (is : l ≡ matched) where
   named_by : (given : Result GivenWords Error) → GivesWords given words → (fault : LabFault) → IsOfFileThat (NamesOfLine matched) fault
-      → IsOfWordsOrFile given fault
+      → IsOfWordsOrFile version given fault
   named_by given gives (Words cause) h = tt
   named_by (Ok given) gives (Unread name cause) h = (
     l,
-    subst (λ (ws : List (String Global)). Answers (map string_bytes ws) l) gives (subst (λ (ws : List (String Global)). Answers (map string_bytes ws) l) same answers),
+    subst (λ (ws : List (String Global)). Answers version (map string_bytes ws) l) gives (subst (λ (ws : List (String Global)). Answers version (map string_bytes ws) l) same answers),
     subst (λ (m : Line). NamesOfLine m (string_bytes name)) (sym is) h,
   )
   named_by (Err error) gives (Unread name cause) h = absurd gives
   named_by given gives (Host cause) h = absurd h
   named_by given gives (Answer fault) h = tt
 
-  pub failed : (r : Result Response LabFault) → IfErr r (IsOfFileThat (NamesOfLine matched)) → IfErr r (IsOfWordsOrFile given)
+  pub failed : (r : Result Response LabFault) → IfErr r (IsOfFileThat (NamesOfLine matched)) → IfErr r (IsOfWordsOrFile version given)
   failed (Ok x) h = tt
   failed (Err fault) h = named_by given gives fault h
 
   -- an answer to the line is one to the words
-  module _ {F M W : Type 0} (Reads : ReadsOf F) (ReadsInput : ReadsInputOf F) (Ran : RunsOf M) (hears : HearsOf W) (before after : F) (rested ran : M)
-      (quiet heard : W) (x : Response) (held : RespondsTo Reads ReadsInput Ran hears before after rested ran quiet heard matched x) where
-    answered_by : (given : Result GivenWords Error) → GivesWords given words → RespondsToWords Reads ReadsInput Ran hears before after rested ran quiet heard given x
+  module _ {F M W : Type 0} (Reads : ReadsOf F) (ReadsInput : ReadsInputOf F) (Lists : ListsOf F) (Ran : RunsOf M) (hears : HearsOf W) (before after : F) (rested ran : M)
+      (quiet heard : W) (x : Response) (held : RespondsTo Reads ReadsInput Lists Ran hears before after rested ran quiet heard matched x) where
+    answered_by : (given : Result GivenWords Error) → GivesWords given words → RespondsToWords Reads ReadsInput Lists Ran hears before after rested ran quiet heard version given x
     answered_by (Ok given) gives = (
       l,
-      subst (λ (ws : List (String Global)). Answers (map string_bytes ws) l) gives (subst (λ (ws : List (String Global)). Answers (map string_bytes ws) l) same answers),
-      subst (λ (m : Line). RespondsTo Reads ReadsInput Ran hears before after rested ran quiet heard m x) (sym is) held,
+      subst (λ (ws : List (String Global)). Answers version (map string_bytes ws) l) gives (subst (λ (ws : List (String Global)). Answers version (map string_bytes ws) l) same answers),
+      subst (λ (m : Line). RespondsTo Reads ReadsInput Lists Ran hears before after rested ran quiet heard m x) (sym is) held,
     )
     answered_by (Err error) gives = absurd gives
 
-    pub responded : RespondsToWords Reads ReadsInput Ran hears before after rested ran quiet heard given x
+    pub responded : RespondsToWords Reads ReadsInput Lists Ran hears before after rested ran quiet heard version given x
     responded = answered_by given gives

@@ -1,45 +1,48 @@
 -- What an answer says, from what was explored and what the answer shows of it.
-use Rattle.std.proofs.Common.{◌≡◌, ◌∙◌, ◌++◌, ◌<◌, ℕ, Bool, true, false, List, All, ap, length, refl, subst, sym}
+use Rattle.std.proofs.Common.{◌≡◌, ◌∙◌, ◌+◌, ◌++◌, ◌<◌, ◌≤◌, ◌*◌, ℕ, Bool, true, false, List, All, ap, length, refl, subst, sym}
 use Rattle.std.proofs.lemmas.Bool.{false≢true, or_right}
 use Rattle.std.proofs.Math.Bool.{true-or}
 use Rattle.std.specs.Prelude.{◌||◌, Vec}
 use Rattle.std.specs.Global.{Global}
 use Rattle.std.proofs.lemmas.List.Folds.{list_any_at}
 use Rattle.std.proofs.lemmas.Option.{get_or_from_slice_get, slice_get_within}
-use Rattle.base.specs.Plain.{Name, WholeProgram}
+use Rattle.base.specs.Plain.{WholeProgram}
 use Rattle.language_properties.specs.Properties.{Formula}
 use Rattle.language_properties.specs.Values.{Valued}
 use Rattle.language_properties.specs.declared.property.Property.{Property}
-use Rattle.tick_kinds.specs.Resolution.{resolved}
 use Rattle.tick_source.specs.Source.{SourceState, source}
 use Rattle.searches_explore.specs.Explored.{has_trapped}
 use Rattle.searches_explore.specs.Lines.{IsFirstBroken, breaks, is_broken, is_fault, line_value, lines_of}
 use Rattle.searches_states.specs.Answer.{IfFound}
-use Rattle.searches_states.specs.Watching.{AreTold, IsWatched}
+use Rattle.searches_states.specs.Watching.{AreTold, AreToldToEnd, IsWatched}
+use Rattle.searches_states.specs.declared.limits.Limits.{Limits}
 use Rattle.searches_states.specs.declared.searching.Searched.{Searched}
 use Rattle.searches_states.specs.declared.searching.Searched.TheVariants.{Found, Limit as Full, Nowhere}
 use Rattle.searches_explore.specs.Never.{AreToldFor, IfBroken, IfFault, IfLimit, IfSafe, IfTrapped, never_searched_of}
+use Rattle.searches_explore.specs.Searching.{IsFullFor}
 use Rattle.searches_explore.specs.declared.never_answer.NeverExplored.{NeverExplored}
 use Rattle.searches_explore.specs.declared.never_answer.NeverExplored.TheVariants.{Trapped, Broken, Safe, Limit}
 use Rattle.searches_hunt.specs.Minimal.{IfBroken as IfBreaks, IfTrapped as IfTraps, schedule_of}
 use Rattle.searches_hunt.specs.Never.{IsMinimalBroken, IsMinimalTrapped}
 use Rattle.searches_hunt.specs.declared.minimal.Minimal.{Minimal}
 use Rattle.searches_hunt.specs.declared.minimal.Minimal.TheVariants as M
-use Rattle.ticklab_answers.specs.Asking.{TextPlace}
 use Rattle.ticklab_answers.specs.BySteps.{BrokenBy, LimitBy, SafeBy, SeesBy, TrapBy}
 use Rattle.ticklab_answers.specs.Found.{IsFoundBy, IsFoundFirst, IsQuiet, MeetsLimit, TellsBoth, TellsFault, TellsLimit, TellsSafe, TellsShortest, broken, fault, first_fault, first_safe, first_unknown, minimal_break, minimal_trap, safe, shortest, trapped, unknown}
-use Rattle.ticklab_answers.specs.Hearing.{Heard, HearsOf, IsHeard, IsSearchHeard, hearing}
+use Rattle.ticklab_answers.specs.Hearing.{Heard, HearsOf, IsHeard, IsSearchHeard, IsSearchHeardToEnd, hearing}
 use Rattle.ticklab_answers.specs.Shown.{Shows, ShowsMinimal}
+use Rattle.ticklab_answers.specs.Sought.{sought_by}
+use Rattle.ticklab_answers.specs.declared.search.Search.{Search}
 use Rattle.ticklab_answers.specs.declared.response.Response.{Response}
 use Rattle.ticklab_answers.specs.prover.Searches.{AreHeardFor, IsKnownBy, IsSearchedBy, is_limit}
 use Rattle.ticklab_answers.proofs.Heard.{began, heard_as, heard_then}
+use Rattle.ticklab_answers.proofs.Placed.{held_of, program_of}
 use Rattle.ticklab_answers.proofs.NeverLines.{lawful_by, line_within, within_by}
 
 -- what is known of it
-pub known_as : (m : Bool) (a : WholeProgram ℕ) (lines : List Property) (limit : ℕ) (e : NeverExplored) → IfTrapped e (TrapBy m a (lines_of lines))
-    → IfBroken e (BrokenBy m a (lines_of lines)) → IfSafe e (SafeBy m a (lines_of lines) limit) → IfLimit e (LimitBy m a (lines_of lines) limit)
-    → IsKnownBy m a lines limit e
-known_as m a lines limit e traps breaks never full = record {
+pub known_as : (m : Bool) (a : WholeProgram ℕ) (lines : List Property) (limits : Limits) (e : NeverExplored) → IfTrapped e (TrapBy m a (lines_of lines))
+    → IfBroken e (BrokenBy m a (lines_of lines)) → IfSafe e (SafeBy m a (lines_of lines) limits) → IfLimit e (LimitBy m a (lines_of lines) limits)
+    → IsKnownBy m a lines limits e
+known_as m a lines limits e traps breaks never full = record {
   trapped = traps;
   broken = breaks;
   safe = never;
@@ -49,16 +52,16 @@ known_as m a lines limit e traps breaks never full = record {
 }
 
 -- a search that began, by steps of this kind, of lines that are these
-pub searched_as : {W : Type 0} (begins : W → Bool → W → Type 0) (sees : W → ℕ → ℕ → W → Type 0) (before between after : W) (m n : Bool) → n ≡ m
-    → (a : WholeProgram ℕ) (given lines : List Property) → given ≡ lines → (limit : ℕ) (e : NeverExplored) → begins before n between
+pub searched_as : {W : Type 0} (begins : W → Bool → W → Type 0) (sees : W → ℕ → ℕ → ℕ → W → Type 0) (before between after : W) (m n : Bool) → n ≡ m
+    → (a : WholeProgram ℕ) (given lines : List Property) → given ≡ lines → (limits : Limits) (e : NeverExplored) → begins before n between
     → IfTrapped e (TrapBy m a (lines_of given)) → IfBroken e (BrokenBy m a (lines_of given))
-    → IfSafe e (SafeBy m a (lines_of given) limit) → IfLimit e (LimitBy m a (lines_of given) limit)
-    → IsWatched sees between after (AreToldFor (SeesBy m a (lines_of given)) e) → IsSearchedBy n a lines limit (hearing begins sees) before after e
-searched_as begins sees before between after m n same a given lines held limit e first traps breaks never full watched =
-    subst (λ (k : Bool). IsSearchedBy k a lines limit (hearing begins sees) before after e) (sym same)
-    (subst (λ (asked : List Property). IsSearchedBy m a asked limit (hearing begins sees) before after e) held (record {
-      known = known_as m a given limit e traps breaks never full;
-      watched = began begins sees before between after m n same a given e first watched;
+    → IfSafe e (SafeBy m a (lines_of given) limits) → IfLimit e (LimitBy m a (lines_of given) limits)
+    → IsWatched sees between after (AreToldFor a (SeesBy m a (lines_of given)) limits e) → IsSearchedBy n a lines limits (hearing begins sees) before after e
+searched_as begins sees before between after m n same a given lines held limits e first traps breaks never full watched =
+    subst (λ (k : Bool). IsSearchedBy k a lines limits (hearing begins sees) before after e) (sym same)
+    (subst (λ (asked : List Property). IsSearchedBy m a asked limits (hearing begins sees) before after e) held (record {
+      known = known_as m a given limits e traps breaks never full;
+      watched = began begins sees before between after m n same a given limits e first watched;
     }))
 
 abbrev is_found : Searched → Bool
@@ -82,14 +85,14 @@ module _ (a : WholeProgram ℕ) (lines : List Property) where
   break_is_fault s line v is = ap (λ (b : Bool). b || has_trapped s) (first_breaks (lines_of lines) s line v is) ∙ true-or (has_trapped s)
 
   -- what is found by steps of either kind
-  pub fault_by : (m : Bool) (limit : ℕ) (e : NeverExplored) → IsKnownBy m a lines limit e
+  pub fault_by : (m : Bool) (limits : Limits) (e : NeverExplored) → IsKnownBy m a lines limits e
       → IfFault e (λ schedule. is_fault (lines_of lines) (source a schedule) ≡ true)
-  fault_by false limit (Trapped s) known = trap_is_fault (source a s.items) known.trapped.traps
-  fault_by true limit (Trapped s) known = trap_is_fault (source a s.items) known.trapped.traps
-  fault_by false limit (Broken s line v) known = break_is_fault (source a s.items) line v known.broken.broken.first
-  fault_by true limit (Broken s line v) known = break_is_fault (source a s.items) line v known.broken.first
-  fault_by m limit (Safe states) known = tt
-  fault_by m limit (Limit states) known = tt
+  fault_by false limits (Trapped s) known = trap_is_fault (source a s.items) known.trapped.traps
+  fault_by true limits (Trapped s) known = trap_is_fault (source a s.items) known.trapped.traps
+  fault_by false limits (Broken s line v) known = break_is_fault (source a s.items) line v known.broken.broken.first
+  fault_by true limits (Broken s line v) known = break_is_fault (source a s.items) line v known.broken.first
+  fault_by m limits (Safe states) known = tt
+  fault_by m limits (Limit states) known = tt
 
   -- of what needs all its steps
   pub minimal_lawful : (k : Minimal) → IfTraps k (IsMinimalTrapped a (lines_of lines)) → IfBreaks k (IsMinimalBroken a (lines_of lines))
@@ -105,71 +108,77 @@ module _ (a : WholeProgram ℕ) (lines : List Property) where
 pub of_found : (P : List ℕ → Type 0) (e : NeverExplored) (schedule : Vec ℕ Global) → never_searched_of e ≡ Found schedule → IfFault e P → P schedule.items
 of_found P e schedule is held = subst (λ (s : Searched). IfFound s P) is held
 
-module _ (input : List ℕ) (a : WholeProgram Name) (lines : List Property) (places : List TextPlace) (limit : ℕ) where
+module _ (q : Search) (limits : Limits) where
   -- so far a search is heard, of which this is known
-  on_the_way : {m : Bool} {e : NeverExplored} {heard : List Heard} (gone : ℕ) (on : AreHeardFor m (resolved a) lines e heard)
-      → AreTold (SeesBy m (resolved a) (lines_of lines)) gone on.told → IsSearchHeard m (resolved a) (lines_of lines) gone heard
+  on_the_way : {m : Bool} {e : NeverExplored} {heard : List Heard} (gone : ℕ) (on : AreHeardFor m (program_of q) (held_of q) limits e heard)
+      → AreTold (SeesBy m (program_of q) (lines_of (held_of q))) gone on.told → IsSearchHeard m (program_of q) (lines_of (held_of q)) gone heard
   on_the_way gone on are = record { told = on.told; are = are; whole = on.whole }
 
-  pub trap_told : (m : Bool) (s : Vec ℕ Global) (x : Response) (heard : List Heard) → TrapBy m (resolved a) (lines_of lines) s.items
-      → Shows m input a places (Trapped s) x → AreHeardFor m (resolved a) lines (Trapped s) heard
-      → TellsFault input a (lines_of lines) places limit m x heard
+  -- and so to its end
+  to_the_end : {m : Bool} {e : NeverExplored} {heard : List Heard} (held : ℕ → Type 0) (below states gone : ℕ) (on : AreHeardFor m (program_of q) (held_of q) limits e heard)
+      → AreToldToEnd (SeesBy m (program_of q) (lines_of (held_of q))) held below states gone on.told
+      → IsSearchHeardToEnd m (program_of q) (lines_of (held_of q)) held below states gone heard
+  to_the_end held below states gone on are = record { told = on.told; are = are; whole = on.whole }
+
+  pub trap_told : (m : Bool) (s : Vec ℕ Global) (x : Response) (heard : List Heard) → TrapBy m (program_of q) (lines_of (held_of q)) s.items
+      → Shows m (sought_by q) limits (Trapped s) x → AreHeardFor m (program_of q) (held_of q) limits (Trapped s) heard
+      → TellsFault (sought_by q) limits m x heard
   trap_told m s x heard traps shows on = trapped s.items traps on.are.0 (on_the_way on.are.0 on on.are.1) shows
 
   pub break_told : (m : Bool) (s : Vec ℕ Global) (line : ℕ) (v : Valued) (x : Response) (heard : List Heard)
-      → BrokenBy m (resolved a) (lines_of lines) s.items line v
-      → Shows m input a places (Broken s line v) x → AreHeardFor m (resolved a) lines (Broken s line v) heard
-      → TellsFault input a (lines_of lines) places limit m x heard
+      → BrokenBy m (program_of q) (lines_of (held_of q)) s.items line v
+      → Shows m (sought_by q) limits (Broken s line v) x → AreHeardFor m (program_of q) (held_of q) limits (Broken s line v) heard
+      → TellsFault (sought_by q) limits m x heard
   break_told m s line v x heard breaks shows on = broken s.items line v breaks on.are.0 (on_the_way on.are.0 on on.are.1) shows
 
-  pub quiet_told : (m : Bool) (states : ℕ) (heard : List Heard) → SafeBy m (resolved a) (lines_of lines) limit states
-      → AreHeardFor m (resolved a) lines (Safe states) heard → IsQuiet m (resolved a) (lines_of lines) limit states heard
-  quiet_told m states heard never on = record { safe = never; on_the_way = on_the_way states on on.are }
+  pub quiet_told : (m : Bool) (states : ℕ) (heard : List Heard) → SafeBy m (program_of q) (lines_of (held_of q)) limits states
+      → AreHeardFor m (program_of q) (held_of q) limits (Safe states) heard → IsQuiet m (program_of q) (lines_of (held_of q)) limits states heard
+  quiet_told m states heard never on = record { safe = never; on_the_way = to_the_end (λ bytes. 4 * states ≤ bytes) states states states on on.are }
 
-  safe_told : (m : Bool) (states : ℕ) (x : Response) (heard : List Heard) → SafeBy m (resolved a) (lines_of lines) limit states
-      → Shows m input a places (Safe states) x → AreHeardFor m (resolved a) lines (Safe states) heard
-      → TellsSafe input a (lines_of lines) places limit m x heard
+  safe_told : (m : Bool) (states : ℕ) (x : Response) (heard : List Heard) → SafeBy m (program_of q) (lines_of (held_of q)) limits states
+      → Shows m (sought_by q) limits (Safe states) x → AreHeardFor m (program_of q) (held_of q) limits (Safe states) heard
+      → TellsSafe (sought_by q) limits m x heard
   safe_told m states x heard never shows on = record {
     states = states;
     quiet = quiet_told m states heard never on;
     shown = shows;
   }
 
-  pub meets_limit : (m : Bool) (states : ℕ) (heard : List Heard) → LimitBy m (resolved a) (lines_of lines) limit states
-      → AreHeardFor m (resolved a) lines (Limit states) heard → MeetsLimit m (resolved a) (lines_of lines) limit states heard
-  meets_limit m states heard full on = record { more = full; gone = on.are.0; on_the_way = on_the_way on.are.0 on on.are.1 }
+  pub meets_limit : (m : Bool) (states : ℕ) (heard : List Heard) → LimitBy m (program_of q) (lines_of (held_of q)) limits states
+      → AreHeardFor m (program_of q) (held_of q) limits (Limit states) heard → MeetsLimit m (program_of q) (lines_of (held_of q)) limits states heard
+  meets_limit m states heard full on = record { more = full; gone = on.are.0; on_the_way = to_the_end (IsFullFor (program_of q) limits states) (on.are.0 + 1) states on.are.0 on on.are.1 }
 
-  pub limit_told : (m : Bool) (states : ℕ) (x : Response) (heard : List Heard) → LimitBy m (resolved a) (lines_of lines) limit states
-      → Shows m input a places (Limit states) x → AreHeardFor m (resolved a) lines (Limit states) heard
-      → TellsLimit input a (lines_of lines) places limit m x heard
+  pub limit_told : (m : Bool) (states : ℕ) (x : Response) (heard : List Heard) → LimitBy m (program_of q) (lines_of (held_of q)) limits states
+      → Shows m (sought_by q) limits (Limit states) x → AreHeardFor m (program_of q) (held_of q) limits (Limit states) heard
+      → TellsLimit (sought_by q) limits m x heard
   limit_told m states x heard full shows on = record { states = states; meets = meets_limit m states heard full on; shown = shows }
 
-  told_by : (m : Bool) (e : NeverExplored) (x : Response) (heard : List Heard) → IsKnownBy m (resolved a) lines limit e
-      → Shows m input a places e x → AreHeardFor m (resolved a) lines e heard → IsFoundBy input a (lines_of lines) places limit m x heard
+  told_by : (m : Bool) (e : NeverExplored) (x : Response) (heard : List Heard) → IsKnownBy m (program_of q) (held_of q) limits e
+      → Shows m (sought_by q) limits e x → AreHeardFor m (program_of q) (held_of q) limits e heard → IsFoundBy (sought_by q) limits m x heard
   told_by m (Trapped s) x heard known shows on = fault (trap_told m s x heard known.trapped shows on)
   told_by m (Broken s line v) x heard known shows on = fault (break_told m s line v x heard known.broken shows on)
   told_by m (Safe states) x heard known shows on = safe (safe_told m states x heard known.safe shows on)
   told_by m (Limit states) x heard known shows on = unknown (limit_told m states x heard known.at_limit shows on)
 
-  told_first : (e : NeverExplored) (x : Response) (heard : List Heard) → IsKnownBy true (resolved a) lines limit e → IfFault e (λ schedule. ⊥)
-      → Shows true input a places e x → AreHeardFor true (resolved a) lines e heard → IsFoundFirst input a (lines_of lines) places limit x heard
+  told_first : (e : NeverExplored) (x : Response) (heard : List Heard) → IsKnownBy true (program_of q) (held_of q) limits e → IfFault e (λ schedule. ⊥)
+      → Shows true (sought_by q) limits e x → AreHeardFor true (program_of q) (held_of q) limits e heard → IsFoundFirst (sought_by q) limits x heard
   told_first (Trapped s) x heard known none shows on = absurd none
   told_first (Broken s line v) x heard known none shows on = absurd none
   told_first (Safe states) x heard known none shows on = first_safe (safe_told true states x heard known.safe shows on)
   told_first (Limit states) x heard known none shows on = first_unknown (limit_told true states x heard known.at_limit shows on)
 
   -- there is a fault
-  module _ (schedule : List ℕ) (wrong : is_fault (lines_of lines) (source (resolved a) schedule) ≡ true) where
-    told_shortest : (e : NeverExplored) (x : Response) (heard : List Heard) → IsKnownBy false (resolved a) lines limit e → is_limit e ≡ false
-        → Shows false input a places e x → AreHeardFor false (resolved a) lines e heard → TellsShortest input a (lines_of lines) places limit x heard
+  module _ (schedule : List ℕ) (wrong : is_fault (lines_of (held_of q)) (source (program_of q) schedule) ≡ true) where
+    told_shortest : (e : NeverExplored) (x : Response) (heard : List Heard) → IsKnownBy false (program_of q) (held_of q) limits e → is_limit e ≡ false
+        → Shows false (sought_by q) limits e x → AreHeardFor false (program_of q) (held_of q) limits e heard → TellsShortest (sought_by q) limits x heard
     told_shortest (Trapped s) x heard known seen shows on = shortest (trap_told false s x heard known.trapped shows on)
     told_shortest (Broken s line v) x heard known seen shows on = shortest (break_told false s line v x heard known.broken shows on)
     told_shortest (Safe states) x heard known seen shows on = absurd (false≢true (sym (known.safe.never schedule) ∙ wrong))
     told_shortest (Limit states) x heard known seen shows on = absurd (false≢true (sym seen))
 
-  told_minimal : (e : NeverExplored) (k : Minimal) (x : Response) (heard : List Heard) → IsKnownBy false (resolved a) lines limit e → is_limit e ≡ true
-      → IfTraps k (IsMinimalTrapped (resolved a) (lines_of lines)) → IfBreaks k (IsMinimalBroken (resolved a) (lines_of lines))
-      → ShowsMinimal input a places k x → AreHeardFor false (resolved a) lines e heard → TellsShortest input a (lines_of lines) places limit x heard
+  told_minimal : (e : NeverExplored) (k : Minimal) (x : Response) (heard : List Heard) → IsKnownBy false (program_of q) (held_of q) limits e → is_limit e ≡ true
+      → IfTraps k (IsMinimalTrapped (program_of q) (lines_of (held_of q))) → IfBreaks k (IsMinimalBroken (program_of q) (lines_of (held_of q)))
+      → ShowsMinimal (sought_by q) k x → AreHeardFor false (program_of q) (held_of q) limits e heard → TellsShortest (sought_by q) limits x heard
   told_minimal (Limit states) (M.Trapped s) x heard known full traps breaks shows on =
       minimal_trap states (meets_limit false states heard known.at_limit on) s.items traps shows
   told_minimal (Limit states) (M.Broken s line v) x heard known full traps breaks shows on =
@@ -180,15 +189,15 @@ module _ (input : List ℕ) (a : WholeProgram Name) (lines : List Property) (pla
 
   -- a search that is heard as far as it finds a fault
   pub fault_heard : (e : NeverExplored) (schedule : Vec ℕ Global) (heard : List Heard) → never_searched_of e ≡ Found schedule
-      → AreHeardFor true (resolved a) lines e heard → (gone : ℕ) × IsSearchHeard true (resolved a) (lines_of lines) gone heard
+      → AreHeardFor true (program_of q) (held_of q) limits e heard → (gone : ℕ) × IsSearchHeard true (program_of q) (lines_of (held_of q)) gone heard
   fault_heard (Trapped s) schedule heard is on = (on.are.0, on_the_way on.are.0 on on.are.1)
   fault_heard (Broken s line v) schedule heard is on = (on.are.0, on_the_way on.are.0 on on.are.1)
   fault_heard (Safe states) schedule heard is on = absurd (not_found {s = Nowhere states} refl is)
   fault_heard (Limit states) schedule heard is on = absurd (not_found {s = Full states} refl is)
 
   -- by merged steps, and then by single ones
-  pub told_both : (x : Response) (first more : List Heard) → (gone : ℕ) × IsSearchHeard true (resolved a) (lines_of lines) gone first
-      → TellsShortest input a (lines_of lines) places limit x more → TellsBoth input a (lines_of lines) places limit x (first ++ more)
+  pub told_both : (x : Response) (first more : List Heard) → (gone : ℕ) × IsSearchHeard true (program_of q) (lines_of (held_of q)) gone first
+      → TellsShortest (sought_by q) limits x more → TellsBoth (sought_by q) limits x (first ++ more)
   told_both x first more merged single = record {
     gone = merged.0;
     first = first;
@@ -199,31 +208,31 @@ module _ (input : List ℕ) (a : WholeProgram Name) (lines : List Property) (pla
   }
 
   module _ {W : Type 0} (hears : HearsOf W) (before after : W) where
-    pub found_as : (m : Bool) (e : NeverExplored) (x : Response) → IsSearchedBy m (resolved a) lines limit hears before after e
-        → Shows m input a places e x → IsHeard hears before after (IsFoundBy input a (lines_of lines) places limit m x)
+    pub found_as : (m : Bool) (e : NeverExplored) (x : Response) → IsSearchedBy m (program_of q) (held_of q) limits hears before after e
+        → Shows m (sought_by q) limits e x → IsHeard hears before after (IsFoundBy (sought_by q) limits m x)
     found_as m e x searched shows = heard_as hears before after (λ heard on. told_by m e x heard searched.known shows on) searched.watched
 
-    pub none_first : (e : NeverExplored) (x : Response) → IsSearchedBy true (resolved a) lines limit hears before after e → IfFault e (λ schedule. ⊥)
-        → Shows true input a places e x → IsHeard hears before after (IsFoundFirst input a (lines_of lines) places limit x)
+    pub none_first : (e : NeverExplored) (x : Response) → IsSearchedBy true (program_of q) (held_of q) limits hears before after e → IfFault e (λ schedule. ⊥)
+        → Shows true (sought_by q) limits e x → IsHeard hears before after (IsFoundFirst (sought_by q) limits x)
     none_first e x searched none shows =
         heard_as hears before after (λ heard on. told_first e x heard searched.known none shows on) searched.watched
 
-    pub shortest_as : (schedule : List ℕ) → is_fault (lines_of lines) (source (resolved a) schedule) ≡ true → (e : NeverExplored) (x : Response)
-        → IsSearchedBy false (resolved a) lines limit hears before after e → is_limit e ≡ false → Shows false input a places e x
-        → IsHeard hears before after (TellsShortest input a (lines_of lines) places limit x)
+    pub shortest_as : (schedule : List ℕ) → is_fault (lines_of (held_of q)) (source (program_of q) schedule) ≡ true → (e : NeverExplored) (x : Response)
+        → IsSearchedBy false (program_of q) (held_of q) limits hears before after e → is_limit e ≡ false → Shows false (sought_by q) limits e x
+        → IsHeard hears before after (TellsShortest (sought_by q) limits x)
     shortest_as schedule wrong e x searched seen shows =
         heard_as hears before after (λ heard on. told_shortest schedule wrong e x heard searched.known seen shows on) searched.watched
 
-    pub minimal_as : (e : NeverExplored) (k : Minimal) (x : Response) → IsSearchedBy false (resolved a) lines limit hears before after e
-        → is_limit e ≡ true → IfTraps k (IsMinimalTrapped (resolved a) (lines_of lines)) → IfBreaks k (IsMinimalBroken (resolved a) (lines_of lines))
-        → ShowsMinimal input a places k x → IsHeard hears before after (TellsShortest input a (lines_of lines) places limit x)
+    pub minimal_as : (e : NeverExplored) (k : Minimal) (x : Response) → IsSearchedBy false (program_of q) (held_of q) limits hears before after e
+        → is_limit e ≡ true → IfTraps k (IsMinimalTrapped (program_of q) (lines_of (held_of q))) → IfBreaks k (IsMinimalBroken (program_of q) (lines_of (held_of q)))
+        → ShowsMinimal (sought_by q) k x → IsHeard hears before after (TellsShortest (sought_by q) limits x)
     minimal_as e k x searched full traps breaks shows =
         heard_as hears before after (λ heard on. told_minimal e k x heard searched.known full traps breaks shows on) searched.watched
 
     pub both_first : (between : W) (e : NeverExplored) (schedule : Vec ℕ Global) (x : Response)
-        → IsSearchedBy true (resolved a) lines limit hears before between e → never_searched_of e ≡ Found schedule
-        → IsHeard hears between after (TellsShortest input a (lines_of lines) places limit x)
-        → IsHeard hears before after (IsFoundFirst input a (lines_of lines) places limit x)
+        → IsSearchedBy true (program_of q) (held_of q) limits hears before between e → never_searched_of e ≡ Found schedule
+        → IsHeard hears between after (TellsShortest (sought_by q) limits x)
+        → IsHeard hears before after (IsFoundFirst (sought_by q) limits x)
     both_first between e schedule x searched is single =
         heard_then hears before between after
         (λ first more on then. first_fault (told_both x first more (fault_heard e schedule first is on) then)) searched.watched single

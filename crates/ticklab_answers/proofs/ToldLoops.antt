@@ -1,10 +1,13 @@
 -- The text about steps that repeat for ever, from its parts.
-use Rattle.std.proofs.Common.{◌≡◌, ◌++◌, ◌+◌, ℕ, List, arith, drop, length, length-append, refl, take}
-use Rattle.std.specs.List.{list_any}
+use Rattle.std.proofs.Common.{◌≡◌, ◌++◌, ◌+◌, ◌<◌, ℕ, List, arith, drop, length, length-append, refl, subst, sym, take}
+use Rattle.std.specs.List.{All, list_any}
+use Rattle.std.proofs.lemmas.List.Elements.{All-append}
 use Rattle.base.specs.Plain.{Name, WholeProgram}
 use Rattle.ticklab_trace.specs.Places.{Standing}
 use Rattle.ticklab_trace.specs.declared.steps.StatementStep.{StatementStep}
 use Rattle.ticklab_answers.specs.Lines.{cycle_line}
+use Rattle.ticklab_json.specs.declared.found.Loop.{Loop}
+use Rattle.ticklab_answers.specs.Sought.{AreLawful}
 use Rattle.ticklab_answers.specs.Loops.{is_write, lead_in_text, loop_text, steps_text}
 
 pub told_loop : (a : WholeProgram Name) (spots others : List Standing) (found schedule lead_in cycle words : List ℕ)
@@ -23,3 +26,10 @@ pub counted : (steps : List StatementStep) (all schedule lead_in cycle : List �
     → length steps ≡ length schedule + length lead_in + length cycle
 counted steps all schedule lead_in cycle same joined =
     rw same (rw joined (omega (arith, length-append (schedule ++ lead_in) cycle, length-append schedule lead_in)))
+
+-- one after the other they are of the program
+pub all_lawful : (n : ℕ) (l : Loop) (all : List ℕ) → AreLawful n l → all ≡ l.schedule.now ++ l.lead_in.now ++ l.cycle.now → All (λ p. p < n) all
+all_lawful n l all lawful joined =
+    subst (λ (steps : List ℕ). All (λ p. p < n) steps) (sym joined)
+    (All-append (λ p. p < n) (l.schedule.now ++ l.lead_in.now) l.cycle.now
+    (All-append (λ p. p < n) l.schedule.now l.lead_in.now lawful.schedule lawful.lead_in) lawful.cycle)

@@ -1,10 +1,11 @@
--- By single steps or by merged ones: which schedule is shown, and how it is called; what holds of the limit and of the
+-- By single steps or by merged ones: which schedule is shown, and how it is called; what holds of the limits and of the
 -- number of states that is told where nothing is wrong, and where there are more; and how many states were seen when so
 -- many of them were gone. The lines are those that must never hold.
 use Rattle.std.specs.Prelude.{ℕ, Bool, true, false, List}
 use Rattle.base.specs.Plain.{WholeProgram}
 use Rattle.language_properties.specs.Properties.{Formula}
 use Rattle.language_properties.specs.Values.{Valued}
+use Rattle.searches_states.specs.declared.limits.Limits.{Limits}
 use Rattle.searches_states.specs.declared.must_stop.MustStop.{MustStop}
 use Rattle.searches_explore.specs.Ending.{IsShortestStuck, IsStuckAfter}
 use Rattle.searches_explore.specs.Never.{IsBroken, IsMergedNeverLimit, IsMergedNeverSafe, IsNeverLimit, IsNeverSafe, IsShortestBroken, IsShortestTrapped, SeesNeverMerged}
@@ -33,11 +34,11 @@ abbrev pub break_line_by : Bool → List ℕ
 break_line_by false = shortest_break_line
 break_line_by true = some_break_line
 
-abbrev pub SafeBy : Bool → WholeProgram ℕ → List Formula → ℕ → ℕ → Type 0
+abbrev pub SafeBy : Bool → WholeProgram ℕ → List Formula → Limits → ℕ → Type 0
 SafeBy false = IsNeverSafe
 SafeBy true = IsMergedNeverSafe
 
-abbrev pub LimitBy : Bool → WholeProgram ℕ → List Formula → ℕ → ℕ → Type 0
+abbrev pub LimitBy : Bool → WholeProgram ℕ → List Formula → Limits → ℕ → Type 0
 LimitBy false = IsNeverLimit
 LimitBy true = IsMergedNeverLimit
 

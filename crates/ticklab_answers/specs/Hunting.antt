@@ -1,4 +1,4 @@
--- What `hunt` answers without `--threads`.
+-- What `hunt` answers without `--threads`, as a text or as JSON.
 use Rattle.std.specs.Prelude.{◌≤◌, ℕ, Bool, true, false, List, length}
 use Rattle.tick_kinds.specs.Resolution.{resolved}
 use Rattle.language_properties.specs.Values.{Valued}
@@ -8,12 +8,13 @@ use Rattle.searches_hunt.specs.Never.{IsFirstFault, IsMinimalBroken, IsMinimalTr
 use Rattle.searches_hunt.specs.declared.plan.Mode.{Mode}
 use Rattle.searches_hunt.specs.declared.plan.Mode.TheVariants.{Bursts, Uniform}
 use Rattle.searches_hunt.specs.declared.plan.Plan.{Plan}
-use Rattle.ticklab_answers.specs.Asking.{AsksNever, places_by}
+use Rattle.ticklab_answers.specs.Asking.{AsksNever}
 use Rattle.ticklab_answers.specs.Exploring.{IsUnexplored}
-use Rattle.ticklab_answers.specs.Lines.{minimal_break_line, minimal_line}
 use Rattle.ticklab_answers.specs.Reading.{AfterFile, ReadsOf, ReadsInputOf}
 use Rattle.ticklab_answers.specs.Responses.{Refuses}
-use Rattle.ticklab_answers.specs.Shown.{ShowsBroken, ShowsNothing, ShowsTrap}
+use Rattle.ticklab_answers.specs.Shown.{ShowsEmptyHunt, ShowsHuntBroken, ShowsHuntTrap}
+use Rattle.ticklab_answers.specs.Sought.{sought_of}
+use Rattle.ticklab_answers.specs.declared.form.Form.{Form}
 use Rattle.ticklab_answers.specs.declared.response.Response.{Response}
 
 abbrev pub mode_of : Bool → Mode
@@ -26,22 +27,22 @@ plan_of seed runs steps is_uniform = record { seed = seed; runs = runs; steps = 
 -- The random schedules of a plan from a run on, with these texts of a command line for what must never hold. The schedule
 -- that is shown is a part of the first one under which a process traps or a line breaks. What isn't explored isn't
 -- hunted through, for the same reason.
-pub data IsHunted (name : List ℕ) (texts : List (List ℕ)) (plan : Plan) (from : ℕ) (input : List ℕ) (response : Response) : Type 0 where
+pub data IsHunted (name : List ℕ) (texts : List (List ℕ)) (plan : Plan) (from : ℕ) (form : Form) (input : List ℕ) (response : Response) : Type 0 where
   nothing : (asks : AsksNever texts input) → NoRunFaults (resolved asks.file.program) asks.lines plan from
-      → ShowsNothing (length asks.lines) plan from response → IsHunted name texts plan from input response
+      → ShowsEmptyHunt form (length asks.lines) plan from response → IsHunted name texts plan from form input response
   trapped : (asks : AsksNever texts input) (run : ℕ) (schedule : List ℕ)
       → IsFirstFault (resolved asks.file.program) asks.lines plan from run
       → IsPartOf schedule (random_schedule plan (resolved asks.file.program).processes run) → length schedule ≤ plan.steps
       → IsMinimalTrapped (resolved asks.file.program) asks.lines schedule
-      → ShowsTrap minimal_line input asks.file.program schedule response → IsHunted name texts plan from input response
+      → ShowsHuntTrap plan from (sought_of name texts form input asks) schedule response → IsHunted name texts plan from form input response
   broken : (asks : AsksNever texts input) (run : ℕ) (schedule : List ℕ) (line : ℕ) (v : Valued)
       → IsFirstFault (resolved asks.file.program) asks.lines plan from run
       → IsPartOf schedule (random_schedule plan (resolved asks.file.program).processes run) → length schedule ≤ plan.steps
       → IsMinimalBroken (resolved asks.file.program) asks.lines schedule line v
-      → ShowsBroken minimal_break_line input asks.file.program (places_by name input asks.file.asked texts) schedule line v response
-      → IsHunted name texts plan from input response
-  unhunted : Refuses 1 (IsUnexplored name texts input) response → IsHunted name texts plan from input response
+      → ShowsHuntBroken plan from (sought_of name texts form input asks) schedule line v response
+      → IsHunted name texts plan from form input response
+  unhunted : Refuses 1 (IsUnexplored name texts input) response → IsHunted name texts plan from form input response
 
-abbrev pub Hunts : {F : Type 0} → ReadsOf F → ReadsInputOf F → F → F → List ℕ → List (List ℕ) → Plan → ℕ → Response → Type 0
-Hunts Reads ReadsInput before after file never plan from response =
-    AfterFile Reads ReadsInput before after file (λ input. IsHunted file never plan from input response)
+abbrev pub Hunts : {F : Type 0} → ReadsOf F → ReadsInputOf F → F → F → List ℕ → List (List ℕ) → Plan → ℕ → Form → Response → Type 0
+Hunts Reads ReadsInput before after file never plan from form response =
+    AfterFile Reads ReadsInput before after file (λ input. IsHunted file never plan from form input response)

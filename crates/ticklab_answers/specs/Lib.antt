@@ -2,7 +2,9 @@ pub mod Answers
 pub mod Asking
 pub mod Breaking
 pub mod BySteps
+pub mod Checks
 pub mod Codes
+pub mod Colours
 pub mod Ends
 pub mod Explanations
 pub mod Exploring
@@ -15,13 +17,17 @@ pub mod Lasso
 pub mod Laws
 pub mod Lines
 pub mod Loops
+pub mod Objects
 pub mod Pages
 pub mod Pictures
 pub mod Reading
 pub mod Responses
+pub mod RunObjects
 pub mod Runs
 pub mod Serving
 pub mod Shown
+pub mod Sought
+pub mod Steps
 pub mod Stops
 pub mod Tallies
 pub mod prover

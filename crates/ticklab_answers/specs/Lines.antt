@@ -8,6 +8,7 @@ use Rattle.language_schedules.specs.Written.{schedule_text}
 use Rattle.language_schedules.specs.declared.schedule.ScheduleFault.{ScheduleFault}
 use Rattle.language_schedules.specs.declared.schedule.ScheduleFault.TheVariants.{BadItem, NoSuchProcess, TooLong, NoMemory}
 use Rattle.tick_play.specs.Lines.{trap_text}
+use Rattle.searches_states.specs.declared.limits.Limits.{Limits}
 use Rattle.searches_states.specs.declared.must_stop.MustStop.{MustStop}
 use Rattle.searches_states.specs.declared.must_stop.MustStop.TheVariants.{All, Each}
 use Rattle.searches_hunt.specs.declared.plan.Plan.{Plan}
@@ -36,6 +37,9 @@ abbrev pub states_text : Bool → ℕ → List ℕ
 states_text false count = many count (codes "state") (codes "states")
 states_text true count = many count (codes "merged state") (codes "merged states")
 
+abbrev pub counted_text : Bool → ℕ → List ℕ
+counted_text is_merged states = codes " (" ++ states_text is_merged states ++ codes ")"
+
 abbrev pub runs_text : ℕ → List ℕ
 runs_text count = many count (codes "run") (codes "runs")
 
@@ -63,18 +67,24 @@ abbrev pub safe_text : ℕ → List ℕ
 safe_text lines = if lines == 0 then codes "no process traps" else codes "no process traps and no #! never line breaks"
 
 abbrev pub safe_line : Bool → ℕ → ℕ → List ℕ
-safe_line is_merged lines states = safe_text lines ++ codes " under any schedule (" ++ states_text is_merged states ++ codes ")\n"
+safe_line is_merged lines states = safe_text lines ++ codes " under any schedule" ++ counted_text is_merged states
 
 abbrev pub more_text : Bool → ℕ → List ℕ
 more_text is_merged states = codes "there are more than " ++ states_text is_merged states
 
--- what may help
-abbrev pub next_line : Bool → List ℕ
-next_line true = codes "try a larger --limit, hunt, or fewer processes or rounds\n"
-next_line false = codes "try it without --single, a larger --limit, hunt, or fewer processes or rounds\n"
+-- what may help: more of what was met, which is the limit of states where as many are told
+abbrev pub larger_text : Limits → ℕ → List ℕ
+larger_text limits states = if states == limits.states then codes "a larger --limit" else codes "a larger --memory"
+
+abbrev pub try_text : Bool → List ℕ
+try_text true = codes "try "
+try_text false = codes "try it without --single, "
+
+abbrev pub next_line : Bool → Limits → ℕ → List ℕ
+next_line is_merged limits states = try_text is_merged ++ larger_text limits states ++ codes ", hunt, or fewer processes or rounds\n"
 
 abbrev pub limit_line : Bool → ℕ → List ℕ
-limit_line is_merged states = more_text is_merged states ++ codes ": nothing is said of all schedules\n" ++ next_line is_merged
+limit_line is_merged states = more_text is_merged states ++ codes ": nothing is said of all schedules"
 
 -- how many runs of a plan there are from this one on, of which the last is 4294967294; and what they are
 abbrev pub runs_from : Plan → ℕ → ℕ
@@ -165,13 +175,13 @@ ends_text asked =
     else (asked_text asked ++ codes " can still end after every schedule, and will if each that runs steps again and again")
 
 abbrev pub ends_line : Bool → ℕ → MustStop → ℕ → List ℕ
-ends_line is_merged lines asked states = quiet_text lines ++ ends_text asked ++ codes " (" ++ states_text is_merged states ++ codes ")\n"
+ends_line is_merged lines asked states = quiet_text lines ++ ends_text asked ++ counted_text is_merged states
 
 -- they can always end, and it isn't known whether they do
 abbrev pub can_end_text : Bool → ℕ → MustStop → ℕ → List ℕ
 can_end_text is_merged lines asked states =
-    quiet_text lines ++ asked_text asked ++ codes " can still end after every schedule (" ++ states_text is_merged states
-    ++ codes "); of those in which each that runs steps again and again nothing was "
+    quiet_text lines ++ asked_text asked ++ codes " can still end after every schedule" ++ counted_text is_merged states
+    ++ codes "; of those in which each that runs steps again and again nothing was "
 
 -- why it isn't: endless schedules are asked for by single steps alone
 abbrev pub unknown_text : Bool → List ℕ
@@ -180,13 +190,15 @@ unknown_text is_merged = if is_merged then codes "asked" else codes "found out"
 abbrev pub can_end_line : Bool → ℕ → MustStop → ℕ → List ℕ
 can_end_line is_merged lines asked states =
     if is_nobody asked then ends_line is_merged lines asked states
-    else (can_end_text is_merged lines asked states ++ unknown_text is_merged ++ codes "\n")
+    else (can_end_text is_merged lines asked states ++ unknown_text is_merged)
+
+-- what may help where single steps met a limit
+abbrev pub half_next : Limits → ℕ → List ℕ
+half_next limits others = codes "try " ++ larger_text limits others ++ codes ", or fewer processes or rounds\n"
 
 -- the same of merged steps, where by single ones there are more states than this
 abbrev pub half_line : ℕ → MustStop → ℕ → ℕ → List ℕ
-half_line lines asked states limit =
-    can_end_text true lines asked states ++ codes "found out: " ++ more_text false limit
-    ++ codes "\ntry a larger --limit, or fewer processes or rounds\n"
+half_line lines asked states others = can_end_text true lines asked states ++ codes "found out: " ++ more_text false others
 
 -- they can always end, and under an endless schedule they don't
 abbrev pub endless_line : ℕ → MustStop → List ℕ

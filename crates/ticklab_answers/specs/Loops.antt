@@ -1,5 +1,5 @@
 -- The text about steps of a program that repeat for ever, and about the schedule that leads there.
-use Rattle.std.specs.Prelude.{◌≡◌, ◌++◌, ℕ, Bool, true, false, List, [], ◌∷◌, Option, Some, drop, length, take}
+use Rattle.std.specs.Prelude.{◌≡◌, ◌++◌, ℕ, Bool, true, false, List, [], ◌∷◌, Option, None, Some, drop, length, take}
 use Rattle.std.specs.List.{list_any}
 use Rattle.base.specs.Plain.{Name, WholeProgram}
 use Rattle.base.specs.declared.event.Act.{Act}
@@ -7,6 +7,9 @@ use Rattle.base.specs.declared.event.Act.TheVariants as A
 use Rattle.tick_syntax.specs.Spelling.{Spells}
 use Rattle.tick_syntax.specs.declared.token.Token.{Token}
 use Rattle.tick_kinds.specs.Resolution.{resolved}
+use Rattle.ticklab_json.specs.Found.{loop_data}
+use Rattle.ticklab_json.specs.Members.{lines}
+use Rattle.ticklab_json.specs.Steps.{statement_list}
 use Rattle.ticklab_trace.specs.declared.steps.StatementStep.{StatementStep}
 use Rattle.ticklab_trace.specs.Places.{Standing, standings}
 use Rattle.ticklab_trace.specs.StatementSteps.{AreStatementSteps}
@@ -47,3 +50,11 @@ pub record IsLoopText (found input : List ℕ) (a : WholeProgram Name) (schedule
   pub steps : List StatementStep
   pub are_steps : AreStatementSteps (resolved a) (schedule ++ lead_in ++ cycle) steps
   pub whole : out ≡ loop_text a (standings input tokens a) found schedule lead_in cycle steps
+
+-- The same as an object.
+pub record IsLoopObject (answer says input : List ℕ) (a : WholeProgram Name) (schedule lead_in cycle out : List ℕ) : Type 0 where
+  pub tokens : List Token
+  pub spelled : Spells input tokens
+  pub steps : List StatementStep
+  pub are_steps : AreStatementSteps (resolved a) (schedule ++ lead_in ++ cycle) steps
+  pub object : out ≡ lines (loop_data answer says (record { schedule = schedule; lead_in = lead_in; cycle = cycle; trace = statement_list a (standings input tokens a) None 0 steps }) ∷ [])

@@ -1,22 +1,16 @@
 -- What `page` answers: a page of the run of a program, or of its code, under a schedule.
 use Rattle.std.specs.Prelude.{◌≡◌, ℕ, Bool, true, false, List, Option}
 use Rattle.base.specs.Plain.{Name, WholeProgram}
-use Rattle.tick_syntax.specs.Spelling.{Spells}
-use Rattle.tick_syntax.specs.declared.token.Token.{Token}
 use Rattle.tick_kinds.specs.Resolution.{resolved}
 use Rattle.language_properties.specs.Properties.{Formula}
-use Rattle.ticklab_trace.specs.declared.steps.InstructionStep.{InstructionStep}
-use Rattle.ticklab_trace.specs.declared.steps.StatementStep.{StatementStep}
-use Rattle.ticklab_trace.specs.InstructionSteps.{AreInstructionSteps}
-use Rattle.ticklab_trace.specs.StatementSteps.{AreStatementSteps}
-use Rattle.ticklab_trace.specs.Places.{standings}
 use Rattle.ticklab_draw.specs.Never.{Broken}
 use Rattle.ticklab_draw.specs.declared.look.Look.{Look}
 use Rattle.ticklab_page.specs.Pages.{code_page, source_page}
 use Rattle.ticklab_answers.specs.Asking.{TextPlace}
 use Rattle.ticklab_answers.specs.Breaking.{IsMarked}
-use Rattle.ticklab_answers.specs.Codes.{HasCode, program_code}
+use Rattle.ticklab_answers.specs.Codes.{program_code}
 use Rattle.ticklab_answers.specs.Pictures.{IsRunPicture}
+use Rattle.ticklab_answers.specs.Steps.{IsOfInstructions, IsOfStatements}
 
 -- how the picture of a page looks: as that of `draw` without options
 abbrev pub whole_look : Look
@@ -24,21 +18,14 @@ whole_look = record { from = 1; is_shared = false; width = 1000 }
 
 -- The page of the run of the program that the input is, around this picture: its steps as a trace has them, and the first
 -- of these lines to be broken, which stand here.
-pub record IsProgramPage (title drawn : List ℕ) (lines : List Formula) (places : List TextPlace) (input : List ℕ) (a : WholeProgram Name) (schedule out : List ℕ) : Type 0 where
-  pub tokens : List Token
-  pub spelled : Spells input tokens
-  pub steps : List StatementStep
-  pub are_steps : AreStatementSteps (resolved a) schedule steps
-  pub mark : Option Broken
-  pub is_mark : IsMarked (resolved a) lines places schedule mark
-  pub page : out ≡ source_page title input a (standings input tokens a) steps drawn mark
+abbrev pub IsProgramPage : List ℕ → List ℕ → List Formula → List TextPlace → List ℕ → WholeProgram Name → List ℕ → List ℕ → Type 0
+IsProgramPage title drawn lines places input a schedule out =
+    (mark : Option Broken) × IsMarked (resolved a) lines places schedule mark
+    × IsOfStatements input a schedule (λ spots steps. out ≡ source_page title input a spots steps drawn mark)
 
 -- that of its code
-pub record IsCodePage (title drawn : List ℕ) (a : WholeProgram Name) (schedule out : List ℕ) : Type 0 where
-  pub has_code : HasCode a
-  pub steps : List InstructionStep
-  pub are_steps : AreInstructionSteps (program_code a) schedule steps
-  pub page : out ≡ code_page title a (program_code a) steps drawn
+abbrev pub IsCodePage : List ℕ → List ℕ → WholeProgram Name → List ℕ → List ℕ → Type 0
+IsCodePage title drawn a schedule out = IsOfInstructions a schedule (λ steps. out ≡ code_page title a (program_code a) steps drawn)
 
 abbrev pub IsPageAround : List ℕ → List ℕ → Bool → List Formula → List TextPlace → List ℕ → WholeProgram Name → List ℕ → List ℕ → Type 0
 IsPageAround title drawn true lines places input a schedule out = IsCodePage title drawn a schedule out

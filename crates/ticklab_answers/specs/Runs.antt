@@ -1,38 +1,39 @@
--- What `trace`, `draw` and `page` answer: a trace, a picture or a page of the run of a program, or of its code, under a
--- schedule.
-use Rattle.std.specs.Prelude.{◌≡◌, ◌≤◌, ◌<◌, ◌++◌, ⊤, ℕ, Bool, true, false, List, drop, length, map, option_map, slice_get, take, Option, Some, Ok}
+-- What `trace`, `draw` and `page` answer: a trace as text or as JSON, a picture or a page of the run of a program, or of its
+-- code, under a schedule.
+use Rattle.std.specs.Prelude.{◌≡◌, ◌≤◌, ◌<◌, ◌++◌, ⊤, ℕ, Bool, true, false, List, drop, length, option_map, take, Option, Some, None, Ok}
 use Rattle.std.specs.Borrow.{Bor}
 use Rattle.base.specs.Plain.{Name, WholeProgram}
-use Rattle.tick_syntax.specs.Spelling.{Spells}
-use Rattle.tick_syntax.specs.declared.token.Token.{Token}
 use Rattle.tick_kinds.specs.Resolution.{resolved}
 use Rattle.language_properties.specs.Properties.{Formula}
 use Rattle.language_schedules.specs.Schedule.{schedule_of}
 use Rattle.ticketc_refusals.specs.Refusals.{IsScheduleRefused}
 use Rattle.ticklab_explain.specs.Questions.{IsPointed}
 use Rattle.ticklab_explain.specs.Reports.{TellsFor}
+use Rattle.ticklab_json.specs.Steps.{instruction_objects, statement_objects}
 use Rattle.ticklab_trace.specs.declared.steps.InstructionStep.{InstructionStep}
 use Rattle.ticklab_trace.specs.declared.steps.StatementStep.{StatementStep}
-use Rattle.ticklab_trace.specs.InstructionSteps.{AreInstructionSteps}
-use Rattle.ticklab_trace.specs.StatementSteps.{AreStatementSteps}
-use Rattle.ticklab_trace.specs.Places.{standings}
+use Rattle.ticklab_trace.specs.Places.{Standing}
 use Rattle.ticklab_trace.specs.TraceText.{instruction_lines, statement_lines}
 use Rattle.tick_sim.specs.Maps.{up}
 use Rattle.ticklab_line.specs.Commands.{plain_drawing}
 use Rattle.ticklab_line.specs.declared.commands.Drawing.{Drawing}
+use Rattle.ticklab_line.specs.declared.commands.AskedRun.{AskedRun}
 use Rattle.ticklab_line.specs.declared.commands.Side.{Side}
 use Rattle.ticklab_line.specs.declared.commands.Side.TheVariants.{Program, Code, Lifted}
 use Rattle.ticklab_answers.specs.Asking.{AsksNever, IsFileRefused, IsProgramFile, TellsOption, TextPlace, lines_in, places_by}
-use Rattle.ticklab_answers.specs.Breaking.{IsFirstBreak, NeverBreaks}
-use Rattle.ticklab_answers.specs.Codes.{HasCode, IsCodeless, program_code}
+use Rattle.ticklab_answers.specs.Breaking.{BrokenAt, IsFirstAt}
+use Rattle.ticklab_answers.specs.Codes.{IsCodeless, program_code}
 use Rattle.ticklab_answers.specs.Lines.{broken_text, long_run_line}
+use Rattle.ticklab_answers.specs.Objects.{AreBrokenObjects}
 use Rattle.ticklab_answers.specs.Pages.{IsPage}
 use Rattle.ticklab_answers.specs.Pictures.{IsPictureFor, title_of}
 use Rattle.ticklab_answers.specs.Reading.{AfterBoth, ReadsOf, ReadsInputOf}
 use Rattle.ticklab_answers.specs.Responses.{Gives, Refuses}
-use Rattle.ticklab_answers.specs.declared.breaking.Break.{Break}
+use Rattle.ticklab_answers.specs.Steps.{IsOfInstructions, IsOfStatements}
 use Rattle.ticklab_answers.specs.declared.commands.told_run.Telling.{Telling}
 use Rattle.ticklab_answers.specs.declared.commands.told_run.Telling.TheVariants.{Trace, Picture, Page}
+use Rattle.ticklab_answers.specs.declared.form.Form.{Form}
+use Rattle.ticklab_answers.specs.declared.form.Form.TheVariants.{Text, Json}
 use Rattle.ticklab_answers.specs.declared.response.Response.{Response}
 
 -- the schedule under which it runs, where this one is given
@@ -82,51 +83,60 @@ pub data AnswersRun {texts : List (List ℕ)} {input : List ℕ} (telling : Tell
   run : Gives 0 (IsRun side P text) response → AnswersRun telling side P name from text response
   unrun : Refuses 1 (IsUnrun telling name texts input from text side) response → AnswersRun telling side P name from text response
 
--- The lines of the steps of the program that the input is, with its statements where they stand there.
-pub record IsStatementTrace (input : List ℕ) (a : WholeProgram Name) (schedule out : List ℕ) : Type 0 where
-  pub tokens : List Token
-  pub spelled : Spells input tokens
-  pub steps : List StatementStep
-  pub are_steps : AreStatementSteps (resolved a) schedule steps
-  pub lines : out ≡ statement_lines a (standings input tokens a) 0 steps
+-- the lines of the steps of the program that the input is
+abbrev pub IsStatementTrace : List ℕ → WholeProgram Name → List ℕ → List ℕ → Type 0
+IsStatementTrace input a schedule out = IsOfStatements input a schedule (λ spots steps. out ≡ statement_lines a spots 0 steps)
 
--- The same, and after the step after which a line first is broken, that line, which stands here, and what it comes to.
-pub record IsTraceAround (place : TextPlace) (input : List ℕ) (a : WholeProgram Name) (schedule : List ℕ) (b : Break) (out : List ℕ) : Type 0 where
-  pub tokens : List Token
-  pub spelled : Spells input tokens
-  pub steps : List StatementStep
-  pub are_steps : AreStatementSteps (resolved a) schedule steps
+-- The lines of these steps of a program, whose statements stand there, and after the step after which a line is broken, that
+-- line, and what it comes to.
+pub record AreBrokenLines (found : BrokenAt) (a : WholeProgram Name) (spots : List Standing) (steps : List StatementStep) (out : List ℕ) : Type 0 where
   pub pointed : List ℕ
-  pub is_pointed : IsPointed place.name place.text place.span (broken_text b.value) pointed
-  pub lines : out ≡ statement_lines a (standings input tokens a) 0 (take b.steps steps) ++ pointed
-      ++ statement_lines a (standings input tokens a) b.steps (drop b.steps steps)
+  pub is_pointed : IsPointed found.place.name found.place.text found.place.span (broken_text found.broken.value) pointed
+  pub lines : out ≡ statement_lines a spots 0 (take found.broken.steps steps) ++ pointed
+      ++ statement_lines a spots found.broken.steps (drop found.broken.steps steps)
 
--- the trace with the first of these lines to be broken, which stand here
-pub data IsLinedTrace (lines : List Formula) (places : List TextPlace) (input : List ℕ) (a : WholeProgram Name) (schedule out : List ℕ) : Type 0 where
-  unbroken : NeverBreaks (resolved a) lines schedule → IsStatementTrace input a schedule out → IsLinedTrace lines places input a schedule out
-  breaking : (b : Break) → IsFirstBreak (resolved a) lines schedule b → (place : TextPlace) → slice_get places b.line ≡ Some place
-      → IsTraceAround place input a schedule b out → IsLinedTrace lines places input a schedule out
+-- in each form
+abbrev pub AreToldWith : Form → BrokenAt → WholeProgram Name → List Standing → List StatementStep → List ℕ → Type 0
+AreToldWith Text = AreBrokenLines
+AreToldWith Json = AreBrokenObjects
 
--- The same of its code.
-pub record IsInstructionTrace (a : WholeProgram Name) (schedule out : List ℕ) : Type 0 where
-  pub has_code : HasCode a
-  pub steps : List InstructionStep
-  pub are_steps : AreInstructionSteps (program_code a) schedule steps
-  pub lines : out ≡ instruction_lines a 0 steps
+abbrev pub steps_told : Form → WholeProgram Name → List Standing → List StatementStep → List ℕ
+steps_told Text a spots steps = statement_lines a spots 0 steps
+steps_told Json a spots steps = statement_objects a spots None steps
 
-abbrev pub IsTrace : Bool → List Formula → List TextPlace → List ℕ → WholeProgram Name → List ℕ → List ℕ → Type 0
-IsTrace true lines places input a schedule out = IsInstructionTrace a schedule out
-IsTrace false lines places input a schedule out = IsLinedTrace lines places input a schedule out
+-- with the line that is broken first, where one is
+abbrev pub AreTold : Form → Option BrokenAt → WholeProgram Name → List Standing → List StatementStep → List ℕ → Type 0
+AreTold form None a spots steps out = out ≡ steps_told form a spots steps
+AreTold form (Some found) a spots steps out = AreToldWith form found a spots steps out
+
+-- What is told of the steps of the program that the input is, with the first of these lines to be broken, which stand here.
+abbrev pub IsProgramTrace : Form → List Formula → List TextPlace → List ℕ → WholeProgram Name → List ℕ → List ℕ → Type 0
+IsProgramTrace form lines places input a schedule out =
+    (broken : Option BrokenAt) × IsFirstAt (resolved a) lines places schedule broken
+    × IsOfStatements input a schedule (λ spots steps. AreTold form broken a spots steps out)
+
+-- The same of its code, of which no line is asked.
+
+abbrev pub code_told : Form → WholeProgram Name → List InstructionStep → List ℕ
+code_told Text a steps = instruction_lines a 0 steps
+code_told Json a steps = instruction_objects a steps
+
+abbrev pub IsCodeTrace : Form → WholeProgram Name → List ℕ → List ℕ → Type 0
+IsCodeTrace form a schedule out = IsOfInstructions a schedule (λ steps. out ≡ code_told form a steps)
+
+abbrev pub IsTrace : Form → Bool → List Formula → List TextPlace → List ℕ → WholeProgram Name → List ℕ → List ℕ → Type 0
+IsTrace form true lines places input a schedule out = IsCodeTrace form a schedule out
+IsTrace form false lines places input a schedule out = IsProgramTrace form lines places input a schedule out
 
 -- texts that are lent, as the texts themselves
 abbrev pub plain_telling : Telling (Bor (List ℕ)) → Telling (List ℕ)
-plain_telling Trace = Trace
+plain_telling (Trace form) = Trace form
 plain_telling (Picture drawing) = Picture (plain_drawing drawing)
 plain_telling (Page title) = Page (option_map (λ text. text.now) title)
 
 -- a run is told as a trace, as a picture or as a page
 abbrev pub IsToldWith : Telling (List ℕ) → Bool → List ℕ → List Formula → List TextPlace → List ℕ → WholeProgram Name → List ℕ → List ℕ → Type 0
-IsToldWith Trace is_code name lines places input = IsTrace is_code lines places input
+IsToldWith (Trace form) is_code name lines places input = IsTrace form is_code lines places input
 IsToldWith (Picture drawing) is_code name lines places input = IsPictureFor drawing is_code name lines places
 IsToldWith (Page title) is_code name lines places input = IsPage (title_of title name) is_code lines places input
 
@@ -135,18 +145,7 @@ IsTold telling side name texts input asks =
     λ schedule out. IsWithin telling (length schedule)
     × IsToldWith telling (is_of_code side) name asks.lines (places_by name input asks.file.asked texts) input asks.file.program schedule out
 
-abbrev pub TellsRun : {F : Type 0} → Telling (List ℕ) → ReadsOf F → ReadsInputOf F → F → F → List ℕ → List ℕ → List (List ℕ) → Side → Response → Type 0
-TellsRun telling Reads ReadsInput before after file schedule never side response =
-    AfterBoth Reads ReadsInput before after file schedule
-    (λ input from text. AnswersRun telling side (IsTold telling side file never input) file from text response)
-
-abbrev pub Traces : {F : Type 0} → ReadsOf F → ReadsInputOf F → F → F → List ℕ → List ℕ → List (List ℕ) → Side → Response → Type 0
-Traces Reads ReadsInput before after file schedule never side response = TellsRun Trace Reads ReadsInput before after file schedule never side response
-
-abbrev pub Draws : {F : Type 0} → ReadsOf F → ReadsInputOf F → F → F → List ℕ → List ℕ → List (List ℕ) → Side → Drawing (List ℕ) → Response → Type 0
-Draws Reads ReadsInput before after file schedule never side drawing response =
-    TellsRun (Picture drawing) Reads ReadsInput before after file schedule never side response
-
-abbrev pub Pages : {F : Type 0} → ReadsOf F → ReadsInputOf F → F → F → List ℕ → List ℕ → List (List ℕ) → Side → Option (List ℕ) → Response → Type 0
-Pages Reads ReadsInput before after file schedule never side title response =
-    TellsRun (Page title) Reads ReadsInput before after file schedule never side response
+abbrev pub TellsRun : {F : Type 0} → Telling (List ℕ) → ReadsOf F → ReadsInputOf F → F → F → AskedRun (List ℕ) (List (List ℕ)) → Response → Type 0
+TellsRun telling Reads ReadsInput before after asked response =
+    AfterBoth Reads ReadsInput before after asked.file asked.schedule
+    (λ input from text. AnswersRun telling asked.side (IsTold telling asked.side asked.file asked.never input) asked.file from text response)

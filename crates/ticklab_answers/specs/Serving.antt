@@ -3,10 +3,13 @@ use Rattle.std.specs.Prelude.{◌≡◌, ℕ, IfOk, List, [], Option, Result, Ok
 use Rattle.std.specs.Io.KnownBytes.{Appends}
 use Rattle.std.specs.declared.io.Error.{Error}
 use Rattle.ticklab_answers.specs.Answers.{GivenWords, RespondsToWords}
+use Rattle.ticklab_answers.specs.Checks.{ListsOf}
+use Rattle.ticklab_answers.specs.Colours.{shown_as}
 use Rattle.ticklab_answers.specs.Hearing.{HearsOf}
 use Rattle.ticklab_answers.specs.Faults.{status_of}
 use Rattle.ticklab_answers.specs.Reading.{ReadsOf, ReadsInputOf}
 use Rattle.ticklab_answers.specs.Tallies.{RunsOf}
+use Rattle.ticklab_answers.specs.declared.colours.Colours.{Colours}
 use Rattle.ticklab_answers.specs.declared.fault.LabFault.{LabFault}
 use Rattle.ticklab_answers.specs.declared.response.Response.{Response}
 
@@ -24,19 +27,20 @@ pub record Grows (old new : Known) (bytes : List ℕ) : Type 0 where
   pub appended : Appends old new bytes
   pub untouched : bytes ≡ [] → new ≡ old
 
--- the status is that of a response, of which all is written
-pub record IsShown (old new : Outputs) (P : Response → Type 0) (status : ℕ) : Type 0 where
+-- the status is that of a response, of which all is written, with these colours
+pub record IsShown (colours : Colours) (old new : Outputs) (P : Response → Type 0) (status : ℕ) : Type 0 where
   pub response : Response
   pub answer : P response
   pub same : status ≡ response.status
-  pub out : Grows old.out new.out response.out.items
-  pub err : Grows old.err new.err response.told.items
+  pub out : Grows old.out new.out (shown_as colours.out response.out.items)
+  pub err : Grows old.err new.err (shown_as colours.err response.told.items)
 
--- What the words come to, over files, a runner, a watch and outputs as they are before and after.
-abbrev pub Ends : {F M W : Type 0} → ReadsOf F → ReadsInputOf F → RunsOf M → HearsOf W → F → F → M → M → W → W → Outputs → Outputs
-    → Result GivenWords Error → ℕ → Type 0
-Ends Reads ReadsInput Ran hears files read rested ran quiet heard old new given status =
-    IsShown old new (RespondsToWords Reads ReadsInput Ran hears files read rested ran quiet heard given) status
+-- What the words come to in a program of this version, over files, a runner, a watch and outputs as they are before and
+-- after, with these colours.
+abbrev pub Ends : {F M W : Type 0} → ReadsOf F → ReadsInputOf F → ListsOf F → RunsOf M → HearsOf W → F → F → M → M → W → W → Outputs → Outputs
+    → List ℕ → Colours → Result GivenWords Error → ℕ → Type 0
+Ends Reads ReadsInput Lists Ran hears files read rested ran quiet heard old new version colours given status =
+    IsShown colours old new (RespondsToWords Reads ReadsInput Lists Ran hears files read rested ran quiet heard version given) status
 
 abbrev pub exit_of : Result ℕ LabFault → ℕ
 exit_of (Ok status) = status

@@ -1,24 +1,34 @@
--- What `explore` and `hunt` show of the program that an input is. A schedule is told as that of a trap.
-use Rattle.std.specs.Prelude.{◌≡◌, ◌++◌, ℕ, Bool, true, false, List, [], length, slice_get, Some}
+-- What `explore` and `hunt` show of a program, in each form.
+use Rattle.std.specs.Prelude.{◌≡◌, ◌++◌, ℕ, Bool, true, false, if◌then◌else◌, List, [], ◌∷◌, codes, length, slice_get, None, Some}
+use Rattle.base.specs.Lines.{line_end}
 use Rattle.base.specs.Plain.{Name, WholeProgram}
 use Rattle.language_properties.specs.Values.{Valued}
 use Rattle.searches_explore.specs.declared.never_answer.NeverExplored.{NeverExplored}
 use Rattle.searches_explore.specs.declared.never_answer.NeverExplored.TheVariants.{Trapped, Broken, Safe, Limit}
 use Rattle.searches_explore.specs.declared.end_answer.EndExplored.{EndExplored}
 use Rattle.searches_explore.specs.declared.end_answer.EndExplored.TheVariants as E
+use Rattle.searches_states.specs.declared.limits.Limits.{Limits}
 use Rattle.searches_states.specs.declared.must_stop.MustStop.{MustStop}
 use Rattle.searches_hunt.specs.declared.minimal.Minimal.{Minimal}
 use Rattle.searches_hunt.specs.declared.minimal.Minimal.TheVariants as M
 use Rattle.searches_hunt.specs.declared.never_answer.NeverHunted.{NeverHunted}
 use Rattle.searches_hunt.specs.declared.never_answer.NeverHunted.TheVariants as H
 use Rattle.searches_hunt.specs.declared.plan.Plan.{Plan}
+use Rattle.serde_json.specs.Data.{Members}
 use Rattle.ticklab_explain.specs.Questions.{IsPointed}
+use Rattle.ticklab_json.specs.Found.{says_members, states_data}
+use Rattle.ticklab_json.specs.Hunts.{empty_hunt_data, plan_members}
+use Rattle.ticklab_json.specs.Members as J
 use Rattle.ticklab_answers.specs.Asking.{TextPlace}
 use Rattle.ticklab_answers.specs.BySteps.{break_line_by, line_by}
-use Rattle.ticklab_answers.specs.Lines.{broken_text, can_end_line, endless_line, ends_line, half_line, limit_line, minimal_break_line, minimal_line, nothing_line, safe_line, stuck_line, trap_lines}
-use Rattle.ticklab_answers.specs.Loops.{IsLoopText}
+use Rattle.ticklab_answers.specs.declared.form.Form.{Form}
+use Rattle.ticklab_answers.specs.declared.form.Form.TheVariants.{Text, Json}
+use Rattle.ticklab_answers.specs.Lines.{broken_text, can_end_line, endless_line, ends_line, half_line, half_next, is_nobody, limit_line, minimal_break_line, minimal_line, next_line, nothing_line, safe_line, stuck_line, trap_lines}
+use Rattle.ticklab_answers.specs.Loops.{IsLoopObject, IsLoopText}
 use Rattle.ticklab_answers.specs.Responses.{Gives}
+use Rattle.ticklab_answers.specs.RunObjects.{IsBreakObject, IsRunObject}
 use Rattle.ticklab_answers.specs.Runs.{IsStatementTrace}
+use Rattle.ticklab_answers.specs.Sought.{Sought}
 use Rattle.ticklab_answers.specs.declared.response.Response.{Response}
 
 -- How a trap was found, the schedule, and what each of its steps does.
@@ -26,9 +36,6 @@ pub record IsTrapText (found input : List ℕ) (a : WholeProgram Name) (schedule
   pub trace : List ℕ
   pub traced : IsStatementTrace input a schedule trace
   pub whole : out ≡ trap_lines found schedule ++ trace
-
-abbrev pub ShowsTrap : List ℕ → List ℕ → WholeProgram Name → List ℕ → Response → Type 0
-ShowsTrap found input a schedule = Gives 5 (IsTrapText found input a schedule)
 
 -- How a line was found that breaks, the schedule, what each of its steps does, and the line with what it comes to.
 pub record IsBrokenText (found input : List ℕ) (a : WholeProgram Name) (schedule : List ℕ) (place : TextPlace) (v : Valued) (out : List ℕ) : Type 0 where
@@ -38,75 +45,120 @@ pub record IsBrokenText (found input : List ℕ) (a : WholeProgram Name) (schedu
   pub is_pointed : IsPointed place.name place.text place.span (broken_text v) pointed
   pub whole : out ≡ traced ++ pointed
 
--- of the lines that stand here the one of this number breaks
-pub record ShowsBroken (found input : List ℕ) (a : WholeProgram Name) (places : List TextPlace) (schedule : List ℕ) (line : ℕ) (v : Valued) (response : Response) : Type 0 where
+-- How it was found a text says in a line, and an object in members.
+
+abbrev pub IsTrapAnswer : Form → List ℕ → Members → List ℕ → WholeProgram Name → List ℕ → List ℕ → Type 0
+IsTrapAnswer Text found head input a schedule out = IsTrapText found input a schedule out
+IsTrapAnswer Json found head input a schedule out = IsRunObject head input a schedule None out
+
+abbrev pub IsBrokenAnswer : Form → List ℕ → Members → List ℕ → WholeProgram Name → List ℕ → TextPlace → Valued → List ℕ → Type 0
+IsBrokenAnswer Text found head input a schedule place v out = IsBrokenText found input a schedule place v out
+IsBrokenAnswer Json found head input a schedule place v out = IsBreakObject head input a schedule place v out
+
+abbrev pub ShowsTrap : List ℕ → Members → Sought → List ℕ → Response → Type 0
+ShowsTrap found head s schedule = Gives 5 (IsTrapAnswer s.form found head s.input s.program schedule)
+
+-- of the lines that must never hold the one of this number breaks
+pub record ShowsBroken (found : List ℕ) (head : Members) (s : Sought) (schedule : List ℕ) (line : ℕ) (v : Valued) (response : Response) : Type 0 where
   pub place : TextPlace
-  pub there : slice_get places line ≡ Some place
-  pub shown : Gives 5 (IsBrokenText found input a schedule place v) response
+  pub there : slice_get s.places line ≡ Some place
+  pub shown : Gives 5 (IsBrokenAnswer s.form found head s.input s.program schedule place v) response
 
--- no process traps, and none of so many lines breaks
-abbrev pub ShowsSafe : Bool → ℕ → ℕ → Response → Type 0
-ShowsSafe is_merged lines states = Gives 0 (λ out. out ≡ safe_line is_merged lines states)
+-- What `explore` finds it says in a line, in both forms.
 
-abbrev pub ShowsLimit : Bool → ℕ → Response → Type 0
-ShowsLimit is_merged states = Gives 6 (λ out. out ≡ limit_line is_merged states)
+abbrev pub SaysTrap : List ℕ → Sought → List ℕ → Response → Type 0
+SaysTrap line = ShowsTrap line (says_members line)
 
--- no process traps, and none of so many lines breaks, in the runs of this plan from this one on
-abbrev pub ShowsNothing : ℕ → Plan → ℕ → Response → Type 0
-ShowsNothing lines plan from = Gives 0 (λ out. out ≡ nothing_line lines plan from)
+abbrev pub SaysBroken : List ℕ → Sought → List ℕ → ℕ → Valued → Response → Type 0
+SaysBroken line = ShowsBroken line (says_members line)
 
--- by steps of one kind; the lines that must never hold stand at these places
-abbrev pub Shows : Bool → List ℕ → WholeProgram Name → List TextPlace → NeverExplored → Response → Type 0
-Shows is_merged input a places (Trapped schedule) response = ShowsTrap (line_by is_merged) input a schedule.items response
-Shows is_merged input a places (Broken schedule line v) response =
-    ShowsBroken (break_line_by is_merged) input a places schedule.items line v response
-Shows is_merged input a places (Safe states) response = ShowsSafe is_merged (length places) states response
-Shows is_merged input a places (Limit states) response = ShowsLimit is_merged states response
+-- Without a schedule a text says something in a line, with more behind it; an object has so many states in place of that.
+abbrev pub IsStatesAnswer : Form → List ℕ → List ℕ → Bool → ℕ → List ℕ → List ℕ → Type 0
+IsStatesAnswer Text answer says is_merged states more out = out ≡ says ++ line_end ++ more
+IsStatesAnswer Json answer says is_merged states more out = out ≡ J.lines (states_data answer says is_merged states ∷ [])
+
+-- no process traps, and none of the lines breaks
+abbrev pub ShowsSafe : Sought → Bool → ℕ → Response → Type 0
+ShowsSafe s is_merged states = Gives 0 (IsStatesAnswer s.form (codes "safe") (safe_line is_merged (length s.places) states) is_merged states [])
+
+abbrev pub ShowsLimit : Sought → Bool → Limits → ℕ → Response → Type 0
+ShowsLimit s is_merged limits states =
+    Gives 6 (IsStatesAnswer s.form (codes "limit") (limit_line is_merged states) is_merged states (next_line is_merged limits states))
+
+-- by steps of one kind, within these limits
+abbrev pub Shows : Bool → Sought → Limits → NeverExplored → Response → Type 0
+Shows is_merged s limits (Trapped schedule) response = SaysTrap (line_by is_merged) s schedule.items response
+Shows is_merged s limits (Broken schedule line v) response = SaysBroken (break_line_by is_merged) s schedule.items line v response
+Shows is_merged s limits (Safe states) response = ShowsSafe s is_merged states response
+Shows is_merged s limits (Limit states) response = ShowsLimit s is_merged limits states response
 
 -- a schedule that needs all its steps
-abbrev pub ShowsMinimal : List ℕ → WholeProgram Name → List TextPlace → Minimal → Response → Type 0
-ShowsMinimal input a places (M.Trapped schedule) response = ShowsTrap minimal_line input a schedule.items response
-ShowsMinimal input a places (M.Broken schedule line v) response =
-    ShowsBroken minimal_break_line input a places schedule.items line v response
+abbrev pub ShowsMinimal : Sought → Minimal → Response → Type 0
+ShowsMinimal s (M.Trapped schedule) response = SaysTrap minimal_line s schedule.items response
+ShowsMinimal s (M.Broken schedule line v) response = SaysBroken minimal_break_line s schedule.items line v response
 
-abbrev pub ShowsHunt : List ℕ → WholeProgram Name → List TextPlace → Plan → ℕ → NeverHunted → Response → Type 0
-ShowsHunt input a places plan from (H.Trapped run schedule) response = ShowsTrap minimal_line input a schedule.items response
-ShowsHunt input a places plan from (H.Broken run schedule line v) response =
-    ShowsBroken minimal_break_line input a places schedule.items line v response
-ShowsHunt input a places plan from H.Nothing response = ShowsNothing (length places) plan from response
+-- What a hunt finds an object says with the plan, and with the run from which on it was tried.
 
--- Of so many lines that must never hold none breaks.
+abbrev pub ShowsHuntTrap : Plan → ℕ → Sought → List ℕ → Response → Type 0
+ShowsHuntTrap plan from = ShowsTrap minimal_line (plan_members plan from)
 
-abbrev pub ShowsStuck : Bool → ℕ → MustStop → List ℕ → WholeProgram Name → List ℕ → List ℕ → List ℕ → Response → Type 0
-ShowsStuck is_merged lines asked input a schedule lead_in cycle = Gives 7 (IsLoopText (stuck_line is_merged lines asked) input a schedule lead_in cycle)
+abbrev pub ShowsHuntBroken : Plan → ℕ → Sought → List ℕ → ℕ → Valued → Response → Type 0
+ShowsHuntBroken plan from = ShowsBroken minimal_break_line (plan_members plan from)
 
-abbrev pub ShowsEndless : ℕ → MustStop → List ℕ → WholeProgram Name → List ℕ → List ℕ → Response → Type 0
-ShowsEndless lines asked input a prefix cycle = Gives 7 (IsLoopText (endless_line lines asked) input a prefix [] cycle)
+-- no process traps, and none of so many lines breaks, in the runs of this plan from this one on
+abbrev pub IsEmptyAnswer : Form → ℕ → Plan → ℕ → List ℕ → Type 0
+IsEmptyAnswer Text lines plan from out = out ≡ nothing_line lines plan from
+IsEmptyAnswer Json lines plan from out = out ≡ J.lines (empty_hunt_data plan from ∷ [])
 
-abbrev pub ShowsAllEnd : ℕ → MustStop → ℕ → Response → Type 0
-ShowsAllEnd lines asked states = Gives 0 (λ out. out ≡ ends_line false lines asked states)
+abbrev pub ShowsEmptyHunt : Form → ℕ → Plan → ℕ → Response → Type 0
+ShowsEmptyHunt form lines plan from = Gives 0 (IsEmptyAnswer form lines plan from)
 
-abbrev pub ShowsCanEnd : Bool → ℕ → MustStop → ℕ → Response → Type 0
-ShowsCanEnd is_merged lines asked states = Gives 0 (λ out. out ≡ can_end_line is_merged lines asked states)
+abbrev pub ShowsHunt : Sought → Plan → ℕ → NeverHunted → Response → Type 0
+ShowsHunt s plan from (H.Trapped run schedule) response = ShowsHuntTrap plan from s schedule.items response
+ShowsHunt s plan from (H.Broken run schedule line v) response = ShowsHuntBroken plan from s schedule.items line v response
+ShowsHunt s plan from H.Nothing response = ShowsEmptyHunt s.form (length s.places) plan from response
+
+-- Where nothing is wrong, ends are told: of steps that repeat for ever, and the schedule that leads there.
+abbrev pub IsLoopAnswer : Form → List ℕ → List ℕ → List ℕ → WholeProgram Name → List ℕ → List ℕ → List ℕ → List ℕ → Type 0
+IsLoopAnswer Text answer found input a schedule lead_in cycle out = IsLoopText found input a schedule lead_in cycle out
+IsLoopAnswer Json answer found input a schedule lead_in cycle out = IsLoopObject answer found input a schedule lead_in cycle out
+
+abbrev pub ShowsLoop : List ℕ → List ℕ → Sought → List ℕ → List ℕ → List ℕ → Response → Type 0
+ShowsLoop answer found s schedule lead_in cycle = Gives 7 (IsLoopAnswer s.form answer found s.input s.program schedule lead_in cycle)
+
+abbrev pub ShowsStuck : Sought → Bool → MustStop → List ℕ → List ℕ → List ℕ → Response → Type 0
+ShowsStuck s is_merged asked = ShowsLoop (codes "stuck") (stuck_line is_merged (length s.places) asked) s
+
+abbrev pub ShowsEndless : Sought → MustStop → List ℕ → List ℕ → Response → Type 0
+ShowsEndless s asked prefix cycle = ShowsLoop (codes "endless") (endless_line (length s.places) asked) s prefix [] cycle
+
+abbrev pub ShowsAllEnd : Sought → MustStop → ℕ → Response → Type 0
+ShowsAllEnd s asked states = Gives 0 (IsStatesAnswer s.form (codes "ends") (ends_line false (length s.places) asked states) false states [])
+
+-- where nobody is asked for, all of them end
+abbrev pub can_end_word : MustStop → List ℕ
+can_end_word asked = if is_nobody asked then codes "ends" else codes "can-end"
+
+abbrev pub ShowsCanEnd : Sought → Bool → MustStop → ℕ → Response → Type 0
+ShowsCanEnd s is_merged asked states =
+    Gives 0 (IsStatesAnswer s.form (can_end_word asked) (can_end_line is_merged (length s.places) asked states) is_merged states [])
 
 -- by merged steps they can, and by single ones there are more states than this
-abbrev pub ShowsHalf : ℕ → MustStop → ℕ → ℕ → Response → Type 0
-ShowsHalf lines asked states limit = Gives 6 (λ out. out ≡ half_line lines asked states limit)
+abbrev pub ShowsHalf : Sought → MustStop → ℕ → Limits → ℕ → Response → Type 0
+ShowsHalf s asked states limits others =
+    Gives 6 (IsStatesAnswer s.form (codes "limit") (half_line (length s.places) asked states others) true states (half_next limits others))
 
--- the lines that must never hold stand at these places
-abbrev pub ShowsEnds : Bool → MustStop → List ℕ → WholeProgram Name → List TextPlace → EndExplored → Response → Type 0
-ShowsEnds is_merged asked input a places (E.Trapped schedule) response = ShowsTrap (line_by is_merged) input a schedule.items response
-ShowsEnds is_merged asked input a places (E.Broken schedule line v) response =
-    ShowsBroken (break_line_by is_merged) input a places schedule.items line v response
-ShowsEnds is_merged asked input a places (E.Stuck schedule lead_in cycle states) response =
-    ShowsStuck is_merged (length places) asked input a schedule.items lead_in.items cycle.items response
-ShowsEnds is_merged asked input a places (E.Endless prefix cycle states) response =
-    ShowsEndless (length places) asked input a prefix.items cycle.items response
-ShowsEnds is_merged asked input a places (E.Ends states) response = ShowsAllEnd (length places) asked states response
-ShowsEnds is_merged asked input a places (E.CanEnd states) response = ShowsCanEnd is_merged (length places) asked states response
-ShowsEnds is_merged asked input a places (E.Limit states) response = ShowsLimit is_merged states response
+abbrev pub ShowsEnds : Bool → MustStop → Sought → Limits → EndExplored → Response → Type 0
+ShowsEnds is_merged asked s limits (E.Trapped schedule) response = SaysTrap (line_by is_merged) s schedule.items response
+ShowsEnds is_merged asked s limits (E.Broken schedule line v) response = SaysBroken (break_line_by is_merged) s schedule.items line v response
+ShowsEnds is_merged asked s limits (E.Stuck schedule lead_in cycle states) response =
+    ShowsStuck s is_merged asked schedule.items lead_in.items cycle.items response
+ShowsEnds is_merged asked s limits (E.Endless prefix cycle states) response = ShowsEndless s asked prefix.items cycle.items response
+ShowsEnds is_merged asked s limits (E.Ends states) response = ShowsAllEnd s asked states response
+ShowsEnds is_merged asked s limits (E.CanEnd states) response = ShowsCanEnd s is_merged asked states response
+ShowsEnds is_merged asked s limits (E.Limit states) response = ShowsLimit s is_merged limits states response
 
 -- what merged steps find, where by single ones there are more states than this
-abbrev pub ShowsHalved : MustStop → List ℕ → WholeProgram Name → List TextPlace → ℕ → EndExplored → Response → Type 0
-ShowsHalved asked input a places limit (E.CanEnd states) response = ShowsHalf (length places) asked states limit response
-ShowsHalved asked input a places limit e response = ShowsEnds true asked input a places e response
+abbrev pub ShowsHalved : MustStop → Sought → Limits → ℕ → EndExplored → Response → Type 0
+ShowsHalved asked s limits others (E.CanEnd states) response = ShowsHalf s asked states limits others response
+ShowsHalved asked s limits others e response = ShowsEnds true asked s limits e response

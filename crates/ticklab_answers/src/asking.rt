@@ -1,18 +1,17 @@
 //! What a file and a command line ask of a program.
-ghost use Rattle.std.specs.Prelude.{◌≡◌, ◌≢◌, ◌++◌, Err, IfErr, IfOk, Ok, length, map};
+ghost use Rattle.std.specs.Prelude.{◌≡◌, ◌++◌, Err, IfErr, IfOk, Ok, length, map};
 ghost use Rattle.language_properties.specs.Properties.{formula_of};
 ghost use Rattle.language_questions.specs.Lines.{asked_of, questions_in};
 ghost use Rattle.language_questions.specs.Reading.{question_of};
 ghost use Rattle.searches_explore.specs.Lines.{lines_of};
 ghost use Rattle.ticketc_refusals.specs.Refusals.{ProgramIn};
-ghost use Rattle.ticklab_explain.specs.Questions.{IsQuestionReport};
 ghost use Rattle.ticklab_answers.specs.Asking.{TellsOption, TellsQuestion, TellsText, lines_in, option_place, options_after, place_of, places_by, text_place, texts_of};
 ghost use Rattle.ticklab_answers.specs.Stops.{IfRefused};
 
 use crate::stop::NoAnswer;
 use base::NoMemory;
 use base::span::Span;
-use language_questions::{NeverLine, Property, QuestionFault, Questions, never_of, questions_of};
+use language_questions::{NeverLine, Property, Questions, never_of, questions_of};
 use std::alloc::Global;
 use std::str;
 use tick_kinds::Program;
@@ -50,26 +49,8 @@ pub fn questions_asked(
     match questions_of(alloc, program, text) {
         Ok(questions) => Ok(questions),
         Err(fault) => {
-            let report = question_report(alloc, name, input, fault)?;
+            let report = explain_question(alloc, name, input, fault)?;
             Err(NoAnswer::Refused(report))
-        }
-    }
-}
-
-// The report of a fault in a question of a text, which has this name.
-fn question_report(
-    alloc: Global,
-    name: &str,
-    text: &[u8],
-    fault: QuestionFault,
-) -> Result<Vec<u8>, NoMemory>
-    ensures { IfOk result (λ report. (fault ≢ QuestionFault.NoMemory) × IsQuestionReport name.now text.now fault report.items) }
-{
-    match fault {
-        QuestionFault::NoMemory => Err(NoMemory),
-        fault => {
-            let report = explain_question(alloc, name, text, fault)?;
-            Ok(report)
         }
     }
 }
@@ -163,7 +144,7 @@ fn option_of(alloc: Global, program: &Program, text: &str) -> Result<Property, N
     match never_of(alloc, program, text) {
         Ok(property) => Ok(property),
         Err(fault) => {
-            let report = question_report(alloc, "--never", text.as_bytes(), fault)?;
+            let report = explain_question(alloc, "--never", text.as_bytes(), fault)?;
             Err(NoAnswer::Refused(report))
         }
     }

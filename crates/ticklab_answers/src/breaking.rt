@@ -1,10 +1,12 @@
 //! Where a run of a program first breaks a line that must never hold.
-ghost use Rattle.std.specs.Prelude.{◌≡◌, ◌<◌, All, IfNone, IfOk, IfSome, IsNone, MatchOption, Some, false, length};
+ghost use Rattle.std.specs.Prelude.{◌≡◌, ◌<◌, All, IfNone, IfOk, IfSome, IsNone, MatchOption, Some, false, length, map, option_map};
 ghost use Rattle.tick_kinds.specs.Resolution.{resolved};
 ghost use Rattle.language_properties.specs.Properties.{formula_of};
 ghost use Rattle.searches_explore.specs.Lines.{IsFirstBroken, breaks, is_broken, line_value, lines_of};
-ghost use Rattle.ticklab_answers.specs.Breaking.{IsFirstBreak, NeverBreaks};
+ghost use Rattle.ticklab_answers.specs.Asking.{place_of};
+ghost use Rattle.ticklab_answers.specs.Breaking.{IsFirstAt, IsFirstBreak, NeverBreaks, broken_at};
 
+use crate::asking::{NeverLines, PropertyPlace};
 use crate::seen::Seen;
 use base::{NoMemory, Trap};
 use language_questions::Property;
@@ -20,8 +22,34 @@ pub struct Break {
     pub value: Result<u32, Trap>,
 }
 
+/// The same of a line that stands here.
+#[derive(Clone, Copy)]
+pub struct BrokenLine<'l> {
+    pub place: PropertyPlace<'l>,
+    pub broken: Break,
+}
+
 /// The first line that is broken where one first is, in the run of the program under a schedule.
-pub fn first_break(
+pub fn first_broken_line<'l>(
+    alloc: Global,
+    program: &Program,
+    lines: &NeverLines<'l>,
+    schedule: &[u8],
+) -> Result<Option<BrokenLine<'l>>, NoMemory>
+    requires lines { length lines.now.properties.items ≡ length lines.now.places.items }
+    requires schedule { All (λ p. p < (resolved program.now).processes) schedule.now }
+    ensures { IfOk result (λ found. IsFirstAt (resolved program.now) (lines_of lines.now.properties.items) (map place_of lines.now.places.items) schedule.now (option_map broken_at found)) }
+{
+    match first_break(alloc, program, lines.properties.as_slice(), schedule)? {
+        None => Ok(None),
+        Some(broken) => {
+            let place = lines.places[broken.line];
+            Ok(Some(BrokenLine { place, broken }))
+        }
+    }
+}
+
+fn first_break(
     alloc: Global,
     program: &Program,
     lines: &[Property],

@@ -2,10 +2,11 @@
 ghost use Rattle.std.specs.Prelude.{◌≡◌, IfErr, IfOk};
 ghost use Rattle.std.specs.Vec.Iter.{into_iter_items};
 ghost use Rattle.ticklab_line.specs.Commands.{plain_request};
-ghost use Rattle.ticklab_answers.specs.Answers.{GivesWords, IsOfWordsOrFile, NamesOf, Responds, RespondsToWords};
+ghost use Rattle.ticklab_answers.specs.Answers.{GivesWords, IsOfWordsOrFile, NamesOf, Responds, RespondsToWords, limits_of};
 ghost use Rattle.ticklab_answers.specs.Faults.{IsOfFileThat, IsOfWords};
 ghost use Rattle.ticklab_answers.specs.Hearing.{hearing};
 
+mod checking;
 mod drawing;
 mod ends;
 mod explaining;
@@ -13,66 +14,102 @@ mod exploring;
 mod hunting;
 mod labels;
 mod lasso;
+mod objects;
 mod paging;
+mod run_objects;
 mod tallying;
 mod told_run;
 mod tracing;
 
 use crate::fault::LabFault;
+use crate::form::Form;
 use crate::host::Files;
 use crate::progress::Progress;
 use crate::response::{Response, help, no_command, schedule_alone};
-pub use drawing::drawn;
+pub use checking::checked;
 pub use ends::explored_ends;
 pub use explaining::explained;
 pub use exploring::explored;
 pub use hunting::{hunted, plan_of};
 pub use labels::labelled;
 pub use lasso::lassoed;
-pub use paging::paged;
+pub use run_objects::{break_object, run_object};
+use searches_explore::Limits;
 use searches_hunt::Trials;
 use std::alloc::Global;
 use std::env::Args;
 use std::io;
 pub use tallying::tallied;
 use tick_merge::Runner;
+use ticklab_check::Checks;
 use ticklab_line::{Line, Request, asked};
-pub use tracing::{source_text, spots_in, traced};
+pub use told_run::{Telling, told};
+pub use tracing::{source_text, spots_in};
 
-/// The answer to the words of the command line. Runs of a code are made by the runner alone, and random ones of a program
-/// are tried by `trials`.
-pub fn response_to<F: Files, M: Runner, T: Trials, W: Progress>(
+/// The answer to the words of the command line. Runs of a code are made by the runner alone, random ones of a program
+/// are tried by `trials`, and files are checked by `checks`. `version` is that of the program.
+pub fn response_to<F: Files, M: Runner, T: Trials, C: Checks, W: Progress>(
     alloc: Global,
+    version: &str,
     files: &mut F,
     runner: &mut M,
     trials: &T,
+    checks: &C,
     progress: &mut W,
     given: io::Result<Args>,
 ) -> Result<Response, LabFault>
-    ensures ok { IfOk result (RespondsToWords F.Reads F.ReadsInput M.Ran (hearing W.begins W.hears) files.old files.new runner.old runner.new progress.old progress.new given) }
-    ensures err { IfErr result (IsOfWordsOrFile given) }
+    ensures ok { IfOk result (RespondsToWords F.Reads F.ReadsInput F.Lists M.Ran (hearing W.begins W.hears) files.old files.new runner.old runner.new progress.old progress.new version.now given) }
+    ensures err { IfErr result (IsOfWordsOrFile version.now given) }
 {
     let words = words_of(alloc, given)?;
-    match asked(alloc, words.as_slice())? {
-        Line::Request(request) => answered(alloc, files, runner, trials, progress, request),
+    match asked(alloc, words.as_slice(), version)? {
+        Line::Request(request) => {
+            let form = Form::Text;
+            answered(
+                alloc, files, runner, trials, checks, progress, request, form,
+            )
+        }
         Line::Schedule(request) => {
-            let whole = answered(alloc, files, runner, trials, progress, request)?;
+            let form = Form::Text;
+            let whole = answered(
+                alloc, files, runner, trials, checks, progress, request, form,
+            )?;
             Ok(schedule_alone(alloc, whole)?)
         }
+        Line::Json(request) => {
+            let form = Form::Json;
+            answered(
+                alloc, files, runner, trials, checks, progress, request, form,
+            )
+        }
         Line::Help(text) => Ok(help(alloc, text)),
+        Line::Version(text) => Ok(help(alloc, text)),
         Line::Refused(text) => Ok(no_command(alloc, text)),
     }
 }
 
-fn answered<F: Files, M: Runner, T: Trials, W: Progress>(
+// So many states, in so many megabytes.
+fn limits_of(states: u32, megabytes: u32) -> Limits
+    ensures { result ≡ limits_of states megabytes }
+{
+    Limits {
+        states,
+        bytes: u64::from(megabytes) * 1_000_000,
+    }
+}
+
+// As JSON where that is asked for and the command has such answers.
+fn answered<F: Files, M: Runner, T: Trials, C: Checks, W: Progress>(
     alloc: Global,
     files: &mut F,
     runner: &mut M,
     trials: &T,
+    checks: &C,
     progress: &mut W,
     request: Request<&str, Vec<&str>>,
+    form: Form,
 ) -> Result<Response, LabFault>
-    ensures ok { IfOk result (Responds F.Reads F.ReadsInput M.Ran (hearing W.begins W.hears) files.old files.new runner.old runner.new progress.old progress.new (plain_request request.entry)) }
+    ensures ok { IfOk result (Responds F.Reads F.ReadsInput F.Lists M.Ran (hearing W.begins W.hears) files.old files.new runner.old runner.new progress.old progress.new form (plain_request request.entry)) }
     ensures err { IfErr result (IsOfFileThat (NamesOf (plain_request request.entry))) }
 {
     match request {
@@ -80,17 +117,35 @@ fn answered<F: Files, M: Runner, T: Trials, W: Progress>(
             file,
             never,
             limit,
+            memory,
             steps,
-        } => explored(alloc, files, progress, file, &never, limit, steps),
+        } => {
+            let limits = limits_of(limit, memory);
+            explored(alloc, files, progress, file, &never, limits, steps, form)
+        }
         Request::Ends {
             file,
             never,
             process,
             limit,
+            memory,
             steps,
         } => {
             let never = never.as_slice();
-            explored_ends(alloc, files, progress, file, never, process, limit, steps)
+            let limits = limits_of(limit, memory);
+            explored_ends(
+                alloc, files, progress, file, never, process, limits, steps, form,
+            )
+        }
+        Request::Check {
+            paths,
+            limit,
+            memory,
+            jobs,
+        } => {
+            let limits = limits_of(limit, memory);
+            let checks = checks.with_jobs(jobs);
+            checked(alloc, files, &checks, &paths, limits, form)
         }
         Request::Lasso {
             file,
@@ -108,38 +163,14 @@ fn answered<F: Files, M: Runner, T: Trials, W: Progress>(
             jobs,
         } => {
             let plan = plan_of(seed, runs, steps, is_uniform);
-            hunted(
-                alloc,
-                files,
-                &trials.with_jobs(jobs),
-                file,
-                &never,
-                plan,
-                from,
-            )
+            let trials = trials.with_jobs(jobs);
+            hunted(alloc, files, &trials, file, &never, plan, from, form)
         }
         Request::Runs { file, times, turns } => tallied(alloc, files, runner, file, times, turns),
-        Request::Trace {
-            file,
-            schedule,
-            never,
-            side,
-        } => traced(alloc, files, file, schedule, &never, side),
-        Request::Draw {
-            file,
-            schedule,
-            never,
-            side,
-            drawing,
-        } => drawn(alloc, files, file, schedule, &never, side, drawing),
-        Request::Page {
-            file,
-            schedule,
-            never,
-            side,
-            title,
-        } => paged(alloc, files, file, schedule, &never, side, title),
-        Request::Explain { file, schedule } => explained(alloc, files, file, schedule),
+        Request::Trace(run) => told(alloc, files, &run, &Telling::Trace(form)),
+        Request::Draw(run, drawing) => told(alloc, files, &run, &Telling::Picture(drawing)),
+        Request::Page(run, title) => told(alloc, files, &run, &Telling::Page(title)),
+        Request::Explain { file, schedule } => explained(alloc, files, file, schedule, form),
         Request::Labels { processes, moves } => labelled(alloc, processes, moves),
     }
 }

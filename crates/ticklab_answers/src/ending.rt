@@ -17,24 +17,39 @@ use std::io;
 use std::io::Write;
 use std::process::ExitCode;
 use tick_merge::Runner;
+use ticklab_check::Checks;
 
 /// Answers the words of the command line, as `std::env::args` gave them. Why there is no answer is told on
-/// standard error. Runs of a code are made by the runner alone, and random ones of a program are tried by `trials`.
-pub fn ended<F: Files, O: Write, T: Write, M: Runner, S: Trials, W: Progress>(
+/// standard error. Runs of a code are made by the runner alone, random ones of a program are tried by `trials`, and files
+/// are checked by `checks`.
+pub fn ended<F: Files, O: Write, T: Write, M: Runner, S: Trials, C: Checks, W: Progress>(
     alloc: Global,
     host: &mut Host<F, O, T>,
     runner: &mut M,
     trials: &S,
+    checks: &C,
     progress: &mut W,
     given: io::Result<Args>,
 ) -> ExitCode
-    ensures { Exits (Ends F.Reads F.ReadsInput M.Ran (hearing W.begins W.hears) host.old.files host.new.files runner.old runner.new progress.old progress.new (record { out = O.contents host.old.out; err = T.contents host.old.err }) (record { out = O.contents host.new.out; err = T.contents host.new.err }) given) (exit_status result) }
+    ensures { Exits (Ends F.Reads F.ReadsInput F.Lists M.Ran (hearing W.begins W.hears) host.old.files host.new.files runner.old runner.new progress.old progress.new (record { out = O.contents host.old.out; err = T.contents host.old.err }) (record { out = O.contents host.new.out; err = T.contents host.new.err }) host.old.version.now host.old.colours given) (exit_status result) }
 {
-    match response_to(alloc, &mut host.files, runner, trials, progress, given) {
-        Ok(response) => match told(&mut host.out, &mut host.err, &response) {
-            Ok(status) => ExitCode::from(status),
-            Err(fault) => failed(&mut host.err, &fault),
-        },
+    match response_to(
+        alloc,
+        host.version,
+        &mut host.files,
+        runner,
+        trials,
+        checks,
+        progress,
+        given,
+    ) {
+        Ok(response) => {
+            let colours = host.colours;
+            match told(alloc, &mut host.out, &mut host.err, colours, &response) {
+                Ok(status) => ExitCode::from(status),
+                Err(fault) => failed(&mut host.err, &fault),
+            }
+        }
         Err(fault) => failed(&mut host.err, &fault),
     }
 }

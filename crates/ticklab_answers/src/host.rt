@@ -1,5 +1,7 @@
-ghost use Rattle.std.specs.Prelude.{ℕ, List, IfOk};
+ghost use Rattle.std.specs.Prelude.{ℕ, List, IfOk, Option, String, option_map};
+ghost use Rattle.std.specs.Global.{Global};
 
+use crate::colours::Colours;
 use std::alloc::Global;
 use std::io;
 
@@ -12,6 +14,10 @@ pub trait Files {
     // The same of standard input.
     ghost ReadsInput: { Self → ℕ → List ℕ → Self → Type 0 };
 
+    // What they are before a folder of this name is listed, the names of what is in it, unless it is no folder, and
+    // what they are after it.
+    ghost Lists: { Self → List ℕ → Option (List (String Global)) → Self → Type 0 };
+
     /// The bytes of the file of this name, at most the first `most`.
     fn file(&mut self, alloc: Global, name: &str, most: u64) -> io::Result<Vec<u8>>
         ensures { IfOk result (λ bytes. Self.Reads self.old name.now most bytes.items self.new) };
@@ -19,12 +25,20 @@ pub trait Files {
     /// The bytes of standard input, at most the first `most`.
     fn input(&mut self, alloc: Global, most: u64) -> io::Result<Vec<u8>>
         ensures { IfOk result (λ bytes. Self.ReadsInput self.old most bytes.items self.new) };
+
+    /// The names of what is in the folder of this name, in any order; nothing where a file of another kind has it.
+    fn folder(&mut self, alloc: Global, name: &str) -> io::Result<Option<Vec<String>>>
+        ensures { IfOk result (λ names. Self.Lists self.old name.now (option_map (λ names. names.items) names) self.new) };
 }
 
-/// What the program has of its host: its files, standard output and standard error.
+/// What the program has of its host: its version, its files, standard output and standard error, and which of these show
+/// colours.
 #[derive(Drop)]
 pub struct Host<F, O, T> {
+    /// What `--version` tells behind the program's name.
+    pub version: &'static str,
     pub files: F,
     pub out: O,
     pub err: T,
+    pub colours: Colours,
 }

@@ -93,7 +93,7 @@ fn schedule_in_line(alloc: Global, text: &[u8]) -> Result<Vec<u8>, AllocError>
     Ok(out)
 }
 
-/// The help that was asked for.
+/// The help that was asked for, or the version.
 pub fn help(alloc: Global, text: String) -> Response
     ensures { Gives 0 (λ out. out ≡ string_bytes text) result }
 {

@@ -1,21 +1,23 @@
 //! The answer that shows a schedule under which a process traps or a line breaks.
-ghost use Rattle.std.specs.Prelude.{◌≡◌, ◌<◌, ◌++◌, ℕ, List, All, IfOk, length, map, string_bytes};
-ghost use Rattle.tick_kinds.specs.Resolution.{resolved};
-ghost use Rattle.ticketc_refusals.specs.Refusals.{SpelledIn};
+ghost use Rattle.std.specs.Prelude.{◌≡◌, ◌<◌, ◌++◌, ℕ, List, IfOk, None, length, string_bytes};
 ghost use Rattle.ticklab_explain.specs.Questions.{IsPointed};
+ghost use Rattle.ticklab_json.specs.Found.{head_members};
 ghost use Rattle.ticklab_answers.specs.Asking.{place_of};
 ghost use Rattle.ticklab_answers.specs.Lines.{broken_text};
-ghost use Rattle.ticklab_answers.specs.Shown.{ShowsBroken, ShowsTrap};
+ghost use Rattle.ticklab_answers.specs.Shown.{IsBrokenAnswer, IsTrapText, ShowsBroken, ShowsTrap};
+ghost use Rattle.ticklab_answers.specs.Sought.{IsLawful, IsSound, sought_by};
 
-use crate::asking::{NeverLines, PropertyPlace};
-use crate::commands::source_text;
-use crate::response::{Response, TRAPPED, answer, output};
+use crate::asking::PropertyPlace;
+use crate::commands::{break_object, run_object, source_text};
+use crate::form::Form;
+use crate::response::{TRAPPED, answer, output};
+use crate::search::{Answered, Search};
 use base::{NoMemory, Trap, push_number};
 use language_schedules::write_schedule;
 use std::alloc::{AllocError, Global};
 use tick_play::trap_name;
-use ticketc_refusals::SpelledProgram;
 use ticklab_explain::point;
+use ticklab_json::Head;
 
 /// What was found, and behind it the line that breaks, with what it comes to.
 pub fn with_line(
@@ -50,45 +52,81 @@ fn broken_text(alloc: Global, value: Result<u32, Trap>) -> Result<String, AllocE
     }
 }
 
-/// How it was found, the schedule, and what each of its steps does in the program that this input is.
-pub fn trap_shown(
-    alloc: Global,
-    found: &str,
-    spelled: &SpelledProgram,
-    input: &[u8],
-    schedule: &[u8],
-) -> Result<Response, NoMemory>
-    requires schedule { All (λ p. p < (resolved spelled.now.program).processes) schedule.now }
-    requires program { SpelledIn input.now spelled.now }
-    ensures { IfOk result (ShowsTrap found.now input.now spelled.now.program schedule.now) }
+/// The schedule, and what each of its steps does. How it was found a text says in this line, and an object in its head.
+pub fn trap_shown(search: &Search<'_, '_>, found: &str, head: Head<'_>, schedule: &[u8]) -> Answered
+    requires sound { IsSound search.now }
+    requires schedule { IsLawful search.now schedule.now }
+    ensures { IfOk result (ShowsTrap found.now (head_members head.entry) (sought_by search.now) schedule.now) }
 {
+    let alloc = search.alloc;
+    match search.form {
+        Form::Text => {
+            let text = trap_text(search, found, schedule)?;
+            Ok(answer(alloc, TRAPPED, text))
+        }
+        Form::Json => {
+            let text = run_object(search, head, schedule, None)?;
+            Ok(answer(alloc, TRAPPED, text))
+        }
+    }
+}
+
+fn trap_text(search: &Search<'_, '_>, found: &str, schedule: &[u8]) -> Result<String, NoMemory>
+    requires sound { IsSound search.now }
+    requires schedule { IsLawful search.now schedule.now }
+    ensures { IfOk result (λ text. IsTrapText found.now search.now.input.now search.now.spelled.now.program schedule.now (string_bytes text)) }
+{
+    let alloc = search.alloc;
     let written = write_schedule(alloc, schedule)?;
-    let steps = source_text(alloc, spelled, input, schedule)?;
+    let steps = source_text(alloc, search.spelled, search.input, schedule)?;
     let mut text = String::from_str(alloc, found)?;
     text.push_str("\n")?;
     text.push_str(&written)?;
     text.push_str("\n")?;
     text.push_str(&steps)?;
-    Ok(answer(alloc, TRAPPED, text))
+    Ok(text)
 }
 
-/// The same, and behind it which of these lines breaks, by its number from 0, with what it comes to.
+/// The same, and which of the lines breaks, by its number from 0, with what it comes to.
 pub fn broken_shown(
-    alloc: Global,
+    search: &Search<'_, '_>,
     found: &str,
-    spelled: &SpelledProgram,
-    input: &[u8],
-    lines: &NeverLines<'_>,
+    head: Head<'_>,
     schedule: &[u8],
     line: usize,
     value: Result<u32, Trap>,
-) -> Result<Response, NoMemory>
-    requires schedule { All (λ p. p < (resolved spelled.now.program).processes) schedule.now }
-    requires line { line < length lines.now.places.items }
-    requires program { SpelledIn input.now spelled.now }
-    ensures { IfOk result (ShowsBroken found.now input.now spelled.now.program (map place_of lines.now.places.items) schedule.now line value) }
+) -> Answered
+    requires sound { IsSound search.now }
+    requires schedule { IsLawful search.now schedule.now }
+    requires line { line < length search.now.lines.now.places.items }
+    ensures { IfOk result (ShowsBroken found.now (head_members head.entry) (sought_by search.now) schedule.now line value) }
 {
-    let shown = trap_shown(alloc, found, spelled, input, schedule)?;
-    let out = with_line(alloc, shown.out, &lines.places[line], value)?;
-    Ok(output(alloc, TRAPPED, out))
+    let place = &search.lines.places[line];
+    let out = broken_answer(search, found, head, schedule, place, value)?;
+    Ok(output(search.alloc, TRAPPED, out))
+}
+
+// The line stands here.
+fn broken_answer(
+    search: &Search<'_, '_>,
+    found: &str,
+    head: Head<'_>,
+    schedule: &[u8],
+    place: &PropertyPlace<'_>,
+    value: Result<u32, Trap>,
+) -> Result<Vec<u8>, NoMemory>
+    requires sound { IsSound search.now }
+    requires schedule { IsLawful search.now schedule.now }
+    ensures { IfOk result (λ out. IsBrokenAnswer search.now.form found.now (head_members head.entry) search.now.input.now search.now.spelled.now.program schedule.now (place_of place.now) value out.items) }
+{
+    match search.form {
+        Form::Text => {
+            let text = trap_text(search, found, schedule)?;
+            with_line(search.alloc, text.into_bytes(), place, value)
+        }
+        Form::Json => {
+            let text = break_object(search, head, schedule, place, value)?;
+            Ok(text.into_bytes())
+        }
+    }
 }

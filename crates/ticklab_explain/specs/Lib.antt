@@ -18,3 +18,4 @@ pub mod Choosing
 pub mod Messages
 pub mod Reports
 pub mod Questions
+pub mod Explanations

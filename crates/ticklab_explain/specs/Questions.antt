@@ -66,12 +66,22 @@ question_told (F.NoSuchProcess span) = record {
 question_told (F.NoSuchWord span) = record {
   span = span;
   message = codes "no question begins with this word";
-  hint = codes "behind `#!` stands `never` or `ends`";
+  hint = codes "behind `#!` stands `never`, `ends` or `expect`";
 }
 question_told (F.EndsTwice span) = record {
   span = span;
   message = codes "a line above says already who has to end";
   hint = codes "one line names all of them, as `#! ends 0 2`";
+}
+question_told (F.NotExpected span) = record {
+  span = span;
+  message = codes "nothing is expected by this word";
+  hint = codes "behind `#! expect` stands `safe`, `trap`, `never` or `stuck`";
+}
+question_told (F.ExpectTwice span) = record {
+  span = span;
+  message = codes "a line above says already what is expected";
+  hint = codes "one thing is expected of a file";
 }
 question_told F.NoMemory = record { span = nowhere; message = codes "out of memory"; hint = [] }
 

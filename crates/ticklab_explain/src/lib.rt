@@ -3,7 +3,7 @@
 //! The report says where the fault is, what was expected and what stands there. It shows the line with a
 //! caret under it, a hint if the slip is a common one, and the line that `ticketc` tells. `ticketc_refusals`
 //! finds the refusal of an input, and `spot` its place.
-//! `report` writes the report. `messages` has the words, `expected` finds what may stand there, and
+//! `report` writes the report, and `explanation` gives its parts to programs. `messages` has the words, `expected` finds what may stand there, and
 //! `choosing` picks the hint.
 //! Start with `explain`.
 #![tactic(auto)]
@@ -18,6 +18,7 @@ mod declared;
 mod expectation;
 mod expected;
 mod explaining;
+mod explanation;
 mod fact;
 mod finding;
 mod grammar_slips;
@@ -41,4 +42,5 @@ mod words;
 mod writing;
 
 pub use explaining::{explain, explain_code, explain_program, explain_refusal, explain_schedule};
+pub use explanation::{Explanation, InputFault, explanation_of, report_of};
 pub use questions::{explain_question, point};

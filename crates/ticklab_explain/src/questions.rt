@@ -1,5 +1,5 @@
 // The report of what is wrong with a question about a program.
-ghost use Rattle.std.specs.Prelude.{◌≡◌, ◌++◌, IfOk, OnOk, codes};
+ghost use Rattle.std.specs.Prelude.{◌≡◌, ◌≢◌, ◌++◌, IfOk, OnOk, codes};
 ghost use Rattle.base.specs.Lines.{line_end};
 ghost use Rattle.ticklab_explain.specs.Questions.{IsPointed, IsQuestionReport, question_hint, question_message, question_span};
 
@@ -11,8 +11,22 @@ use language_questions::QuestionFault;
 use std::alloc::Global;
 
 /// What is wrong with a question in a text, as a report for people: its place, the line with a caret, and what may
-/// help. `name` is that of the text's file.
+/// help. `name` is that of the text's file. Where memory was refused there is no report.
 pub fn explain_question(
+    alloc: Global,
+    name: &str,
+    text: &[u8],
+    fault: QuestionFault,
+) -> Result<Vec<u8>, NoMemory>
+    ensures { IfOk result (λ report. (fault ≢ QuestionFault.NoMemory) × IsQuestionReport name.now text.now fault report.items) }
+{
+    match fault {
+        QuestionFault::NoMemory => Err(NoMemory),
+        fault => reported(alloc, name, text, fault),
+    }
+}
+
+fn reported(
     alloc: Global,
     name: &str,
     text: &[u8],
@@ -49,8 +63,8 @@ fn push_help(report: &mut Vec<u8>, hint: &str) -> Added
     push(report, "\n")
 }
 
-// What is told of a fault: where it is, what is wrong, and what may help. Want of memory has no place.
-fn told(fault: QuestionFault) -> (Span, &'static str, &'static str)
+/// What is told of a fault: where it is, what is wrong, and what may help. Want of memory has no place.
+pub fn told(fault: QuestionFault) -> (Span, &'static str, &'static str)
     ensures span { result.0 ≡ question_span fault }
     ensures message { result.1.now ≡ question_message fault }
     ensures hint { result.2.now ≡ question_hint fault }
@@ -104,12 +118,22 @@ fn told(fault: QuestionFault) -> (Span, &'static str, &'static str)
         QuestionFault::NoSuchWord(span) => (
             span,
             "no question begins with this word",
-            "behind `#!` stands `never` or `ends`",
+            "behind `#!` stands `never`, `ends` or `expect`",
         ),
         QuestionFault::EndsTwice(span) => (
             span,
             "a line above says already who has to end",
             "one line names all of them, as `#! ends 0 2`",
+        ),
+        QuestionFault::NotExpected(span) => (
+            span,
+            "nothing is expected by this word",
+            "behind `#! expect` stands `safe`, `trap`, `never` or `stuck`",
+        ),
+        QuestionFault::ExpectTwice(span) => (
+            span,
+            "a line above says already what is expected",
+            "one thing is expected of a file",
         ),
         QuestionFault::NoMemory => (Span { start: 0, end: 0 }, "out of memory", ""),
     }

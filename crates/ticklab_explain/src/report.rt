@@ -60,7 +60,8 @@ fn told(
     Ok(out)
 }
 
-fn message(
+/// What is wrong, in words.
+pub fn message(
     alloc: Global,
     scene: &Scene,
     wanted: &[Wanted],

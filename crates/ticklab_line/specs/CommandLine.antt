@@ -13,6 +13,13 @@ use Rattle.clap.specs.declared.builder.value_parser.ValueParser.TheVariants.{Sig
 abbrev pub word_rule : Text → Rule
 word_rule name = record (new_rule name) { value_names = 1; required = true }
 
+-- one word or more
+abbrev pub words_rule : Text → Rule
+words_rule name = record (word_rule name) {
+  range = Some (record { start_inclusive = 1; end_inclusive = 18446744073709551615 });
+  action = Some Append;
+}
+
 -- a word that may be there
 abbrev pub further_rule : Text → Rule
 further_rule name = record (new_rule name) { value_names = 1 }
@@ -38,6 +45,20 @@ up_to most = Signed (pos 0) (pos most)
 
 abbrev pub from_one_to : ℕ → ValueParser
 from_one_to most = Signed (pos 1) (pos most)
+
+-- how many states a search may have, and how many megabytes these may take
+abbrev pub limit_rule : Rule
+limit_rule = number_rule (codes "limit") (up_to 4294967295)
+
+abbrev pub memory_rule : Rule
+memory_rule = number_rule (codes "memory") (from_one_to 1000000)
+
+-- how much is done side by side
+abbrev pub jobs_rule : Rule
+jobs_rule = number_rule (codes "jobs") (from_one_to 64)
+
+abbrev pub json_rule : Rule
+json_rule = flag_rule (codes "json")
 
 abbrev pub processes_rule : Rule
 processes_rule = record (word_rule (codes "processes")) { parser = Some (from_one_to 6) }

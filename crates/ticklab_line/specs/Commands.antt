@@ -7,13 +7,14 @@ use Rattle.std.specs.Option.{option_map_or}
 use Rattle.clap.specs.Walk.{Row, Text, all_of, first_of}
 use Rattle.clap.specs.Simple.{App, new_app, on_top, with_rule}
 use Rattle.clap.specs.declared.builder.value_parser.ValueParser.TheVariants.{Signed, Unsigned}
-use Rattle.ticklab_line.specs.CommandLine.{ends_rule, flag_rule, from_one_to, further_rule, number_rule, processes_rule, repeated_rule, text_rule, threads_rule, up_to, with_app, with_file, word_rule}
+use Rattle.ticklab_line.specs.CommandLine.{ends_rule, flag_rule, from_one_to, further_rule, jobs_rule, json_rule, limit_rule, memory_rule, number_rule, processes_rule, repeated_rule, text_rule, threads_rule, up_to, with_app, with_file, word_rule, words_rule}
 use Rattle.ticklab_line.specs.Found.{for_file, for_number, for_number_or, is_set, list_of, number_of, number_or}
 use Rattle.ticklab_line.specs.declared.commands.Steps.{Steps}
 use Rattle.ticklab_line.specs.declared.commands.Steps.TheVariants.{Merged, MergedFirst, Single}
 use Rattle.ticklab_line.specs.declared.commands.Drawing.{Drawing}
 use Rattle.ticklab_line.specs.declared.commands.Request.{Request}
-use Rattle.ticklab_line.specs.declared.commands.Request.TheVariants.{Explore, Ends, Lasso, Hunt, Runs, Trace, Draw, Page, Explain, Labels}
+use Rattle.ticklab_line.specs.declared.commands.AskedRun.{AskedRun}
+use Rattle.ticklab_line.specs.declared.commands.Request.TheVariants.{Explore, Ends, Check, Lasso, Hunt, Runs, Trace, Draw, Page, Explain, Labels}
 use Rattle.ticklab_line.specs.declared.commands.Side.{Side}
 use Rattle.ticklab_line.specs.declared.commands.Side.TheVariants.{Program, Code, Lifted}
 
@@ -22,27 +23,32 @@ abbrev pub Asked : Type 0
 Asked = Request Text (List Text)
 
 abbrev pub explore_app : App
-explore_app = with_rule (with_rule (with_rule (with_rule (with_rule (with_rule (with_file (codes "explore"))
-    (number_rule (codes "limit") (up_to 4294967295)))
+explore_app = with_rule (with_rule (with_rule (with_rule (with_rule (with_rule (with_rule (with_rule (with_file (codes "explore")) limit_rule) memory_rule)
     (flag_rule (codes "merged")))
     (flag_rule (codes "single")))
     (repeated_rule (codes "never")))
     (flag_rule (codes "schedule-only")))
+    json_rule)
     ends_rule
+
+abbrev pub check_app : App
+check_app = with_rule (with_rule (with_rule (with_rule (with_rule (new_app (codes "check")) (words_rule (codes "path")))
+    limit_rule) memory_rule) jobs_rule) json_rule
 
 abbrev pub lasso_app : App
 lasso_app = with_rule (with_rule (with_file (codes "lasso")) (word_rule (codes "prefix"))) (word_rule (codes "cycle"))
 
 abbrev pub hunt_app : App
-hunt_app = with_rule (with_rule (with_rule (with_rule (with_rule (with_rule (with_rule (with_rule (with_rule (with_file (codes "hunt"))
+hunt_app = with_rule (with_rule (with_rule (with_rule (with_rule (with_rule (with_rule (with_rule (with_rule (with_rule (with_file (codes "hunt"))
     (number_rule (codes "seed") (Unsigned 0 18446744073709551615)))
     (number_rule (codes "runs") (up_to 4294967295)))
     (number_rule (codes "from") (up_to 4294967295)))
     (number_rule (codes "steps") (up_to 10000000)))
-    (number_rule (codes "jobs") (from_one_to 64)))
+    jobs_rule)
     (flag_rule (codes "uniform")))
     (repeated_rule (codes "never")))
     (flag_rule (codes "schedule-only")))
+    json_rule)
     threads_rule
 
 -- `trace`, `draw` and `page`
@@ -51,6 +57,9 @@ run_app name = with_rule (with_rule (with_rule (with_rule (with_file name) (word
     (flag_rule (codes "code")))
     (flag_rule (codes "lift")))
     (repeated_rule (codes "never"))
+
+abbrev pub trace_app : App
+trace_app = with_rule (run_app (codes "trace")) json_rule
 
 abbrev pub draw_app : App
 draw_app = with_rule (with_rule (with_rule (with_rule (with_rule (run_app (codes "draw"))
@@ -64,22 +73,27 @@ abbrev pub page_app : App
 page_app = with_rule (run_app (codes "page")) (text_rule (codes "title"))
 
 abbrev pub explain_app : App
-explain_app = with_rule (with_file (codes "explain")) (further_rule (codes "schedule"))
+explain_app = with_rule (with_rule (with_file (codes "explain")) (further_rule (codes "schedule"))) json_rule
 
 abbrev pub labels_app : App
 labels_app = with_rule (with_rule (new_app (codes "labels")) processes_rule) (word_rule (codes "moves"))
 
--- a command has to come first
+-- a command has to come first; `--version` is an option of no command
 abbrev pub command_wanted : App
 command_wanted =
-    on_top (λ s. record s { subcommand_required = true; arg_required_else_help = true }) (new_app (codes "ticklab"))
+    on_top (λ s. record s { has_version = true; subcommand_required = true; arg_required_else_help = true })
+    (new_app (codes "ticklab"))
 
 abbrev pub ticklab : App
-ticklab = with_app (with_app (with_app (with_app (with_app (with_app (with_app (with_app command_wanted
-    explore_app) lasso_app) hunt_app) (run_app (codes "trace"))) draw_app) page_app) explain_app) labels_app
+ticklab = with_app (with_app (with_app (with_app (with_app (with_app (with_app (with_app (with_app command_wanted
+    explore_app) check_app) lasso_app) hunt_app) trace_app) draw_app) page_app) explain_app) labels_app
 
 abbrev pub limit_in : List Row → Option ℕ
-limit_in = number_or 32 (codes "limit") 1000000
+limit_in = number_or 32 (codes "limit") 4294967295
+
+-- megabytes
+abbrev pub memory_in : List Row → Option ℕ
+memory_in = number_or 32 (codes "memory") 1000
 
 -- by merged steps first, unless one kind of steps is asked for
 abbrev pub steps_in : List Row → Steps
@@ -90,15 +104,15 @@ steps_in rows =
 
 -- all schedules, with the texts of what must never hold
 abbrev pub schedules_of : List Text → List Row → Option Asked
-schedules_of never rows = for_file rows (λ file. for_number_or 32 (codes "limit") 1000000 rows (λ limit.
-    Some (Explore file never limit (steps_in rows))))
+schedules_of never rows = for_file rows (λ file. for_number_or 32 (codes "limit") 4294967295 rows (λ limit.
+    for_number_or 32 (codes "memory") 1000 rows (λ memory. Some (Explore file never limit memory (steps_in rows)))))
 
 abbrev pub schedules_in : List Row → Option Asked
 schedules_in rows = schedules_of (list_of (codes "never") rows) rows
 
 abbrev pub ends_of : List Text → Option ℕ → List Row → Option Asked
-ends_of never process rows = for_file rows (λ file. for_number_or 32 (codes "limit") 1000000 rows (λ limit.
-    Some (Ends file never process limit (steps_in rows))))
+ends_of never process rows = for_file rows (λ file. for_number_or 32 (codes "limit") 4294967295 rows (λ limit.
+    for_number_or 32 (codes "memory") 1000 rows (λ memory. Some (Ends file never process limit memory (steps_in rows)))))
 
 -- no text after `--ends`, or one
 abbrev pub ends_in : List Text → List Row → List Text → Option Asked
@@ -108,6 +122,14 @@ ends_in never rows texts = None
 
 abbrev pub explore_in : List Row → Option Asked
 explore_in rows = option_map_or (ends_in (list_of (codes "never") rows) rows) (all_of (codes "ends") rows) (schedules_in rows)
+
+-- files and folders, of which there is at least one
+abbrev pub check_of : List Text → List Row → Option Asked
+check_of paths rows = for_number_or 32 (codes "limit") 4294967295 rows (λ limit. for_number_or 32 (codes "memory") 1000 rows (λ memory.
+    for_number_or 32 (codes "jobs") 64 rows (λ jobs. Some (Check paths limit memory jobs))))
+
+abbrev pub check_in : List Row → Option Asked
+check_in rows = check_of (list_of (codes "path") rows) rows
 
 abbrev pub lasso_in : List Row → Option Asked
 lasso_in rows = for_file rows (λ file. option_and_then (λ prefix.
@@ -144,12 +166,15 @@ drawing_in rows = for_number_or 32 (codes "from") 1 rows (λ from. for_number_or
     for_number_or 32 (codes "width") 1000 rows (λ width.
     Some (record { title = first_of (codes "title") rows; from = from; to = to; is_shared = is_set (codes "shared") rows; width = width }))))
 
+abbrev pub run_by : Text → Text → List Text → Side → AskedRun Text (List Text)
+run_by file schedule never side = record { file = file; schedule = schedule; never = never; side = side }
+
 -- what a command of this name asks for that takes a schedule, with the texts of what must never hold
 abbrev pub run_of : Text → List Text → List Row → Option Asked
 run_of name never rows = for_file rows (λ file. option_and_then (λ schedule.
-    if bytes_eq name (codes "draw") then option_map (Draw file schedule never (side_in rows)) (drawing_in rows)
-    else if bytes_eq name (codes "page") then Some (Page file schedule never (side_in rows) (first_of (codes "title") rows))
-    else Some (Trace file schedule never (side_in rows))) (first_of (codes "schedule") rows))
+    if bytes_eq name (codes "draw") then option_map (Draw (run_by file schedule never (side_in rows))) (drawing_in rows)
+    else if bytes_eq name (codes "page") then Some (Page (run_by file schedule never (side_in rows)) (first_of (codes "title") rows))
+    else Some (Trace (run_by file schedule never (side_in rows)))) (first_of (codes "schedule") rows))
 
 abbrev pub run_in : Text → List Row → Option Asked
 run_in name rows = run_of name (list_of (codes "never") rows) rows
@@ -165,6 +190,7 @@ labels_in rows = for_number 8 (codes "processes") rows (λ processes.
 abbrev pub named : Text → List Row → Option Asked
 named name rows =
     if bytes_eq name (codes "explore") then explore_in rows
+    else if bytes_eq name (codes "check") then check_in rows
     else if bytes_eq name (codes "lasso") then lasso_in rows
     else if bytes_eq name (codes "hunt") then hunt_in rows
     else if bytes_eq name (codes "trace") then run_in name rows
@@ -181,54 +207,71 @@ request_in = option_and_then (λ p. named p.0 p.1)
 abbrev pub plain_drawing : Drawing (Bor Text) → Drawing Text
 plain_drawing d = record { title = option_map (λ text. text.now) d.title; from = d.from; to = d.to; is_shared = d.is_shared; width = d.width }
 
+abbrev pub plain_run : AskedRun (Bor Text) (Vec (Bor Text) Global) → AskedRun Text (List Text)
+plain_run run = run_by run.file.now run.schedule.now (map (λ text. text.now) run.never.items) run.side
+
 abbrev pub plain_request : Request (Bor Text) (Vec (Bor Text) Global) → Asked
-plain_request (Explore file never limit steps) = Explore file.now (map (λ text. text.now) never.items) limit steps
-plain_request (Ends file never process limit steps) = Ends file.now (map (λ text. text.now) never.items) process limit steps
+plain_request (Explore file never limit memory steps) = Explore file.now (map (λ text. text.now) never.items) limit memory steps
+plain_request (Ends file never process limit memory steps) = Ends file.now (map (λ text. text.now) never.items) process limit memory steps
+plain_request (Check paths limit memory jobs) = Check (map (λ text. text.now) paths.items) limit memory jobs
 plain_request (Lasso file prefix cycle) = Lasso file.now prefix.now cycle.now
 plain_request (Hunt file never seed runs from steps is_uniform jobs) = Hunt file.now (map (λ text. text.now) never.items) seed runs from steps is_uniform jobs
 plain_request (Runs file times turns) = Runs file.now times turns
-plain_request (Trace file schedule never side) = Trace file.now schedule.now (map (λ text. text.now) never.items) side
-plain_request (Draw file schedule never side drawing) = Draw file.now schedule.now (map (λ text. text.now) never.items) side (plain_drawing drawing)
-plain_request (Page file schedule never side title) = Page file.now schedule.now (map (λ text. text.now) never.items) side (option_map (λ text. text.now) title)
+plain_request (Trace run) = Trace (plain_run run)
+plain_request (Draw run drawing) = Draw (plain_run run) (plain_drawing drawing)
+plain_request (Page run title) = Page (plain_run run) (option_map (λ text. text.now) title)
 plain_request (Explain file schedule) = Explain file.now (option_map (λ text. text.now) schedule)
 plain_request (Labels processes moves) = Labels processes moves.now
 
 -- words, and what they ask for: each command but `hunt`, with its options and without
 abbrev pub rows : List (List Text × Asked)
-rows = (codes "explore" ∷ codes "a" ∷ codes "--limit" ∷ codes "7" ∷ [], Explore (codes "a") [] 7 MergedFirst)
-    ∷ (codes "explore" ∷ codes "--merged" ∷ codes "a" ∷ [], Explore (codes "a") [] 1000000 Merged)
-    ∷ (codes "explore" ∷ codes "a" ∷ codes "--single" ∷ [], Explore (codes "a") [] 1000000 Single)
-    ∷ (codes "explore" ∷ codes "--never" ∷ codes "n" ∷ codes "a" ∷ [], Explore (codes "a") (codes "n" ∷ []) 1000000 MergedFirst)
+rows = (codes "explore" ∷ codes "a" ∷ codes "--limit" ∷ codes "7" ∷ [], Explore (codes "a") [] 7 1000 MergedFirst)
+    ∷ (codes "explore" ∷ codes "--memory" ∷ codes "20" ∷ codes "a" ∷ codes "--limit=7" ∷ [], Explore (codes "a") [] 7 20 MergedFirst)
+    ∷ (codes "explore" ∷ codes "--merged" ∷ codes "a" ∷ [], Explore (codes "a") [] 4294967295 1000 Merged)
+    ∷ (codes "explore" ∷ codes "a" ∷ codes "--single" ∷ [], Explore (codes "a") [] 4294967295 1000 Single)
+    ∷ (codes "explore" ∷ codes "--never" ∷ codes "n" ∷ codes "a" ∷ [], Explore (codes "a") (codes "n" ∷ []) 4294967295 1000 MergedFirst)
     ∷ (
       codes "explore" ∷ codes "a" ∷ codes "--never=1 < n" ∷ codes "--merged" ∷ codes "--never" ∷ codes "0" ∷ [],
-      Explore (codes "a") (codes "1 < n" ∷ codes "0" ∷ []) 1000000 Merged,
+      Explore (codes "a") (codes "1 < n" ∷ codes "0" ∷ []) 4294967295 1000 Merged,
     )
-    ∷ (codes "explore" ∷ codes "a" ∷ codes "--ends" ∷ [], Ends (codes "a") [] None 1000000 MergedFirst)
-    ∷ (codes "explore" ∷ codes "a" ∷ codes "--ends" ∷ codes "2" ∷ [], Ends (codes "a") [] (Some 2) 1000000 MergedFirst)
-    ∷ (codes "explore" ∷ codes "--ends=5" ∷ codes "a" ∷ codes "--limit" ∷ codes "7" ∷ [], Ends (codes "a") [] (Some 5) 7 MergedFirst)
-    ∷ (codes "explore" ∷ codes "a" ∷ codes "--never" ∷ codes "n" ∷ codes "--ends" ∷ [], Ends (codes "a") (codes "n" ∷ []) None 1000000 MergedFirst)
-    ∷ (codes "explore" ∷ codes "a" ∷ codes "--merged" ∷ codes "--ends" ∷ [], Ends (codes "a") [] None 1000000 Merged)
-    ∷ (codes "explore" ∷ codes "--single" ∷ codes "--ends=1" ∷ codes "a" ∷ [], Ends (codes "a") [] (Some 1) 1000000 Single)
-    ∷ (codes "explore" ∷ codes "a" ∷ codes "--ends" ∷ codes "0" ∷ codes "--merged" ∷ [], Ends (codes "a") [] (Some 0) 1000000 Merged)
-    ∷ (codes "explore" ∷ codes "--schedule-only" ∷ codes "a" ∷ codes "--ends" ∷ [], Ends (codes "a") [] None 1000000 MergedFirst)
+    ∷ (codes "explore" ∷ codes "a" ∷ codes "--ends" ∷ [], Ends (codes "a") [] None 4294967295 1000 MergedFirst)
+    ∷ (codes "explore" ∷ codes "a" ∷ codes "--ends" ∷ codes "2" ∷ [], Ends (codes "a") [] (Some 2) 4294967295 1000 MergedFirst)
+    ∷ (codes "explore" ∷ codes "--ends=5" ∷ codes "a" ∷ codes "--limit" ∷ codes "7" ∷ [], Ends (codes "a") [] (Some 5) 7 1000 MergedFirst)
+    ∷ (codes "explore" ∷ codes "--ends=5" ∷ codes "a" ∷ codes "--memory=1000000" ∷ [], Ends (codes "a") [] (Some 5) 4294967295 1000000 MergedFirst)
+    ∷ (codes "explore" ∷ codes "a" ∷ codes "--never" ∷ codes "n" ∷ codes "--ends" ∷ [], Ends (codes "a") (codes "n" ∷ []) None 4294967295 1000 MergedFirst)
+    ∷ (codes "explore" ∷ codes "a" ∷ codes "--merged" ∷ codes "--ends" ∷ [], Ends (codes "a") [] None 4294967295 1000 Merged)
+    ∷ (codes "explore" ∷ codes "--single" ∷ codes "--ends=1" ∷ codes "a" ∷ [], Ends (codes "a") [] (Some 1) 4294967295 1000 Single)
+    ∷ (codes "explore" ∷ codes "a" ∷ codes "--ends" ∷ codes "0" ∷ codes "--merged" ∷ [], Ends (codes "a") [] (Some 0) 4294967295 1000 Merged)
+    ∷ (codes "explore" ∷ codes "--schedule-only" ∷ codes "a" ∷ codes "--ends" ∷ [], Ends (codes "a") [] None 4294967295 1000 MergedFirst)
+    ∷ (codes "explore" ∷ codes "--json" ∷ codes "a" ∷ [], Explore (codes "a") [] 4294967295 1000 MergedFirst)
+    ∷ (codes "explore" ∷ codes "a" ∷ codes "--ends" ∷ codes "3" ∷ codes "--json" ∷ [], Ends (codes "a") [] (Some 3) 4294967295 1000 MergedFirst)
+    ∷ (codes "check" ∷ codes "a" ∷ [], Check (codes "a" ∷ []) 4294967295 1000 64)
+    ∷ (codes "check" ∷ codes "a" ∷ codes "--json" ∷ codes "b" ∷ [], Check (codes "a" ∷ codes "b" ∷ []) 4294967295 1000 64)
+    ∷ (
+      codes "check" ∷ codes "--jobs" ∷ codes "2" ∷ codes "a" ∷ codes "b" ∷ codes "--memory=7" ∷ codes "a" ∷ [],
+      Check (codes "a" ∷ codes "b" ∷ codes "a" ∷ []) 4294967295 7 2,
+    )
     ∷ (codes "lasso" ∷ codes "a" ∷ codes "0 1" ∷ codes "@b" ∷ [], Lasso (codes "a") (codes "0 1") (codes "@b"))
-    ∷ (codes "trace" ∷ codes "a" ∷ codes "0 1*3" ∷ [], Trace (codes "a") (codes "0 1*3") [] Program)
+    ∷ (codes "trace" ∷ codes "a" ∷ codes "0 1*3" ∷ [], Trace (run_by (codes "a") (codes "0 1*3") [] Program))
     ∷ (
       codes "trace" ∷ codes "--never" ∷ codes "n" ∷ codes "a" ∷ codes "0" ∷ codes "--never=1" ∷ [],
-      Trace (codes "a") (codes "0") (codes "n" ∷ codes "1" ∷ []) Program,
+      Trace (run_by (codes "a") (codes "0") (codes "n" ∷ codes "1" ∷ []) Program),
     )
-    ∷ (codes "trace" ∷ codes "-" ∷ codes "@b" ∷ codes "--code" ∷ [], Trace (codes "-") (codes "@b") [] Code)
-    ∷ (codes "draw" ∷ codes "a" ∷ [] ∷ [], Draw (codes "a") [] [] Program whole_run)
-    ∷ (codes "draw" ∷ codes "--code" ∷ codes "a" ∷ codes "0" ∷ [], Draw (codes "a") (codes "0") [] Code whole_run)
-    ∷ (codes "draw" ∷ codes "a" ∷ codes "0" ∷ codes "--never=n" ∷ [], Draw (codes "a") (codes "0") (codes "n" ∷ []) Program whole_run)
-    ∷ (codes "draw" ∷ codes "a" ∷ codes "-" ∷ codes "--lift" ∷ [], Draw (codes "a") (codes "-") [] Lifted whole_run)
-    ∷ (codes "draw" ∷ codes "a" ∷ codes "0" ∷ codes "--title" ∷ codes "b/c" ∷ codes "--shared" ∷ [], Draw (codes "a") (codes "0") [] Program (record whole_run { title = Some (codes "b/c"); is_shared = true }))
-    ∷ (codes "draw" ∷ codes "--from=2" ∷ codes "a" ∷ codes "--to" ∷ codes "9" ∷ codes "0" ∷ codes "--width=300" ∷ [], Draw (codes "a") (codes "0") [] Program (record whole_run { from = 2; to = 9; width = 300 }))
-    ∷ (codes "page" ∷ codes "a" ∷ codes "0" ∷ [], Page (codes "a") (codes "0") [] Program None)
-    ∷ (codes "page" ∷ codes "--title=b" ∷ codes "a" ∷ codes "@c" ∷ codes "--lift" ∷ [], Page (codes "a") (codes "@c") [] Lifted (Some (codes "b")))
-    ∷ (codes "page" ∷ codes "a" ∷ codes "--never" ∷ codes "n" ∷ codes "-" ∷ [], Page (codes "a") (codes "-") (codes "n" ∷ []) Program None)
-    ∷ (codes "trace" ∷ codes "a" ∷ codes "--lift" ∷ codes "0" ∷ codes "--code" ∷ [], Trace (codes "a") (codes "0") [] Lifted)
+    ∷ (codes "trace" ∷ codes "--json" ∷ codes "a" ∷ codes "0" ∷ codes "--code" ∷ [], Trace (run_by (codes "a") (codes "0") [] Code))
+    ∷ (codes "trace" ∷ codes "-" ∷ codes "@b" ∷ codes "--code" ∷ [], Trace (run_by (codes "-") (codes "@b") [] Code))
+    ∷ (codes "draw" ∷ codes "a" ∷ [] ∷ [], Draw (run_by (codes "a") [] [] Program) whole_run)
+    ∷ (codes "draw" ∷ codes "--code" ∷ codes "a" ∷ codes "0" ∷ [], Draw (run_by (codes "a") (codes "0") [] Code) whole_run)
+    ∷ (codes "draw" ∷ codes "a" ∷ codes "0" ∷ codes "--never=n" ∷ [], Draw (run_by (codes "a") (codes "0") (codes "n" ∷ []) Program) whole_run)
+    ∷ (codes "draw" ∷ codes "a" ∷ codes "-" ∷ codes "--lift" ∷ [], Draw (run_by (codes "a") (codes "-") [] Lifted) whole_run)
+    ∷ (codes "draw" ∷ codes "a" ∷ codes "0" ∷ codes "--title" ∷ codes "b/c" ∷ codes "--shared" ∷ [], Draw (run_by (codes "a") (codes "0") [] Program) (record whole_run { title = Some (codes "b/c"); is_shared = true }))
+    ∷ (codes "draw" ∷ codes "--from=2" ∷ codes "a" ∷ codes "--to" ∷ codes "9" ∷ codes "0" ∷ codes "--width=300" ∷ [], Draw (run_by (codes "a") (codes "0") [] Program) (record whole_run { from = 2; to = 9; width = 300 }))
+    ∷ (codes "page" ∷ codes "a" ∷ codes "0" ∷ [], Page (run_by (codes "a") (codes "0") [] Program) None)
+    ∷ (codes "page" ∷ codes "--title=b" ∷ codes "a" ∷ codes "@c" ∷ codes "--lift" ∷ [], Page (run_by (codes "a") (codes "@c") [] Lifted) (Some (codes "b")))
+    ∷ (codes "page" ∷ codes "a" ∷ codes "--never" ∷ codes "n" ∷ codes "-" ∷ [], Page (run_by (codes "a") (codes "-") (codes "n" ∷ []) Program) None)
+    ∷ (codes "trace" ∷ codes "a" ∷ codes "--lift" ∷ codes "0" ∷ codes "--code" ∷ [], Trace (run_by (codes "a") (codes "0") [] Lifted))
     ∷ (codes "explain" ∷ codes "a" ∷ [], Explain (codes "a") None)
     ∷ (codes "explain" ∷ codes "a" ∷ codes "0" ∷ [], Explain (codes "a") (Some (codes "0")))
+    ∷ (codes "explain" ∷ codes "--json" ∷ codes "a" ∷ [], Explain (codes "a") None)
+    ∷ (codes "explain" ∷ codes "a" ∷ codes "--json" ∷ codes "0" ∷ [], Explain (codes "a") (Some (codes "0")))
     ∷ (codes "labels" ∷ codes "3" ∷ codes "0 c1" ∷ [], Labels 3 (codes "0 c1"))
     ∷ []

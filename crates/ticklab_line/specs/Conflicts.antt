@@ -1,5 +1,6 @@
 -- Which options do not go together: of `hunt` `--threads`, and each option of a hunt by random schedules; of `explore`
--- `--merged` and `--single`; of `trace`, `draw` and `page` `--never`, and `--code` or `--lift`.
+-- `--merged` and `--single`; of both `--json` and `--schedule-only`; of `trace`, `draw` and `page` `--never`, and `--code` or
+-- `--lift`.
 use Rattle.std.specs.Prelude.{Bool, true, false, List, ◌++◌, ◌&&◌, ◌||◌, Option, Some, None, codes, bytes_eq, map}
 use Rattle.std.specs.Prelude.{if◌then◌else◌, find, is_some, option_and_then, option_map}
 use Rattle.std.specs.Option.{option_map_or}
@@ -17,7 +18,7 @@ pub record Shown : Type 0 where
 abbrev pub is_of_plan : Text → Bool
 is_of_plan id = bytes_eq id (codes "seed") || (bytes_eq id (codes "runs")
     || (bytes_eq id (codes "from") || (bytes_eq id (codes "steps") || (bytes_eq id (codes "jobs")
-    || (bytes_eq id (codes "uniform") || (bytes_eq id (codes "never") || bytes_eq id (codes "schedule-only")))))))
+    || (bytes_eq id (codes "uniform") || (bytes_eq id (codes "never") || (bytes_eq id (codes "schedule-only") || bytes_eq id (codes "json"))))))))
 
 -- the first option of a plan that is given, as it is shown
 abbrev pub plan_option : List Row → Option Text
@@ -30,6 +31,7 @@ plan_option rows =
     else if is_set (codes "uniform") rows then Some (codes "--uniform")
     else if is_given (codes "never") rows then Some (codes "--never <EXPR>")
     else if is_set (codes "schedule-only") rows then Some (codes "--schedule-only")
+    else if is_set (codes "json") rows then Some (codes "--json")
     else None
 
 abbrev pub may_conflict : Text → Bool
@@ -39,10 +41,14 @@ may_conflict id = bytes_eq id (codes "threads") || is_of_plan id
 abbrev pub threads_lead : List Text → Bool
 threads_lead ids = option_map_or (bytes_eq (codes "threads")) (find may_conflict ids) false
 
+-- two options of a command that takes a file
+abbrev pub of_file : Text → Text → Text → Shown
+of_file command first second = record { command = command; words = codes " <FILE>"; first = first; second = second }
+
 -- two options, in the order in which they were given
 abbrev pub in_order : Bool → Text → Shown
-in_order true option = record { command = codes "hunt"; words = codes " <FILE>"; first = codes "--threads <TIMES> <TURNS>"; second = option }
-in_order false option = record { command = codes "hunt"; words = codes " <FILE>"; first = option; second = codes "--threads <TIMES> <TURNS>" }
+in_order true option = of_file (codes "hunt") (codes "--threads <TIMES> <TURNS>") option
+in_order false option = of_file (codes "hunt") option (codes "--threads <TIMES> <TURNS>")
 
 -- the texts of a conflict
 abbrev pub shown : Conflict → Shown
@@ -53,10 +59,20 @@ threads_conflict rows = if is_some (all_of (codes "threads") rows)
     then option_map (in_order (threads_lead (map (λ r. r.id) rows))) (plan_option rows) else None
 
 abbrev pub merged_and_single : Shown
-merged_and_single = record { command = codes "explore"; words = codes " <FILE>"; first = codes "--merged"; second = codes "--single" }
+merged_and_single = of_file (codes "explore") (codes "--merged") (codes "--single")
 
 abbrev pub steps_conflict : List Row → Option Shown
 steps_conflict rows = if is_set (codes "merged") rows && is_set (codes "single") rows then Some merged_and_single else None
+
+-- the command of this name whose answer may have a schedule
+abbrev pub search_named : Text → Text
+search_named name = if bytes_eq name (codes "hunt") then codes "hunt" else codes "explore"
+
+abbrev pub json_and_schedule : Text → Shown
+json_and_schedule name = of_file (search_named name) (codes "--json") (codes "--schedule-only")
+
+abbrev pub json_conflict : Text → List Row → Option Shown
+json_conflict name rows = if is_set (codes "json") rows && is_set (codes "schedule-only") rows then Some (json_and_schedule name) else None
 
 -- the command of this name that takes a schedule
 abbrev pub run_named : Text → Text
@@ -88,6 +104,7 @@ abbrev pub conflict_of : Text → List Row → Option Shown
 conflict_of name rows =
     if is_some (threads_conflict rows) then threads_conflict rows
     else if is_some (steps_conflict rows) then steps_conflict rows
+    else if is_some (json_conflict name rows) then json_conflict name rows
     else code_conflict name rows
 
 abbrev pub conflict_in : Option (Text × List Row) → Option Shown

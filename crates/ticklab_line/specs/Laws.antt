@@ -1,11 +1,11 @@
 -- What command lines ask for, computed from the description of the command line alone.
-use Rattle.std.specs.Prelude.{◌≡◌, Bool, true, false, List, [], ◌∷◌, Option, Some, None, codes, map}
+use Rattle.std.specs.Prelude.{◌≡◌, true, false, List, [], ◌∷◌, Option, Some, None, codes, map}
 use Rattle.clap.specs.Walk.{Text}
 use Rattle.clap.specs.Kinds.{Kinds}
 use Rattle.clap.specs.declared.error.kind.ErrorKind.TheVariants as kind
 use Rattle.ticklab_line.specs.Commands.{Asked, request_in, rows}
-use Rattle.ticklab_line.specs.Lines.{command_in, faults, is_schedule_only}
-use Rattle.ticklab_line.specs.Conflicts.{Shown, beside_never, conflict_in, merged_and_single}
+use Rattle.ticklab_line.specs.Lines.{Form, as_json, as_text, command_in, faults, form_of, schedule_alone}
+use Rattle.ticklab_line.specs.Conflicts.{Shown, beside_never, conflict_in, json_and_schedule, merged_and_single, of_file}
 use Rattle.ticklab_line.specs.declared.commands.Request.TheVariants.{Explore, Hunt, Runs}
 use Rattle.ticklab_line.specs.declared.commands.Steps.TheVariants.{MergedFirst}
 
@@ -28,23 +28,33 @@ Tells words kinds = faults (line words) ≡ kinds
 abbrev pub read : List Text → Kinds × Option Shown × Option Asked
 read words = (faults (line words), conflict_in (command_in (line words)), request_in (command_in (line words)))
 
--- whether the schedule of an answer is asked for alone
-abbrev pub asks_alone : List Text → Bool
-asks_alone words = is_schedule_only (command_in (line words))
+-- in which form the answer is asked for
+abbrev pub form_asked : List Text → Form
+form_asked words = form_of (command_in (line words))
 
 pub record CommandsLaw : Type 0 where
-  pub explore : (rest : Text) → Asks (codes "explore" ∷ (97 ∷ rest) ∷ []) (Explore (97 ∷ rest) [] 1000000 MergedFirst)
+  pub explore : (rest : Text) → Asks (codes "explore" ∷ (97 ∷ rest) ∷ []) (Explore (97 ∷ rest) [] 4294967295 1000 MergedFirst)
   pub code_never : IsTaken (codes "trace" ∷ codes "a" ∷ codes "0" ∷ codes "--never=1" ∷ codes "--code" ∷ []) (Some (beside_never (codes "trace") (codes "--code")))
   pub drawn_code_never : IsTaken (codes "draw" ∷ codes "--code" ∷ codes "a" ∷ codes "0" ∷ codes "--never" ∷ codes "n" ∷ []) (Some (beside_never (codes "draw") (codes "--code")))
   pub lift_never : IsTaken (codes "draw" ∷ codes "a" ∷ codes "0" ∷ codes "--never" ∷ codes "n" ∷ codes "--lift" ∷ []) (Some (beside_never (codes "draw") (codes "--lift")))
   pub page_lift : IsTaken (codes "page" ∷ codes "a" ∷ codes "0" ∷ codes "--lift" ∷ codes "--never" ∷ codes "n" ∷ []) (Some (beside_never (codes "page") (codes "--lift")))
-  pub alone : asks_alone (codes "explore" ∷ codes "a" ∷ codes "--schedule-only" ∷ []) ≡ true
-  pub alone_of_ends : asks_alone (codes "explore" ∷ codes "--schedule-only" ∷ codes "a" ∷ codes "--ends" ∷ []) ≡ true
-  pub alone_of_a_hunt : asks_alone (codes "hunt" ∷ codes "a" ∷ codes "--schedule-only" ∷ []) ≡ true
-  pub whole : asks_alone (codes "explore" ∷ codes "a" ∷ codes "--ends" ∷ []) ≡ false
-  pub whole_of_a_trace : asks_alone (codes "trace" ∷ codes "a" ∷ codes "0" ∷ []) ≡ false
+  pub alone : form_asked (codes "explore" ∷ codes "a" ∷ codes "--schedule-only" ∷ []) ≡ schedule_alone
+  pub alone_of_ends : form_asked (codes "explore" ∷ codes "--schedule-only" ∷ codes "a" ∷ codes "--ends" ∷ []) ≡ schedule_alone
+  pub alone_of_a_hunt : form_asked (codes "hunt" ∷ codes "a" ∷ codes "--schedule-only" ∷ []) ≡ schedule_alone
+  pub whole : form_asked (codes "explore" ∷ codes "a" ∷ codes "--ends" ∷ []) ≡ as_text
+  pub whole_of_a_trace : form_asked (codes "trace" ∷ codes "a" ∷ codes "0" ∷ []) ≡ as_text
+  pub json : form_asked (codes "trace" ∷ codes "--json" ∷ codes "a" ∷ codes "0" ∷ []) ≡ as_json
+  pub json_of_a_hunt : form_asked (codes "hunt" ∷ codes "a" ∷ codes "--json" ∷ []) ≡ as_json
+  pub json_of_explore : form_asked (codes "explore" ∷ codes "--json" ∷ codes "a" ∷ []) ≡ as_json
+  pub json_of_ends : form_asked (codes "explore" ∷ codes "a" ∷ codes "--ends" ∷ codes "3" ∷ codes "--json" ∷ []) ≡ as_json
+  pub json_of_a_check : form_asked (codes "check" ∷ codes "a" ∷ codes "--json" ∷ codes "b" ∷ []) ≡ as_json
+  pub json_of_explain : form_asked (codes "explain" ∷ codes "a" ∷ codes "--json" ∷ codes "0" ∷ []) ≡ as_json
+  pub whole_of_explain : form_asked (codes "explain" ∷ codes "a" ∷ codes "0" ∷ []) ≡ as_text
+  pub whole_of_a_check : form_asked (codes "check" ∷ codes "a" ∷ []) ≡ as_text
   pub merged_single : IsTaken (codes "explore" ∷ codes "a" ∷ codes "--merged" ∷ codes "--single" ∷ []) (Some merged_and_single)
   pub single_merged : IsTaken (codes "explore" ∷ codes "--single" ∷ codes "a" ∷ codes "--ends" ∷ codes "--merged" ∷ []) (Some merged_and_single)
+  pub json_schedule : IsTaken (codes "explore" ∷ codes "a" ∷ codes "--json" ∷ codes "--schedule-only" ∷ []) (Some (json_and_schedule (codes "explore")))
+  pub schedule_json : IsTaken (codes "explore" ∷ codes "--schedule-only" ∷ codes "a" ∷ codes "--ends" ∷ codes "--json" ∷ []) (Some (json_and_schedule (codes "explore")))
   pub all : map (λ row. read row.0) rows ≡ map (λ row. ([], None, Some row.1)) rows
 
 -- the words after `hunt` and a program ask for this
@@ -53,7 +63,7 @@ HuntsBy words = Asks (codes "hunt" ∷ codes "a" ∷ words)
 
 -- they have two options that do not go together, shown so
 abbrev pub Conflicts : List Text → Text → Text → Type 0
-Conflicts words first second = IsTaken (codes "hunt" ∷ codes "a" ∷ words) (Some (record { command = codes "hunt"; words = codes " <FILE>"; first = first; second = second }))
+Conflicts words first second = IsTaken (codes "hunt" ∷ codes "a" ∷ words) (Some (of_file (codes "hunt") first second))
 
 -- `--threads 5 9` and more words
 abbrev pub threads : List Text → List Text
@@ -80,6 +90,10 @@ pub record HuntsLaw : Type 0 where
   pub threads_uniform : Conflicts (threads (codes "--uniform" ∷ [])) shown_threads (codes "--uniform")
   pub threads_never : Conflicts (threads (codes "--never" ∷ codes "n" ∷ [])) shown_threads (codes "--never <EXPR>")
   pub threads_schedule : Conflicts (threads (codes "--schedule-only" ∷ [])) shown_threads (codes "--schedule-only")
+  pub threads_json : Conflicts (threads (codes "--json" ∷ [])) shown_threads (codes "--json")
+  pub json_threads : Conflicts (codes "--json" ∷ threads []) (codes "--json") shown_threads
+  pub json_schedule : Conflicts (codes "--json" ∷ codes "--schedule-only" ∷ []) (codes "--json") (codes "--schedule-only")
+  pub schedule_json : Conflicts (codes "--schedule-only" ∷ codes "--json" ∷ []) (codes "--json") (codes "--schedule-only")
   pub steps_threads : Conflicts (codes "--steps" ∷ codes "5" ∷ threads []) (codes "--steps <N>") shown_threads
   pub uniform_threads : Conflicts (codes "--uniform" ∷ threads []) (codes "--uniform") shown_threads
   pub all : Conflicts (codes "--steps" ∷ codes "5" ∷ threads (codes "--uniform" ∷ codes "--seed" ∷ codes "1" ∷ [])) (codes "--seed <N>") shown_threads
@@ -92,14 +106,23 @@ pub record NoCommandsLaw : Type 0 where
   pub hunt_help : Tells (codes "hunt" ∷ codes "-h" ∷ []) (kind.DisplayHelp ∷ [])
   pub help_command : Tells (codes "help" ∷ []) (kind.DisplayHelp ∷ kind.InvalidSubcommand ∷ [])
   pub merged_true : Tells (codes "explore" ∷ codes "a" ∷ codes "--merged=true" ∷ []) (kind.TooManyValues ∷ [])
-  pub version : Tells (codes "--version" ∷ []) (kind.UnknownArgument ∷ [])
+  pub version : Tells (codes "--version" ∷ []) (kind.DisplayVersion ∷ [])
+  pub short_version : Tells (codes "-V" ∷ []) (kind.DisplayVersion ∷ [])
+  pub version_first : Tells (codes "--version" ∷ codes "explore" ∷ codes "a" ∷ []) (kind.DisplayVersion ∷ [])
+  pub explore_version : Tells (codes "explore" ∷ codes "a" ∷ codes "--version" ∷ []) (kind.UnknownArgument ∷ [])
+  pub labels_version : Tells (codes "labels" ∷ codes "-V" ∷ []) (kind.UnknownArgument ∷ [])
   pub no_file : Tells (codes "explore" ∷ []) (kind.MissingRequiredArgument ∷ [])
+  pub no_path : Tells (codes "check" ∷ codes "--limit=7" ∷ []) (kind.MissingRequiredArgument ∷ [])
+  pub no_jobs : Tells (codes "check" ∷ codes "a" ∷ codes "--jobs=0" ∷ []) (kind.ValueValidation ∷ [])
   pub no_schedule : Tells (codes "trace" ∷ codes "a" ∷ []) (kind.MissingRequiredArgument ∷ [])
   pub no_moves : Tells (codes "labels" ∷ codes "2" ∷ []) (kind.MissingRequiredArgument ∷ [])
   pub no_number : Tells (codes "explore" ∷ codes "a" ∷ codes "--limit" ∷ codes "x" ∷ []) (kind.ValueValidation ∷ [])
   pub large_number : Tells (codes "explore" ∷ codes "a" ∷ codes "--limit" ∷ codes "4294967296" ∷ []) (kind.ValueValidation ∷ [])
+  pub no_memory : Tells (codes "explore" ∷ codes "a" ∷ codes "--memory" ∷ codes "0" ∷ []) (kind.ValueValidation ∷ [])
+  pub much_memory : Tells (codes "explore" ∷ codes "a" ∷ codes "--memory=1000001" ∷ []) (kind.ValueValidation ∷ [])
   pub no_step : Tells (codes "draw" ∷ codes "a" ∷ codes "0" ∷ codes "--from" ∷ codes "0" ∷ []) (kind.ValueValidation ∷ [])
   pub too_narrow : Tells (codes "draw" ∷ codes "a" ∷ codes "0" ∷ codes "--width=299" ∷ []) (kind.ValueValidation ∷ [])
   pub trace_title : Tells (codes "trace" ∷ codes "a" ∷ codes "0" ∷ codes "--title" ∷ codes "b" ∷ []) (kind.UnknownArgument ∷ [])
+  pub draw_json : Tells (codes "draw" ∷ codes "a" ∷ codes "0" ∷ codes "--json" ∷ []) (kind.UnknownArgument ∷ [])
   pub no_process : Tells (codes "explore" ∷ codes "a" ∷ codes "--ends" ∷ codes "6" ∷ []) (kind.ValueValidation ∷ [])
   pub one_number : Tells (codes "hunt" ∷ codes "a" ∷ codes "--threads" ∷ codes "5" ∷ []) (kind.WrongNumberOfValues ∷ [])

@@ -1,5 +1,5 @@
 -- What the words of a command line ask for.
-use Rattle.std.specs.Prelude.{◌≡◌, ◌≢◌, Bool, true, false, List, [], ◌∷◌, MatchOption, Option, Some, None, Vec, codes, string_bytes}
+use Rattle.std.specs.Prelude.{◌≡◌, ◌≢◌, List, [], ◌∷◌, MatchOption, ◌++◌, Option, Some, None, Vec, codes, if◌then◌else◌, string_bytes}
 use Rattle.std.specs.Borrow.{Bor}
 use Rattle.std.specs.Global.{Global}
 use Rattle.clap.specs.Walk.{Row, Text}
@@ -28,23 +28,45 @@ faults words = fault_of ticklab words
 abbrev pub number_text : Text
 number_text = codes "error: a number is out of its range\n"
 
--- whether the schedule of an answer is asked for alone
-abbrev pub is_schedule_only : Option (Text × List Row) → Bool
-is_schedule_only None = false
-is_schedule_only (Some found) = is_set (codes "schedule-only") found.1
+-- what `--version` tells of a program of this version
+abbrev pub version_text : Text → Text
+version_text version = codes "ticklab " ++ version ++ codes "\n"
 
--- the whole answer to a request is asked for, or its schedule alone
+-- in which form an answer is asked for: as a text, its schedule alone, or as JSON
+pub data Form : Type 0 where
+  as_text : Form
+  schedule_alone : Form
+  as_json : Form
+
+abbrev pub form_in : List Row → Form
+form_in rows =
+    if is_set (codes "schedule-only") rows then schedule_alone
+    else if is_set (codes "json") rows then as_json
+    else as_text
+
+abbrev pub form_of : Option (Text × List Row) → Form
+form_of None = as_text
+form_of (Some found) = form_in found.1
+
+-- the answer to a request is asked for in this form
+abbrev pub IsAskedAs : Form → Request (Bor Text) (Vec (Bor Text) Global) → Line → Type 0
+IsAskedAs form request (line.Request asked) = (form ≡ as_text) × (asked ≡ request)
+IsAskedAs form request (line.Schedule asked) = (form ≡ schedule_alone) × (asked ≡ request)
+IsAskedAs form request (line.Json asked) = (form ≡ as_json) × (asked ≡ request)
+IsAskedAs form request (line.Help text) = ⊥
+IsAskedAs form request (line.Version text) = ⊥
+IsAskedAs form request (line.Refused text) = ⊥
+
 abbrev pub IsAskedBy : Option (Text × List Row) → Request (Bor Text) (Vec (Bor Text) Global) → Line → Type 0
-IsAskedBy found request (line.Request asked) = (is_schedule_only found ≡ false) × (asked ≡ request)
-IsAskedBy found request (line.Schedule asked) = (is_schedule_only found ≡ true) × (asked ≡ request)
-IsAskedBy found request (line.Help text) = ⊥
-IsAskedBy found request (line.Refused text) = ⊥
+IsAskedBy found = IsAskedAs (form_of found)
 
 -- what is answered to words that have no conflict
 abbrev pub IsMeant : Option (Text × List Row) → Line → Type 0
-IsMeant found (line.Request request) = (is_schedule_only found ≡ false) × (request_in found ≡ Some (plain_request request))
-IsMeant found (line.Schedule request) = (is_schedule_only found ≡ true) × (request_in found ≡ Some (plain_request request))
+IsMeant found (line.Request request) = (form_of found ≡ as_text) × (request_in found ≡ Some (plain_request request))
+IsMeant found (line.Schedule request) = (form_of found ≡ schedule_alone) × (request_in found ≡ Some (plain_request request))
+IsMeant found (line.Json request) = (form_of found ≡ as_json) × (request_in found ≡ Some (plain_request request))
 IsMeant found (line.Help text) = ⊥
+IsMeant found (line.Version text) = ⊥
 IsMeant found (line.Refused text) = (request_in found ≡ None) × (string_bytes text ≡ number_text)
 
 abbrev pub IsRefused : Text → Line → Type 0
@@ -55,22 +77,25 @@ IsRefused wanted _ = ⊥
 abbrev pub IsFound : Option (Text × List Row) → Line → Type 0
 IsFound found l = MatchOption (conflict_in found) (IsMeant found l) (λ options. IsRefused (conflict_text options) l)
 
--- what is answered where it does not: help only where help is one of the kinds, a refusal only where another is
-abbrev pub IsTold : Kinds → Line → Type 0
-IsTold kinds (line.Help text) = IsAmong kind.DisplayHelp kinds
-IsTold kinds (line.Refused text) = (k : ErrorKind) × (k ≢ kind.DisplayHelp) × IsAmong k kinds
-IsTold kinds _ = ⊥
+-- What is answered where it does not, by a program of this version: help only where help is one of the kinds, its version
+-- only where that is, a refusal only where another is.
+abbrev pub IsTold : Text → Kinds → Line → Type 0
+IsTold version kinds (line.Help text) = IsAmong kind.DisplayHelp kinds
+IsTold version kinds (line.Version text) = IsAmong kind.DisplayVersion kinds × (string_bytes text ≡ version_text version)
+IsTold version kinds (line.Refused text) = (k : ErrorKind) × (k ≢ kind.DisplayHelp) × (k ≢ kind.DisplayVersion) × IsAmong k kinds
+IsTold version kinds _ = ⊥
 
-abbrev pub AnswersBy : Kinds → Option (Text × List Row) → Line → Type 0
-AnswersBy [] found = IsFound found
-AnswersBy (k ∷ ks) found = IsTold (k ∷ ks)
+abbrev pub AnswersBy : Text → Kinds → Option (Text × List Row) → Line → Type 0
+AnswersBy version [] found = IsFound found
+AnswersBy version (k ∷ ks) found = IsTold version (k ∷ ks)
 
--- the words ask for this, or this is told of them
-abbrev pub Answers : List Text → Line → Type 0
-Answers words = AnswersBy (faults words) (command_in words)
+-- the words ask for this, or this is told of them by a program of this version
+abbrev pub Answers : Text → List Text → Line → Type 0
+Answers version words = AnswersBy version (faults words) (command_in words)
 
 -- the same by the one kind that is told
-abbrev pub IsToldBy : ErrorKind → Line → Type 0
-IsToldBy k (line.Help text) = k ≡ kind.DisplayHelp
-IsToldBy k (line.Refused text) = k ≢ kind.DisplayHelp
-IsToldBy k _ = ⊥
+abbrev pub IsToldBy : Text → ErrorKind → Line → Type 0
+IsToldBy version k (line.Help text) = k ≡ kind.DisplayHelp
+IsToldBy version k (line.Version text) = (k ≡ kind.DisplayVersion) × (string_bytes text ≡ version_text version)
+IsToldBy version k (line.Refused text) = (k ≢ kind.DisplayHelp) × (k ≢ kind.DisplayVersion)
+IsToldBy version k _ = ⊥

@@ -1,7 +1,7 @@
 //! The arguments of commands, as they are described to `clap`.
 ghost use Rattle.std.specs.Prelude.{◌≡◌, codes, pos};
 ghost use Rattle.clap.specs.declared.builder.value_parser.ValueParser.TheVariants.{Signed, Unsigned};
-ghost use Rattle.ticklab_line.specs.CommandLine.{IsWord, ends_rule, flag_rule, from_one_to, further_rule, number_rule, processes_rule, repeated_rule, text_rule, threads_rule, up_to, word_rule};
+ghost use Rattle.ticklab_line.specs.CommandLine.{IsWord, ends_rule, flag_rule, from_one_to, further_rule, jobs_rule, json_rule, limit_rule, memory_rule, number_rule, processes_rule, repeated_rule, text_rule, threads_rule, up_to, word_rule, words_rule};
 
 use clap::builder::ValueParser;
 use clap::{Arg, ArgAction, value_parser};
@@ -14,6 +14,14 @@ pub fn word<'a>(alloc: Global, name: &'a str, value: &'a str, help: &'a str) -> 
     ensures { IsWord (word_rule name.entry.now) result }
 {
     further(alloc, name, value, help).required(true)
+}
+
+/// One word or more.
+pub fn words<'a>(alloc: Global, name: &'a str, value: &'a str, help: &'a str) -> Arg<'a>
+    ensures { IsWord (words_rule name.entry.now) result }
+{
+    let words = word(alloc, name, value, help).num_args(1..);
+    words.action(ArgAction::Append)
 }
 
 /// A word that may be left out.
@@ -53,6 +61,13 @@ pub fn schedule_only<'a>(alloc: Global) -> Arg<'a>
         "schedule-only",
         "Prints the line of the schedule alone, and nothing where there is none",
     )
+}
+
+/// Of a command that can answer as JSON.
+pub fn json<'a>(alloc: Global) -> Arg<'a>
+    ensures { IsWord json_rule result }
+{
+    flag(alloc, "json", "Prints the answer as JSON")
 }
 
 /// An option with a number. What stands for it where it is left out is for the help alone.
@@ -107,8 +122,46 @@ pub fn length<'a>() -> ValueParser<'a>
     value_parser!(u32).range(0..=10_000_000)
 }
 
-/// How many schedules of a hunt are tried side by side.
-pub fn jobs<'a>() -> ValueParser<'a>
+/// Of a command that searches: how many states it may have.
+pub fn limit<'a>(alloc: Global) -> Arg<'a>
+    ensures { IsWord limit_rule result }
+{
+    option(
+        alloc,
+        "limit",
+        "STATES",
+        value_parser!(u32),
+        "Gives up where there are more states than this [default: 4294967295]",
+    )
+}
+
+/// How much memory the states may take.
+pub fn memory<'a>(alloc: Global) -> Arg<'a>
+    ensures { IsWord memory_rule result }
+{
+    option(
+        alloc,
+        "memory",
+        "MB",
+        megabytes(),
+        "Gives up where the states take more memory than this, 1 to 1000000 megabytes [default: 1000]",
+    )
+}
+
+fn megabytes<'a>() -> ValueParser<'a>
+    ensures { result ≡ from_one_to 1000000 }
+{
+    value_parser!(u32).range(1..=1_000_000)
+}
+
+/// How many schedules of a hunt are tried side by side, or how many files are searched.
+pub fn jobs<'a>(alloc: Global, help: &'a str) -> Arg<'a>
+    ensures { IsWord jobs_rule result }
+{
+    option(alloc, "jobs", "N", one_to_64(), help)
+}
+
+fn one_to_64<'a>() -> ValueParser<'a>
     ensures { result ≡ from_one_to 64 }
 {
     value_parser!(u32).range(1..=64)

@@ -1,7 +1,9 @@
 ghost use Rattle.std.specs.Prelude.{◌≡◌, ◌≢◌, IfOk, map, string_bytes};
+ghost use Rattle.clap.specs.Matches.{found_of};
 ghost use Rattle.clap.specs.Simple.{subcommand_rows_of};
 ghost use Rattle.clap.specs.Values.{kind_of};
-ghost use Rattle.ticklab_line.specs.Lines.{Answers, IsAskedBy, IsFound, IsMeant, IsToldBy, number_text};
+ghost use Rattle.clap.specs.Walk.{rows_of};
+ghost use Rattle.ticklab_line.specs.Lines.{Answers, IsAskedAs, IsAskedBy, IsFound, IsMeant, IsToldBy, form_in, number_text, version_text};
 
 use crate::commands::{Lent, command_line, request_in};
 use crate::conflicts::{conflict_in, conflict_text};
@@ -16,20 +18,24 @@ pub enum Line<'a> {
     Request(Lent<'a>),
     /// The schedule alone of the answer to this.
     Schedule(Lent<'a>),
+    /// The answer to this as JSON.
+    Json(Lent<'a>),
     /// The help that was asked for.
     Help(String),
+    /// The program's name and its version.
+    Version(String),
     /// The words are no command, and why.
     Refused(String),
 }
 
-/// What the words of a command line ask for, of which the first is the program's name. The only error is
-/// that memory was refused.
-pub fn asked<'a>(alloc: Global, words: &'a [String]) -> Result<Line<'a>, AllocError>
-    ensures { IfOk result (Answers (map string_bytes words.entry.now)) }
+/// What the words of a command line ask for, of which the first is the program's name, of a program of this version.
+/// The only error is that memory was refused.
+pub fn asked<'a>(alloc: Global, words: &'a [String], version: &str) -> Result<Line<'a>, AllocError>
+    ensures { IfOk result (Answers version.now (map string_bytes words.entry.now)) }
 {
     match command_line(alloc)?.try_get_matches_from(words) {
         Ok(matches) => found(alloc, &matches),
-        Err(error) => told(alloc, error),
+        Err(error) => told(alloc, error, version),
     }
 }
 
@@ -55,15 +61,21 @@ fn line_of<'a>(matches: &ArgMatches<'a>, request: Lent<'a>) -> Line<'a>
     ensures { IsAskedBy (subcommand_rows_of matches.now) request.entry result }
 {
     match matches.subcommand() {
-        Some((_name, given)) => {
-            if is_set(given, "schedule-only") {
-                Line::Schedule(request)
-            } else {
-                Line::Request(request)
-            }
-        }
+        Some((_name, given)) => line_as(given, request),
         None => Line::Request(request),
     }
+}
+
+fn line_as<'a>(given: &ArgMatches<'a>, request: Lent<'a>) -> Line<'a>
+    ensures { IsAskedAs (form_in (rows_of (found_of given.now))) request.entry result }
+{
+    if is_set(given, "schedule-only") {
+        return Line::Schedule(request);
+    }
+    if is_set(given, "json") {
+        return Line::Json(request);
+    }
+    Line::Request(request)
 }
 
 // Where `clap` took a number that is out of its range.
@@ -73,20 +85,36 @@ fn number_refused(alloc: Global) -> Result<String, AllocError>
     String::from_str(alloc, "error: a number is out of its range\n")
 }
 
-fn told<'a>(alloc: Global, error: Error) -> Result<Line<'a>, AllocError>
-    ensures { IfOk result (λ line. IsToldBy (kind_of error) line × (kind_of error ≢ ErrorKind.OutOfMemory)) }
+fn told<'a>(alloc: Global, error: Error, version: &str) -> Result<Line<'a>, AllocError>
+    ensures { IfOk result (λ line. IsToldBy version.now (kind_of error) line × (kind_of error ≢ ErrorKind.OutOfMemory)) }
 {
     match error.kind() {
         ErrorKind::OutOfMemory => Err(AllocError),
-        kind => Ok(line_told(kind, format!(in alloc; "{error}")?)),
+        kind => line_told(alloc, kind, format!(in alloc; "{error}")?, version),
     }
 }
 
-fn line_told<'a>(kind: ErrorKind, text: String) -> Line<'a>
-    ensures { IsToldBy kind result }
+fn line_told<'a>(
+    alloc: Global,
+    kind: ErrorKind,
+    text: String,
+    version: &str,
+) -> Result<Line<'a>, AllocError>
+    ensures { IfOk result (IsToldBy version.now kind) }
 {
     match kind {
-        ErrorKind::DisplayHelp => Line::Help(text),
-        _ => Line::Refused(text),
+        ErrorKind::DisplayHelp => Ok(Line::Help(text)),
+        ErrorKind::DisplayVersion => Ok(Line::Version(version_text(alloc, version)?)),
+        _ => Ok(Line::Refused(text)),
     }
+}
+
+// (Of the text that `clap` has no clause speaks.)
+fn version_text(alloc: Global, version: &str) -> Result<String, AllocError>
+    ensures { IfOk result (λ text. string_bytes text ≡ version_text version.now) }
+{
+    let mut text = String::from_str(alloc, "ticklab ")?;
+    text.push_str(version)?;
+    text.push_str("\n")?;
+    Ok(text)
 }

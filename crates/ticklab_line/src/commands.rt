@@ -4,14 +4,15 @@ ghost use Rattle.clap.specs.Matches.{found_of};
 ghost use Rattle.clap.specs.Walk.{first_of, rows_of};
 ghost use Rattle.clap.specs.Simple.{app_of, subcommand_rows_of};
 ghost use Rattle.ticklab_line.specs.CommandLine.{IsCommand, IsLine};
-ghost use Rattle.ticklab_line.specs.Commands.{command_wanted, draw_app, drawing_in, ends_in, ends_of, explain_app, explain_in, explore_app, explore_in, hunt_app, hunt_in, labels_app, labels_in, lasso_app, lasso_in, limit_in, named, page_app, plain_drawing, plain_request, plan_of, run_app, run_in, run_of, runs_in, schedules_of, side_in, steps_in, ticklab};
+ghost use Rattle.ticklab_line.specs.Commands.{check_app, check_in, check_of, command_wanted, draw_app, drawing_in, ends_in, ends_of, explain_app, explain_in, explore_app, explore_in, hunt_app, hunt_in, labels_app, labels_in, lasso_app, lasso_in, limit_in, memory_in, named, page_app, plain_drawing, plain_request, plan_of, run_app, run_in, run_of, runs_in, schedules_of, side_in, steps_in, ticklab, trace_app};
 ghost use Rattle.ticklab_line.specs.Commands.{request_in as found_request};
 
 use crate::arguments::{
-    ends, flag, further, jobs, length, option, processes, repeated, schedule_only, step, text,
-    threads, width, word,
+    ends, flag, further, jobs, json, length, limit, memory, option, processes, repeated,
+    schedule_only, step, text, threads, width, word, words,
 };
-use crate::parts::{STATUSES, filed, named, taking, with};
+use crate::examples::EXAMPLES;
+use crate::parts::{filed, named, taking, with};
 use crate::values::{
     byte, byte_in, is_set, large_number, large_number_or, list_in, number, number_or, text_in,
     texts_in,
@@ -55,16 +56,27 @@ pub struct Drawing<T> {
     pub width: u32,
 }
 
+/// A run of a program, or of its code, and what must never hold.
+#[derive(Debug, Drop)]
+pub struct AskedRun<T, L> {
+    pub file: T,
+    pub schedule: T,
+    pub never: L,
+    pub side: Side,
+}
+
 /// A command with what goes with it, its texts and its lists of texts in whatever form they are held. A file is a
 /// name, and `-` is standard input; a schedule is its text, or `@` and the name of the file that has it, or `-`. Neither
 /// is read yet.
 #[derive(Debug, Drop)]
 pub enum Request<T, L> {
-    /// All schedules of a program, as far as it has at most so many states, and what must never hold.
+    /// All schedules of a program, as far as it has at most so many states, which take at most so many megabytes; and
+    /// what must never hold.
     Explore {
         file: T,
         never: L,
         limit: u32,
+        memory: u32,
         steps: Steps,
     },
     /// The same, and whether all processes can still end after each schedule, or one of them.
@@ -73,7 +85,16 @@ pub enum Request<T, L> {
         never: L,
         process: Option<u8>,
         limit: u32,
+        memory: u32,
         steps: Steps,
+    },
+    /// Files, and folders of files: whether each is as it says, as far as it has at most so many states, which take at
+    /// most so many megabytes; so many are searched side by side.
+    Check {
+        paths: L,
+        limit: u32,
+        memory: u32,
+        jobs: u32,
     },
     /// A schedule that repeats a part of itself for ever, and who runs on there.
     Lasso {
@@ -100,28 +121,11 @@ pub enum Request<T, L> {
         turns: u64,
     },
     /// A run step by step, and where what must never hold does.
-    Trace {
-        file: T,
-        schedule: T,
-        never: L,
-        side: Side,
-    },
+    Trace(AskedRun<T, L>),
     /// A run as a picture, and where what must never hold does.
-    Draw {
-        file: T,
-        schedule: T,
-        never: L,
-        side: Side,
-        drawing: Drawing<T>,
-    },
+    Draw(AskedRun<T, L>, Drawing<T>),
     /// A run as a page of HTML, with this title where that is not the file's name.
-    Page {
-        file: T,
-        schedule: T,
-        never: L,
-        side: Side,
-        title: Option<T>,
-    },
+    Page(AskedRun<T, L>, Option<T>),
     /// What is wrong with a program or a code, or with a schedule of it.
     Explain {
         file: T,
@@ -147,12 +151,10 @@ pub fn command_line<'a>(alloc: Global) -> Result<Command<'a>, AllocError>
     ensures { IsLine ticklab result }
 {
     let line = with(Ok(ticklab(alloc)), explore(alloc));
+    let line = with(line, check(alloc));
     let line = with(line, lasso(alloc));
     let line = with(line, hunt(alloc));
-    let line = with(
-        line,
-        run(alloc, "trace", "Prints a line for each step of a run"),
-    );
+    let line = with(line, trace(alloc));
     let line = with(line, draw(alloc));
     let line = with(line, page(alloc));
     let line = with(line, explain(alloc));
@@ -163,8 +165,9 @@ fn ticklab<'a>(alloc: Global) -> Command<'a>
     ensures { app_of result ≡ command_wanted }
 {
     Command::new(alloc, "ticklab")
+        .version("")
         .about(ABOUT)
-        .after_help(STATUSES)
+        .after_help(EXAMPLES)
         .subcommand_required(true)
         .arg_required_else_help(true)
 }
@@ -194,6 +197,7 @@ fn request_named<'a>(
 {
     match name {
         "explore" => explore_in(alloc, given),
+        "check" => check_in(alloc, given),
         "lasso" => Ok(lasso_in(given)),
         "hunt" => hunt_in(alloc, given),
         "trace" | "draw" | "page" => run_in(alloc, name, given),
@@ -212,16 +216,8 @@ fn explore<'a>(alloc: Global) -> Result<Command<'a>, AllocError>
         "Looks under every schedule for one under which a process traps, and then for a shortest one",
         PROGRAM,
     );
-    let explore = taking(
-        explore,
-        option(
-            alloc,
-            "limit",
-            "STATES",
-            value_parser!(u32),
-            "Gives up where there are more states than this [default: 1000000]",
-        ),
-    );
+    let explore = taking(explore, limit(alloc));
+    let explore = taking(explore, memory(alloc));
     let explore = taking(
         explore,
         flag(
@@ -248,6 +244,7 @@ fn explore<'a>(alloc: Global) -> Result<Command<'a>, AllocError>
         ),
     );
     let explore = taking(explore, schedule_only(alloc));
+    let explore = taking(explore, json(alloc));
     taking(explore, ends(alloc))
 }
 
@@ -268,6 +265,7 @@ fn schedules_of<'a>(given: &ArgMatches<'a>, never: Vec<&'a str>) -> Option<Lent<
         file: text_in(given, "file")?,
         never,
         limit: limit_in(given)?,
+        memory: memory_in(given)?,
         steps: steps_in(given),
     })
 }
@@ -304,6 +302,7 @@ fn ends_of<'a>(given: &ArgMatches<'a>, never: Vec<&'a str>, process: Option<u8>)
         never,
         process,
         limit: limit_in(given)?,
+        memory: memory_in(given)?,
         steps,
     })
 }
@@ -311,7 +310,62 @@ fn ends_of<'a>(given: &ArgMatches<'a>, never: Vec<&'a str>, process: Option<u8>)
 fn limit_in(given: &ArgMatches<'_>) -> Option<u32>
     ensures { result ≡ limit_in (rows_of (found_of given.now)) }
 {
-    number_or(given, "limit", 1_000_000)
+    number_or(given, "limit", u32::MAX)
+}
+
+fn memory_in(given: &ArgMatches<'_>) -> Option<u32>
+    ensures { result ≡ memory_in (rows_of (found_of given.now)) }
+{
+    number_or(given, "memory", 1000)
+}
+
+fn check<'a>(alloc: Global) -> Result<Command<'a>, AllocError>
+    ensures { IsCommand check_app result }
+{
+    let check = taking(
+        named(
+            alloc,
+            "check",
+            "Looks in each file, as explore does, whether it is as its line #! expect says: safe, trap, never or stuck; safe without one",
+        ),
+        words(
+            alloc,
+            "path",
+            "PATH",
+            "A program, - for standard input, or a folder, for the .tick files in it by name",
+        ),
+    );
+    let check = taking(check, limit(alloc));
+    let check = taking(check, memory(alloc));
+    let check = taking(
+        check,
+        jobs(
+            alloc,
+            "How many files are searched side by side, 1 to 64 [default: as many as there are processors]",
+        ),
+    );
+    taking(check, json(alloc))
+}
+
+fn check_in<'a>(alloc: Global, given: &ArgMatches<'a>) -> Result<Option<Lent<'a>>, AllocError>
+    ensures { IfOk result (λ found. option_map plain_request found ≡ check_in (rows_of (found_of given.now))) }
+{
+    let paths = list_in(alloc, given, "path")?;
+    Ok(check_of(given, paths))
+}
+
+fn check_of<'a>(given: &ArgMatches<'a>, paths: Vec<&'a str>) -> Option<Lent<'a>>
+    ensures { option_map plain_request result ≡ check_of (map (λ text. text.now) paths.entry.items) (rows_of (found_of given.now)) }
+{
+    let limit = limit_in(given)?;
+    let memory = memory_in(given)?;
+    let jobs = number_or(given, "jobs", 64)?;
+    Some(Request::Check {
+        paths,
+        limit,
+        memory,
+        jobs,
+    })
 }
 
 fn lasso<'a>(alloc: Global) -> Result<Command<'a>, AllocError>
@@ -403,11 +457,8 @@ fn hunt<'a>(alloc: Global) -> Result<Command<'a>, AllocError>
     );
     let hunt = taking(
         hunt,
-        option(
+        jobs(
             alloc,
-            "jobs",
-            "N",
-            jobs(),
             "How many schedules are tried side by side, 1 to 64 [default: as many as there are processors]",
         ),
     );
@@ -429,6 +480,7 @@ fn hunt<'a>(alloc: Global) -> Result<Command<'a>, AllocError>
         ),
     );
     let hunt = taking(hunt, schedule_only(alloc));
+    let hunt = taking(hunt, json(alloc));
     taking(hunt, threads(alloc))
 }
 
@@ -510,6 +562,13 @@ fn run<'a>(alloc: Global, name: &'a str, about: &'a str) -> Result<Command<'a>, 
     )
 }
 
+fn trace<'a>(alloc: Global) -> Result<Command<'a>, AllocError>
+    ensures { IsCommand trace_app result }
+{
+    let trace = run(alloc, "trace", "Prints a line for each step of a run");
+    taking(trace, json(alloc))
+}
+
 fn draw<'a>(alloc: Global) -> Result<Command<'a>, AllocError>
     ensures { IsCommand draw_app result }
 {
@@ -589,30 +648,16 @@ fn run_in<'a>(
 fn run_of<'a>(name: &str, given: &ArgMatches<'a>, never: Vec<&'a str>) -> Option<Lent<'a>>
     ensures { option_map plain_request result ≡ run_of name.now (map (λ text. text.now) never.entry.items) (rows_of (found_of given.now)) }
 {
-    let file = text_in(given, "file")?;
-    let schedule = text_in(given, "schedule")?;
-    let side = side_in(given);
+    let run = AskedRun {
+        file: text_in(given, "file")?,
+        schedule: text_in(given, "schedule")?,
+        never,
+        side: side_in(given),
+    };
     match name {
-        "draw" => Some(Request::Draw {
-            file,
-            schedule,
-            never,
-            side,
-            drawing: drawing_in(given)?,
-        }),
-        "page" => Some(Request::Page {
-            file,
-            schedule,
-            never,
-            side,
-            title: title_in(given),
-        }),
-        _ => Some(Request::Trace {
-            file,
-            schedule,
-            never,
-            side,
-        }),
+        "draw" => Some(Request::Draw(run, drawing_in(given)?)),
+        "page" => Some(Request::Page(run, title_in(given))),
+        _ => Some(Request::Trace(run)),
     }
 }
 
@@ -662,7 +707,7 @@ fn explain<'a>(alloc: Global) -> Result<Command<'a>, AllocError>
         "Says what is wrong with a program or a code, where, and what may help",
         "The program or the code; - for standard input",
     );
-    taking(
+    let explain = taking(
         explain,
         further(
             alloc,
@@ -670,7 +715,8 @@ fn explain<'a>(alloc: Global) -> Result<Command<'a>, AllocError>
             "SCHEDULE",
             "A schedule of it, to be explained too, or @ and the file that has it or an answer",
         ),
-    )
+    );
+    taking(explain, json(alloc))
 }
 
 fn explain_in<'a>(given: &ArgMatches<'a>) -> Option<Lent<'a>>

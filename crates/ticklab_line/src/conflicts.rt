@@ -3,15 +3,13 @@ ghost use Rattle.std.specs.Prelude.{◌≡◌, IfOk, map, option_map, string_byt
 ghost use Rattle.clap.specs.Matches.{found_of};
 ghost use Rattle.clap.specs.Walk.{rows_of};
 ghost use Rattle.clap.specs.Simple.{subcommand_rows_of};
-ghost use Rattle.ticklab_line.specs.Conflicts.{code_conflict, code_option, conflict_in as conflict_found, conflict_of, conflict_text, in_order, may_conflict, plan_option, run_named, shown, steps_conflict, threads_conflict, threads_lead};
+ghost use Rattle.ticklab_line.specs.Conflicts.{code_conflict, code_option, conflict_in as conflict_found, conflict_of, conflict_text, in_order, json_conflict, may_conflict, of_file, plan_option, run_named, search_named, shown, steps_conflict, threads_conflict, threads_lead};
 
 use crate::values::{is_set, text_in, texts_in};
 use clap::ArgMatches;
 use std::alloc::{AllocError, Global};
 
 const THREADS: &str = "--threads <TIMES> <TURNS>";
-
-const FILE: &str = " <FILE>";
 
 /// Two options that do not go together, as they are shown, the command that they are of, and the words that it
 /// takes.
@@ -40,6 +38,9 @@ fn conflict_of(name: &str, given: &ArgMatches<'_>) -> Option<Conflict<'static>>
     if let Some(conflict) = steps_conflict(given) {
         return Some(conflict);
     }
+    if let Some(conflict) = json_conflict(name, given) {
+        return Some(conflict);
+    }
     code_conflict(name, given)
 }
 
@@ -48,14 +49,41 @@ fn steps_conflict(given: &ArgMatches<'_>) -> Option<Conflict<'static>>
     ensures { option_map shown result ≡ steps_conflict (rows_of (found_of given.now)) }
 {
     if is_set(given, "merged") && is_set(given, "single") {
-        return Some(Conflict {
-            command: "explore",
-            words: FILE,
-            first: "--merged",
-            second: "--single",
-        });
+        return Some(of_file("explore", "--merged", "--single"));
     }
     None
+}
+
+// `--json` and `--schedule-only` of `explore` or `hunt`.
+fn json_conflict(name: &str, given: &ArgMatches<'_>) -> Option<Conflict<'static>>
+    ensures { option_map shown result ≡ json_conflict name.now (rows_of (found_of given.now)) }
+{
+    if is_set(given, "json") && is_set(given, "schedule-only") {
+        return Some(of_file(search_named(name), "--json", "--schedule-only"));
+    }
+    None
+}
+
+// The command of this name whose answer may have a schedule.
+fn search_named(name: &str) -> &'static str
+    ensures { result.now ≡ search_named name.now }
+{
+    match name {
+        "hunt" => "hunt",
+        _ => "explore",
+    }
+}
+
+// Two options of a command that takes a file.
+fn of_file<'a>(command: &'a str, first: &'a str, second: &'a str) -> Conflict<'a>
+    ensures { shown result ≡ of_file command.now first.now second.now }
+{
+    Conflict {
+        command,
+        words: " <FILE>",
+        first,
+        second,
+    }
 }
 
 // `--code` or `--lift`, and `--never`, of `trace`, `draw` or `page`.
@@ -108,19 +136,9 @@ fn in_order(threads_lead: bool, option: &str) -> Conflict<'_>
     ensures { shown result ≡ in_order threads_lead option.now }
 {
     if threads_lead {
-        return Conflict {
-            command: "hunt",
-            words: FILE,
-            first: THREADS,
-            second: option,
-        };
+        return of_file("hunt", THREADS, option);
     }
-    Conflict {
-        command: "hunt",
-        words: FILE,
-        first: option,
-        second: THREADS,
-    }
+    of_file("hunt", option, THREADS)
 }
 
 // The first option of a plan that is given, as it is shown.
@@ -151,6 +169,9 @@ fn plan_option(given: &ArgMatches<'_>) -> Option<&'static str>
     if is_set(given, "schedule-only") {
         return Some("--schedule-only");
     }
+    if is_set(given, "json") {
+        return Some("--json");
+    }
     None
 }
 
@@ -180,6 +201,7 @@ fn may_conflict(id: &str) -> bool
             | "uniform"
             | "never"
             | "schedule-only"
+            | "json"
     )
 }
 

@@ -10,10 +10,11 @@ mod arguments;
 mod asking;
 mod commands;
 mod conflicts;
+mod examples;
 mod laws;
 mod parts;
 mod values;
 
 pub use asking::{Line, asked};
-pub use commands::{Drawing, Request, Side, Steps};
+pub use commands::{AskedRun, Drawing, Request, Side, Steps};
 pub use laws::{law_commands, law_hunts, law_no_commands};

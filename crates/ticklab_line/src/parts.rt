@@ -5,19 +5,9 @@ ghost use Rattle.clap.specs.Simple.{App, new_app, with_rule};
 ghost use Rattle.ticklab_line.specs.CommandLine.{IsCommand, IsLine, IsWord, with_app, with_file};
 
 use crate::arguments::word;
+use crate::examples::example_of;
 use clap::{Arg, Command};
 use std::alloc::{AllocError, Global};
-
-pub const STATUSES: &str = "Exit status: \
-0 it is done: what was asked for is printed, and explore and hunt found nothing; \
-1 the program, code, schedule or #! line is refused; \
-2 the command line is; \
-3 a file could not be read, or the answer not be written; \
-4 memory or a thread was refused; \
-5 explore or hunt found a schedule under which a process traps or a #! never line breaks; \
-6 explore met its limit; \
-7 explore found a schedule after which what was asked for can't end or never does, or lasso says that it never does. \
-All but the answer is told on standard error.";
 
 // The line with one more command.
 pub fn with<'a>(
@@ -54,7 +44,11 @@ pub fn taking<'a>(
 pub fn named<'a>(alloc: Global, name: &'a str, about: &'a str) -> Result<Command<'a>, AllocError>
     ensures { IsCommand (new_app name.entry.now) result }
 {
-    Ok(Command::new(alloc, name).about(about).after_help(STATUSES))
+    Ok(
+        Command::new(alloc, name)
+            .about(about)
+            .after_help(example_of(name)),
+    )
 }
 
 // A command that takes a file.

@@ -6,7 +6,7 @@ use super::slow::Slow;
 use super::stepping::{some_trapped, words_after};
 use super::sweeps::{can_end, is_stuck, nearest_unmarked};
 use searches_explore::{
-    EndExplored, MustStop, NoMemory, Property, Unwatched, explore_ends, explore_ends_merged,
+    EndExplored, Limits, MustStop, NoMemory, Property, Unwatched, explore_ends, explore_ends_merged,
 };
 use std::alloc::Global;
 use std::test::Fail;
@@ -36,10 +36,11 @@ impl Search<'_> {
             asked,
             limit,
         } = *self;
+        let limits = Limits::of_states(limit);
         match steps {
-            Steps::Single => explore_ends(alloc, program, lines, asked, limit, &mut Unwatched),
+            Steps::Single => explore_ends(alloc, program, lines, asked, limits, &mut Unwatched),
             Steps::Merged => {
-                explore_ends_merged(alloc, program, lines, asked, limit, &mut Unwatched)
+                explore_ends_merged(alloc, program, lines, asked, limits, &mut Unwatched)
             }
         }
     }

@@ -1,28 +1,44 @@
 //! What a watch is told of how far a search is.
 
 use crate::examples::{TICKET_COUNT, TWO_TICKETS};
-use searches_explore::{Explored, Watch, explore};
+use searches_explore::{Explored, Limits, Watch, explore};
 use std::alloc::Global;
 use std::test::Fail;
 use tests_shared::{accepted, is_same};
 
+/// What was told last, and how often something was.
 #[derive(Drop)]
-struct Told {
-    times: u32,
-    gone: u32,
-    // Whether more was seen each time than before, and than was gone.
-    is_more: bool,
-    states: u32,
+pub struct Told {
+    pub times: u32,
+    pub states: u32,
+    pub gone: u32,
+    pub bytes: u64,
+    /// No number grew less, and they go together.
+    pub is_more: bool,
+}
+
+impl Told {
+    pub fn nothing() -> Told {
+        Told {
+            times: 0,
+            states: 0,
+            gone: 0,
+            bytes: 0,
+            is_more: true,
+        }
+    }
 }
 
 impl Watch for Told {
-    ghost hears = { λ before states gone after. Unit {0} };
+    ghost hears = { λ before states gone bytes after. Unit {0} };
 
-    fn seen(&mut self, states: u32, gone: u32) {
+    fn seen(&mut self, states: u32, gone: u32, bytes: u64) {
+        let is_more = states >= self.states && gone >= self.gone && bytes >= self.bytes;
+        self.is_more = self.is_more && is_more && states >= gone && bytes >= u64::from(states) * 4;
         self.times = self.times.saturating_add(1);
-        self.is_more = self.is_more && states > self.states && states > gone && gone > self.gone;
         self.states = states;
         self.gone = gone;
+        self.bytes = bytes;
     }
 }
 
@@ -33,40 +49,38 @@ struct Lines<'r, E: Eprint> {
 }
 
 impl<'r, E: Eprint> Watch for Lines<'r, E> {
-    ghost hears = { λ before states gone after. Unit {0} };
+    ghost hears = { λ before states gone bytes after. Unit {0} };
 
-    fn seen(&mut self, states: u32, gone: u32) {
-        let _written = eprintln!(self.rt; "{states} states, {gone} gone");
+    fn seen(&mut self, states: u32, gone: u32, bytes: u64) {
+        let _written = eprintln!(self.rt; "{states} states, {gone} gone, {bytes} bytes");
     }
 }
 
 fn watched(alloc: Global, text: &str, states: u32) -> Result<Told, Fail> {
     let program = accepted(alloc, text)?;
-    let mut watch = Told {
-        times: 0,
-        gone: 0,
-        is_more: true,
-        states: 0,
-    };
-    let explored = explore(alloc, &program, 1_000_000, &mut watch)?;
+    let mut watch = Told::nothing();
+    let explored = explore(alloc, &program, Limits::of_states(1_000_000), &mut watch)?;
     is_same(&explored, &Explored::Safe { states })?;
     Ok(watch)
 }
 
+// And at the end.
 #[test]
 fn each_65536_gone(rt: HostRuntime) -> Result<(), Fail> {
     let watch = watched(rt.alloc(), TICKET_COUNT, 168_352)?;
     is_same(
         &(watch.times, watch.gone, watch.is_more),
-        &(2, 131_072, true),
+        &(3, 168_352, true),
     )?;
-    is_same(&watched(rt.alloc(), TWO_TICKETS, 101)?.times, &0)
+    let watch = watched(rt.alloc(), TWO_TICKETS, 101)?;
+    is_same(&(watch.times, watch.states, watch.gone), &(1, 101, 101))
 }
 
 #[test]
 fn lines_on_standard_error(rt: HostRuntime) -> Result<(), Fail> {
     let program = accepted(rt.alloc(), TICKET_COUNT)?;
     let mut lines = Lines { rt: &rt };
-    let explored = explore(rt.alloc(), &program, 1_000_000, &mut lines)?;
+    let limits = Limits::of_states(1_000_000);
+    let explored = explore(rt.alloc(), &program, limits, &mut lines)?;
     is_same(&explored, &Explored::Safe { states: 168_352 })
 }

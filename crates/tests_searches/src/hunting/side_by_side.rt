@@ -2,7 +2,7 @@
 
 use crate::hunting::plan;
 use crate::hunting::programs::{BOTH_INSIDE, QUEUE_WITH_FAULT, SERVICE_WITH_FAULT, WRITTEN};
-use searches_hunt::{InTurn, Mode, NoMemory, Plan, Trials, hunt_by};
+use searches_hunt::{InTurn, Mode, NoMemory, Plan, Sought, Trials, hunt_by};
 use searches_parallel::OnProcessors;
 use std::alloc::Global;
 use std::test::Fail;
@@ -21,8 +21,13 @@ fn told<T: Trials>(
     plan: Plan,
     from: u32,
 ) -> Result<Option<u32>, NoMemory> {
-    match trials.first_fault(alloc, program, &[], plan, from) {
-        Err(NoMemory) => trials.first_fault(alloc, program, &[], plan, from),
+    let sought = Sought {
+        alloc,
+        program,
+        lines: &[],
+    };
+    match trials.first_fault(sought, plan, from) {
+        Err(NoMemory) => trials.first_fault(sought, plan, from),
         answer => answer,
     }
 }

@@ -2,7 +2,7 @@
 ghost use Rattle.std.specs.Prelude.{◌≡◌, ◌<◌, ◌==◌, ℕ, length, nat_lt, if◌then◌else◌, slice_index};
 ghost use Rattle.tests_searches.specs.Machines.{forked, idle_within, nobody_else, stays_within};
 
-use searches_states::{EndSearched, Machine, MustStop, NoMemory, Unwatched, search_ends};
+use searches_states::{EndSearched, Limits, Machine, MustStop, NoMemory, Unwatched, search_ends};
 use std::alloc::Global;
 use std::test::Fail;
 use tests_shared::is_same;
@@ -77,13 +77,21 @@ impl Machine for Forks {
 fn searched(alloc: Global, forks: &Forks, start: u32, limit: u32) -> Result<EndSearched, NoMemory>
     requires { start < 4 }
 {
-    match search_ends(alloc, forks, MustStop::All, &[start], limit, &mut Unwatched) {
+    let limits = Limits::of_states(limit);
+    match search_ends(
+        alloc,
+        forks,
+        MustStop::All,
+        &[start],
+        limits,
+        &mut Unwatched,
+    ) {
         Err(NoMemory) => search_ends(
             alloc,
             forks,
             MustStop::Each([false, true, false, false, false, false]),
             &[start],
-            limit,
+            limits,
             &mut Unwatched,
         ),
         found => found,

@@ -3,7 +3,7 @@
 ghost use Rattle.std.specs.Prelude.{◌≡◌, ◌<◌, ◌≤◌, ◌==◌, ◌&&◌, ◌||◌, ℕ, Bool, false, length, nat_lt, if◌then◌else◌, slice_index};
 ghost use Rattle.tests_searches.specs.Machines.{poured, nobody_else, none_stops};
 
-use searches_states::{Machine, NoMemory, Searched, Unwatched, search};
+use searches_states::{Limits, Machine, NoMemory, Searched, Unwatched, search};
 use std::alloc::Global;
 use std::test::Fail;
 use tests_shared::{holds, is_same};
@@ -85,8 +85,9 @@ impl Machine for Jugs {
 
 // Where a growth was refused, it is asked once more.
 fn searched(alloc: Global, jugs: &Jugs, limit: u32) -> Result<Searched, NoMemory> {
-    match search(alloc, jugs, &[0, 0], limit, &mut Unwatched) {
-        Err(NoMemory) => search(alloc, jugs, &[0, 0], limit, &mut Unwatched),
+    let limits = Limits::of_states(limit);
+    match search(alloc, jugs, &[0, 0], limits, &mut Unwatched) {
+        Err(NoMemory) => search(alloc, jugs, &[0, 0], limits, &mut Unwatched),
         found => found,
     }
 }

@@ -2,7 +2,7 @@
 ghost use Rattle.std.specs.Prelude.{◌≡◌, ◌<◌, ◌≤◌, ℕ, Bool, true, false, List, length, nat_lt, if◌then◌else◌};
 ghost use Rattle.tests_searches.specs.Machines.{counted_up, nobody_else, none_stops};
 
-use searches_states::{Machine, Searched, Unwatched, search};
+use searches_states::{Limits, Machine, Searched, Unwatched, search};
 use std::test::Fail;
 use tests_shared::holds;
 
@@ -74,6 +74,12 @@ impl Machine for Counting {
 fn many_states_of_many_words(rt: HostRuntime) -> Result<(), Fail> {
     let alloc = rt.alloc();
     let start = [0; 30];
-    let found = search(alloc, &Counting { top: 19 }, &start, 10_000, &mut Unwatched)?;
+    let found = search(
+        alloc,
+        &Counting { top: 19 },
+        &start,
+        Limits::of_states(10_000),
+        &mut Unwatched,
+    )?;
     holds(found == Searched::Nowhere { states: 8_000 }, 0)
 }

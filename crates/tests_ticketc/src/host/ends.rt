@@ -8,7 +8,7 @@ use std::test::Fail;
 use std::thread::Threads;
 use tick_run::OnThreads;
 use ticketc_answers::ended;
-use ticketc_io::{HostReader, HostWriter};
+use ticketc_io::HostEnd;
 
 /// One call that fails, the first being 1.
 #[derive(Clone, Copy)]
@@ -132,8 +132,8 @@ pub fn ending_of<A: AllocGlobal + Threads + Wait>(
     mut input: Given<'_>,
     mut output: Taken,
 ) -> ProgramOutcome {
-    let mut reader = HostReader::new(&mut input);
-    let mut writer = HostWriter::new(&mut output);
+    let mut reader = HostEnd::new(&mut input);
+    let mut writer = HostEnd::new(&mut output);
     let status = ended(
         rt.alloc(),
         OnThreads::new(rt),

@@ -1,12 +1,14 @@
 -- What workers start with, and what they come back with.
-use Rattle.std.specs.Prelude.{◌≡◌, ◌<◌, ◌≤◌, ℕ, min, List, [], length, slice_get, Some, vec_items, vec_capacity}
+use Rattle.std.specs.Prelude.{◌≡◌, ◌<◌, ◌≤◌, ℕ, min, List, [], length, map, slice_get, Some, Vec, vec_items, vec_len, vec_capacity}
+use Rattle.std.specs.Global.{Global}
 use Rattle.base.specs.declared.run_outcome.RunEnd.{RunEnd}
 use Rattle.code_core.specs.Instructions.{StepCode}
 use Rattle.code_machine.specs.Machine.{start_process}
 use Rattle.code_machine.specs.Process.{OneProcess, IsOf}
 use Rattle.stamp_table.specs.Passes.{TableView, PassView, Holds, mine}
 use Rattle.tick_run.specs.prover.Alone.{RanSo}
-use Rattle.tick_run.specs.prover.Turns.{IsAt}
+use Rattle.tick_run.specs.prover.Turns.{IsAt, IsFor}
+use Rattle.tick_run.specs.declared.gathering.Gathered.{Gathered}
 use Rattle.tick_run.specs.declared.jobs.Job.{Job}
 
 -- process `p` before its first instruction, with a pass that has seen nothing and room for its outputs
@@ -57,3 +59,10 @@ pub record Gathers (t : TableView) (c : StepCode) (turns outs n : ℕ) (passes :
   pub all_ends : length ends ≡ n
   pub each : (p : ℕ) (pass : PassView) (given : List ℕ) (end : RunEnd) → slice_get passes p ≡ Some pass → slice_get outputs p ≡ Some given
       → slice_get ends p ≡ Some end → IsWork t c p turns outs pass given end
+
+-- what is run before any worker has started: each process has its job, and there is room for what workers come back with
+pub record CanStart {G : Type 0} (t : TableView) (c : StepCode) (turns outs : ℕ) (jobs : Vec (Job G) Global) (empty : Gathered) : Type 0 where
+  pub fits : IsFor t c
+  pub ready : AreReady t c turns outs (vec_items jobs)
+  pub none : Gathers t c turns outs 0 (vec_items empty.passes) (map vec_items (vec_items empty.outputs)) (vec_items empty.ends)
+  pub room : (vec_len jobs ≤ vec_capacity empty.passes) × (vec_len jobs ≤ vec_capacity empty.outputs) × (vec_len jobs ≤ vec_capacity empty.ends)

@@ -2,49 +2,26 @@
 ghost use Rattle.std.specs.Prelude.{◌≡◌, ◌<◌, ◌-◌, All, IfErr, IfOk, drop, length, map, option_map, take, true, if◌then◌else◌};
 ghost use Rattle.ticklab_line.specs.Commands.{plain_drawing};
 ghost use Rattle.tick_kinds.specs.Resolution.{resolved};
+ghost use Rattle.ticklab_answers.specs.Pictures.{IsRunPicture, look_of, title_of};
 ghost use Rattle.searches_explore.specs.Lines.{lines_of};
 ghost use Rattle.ticklab_draw.specs.Marks.{marks_of_code, program_marks};
 ghost use Rattle.ticklab_draw.specs.Never.{broken_of};
-ghost use Rattle.ticklab_answers.specs.Asking.{place_of, texts_of};
-ghost use Rattle.ticklab_answers.specs.Breaking.{IsMarkedFor, mark_of};
+ghost use Rattle.ticklab_answers.specs.Asking.{place_of};
+ghost use Rattle.ticklab_answers.specs.Breaking.{IsMarkedFor, broken_at, mark_of};
 ghost use Rattle.ticklab_answers.specs.Codes.{HasCode, IsCodeless, program_code};
-ghost use Rattle.ticklab_answers.specs.Faults.{IsEither, IsOfFileThat};
-ghost use Rattle.ticklab_answers.specs.Pictures.{IsRunPicture, look_of, title_of};
-ghost use Rattle.ticklab_answers.specs.Runs.{Draws};
 ghost use Rattle.ticklab_answers.specs.Stops.{IfRefused};
 
-use crate::asking::{NeverLines, PropertyPlace};
-use crate::breaking::{Break, first_break};
-use crate::commands::told_run::{Telling, told};
-use crate::fault::LabFault;
-use crate::host::Files;
+use crate::asking::NeverLines;
+use crate::breaking::{BrokenLine, first_broken_line};
+use crate::commands::told_run::Subject;
 use crate::reading::code_of;
-use crate::response::Response;
 use crate::stop::NoAnswer;
 use base::NoMemory;
 use base::span::Span;
 use std::alloc::Global;
 use tick_kinds::Program;
 use ticklab_draw::{Look, Mark, NeverMark, code_marks, file_name, marks, picture};
-use ticklab_line::{Drawing, Side};
-
-/// The run of the program under a schedule, or of its code, as a picture. That of a program marks where what must
-/// never hold does first: a line `#! never` of the file, or one of these texts that are the same.
-pub fn drawn<F: Files>(
-    alloc: Global,
-    files: &mut F,
-    file: &str,
-    schedule: &str,
-    never: &[&str],
-    side: Side,
-    drawing: Drawing<&str>,
-) -> Result<Response, LabFault>
-    ensures ok { IfOk result (Draws F.Reads F.ReadsInput files.old files.new file.now schedule.now (texts_of never.now) side (plain_drawing drawing.entry)) }
-    ensures err { IfErr result (IsOfFileThat (IsEither file.now schedule.now)) }
-{
-    let telling = Telling::Picture(drawing);
-    told(alloc, files, file, schedule, never, &telling, side)
-}
+use ticklab_line::Drawing;
 
 /// The title that is asked for, else the name of the file without its folder.
 pub fn title_of<'t>(title: Option<&'t str>, name: &'t str) -> &'t [u8]
@@ -74,24 +51,22 @@ pub fn steps_to(to: u32, schedule: &[u8]) -> &[u8]
     &schedule[..schedule.len().min(to as usize)]
 }
 
-/// A picture with this title; `name` is that of the program's file.
+/// A picture with this title. It marks where what must never hold does first.
 pub fn picture_of(
     alloc: Global,
-    name: &str,
+    subject: &Subject<'_, '_>,
+    schedule: &[u8],
     title: &[u8],
     look: Look,
-    program: &Program,
-    lines: &NeverLines<'_>,
-    schedule: &[u8],
-    is_code: bool,
 ) -> Result<Vec<u8>, NoAnswer>
-    requires lines { length lines.now.properties.items ≡ length lines.now.places.items }
-    requires schedule { All (λ p. p < (resolved program.now).processes) schedule.now }
-    ensures ok { IfOk result (λ out. IsRunPicture title.now look is_code (lines_of lines.now.properties.items) (map place_of lines.now.places.items) program.now schedule.now out.items) }
-    ensures refused { IfErr result (λ stop. IfRefused stop (IsCodeless is_code name.now program.now)) }
+    requires lines { length subject.now.asked.now.lines.properties.items ≡ length subject.now.asked.now.lines.places.items }
+    requires schedule { All (λ p. p < (resolved subject.now.asked.now.spelled.program).processes) schedule.now }
+    ensures ok { IfOk result (λ out. IsRunPicture title.now look subject.now.is_code (lines_of subject.now.asked.now.lines.properties.items) (map place_of subject.now.asked.now.lines.places.items) subject.now.asked.now.spelled.program schedule.now out.items) }
+    ensures refused { IfErr result (λ stop. IfRefused stop (IsCodeless subject.now.is_code subject.now.name.now subject.now.asked.now.spelled.program)) }
 {
-    let marks = marks_of(alloc, program, schedule, is_code, name)?;
-    let never = never_mark(alloc, program, lines, schedule, is_code)?;
+    let (program, is_code) = (&subject.asked.spelled.program, subject.is_code);
+    let marks = marks_of(alloc, program, schedule, is_code, subject.name)?;
+    let never = never_mark(alloc, program, &subject.asked.lines, schedule, is_code)?;
     let registers = program.tree().registers.as_slice();
     Ok(picture(
         alloc,
@@ -108,7 +83,7 @@ pub fn picture_of(
 pub fn never_mark<'l>(
     alloc: Global,
     program: &Program,
-    lines: &'l NeverLines<'_>,
+    lines: &NeverLines<'l>,
     schedule: &[u8],
     is_code: bool,
 ) -> Result<Option<NeverMark<'l>>, NoMemory>
@@ -119,34 +94,32 @@ pub fn never_mark<'l>(
     if is_code {
         return Ok(None);
     }
-    match first_break(alloc, program, lines.properties.as_slice(), schedule)? {
+    match first_broken_line(alloc, program, lines, schedule)? {
         None => Ok(None),
-        Some(broken) => {
-            let place = &lines.places[broken.line];
-            Ok(Some(mark_of(lines.places.len(), place, broken)))
-        }
+        Some(line) => Ok(Some(mark_of(lines.places.len(), line))),
     }
 }
 
-// The mark of the broken line that stands here, one of so many.
-fn mark_of<'l>(count: usize, place: &PropertyPlace<'l>, broken: Break) -> NeverMark<'l>
-    requires { broken.line < count }
-    ensures { broken_of result ≡ mark_of count (place_of place.now) broken }
+// The mark of a broken line, one of so many.
+fn mark_of(count: usize, line: BrokenLine<'_>) -> NeverMark<'_>
+    requires { line.broken.line < count }
+    ensures { broken_of result ≡ mark_of count (broken_at line.entry) }
 {
     let number = if count == 1 {
         None
     } else {
-        Some(broken.line + 1)
+        Some(line.broken.line + 1)
     };
     NeverMark {
-        steps: broken.steps,
+        steps: line.broken.steps,
         number,
-        text: part_of(place.text, place.span),
-        value: broken.value,
+        text: part_of(line.place.text, line.place.span),
+        value: line.broken.value,
     }
 }
 
-fn part_of(text: &[u8], span: Span) -> &[u8]
+/// What stands there in a text.
+pub fn part_of(text: &[u8], span: Span) -> &[u8]
     ensures { result.now ≡ take (span.end - span.start) (drop span.start text.now) }
 {
     let start = span.start.min(text.len());

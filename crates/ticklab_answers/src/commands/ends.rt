@@ -1,47 +1,52 @@
 //! `ticklab explore --ends`.
-ghost use Rattle.std.specs.Prelude.{◌≡◌, ◌<◌, All, IfErr, IfOk, MatchOption, MatchResult, None, false, true, length, map};
+ghost use Rattle.std.specs.Prelude.{◌≡◌, IfErr, IfOk, MatchOption, MatchResult, None, false, true};
 ghost use Rattle.tick_kinds.specs.Resolution.{resolved};
-ghost use Rattle.searches_explore.specs.Ending.{IfEndless, IfLoop, IfStuck, fair_searched_of, never_answer};
-ghost use Rattle.searches_explore.specs.Lines.{lines_of};
-ghost use Rattle.searches_explore.specs.Never.{IfBroken, IfFault, never_searched_of};
+ghost use Rattle.searches_explore.specs.Ending.{never_answer};
+ghost use Rattle.searches_explore.specs.Never.{IfFault, never_searched_of};
 ghost use Rattle.searches_states.specs.declared.searching.Searched.TheVariants.{Found};
-ghost use Rattle.ticketc_refusals.specs.Refusals.{SpelledIn};
-ghost use Rattle.ticklab_answers.specs.Asking.{place_of, texts_of};
+ghost use Rattle.ticklab_answers.specs.Asking.{texts_of};
 ghost use Rattle.ticklab_answers.specs.Ends.{ExploresEnds, IsEndsExplored, IsEndsFound, IsEndsFoundBy, IsEndsFoundFirst, IsEndsRefused, IsPast, IsThere, TellsMore, asked_by, asks_ends};
 ghost use Rattle.ticklab_answers.specs.Faults.{IsOfFile};
 ghost use Rattle.ticklab_answers.specs.Hearing.{IsHeard, hearing};
-ghost use Rattle.ticklab_answers.specs.Shown.{ShowsEnds, ShowsHalved};
+ghost use Rattle.ticklab_answers.specs.Shown.{ShowsAllEnd, ShowsCanEnd, ShowsEndless, ShowsEnds, ShowsHalf, ShowsHalved, ShowsStuck, can_end_word};
+ghost use Rattle.ticklab_answers.specs.Sought.{AreLawful, IsLawful, IsSound, sought_by};
 ghost use Rattle.ticklab_answers.specs.Stops.{IfRefused};
-ghost use Rattle.ticklab_answers.specs.prover.Searches.{AreEndsKnownBy, AreEndsSearchedBy, is_end_limit, states_of};
+ghost use Rattle.ticklab_answers.specs.prover.Searches.{AreEndsKnownBy, AreEndsSearchedBy, IsShowable, is_end_limit, states_of};
 
 mod loops;
 mod wording;
 
-use crate::asking::{NeverLines, never_lines};
-use crate::commands::exploring::{break_line, ended, limit_line, shortest_found, trap_line};
+use crate::asking::never_lines;
+use crate::commands::exploring::{
+    break_line, broken_said, ended, limit_shown, shortest_found, states_shown, trap_line, trap_said,
+};
+use crate::extent::extent_of;
 use crate::fault::LabFault;
 use crate::files::bytes_of;
+use crate::form::Form;
 use crate::host::Files;
 use crate::progress::Progress;
 use crate::reading::spelled_program_of;
-use crate::response::{DONE, LIMIT, Response, answer};
+use crate::response::{DONE, LIMIT, Response};
+use crate::search::{Answered, Search, Task};
 use crate::stop::NoAnswer;
-use crate::trapping::{broken_shown, trap_shown};
 use base::{NoMemory, set_at};
 use language_questions::Ends;
-pub use loops::loop_shown;
-use searches_explore::{EndExplored, MustStop, explore_ends, explore_ends_merged};
+use loops::loop_shown;
+pub use loops::loop_text;
+use searches_explore::{EndExplored, Limits, MustStop, explore_ends, explore_ends_merged};
 use std::alloc::Global;
-use ticketc_refusals::SpelledProgram;
+use ticklab_json::Loop;
 use ticklab_line::Steps;
 pub use wording::push_processes;
 use wording::{
-    can_end_line, endless_line, ends_line, half_line, is_nobody, no_process_line, stuck_line,
+    can_end_line, endless_line, ends_line, half_line, half_next, is_nobody, no_process_line,
+    stuck_line,
 };
 
 /// Whether those processes of the program end that its file asks, or this one: after every schedule, whether they still
-/// can, and whether they do where each process that runs steps again and again; as far as the program has at most
-/// `limit` states. A trap is told first, and a line `#! never` of the file that breaks, or one of these texts that are
+/// can, and whether they do where each process that runs steps again and again; as far as `limits` let a
+/// search go. A trap is told first, and a line `#! never` of the file that breaks, or one of these texts that are
 /// the same. By merged steps alone only the first is asked. The progress is told of each search.
 pub fn explored_ends<F: Files, W: Progress>(
     alloc: Global,
@@ -50,10 +55,11 @@ pub fn explored_ends<F: Files, W: Progress>(
     file: &str,
     never: &[&str],
     process: Option<u8>,
-    limit: u32,
+    limits: Limits,
     steps: Steps,
+    form: Form,
 ) -> Result<Response, LabFault>
-    ensures ok { IfOk result (ExploresEnds F.Reads F.ReadsInput (hearing W.begins W.hears) files.old files.new progress.old progress.new file.now (texts_of never.now) process limit steps) }
+    ensures ok { IfOk result (ExploresEnds F.Reads F.ReadsInput (hearing W.begins W.hears) files.old files.new progress.old progress.new file.now (texts_of never.now) process limits steps form) }
     ensures err { IfErr result (IsOfFile file.now) }
 {
     let input = bytes_of(alloc, files, file)?;
@@ -63,8 +69,9 @@ pub fn explored_ends<F: Files, W: Progress>(
         never,
         input.as_slice(),
         process,
-        limit,
+        limits,
         steps,
+        form,
         progress,
     );
     Ok(ended(alloc, progress, searched)?)
@@ -76,85 +83,67 @@ fn all_ends<W: Progress>(
     never: &[&str],
     input: &[u8],
     process: Option<u8>,
-    limit: u32,
+    limits: Limits,
     steps: Steps,
+    form: Form,
     progress: &mut W,
 ) -> Result<Response, NoAnswer>
-    ensures ok { IfOk result (λ response. IsHeard (hearing W.begins W.hears) progress.old progress.new (IsEndsExplored steps name.now (texts_of never.now) process limit input.now response)) }
+    ensures ok { IfOk result (λ response. IsHeard (hearing W.begins W.hears) progress.old progress.new (IsEndsExplored steps name.now (texts_of never.now) process limits form input.now response)) }
     ensures refused { IfErr result (λ stop. IfRefused stop (λ report. IsEndsRefused name.now (texts_of never.now) process input.now report × (progress.old ≡ progress.new))) }
 {
     let (spelled, questions) = spelled_program_of(alloc, name, input)?;
     let asked = asked_of(alloc, questions.ends, process, spelled.program.processes())?;
     let lines = never_lines(alloc, name, input, &spelled.program, questions, never)?;
-    Ok(ends_found(
-        alloc, asked, &spelled, input, &lines, limit, steps, progress,
-    )?)
+    let search = Search {
+        alloc,
+        spelled: &spelled,
+        input,
+        lines: &lines,
+        form,
+    };
+    let task = Task {
+        search,
+        limits,
+        asked,
+    };
+    Ok(ends_found(&task, steps, progress)?)
 }
 
-/// What is found where these processes are asked for, and these lines must never hold.
-pub fn ends_found<W: Progress>(
-    alloc: Global,
-    asked: MustStop,
-    spelled: &SpelledProgram,
-    input: &[u8],
-    lines: &NeverLines<'_>,
-    limit: u32,
-    steps: Steps,
-    progress: &mut W,
-) -> Result<Response, NoMemory>
-    requires program { SpelledIn input.now spelled.now }
-    requires as_many { length lines.now.properties.items ≡ length lines.now.places.items }
-    ensures { IfOk result (λ response. IsHeard (hearing W.begins W.hears) progress.old progress.new (IsEndsFound input.now spelled.now.program (lines_of lines.now.properties.items) (map place_of lines.now.places.items) limit asked steps response)) }
+/// What is found of the program where these processes are asked for.
+pub fn ends_found<W: Progress>(task: &Task<'_, '_>, steps: Steps, progress: &mut W) -> Answered
+    requires sound { IsSound task.now.search }
+    ensures { IfOk result (λ response. IsHeard (hearing W.begins W.hears) progress.old progress.new (IsEndsFound (sought_by task.now.search) task.now.limits task.now.asked steps response)) }
 {
     match steps {
-        Steps::MergedFirst => found_first(alloc, asked, spelled, input, lines, limit, progress),
-        Steps::Single => found_by(alloc, asked, spelled, input, lines, limit, false, progress),
-        Steps::Merged => found_by(alloc, asked, spelled, input, lines, limit, true, progress),
+        Steps::Single => found_by(task, false, progress),
+        Steps::Merged => found_by(task, true, progress),
+        Steps::MergedFirst => found_first(task, progress),
     }
 }
 
-// The same by steps of one kind alone.
-fn found_by<W: Progress>(
-    alloc: Global,
-    asked: MustStop,
-    spelled: &SpelledProgram,
-    input: &[u8],
-    lines: &NeverLines<'_>,
-    limit: u32,
-    is_merged: bool,
-    progress: &mut W,
-) -> Result<Response, NoMemory>
-    requires program { SpelledIn input.now spelled.now }
-    requires as_many { length lines.now.properties.items ≡ length lines.now.places.items }
-    ensures { IfOk result (λ response. IsHeard (hearing W.begins W.hears) progress.old progress.new (IsEndsFoundBy input.now spelled.now.program (lines_of lines.now.properties.items) (map place_of lines.now.places.items) limit asked is_merged response)) }
+// By steps of one kind alone.
+fn found_by<W: Progress>(task: &Task<'_, '_>, is_merged: bool, progress: &mut W) -> Answered
+    requires sound { IsSound task.now.search }
+    ensures { IfOk result (λ response. IsHeard (hearing W.begins W.hears) progress.old progress.new (IsEndsFoundBy (sought_by task.now.search) task.now.limits task.now.asked is_merged response)) }
 {
-    let explored = explored_by(alloc, spelled, lines, asked, limit, is_merged, progress)?;
-    shown(alloc, is_merged, asked, spelled, input, lines, explored)
+    let explored = explored_by(task, is_merged, progress)?;
+    shown(task, is_merged, explored)
 }
 
 // By merged steps first, and by single ones where these tell more.
-fn found_first<W: Progress>(
-    alloc: Global,
-    asked: MustStop,
-    spelled: &SpelledProgram,
-    input: &[u8],
-    lines: &NeverLines<'_>,
-    limit: u32,
-    progress: &mut W,
-) -> Result<Response, NoMemory>
-    requires program { SpelledIn input.now spelled.now }
-    requires as_many { length lines.now.properties.items ≡ length lines.now.places.items }
-    ensures { IfOk result (λ response. IsHeard (hearing W.begins W.hears) progress.old progress.new (IsEndsFoundFirst input.now spelled.now.program (lines_of lines.now.properties.items) (map place_of lines.now.places.items) limit asked response)) }
+fn found_first<W: Progress>(task: &Task<'_, '_>, progress: &mut W) -> Answered
+    requires sound { IsSound task.now.search }
+    ensures { IfOk result (λ response. IsHeard (hearing W.begins W.hears) progress.old progress.new (IsEndsFoundFirst (sought_by task.now.search) task.now.limits task.now.asked response)) }
 {
-    if is_nobody(asked) {
-        return found_by(alloc, asked, spelled, input, lines, limit, true, progress);
+    if is_nobody(task.asked) {
+        return found_by(task, true, progress);
     }
-    let explored = explored_by(alloc, spelled, lines, asked, limit, true, progress)?;
+    let explored = explored_by(task, true, progress)?;
     match fault_of(explored) {
-        Ok(schedule) => shortest_found(alloc, spelled, input, lines, schedule, limit, progress),
+        Ok(schedule) => shortest_found(task, schedule, progress),
         Err(merged) => match limit_of(&merged) {
-            Some(_) => shown(alloc, true, asked, spelled, input, lines, merged),
-            None => more_found(alloc, asked, spelled, input, lines, limit, merged, progress),
+            Some(_) => shown(task, true, merged),
+            None => more_found(task, merged, progress),
         },
     }
 }
@@ -170,7 +159,7 @@ fn fault_of(explored: EndExplored) -> Result<Vec<u8>, EndExplored>
     }
 }
 
-// How many states there are more of, where the search met its limit.
+// How many states there are more of, where the search met a limit.
 fn limit_of(explored: &EndExplored) -> Option<u32>
     ensures { MatchOption result (is_end_limit explored.now ≡ false) (λ states. explored.now ≡ EndExplored.Limit states) }
 {
@@ -180,52 +169,44 @@ fn limit_of(explored: &EndExplored) -> Option<u32>
     }
 }
 
-// What single steps find of ends, where merged ones have found nothing wrong and this of ends; where single ones meet the
+// What single steps find of ends, where merged ones have found nothing wrong and this of ends; where single ones meet a
 // limit, what merged ones have found.
-fn more_found<W: Progress>(
-    alloc: Global,
-    asked: MustStop,
-    spelled: &SpelledProgram,
-    input: &[u8],
-    lines: &NeverLines<'_>,
-    limit: u32,
-    merged: EndExplored,
-    progress: &mut W,
-) -> Result<Response, NoMemory>
-    requires program { SpelledIn input.now spelled.now }
-    requires as_many { length lines.now.properties.items ≡ length lines.now.places.items }
-    requires known { AreEndsKnownBy true (resolved spelled.now.program) lines.now.properties.items asked limit merged }
+fn more_found<W: Progress>(task: &Task<'_, '_>, merged: EndExplored, progress: &mut W) -> Answered
+    requires sound { IsSound task.now.search }
+    requires known { AreEndsKnownBy true (resolved task.now.search.spelled.now.program) task.now.search.lines.now.properties.items task.now.asked task.now.limits merged }
     requires quiet { IfFault (never_answer merged) (λ schedule. ⊥) }
     requires seen { is_end_limit merged ≡ false }
-    ensures { IfOk result (λ response. IsHeard (hearing W.begins W.hears) progress.old progress.new (TellsMore input.now spelled.now.program (lines_of lines.now.properties.items) (map place_of lines.now.places.items) limit asked (states_of merged) response)) }
+    ensures { IfOk result (λ response. IsHeard (hearing W.begins W.hears) progress.old progress.new (TellsMore (sought_by task.now.search) task.now.limits task.now.asked (states_of merged) response)) }
 {
-    let single = explored_by(alloc, spelled, lines, asked, limit, false, progress)?;
+    let single = explored_by(task, false, progress)?;
     match limit_of(&single) {
-        Some(states) => half_shown(alloc, asked, spelled, input, lines, merged, states),
-        None => shown(alloc, false, asked, spelled, input, lines, single),
+        Some(others) => half_shown(task, merged, others),
+        None => shown(task, false, single),
     }
 }
 
 // By merged steps, or by single ones.
 fn explored_by<W: Progress>(
-    alloc: Global,
-    spelled: &SpelledProgram,
-    lines: &NeverLines<'_>,
-    asked: MustStop,
-    limit: u32,
+    task: &Task<'_, '_>,
     is_merged: bool,
     progress: &mut W,
 ) -> Result<EndExplored, NoMemory>
-    ensures { IfOk result (AreEndsSearchedBy is_merged (resolved spelled.now.program) lines.now.properties.items asked limit (hearing W.begins W.hears) progress.old progress.new) }
+    ensures { IfOk result (AreEndsSearchedBy is_merged (resolved task.now.search.spelled.now.program) task.now.search.lines.now.properties.items task.now.asked task.now.limits (hearing W.begins W.hears) progress.old progress.new) }
 {
-    let program = &spelled.program;
-    let properties = lines.properties.as_slice();
+    let Task {
+        search,
+        limits,
+        asked,
+    } = *task;
+    let alloc = search.alloc;
+    let program = &search.spelled.program;
+    let properties = search.lines.properties.as_slice();
     progress.begin(is_merged);
     if is_merged {
-        let explored = explore_ends_merged(alloc, program, properties, asked, limit, progress)?;
+        let explored = explore_ends_merged(alloc, program, properties, asked, limits, progress)?;
         return Ok(explored);
     }
-    let explored = explore_ends(alloc, program, properties, asked, limit, progress)?;
+    let explored = explore_ends(alloc, program, properties, asked, limits, progress)?;
     Ok(explored)
 }
 
@@ -276,87 +257,117 @@ pub fn asked_in(ends: Option<Ends>) -> MustStop
 }
 
 // The answer that tells what merged steps have found, where by single ones there are more states than these.
-fn half_shown(
-    alloc: Global,
-    asked: MustStop,
-    spelled: &SpelledProgram,
-    input: &[u8],
-    lines: &NeverLines<'_>,
-    merged: EndExplored,
-    limit: u32,
-) -> Result<Response, NoMemory>
-    requires fault { IfFault (never_answer merged) (All (λ p. p < (resolved spelled.now.program).processes)) }
-    requires line { IfBroken (never_answer merged) (λ schedule line v. line < length lines.now.places.items) }
-    requires stuck { IfStuck merged (All (λ p. p < (resolved spelled.now.program).processes)) }
-    requires loops { IfLoop merged (λ schedule lead_in cycle. All (λ p. p < (resolved spelled.now.program).processes) lead_in × All (λ p. p < (resolved spelled.now.program).processes) cycle) }
-    requires endless { IfEndless merged (λ prefix cycle. All (λ p. p < (resolved spelled.now.program).processes) prefix × All (λ p. p < (resolved spelled.now.program).processes) cycle) }
-    requires program { SpelledIn input.now spelled.now }
-    ensures { IfOk result (ShowsHalved asked input.now spelled.now.program (map place_of lines.now.places.items) limit merged) }
+fn half_shown(task: &Task<'_, '_>, merged: EndExplored, others: u32) -> Answered
+    requires sound { IsSound task.now.search }
+    requires shown { IsShowable task.now.search merged }
+    ensures { IfOk result (ShowsHalved task.now.asked (sought_by task.now.search) task.now.limits others merged) }
 {
     match merged {
-        EndExplored::CanEnd { states } => {
-            let line = half_line(alloc, lines.places.len(), asked, states, limit)?;
-            Ok(answer(alloc, LIMIT, line))
-        }
-        other => shown(alloc, true, asked, spelled, input, lines, other),
+        EndExplored::CanEnd { states } => can_half_shown(task, states, others),
+        other => shown(task, true, other),
     }
 }
 
 // The answer that tells what was explored. What `explore` would find it tells in the same way.
-fn shown(
-    alloc: Global,
-    is_merged: bool,
-    asked: MustStop,
-    spelled: &SpelledProgram,
-    input: &[u8],
-    lines: &NeverLines<'_>,
-    explored: EndExplored,
-) -> Result<Response, NoMemory>
-    requires fault { IfFault (never_answer explored) (All (λ p. p < (resolved spelled.now.program).processes)) }
-    requires line { IfBroken (never_answer explored) (λ schedule line v. line < length lines.now.places.items) }
-    requires stuck { IfStuck explored (All (λ p. p < (resolved spelled.now.program).processes)) }
-    requires loops { IfLoop explored (λ schedule lead_in cycle. All (λ p. p < (resolved spelled.now.program).processes) lead_in × All (λ p. p < (resolved spelled.now.program).processes) cycle) }
-    requires endless { IfEndless explored (λ prefix cycle. All (λ p. p < (resolved spelled.now.program).processes) prefix × All (λ p. p < (resolved spelled.now.program).processes) cycle) }
-    requires program { SpelledIn input.now spelled.now }
-    ensures { IfOk result (ShowsEnds is_merged asked input.now spelled.now.program (map place_of lines.now.places.items) explored) }
+fn shown(task: &Task<'_, '_>, is_merged: bool, explored: EndExplored) -> Answered
+    requires sound { IsSound task.now.search }
+    requires shown { IsShowable task.now.search explored }
+    ensures { IfOk result (ShowsEnds is_merged task.now.asked (sought_by task.now.search) task.now.limits explored) }
 {
+    let search = &task.search;
     match explored {
-        EndExplored::Trapped(schedule) => {
-            let found = trap_line(is_merged);
-            trap_shown(alloc, found, spelled, input, &schedule)
-        }
+        EndExplored::Trapped(schedule) => trap_said(search, &schedule, trap_line(is_merged)),
         EndExplored::Broken {
             schedule,
             line,
             value,
-        } => {
-            let found = break_line(is_merged);
-            broken_shown(alloc, found, spelled, input, lines, &schedule, line, value)
-        }
+        } => broken_said(search, &schedule, line, value, break_line(is_merged)),
         EndExplored::Stuck {
             schedule,
             lead_in,
             cycle,
             ..
         } => {
-            let found = stuck_line(alloc, is_merged, lines.places.len(), asked)?;
-            loop_shown(alloc, &found, spelled, input, &schedule, &lead_in, &cycle)
+            let looped = Loop {
+                schedule: &schedule,
+                lead_in: &lead_in,
+                cycle: &cycle,
+            };
+            stuck_shown(task, is_merged, looped)
         }
-        EndExplored::Endless { prefix, cycle, .. } => {
-            let found = endless_line(alloc, lines.places.len(), asked)?;
-            loop_shown(alloc, &found, spelled, input, &prefix, &[], &cycle)
-        }
-        EndExplored::Ends { states } => {
-            let line = ends_line(alloc, false, lines.places.len(), asked, states)?;
-            Ok(answer(alloc, DONE, line))
-        }
-        EndExplored::CanEnd { states } => {
-            let line = can_end_line(alloc, is_merged, lines.places.len(), asked, states)?;
-            Ok(answer(alloc, DONE, line))
-        }
-        EndExplored::Limit { states } => {
-            let line = limit_line(alloc, is_merged, states)?;
-            Ok(answer(alloc, LIMIT, line))
-        }
+        EndExplored::Endless { prefix, cycle, .. } => endless_shown(task, &prefix, &cycle),
+        EndExplored::Ends { states } => ends_shown(task, states),
+        EndExplored::CanEnd { states } => can_end_shown(task, is_merged, states),
+        EndExplored::Limit { states } => limit_shown(task, is_merged, states),
     }
+}
+
+// They can't end any more, and these steps repeat for ever.
+fn stuck_shown(task: &Task<'_, '_>, is_merged: bool, looped: Loop<'_>) -> Answered
+    requires sound { IsSound task.now.search }
+    requires lawful { AreLawful (resolved task.now.search.spelled.now.program).processes looped }
+    ensures { IfOk result (ShowsStuck (sought_by task.now.search) is_merged task.now.asked looped.entry.schedule.now looped.entry.lead_in.now looped.entry.cycle.now) }
+{
+    let search = &task.search;
+    let says = stuck_line(
+        search.alloc,
+        is_merged,
+        search.lines.places.len(),
+        task.asked,
+    )?;
+    loop_shown(search, "stuck", &says, looped)
+}
+
+// They can end, and where the cycle is gone round for ever they don't.
+fn endless_shown(task: &Task<'_, '_>, prefix: &[u8], cycle: &[u8]) -> Answered
+    requires sound { IsSound task.now.search }
+    requires prefix { IsLawful task.now.search prefix.now }
+    requires cycle { IsLawful task.now.search cycle.now }
+    ensures { IfOk result (ShowsEndless (sought_by task.now.search) task.now.asked prefix.now cycle.now) }
+{
+    let search = &task.search;
+    let says = endless_line(search.alloc, search.lines.places.len(), task.asked)?;
+    let looped = Loop {
+        schedule: prefix,
+        lead_in: &[],
+        cycle,
+    };
+    loop_shown(search, "endless", &says, looped)
+}
+
+// They always end.
+fn ends_shown(task: &Task<'_, '_>, states: u32) -> Answered
+    ensures { IfOk result (ShowsAllEnd (sought_by task.now.search) task.now.asked states) }
+{
+    let search = &task.search;
+    let extent = extent_of(search, false, states);
+    let says = ends_line(search.alloc, task.asked, extent)?;
+    states_shown(search, DONE, "ends", extent, &says, "")
+}
+
+// They always can.
+fn can_end_shown(task: &Task<'_, '_>, is_merged: bool, states: u32) -> Answered
+    ensures { IfOk result (ShowsCanEnd (sought_by task.now.search) is_merged task.now.asked states) }
+{
+    let word = can_end_word(task.asked);
+    let extent = extent_of(&task.search, is_merged, states);
+    let says = can_end_line(task.search.alloc, task.asked, extent)?;
+    states_shown(&task.search, DONE, word, extent, &says, "")
+}
+
+// By merged steps they always can; by single ones there are more states than these.
+fn can_half_shown(task: &Task<'_, '_>, states: u32, others: u32) -> Answered
+    ensures { IfOk result (ShowsHalf (sought_by task.now.search) task.now.asked states task.now.limits others) }
+{
+    let alloc = task.search.alloc;
+    let extent = extent_of(&task.search, true, states);
+    let says = half_line(alloc, extent.lines, task.asked, states, others)?;
+    let more = half_next(alloc, task.limits, others)?;
+    states_shown(&task.search, LIMIT, "limit", extent, &says, &more)
+}
+
+fn can_end_word(asked: MustStop) -> &'static str
+    ensures { result.now ≡ can_end_word asked }
+{
+    if is_nobody(asked) { "ends" } else { "can-end" }
 }

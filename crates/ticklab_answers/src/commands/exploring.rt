@@ -1,40 +1,44 @@
 //! `ticklab explore`.
-ghost use Rattle.std.specs.Prelude.{◌≡◌, if◌then◌else◌, ◌<◌, ◌++◌, All, IfErr, IfOk, MatchResult, OnOk, length, map, string_bytes, true};
-ghost use Rattle.tick_kinds.specs.Resolution.{resolved};
+ghost use Rattle.std.specs.Prelude.{◌≡◌, if◌then◌else◌, ◌<◌, ◌++◌, IfErr, IfOk, MatchResult, OnOk, length, string_bytes, true};
 ghost use Rattle.tick_source.specs.Source.{source};
+ghost use Rattle.tick_kinds.specs.Resolution.{resolved};
 ghost use Rattle.searches_explore.specs.Lines.{is_fault, lines_of};
 ghost use Rattle.searches_explore.specs.Never.{IfBroken, IfFault, never_searched_of};
 ghost use Rattle.searches_hunt.specs.Minimal.{IfBroken as IfBreaks, schedule_of};
+ghost use Rattle.base.specs.Lines.{line_end};
 ghost use Rattle.searches_states.specs.declared.searching.Searched.TheVariants.{Found};
-ghost use Rattle.ticketc_refusals.specs.Refusals.{SpelledIn};
-ghost use Rattle.ticklab_answers.specs.Asking.{place_of, texts_of};
+ghost use Rattle.ticklab_answers.specs.Asking.{texts_of};
 ghost use Rattle.ticklab_answers.specs.BySteps.{break_line_by, line_by};
 ghost use Rattle.ticklab_answers.specs.Exploring.{Explores, IsExplored, IsUnexplored};
 ghost use Rattle.ticklab_answers.specs.Faults.{IsOfFile};
 ghost use Rattle.ticklab_answers.specs.Found.{IsFound, IsFoundBy, IsFoundFirst, TellsShortest};
 ghost use Rattle.ticklab_answers.specs.Hearing.{IsHeard, hearing};
-ghost use Rattle.ticklab_answers.specs.Lines.{limit_line, more_text, next_line, safe_line, safe_text, states_text};
-ghost use Rattle.ticklab_answers.specs.Shown.{Shows, ShowsMinimal};
+ghost use Rattle.ticklab_answers.specs.Lines.{counted_text, larger_text, limit_line, more_text, next_line, safe_line, safe_text, states_text, try_text};
+ghost use Rattle.ticklab_answers.specs.Responses.{Gives};
+ghost use Rattle.ticklab_answers.specs.Shown.{IsStatesAnswer, SaysBroken, SaysTrap, Shows, ShowsLimit, ShowsMinimal, ShowsSafe};
+ghost use Rattle.ticklab_answers.specs.Sought.{IsLawful, IsSound, sought_by};
 ghost use Rattle.ticklab_answers.specs.Stops.{IfRefused, IsRefusal};
 ghost use Rattle.ticklab_answers.specs.prover.Searches.{IsSearchedBy, is_limit};
 
-use crate::asking::NeverLines;
 use crate::commands::ends::{asked_in, asks_ends, ends_found};
 use crate::commands::hunting::{MINIMAL, MINIMAL_BREAK};
 use crate::counts::push_many;
+use crate::extent::{Extent, extent_of};
 use crate::fault::{AnswerFault, LabFault};
 use crate::files::bytes_of;
+use crate::form::Form;
 use crate::host::Files;
 use crate::progress::Progress;
 use crate::reading::asked_program;
 use crate::response::{DONE, LIMIT, Response, answer, settled};
+use crate::search::{Answered, Search, Task};
 use crate::stop::NoAnswer;
 use crate::trapping::{broken_shown, trap_shown};
-use base::NoMemory;
-use searches_explore::{NeverExplored, explore_never, explore_never_merged};
+use base::{NoMemory, Trap};
+use searches_explore::{Limits, NeverExplored, explore_never, explore_never_merged};
 use searches_hunt::{Minimal, shrink_fault};
 use std::alloc::{AllocError, Global};
-use ticketc_refusals::SpelledProgram;
+use ticklab_json::{Head, found_states};
 use ticklab_line::Steps;
 
 /// How a trap is told that comes under no shorter schedule.
@@ -49,7 +53,7 @@ const SHORTEST_BREAK: &str =
 const SOME_BREAK: &str = "a #! never line breaks under this schedule:";
 
 /// Whether a process of the program traps under some schedule, or a line `#! never` of the file breaks or one of
-/// these texts that are the same, as far as the program has at most `limit` states. Where a line `#! ends` of the file
+/// these texts that are the same, as far as `limits` let a search go. Where a line `#! ends` of the file
 /// names somebody, what comes of that is asked too. The progress is told of each search. By merged steps the private
 /// ones of a process go with the step before them: there are fewer states, and a schedule that is found need not be a
 /// shortest one.
@@ -59,15 +63,16 @@ pub fn explored<F: Files, W: Progress>(
     progress: &mut W,
     file: &str,
     never: &[&str],
-    limit: u32,
+    limits: Limits,
     steps: Steps,
+    form: Form,
 ) -> Result<Response, LabFault>
-    ensures ok { IfOk result (Explores F.Reads F.ReadsInput (hearing W.begins W.hears) files.old files.new progress.old progress.new file.now (texts_of never.now) limit steps) }
+    ensures ok { IfOk result (Explores F.Reads F.ReadsInput (hearing W.begins W.hears) files.old files.new progress.old progress.new file.now (texts_of never.now) limits steps form) }
     ensures err { IfErr result (IsOfFile file.now) }
 {
     let input = bytes_of(alloc, files, file)?;
     let bytes = input.as_slice();
-    let searched = all_schedules(alloc, file, never, bytes, limit, steps, progress);
+    let searched = all_schedules(alloc, file, never, bytes, limits, steps, form, progress);
     Ok(ended(alloc, progress, searched)?)
 }
 
@@ -89,84 +94,68 @@ fn all_schedules<W: Progress>(
     name: &str,
     never: &[&str],
     input: &[u8],
-    limit: u32,
+    limits: Limits,
     steps: Steps,
+    form: Form,
     progress: &mut W,
 ) -> Result<Response, NoAnswer>
-    ensures ok { IfOk result (λ response. IsHeard (hearing W.begins W.hears) progress.old progress.new (IsExplored steps name.now (texts_of never.now) limit input.now response)) }
+    ensures ok { IfOk result (λ response. IsHeard (hearing W.begins W.hears) progress.old progress.new (IsExplored steps name.now (texts_of never.now) limits form input.now response)) }
     ensures refused { IfErr result (λ stop. IfRefused stop (λ report. IsUnexplored name.now (texts_of never.now) input.now report × (progress.old ≡ progress.new))) }
 {
     let asked = match asked_program(alloc, name, input, never) {
         Ok(asked) => asked,
         Err(stop) => return Err(stop),
     };
-    let spelled = &asked.spelled;
-    let lines = &asked.lines;
+    let search = Search {
+        alloc,
+        spelled: &asked.spelled,
+        input,
+        lines: &asked.lines,
+        form,
+    };
+    let task = Task {
+        search,
+        limits,
+        asked: asked_in(asked.ends),
+    };
     if asks_ends(asked.ends) {
-        let who = asked_in(asked.ends);
-        let response = ends_found(alloc, who, spelled, input, lines, limit, steps, progress)?;
+        let response = ends_found(&task, steps, progress)?;
         return Ok(response);
     }
-    let response = found(alloc, steps, spelled, input, lines, limit, progress)?;
+    let response = found(&task, steps, progress)?;
     Ok(response)
 }
 
-// What is found where these lines must never hold.
-fn found<W: Progress>(
-    alloc: Global,
-    steps: Steps,
-    spelled: &SpelledProgram,
-    input: &[u8],
-    lines: &NeverLines<'_>,
-    limit: u32,
-    progress: &mut W,
-) -> Result<Response, NoMemory>
-    requires program { SpelledIn input.now spelled.now }
-    requires as_many { length lines.now.properties.items ≡ length lines.now.places.items }
-    ensures { IfOk result (λ response. IsHeard (hearing W.begins W.hears) progress.old progress.new (IsFound input.now spelled.now.program (lines_of lines.now.properties.items) (map place_of lines.now.places.items) limit steps response)) }
+// What is found of the program.
+fn found<W: Progress>(task: &Task<'_, '_>, steps: Steps, progress: &mut W) -> Answered
+    requires sound { IsSound task.now.search }
+    ensures { IfOk result (λ response. IsHeard (hearing W.begins W.hears) progress.old progress.new (IsFound (sought_by task.now.search) task.now.limits steps response)) }
 {
     match steps {
-        Steps::MergedFirst => found_first(alloc, spelled, input, lines, limit, progress),
-        Steps::Single => found_by(alloc, false, spelled, input, lines, limit, progress),
-        Steps::Merged => found_by(alloc, true, spelled, input, lines, limit, progress),
+        Steps::MergedFirst => found_first(task, progress),
+        Steps::Single => found_by(task, false, progress),
+        Steps::Merged => found_by(task, true, progress),
     }
 }
 
 // The same by steps of one kind alone.
-fn found_by<W: Progress>(
-    alloc: Global,
-    is_merged: bool,
-    spelled: &SpelledProgram,
-    input: &[u8],
-    lines: &NeverLines<'_>,
-    limit: u32,
-    progress: &mut W,
-) -> Result<Response, NoMemory>
-    requires program { SpelledIn input.now spelled.now }
-    requires as_many { length lines.now.properties.items ≡ length lines.now.places.items }
-    ensures { IfOk result (λ response. IsHeard (hearing W.begins W.hears) progress.old progress.new (IsFoundBy input.now spelled.now.program (lines_of lines.now.properties.items) (map place_of lines.now.places.items) limit is_merged response)) }
+fn found_by<W: Progress>(task: &Task<'_, '_>, is_merged: bool, progress: &mut W) -> Answered
+    requires sound { IsSound task.now.search }
+    ensures { IfOk result (λ response. IsHeard (hearing W.begins W.hears) progress.old progress.new (IsFoundBy (sought_by task.now.search) task.now.limits is_merged response)) }
 {
-    let explored = explored_by(alloc, spelled, lines, limit, is_merged, progress)?;
-    shown(alloc, is_merged, spelled, input, lines, &explored)
+    let explored = explored_by(task, is_merged, progress)?;
+    shown(task, is_merged, &explored)
 }
 
 // By merged steps first, and by single ones where these find a fault.
-fn found_first<W: Progress>(
-    alloc: Global,
-    spelled: &SpelledProgram,
-    input: &[u8],
-    lines: &NeverLines<'_>,
-    limit: u32,
-    progress: &mut W,
-) -> Result<Response, NoMemory>
-    requires program { SpelledIn input.now spelled.now }
-    requires as_many { length lines.now.properties.items ≡ length lines.now.places.items }
-    ensures { IfOk result (λ response. IsHeard (hearing W.begins W.hears) progress.old progress.new (IsFoundFirst input.now spelled.now.program (lines_of lines.now.properties.items) (map place_of lines.now.places.items) limit response)) }
+fn found_first<W: Progress>(task: &Task<'_, '_>, progress: &mut W) -> Answered
+    requires sound { IsSound task.now.search }
+    ensures { IfOk result (λ response. IsHeard (hearing W.begins W.hears) progress.old progress.new (IsFoundFirst (sought_by task.now.search) task.now.limits response)) }
 {
-    let explored = explored_by(alloc, spelled, lines, limit, true, progress)?;
+    let explored = explored_by(task, true, progress)?;
     match fault_of(explored) {
-        Ok(schedule) => shortest_found(alloc, spelled, input, lines, schedule, limit, progress),
-        Err(none) => shown(alloc, true, spelled, input, lines, &none),
+        Ok(schedule) => shortest_found(task, schedule, progress),
+        Err(none) => shown(task, true, &none),
     }
 }
 
@@ -182,29 +171,25 @@ fn fault_of(explored: NeverExplored) -> Result<Vec<u8>, NeverExplored>
 }
 
 /// What is told of a fault that merged steps have found, where this schedule leads to it: a shortest schedule, by single
-/// steps; where these meet the limit, what is left of this one when each step is left out that can be.
+/// steps; where these meet a limit, what is left of this one when each step is left out that can be.
 pub fn shortest_found<W: Progress>(
-    alloc: Global,
-    spelled: &SpelledProgram,
-    input: &[u8],
-    lines: &NeverLines<'_>,
+    task: &Task<'_, '_>,
     schedule: Vec<u8>,
-    limit: u32,
     progress: &mut W,
-) -> Result<Response, NoMemory>
-    requires program { SpelledIn input.now spelled.now }
-    requires as_many { length lines.now.properties.items ≡ length lines.now.places.items }
-    requires lawful { All (λ p. p < (resolved spelled.now.program).processes) schedule.items }
-    requires fault { is_fault (lines_of lines.now.properties.items) (source (resolved spelled.now.program) schedule.items) ≡ true }
-    ensures { IfOk result (λ response. IsHeard (hearing W.begins W.hears) progress.old progress.new (TellsShortest input.now spelled.now.program (lines_of lines.now.properties.items) (map place_of lines.now.places.items) limit response)) }
+) -> Answered
+    requires sound { IsSound task.now.search }
+    requires lawful { IsLawful task.now.search schedule.items }
+    requires fault { is_fault (lines_of task.now.search.lines.now.properties.items) (source (resolved task.now.search.spelled.now.program) schedule.items) ≡ true }
+    ensures { IfOk result (λ response. IsHeard (hearing W.begins W.hears) progress.old progress.new (TellsShortest (sought_by task.now.search) task.now.limits response)) }
 {
-    let explored = explored_by(alloc, spelled, lines, limit, false, progress)?;
+    let search = &task.search;
+    let explored = explored_by(task, false, progress)?;
     if is_limit(&explored) {
-        let properties = lines.properties.as_slice();
-        let minimal = shrink_fault(alloc, &spelled.program, properties, schedule)?;
-        return minimal_shown(alloc, spelled, input, lines, &minimal);
+        let properties = search.lines.properties.as_slice();
+        let minimal = shrink_fault(search.alloc, &search.spelled.program, properties, schedule)?;
+        return minimal_shown(search, &minimal);
     }
-    shown(alloc, false, spelled, input, lines, &explored)
+    shown(task, false, &explored)
 }
 
 fn is_limit(explored: &NeverExplored) -> bool
@@ -218,88 +203,146 @@ fn is_limit(explored: &NeverExplored) -> bool
 
 // By merged steps, or by single ones.
 fn explored_by<W: Progress>(
-    alloc: Global,
-    spelled: &SpelledProgram,
-    lines: &NeverLines<'_>,
-    limit: u32,
+    task: &Task<'_, '_>,
     is_merged: bool,
     progress: &mut W,
 ) -> Result<NeverExplored, NoMemory>
-    ensures { IfOk result (IsSearchedBy is_merged (resolved spelled.now.program) lines.now.properties.items limit (hearing W.begins W.hears) progress.old progress.new) }
+    ensures { IfOk result (IsSearchedBy is_merged (resolved task.now.search.spelled.now.program) task.now.search.lines.now.properties.items task.now.limits (hearing W.begins W.hears) progress.old progress.new) }
 {
-    let program = &spelled.program;
-    let properties = lines.properties.as_slice();
+    let Task { search, limits, .. } = *task;
+    let alloc = search.alloc;
+    let program = &search.spelled.program;
+    let properties = search.lines.properties.as_slice();
     progress.begin(is_merged);
     if is_merged {
-        let explored = explore_never_merged(alloc, program, properties, limit, progress)?;
+        let explored = explore_never_merged(alloc, program, properties, limits, progress)?;
         return Ok(explored);
     }
-    let explored = explore_never(alloc, program, properties, limit, progress)?;
+    let explored = explore_never(alloc, program, properties, limits, progress)?;
     Ok(explored)
 }
 
 // The answer that tells what was explored.
-fn shown(
-    alloc: Global,
-    is_merged: bool,
-    spelled: &SpelledProgram,
-    input: &[u8],
-    lines: &NeverLines<'_>,
-    explored: &NeverExplored,
-) -> Result<Response, NoMemory>
-    requires schedule { IfFault explored.now (All (λ p. p < (resolved spelled.now.program).processes)) }
-    requires line { IfBroken explored.now (λ schedule line v. line < length lines.now.places.items) }
-    requires program { SpelledIn input.now spelled.now }
-    ensures { IfOk result (Shows is_merged input.now spelled.now.program (map place_of lines.now.places.items) explored.now) }
+fn shown(task: &Task<'_, '_>, is_merged: bool, explored: &NeverExplored) -> Answered
+    requires sound { IsSound task.now.search }
+    requires schedule { IfFault explored.now (IsLawful task.now.search) }
+    requires line { IfBroken explored.now (λ schedule line v. line < length task.now.search.lines.now.places.items) }
+    ensures { IfOk result (Shows is_merged (sought_by task.now.search) task.now.limits explored.now) }
 {
+    let search = &task.search;
     match explored {
-        NeverExplored::Safe { states } => {
-            let line = safe_line(alloc, is_merged, lines.places.len(), *states)?;
-            Ok(answer(alloc, DONE, line))
-        }
-        NeverExplored::Trapped(schedule) => {
-            let found = trap_line(is_merged);
-            trap_shown(alloc, found, spelled, input, schedule)
-        }
+        NeverExplored::Safe { states } => safe_shown(search, is_merged, *states),
+        NeverExplored::Trapped(schedule) => trap_said(search, schedule, trap_line(is_merged)),
         NeverExplored::Broken {
             schedule,
             line,
             value,
         } => {
             let found = break_line(is_merged);
-            broken_shown(alloc, found, spelled, input, lines, schedule, *line, *value)
+            broken_said(search, schedule, *line, *value, found)
         }
-        NeverExplored::Limit { states } => {
-            let line = limit_line(alloc, is_merged, *states)?;
-            Ok(answer(alloc, LIMIT, line))
-        }
+        NeverExplored::Limit { states } => limit_shown(task, is_merged, *states),
     }
 }
 
 // The answer that tells a schedule which needs all its steps.
-fn minimal_shown(
-    alloc: Global,
-    spelled: &SpelledProgram,
-    input: &[u8],
-    lines: &NeverLines<'_>,
-    minimal: &Minimal,
-) -> Result<Response, NoMemory>
-    requires schedule { All (λ p. p < (resolved spelled.now.program).processes) (schedule_of minimal.now) }
-    requires line { IfBreaks minimal.now (λ schedule line v. line < length lines.now.places.items) }
-    requires program { SpelledIn input.now spelled.now }
-    ensures { IfOk result (ShowsMinimal input.now spelled.now.program (map place_of lines.now.places.items) minimal.now) }
+fn minimal_shown(search: &Search<'_, '_>, minimal: &Minimal) -> Answered
+    requires sound { IsSound search.now }
+    requires schedule { IsLawful search.now (schedule_of minimal.now) }
+    requires line { IfBreaks minimal.now (λ schedule line v. line < length search.now.lines.now.places.items) }
+    ensures { IfOk result (ShowsMinimal (sought_by search.now) minimal.now) }
 {
     match minimal {
-        Minimal::Trapped(schedule) => trap_shown(alloc, MINIMAL, spelled, input, schedule),
+        Minimal::Trapped(schedule) => trap_said(search, schedule, MINIMAL),
         Minimal::Broken {
             schedule,
             line,
             value,
-        } => {
-            let found = MINIMAL_BREAK;
-            broken_shown(alloc, found, spelled, input, lines, schedule, *line, *value)
+        } => broken_said(search, schedule, *line, *value, MINIMAL_BREAK),
+    }
+}
+
+/// A schedule under which a process traps, and what is said of how it was found.
+pub fn trap_said(search: &Search<'_, '_>, schedule: &[u8], says: &str) -> Answered
+    requires sound { IsSound search.now }
+    requires schedule { IsLawful search.now schedule.now }
+    ensures { IfOk result (SaysTrap says.now (sought_by search.now) schedule.now) }
+{
+    trap_shown(search, says, Head::Says(says), schedule)
+}
+
+/// The same of a schedule after which the line of this number breaks.
+pub fn broken_said(
+    search: &Search<'_, '_>,
+    schedule: &[u8],
+    line: usize,
+    value: Result<u32, Trap>,
+    says: &str,
+) -> Answered
+    requires sound { IsSound search.now }
+    requires schedule { IsLawful search.now schedule.now }
+    requires line { line < length search.now.lines.now.places.items }
+    ensures { IfOk result (SaysBroken says.now (sought_by search.now) schedule.now line value) }
+{
+    broken_shown(search, says, Head::Says(says), schedule, line, value)
+}
+
+// Nothing is wrong, and there are so many states.
+fn safe_shown(search: &Search<'_, '_>, is_merged: bool, states: u32) -> Answered
+    ensures { IfOk result (ShowsSafe (sought_by search.now) is_merged states) }
+{
+    let extent = extent_of(search, is_merged, states);
+    let says = safe_line(search.alloc, extent)?;
+    states_shown(search, DONE, "safe", extent, &says, "")
+}
+
+/// There are more states than these.
+pub fn limit_shown(task: &Task<'_, '_>, is_merged: bool, states: u32) -> Answered
+    ensures { IfOk result (ShowsLimit (sought_by task.now.search) is_merged task.now.limits states) }
+{
+    let search = &task.search;
+    let extent = Extent {
+        lines: search.lines.places.len(),
+        is_merged,
+        states,
+    };
+    let says = limit_line(search.alloc, is_merged, states)?;
+    let more = next_line(search.alloc, task.limits, extent)?;
+    states_shown(search, LIMIT, "limit", extent, &says, &more)
+}
+
+/// An answer without a schedule: what is said in a line, with more behind it; an object has the states in place of that.
+pub fn states_shown(
+    search: &Search<'_, '_>,
+    status: u8,
+    word: &str,
+    extent: Extent,
+    says: &str,
+    more: &str,
+) -> Answered
+    ensures { IfOk result (Gives status (IsStatesAnswer search.now.form word.now says.now extent.is_merged extent.states more.now)) }
+{
+    let alloc = search.alloc;
+    match search.form {
+        Form::Text => {
+            let text = lines_of(alloc, says, more)?;
+            Ok(answer(alloc, status, text))
+        }
+        Form::Json => {
+            let text = found_states(alloc, word, says, extent.is_merged, extent.states)?;
+            Ok(answer(alloc, status, text))
         }
     }
+}
+
+// A line, with more behind it.
+fn lines_of(alloc: Global, line: &str, more: &str) -> Result<String, AllocError>
+    ensures { IfOk result (λ text. string_bytes text ≡ line.now ++ line_end ++ more.now) }
+{
+    let mut text = String::from_str(alloc, line)?;
+    text.push_str("\n")?;
+    text.push_str(more)?;
+    Ok(text)
 }
 
 /// How a trap was found.
@@ -320,8 +363,8 @@ pub fn break_line(is_merged: bool) -> &'static str
     }
 }
 
-/// Adds so many states; those between merged steps are told as merged.
-pub fn push_states(text: &mut String, is_merged: bool, states: u32) -> Result<(), AllocError>
+// Adds so many states; those between merged steps are told as merged.
+fn push_states(text: &mut String, is_merged: bool, states: u32) -> Result<(), AllocError>
     ensures { OnOk result (string_bytes text.new ≡ string_bytes text.old ++ states_text is_merged states) }
 {
     if is_merged {
@@ -331,19 +374,22 @@ pub fn push_states(text: &mut String, is_merged: bool, states: u32) -> Result<()
     }
 }
 
-fn safe_line(
-    alloc: Global,
-    is_merged: bool,
-    lines: usize,
-    states: u32,
-) -> Result<String, AllocError>
-    ensures { IfOk result (λ line. string_bytes line ≡ safe_line is_merged lines states) }
+fn safe_line(alloc: Global, extent: Extent) -> Result<String, AllocError>
+    ensures { IfOk result (λ line. string_bytes line ≡ safe_line extent.is_merged extent.lines extent.states) }
 {
-    let mut line = String::from_str(alloc, safe_text(lines))?;
-    line.push_str(" under any schedule (")?;
-    push_states(&mut line, is_merged, states)?;
-    line.push_str(")\n")?;
+    let mut line = String::from_str(alloc, safe_text(extent.lines))?;
+    line.push_str(" under any schedule")?;
+    push_counted(&mut line, extent)?;
     Ok(line)
+}
+
+/// Adds how many states there are.
+pub fn push_counted(text: &mut String, extent: Extent) -> Result<(), AllocError>
+    ensures { OnOk result (string_bytes text.new ≡ string_bytes text.old ++ counted_text extent.is_merged extent.states) }
+{
+    text.push_str(" (")?;
+    push_states(text, extent.is_merged, extent.states)?;
+    text.push_str(")")
 }
 
 /// What holds, where so many lines `#! never` are asked.
@@ -366,15 +412,40 @@ pub fn push_more(text: &mut String, is_merged: bool, states: u32) -> Result<(), 
     Ok(())
 }
 
-// What may help where there are more states than the limit.
-fn next_line(is_merged: bool) -> &'static str
-    ensures { result.now ≡ next_line is_merged }
+fn limit_line(alloc: Global, is_merged: bool, states: u32) -> Result<String, AllocError>
+    ensures { IfOk result (λ line. string_bytes line ≡ limit_line is_merged states) }
+{
+    let mut line = String::new(alloc);
+    push_more(&mut line, is_merged, states)?;
+    line.push_str(": nothing is said of all schedules")?;
+    Ok(line)
+}
+
+/// What may help where this limit was met, as so many states are told.
+pub fn larger(limits: Limits, states: u32) -> &'static str
+    ensures { result.now ≡ larger_text limits states }
 {
     either(
-        is_merged,
-        "try a larger --limit, hunt, or fewer processes or rounds\n",
-        "try it without --single, a larger --limit, hunt, or fewer processes or rounds\n",
+        states == limits.states,
+        "a larger --limit",
+        "a larger --memory",
     )
+}
+
+fn try_text(is_merged: bool) -> &'static str
+    ensures { result.now ≡ try_text is_merged }
+{
+    either(is_merged, "try ", "try it without --single, ")
+}
+
+// What may help where a limit was met.
+fn next_line(alloc: Global, limits: Limits, extent: Extent) -> Result<String, AllocError>
+    ensures { IfOk result (λ line. string_bytes line ≡ next_line extent.is_merged limits extent.states) }
+{
+    let mut line = String::from_str(alloc, try_text(extent.is_merged))?;
+    line.push_str(larger(limits, extent.states))?;
+    line.push_str(", hunt, or fewer processes or rounds\n")?;
+    Ok(line)
 }
 
 /// The first text where this holds, else the other.
@@ -382,14 +453,4 @@ pub fn either(first: bool, one: &'static str, other: &'static str) -> &'static s
     ensures { result.now ≡ (if first then one.now else other.now) }
 {
     if first { one } else { other }
-}
-
-pub fn limit_line(alloc: Global, is_merged: bool, states: u32) -> Result<String, AllocError>
-    ensures { IfOk result (λ line. string_bytes line ≡ limit_line is_merged states) }
-{
-    let mut line = String::new(alloc);
-    push_more(&mut line, is_merged, states)?;
-    line.push_str(": nothing is said of all schedules\n")?;
-    line.push_str(next_line(is_merged))?;
-    Ok(line)
 }

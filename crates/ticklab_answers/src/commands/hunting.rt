@@ -1,30 +1,30 @@
 //! `ticklab hunt` without `--threads`.
-ghost use Rattle.std.specs.Prelude.{◌≡◌, ◌<◌, ◌++◌, All, IfErr, IfOk, length, map, string_bytes};
-ghost use Rattle.tick_kinds.specs.Resolution.{resolved};
+ghost use Rattle.std.specs.Prelude.{◌≡◌, ◌<◌, ◌++◌, IfErr, IfOk, length, string_bytes};
 ghost use Rattle.searches_hunt.specs.Never.{IfBroken, IfFault};
-ghost use Rattle.ticketc_refusals.specs.Refusals.{SpelledIn};
-ghost use Rattle.ticklab_answers.specs.Asking.{place_of, texts_of};
+ghost use Rattle.ticklab_answers.specs.Asking.{texts_of};
 ghost use Rattle.ticklab_answers.specs.Exploring.{IsUnexplored};
 ghost use Rattle.ticklab_answers.specs.Faults.{IsOfFile};
 ghost use Rattle.ticklab_answers.specs.Hunting.{Hunts, IsHunted, plan_of};
 ghost use Rattle.ticklab_answers.specs.Lines.{from_text, nothing_line, plan_text, runs_from};
-ghost use Rattle.ticklab_answers.specs.Shown.{ShowsHunt};
+ghost use Rattle.ticklab_answers.specs.Shown.{IsEmptyAnswer, ShowsHunt};
+ghost use Rattle.ticklab_answers.specs.Sought.{IsLawful, IsSound, sought_by};
 ghost use Rattle.ticklab_answers.specs.Stops.{IfRefused};
 
-use crate::asking::NeverLines;
 use crate::commands::exploring::safe_text;
 use crate::counts::push_many;
 use crate::fault::LabFault;
 use crate::files::bytes_of;
+use crate::form::Form;
 use crate::host::Files;
 use crate::reading::asked_program;
 use crate::response::{DONE, Response, answer, settled};
+use crate::search::{Answered, Search};
 use crate::stop::NoAnswer;
 use crate::trapping::{broken_shown, trap_shown};
-use base::{NoMemory, push_number};
+use base::push_number;
 use searches_hunt::{Mode, NeverHunted, Plan, Trials, hunt_by};
 use std::alloc::{AllocError, Global};
-use ticketc_refusals::SpelledProgram;
+use ticklab_json::{Head, empty_hunt};
 
 /// How a trap is told whose schedule needs all its steps.
 pub const MINIMAL: &str =
@@ -61,12 +61,14 @@ pub fn hunted<F: Files, T: Trials>(
     never: &[&str],
     plan: Plan,
     from: u32,
+    form: Form,
 ) -> Result<Response, LabFault>
-    ensures ok { IfOk result (Hunts F.Reads F.ReadsInput files.old files.new file.now (texts_of never.now) plan from) }
+    ensures ok { IfOk result (Hunts F.Reads F.ReadsInput files.old files.new file.now (texts_of never.now) plan from form) }
     ensures err { IfErr result (IsOfFile file.now) }
 {
     let input = bytes_of(alloc, files, file)?;
-    let hunted = random_schedules(alloc, trials, file, never, input.as_slice(), plan, from);
+    let bytes = input.as_slice();
+    let hunted = random_schedules(alloc, trials, file, never, bytes, plan, from, form);
     Ok(settled(alloc, hunted)?)
 }
 
@@ -78,8 +80,9 @@ fn random_schedules<T: Trials>(
     input: &[u8],
     plan: Plan,
     from: u32,
+    form: Form,
 ) -> Result<Response, NoAnswer>
-    ensures ok { IfOk result (IsHunted name.now (texts_of never.now) plan from input.now) }
+    ensures ok { IfOk result (IsHunted name.now (texts_of never.now) plan from form input.now) }
     ensures refused { IfErr result (λ stop. IfRefused stop (IsUnexplored name.now (texts_of never.now) input.now)) }
 {
     let asked = match asked_program(alloc, name, input, never) {
@@ -90,28 +93,26 @@ fn random_schedules<T: Trials>(
     let lines = &asked.lines;
     let properties = lines.properties.as_slice();
     let hunted = hunt_by(trials, alloc, &spelled.program, properties, plan, from)?;
-    Ok(shown(alloc, spelled, input, lines, plan, from, &hunted)?)
+    let search = Search {
+        alloc,
+        spelled,
+        input,
+        lines,
+        form,
+    };
+    Ok(shown(&search, plan, from, &hunted)?)
 }
 
 // The answer that tells what the hunt came to.
-fn shown(
-    alloc: Global,
-    spelled: &SpelledProgram,
-    input: &[u8],
-    lines: &NeverLines<'_>,
-    plan: Plan,
-    from: u32,
-    hunted: &NeverHunted,
-) -> Result<Response, NoMemory>
-    requires schedule { IfFault hunted.now (λ run. All (λ p. p < (resolved spelled.now.program).processes)) }
-    requires line { IfBroken hunted.now (λ schedule line v. line < length lines.now.places.items) }
-    requires program { SpelledIn input.now spelled.now }
-    ensures { IfOk result (ShowsHunt input.now spelled.now.program (map place_of lines.now.places.items) plan from hunted.now) }
+fn shown(search: &Search<'_, '_>, plan: Plan, from: u32, hunted: &NeverHunted) -> Answered
+    requires sound { IsSound search.now }
+    requires schedule { IfFault hunted.now (λ run. IsLawful search.now) }
+    requires line { IfBroken hunted.now (λ schedule line v. line < length search.now.lines.now.places.items) }
+    ensures { IfOk result (ShowsHunt (sought_by search.now) plan from hunted.now) }
 {
+    let head = Head::Runs { plan, from };
     match hunted {
-        NeverHunted::Trapped { schedule, .. } => {
-            trap_shown(alloc, MINIMAL, spelled, input, schedule)
-        }
+        NeverHunted::Trapped { schedule, .. } => trap_shown(search, MINIMAL, head, schedule),
         NeverHunted::Broken {
             schedule,
             line,
@@ -119,12 +120,22 @@ fn shown(
             ..
         } => {
             let found = MINIMAL_BREAK;
-            broken_shown(alloc, found, spelled, input, lines, schedule, *line, *value)
+            broken_shown(search, found, head, schedule, *line, *value)
         }
         NeverHunted::Nothing => {
-            let line = nothing_line(alloc, lines.places.len(), plan, from)?;
-            Ok(answer(alloc, DONE, line))
+            let text = empty_answer(search, plan, from)?;
+            Ok(answer(search.alloc, DONE, text))
         }
+    }
+}
+
+fn empty_answer(search: &Search<'_, '_>, plan: Plan, from: u32) -> Result<String, AllocError>
+    ensures { IfOk result (λ text. IsEmptyAnswer search.now.form (length search.now.lines.now.places.items) plan from (string_bytes text)) }
+{
+    let alloc = search.alloc;
+    match search.form {
+        Form::Text => nothing_line(alloc, search.lines.places.len(), plan, from),
+        Form::Json => empty_hunt(alloc, plan, from),
     }
 }
 

@@ -8,17 +8,18 @@ ghost use Rattle.ticklab_answers.specs.Lines.{left_out_line, loop_line};
 ghost use Rattle.ticklab_answers.specs.Reading.{is_input, reads_input};
 ghost use Rattle.ticklab_answers.specs.Stops.{IfRefused};
 
-use crate::commands::ends::{asked_in, loop_shown, push_processes};
+use crate::commands::ends::{asked_in, loop_text, push_processes};
 use crate::fault::LabFault;
 use crate::files::{bytes_of, is_input, reads_input, text_of};
 use crate::host::Files;
 use crate::reading::{schedule_of, spelled_program_of};
-use crate::response::{LIMIT, NO_LOOP, Response, answer, settled};
+use crate::response::{LIMIT, NO_LOOP, Response, STUCK, answer, settled};
 use crate::stop::NoAnswer;
 use base::{NoMemory, push_number};
 use searches_explore::{LassoAnswer, explore_lasso};
 use std::alloc::{AllocError, Global};
 use ticketc_refusals::SpelledProgram;
+use ticklab_json::Loop;
 
 const STOPPED: &str = "it is no loop: after PREFIX no process runs that has to end\n";
 
@@ -95,7 +96,13 @@ fn shown(
     match found {
         Some(LassoAnswer::Lasso(running)) => {
             let line = loop_line(alloc, running.as_slice())?;
-            loop_shown(alloc, &line, spelled, input, prefix, &[], cycle)
+            let looped = Loop {
+                schedule: prefix,
+                lead_in: &[],
+                cycle,
+            };
+            let text = loop_text(alloc, spelled, input, &line, looped)?;
+            Ok(answer(alloc, STUCK, text))
         }
         Some(LassoAnswer::AllStopped) => {
             let line = String::from_str(alloc, STOPPED)?;

@@ -1,52 +1,27 @@
 //! `ticklab page`.
-ghost use Rattle.std.specs.Prelude.{◌≡◌, ◌<◌, All, IfErr, IfOk, OnOk, length, map, option_map, string_bytes};
+ghost use Rattle.std.specs.Prelude.{◌≡◌, ◌<◌, All, IfErr, IfOk, OnOk, length, map, string_bytes};
 ghost use Rattle.tick_kinds.specs.Resolution.{resolved};
 ghost use Rattle.ticketc_refusals.specs.Refusals.{SpelledIn};
-ghost use Rattle.searches_explore.specs.Lines.{lines_of};
-ghost use Rattle.ticklab_answers.specs.Asking.{place_of, texts_of};
-ghost use Rattle.ticklab_answers.specs.Codes.{HasNoCode, IsCodeless};
-ghost use Rattle.ticklab_answers.specs.Faults.{IsEither, IsOfFileThat};
-ghost use Rattle.ticklab_answers.specs.Lines.{long_run_line};
 ghost use Rattle.ticklab_answers.specs.Pages.{IsCodePage, IsPage, IsProgramPage, whole_look};
-ghost use Rattle.ticklab_answers.specs.Runs.{IsTooLong, IsWithin, Pages, plain_telling};
+ghost use Rattle.ticklab_answers.specs.Runs.{IsTooLong, IsWithin, plain_telling};
+ghost use Rattle.searches_explore.specs.Lines.{lines_of};
+ghost use Rattle.ticklab_answers.specs.Asking.{place_of};
+ghost use Rattle.ticklab_answers.specs.Codes.{HasNoCode, IsCodeless};
+ghost use Rattle.ticklab_answers.specs.Lines.{long_run_line};
 ghost use Rattle.ticklab_answers.specs.Stops.{IfRefused};
 
-use crate::asking::NeverLines;
 use crate::commands::drawing::{never_mark, picture_of};
-use crate::commands::told_run::{Telling, told};
+use crate::commands::told_run::{Subject, Telling};
 use crate::commands::tracing::spots_in;
-use crate::fault::LabFault;
-use crate::host::Files;
-use crate::reading::code_of;
-use crate::response::Response;
+use crate::reading::{AskedProgram, code_of};
 use crate::stop::NoAnswer;
 use base::{NoMemory, push_number};
 use std::alloc::{AllocError, Global};
 use std::str;
 use tick_kinds::Program;
-use ticketc_refusals::SpelledProgram;
 use ticklab_draw::Look;
-use ticklab_line::Side;
 use ticklab_page::{MOST_STEPS, code_page, source_page};
 use ticklab_trace::{code_steps, source_steps};
-
-/// The run of the program under a schedule, or of its code, as a page. That of a program opens where what must never hold
-/// does first, or a process traps: a line `#! never` of the file, or one of these texts that are the same.
-pub fn paged<F: Files>(
-    alloc: Global,
-    files: &mut F,
-    file: &str,
-    schedule: &str,
-    never: &[&str],
-    side: Side,
-    title: Option<&str>,
-) -> Result<Response, LabFault>
-    ensures ok { IfOk result (Pages F.Reads F.ReadsInput files.old files.new file.now schedule.now (texts_of never.now) side (option_map (λ text. text.now) title.entry)) }
-    ensures err { IfErr result (IsOfFileThat (IsEither file.now schedule.now)) }
-{
-    let telling = Telling::Page(title);
-    told(alloc, files, file, schedule, never, &telling, side)
-}
 
 /// A page has at most so many steps; `from` says where the schedule is from.
 pub fn within_a_page(
@@ -59,7 +34,7 @@ pub fn within_a_page(
     ensures refused { IfErr result (λ stop. IfRefused stop (IsTooLong (plain_telling telling.now) from.now count)) }
 {
     match telling {
-        Telling::Trace | Telling::Picture(_) => Ok(()),
+        Telling::Trace(_) | Telling::Picture(_) => Ok(()),
         Telling::Page(_) => {
             if count > MOST_STEPS {
                 let line = long_run_line(alloc, from, count)?;
@@ -81,31 +56,27 @@ fn long_run_line(alloc: Global, from: &str, count: usize) -> Result<String, Allo
     Ok(line)
 }
 
-/// The page with this title; `name` is that of the program's file.
+/// The page with this title. It opens where what must never hold does first, or a process traps.
 pub fn page_of(
     alloc: Global,
-    name: &str,
-    title: &[u8],
-    spelled: &SpelledProgram,
-    input: &[u8],
-    lines: &NeverLines<'_>,
+    subject: &Subject<'_, '_>,
     schedule: &[u8],
-    is_code: bool,
+    title: &[u8],
 ) -> Result<Vec<u8>, NoAnswer>
-    requires lines { length lines.now.properties.items ≡ length lines.now.places.items }
-    requires schedule { All (λ p. p < (resolved spelled.now.program).processes) schedule.now }
-    requires program { SpelledIn input.now spelled.now }
-    ensures ok { IfOk result (λ out. IsPage title.now is_code (lines_of lines.now.properties.items) (map place_of lines.now.places.items) input.now spelled.now.program schedule.now out.items) }
-    ensures refused { IfErr result (λ stop. IfRefused stop (IsCodeless is_code name.now spelled.now.program)) }
+    requires lines { length subject.now.asked.now.lines.properties.items ≡ length subject.now.asked.now.lines.places.items }
+    requires schedule { All (λ p. p < (resolved subject.now.asked.now.spelled.program).processes) schedule.now }
+    requires program { SpelledIn subject.now.input.now subject.now.asked.now.spelled }
+    ensures ok { IfOk result (λ out. IsPage title.now subject.now.is_code (lines_of subject.now.asked.now.lines.properties.items) (map place_of subject.now.asked.now.lines.places.items) subject.now.input.now subject.now.asked.now.spelled.program schedule.now out.items) }
+    ensures refused { IfErr result (λ stop. IfRefused stop (IsCodeless subject.now.is_code subject.now.name.now subject.now.asked.now.spelled.program)) }
 {
-    let program = &spelled.program;
-    let look = whole_look();
-    let drawn = picture_of(alloc, name, title, look, program, lines, schedule, is_code)?;
+    let drawn = picture_of(alloc, subject, schedule, title, whole_look())?;
     let drawn = drawn.as_slice();
-    if is_code {
-        return code_page_of(alloc, name, title, drawn, program, schedule);
+    if subject.is_code {
+        let program = &subject.asked.spelled.program;
+        return code_page_of(alloc, subject.name, title, drawn, program, schedule);
     }
-    Ok(source_page_of(alloc, title, drawn, spelled, input, lines, schedule)?)
+    let input = subject.input;
+    Ok(source_page_of(alloc, subject.asked, input, schedule, title, drawn)?)
 }
 
 // The picture of a page is that of `draw` without options.
@@ -121,35 +92,27 @@ fn whole_look() -> Look
 
 fn source_page_of(
     alloc: Global,
+    asked: &AskedProgram<'_>,
+    input: &[u8],
+    schedule: &[u8],
     title: &[u8],
     drawn: &[u8],
-    spelled: &SpelledProgram,
-    input: &[u8],
-    lines: &NeverLines<'_>,
-    schedule: &[u8],
 ) -> Result<Vec<u8>, NoMemory>
-    requires lines { length lines.now.properties.items ≡ length lines.now.places.items }
-    requires schedule { All (λ p. p < (resolved spelled.now.program).processes) schedule.now }
-    requires program { SpelledIn input.now spelled.now }
-    ensures { IfOk result (λ out. IsProgramPage title.now drawn.now (lines_of lines.now.properties.items) (map place_of lines.now.places.items) input.now spelled.now.program schedule.now out.items) }
+    requires lines { length asked.now.lines.properties.items ≡ length asked.now.lines.places.items }
+    requires schedule { All (λ p. p < (resolved asked.now.spelled.program).processes) schedule.now }
+    requires program { SpelledIn input.now asked.now.spelled }
+    ensures { IfOk result (λ out. IsProgramPage title.now drawn.now (lines_of asked.now.lines.properties.items) (map place_of asked.now.lines.places.items) input.now asked.now.spelled.program schedule.now out.items) }
 {
+    let spelled = &asked.spelled;
     let program = &spelled.program;
-    let never = never_mark(alloc, program, lines, schedule, false)?;
+    let never = never_mark(alloc, program, &asked.lines, schedule, false)?;
     let spots = spots_in(alloc, spelled, input)?;
     let steps = source_steps(alloc, program, schedule)?;
     let Ok(text) = str::from_utf8(input) else {
         unreachable!()
     };
-    source_page(
-        alloc,
-        title,
-        text,
-        program,
-        spots.as_slice(),
-        steps.as_slice(),
-        drawn,
-        never,
-    )
+    let (spots, steps) = (spots.as_slice(), steps.as_slice());
+    source_page(alloc, title, text, program, spots, steps, drawn, never)
 }
 
 fn code_page_of(

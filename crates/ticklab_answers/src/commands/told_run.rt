@@ -1,13 +1,14 @@
 //! What `ticklab trace`, `ticklab draw` and `ticklab page` share: they read a program and a schedule, and tell of the run.
 ghost use Rattle.std.specs.Prelude.{◌≡◌, ◌<◌, All, IfErr, IfOk, length, map};
 ghost use Rattle.tick_kinds.specs.Resolution.{resolved};
+ghost use Rattle.ticklab_line.specs.Commands.{plain_run};
+ghost use Rattle.ticklab_answers.specs.Runs.{IsRun, IsTold, IsToldWith, IsUnrun, TellsRun, is_of_code, plain_telling, schedule_on};
 ghost use Rattle.ticketc_refusals.specs.Refusals.{SpelledIn};
 ghost use Rattle.searches_explore.specs.Lines.{lines_of};
 ghost use Rattle.ticklab_answers.specs.Asking.{place_of, texts_of};
 ghost use Rattle.ticklab_answers.specs.Codes.{IsCodeless};
 ghost use Rattle.ticklab_answers.specs.Faults.{IsEither, IsOfFileThat};
 ghost use Rattle.ticklab_answers.specs.Responses.{Gives};
-ghost use Rattle.ticklab_answers.specs.Runs.{IsRun, IsTold, IsToldWith, IsUnrun, TellsRun, is_of_code, plain_telling, schedule_on};
 ghost use Rattle.ticklab_answers.specs.Stops.{IfRefused};
 
 use crate::commands::drawing::{look_of, picture_of, steps_to, title_of};
@@ -15,6 +16,7 @@ use crate::commands::paging::{page_of, within_a_page};
 use crate::commands::tracing::trace_of;
 use crate::fault::LabFault;
 use crate::files::{bytes_of, is_input, text_of};
+use crate::form::Form;
 use crate::host::Files;
 use crate::reading::{AskedProgram, asked_program, code_of, schedule_of};
 use crate::response::{DONE, Response, output, settled};
@@ -22,44 +24,47 @@ use crate::stop::NoAnswer;
 use std::alloc::Global;
 use tick_kinds::Program;
 use tick_sim::expand;
-use ticklab_line::{Drawing, Side};
+use ticklab_line::{AskedRun, Drawing, Side};
 
 /// How a run is told.
 #[derive(Drop)]
 pub enum Telling<T> {
-    /// A line for each step.
-    Trace,
+    /// Each step, by a line or as an object of JSON.
+    Trace(Form),
     /// A picture that shows this.
     Picture(Drawing<T>),
     /// A page of HTML, with this title where that is not the file's name.
     Page(Option<T>),
 }
 
-/// The run of the program under a schedule, or of its code, told so.
+/// Whose run is told: that of the program that an input is, or of its code.
+#[derive(Drop)]
+pub struct Subject<'s, 'a> {
+    /// The name of the program's file.
+    pub name: &'s str,
+    pub input: &'s [u8],
+    pub asked: &'s AskedProgram<'a>,
+    pub is_code: bool,
+}
+
+/// The run of the program under a schedule, or of its code, told so. Of a program is told too where what must never
+/// hold does first: a line `#! never` of the file, or one of these texts that are the same. A page opens there, or where a
+/// process traps.
 pub fn told<F: Files>(
     alloc: Global,
     files: &mut F,
-    file: &str,
-    schedule: &str,
-    never: &[&str],
+    run: &AskedRun<&str, Vec<&str>>,
     telling: &Telling<&str>,
-    side: Side,
 ) -> Result<Response, LabFault>
-    ensures ok { IfOk result (TellsRun (plain_telling telling.now) F.Reads F.ReadsInput files.old files.new file.now schedule.now (texts_of never.now) side) }
-    ensures err { IfErr result (IsOfFileThat (IsEither file.now schedule.now)) }
+    ensures ok { IfOk result (TellsRun (plain_telling telling.now) F.Reads F.ReadsInput files.old files.new (plain_run run.now)) }
+    ensures err { IfErr result (IsOfFileThat (IsEither run.now.file.now run.now.schedule.now)) }
 {
+    let file = run.file;
     let input = bytes_of(alloc, files, file)?;
-    let (from, text) = text_of(alloc, files, schedule, is_input(file))?;
-    let answered = run_told(
-        alloc,
-        file,
-        input.as_slice(),
-        from,
-        &text,
-        never,
-        telling,
-        side,
-    );
+    let (from, text) = text_of(alloc, files, run.schedule, is_input(file))?;
+    let input = input.as_slice();
+    let never = run.never.as_slice();
+    let answered = run_told(alloc, file, input, from, &text, never, run.side, telling);
     Ok(settled(alloc, answered)?)
 }
 
@@ -71,8 +76,8 @@ fn run_told(
     from: &str,
     schedule: &str,
     never: &[&str],
-    telling: &Telling<&str>,
     side: Side,
+    telling: &Telling<&str>,
 ) -> Result<Response, NoAnswer>
     ensures ok { IfOk result (Gives 0 (IsRun side (IsTold (plain_telling telling.now) side name.now (texts_of never.now) input.now) schedule.now)) }
     ensures refused { IfErr result (λ stop. IfRefused stop (IsUnrun (plain_telling telling.now) name.now (texts_of never.now) input.now from.now schedule.now side)) }
@@ -86,8 +91,13 @@ fn run_told(
     let steps = schedule_on(alloc, name, side, program, given)?;
     let steps = steps.as_slice();
     within_a_page(alloc, telling, from, steps.len())?;
-    let is_code = is_of_code(side);
-    let out = telling_of(alloc, telling, is_code, name, &asked, input, steps)?;
+    let subject = Subject {
+        name,
+        input,
+        asked: &asked,
+        is_code: is_of_code(side),
+    };
+    let out = telling_of(alloc, &subject, steps, telling)?;
     Ok(output(alloc, DONE, out))
 }
 
@@ -125,42 +135,26 @@ fn is_of_code(side: Side) -> bool
 
 fn telling_of(
     alloc: Global,
-    telling: &Telling<&str>,
-    is_code: bool,
-    name: &str,
-    asked: &AskedProgram<'_>,
-    input: &[u8],
+    subject: &Subject<'_, '_>,
     schedule: &[u8],
+    telling: &Telling<&str>,
 ) -> Result<Vec<u8>, NoAnswer>
-    requires lines { length asked.now.lines.properties.items ≡ length asked.now.lines.places.items }
-    requires schedule { All (λ p. p < (resolved asked.now.spelled.program).processes) schedule.now }
-    requires program { SpelledIn input.now asked.now.spelled }
-    ensures ok { IfOk result (λ out. IsToldWith (plain_telling telling.now) is_code name.now (lines_of asked.now.lines.properties.items) (map place_of asked.now.lines.places.items) input.now asked.now.spelled.program schedule.now out.items) }
-    ensures refused { IfErr result (λ stop. IfRefused stop (IsCodeless is_code name.now asked.now.spelled.program)) }
+    requires lines { length subject.now.asked.now.lines.properties.items ≡ length subject.now.asked.now.lines.places.items }
+    requires schedule { All (λ p. p < (resolved subject.now.asked.now.spelled.program).processes) schedule.now }
+    requires program { SpelledIn subject.now.input.now subject.now.asked.now.spelled }
+    ensures ok { IfOk result (λ out. IsToldWith (plain_telling telling.now) subject.now.is_code subject.now.name.now (lines_of subject.now.asked.now.lines.properties.items) (map place_of subject.now.asked.now.lines.places.items) subject.now.input.now subject.now.asked.now.spelled.program schedule.now out.items) }
+    ensures refused { IfErr result (λ stop. IfRefused stop (IsCodeless subject.now.is_code subject.now.name.now subject.now.asked.now.spelled.program)) }
 {
-    let spelled = &asked.spelled;
-    let lines = &asked.lines;
     match telling {
-        Telling::Trace => trace_of(alloc, name, spelled, input, lines, schedule, is_code),
-        Telling::Page(title) => page_of(
-            alloc,
-            name,
-            title_of(*title, name),
-            spelled,
-            input,
-            lines,
-            schedule,
-            is_code,
-        ),
-        Telling::Picture(drawing) => picture_of(
-            alloc,
-            name,
-            title_of(drawing.title, name),
-            look_of(drawing),
-            &spelled.program,
-            lines,
-            steps_to(drawing.to, schedule),
-            is_code,
-        ),
+        Telling::Trace(form) => trace_of(alloc, subject, schedule, *form),
+        Telling::Page(title) => {
+            let title = title_of(*title, subject.name);
+            page_of(alloc, subject, schedule, title)
+        }
+        Telling::Picture(drawing) => {
+            let title = title_of(drawing.title, subject.name);
+            let schedule = steps_to(drawing.to, schedule);
+            picture_of(alloc, subject, schedule, title, look_of(drawing))
+        }
     }
 }

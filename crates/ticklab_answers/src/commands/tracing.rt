@@ -3,20 +3,19 @@ ghost use Rattle.std.specs.Prelude.{◌≡◌, ◌<◌, ◌≤◌, All, IfErr, I
 ghost use Rattle.tick_kinds.specs.Resolution.{resolved};
 ghost use Rattle.ticketc_refusals.specs.Refusals.{SpelledIn};
 ghost use Rattle.searches_explore.specs.Lines.{lines_of};
-ghost use Rattle.ticklab_answers.specs.Asking.{place_of, texts_of};
+ghost use Rattle.ticklab_trace.specs.Places.{Stand, told_standing};
+ghost use Rattle.ticklab_answers.specs.Asking.{place_of};
+ghost use Rattle.ticklab_answers.specs.Breaking.{broken_at};
 ghost use Rattle.ticklab_answers.specs.Codes.{HasNoCode, IsCodeless};
-ghost use Rattle.ticklab_answers.specs.Faults.{IsEither, IsOfFileThat};
-ghost use Rattle.ticklab_trace.specs.Places.{Stand};
-ghost use Rattle.ticklab_answers.specs.Runs.{IsInstructionTrace, IsLinedTrace, IsStatementTrace, IsTrace, IsTraceAround, Traces};
+ghost use Rattle.ticklab_answers.specs.Runs.{AreBrokenLines, AreToldWith, IsCodeTrace, IsProgramTrace, IsStatementTrace, IsTrace, code_told, steps_told};
 ghost use Rattle.ticklab_answers.specs.Stops.{IfRefused};
 
-use crate::asking::{NeverLines, PropertyPlace};
-use crate::breaking::{Break, first_break};
-use crate::commands::told_run::{Telling, told};
-use crate::fault::LabFault;
-use crate::host::Files;
+use crate::asking::NeverLines;
+use crate::breaking::{BrokenLine, first_broken_line};
+use crate::commands::objects::broken_objects;
+use crate::commands::told_run::Subject;
+use crate::form::Form;
 use crate::reading::code_of;
-use crate::response::Response;
 use crate::stop::NoAnswer;
 use crate::trapping::with_line;
 use base::NoMemory;
@@ -24,96 +23,140 @@ use std::alloc::Global;
 use std::str;
 use tick_kinds::Program;
 use ticketc_refusals::SpelledProgram;
-use ticklab_line::Side;
-use ticklab_trace::{StatementPlace, code_steps, code_trace, places, source_steps, source_trace};
+use ticklab_json::{code_objects, source_objects};
+use ticklab_trace::{
+    InstructionStep, StatementPlace, StatementStep, code_steps, code_trace, places, source_steps,
+    source_trace,
+};
 
-/// A line for each step of the program under a schedule, or of its code. Of the program it shows too where what
-/// must never hold does first: a line `#! never` of the file, or one of these texts that are the same.
-pub fn traced<F: Files>(
-    alloc: Global,
-    files: &mut F,
-    file: &str,
-    schedule: &str,
-    never: &[&str],
-    side: Side,
-) -> Result<Response, LabFault>
-    ensures ok { IfOk result (Traces F.Reads F.ReadsInput files.old files.new file.now schedule.now (texts_of never.now) side) }
-    ensures err { IfErr result (IsOfFileThat (IsEither file.now schedule.now)) }
-{
-    let telling = Telling::Trace;
-    told(alloc, files, file, schedule, never, &telling, side)
-}
-
-/// The lines of the steps; `name` is that of the program's file.
+/// What each step of the program did, or of its code, in this form.
 pub fn trace_of(
     alloc: Global,
-    name: &str,
-    spelled: &SpelledProgram,
-    input: &[u8],
-    lines: &NeverLines<'_>,
+    subject: &Subject<'_, '_>,
     schedule: &[u8],
-    is_code: bool,
+    form: Form,
 ) -> Result<Vec<u8>, NoAnswer>
-    requires lines { length lines.now.properties.items ≡ length lines.now.places.items }
-    requires schedule { All (λ p. p < (resolved spelled.now.program).processes) schedule.now }
-    requires program { SpelledIn input.now spelled.now }
-    ensures ok { IfOk result (λ out. IsTrace is_code (lines_of lines.now.properties.items) (map place_of lines.now.places.items) input.now spelled.now.program schedule.now out.items) }
-    ensures refused { IfErr result (λ stop. IfRefused stop (IsCodeless is_code name.now spelled.now.program)) }
+    requires lines { length subject.now.asked.now.lines.properties.items ≡ length subject.now.asked.now.lines.places.items }
+    requires schedule { All (λ p. p < (resolved subject.now.asked.now.spelled.program).processes) schedule.now }
+    requires program { SpelledIn subject.now.input.now subject.now.asked.now.spelled }
+    ensures ok { IfOk result (λ out. IsTrace form subject.now.is_code (lines_of subject.now.asked.now.lines.properties.items) (map place_of subject.now.asked.now.lines.places.items) subject.now.input.now subject.now.asked.now.spelled.program schedule.now out.items) }
+    ensures refused { IfErr result (λ stop. IfRefused stop (IsCodeless subject.now.is_code subject.now.name.now subject.now.asked.now.spelled.program)) }
 {
-    if is_code {
-        let text = code_text(alloc, name, &spelled.program, schedule)?;
-        return Ok(text.into_bytes());
+    let spelled = &subject.asked.spelled;
+    if subject.is_code {
+        return of_code(alloc, subject.name, &spelled.program, schedule, form);
     }
-    Ok(lined_trace(alloc, spelled, input, lines, schedule)?)
+    let lines = &subject.asked.lines;
+    Ok(of_program(alloc, spelled, subject.input, lines, schedule, form)?)
+}
+
+fn of_code(
+    alloc: Global,
+    name: &str,
+    program: &Program,
+    schedule: &[u8],
+    form: Form,
+) -> Result<Vec<u8>, NoAnswer>
+    requires { All (λ p. p < (resolved program.now).processes) schedule.now }
+    ensures ok { IfOk result (λ out. IsCodeTrace form program.now schedule.now out.items) }
+    ensures refused { IfErr result (λ stop. IfRefused stop (HasNoCode name.now program.now)) }
+{
+    let code = code_of(alloc, name, program)?;
+    let steps = code_steps(alloc, &code, schedule)?;
+    let text = code_told(alloc, program, steps.as_slice(), form)?;
+    Ok(text.into_bytes())
+}
+
+fn code_told(
+    alloc: Global,
+    program: &Program,
+    steps: &[InstructionStep],
+    form: Form,
+) -> Result<String, NoMemory>
+    ensures { IfOk result (λ text. string_bytes text ≡ code_told form program.now steps.now) }
+{
+    match form {
+        Form::Text => code_trace(alloc, program, steps),
+        Form::Json => code_objects(alloc, program, steps),
+    }
 }
 
 // The steps of the program that this input is, with the line that is broken first.
-fn lined_trace(
+fn of_program(
     alloc: Global,
     spelled: &SpelledProgram,
     input: &[u8],
     lines: &NeverLines<'_>,
     schedule: &[u8],
+    form: Form,
 ) -> Result<Vec<u8>, NoMemory>
     requires lines { length lines.now.properties.items ≡ length lines.now.places.items }
     requires schedule { All (λ p. p < (resolved spelled.now.program).processes) schedule.now }
     requires program { SpelledIn input.now spelled.now }
-    ensures { IfOk result (λ out. IsLinedTrace (lines_of lines.now.properties.items) (map place_of lines.now.places.items) input.now spelled.now.program schedule.now out.items) }
+    ensures { IfOk result (λ out. IsProgramTrace form (lines_of lines.now.properties.items) (map place_of lines.now.places.items) input.now spelled.now.program schedule.now out.items) }
 {
-    let properties = lines.properties.as_slice();
-    match first_break(alloc, &spelled.program, properties, schedule)? {
+    let program = &spelled.program;
+    let broken = first_broken_line(alloc, program, lines, schedule)?;
+    let spots = spots_in(alloc, spelled, input)?;
+    let steps = source_steps(alloc, program, schedule)?;
+    let (spots, steps) = (spots.as_slice(), steps.as_slice());
+    match broken {
         None => {
-            let text = source_text(alloc, spelled, input, schedule)?;
+            let text = steps_told(alloc, program, spots, steps, form)?;
             Ok(text.into_bytes())
         }
-        Some(broken) => {
-            let place = &lines.places[broken.line];
-            broken_trace(alloc, spelled, input, schedule, place, broken)
-        }
+        Some(line) => told_with(alloc, program, spots, steps, line, form),
     }
 }
 
-// The steps, and after so many of them the line that stands here, with what it comes to.
-fn broken_trace(
+fn steps_told(
     alloc: Global,
-    spelled: &SpelledProgram,
-    input: &[u8],
-    schedule: &[u8],
-    place: &PropertyPlace<'_>,
-    broken: Break,
-) -> Result<Vec<u8>, NoMemory>
-    requires within { broken.steps ≤ length schedule.now }
-    requires schedule { All (λ p. p < (resolved spelled.now.program).processes) schedule.now }
-    requires program { SpelledIn input.now spelled.now }
-    ensures { IfOk result (λ out. IsTraceAround (place_of place.now) input.now spelled.now.program schedule.now broken out.items) }
+    program: &Program,
+    spots: &[StatementPlace<'_>],
+    steps: &[StatementStep],
+    form: Form,
+) -> Result<String, NoMemory>
+    ensures { IfOk result (λ text. string_bytes text ≡ steps_told form program.now (map told_standing spots.now) steps.now) }
 {
-    let program = &spelled.program;
-    let spots = spots_in(alloc, spelled, input)?;
-    let steps = source_steps(alloc, program, schedule)?;
+    match form {
+        Form::Text => source_trace(alloc, program, spots, 0, steps),
+        Form::Json => source_objects(alloc, program, spots, None, steps),
+    }
+}
+
+// With the line that is broken after so many of the steps, and what it comes to.
+fn told_with(
+    alloc: Global,
+    program: &Program,
+    spots: &[StatementPlace<'_>],
+    steps: &[StatementStep],
+    line: BrokenLine<'_>,
+    form: Form,
+) -> Result<Vec<u8>, NoMemory>
+    requires { line.broken.steps ≤ length steps.now }
+    ensures { IfOk result (λ out. AreToldWith form (broken_at line.entry) program.now (map told_standing spots.now) steps.now out.items) }
+{
+    match form {
+        Form::Text => broken_lines(alloc, program, spots, steps, line),
+        Form::Json => broken_objects(alloc, &line.place, line.broken, program, spots, steps),
+    }
+}
+
+fn broken_lines(
+    alloc: Global,
+    program: &Program,
+    spots: &[StatementPlace<'_>],
+    steps: &[StatementStep],
+    line: BrokenLine<'_>,
+) -> Result<Vec<u8>, NoMemory>
+    requires { line.broken.steps ≤ length steps.now }
+    ensures { IfOk result (λ out. AreBrokenLines (broken_at line.entry) program.now (map told_standing spots.now) steps.now out.items) }
+{
+    let broken = line.broken;
     let (before, after) = steps.split_at(broken.steps);
-    let text = source_trace(alloc, program, spots.as_slice(), 0, before)?;
-    let mut out = with_line(alloc, text.into_bytes(), place, broken.value)?;
-    let rest = source_trace(alloc, program, spots.as_slice(), broken.steps, after)?;
+    let text = source_trace(alloc, program, spots, 0, before)?;
+    let mut out = with_line(alloc, text.into_bytes(), &line.place, broken.value)?;
+    let rest = source_trace(alloc, program, spots, broken.steps, after)?;
     out.extend_from_slice(rest.as_bytes())?;
     Ok(out)
 }
@@ -148,19 +191,4 @@ pub fn spots_in<'a>(
         unreachable!()
     };
     places(alloc, &spelled.program, text, spelled.tokens.as_slice())
-}
-
-fn code_text(
-    alloc: Global,
-    name: &str,
-    program: &Program,
-    schedule: &[u8],
-) -> Result<String, NoAnswer>
-    requires { All (λ p. p < (resolved program.now).processes) schedule.now }
-    ensures ok { IfOk result (λ text. IsInstructionTrace program.now schedule.now (string_bytes text)) }
-    ensures refused { IfErr result (λ stop. IfRefused stop (HasNoCode name.now program.now)) }
-{
-    let code = code_of(alloc, name, program)?;
-    let steps = code_steps(alloc, &code, schedule)?;
-    Ok(code_trace(alloc, program, steps.as_slice())?)
 }

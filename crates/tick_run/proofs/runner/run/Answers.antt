@@ -19,17 +19,15 @@ jobs_for-requires-clause-fits g c =
 pub jobs_for-requires-clause-gates : goal.jobs_for-requires-clause-gates
 jobs_for-requires-clause-gates g c = c.requires
 
-pub run_all-requires-clause-fits : goal.run_all-requires-clause-fits
-run_all-requires-clause-fits g c κs within =
-    opened_for _ _ _ _ _ c.sizes-sizes.ensures.sizes c.in_ok-table.ensures.layout.0 c.in_ok-table.ensures.layout.1 c.processes-2.ensures.count c.registers-2.ensures
-
-pub run_all-requires-clause-ready : goal.run_all-requires-clause-ready
-run_all-requires-clause-ready g c κs within = c.in_ok-jobs.ensures.ready
-
-pub run_all-requires-clause-none : goal.run_all-requires-clause-none
-run_all-requires-clause-none g c κs within =
+pub run_all-requires-clause-start : goal.run_all-requires-clause-start
+run_all-requires-clause-start g c κs within =
     let empty = c.in_ok-none.ensures.empty in
-    gathers_none _ _ _ _ _ _ _ empty.0 (ap (map (λ values. vec_items values)) empty.1) empty.2
+    record {
+      fits = opened_for _ _ _ _ _ c.sizes-sizes.ensures.sizes c.in_ok-table.ensures.layout.0 c.in_ok-table.ensures.layout.1 c.processes-2.ensures.count c.registers-2.ensures;
+      ready = c.in_ok-jobs.ensures.ready;
+      none = gathers_none _ _ _ _ _ _ _ empty.0 (ap (map (λ values. vec_items values)) empty.1) empty.2;
+      room = search rules;
+    }
 
 pub outcome_of-requires-clause-fits : goal.outcome_of-requires-clause-fits
 outcome_of-requires-clause-fits g c =

@@ -3,12 +3,11 @@ use Rattle.code_text.specs.CodeText.{ReadsAs}
 use Rattle.ticketc_refusals.specs.Refusals.{no_code}
 use Rattle.ticketc_refusals.proofs.judgement.code_in.Goals as goal
 
-pub returns-in_ok-of_code-in-Err-read_code : goal.returns-in_ok-of_code-in-Err-read_code
-returns-in_ok-of_code-in-Err-read_code c =
+pub returns-in_default : goal.returns-in_default
+returns-in_default c =
     let fault = c.in-Err-read_code.fault in
-    let told = c.in_ok-of_code-in-Err-read_code.ensures in
     let P : List ℕ → Type 0 = λ t. ReadsAs t (Err fault) in
-    no_code fault c.in-Ok.ensures.0 (subst P c.in-Ok.ensures.1 (c.in-Err-read_code.ensures.err told.0)) told.1
+    no_code fault c.in-Ok.ensures.0 (subst P c.in-Ok.ensures.1 (c.in-Err-read_code.ensures.err c.in_default.not-NoMemory)) refl
 
 pub returns-in-Ok-read_code : goal.returns-in-Ok-read_code
 returns-in-Ok-read_code c =

@@ -1,11 +1,12 @@
 //! The lines of the answers to `explore --ends`.
 ghost use Rattle.std.specs.Prelude.{◌≡◌, ◌≤◌, ◌+◌, ◌++◌, IfOk, OnOk, length, string_bytes};
 ghost use Rattle.std.specs.List.{list_any};
-ghost use Rattle.ticklab_answers.specs.Lines.{asked_text, can_end_line, can_end_text, endless_line, ends_line, ends_text, half_line, is_nobody, marked, no_process_line, numbers_text, processes_text, quiet_text, stuck_line};
+ghost use Rattle.ticklab_answers.specs.Lines.{asked_text, can_end_line, can_end_text, endless_line, ends_line, ends_text, half_line, half_next, is_nobody, marked, no_process_line, numbers_text, processes_text, quiet_text, stuck_line};
 
-use crate::commands::exploring::{either, push_more, push_states, safe_text};
+use crate::commands::exploring::{either, larger, push_counted, push_more, safe_text};
+use crate::extent::Extent;
 use base::push_number;
-use searches_explore::MustStop;
+use searches_explore::{Limits, MustStop};
 use std::alloc::{AllocError, Global};
 
 fn push_asked(alloc: Global, text: &mut String, asked: MustStop) -> Result<(), AllocError>
@@ -99,21 +100,13 @@ fn quiet(alloc: Global, lines: usize) -> Result<String, AllocError>
     Ok(text)
 }
 
-/// They always end, where each process that runs steps again and again; and so many lines `#! never` don't break.
-pub fn ends_line(
-    alloc: Global,
-    is_merged: bool,
-    lines: usize,
-    asked: MustStop,
-    states: u32,
-) -> Result<String, AllocError>
-    ensures { IfOk result (λ line. string_bytes line ≡ ends_line is_merged lines asked states) }
+/// They always end, where each process that runs steps again and again; and no line `#! never` breaks.
+pub fn ends_line(alloc: Global, asked: MustStop, extent: Extent) -> Result<String, AllocError>
+    ensures { IfOk result (λ line. string_bytes line ≡ ends_line extent.is_merged extent.lines asked extent.states) }
 {
-    let mut line = quiet(alloc, lines)?;
+    let mut line = quiet(alloc, extent.lines)?;
     push_ends(alloc, &mut line, asked)?;
-    line.push_str(" (")?;
-    push_states(&mut line, is_merged, states)?;
-    line.push_str(")\n")?;
+    push_counted(&mut line, extent)?;
     Ok(line)
 }
 
@@ -130,39 +123,26 @@ fn push_ends(alloc: Global, text: &mut String, asked: MustStop) -> Result<(), Al
 }
 
 // They can always end, and it isn't known whether they do.
-fn can_end_text(
-    alloc: Global,
-    is_merged: bool,
-    lines: usize,
-    asked: MustStop,
-    states: u32,
-) -> Result<String, AllocError>
-    ensures { IfOk result (λ text. string_bytes text ≡ can_end_text is_merged lines asked states) }
+fn can_end_text(alloc: Global, asked: MustStop, extent: Extent) -> Result<String, AllocError>
+    ensures { IfOk result (λ text. string_bytes text ≡ can_end_text extent.is_merged extent.lines asked extent.states) }
 {
-    let mut text = quiet(alloc, lines)?;
+    let mut text = quiet(alloc, extent.lines)?;
     push_asked(alloc, &mut text, asked)?;
-    text.push_str(" can still end after every schedule (")?;
-    push_states(&mut text, is_merged, states)?;
-    text.push_str("); of those in which each that runs steps again and again nothing was ")?;
+    text.push_str(" can still end after every schedule")?;
+    push_counted(&mut text, extent)?;
+    text.push_str("; of those in which each that runs steps again and again nothing was ")?;
     Ok(text)
 }
 
 /// They can always end; whether they do isn't known.
-pub fn can_end_line(
-    alloc: Global,
-    is_merged: bool,
-    lines: usize,
-    asked: MustStop,
-    states: u32,
-) -> Result<String, AllocError>
-    ensures { IfOk result (λ line. string_bytes line ≡ can_end_line is_merged lines asked states) }
+pub fn can_end_line(alloc: Global, asked: MustStop, extent: Extent) -> Result<String, AllocError>
+    ensures { IfOk result (λ line. string_bytes line ≡ can_end_line extent.is_merged extent.lines asked extent.states) }
 {
     if is_nobody(asked) {
-        return ends_line(alloc, is_merged, lines, asked, states);
+        return ends_line(alloc, asked, extent);
     }
-    let mut line = can_end_text(alloc, is_merged, lines, asked, states)?;
-    line.push_str(either(is_merged, "asked", "found out"))?;
-    line.push_str("\n")?;
+    let mut line = can_end_text(alloc, asked, extent)?;
+    line.push_str(either(extent.is_merged, "asked", "found out"))?;
     Ok(line)
 }
 
@@ -172,14 +152,28 @@ pub fn half_line(
     lines: usize,
     asked: MustStop,
     states: u32,
-    limit: u32,
+    others: u32,
 ) -> Result<String, AllocError>
-    ensures { IfOk result (λ line. string_bytes line ≡ half_line lines asked states limit) }
+    ensures { IfOk result (λ line. string_bytes line ≡ half_line lines asked states others) }
 {
-    let mut line = can_end_text(alloc, true, lines, asked, states)?;
+    let extent = Extent {
+        lines,
+        is_merged: true,
+        states,
+    };
+    let mut line = can_end_text(alloc, asked, extent)?;
     line.push_str("found out: ")?;
-    push_more(&mut line, false, limit)?;
-    line.push_str("\ntry a larger --limit, or fewer processes or rounds\n")?;
+    push_more(&mut line, false, others)?;
+    Ok(line)
+}
+
+/// What may help where single steps met a limit.
+pub fn half_next(alloc: Global, limits: Limits, others: u32) -> Result<String, AllocError>
+    ensures { IfOk result (λ line. string_bytes line ≡ half_next limits others) }
+{
+    let mut line = String::from_str(alloc, "try ")?;
+    line.push_str(larger(limits, others))?;
+    line.push_str(", or fewer processes or rounds\n")?;
     Ok(line)
 }
 

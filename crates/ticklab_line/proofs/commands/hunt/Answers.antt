@@ -12,9 +12,8 @@ returns c =
     (c.option-3.ensures.0 ∙ ap (number_rule _) c.value_parser-3.ensures, c.option-3.ensures.1) in
     let steps = c.taking-hunt-4.ensures _ _ from
     (c.option-4.ensures.0 ∙ ap (number_rule _) c.length.ensures, c.option-4.ensures.1) in
-    let jobs = c.taking-hunt-5.ensures _ _ steps
-    (c.option-5.ensures.0 ∙ ap (number_rule _) c.jobs.ensures, c.option-5.ensures.1) in
-    let uniform = c.taking-hunt-6.ensures _ _ jobs c.flag.ensures in
-    let never = c.taking-hunt-7.ensures _ _ uniform c.repeated.ensures in
+    let jobs = c.taking-hunt-5.ensures _ _ steps c.jobs.ensures in
+    let never = c.taking-hunt-7.ensures _ _ (c.taking-hunt-6.ensures _ _ jobs c.flag.ensures) c.repeated.ensures in
     let schedule = c.taking-hunt-8.ensures _ _ never c.schedule_only.ensures in
-    c.taking.ensures _ _ schedule c.threads.ensures
+    let json = c.taking-hunt-9.ensures _ _ schedule c.json.ensures in
+    c.taking.ensures _ _ json c.threads.ensures

@@ -16,7 +16,17 @@ returns c = record {
   alone_of_a_hunt = refl;
   whole = refl;
   whole_of_a_trace = refl;
+  json = refl;
+  json_of_a_hunt = refl;
+  json_of_explore = refl;
+  json_of_ends = refl;
+  json_of_a_check = refl;
+  json_of_explain = refl;
+  whole_of_explain = refl;
+  whole_of_a_check = refl;
   merged_single = (refl, refl);
   single_merged = (refl, refl);
+  json_schedule = (refl, refl);
+  schedule_json = (refl, refl);
   all = refl;
 }

@@ -1,8 +1,6 @@
-use Rattle.std.proofs.lemmas.Result.{IfOk-weaker}
 use Rattle.tick_kinds.specs.Resolution.{resolved}
 use Rattle.searches_explore.specs.Lines.{lines_of}
-use Rattle.searches_hunt.specs.prover.Parts.{IsFaultOf}
-use Rattle.searches_hunt.proofs.Left.{fault_again, fault_all}
+use Rattle.searches_hunt.proofs.Left.{fault_again, fault_all, fault_once_more}
 use Rattle.searches_hunt.proofs.shrinking.Shrinker.of_each.Goals as goal
 
 pub loop-p-init : goal.loop-p-init
@@ -14,9 +12,4 @@ loop-p-preserved c =
 
 pub returns : goal.returns
 returns c =
-    let a = resolved c.args.self.now.program.now in
-    let lines = lines_of c.args.self.now.lines.now in
-    let whole = c.args.schedule.items in
-    let kept = c.loop-p.kept.items in
-    IfOk-weaker c.without_pieces-2.result (λ s. IsFaultOf a lines kept s.items) (λ s. IsFaultOf a lines whole s.items)
-    (λ s of_kept. fault_again a lines whole kept s.items c.loop-p.invariant of_kept) c.without_pieces-2.ensures
+    fault_once_more (resolved c.args.self.now.program.now) (lines_of c.args.self.now.lines.now) c.args.schedule.items c.loop-p.kept.items c.without_pieces-2.result c.loop-p.invariant c.without_pieces-2.ensures

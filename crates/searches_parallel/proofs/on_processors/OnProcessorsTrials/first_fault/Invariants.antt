@@ -10,7 +10,7 @@ abbrev pub invariant-rounds : goal.invariant-rounds
 invariant-rounds g l = record {
   begun : l.from ≤ l.next;
   inside : l.next ≤ l.end;
-  none : (run : ℕ) → l.from ≤ run → run < l.next → IsFaultless (resolved l.program) (lines_of l.lines) (random_schedule l.plan (resolved l.program).processes run);
+  none : (run : ℕ) → l.from ≤ run → run < l.next → IsFaultless (resolved l.sought.program.now) (lines_of l.sought.lines.now) (random_schedule l.plan (resolved l.sought.program.now).processes run);
   some : 0 < l.most;
   few : l.most ≤ 4096 * l.threads;
 }

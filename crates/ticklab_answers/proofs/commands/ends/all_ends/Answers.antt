@@ -1,4 +1,4 @@
-use Rattle.std.proofs.Common.{◌≡◌, ℕ, List, map, refl, subst}
+use Rattle.std.proofs.Common.{◌≡◌, ℕ, List, [], map, refl, subst}
 use Rattle.language_questions.specs.Lines.{asked_of}
 use Rattle.searches_explore.specs.Lines.{lines_of}
 use Rattle.ticklab_answers.specs.Asking.{IsFileRefused, TellsOption, lines_in, place_of, places_by, texts_of}
@@ -50,9 +50,11 @@ returns-clause-ok g c =
     let asked = asked_of c.in_ok-spelled.questions in
     let held = c.in_ok-lines.lines in
     let there = subst (λ n. IsThere n c.args.process) c.processes.ensures.count c.in_ok-asked.ensures.there in
-    ends_moved (hearing g.W.Progress.begins g.W.Watch.hears) _ _ c.args.steps input p (lines_of held.properties.items) (map place_of held.places.items) (places_by name input asked texts)
-    c.in_ok-asked.asked (asked_by asked.ends c.args.process) c.args.limit c.in_ok-ends_found.field-0
-    (IsEndsExplored c.args.steps name texts c.args.process c.args.limit input c.in_ok-ends_found.field-0)
+    ends_moved (hearing g.W.Progress.begins g.W.Watch.hears) _ _ c.args.steps
+    (record { input = input; program = p; lines = lines_of held.properties.items; places = []; form = c.args.form })
+    (map place_of held.places.items) (places_by name input asked texts)
+    c.in_ok-asked.asked (asked_by asked.ends c.args.process) c.args.limits c.in_ok-ends_found.field-0
+    (IsEndsExplored c.args.steps name texts c.args.process c.args.limits c.args.form input c.in_ok-ends_found.field-0)
     c.in_ok-lines.ensures.places c.in_ok-asked.ensures.asked
     (λ heard found. explored (record {
       file = record { program = p; is = c.in_ok-spelled.ensures.spelled.0; asked = asked; asks = c.in_ok-spelled.ensures.questions };

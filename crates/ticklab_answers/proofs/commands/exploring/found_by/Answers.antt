@@ -1,5 +1,3 @@
-use Rattle.std.proofs.Common.{map}
-use Rattle.ticklab_answers.specs.Asking.{place_of}
 use Rattle.ticklab_answers.specs.Hearing.{hearing}
 use Rattle.ticklab_answers.proofs.Breaks.{then_ok}
 use Rattle.ticklab_answers.proofs.Searched.{found_as}
@@ -7,7 +5,5 @@ use Rattle.ticklab_answers.proofs.commands.exploring.found_by.Goals as goal
 
 pub returns : goal.returns
 returns g c =
-    let held = c.args.lines.now in
-    then_ok c.shown.result (λ x shows. found_as c.args.input.now c.args.spelled.now.program held.properties.items (map place_of held.places.items)
-    c.args.limit (hearing g.W.Progress.begins g.W.Watch.hears) _ _ c.args.is_merged c.in_ok-explored.explored x c.in_ok-explored.ensures shows)
+    then_ok c.shown.result (λ x shows. found_as c.args.task.now.search c.args.task.now.limits (hearing g.W.Progress.begins g.W.Watch.hears) _ _ c.args.is_merged c.in_ok-explored.explored x c.in_ok-explored.ensures shows)
     c.shown.ensures

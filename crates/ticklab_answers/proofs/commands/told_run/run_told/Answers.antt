@@ -33,7 +33,7 @@ returns-in_err-within_a_page-clause-refused c =
 pub returns-in_err-out-clause-refused : goal.returns-in_err-out-clause-refused
 returns-in_err-out-clause-refused c =
     code_unrun c.in-Ok.ensures.asks (plain_telling c.args.telling.now) c.args.from.now c.args.schedule.now c.args.side c.processes.result c.processes.ensures.count
-    c.from_residual-in_err-out.result _ c.from_residual-in_err-out.ensures.1 c.is_of_code-is_code.result c.is_of_code-is_code.ensures
+    c.from_residual-in_err-out.result _ c.from_residual-in_err-out.ensures.1 c.is_of_code.result c.is_of_code.ensures
     c.in_ok-given.given.items c.in_ok-given.ensures.ok c.in_err-out.ensures.refused
 
 pub returns-clause-ok : goal.returns-clause-ok
@@ -57,6 +57,6 @@ returns-clause-ok c =
           (c.as_slice-steps.ensures.value ∙ c.in_ok-steps.ensures.ok) out _ (ap (λ out. out.items) c.output.ensures.out) (
             c.in_ok-within_a_page.ensures.ok,
             subst (λ (places : List TextPlace). IsToldWith telling (is_of_code side) name lines places input p steps out) known.stand
-                (subst (λ (is_code : Bool). IsToldWith telling is_code name lines places input p steps out) c.is_of_code-is_code.ensures c.in_ok-out.ensures.ok),
+                (subst (λ (is_code : Bool). IsToldWith telling is_code name lines places input p steps out) c.is_of_code.ensures c.in_ok-out.ensures.ok),
           );
     }

@@ -10,14 +10,16 @@ returns-in-Trace-clause-ok c = rw c.in-Trace.is c.trace_of.ensures.ok
 
 pub returns-in-Page-clause-ok : goal.returns-in-Page-clause-ok
 returns-in-Page-clause-ok c =
-    let lines = c.args.asked.now.lines in
+    let s = c.args.subject.now in
+    let asked = s.asked.now in
     rw c.in-Page.is
-    (subst (λ (title : List ℕ). IfOk c.page_of.result (λ out. IsPage title c.args.is_code (lines_of lines.properties.items) (map place_of lines.places.items) c.args.input.now c.args.asked.now.spelled.program c.args.schedule.now out.items))
-    c.title_of.ensures c.page_of.ensures.ok)
+    (subst (λ (title : List ℕ). IfOk c.page_of.result (λ out. IsPage title s.is_code (lines_of asked.lines.properties.items) (map place_of asked.lines.places.items) s.input.now asked.spelled.program c.args.schedule.now out.items))
+    c.title_of-title.ensures c.page_of.ensures.ok)
 
 pub returns-in-Picture-clause-ok : goal.returns-in-Picture-clause-ok
 returns-in-Picture-clause-ok c =
-    let lines = c.args.asked.now.lines in
+    let s = c.args.subject.now in
+    let asked = s.asked.now in
     rw c.in-Picture.is
-    (pictured_as c.picture_of.result _ _ _ _ c.args.is_code (lines_of lines.properties.items) (map place_of lines.places.items) c.args.asked.now.spelled.program
-    _ _ c.title_of-in-Picture.ensures c.look_of.ensures c.steps_to.ensures c.picture_of.ensures.ok)
+    (pictured_as c.picture_of.result _ _ _ _ s.is_code (lines_of asked.lines.properties.items) (map place_of asked.lines.places.items) asked.spelled.program
+    _ _ c.title_of-title-in-Picture.ensures c.look_of.ensures c.steps_to-schedule.ensures c.picture_of.ensures.ok)

@@ -1,0 +1,206 @@
+//! Limits of memory: a search stops where it holds more bytes, and is as without a limit where it holds no more.
+
+use super::watching::Told;
+use crate::examples::TWO_TICKETS;
+use searches_explore::{
+    EndExplored, Explored, Limits, MustStop, NoMemory, explore, explore_ends, explore_ends_merged,
+    explore_merged,
+};
+use std::alloc::Global;
+use std::test::Fail;
+use tests_shared::{accepted, holds, is_same};
+use tick_kinds::Program;
+
+// A process is before its test with each number up to 12, before its assignment with each up to 11, has nothing left, or
+// has ended: 27 states, so three have 27 * 27 * 27.
+static COUNTING: &str = "\
+processes 3;
+var x;
+begin
+  while (x < 12) { x = (x + 1); }
+end
+";
+
+// Between merged steps a process stands at its start, before its `clear` with each number from 1 to 24, or at its end:
+// 26 states, so three have 26 * 26 * 26.
+static CLEARING: &str = "\
+processes 3;
+var x;
+begin
+  while (x < 24) { x = (x + 1); clear; }
+end
+";
+
+/// How a program is searched.
+#[derive(Clone, Copy, PartialEq, Debug)]
+enum Kind {
+    Single,
+    Merged,
+    Ends,
+    EndsMerged,
+}
+
+// How many states are told, and whether these are all.
+fn number(explored: &Explored) -> (u32, bool) {
+    match explored {
+        Explored::Safe { states } => (*states, true),
+        Explored::Limit { states } => (*states, false),
+        Explored::Trapped(..) => (0, true),
+    }
+}
+
+fn number_of_ends(explored: &EndExplored) -> (u32, bool) {
+    match explored {
+        EndExplored::Ends { states } | EndExplored::CanEnd { states } => (*states, true),
+        EndExplored::Limit { states } => (*states, false),
+        _ => (0, true),
+    }
+}
+
+fn found(
+    alloc: Global,
+    program: &Program,
+    kind: Kind,
+    limits: Limits,
+    watch: &mut Told,
+) -> Result<(u32, bool), NoMemory> {
+    let all = MustStop::All;
+    Ok(match kind {
+        Kind::Single => number(&explore(alloc, program, limits, watch)?),
+        Kind::Merged => number(&explore_merged(alloc, program, limits, watch)?),
+        Kind::Ends => number_of_ends(&explore_ends(alloc, program, &[], all, limits, watch)?),
+        Kind::EndsMerged => {
+            number_of_ends(&explore_ends_merged(alloc, program, &[], all, limits, watch)?)
+        }
+    })
+}
+
+// What is found, and what a watch is told, within so many bytes.
+fn within(
+    alloc: Global,
+    program: &Program,
+    kind: Kind,
+    bytes: u64,
+) -> Result<((u32, bool), Told), Fail> {
+    let mut watch = Told::nothing();
+    let limits = Limits {
+        states: u32::MAX,
+        bytes,
+    };
+    let answer = found(alloc, program, kind, limits, &mut watch)?;
+    Ok((answer, watch))
+}
+
+// A search of this kind.
+#[derive(Clone, Copy, Debug)]
+struct Search {
+    kind: Kind,
+    text: &'static str,
+    /// How many states there are, and how many bytes one takes at least: of all together less than twice as many.
+    states: u32,
+    each: u32,
+}
+
+// Within as many bytes as it holds without a limit it answers the same, within half as many it stops.
+fn is_limited(alloc: Global, search: Search) -> Result<(), Fail> {
+    let Search {
+        kind,
+        text,
+        states,
+        each,
+    } = search;
+    let program = accepted(alloc, text)?;
+    let (answer, ample) = within(alloc, &program, kind, u64::MAX)?;
+    is_same(&answer, &(states, true))?;
+    is_same(
+        &(ample.states, ample.gone, ample.is_more),
+        &(states, states, true),
+    )?;
+    let least = u64::from(states) * u64::from(each);
+    holds(
+        ample.bytes >= least && ample.bytes / 2 < least,
+        (kind, ample.bytes),
+    )?;
+    let (answer, enough) = within(alloc, &program, kind, ample.bytes)?;
+    is_same(&answer, &(states, true))?;
+    is_same(&enough.bytes, &ample.bytes)?;
+    let half = ample.bytes / 2;
+    let (answer, few) = within(alloc, &program, kind, half)?;
+    is_same(&(answer.1, few.is_more), &(false, true))?;
+    is_same(&few.states, &answer.0)?;
+    holds(answer.0 < states && answer.0 > states / 4, (kind, answer.0))?;
+    holds(
+        few.bytes > half && few.bytes - half < 200_000,
+        (kind, few.bytes),
+    )
+}
+
+#[test]
+fn single_steps(rt: HostRuntime) -> Result<(), Fail> {
+    is_limited(
+        rt.alloc(),
+        Search {
+            kind: Kind::Single,
+            text: COUNTING,
+            states: 19_683,
+            each: 26,
+        },
+    )
+}
+
+#[test]
+fn merged_steps(rt: HostRuntime) -> Result<(), Fail> {
+    is_limited(
+        rt.alloc(),
+        Search {
+            kind: Kind::Merged,
+            text: CLEARING,
+            states: 17_576,
+            each: 26,
+        },
+    )
+}
+
+// Each step is kept too.
+#[test]
+fn ends(rt: HostRuntime) -> Result<(), Fail> {
+    is_limited(
+        rt.alloc(),
+        Search {
+            kind: Kind::Ends,
+            text: COUNTING,
+            states: 19_683,
+            each: 38,
+        },
+    )
+}
+
+#[test]
+fn ends_by_merged_steps(rt: HostRuntime) -> Result<(), Fail> {
+    is_limited(
+        rt.alloc(),
+        Search {
+            kind: Kind::EndsMerged,
+            text: CLEARING,
+            states: 17_576,
+            each: 38,
+        },
+    )
+}
+
+// The end is told at a limit of states too, and where no state is seen.
+#[test]
+fn limits_of_states(rt: HostRuntime) -> Result<(), Fail> {
+    let program = accepted(rt.alloc(), TWO_TICKETS)?;
+    for states in [0, 1, 100] {
+        let mut watch = Told::nothing();
+        let limits = Limits::of_states(states);
+        let answer = found(rt.alloc(), &program, Kind::Single, limits, &mut watch)?;
+        is_same(&answer, &(states, false))?;
+        is_same(
+            &(watch.times, watch.states, watch.is_more),
+            &(1, states, true),
+        )?;
+    }
+    Ok(())
+}

@@ -1,4 +1,0 @@
-use Rattle.ticklab_answers.proofs.commands.paging.paged.Goals as goal
-
-pub returns-clause-ok : goal.returns-clause-ok
-returns-clause-ok g c = c.told.ensures.ok

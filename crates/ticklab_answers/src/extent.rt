@@ -1,0 +1,25 @@
+ghost use Rattle.std.specs.Prelude.{◌≡◌, length};
+
+use crate::search::Search;
+
+/// How far a program was explored where no schedule is shown.
+#[derive(Clone, Copy)]
+pub struct Extent {
+    /// How many lines must never hold, of which none breaks.
+    pub lines: usize,
+    /// Whether the states are those between merged steps.
+    pub is_merged: bool,
+    /// How many states there are, or more than how many.
+    pub states: u32,
+}
+
+/// So many states of a program.
+pub fn extent_of(search: &Search<'_, '_>, is_merged: bool, states: u32) -> Extent
+    ensures { result ≡ record { lines = length search.now.lines.now.places.items; is_merged = is_merged; states = states } }
+{
+    Extent {
+        lines: search.lines.places.len(),
+        is_merged,
+        states,
+    }
+}

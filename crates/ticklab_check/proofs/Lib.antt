@@ -1,0 +1,4 @@
+pub mod Finding
+pub mod Listing
+pub mod Offered
+pub mod Settling

@@ -1,0 +1,4 @@
+pub mod Checking
+pub mod Comparing
+pub mod Wording
+pub mod prover

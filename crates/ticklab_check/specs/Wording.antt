@@ -1,0 +1,113 @@
+-- What is told of files, line by line, and the exit status.
+use Rattle.std.specs.Prelude.{◌≡◌, ◌+◌, ◌/◌, ◌%◌, ◌==◌, ◌++◌, ℕ, List, [], ◌∷◌, codes, if◌then◌else◌, string_bytes}
+use Rattle.std.specs.List.{AllZip, flat_map, zip}
+use Rattle.std.specs.Fmt.{decimal}
+use Rattle.language_questions.specs.declared.questions.Expected.{Expected}
+use Rattle.language_questions.specs.declared.questions.Expected.TheVariants as X
+use Rattle.searches_states.specs.declared.limits.Limits.{Limits}
+use Rattle.ticklab_check.specs.Checking.{SourceComesTo}
+use Rattle.ticklab_check.specs.Comparing.{compared, verdict_of}
+use Rattle.ticklab_check.specs.declared.checked.Checked.{Checked}
+use Rattle.ticklab_check.specs.declared.checked.Checked.TheVariants as C
+use Rattle.ticklab_check.specs.declared.checked.Timed.{Timed}
+use Rattle.ticklab_check.specs.declared.checked.Verdict.{Verdict}
+use Rattle.ticklab_check.specs.declared.checked.Verdict.TheVariants as V
+use Rattle.ticklab_check.specs.declared.found.Found.{Found}
+use Rattle.ticklab_check.specs.declared.found.Found.TheVariants as F
+use Rattle.ticklab_check.specs.declared.reporting.Findings.{Findings}
+use Rattle.ticklab_check.specs.declared.source.Source.{Source}
+use Rattle.ticklab_check.specs.declared.tally.Tally.{Tally}
+
+abbrev pub found_text : Found → List ℕ
+found_text (F.Safe states) = codes "safe"
+found_text (F.Ends states) = codes "safe"
+found_text F.Trap = codes "trap"
+found_text F.Never = codes "broken #! never line"
+found_text (F.Stuck states) = codes "stuck"
+found_text (F.Endless states) = codes "endless"
+found_text (F.Unsettled states) = codes "limit, whether all end was not found out"
+found_text (F.Limit states) = codes "limit"
+
+-- the word behind `#! expect`
+abbrev pub expected_text : Expected → List ℕ
+expected_text X.Safe = codes "safe"
+expected_text X.Trap = codes "trap"
+expected_text X.Never = codes "never"
+expected_text X.Stuck = codes "stuck"
+
+-- how it compares with what was expected: of a safe program that was expected to be safe nothing is said
+abbrev pub verdict_text : Verdict → Expected → List ℕ
+verdict_text V.AsExpected X.Safe = []
+verdict_text V.AsExpected expected = codes ", as expected"
+verdict_text V.Otherwise expected = codes ", but " ++ expected_text expected ++ codes " was expected"
+verdict_text V.Limit expected = []
+
+abbrev pub count_text : ℕ → List ℕ
+count_text states = decimal states ++ (if states == 1 then codes " state" else codes " states")
+
+abbrev pub merged_text : ℕ → List ℕ
+merged_text states = decimal states ++ (if states == 1 then codes " merged state" else codes " merged states")
+
+-- how many states there are, where that is known
+abbrev pub states_text : Found → List ℕ
+states_text (F.Safe states) = codes ", " ++ merged_text states
+states_text (F.Ends states) = codes ", " ++ count_text states
+states_text F.Trap = []
+states_text F.Never = []
+states_text (F.Stuck states) = codes ", " ++ merged_text states
+states_text (F.Endless states) = codes ", " ++ count_text states
+states_text (F.Unsettled states) = codes ", " ++ merged_text states
+states_text (F.Limit states) = codes ", more than " ++ merged_text states
+
+-- hundredths of a second, as seconds
+abbrev pub seconds_text : ℕ → List ℕ
+seconds_text hundredths =
+    decimal (hundredths / 100) ++ codes "." ++ decimal (hundredths / 10 % 10) ++ decimal (hundredths % 10) ++ codes " s\n"
+
+abbrev pub searched_line : Found → Expected → ℕ → List ℕ
+searched_line found expected hundredths =
+    found_text found ++ verdict_text (compared found expected) expected ++ states_text found ++ codes ", " ++ seconds_text hundredths
+
+-- behind the name of a file; the report of a refused one stands below it
+abbrev pub checked_text : Checked → ℕ → List ℕ
+checked_text (C.Refused report) hundredths = codes ": refused\n" ++ report.items
+checked_text (C.Searched found expected) hundredths = codes ": " ++ searched_line found expected hundredths
+
+abbrev pub file_text : Source → Timed → List ℕ
+file_text source timed = string_bytes source.name ++ checked_text timed.checked timed.hundredths
+
+-- the lines of all files, in order
+abbrev pub files_text : List Source → List Timed → List ℕ
+files_text sources timed = flat_map (λ file. file_text file.0 file.1) (zip sources timed)
+
+-- how many files there are of each verdict
+abbrev pub counted : Verdict → Tally → Tally
+counted V.AsExpected t = record t { as_expected = t.as_expected + 1 }
+counted V.Otherwise t = record t { otherwise = t.otherwise + 1 }
+counted V.Limit t = record t { limit = t.limit + 1 }
+
+-- with these after others
+unfoldable pub tallied : Tally → List Timed → Tally
+tallied t [] = t
+tallied t (timed ∷ more) = tallied (counted (verdict_of timed.checked) t) more
+
+abbrev pub tally_of : List Timed → Tally
+tally_of files = tallied (record { as_expected = 0; otherwise = 0; limit = 0 }) files
+
+abbrev pub tally_text : Tally → List ℕ
+tally_text t =
+    decimal t.as_expected ++ codes " as expected, " ++ decimal t.otherwise ++ codes " not, " ++ decimal t.limit ++ codes " at the limit\n"
+
+-- what isn't as expected counts more than the limit
+abbrev pub status_of : Tally → ℕ
+status_of t = if t.otherwise == 0 then (if t.limit == 0 then 0 else 6) else 5
+
+-- what is told of these files
+abbrev pub findings_text : List Source → Findings → List ℕ
+findings_text sources f = files_text sources f.files.items ++ tally_text f.tally
+
+-- Each file comes to what is found, in the order of the files, after however long a time; and so many there are of each
+-- verdict.
+pub record AreFindings (limits : Limits) (sources : List Source) (f : Findings) : Type 0 where
+  pub come : AllZip (λ source timed. SourceComesTo limits source timed.checked) sources f.files.items
+  pub tally : f.tally ≡ tally_of f.files.items

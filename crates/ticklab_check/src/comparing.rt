@@ -1,0 +1,44 @@
+// Whether what is found is what was expected.
+ghost use Rattle.std.specs.Prelude.{◌≡◌};
+ghost use Rattle.ticklab_check.specs.Checking.{expected_of};
+ghost use Rattle.ticklab_check.specs.Comparing.{compared, verdict_of};
+
+use crate::checked::{Checked, Verdict};
+use crate::found::Found;
+use language_questions::Expected;
+
+/// What is expected of a file that says this of it.
+pub fn expected_of(said: Option<Expected>) -> Expected
+    ensures { result ≡ expected_of said }
+{
+    match said {
+        Some(expected) => expected,
+        None => Expected::Safe,
+    }
+}
+
+/// How this compares with what was expected.
+pub fn compared(found: Found, expected: Expected) -> Verdict
+    ensures { result ≡ compared found expected }
+{
+    match (found, expected) {
+        (Found::Limit { .. }, _) => Verdict::Limit,
+        (Found::Unsettled { .. }, _) => Verdict::Limit,
+        (Found::Safe { .. }, Expected::Safe)
+        | (Found::Ends { .. }, Expected::Safe)
+        | (Found::Trap, Expected::Trap)
+        | (Found::Never, Expected::Never)
+        | (Found::Stuck { .. }, Expected::Stuck)
+        | (Found::Endless { .. }, Expected::Stuck) => Verdict::AsExpected,
+        _ => Verdict::Otherwise,
+    }
+}
+
+pub fn verdict_of(checked: &Checked) -> Verdict
+    ensures { result ≡ verdict_of checked.now }
+{
+    match checked {
+        Checked::Refused(_) => Verdict::Otherwise,
+        Checked::Searched { found, expected } => compared(*found, *expected),
+    }
+}

@@ -1,0 +1,173 @@
+// Adds what is told of files to a text.
+ghost use Rattle.std.specs.Prelude.{◌≡◌, ◌++◌, ◌==◌, OnOk, length, string_bytes};
+ghost use Rattle.std.specs.Fmt.{decimal};
+ghost use Rattle.ticklab_check.specs.Wording.{checked_text, count_text, expected_text, file_text, files_text, found_text, merged_text, searched_line, seconds_text, states_text, tally_text, verdict_text};
+
+use crate::checked::{Checked, Timed, Verdict};
+use crate::comparing::compared;
+use crate::found::Found;
+use crate::source::Source;
+use crate::tally::Tally;
+use itoa::Buffer;
+use language_questions::Expected;
+use std::alloc::AllocError;
+
+type Added = Result<(), AllocError>;
+
+/// Adds the lines of files.
+pub fn push_files(text: &mut Vec<u8>, sources: &[Source], files: &[Timed]) -> Added
+    requires { length sources.now ≡ length files.now }
+    ensures { OnOk result (text.new.items ≡ text.old.items ++ files_text sources.now files.now) }
+{
+    for (place, timed) in files.iter().enumerate() {
+        push_file(text, &sources[place], timed)?;
+    }
+    Ok(())
+}
+
+fn push_file(text: &mut Vec<u8>, source: &Source, timed: &Timed) -> Added
+    ensures { OnOk result (text.new.items ≡ text.old.items ++ file_text source.now timed.now) }
+{
+    push(text, source.name.as_str())?;
+    push_checked(text, &timed.checked, timed.hundredths)
+}
+
+fn push_checked(text: &mut Vec<u8>, checked: &Checked, hundredths: u64) -> Added
+    ensures { OnOk result (text.new.items ≡ text.old.items ++ checked_text checked.now hundredths) }
+{
+    match checked {
+        Checked::Refused(report) => {
+            push(text, ": refused\n")?;
+            text.extend_from_slice(report.as_slice())
+        }
+        Checked::Searched { found, expected } => {
+            push(text, ": ")?;
+            push_searched(text, *found, *expected, hundredths)
+        }
+    }
+}
+
+fn push_searched(text: &mut Vec<u8>, found: Found, expected: Expected, hundredths: u64) -> Added
+    ensures { OnOk result (text.new.items ≡ text.old.items ++ searched_line found expected hundredths) }
+{
+    push(text, found_text(found))?;
+    push_verdict(text, compared(found, expected), expected)?;
+    push_states(text, found)?;
+    push(text, ", ")?;
+    push_seconds(text, hundredths)
+}
+
+fn found_text(found: Found) -> &'static str
+    ensures { result.now ≡ found_text found }
+{
+    match found {
+        Found::Safe { .. } | Found::Ends { .. } => "safe",
+        Found::Trap => "trap",
+        Found::Never => "broken #! never line",
+        Found::Stuck { .. } => "stuck",
+        Found::Endless { .. } => "endless",
+        Found::Unsettled { .. } => "limit, whether all end was not found out",
+        Found::Limit { .. } => "limit",
+    }
+}
+
+fn push_verdict(text: &mut Vec<u8>, verdict: Verdict, expected: Expected) -> Added
+    ensures { OnOk result (text.new.items ≡ text.old.items ++ verdict_text verdict expected) }
+{
+    match (verdict, expected) {
+        (Verdict::AsExpected, Expected::Safe) | (Verdict::Limit, _) => Ok(()),
+        (Verdict::AsExpected, _) => push(text, ", as expected"),
+        (Verdict::Otherwise, _) => {
+            push(text, ", but ")?;
+            push(text, expected_text(expected))?;
+            push(text, " was expected")
+        }
+    }
+}
+
+/// The word behind `#! expect` that says this.
+pub fn expected_text(expected: Expected) -> &'static str
+    ensures { result.now ≡ expected_text expected }
+{
+    match expected {
+        Expected::Safe => "safe",
+        Expected::Trap => "trap",
+        Expected::Never => "never",
+        Expected::Stuck => "stuck",
+    }
+}
+
+fn push_states(text: &mut Vec<u8>, found: Found) -> Added
+    ensures { OnOk result (text.new.items ≡ text.old.items ++ states_text found) }
+{
+    match found {
+        Found::Trap | Found::Never => Ok(()),
+        Found::Safe { states } | Found::Stuck { states } | Found::Unsettled { states } => {
+            push(text, ", ")?;
+            push_merged(text, states)
+        }
+        Found::Ends { states } | Found::Endless { states } => {
+            push(text, ", ")?;
+            push_count(text, states)
+        }
+        Found::Limit { states } => {
+            push(text, ", more than ")?;
+            push_merged(text, states)
+        }
+    }
+}
+
+fn push_count(text: &mut Vec<u8>, states: u32) -> Added
+    ensures { OnOk result (text.new.items ≡ text.old.items ++ count_text states) }
+{
+    push_decimal(text, u64::from(states))?;
+    push(text, if states == 1 { " state" } else { " states" })
+}
+
+fn push_merged(text: &mut Vec<u8>, states: u32) -> Added
+    ensures { OnOk result (text.new.items ≡ text.old.items ++ merged_text states) }
+{
+    push_decimal(text, u64::from(states))?;
+    push(
+        text,
+        if states == 1 {
+            " merged state"
+        } else {
+            " merged states"
+        },
+    )
+}
+
+fn push_seconds(text: &mut Vec<u8>, hundredths: u64) -> Added
+    ensures { OnOk result (text.new.items ≡ text.old.items ++ seconds_text hundredths) }
+{
+    push_decimal(text, hundredths / 100)?;
+    push(text, ".")?;
+    push_decimal(text, hundredths / 10 % 10)?;
+    push_decimal(text, hundredths % 10)?;
+    push(text, " s\n")
+}
+
+/// Adds the last line.
+pub fn push_tally(text: &mut Vec<u8>, tally: Tally) -> Added
+    ensures { OnOk result (text.new.items ≡ text.old.items ++ tally_text tally) }
+{
+    push_decimal(text, tally.as_expected)?;
+    push(text, " as expected, ")?;
+    push_decimal(text, tally.otherwise)?;
+    push(text, " not, ")?;
+    push_decimal(text, tally.limit)?;
+    push(text, " at the limit\n")
+}
+
+fn push(text: &mut Vec<u8>, more: &str) -> Added
+    ensures { OnOk result (text.new.items ≡ text.old.items ++ more.now) }
+{
+    text.extend_from_slice(more.as_bytes())
+}
+
+fn push_decimal(text: &mut Vec<u8>, number: u64) -> Added
+    ensures { OnOk result (text.new.items ≡ text.old.items ++ decimal number) }
+{
+    push(text, Buffer::new().format(number))
+}

@@ -1,0 +1,69 @@
+//! The order of the processes, as a list of ranks.
+ghost use Rattle.std.specs.Prelude.{◌≡◌, ◌<◌, IfOk, length, map, option_map};
+ghost use Rattle.serde_json.specs.View.{view};
+ghost use Rattle.ticklab_json.specs.Steps.{label_order, rank_data, ticket_order};
+ghost use Rattle.ticklab_trace.specs.TraceText.{label_rank, ticket_rank};
+
+use serde_json::Value;
+use std::alloc::{AllocError, Global};
+use ticket_core::Tickets;
+use word_core::LabelWord;
+
+/// By these tickets, where there are some.
+pub fn ticket_order(alloc: Global, tickets: Option<Tickets>) -> Result<Option<Value>, AllocError>
+    ensures { IfOk result (λ found. option_map view found ≡ option_map ticket_order tickets) }
+{
+    let Some(tickets) = tickets else {
+        return Ok(None);
+    };
+    let mut ranks = Vec::new(alloc);
+    for i in 0..tickets.count() {
+        ranks.push(rank_value(ticket_rank(&tickets, i)))?;
+    }
+    Ok(Some(Value::Array(ranks)))
+}
+
+/// By these labels, where there are some.
+pub fn label_order(alloc: Global, labels: Option<LabelWord>) -> Result<Option<Value>, AllocError>
+    ensures { IfOk result (λ found. option_map view found ≡ option_map label_order labels) }
+{
+    let Some(labels) = labels else {
+        return Ok(None);
+    };
+    let mut ranks = Vec::new(alloc);
+    for i in 0..labels.n() {
+        ranks.push(rank_value(label_rank(&labels, i)))?;
+    }
+    Ok(Some(Value::Array(ranks)))
+}
+
+fn rank_value(rank: Option<u8>) -> Value
+    ensures { view result ≡ rank_data rank }
+{
+    match rank {
+        Some(rank) => Value::from(rank),
+        None => Value::Null,
+    }
+}
+
+fn ticket_rank(tickets: &Tickets, i: u8) -> Option<u8>
+    requires { i < length tickets.now }
+    ensures { result ≡ ticket_rank tickets.now i }
+{
+    if tickets.held(i) {
+        Some(tickets.ranks()[usize::from(i)])
+    } else {
+        None
+    }
+}
+
+fn label_rank(labels: &LabelWord, i: u8) -> Option<u8>
+    requires { i < length labels.now }
+    ensures { result ≡ label_rank labels.now i }
+{
+    if labels.held(i) {
+        Some(labels.rank(i))
+    } else {
+        None
+    }
+}
