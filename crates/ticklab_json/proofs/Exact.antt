@@ -17,6 +17,7 @@ use Rattle.serde_json.specs.Data.{Data, boolean, string, array, Members, no_memb
 use Rattle.serde_json.specs.View.{items_of}
 use Rattle.serde_json.specs.Written.{has_float, items_have_float, members_have_float}
 use Rattle.ticklab_check.specs.Wording.{expected_text}
+use Rattle.ticklab_check.specs.Words.{states_of}
 use Rattle.ticklab_check.specs.declared.checked.Checked.{Checked}
 use Rattle.ticklab_check.specs.declared.checked.Checked.TheVariants as C
 use Rattle.ticklab_check.specs.declared.reporting.Findings.{Findings}
@@ -25,7 +26,7 @@ use Rattle.ticklab_trace.specs.Places.{Standing}
 use Rattle.ticklab_trace.specs.TraceText.{label_rank, ticket_rank}
 use Rattle.ticklab_trace.specs.declared.steps.StatementStep.{StatementStep}
 use Rattle.ticklab_trace.specs.declared.steps.InstructionStep.{InstructionStep}
-use Rattle.ticklab_json.specs.Checks.{file_data, file_list, file_members, findings_data, states_of, with_checked, with_states}
+use Rattle.ticklab_json.specs.Checks.{file_data, file_list, file_members, findings_data, with_checked, with_states}
 use Rattle.ticklab_json.specs.Events.{event_data}
 use Rattle.ticklab_json.specs.Found.{fault_text, head_members, lead_in_data, loop_data, run_data}
 use Rattle.ticklab_json.specs.Members.{count, with_member}

@@ -18,7 +18,7 @@ mod wording;
 
 use crate::asking::never_lines;
 use crate::commands::exploring::{
-    break_line, broken_said, ended, limit_shown, shortest_found, states_shown, trap_line, trap_said,
+    break_line, broken_said, limit_shown, shortest_found, states_shown, trap_line, trap_said,
 };
 use crate::extent::extent_of;
 use crate::fault::LabFault;
@@ -27,7 +27,7 @@ use crate::form::Form;
 use crate::host::Files;
 use crate::progress::Progress;
 use crate::reading::spelled_program_of;
-use crate::response::{DONE, LIMIT, Response};
+use crate::response::{DONE, LIMIT, Response, settled};
 use crate::search::{Answered, Search, Task};
 use crate::stop::NoAnswer;
 use base::{NoMemory, set_at};
@@ -74,7 +74,9 @@ pub fn explored_ends<F: Files, W: Progress>(
         form,
         progress,
     );
-    Ok(ended(alloc, progress, searched)?)
+    let response = settled(alloc, searched)?;
+    progress.end();
+    Ok(response)
 }
 
 fn all_ends<W: Progress>(

@@ -11,20 +11,20 @@ ghost use Rattle.ticklab_answers.specs.Asking.{texts_of};
 ghost use Rattle.ticklab_answers.specs.BySteps.{break_line_by, line_by};
 ghost use Rattle.ticklab_answers.specs.Exploring.{Explores, IsExplored, IsUnexplored};
 ghost use Rattle.ticklab_answers.specs.Faults.{IsOfFile};
-ghost use Rattle.ticklab_answers.specs.Found.{IsFound, IsFoundBy, IsFoundFirst, TellsShortest};
+ghost use Rattle.ticklab_answers.specs.Found.{IsFound, TellsShortest};
 ghost use Rattle.ticklab_answers.specs.Hearing.{IsHeard, hearing};
 ghost use Rattle.ticklab_answers.specs.Lines.{counted_text, larger_text, limit_line, more_text, next_line, safe_line, safe_text, states_text, try_text};
 ghost use Rattle.ticklab_answers.specs.Responses.{Gives};
 ghost use Rattle.ticklab_answers.specs.Shown.{IsStatesAnswer, SaysBroken, SaysTrap, Shows, ShowsLimit, ShowsMinimal, ShowsSafe};
 ghost use Rattle.ticklab_answers.specs.Sought.{IsLawful, IsSound, sought_by};
-ghost use Rattle.ticklab_answers.specs.Stops.{IfRefused, IsRefusal};
+ghost use Rattle.ticklab_answers.specs.Stops.{IfRefused};
 ghost use Rattle.ticklab_answers.specs.prover.Searches.{IsSearchedBy, is_limit};
 
 use crate::commands::ends::{asked_in, asks_ends, ends_found};
 use crate::commands::hunting::{MINIMAL, MINIMAL_BREAK};
 use crate::counts::push_many;
 use crate::extent::{Extent, extent_of};
-use crate::fault::{AnswerFault, LabFault};
+use crate::fault::LabFault;
 use crate::files::bytes_of;
 use crate::form::Form;
 use crate::host::Files;
@@ -73,17 +73,6 @@ pub fn explored<F: Files, W: Progress>(
     let input = bytes_of(alloc, files, file)?;
     let bytes = input.as_slice();
     let searched = all_schedules(alloc, file, never, bytes, limits, steps, form, progress);
-    Ok(ended(alloc, progress, searched)?)
-}
-
-/// The answer, or the report of what is refused; the search is over.
-pub fn ended<W: Progress>(
-    alloc: Global,
-    progress: &W,
-    searched: Result<Response, NoAnswer>,
-) -> Result<Response, AnswerFault>
-    ensures { IfOk result (λ response. MatchResult searched (λ given. response ≡ given) (IsRefusal response)) }
-{
     let response = settled(alloc, searched)?;
     progress.end();
     Ok(response)
@@ -126,36 +115,28 @@ fn all_schedules<W: Progress>(
     Ok(response)
 }
 
-// What is found of the program.
+// What is found of the program by steps of one kind, or by merged ones first, and by single ones where these find a
+// fault.
 fn found<W: Progress>(task: &Task<'_, '_>, steps: Steps, progress: &mut W) -> Answered
     requires sound { IsSound task.now.search }
     ensures { IfOk result (λ response. IsHeard (hearing W.begins W.hears) progress.old progress.new (IsFound (sought_by task.now.search) task.now.limits steps response)) }
 {
     match steps {
-        Steps::MergedFirst => found_first(task, progress),
-        Steps::Single => found_by(task, false, progress),
-        Steps::Merged => found_by(task, true, progress),
-    }
-}
-
-// The same by steps of one kind alone.
-fn found_by<W: Progress>(task: &Task<'_, '_>, is_merged: bool, progress: &mut W) -> Answered
-    requires sound { IsSound task.now.search }
-    ensures { IfOk result (λ response. IsHeard (hearing W.begins W.hears) progress.old progress.new (IsFoundBy (sought_by task.now.search) task.now.limits is_merged response)) }
-{
-    let explored = explored_by(task, is_merged, progress)?;
-    shown(task, is_merged, &explored)
-}
-
-// By merged steps first, and by single ones where these find a fault.
-fn found_first<W: Progress>(task: &Task<'_, '_>, progress: &mut W) -> Answered
-    requires sound { IsSound task.now.search }
-    ensures { IfOk result (λ response. IsHeard (hearing W.begins W.hears) progress.old progress.new (IsFoundFirst (sought_by task.now.search) task.now.limits response)) }
-{
-    let explored = explored_by(task, true, progress)?;
-    match fault_of(explored) {
-        Ok(schedule) => shortest_found(task, schedule, progress),
-        Err(none) => shown(task, true, &none),
+        Steps::Single => {
+            let explored = explored_by(task, false, progress)?;
+            shown(task, false, &explored)
+        }
+        Steps::Merged => {
+            let explored = explored_by(task, true, progress)?;
+            shown(task, true, &explored)
+        }
+        Steps::MergedFirst => {
+            let explored = explored_by(task, true, progress)?;
+            match fault_of(explored) {
+                Ok(schedule) => shortest_found(task, schedule, progress),
+                Err(none) => shown(task, true, &none),
+            }
+        }
     }
 }
 
@@ -323,16 +304,11 @@ pub fn states_shown(
     ensures { IfOk result (Gives status (IsStatesAnswer search.now.form word.now says.now extent.is_merged extent.states more.now)) }
 {
     let alloc = search.alloc;
-    match search.form {
-        Form::Text => {
-            let text = lines_of(alloc, says, more)?;
-            Ok(answer(alloc, status, text))
-        }
-        Form::Json => {
-            let text = found_states(alloc, word, says, extent.is_merged, extent.states)?;
-            Ok(answer(alloc, status, text))
-        }
-    }
+    let text = match search.form {
+        Form::Text => lines_of(alloc, says, more)?,
+        Form::Json => found_states(alloc, word, says, extent.is_merged, extent.states)?,
+    };
+    Ok(answer(alloc, status, text))
 }
 
 // A line, with more behind it.
