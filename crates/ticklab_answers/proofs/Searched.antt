@@ -26,7 +26,9 @@ use Rattle.searches_hunt.specs.Minimal.{IfBroken as IfBreaks, IfTrapped as IfTra
 use Rattle.searches_hunt.specs.Never.{IsMinimalBroken, IsMinimalTrapped}
 use Rattle.searches_hunt.specs.declared.minimal.Minimal.{Minimal}
 use Rattle.searches_hunt.specs.declared.minimal.Minimal.TheVariants as M
-use Rattle.ticklab_answers.specs.BySteps.{BrokenBy, LimitBy, SafeBy, SeesBy, TrapBy}
+use Rattle.searches_explore.specs.BySteps.{TellsBy}
+use Rattle.searches_explore.specs.declared.by_steps.StepKind.{StepKind}
+use Rattle.ticklab_answers.specs.BySteps.{BrokenBy, LimitBy, SafeBy, SeesBy, TrapBy, kind_of}
 use Rattle.ticklab_answers.specs.Found.{IsFoundBy, IsFoundFirst, IsQuiet, MeetsLimit, TellsBoth, TellsFault, TellsLimit, TellsSafe, TellsShortest, broken, fault, first_fault, first_safe, first_unknown, minimal_break, minimal_trap, safe, shortest, trapped, unknown}
 use Rattle.ticklab_answers.specs.Hearing.{Heard, HearsOf, IsHeard, IsSearchHeard, IsSearchHeardToEnd, hearing}
 use Rattle.ticklab_answers.specs.Shown.{Shows, ShowsMinimal}
@@ -63,6 +65,20 @@ searched_as begins sees before between after m n same a given lines held limits 
       known = known_as m a given limits e traps breaks never full;
       watched = began begins sees before between after m n same a given limits e first watched;
     }))
+
+-- what an exploration by steps of this kind tells
+module _ {W : Type 0} (begins : W → Bool → W → Type 0) (sees : W → ℕ → ℕ → ℕ → W → Type 0) (before between after : W)
+    (a : WholeProgram ℕ) (given lines : List Property) (held : given ≡ lines) (limits : Limits) (e : NeverExplored) where
+  told_by : (m : Bool) → begins before m between → TellsBy a (lines_of given) limits sees between after (kind_of m) e
+      → IsSearchedBy m a lines limits (hearing begins sees) before after e
+  told_by false first told =
+      searched_as begins sees before between after false false refl a given lines held limits e first told.trapped told.broken told.safe told.at_limit told.watched
+  told_by true first told =
+      searched_as begins sees before between after true true refl a given lines held limits e first told.trapped told.broken told.safe told.at_limit told.watched
+
+  pub told_of_kind : (m : Bool) (kind : StepKind) → kind ≡ kind_of m → begins before m between
+      → TellsBy a (lines_of given) limits sees between after kind e → IsSearchedBy m a lines limits (hearing begins sees) before after e
+  told_of_kind m kind same first told = told_by m first (subst (λ (k : StepKind). TellsBy a (lines_of given) limits sees between after k e) same told)
 
 abbrev is_found : Searched → Bool
 is_found (Found schedule) = true

@@ -23,7 +23,7 @@ ghost use Rattle.ticklab_answers.specs.prover.Searches.{IsSearchedBy, is_limit};
 use crate::commands::ends::{asked_in, asks_ends, ends_found};
 use crate::commands::hunting::{MINIMAL, MINIMAL_BREAK};
 use crate::counts::push_many;
-use crate::extent::{Extent, extent_of};
+use crate::extent::{SearchExtent, extent_of};
 use crate::fault::LabFault;
 use crate::files::bytes_of;
 use crate::form::Form;
@@ -31,11 +31,11 @@ use crate::host::Files;
 use crate::progress::Progress;
 use crate::reading::asked_program;
 use crate::response::{DONE, LIMIT, Response, answer, settled};
-use crate::search::{Answered, Search, Task};
+use crate::search::{Answered, Search, Task, kind_of};
 use crate::stop::NoAnswer;
 use crate::trapping::{broken_shown, trap_shown};
 use base::{NoMemory, Trap};
-use searches_explore::{Limits, NeverExplored, explore_never, explore_never_merged};
+use searches_explore::{Limits, NeverExplored, explore_by};
 use searches_hunt::{Minimal, shrink_fault};
 use std::alloc::{AllocError, Global};
 use ticklab_json::{Head, found_states};
@@ -194,13 +194,9 @@ fn explored_by<W: Progress>(
     let alloc = search.alloc;
     let program = &search.spelled.program;
     let properties = search.lines.properties.as_slice();
+    let kind = kind_of(is_merged);
     progress.begin(is_merged);
-    if is_merged {
-        let explored = explore_never_merged(alloc, program, properties, limits, progress)?;
-        return Ok(explored);
-    }
-    let explored = explore_never(alloc, program, properties, limits, progress)?;
-    Ok(explored)
+    explore_by(alloc, program, properties, kind, limits, progress)
 }
 
 // The answer that tells what was explored.
@@ -282,7 +278,7 @@ pub fn limit_shown(task: &Task<'_, '_>, is_merged: bool, states: u32) -> Answere
     ensures { IfOk result (ShowsLimit (sought_by task.now.search) is_merged task.now.limits states) }
 {
     let search = &task.search;
-    let extent = Extent {
+    let extent = SearchExtent {
         lines: search.lines.places.len(),
         is_merged,
         states,
@@ -297,7 +293,7 @@ pub fn states_shown(
     search: &Search<'_, '_>,
     status: u8,
     word: &str,
-    extent: Extent,
+    extent: SearchExtent,
     says: &str,
     more: &str,
 ) -> Answered
@@ -350,7 +346,7 @@ fn push_states(text: &mut String, is_merged: bool, states: u32) -> Result<(), Al
     }
 }
 
-fn safe_line(alloc: Global, extent: Extent) -> Result<String, AllocError>
+fn safe_line(alloc: Global, extent: SearchExtent) -> Result<String, AllocError>
     ensures { IfOk result (λ line. string_bytes line ≡ safe_line extent.is_merged extent.lines extent.states) }
 {
     let mut line = String::from_str(alloc, safe_text(extent.lines))?;
@@ -360,7 +356,7 @@ fn safe_line(alloc: Global, extent: Extent) -> Result<String, AllocError>
 }
 
 /// Adds how many states there are.
-pub fn push_counted(text: &mut String, extent: Extent) -> Result<(), AllocError>
+pub fn push_counted(text: &mut String, extent: SearchExtent) -> Result<(), AllocError>
     ensures { OnOk result (string_bytes text.new ≡ string_bytes text.old ++ counted_text extent.is_merged extent.states) }
 {
     text.push_str(" (")?;
@@ -415,7 +411,7 @@ fn try_text(is_merged: bool) -> &'static str
 }
 
 // What may help where a limit was met.
-fn next_line(alloc: Global, limits: Limits, extent: Extent) -> Result<String, AllocError>
+fn next_line(alloc: Global, limits: Limits, extent: SearchExtent) -> Result<String, AllocError>
     ensures { IfOk result (λ line. string_bytes line ≡ next_line extent.is_merged limits extent.states) }
 {
     let mut line = String::from_str(alloc, try_text(extent.is_merged))?;
