@@ -1,5 +1,12 @@
--- No object has a float, so each has one text: each part has none, and a member that is put where its key belongs brings
--- none. By cases on what may be left out, and by induction on members and on lists.
+-- No object has a float, so each has one text: none of a step (`statement_exact`, `instruction_exact`), of a run or a
+-- loop that a search has found (`run_told`, `loop_told`), or of what files come to (`findings_exact`).
+-- The idea. A member that is put where its key belongs brings no float if its value has none (`put_exact`). The same
+-- holds of one that may be left out (`with_exact`), where `IsExact` says that what there is has none. So an object is
+-- gone through in the order in which its members are put, from the inside out. Of lists it is an induction
+-- (`items_exact`).
+-- The difficulty is that many members may be left out, and each doubles the cases. So each has a lemma of its own, for
+-- any members that are there before it, and what is there so far has a name (`members_exact`).
+-- Read `put_exact` first, then `with_exact` and `members_exact`.
 use Rattle.std.proofs.Common.{◌≡◌, ℕ, zero, suc, ◌+◌, ◌==◌, ◌||◌, List, [], ◌∷◌, ◌++◌, map, take, length, Option, Some, None, option_map, Ordering, Less, Equal, Greater, Bool, true, false, true≢false, refl, sym, subst, ap, ◌∙◌, nat_cmp, Ok, Err}
 use Rattle.std.specs.Prelude.{codes, if◌then◌else◌, option_and_then, slice_get, ⊤}
 use Rattle.std.specs.Cmp.Lexicographic.{slice_cmp}
