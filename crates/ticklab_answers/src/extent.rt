@@ -1,6 +1,8 @@
 ghost use Rattle.std.specs.Prelude.{◌≡◌, length};
+ghost use Rattle.ticklab_answers.specs.BySteps.{kind_of};
 
 use crate::search::Search;
+use searches_explore::StepKind;
 
 /// How far a program was explored where no schedule is shown.
 #[derive(Clone, Copy)]
@@ -21,5 +23,16 @@ pub fn extent_of(search: &Search<'_, '_>, is_merged: bool, states: u32) -> Searc
         lines: search.lines.places.len(),
         is_merged,
         states,
+    }
+}
+
+/// By merged steps, or by single ones.
+pub fn kind_of(is_merged: bool) -> StepKind
+    ensures { result ≡ kind_of is_merged }
+{
+    if is_merged {
+        StepKind::Merged
+    } else {
+        StepKind::Single
     }
 }

@@ -1,11 +1,8 @@
-ghost use Rattle.std.specs.Prelude.{◌≡◌};
-ghost use Rattle.ticklab_answers.specs.BySteps.{kind_of};
-
 use crate::asking::NeverLines;
 use crate::form::Form;
 use crate::response::Response;
 use base::NoMemory;
-use searches_explore::{Limits, MustStop, StepKind};
+use searches_explore::{Limits, MustStop};
 use std::alloc::Global;
 use ticketc_refusals::SpelledProgram;
 
@@ -30,17 +27,6 @@ pub struct Task<'a, 'b> {
     pub limits: Limits,
     /// Who is asked whether they end.
     pub asked: MustStop,
-}
-
-/// By merged steps, or by single ones.
-pub fn kind_of(is_merged: bool) -> StepKind
-    ensures { result ≡ kind_of is_merged }
-{
-    if is_merged {
-        StepKind::Merged
-    } else {
-        StepKind::Single
-    }
 }
 
 /// An answer, where memory suffices.

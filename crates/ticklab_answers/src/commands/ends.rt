@@ -18,7 +18,8 @@ mod wording;
 
 use crate::asking::never_lines;
 use crate::commands::exploring::{
-    break_line, broken_said, limit_shown, shortest_found, states_shown, trap_line, trap_said,
+    break_line, broken_said, concluded, limit_shown, shortest_found, states_shown, trap_line,
+    trap_said,
 };
 use crate::extent::extent_of;
 use crate::fault::LabFault;
@@ -27,7 +28,7 @@ use crate::form::Form;
 use crate::host::Files;
 use crate::progress::Progress;
 use crate::reading::spelled_program_of;
-use crate::response::{DONE, LIMIT, Response, settled};
+use crate::response::{DONE, LIMIT, Response};
 use crate::search::{Answered, Search, Task};
 use crate::stop::NoAnswer;
 use base::{NoMemory, set_at};
@@ -74,9 +75,7 @@ pub fn explored_ends<F: Files, W: Progress>(
         form,
         progress,
     );
-    let response = settled(alloc, searched)?;
-    progress.end();
-    Ok(response)
+    Ok(concluded(alloc, progress, searched)?)
 }
 
 fn all_ends<W: Progress>(

@@ -17,21 +17,21 @@ ghost use Rattle.ticklab_answers.specs.Lines.{counted_text, larger_text, limit_l
 ghost use Rattle.ticklab_answers.specs.Responses.{Gives};
 ghost use Rattle.ticklab_answers.specs.Shown.{IsStatesAnswer, SaysBroken, SaysTrap, Shows, ShowsLimit, ShowsMinimal, ShowsSafe};
 ghost use Rattle.ticklab_answers.specs.Sought.{IsLawful, IsSound, sought_by};
-ghost use Rattle.ticklab_answers.specs.Stops.{IfRefused};
+ghost use Rattle.ticklab_answers.specs.Stops.{IfRefused, IsRefusal};
 ghost use Rattle.ticklab_answers.specs.prover.Searches.{IsSearchedBy, is_limit};
 
 use crate::commands::ends::{asked_in, asks_ends, ends_found};
 use crate::commands::hunting::{MINIMAL, MINIMAL_BREAK};
 use crate::counts::push_many;
-use crate::extent::{SearchExtent, extent_of};
-use crate::fault::LabFault;
+use crate::extent::{SearchExtent, extent_of, kind_of};
+use crate::fault::{AnswerFault, LabFault};
 use crate::files::bytes_of;
 use crate::form::Form;
 use crate::host::Files;
 use crate::progress::Progress;
 use crate::reading::asked_program;
 use crate::response::{DONE, LIMIT, Response, answer, settled};
-use crate::search::{Answered, Search, Task, kind_of};
+use crate::search::{Answered, Search, Task};
 use crate::stop::NoAnswer;
 use crate::trapping::{broken_shown, trap_shown};
 use base::{NoMemory, Trap};
@@ -73,6 +73,17 @@ pub fn explored<F: Files, W: Progress>(
     let input = bytes_of(alloc, files, file)?;
     let bytes = input.as_slice();
     let searched = all_schedules(alloc, file, never, bytes, limits, steps, form, progress);
+    Ok(concluded(alloc, progress, searched)?)
+}
+
+/// The answer, or the report of what is refused; the search is over.
+pub fn concluded<W: Progress>(
+    alloc: Global,
+    progress: &W,
+    searched: Result<Response, NoAnswer>,
+) -> Result<Response, AnswerFault>
+    ensures { IfOk result (λ response. MatchResult searched (λ given. response ≡ given) (IsRefusal response)) }
+{
     let response = settled(alloc, searched)?;
     progress.end();
     Ok(response)

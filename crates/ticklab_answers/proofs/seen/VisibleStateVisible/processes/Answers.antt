@@ -1,6 +1,6 @@
 use Rattle.std.proofs.Common.{◌∙◌, sym}
 use Rattle.std.proofs.lemmas.List.{length-map}
-use Rattle.ticklab_answers.proofs.seen.SeenVisible.processes.Goals as goal
+use Rattle.ticklab_answers.proofs.seen.VisibleStateVisible.processes.Goals as goal
 
 pub returns : goal.returns
 returns c =
