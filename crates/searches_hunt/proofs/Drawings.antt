@@ -13,7 +13,7 @@ use Rattle.tick_source.specs.Source.{SourceState, source_step, source_run, sourc
 use Rattle.searches_explore.specs.Lines.{is_fault}
 use Rattle.searches_hunt.specs.declared.plan.Mode.{Mode}
 use Rattle.searches_hunt.specs.declared.plan.Plan.{Plan}
-use Rattle.searches_hunt.specs.declared.drawing.Drawing.{Drawing}
+use Rattle.searches_hunt.specs.declared.drawing.ScheduleDraw.{ScheduleDraw}
 use Rattle.rand_pcg.specs.Lcg.{Lcg}
 use Rattle.rand_pcg.specs.Pcg.{pcg32}
 use Rattle.searches_hunt.specs.Draws.{chosen, more_steps, fresh, drawing_by, next_drawing, drawn, start_drawing, random_schedule}
@@ -23,20 +23,20 @@ use Rattle.searches_hunt.specs.prover.Tries.{drawing_after, first_steps, FaultsW
 use Rattle.searches_hunt.proofs.Runs.{most_or_more, run_append}
 use Rattle.searches_hunt.proofs.Left.{part_first}
 
-abbrev more_left : Drawing → ℕ → Drawing
+abbrev more_left : ScheduleDraw → ℕ → ScheduleDraw
 more_left d k = record d { more = k }
 
-on_by : (mode : Mode) (n : ℕ) (d : Drawing) (k : ℕ) → 0 < k → record d { more = k - 1 } ≡ drawing_by mode n d k
+on_by : (mode : Mode) (n : ℕ) (d : ScheduleDraw) (k : ℕ) → 0 < k → record d { more = k - 1 } ≡ drawing_by mode n d k
 on_by mode n d zero h = absurd (omega arith)
 on_by mode n d (suc k) h = ap (more_left d) (let e : suc k - 1 ≡ k = omega arith in e)
 
 -- the process of the last word goes on
-pub goes_on : (mode : Mode) (n : ℕ) (d : Drawing) → 0 < d.more → record d { more = d.more - 1 } ≡ next_drawing mode n d
+pub goes_on : (mode : Mode) (n : ℕ) (d : ScheduleDraw) → 0 < d.more → record d { more = d.more - 1 } ≡ next_drawing mode n d
 unfolding next_drawing
 goes_on mode n d h = on_by mode n d d.more h
 
 -- a new word is drawn
-pub draws_word : (mode : Mode) (n : ℕ) (d : Drawing) → d.more ≡ 0 → (word p more : ℕ) (g : Lcg) → p ≡ chosen n word → more ≡ more_steps mode word
+pub draws_word : (mode : Mode) (n : ℕ) (d : ScheduleDraw) → d.more ≡ 0 → (word p more : ℕ) (g : Lcg) → p ≡ chosen n word → more ≡ more_steps mode word
     → (word, g) ≡ pcg32 d.generator → record { process = p; more = more; generator = g } ≡ next_drawing mode n d
 unfolding next_drawing
 draws_word mode n d none word p more g is_p is_more drawn_word =
@@ -44,28 +44,28 @@ draws_word mode n d none word p more g is_p is_more drawn_word =
     ∙ ap (fresh mode n) drawn_word
     ∙ ap (drawing_by mode n d) (sym none)
 
-pub after_more : (mode : Mode) (n k : ℕ) (d : Drawing) → drawing_after mode n (suc k) d ≡ next_drawing mode n (drawing_after mode n k d)
+pub after_more : (mode : Mode) (n k : ℕ) (d : ScheduleDraw) → drawing_after mode n (suc k) d ≡ next_drawing mode n (drawing_after mode n k d)
 after_more mode n zero d = refl
 after_more mode n (suc k) d = after_more mode n k (next_drawing mode n d)
 
-pub drawn_more : (mode : Mode) (n k : ℕ) (d : Drawing)
+pub drawn_more : (mode : Mode) (n k : ℕ) (d : ScheduleDraw)
     → drawn mode n (suc k) d ≡ drawn mode n k d ++ (next_drawing mode n (drawing_after mode n k d)).process ∷ []
 drawn_more mode n zero d = refl
 drawn_more mode n (suc k) d = ap (λ xs. (next_drawing mode n d).process ∷ xs) (drawn_more mode n k (next_drawing mode n d))
 
 -- so many steps are these and those that follow
-drawn_parts : (mode : Mode) (n k j : ℕ) (d : Drawing) → drawn mode n (j + k) d ≡ drawn mode n k d ++ drawn mode n j (drawing_after mode n k d)
+drawn_parts : (mode : Mode) (n k j : ℕ) (d : ScheduleDraw) → drawn mode n (j + k) d ≡ drawn mode n k d ++ drawn mode n j (drawing_after mode n k d)
 drawn_parts mode n zero j d = ap (λ i. drawn mode n i d) (let e : j + 0 ≡ j = omega arith in e)
 drawn_parts mode n (suc k) j d =
     ap (λ i. drawn mode n i d) (let e : j + suc k ≡ suc (j + k) = omega arith in e)
     ∙ ap (λ xs. (next_drawing mode n d).process ∷ xs) (drawn_parts mode n k j (next_drawing mode n d))
 
-pub drawn_first : (mode : Mode) (n k m : ℕ) (d : Drawing) → k ≤ m
+pub drawn_first : (mode : Mode) (n k m : ℕ) (d : ScheduleDraw) → k ≤ m
     → drawn mode n m d ≡ drawn mode n k d ++ drawn mode n (m - k) (drawing_after mode n k d)
 drawn_first mode n k m d h =
     ap (λ i. drawn mode n i d) (let e : m ≡ (m - k) + k = omega arith in e) ∙ drawn_parts mode n k (m - k) d
 
-pub drawn_length : (mode : Mode) (n k : ℕ) (d : Drawing) → length (drawn mode n k d) ≡ k
+pub drawn_length : (mode : Mode) (n k : ℕ) (d : ScheduleDraw) → length (drawn mode n k d) ≡ k
 drawn_length mode n zero d = refl
 drawn_length mode n (suc k) d = ap suc (drawn_length mode n k (next_drawing mode n d))
 
@@ -84,7 +84,7 @@ module _ (a : WholeProgram ℕ) (plan : Plan) (run : ℕ) where
       ∙ ap (λ i. first_steps a plan run i) (sym next)
 
   -- what a step makes of how far the run has come
-  pub made_on : (lines : List Formula) (k p : ℕ) (s s' : SourceState) (d d' : Drawing) → IsAfter a lines plan run k s d
+  pub made_on : (lines : List Formula) (k p : ℕ) (s s' : SourceState) (d d' : ScheduleDraw) → IsAfter a lines plan run k s d
       → d' ≡ next_drawing plan.mode a.processes d → p ≡ d'.process → s' ≡ source_step a.processes p s → s' ≡ first_steps a plan run (k + 1)
   made_on lines k p s s' d d' before drew is step =
       let next : d' ≡ next_drawing plan.mode a.processes (drawing_after plan.mode a.processes k (start_drawing plan.seed run)) =
@@ -101,7 +101,7 @@ module _ (a : WholeProgram ℕ) (plan : Plan) (run : ℕ) where
       (λ above. ap (λ i. is_fault lines (first_steps a plan run i)) (let e : j ≡ k + 1 = omega arith in e) ∙ now)
       (most_or_more j k)
 
-  pub steps_on : (lines : List Formula) (k p : ℕ) (s s' : SourceState) (d d' : Drawing) → IsAfter a lines plan run k s d
+  pub steps_on : (lines : List Formula) (k p : ℕ) (s s' : SourceState) (d d' : ScheduleDraw) → IsAfter a lines plan run k s d
       → d' ≡ next_drawing plan.mode a.processes d → p ≡ d'.process → s' ≡ source_step a.processes p s
       → d'.process < a.processes → is_fault lines s' ≡ false → IsAfter a lines plan run (k + 1) s' d'
   steps_on lines k p s s' d d' before drew is step below none =

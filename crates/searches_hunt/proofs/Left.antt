@@ -1,4 +1,13 @@
--- What is left of a schedule, as items are left out.
+-- What is left of a schedule where items are left out. It is said in two ways: by cases (`IsLeft`: each item is kept or
+-- left out), and by the places of those that are left out (`IsPartOf`). `left_part` leads from the first to the second.
+-- What is left of what is left is left of the whole (`left_again`). It is not longer (`left_short`), and its items are
+-- lawful (`left_lawful`). The code leaves out all items from one place to another (`left_without`), or asks of each
+-- (`left_on`).
+-- The idea. By cases each of these is a short induction. `IsFaultOf` adds that what is left still leads to a fault, and
+-- `fault_again` puts two of these together.
+-- The difficulty is the places. Each is counted in what is left so far, so those of a list without its first item are
+-- one more in the whole (`left_more`). Of two same neighbours it doesn't matter which is left out (`without_same`).
+-- Read `left_again` first, then `left_part` and `fault_again`.
 use Rattle.std.proofs.Common.{◌≡◌, ◌⊎◌, ⊎_elim, get_or, ℕ, zero, suc, ◌+◌, ◌-◌, ◌<◌, ◌≤◌, List, [], ◌∷◌, ◌++◌, length, take, drop, map, replicate, refl, sym, ◌∙◌, ap, subst, arith, length-append, Option, Some, None, IfSome, IfNone, MatchOption}
 use Rattle.std.specs.Prelude.{Result, Vec, IfOk, slice_get}
 use Rattle.std.specs.Global.{Global}
@@ -6,15 +15,12 @@ use Rattle.std.proofs.lemmas.Option.{same_Some}
 use Rattle.std.proofs.lemmas.Result.{IfOk-weaker}
 use Rattle.std.specs.List.{All}
 use Rattle.std.proofs.lemmas.List.{take-append-drop, length-drop, length-take-le, take_at, drop_at, drop-drop, append-nil, take_more}
-use Rattle.std.proofs.lemmas.List.Elements.{All-append, All-cons, All-drop, All-head, All-tail, All-take}
+use Rattle.std.proofs.lemmas.List.Elements.{All-cons, All-head, All-tail}
 use Rattle.base.specs.Plain.{WholeProgram}
 use Rattle.language_properties.specs.Properties.{Formula}
 use Rattle.searches_hunt.specs.Hunts.{without, left_of, IsPartOf}
 use Rattle.searches_hunt.specs.Never.{IsFaultless}
 use Rattle.searches_hunt.specs.prover.Parts.{IsLeft, no_items, one_out, one_kept, IsFault, IsFaultOf}
-
-pub part_all : (schedule : List ℕ) → IsPartOf schedule schedule
-part_all schedule = ([], refl)
 
 left_append : (xs ys schedule : List ℕ) → left_of (xs ++ ys) schedule ≡ left_of ys (left_of xs schedule)
 left_append [] ys schedule = refl
@@ -62,9 +68,6 @@ part_first front back whole e =
     ap (λ xs. xs ++ drop (length whole) whole) (ap (take (length front)) e ∙ take_at front back (length front) refl)
     ∙ ap (λ xs. front ++ xs) (drop_whole whole) ∙ append-nil front in
     subst (λ xs. IsPartOf xs whole) is (part_without (length front) (length whole) whole there (omega arith))
-
-pub lawful_without : (P : ℕ → Type 0) (i j : ℕ) (schedule : List ℕ) → All P schedule → All P (take i schedule ++ drop j schedule)
-lawful_without P i j schedule all = All-append P (take i schedule) (drop j schedule) (All-take P i schedule all) (All-drop P j schedule all)
 
 pub length_without : (i j : ℕ) (schedule : List ℕ) → i ≤ j → j ≤ length schedule → length (take i schedule ++ drop j schedule) + (j - i) ≡ length schedule
 length_without i j schedule h inside =
@@ -218,7 +221,3 @@ pub fault_left : {E : Type 0} (a : WholeProgram ℕ) (lines : List Formula) (res
     → IfOk told (λ o. MatchOption o (IsFaultless a lines rest) (λ made. IsFaultOf a lines rest made.items)) → IfOk told (λ o. IfSome o P)
 fault_left a lines rest told P f is =
     IfOk-weaker told _ _ (some_of (IsFaultless a lines rest) (λ made. IsFaultOf a lines rest made.items) P f) is
-
-pub none_of : {X : Type 0} (A C : Type 0) (B : X → Type 0) → (A → C) → (o : Option X) → MatchOption o A B → IfNone o C
-none_of A C B f None h = f h
-none_of A C B f (Some x) h = tt

@@ -11,7 +11,7 @@ use std::alloc::Global;
 /// Where the drawing of a schedule stands: the process that made the last step, how many more it makes
 /// at once, and the generator.
 #[derive(Drop)]
-pub struct Drawing {
+pub struct ScheduleDraw {
     pub process: u8,
     pub more: u32,
     pub generator: Pcg32,
@@ -37,13 +37,13 @@ fn more_steps(mode: Mode, word: u32) -> u32
     }
 }
 
-impl Drawing {
+impl ScheduleDraw {
     /// Before the first step of this run.
-    pub fn new(seed: u64, run: u32) -> Drawing
+    pub fn new(seed: u64, run: u32) -> ScheduleDraw
         ensures start { result ≡ start_drawing seed run }
         ensures process { result.process ≡ 0 }
     {
-        Drawing {
+        ScheduleDraw {
             process: 0,
             more: 0,
             generator: Pcg32::new(seed, u64::from(run)),
@@ -76,7 +76,7 @@ pub fn draw(alloc: Global, plan: Plan, n: u8, run: u32, steps: u32) -> Result<Ve
     ensures drawn { IfOk result (λ s. s.items ≡ drawn plan.mode n steps (start_drawing plan.seed run)) }
     ensures lawful { IfOk result (λ s. All (λ p. p < n) s.items) }
 {
-    let mut drawing = Drawing::new(plan.seed, run);
+    let mut drawing = ScheduleDraw::new(plan.seed, run);
     let mut schedule = Vec::with_capacity(alloc, steps as usize)?;
     for _ in 0..steps {
         let p = drawing.step(plan.mode, n);

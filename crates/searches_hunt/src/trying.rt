@@ -9,7 +9,7 @@ ghost use Rattle.tick_source.specs.Source.{source_step};
 ghost use Rattle.searches_explore.specs.Explored.{has_trapped, is_trap};
 ghost use Rattle.searches_explore.specs.Lines.{is_fault, lines_of};
 
-use crate::drawing::Drawing;
+use crate::drawing::ScheduleDraw;
 use crate::plan::Plan;
 use crate::tried::Tried;
 use base::{NoMemory, Status};
@@ -21,7 +21,7 @@ use tick_kinds::Program;
 fn step_drawn(
     program: &Program,
     plan: Plan,
-    drawing: &mut Drawing,
+    drawing: &mut ScheduleDraw,
     tried: &mut Tried<'_>,
 ) -> Result<Status, NoMemory>
     requires processes { tried.old.processes ≡ (resolved program.now).processes }
@@ -54,7 +54,7 @@ pub fn steps_to_fault(
     if tried.is_fault(Status::Running) {
         return Ok(Some(0));
     }
-    let mut drawing = Drawing::new(plan.seed, run);
+    let mut drawing = ScheduleDraw::new(plan.seed, run);
     for made in 0..plan.steps {
         let status = step_drawn(program, plan, &mut drawing, &mut tried)?;
         if tried.is_fault(status) {

@@ -9,30 +9,30 @@ use tick_source::SourceMachine;
 
 /// What a process looks at.
 #[derive(Clone, Copy, PartialEq, Eq, Drop)]
-enum Look {
+enum LookedAt {
     Register { row: u8, process: u8 },
     Tickets,
 }
 
 /// What a step has to do with others: it looks at what they share, it may change it, or neither.
 #[derive(Clone, Copy, Drop)]
-enum Doing {
-    Looks(Look),
+enum Effect {
+    Looks(LookedAt),
     Changes,
     Neither,
 }
 
-fn done_by(event: Option<&Event>) -> Doing {
+fn done_by(event: Option<&Event>) -> Effect {
     let Some(event) = event else {
-        return Doing::Neither;
+        return Effect::Neither;
     };
     match event.act {
-        Act::Get(row, process, _) => Doing::Looks(Look::Register { row, process }),
-        Act::Scan(_) => Doing::Looks(Look::Tickets),
-        Act::Put(_, _) => Doing::Changes,
-        Act::Stamp => Doing::Changes,
-        Act::Clear => Doing::Changes,
-        _ => Doing::Neither,
+        Act::Get(row, process, _) => Effect::Looks(LookedAt::Register { row, process }),
+        Act::Scan(_) => Effect::Looks(LookedAt::Tickets),
+        Act::Put(_, _) => Effect::Changes,
+        Act::Stamp => Effect::Changes,
+        Act::Clear => Effect::Changes,
+        _ => Effect::Neither,
     }
 }
 
@@ -42,11 +42,11 @@ struct Since {
     /// Their places in the schedule.
     places: Vec<usize>,
     /// What it looked at, and how many of the steps came before that.
-    looks: Vec<(Look, usize)>,
+    looks: Vec<(LookedAt, usize)>,
 }
 
 // Where among the looks there is one at the same.
-fn look_at(looks: &[(Look, usize)], look: Look) -> Option<usize>
+fn look_at(looks: &[(LookedAt, usize)], look: LookedAt) -> Option<usize>
     ensures { IfSome result (λ at. at < length looks.now) }
 {
     for at in 0..looks.len() {
@@ -59,7 +59,7 @@ fn look_at(looks: &[(Look, usize)], look: Look) -> Option<usize>
 
 impl Since {
     // Where the process has looked at the same, it did so in vain: it marks the steps from then on, and forgets them.
-    fn look_again(&mut self, look: Look, vain: &mut [bool]) {
+    fn look_again(&mut self, look: LookedAt, vain: &mut [bool]) {
         let Some(at) = look_at(&self.looks, look) else {
             return;
         };
@@ -72,18 +72,18 @@ impl Since {
     }
 
     // Adds the step of this place.
-    fn add(&mut self, place: usize, doing: Doing, vain: &mut [bool]) -> Result<(), NoMemory> {
+    fn add(&mut self, place: usize, doing: Effect, vain: &mut [bool]) -> Result<(), NoMemory> {
         match doing {
-            Doing::Changes => {
+            Effect::Changes => {
                 self.places.clear();
                 self.looks.clear();
                 return Ok(());
             }
-            Doing::Looks(look) => {
+            Effect::Looks(look) => {
                 self.look_again(look, vain);
                 self.looks.push((look, self.places.len()))?;
             }
-            Doing::Neither => {}
+            Effect::Neither => {}
         }
         self.places.push(place)?;
         Ok(())

@@ -1,6 +1,6 @@
 //! `searches_parallel` tries the runs of a random hunt side by side, on threads.
 //!
-//! `OnProcessors` tells the same run as `InTurn` of `searches_hunt`, however many threads work: the first with a
+//! However many threads work, `OnProcessors` finds the run that `InTurn` of `searches_hunt` finds: the first with a
 //! fault. Hand it to `hunt_by`.
 //! Start with `OnProcessors`; `sharing` shares the runs of a round among threads.
 #![tactic(auto)]
@@ -8,4 +8,4 @@
 mod on_processors;
 mod sharing;
 
-pub use on_processors::OnProcessors;
+pub use on_processors::{OnProcessors, processors};

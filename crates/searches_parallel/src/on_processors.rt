@@ -1,3 +1,5 @@
+ghost use Rattle.std.specs.Prelude.{◌≤◌};
+
 use crate::sharing::side_by_side;
 use searches_hunt::{NoMemory, Plan, Sought, Trials};
 use std::thread::{Threads, available_parallelism};
@@ -16,16 +18,22 @@ pub struct OnProcessors<'a, R> {
 }
 
 impl<'a, R: Threads> OnProcessors<'a, R> {
-    /// Tries runs on as many threads as there are processors, of which at most 64 count; where that isn't known on one.
+    /// Tries runs on as many threads as `processors` tells.
     pub fn new(rt: &'a R) -> OnProcessors<'a, R> {
-        let processors = match available_parallelism(rt) {
-            Ok(count) => count.get(),
-            Err(_unknown) => 1,
-        };
         OnProcessors {
             rt,
-            jobs: usize::min(processors, 64) as u8,
+            jobs: processors(rt),
         }
+    }
+}
+
+/// How many processors there are, of which at most 64 count; 1 where that isn't known.
+pub fn processors<R: Threads>(rt: &R) -> u8
+    ensures { result ≤ 64 }
+{
+    match available_parallelism(rt) {
+        Ok(count) => usize::min(count.get(), 64) as u8,
+        Err(_unknown) => 1,
     }
 }
 

@@ -20,6 +20,8 @@ mod fairness;
 #[cfg(test)]
 mod hunting;
 #[cfg(test)]
+mod lawful;
+#[cfg(test)]
 mod moves;
 #[cfg(test)]
 mod random;

@@ -14,5 +14,5 @@ mod threads;
 pub use polls::Polls;
 pub use programs::{Checked, Refused, accepted};
 pub use rows::{holds, is_same};
-pub use texts::repeated;
+pub use texts::{counting, repeated};
 pub use threads::on_threads;

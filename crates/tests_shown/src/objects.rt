@@ -2,13 +2,13 @@
 //!
 //! Whole objects are rows of `answers/`.
 
+use crate::tracing::given::{acts_of_code, acts_of_source, code_for, program_for};
 use crate::tracing::programs::RUNS;
 use base::Act;
 use serde_json::Value;
 use std::alloc::{AllocError, Global};
 use std::test::Fail;
-use tests_shared::{accepted, holds, is_same};
-use tick_lower::lower;
+use tests_shared::{holds, is_same};
 use tick_syntax::tokens;
 use ticklab_check::{Checked, Expected, Findings, Found, Source, Tally, Timed};
 use ticklab_explain::Explanation;
@@ -91,9 +91,9 @@ fn kind(act: Act) -> &'static str {
 }
 
 // That there is an object in a line for each of these, of its kind.
-fn are_told(alloc: Global, text: &str, acts: &[Option<Act>]) -> Result<(), Fail> {
+fn are_told(alloc: Global, text: &str, acts: &[(u8, Option<Act>)]) -> Result<(), Fail> {
     let mut lines = text.lines();
-    for act in acts {
+    for (_process, act) in acts {
         let value = read(alloc, lines.next().unwrap_or(""))?;
         let event = value.get("event").and_then(|event| event.get("kind"));
         is_same(&event.and_then(Value::as_str), &act.map(kind))?;
@@ -102,36 +102,20 @@ fn are_told(alloc: Global, text: &str, acts: &[Option<Act>]) -> Result<(), Fail>
 }
 
 fn source_is_told(alloc: Global, text: &str, schedule: &[u8]) -> Result<(), Fail> {
-    let program = accepted(alloc, text)?;
-    let n = program.processes();
-    if !schedule.iter().all(|p| *p < n) {
-        return Err("no such process")?;
-    }
+    let checked = program_for(alloc, text, schedule)?;
     let tokens = tokens(alloc, text)?;
-    let spots = places(alloc, &program, text, &tokens)?;
-    let steps = source_steps(alloc, &program, schedule)?;
-    let objects = source_objects(alloc, &program, &spots, None, &steps)?;
-    let mut acts = Vec::new(alloc);
-    for step in &steps {
-        acts.push(step.act)?;
-    }
-    are_told(alloc, &objects, &acts)
+    let spots = places(alloc, &checked.program, text, &tokens)?;
+    let steps = source_steps(alloc, &checked.program, schedule)?;
+    let objects = source_objects(alloc, &checked.program, &spots, None, &steps)?;
+    are_told(alloc, &objects, &acts_of_source(alloc, &steps)?)
 }
 
 fn code_is_told(alloc: Global, text: &str, schedule: &[u8]) -> Result<(), Fail> {
-    let program = accepted(alloc, text)?;
-    let code = lower(alloc, &program)?;
-    let n = code.sizes().processes();
-    if !schedule.iter().all(|p| *p < n) {
-        return Err("no such process")?;
-    }
+    let checked = tests_shared::Checked::new(alloc, text)?;
+    let code = code_for(alloc, &checked.program, schedule)?;
     let steps = code_steps(alloc, &code, schedule)?;
-    let objects = code_objects(alloc, &program, &steps)?;
-    let mut acts = Vec::new(alloc);
-    for step in &steps {
-        acts.push(step.act)?;
-    }
-    are_told(alloc, &objects, &acts)
+    let objects = code_objects(alloc, &checked.program, &steps)?;
+    are_told(alloc, &objects, &acts_of_code(alloc, &steps)?)
 }
 
 #[test]

@@ -4,5 +4,6 @@
 //! Start with `events`.
 
 mod events;
+pub mod given;
 pub mod programs;
 mod spots;

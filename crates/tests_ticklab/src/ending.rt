@@ -199,31 +199,59 @@ const OUT_8: &str = "   1  P0     1:20   out 8;                           | out 
 
 const NOTHING_WRONG: &str = "out: nothing is wrong, nor with the schedule\n";
 
-const NO_PROGRAM: &str =
-    "none:1:1: error: expected `processes`, found the name `x`\n  |\n1 | x\n  | ^\nhint: a program begins with `processes 2;`\nticketc: refused 5 Unexpected 0 1\n";
+const NO_PROGRAM: &str = "\
+none:1:1: error: expected `processes`, found the name `x`
+  |
+1 | x
+  | ^
+hint: a program begins with `processes 2;`
+ticketc: refused 5 Unexpected 0 1
+";
 
-const NO_COMMAND: &str =
-    "error: unrecognized subcommand 'nothing'\n\nUsage: ticklab <COMMAND>\n\nFor more information, try '--help'.\n";
+const NO_COMMAND: &str = "\
+error: unrecognized subcommand 'nothing'
+
+Usage: ticklab <COMMAND>
+
+For more information, try '--help'.
+";
 
 const NO_THREAD: &str = "ticklab: no thread\n";
 
-const TRAPS: &str =
-    "a process traps under this schedule, and under no shorter one:\n0\n   1  P0     1:27   x = (1 / 0);                     | trap Zero\n";
+const TRAPS: &str = "\
+a process traps under this schedule, and under no shorter one:
+0
+   1  P0     1:27   x = (1 / 0);                     | trap Zero
+";
 
-const TOO_MANY: &str =
-    "there are more than 1 merged state: nothing is said of all schedules\ntry a larger --limit, hunt, or fewer processes or rounds\n";
+const TOO_MANY: &str = "\
+there are more than 1 merged state: nothing is said of all schedules
+try a larger --limit, hunt, or fewer processes or rounds
+";
 
-const FOLDER: &str =
-    "folder/a.tick: safe, 2 merged states, 0.00 s\nfolder/b.tick: trap, as expected, 0.00 s\n2 as expected, 0 not, 0 at the limit\n";
+const FOLDER: &str = "\
+folder/a.tick: safe, 2 merged states, 0.00 s
+folder/b.tick: trap, as expected, 0.00 s
+2 as expected, 0 not, 0 at the limit
+";
 
-const SEVERAL: &str =
-    "out: safe, 2 merged states, 0.00 s\nfolder/a.tick: safe, 2 merged states, 0.00 s\nfolder/b.tick: trap, as expected, 0.00 s\n-: safe, 2 merged states, 0.00 s\n4 as expected, 0 not, 0 at the limit\n";
+const SEVERAL: &str = "\
+out: safe, 2 merged states, 0.00 s
+folder/a.tick: safe, 2 merged states, 0.00 s
+folder/b.tick: trap, as expected, 0.00 s
+-: safe, 2 merged states, 0.00 s
+4 as expected, 0 not, 0 at the limit
+";
 
-const NOT_SAFE: &str =
-    "trap: trap, but safe was expected, 0.00 s\n0 as expected, 1 not, 0 at the limit\n";
+const NOT_SAFE: &str = "\
+trap: trap, but safe was expected, 0.00 s
+0 as expected, 1 not, 0 at the limit
+";
 
-const MORE: &str =
-    "out: limit, more than 1 merged state, 0.00 s\n0 as expected, 0 not, 1 at the limit\n";
+const MORE: &str = "\
+out: limit, more than 1 merged state, 0.00 s
+0 as expected, 0 not, 1 at the limit
+";
 
 static ROWS: [Row<'static>; 15] = [
     ("--version", false, 0, Ok("ticklab 7.1\n"), (0, 0)),
@@ -277,21 +305,25 @@ fn line(alloc: Global, words: &str) -> Result<Args, AllocError> {
     Ok(line.into_iter())
 }
 
-fn ends_so(alloc: Global, row: &Row<'_>) -> Result<(), Fail> {
-    let (words, is_torn, status, said, reads) = *row;
-    let given = line(alloc, words)?;
-    let mut host = host(alloc, is_torn);
-    let found = ended(
+fn end(alloc: Global, host: &mut TestHost, words: io::Result<Args>) -> ExitCode {
+    ended(
         alloc,
-        &mut host,
+        host,
         &mut NoThreads,
         &InTurn,
         &ticklab_check::InTurn {
             stopwatch: &Stopped,
         },
         &mut Nobody,
-        Ok(given),
-    );
+        words,
+    )
+}
+
+fn ends_so(alloc: Global, row: &Row<'_>) -> Result<(), Fail> {
+    let (words, is_torn, status, said, reads) = *row;
+    let given = line(alloc, words)?;
+    let mut host = host(alloc, is_torn);
+    let found = end(alloc, &mut host, Ok(given));
     let is_so = found == ExitCode::from(status)
         && has_said(&host, said)
         && (host.files.files, host.files.inputs) == reads;
@@ -315,17 +347,7 @@ fn each_status(rt: HostRuntime) -> Result<(), Fail> {
 fn no_words(rt: HostRuntime) -> Result<(), Fail> {
     let mut host = host(rt.alloc(), false);
     let none = Err(Error::from(ErrorKind::InvalidData));
-    let found = ended(
-        rt.alloc(),
-        &mut host,
-        &mut NoThreads,
-        &InTurn,
-        &ticklab_check::InTurn {
-            stopwatch: &Stopped,
-        },
-        &mut Nobody,
-        none,
-    );
+    let found = end(rt.alloc(), &mut host, none);
     let said = Err("ticklab: the command line: invalid data\n");
     holds(
         found == ExitCode::from(2) && has_said(&host, said),

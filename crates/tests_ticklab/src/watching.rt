@@ -3,7 +3,7 @@ use crate::answering::{explored_by, is_answer};
 use searches_explore::{Limits, Watch};
 use std::alloc::Global;
 use std::test::Fail;
-use tests_shared::is_same;
+use tests_shared::{counting, is_same};
 use ticklab_answers::Progress;
 use ticklab_line::Steps;
 
@@ -66,35 +66,7 @@ impl Progress for Notes {
     fn end(&self) {}
 }
 
-// A process is before its test with each number up to 24, before its assignment with each up to 23, has
-// nothing left, or has ended: 51 states, so three have 51 * 51 * 51.
-const COUNTING: &str = "\
-processes 3;
-var x;
-begin
-  while (x < 24) { x = (x + 1); }
-end
-";
-
-// Between merged steps a process stands at its start, before its `clear` with each number from 1 to 40,
-// or at its end: 42 states, so three have 42 * 42 * 42.
-const CLEARING: &str = "\
-processes 3;
-var x;
-begin
-  while (x < 40) { x = (x + 1); clear; }
-end
-";
-
-// After 122 steps each process traps.
-const TRAPPING: &str = "\
-processes 3;
-var x;
-begin
-  while (x < 40) { x = (x + 1); clear; }
-  x = (1 / 0);
-end
-";
+const CLEARS: &str = "clear; ";
 
 const LIMITS: Limits = Limits {
     states: 1_000_000,
@@ -103,45 +75,52 @@ const LIMITS: Limits = Limits {
 
 const NO_TRAP: &str = "no process traps under any schedule";
 
-// Of a search by single steps, by merged ones, or by both: the input, the first line up to the number of states, which
-// searches began, how often numbers were told of the last, and how many states were gone then.
-type Row = (&'static str, Steps, &'static str, (u32, u32), (u32, u32));
+// How far each of three processes counts and what else it does each time; and of the search by each of these steps the
+// first line up to the number of states, which searches began, how often numbers were told of the last, and how many
+// states were gone then.
+type Row = (
+    u32,
+    &'static str,
+    &'static [Steps],
+    &'static str,
+    (u32, u32),
+    (u32, u32),
+);
 
-static ROWS: [Row; 5] = [
+static ROWS: [Row; 3] = [
+    // A process is before its test with each number up to 24, before its assignment with each up to 23, has
+    // nothing left, or has ended: 51 states, so three have 51 * 51 * 51.
     (
-        COUNTING,
-        Steps::Single,
+        24,
+        "",
+        &[Steps::Single],
         "132651 states",
         (0, 1),
         (3, 132_651),
     ),
     // all its steps are private
-    (COUNTING, Steps::Merged, "8 merged states", (1, 0), (1, 8)),
     (
-        COUNTING,
-        Steps::MergedFirst,
+        24,
+        "",
+        &[Steps::Merged, Steps::MergedFirst],
         "8 merged states",
         (1, 0),
         (1, 8),
     ),
+    // Between merged steps a process stands at its start, before its `clear` with each number from 1 to 40,
+    // or at its end: 42 states, so three have 42 * 42 * 42.
     (
-        CLEARING,
-        Steps::Merged,
-        "74088 merged states",
-        (1, 0),
-        (2, 74_088),
-    ),
-    (
-        CLEARING,
-        Steps::MergedFirst,
+        40,
+        CLEARS,
+        &[Steps::Merged, Steps::MergedFirst],
         "74088 merged states",
         (1, 0),
         (2, 74_088),
     ),
 ];
 
-fn tells(alloc: Global, row: &Row) -> Result<(), Fail> {
-    let (text, steps, states, begun, told) = *row;
+fn tells(alloc: Global, text: &str, steps: Steps, row: &Row) -> Result<(), Fail> {
+    let (_, _, _, states, begun, told) = *row;
     let mut notes = Notes::new();
     let answered = explored_by(alloc, text.as_bytes(), LIMITS, steps, &mut notes);
     is_answer(
@@ -157,17 +136,28 @@ fn tells(alloc: Global, row: &Row) -> Result<(), Fail> {
 #[test]
 fn each_65536_states(rt: HostRuntime) -> Result<(), Fail> {
     for row in &ROWS {
-        tells(rt.alloc(), row)?;
+        let (most, each, by, ..) = *row;
+        let text = counting(rt.alloc(), most, each, "")?;
+        for steps in by {
+            tells(rt.alloc(), &text, *steps, row)?;
+        }
     }
     Ok(())
 }
 
-// Merged steps find the trap, and then single ones search.
+// After 122 steps each process traps: merged steps find it, and then single ones search.
 #[test]
 fn both_searches(rt: HostRuntime) -> Result<(), Fail> {
-    let (alloc, input) = (rt.alloc(), TRAPPING.as_bytes());
+    let alloc = rt.alloc();
+    let text = counting(alloc, 40, CLEARS, "  x = (1 / 0);\n")?;
     let mut notes = Notes::new();
-    let answered = explored_by(alloc, input, LIMITS, Steps::MergedFirst, &mut notes)?;
+    let answered = explored_by(
+        alloc,
+        text.as_bytes(),
+        LIMITS,
+        Steps::MergedFirst,
+        &mut notes,
+    )?;
     is_same(&answered.status, &5)?;
     is_same(&(notes.merged, notes.single), &(1, 1))?;
     is_same(&(notes.gone > 0 && notes.is_more), &true)

@@ -4,10 +4,11 @@ ghost use Rattle.std.specs.List.{AllZip};
 ghost use Rattle.ticklab_check.specs.Checking.{SourceComesTo};
 
 use searches_explore::Limits;
+use searches_parallel::processors;
 use std::alloc::Global;
-use std::thread::{Threads, available_parallelism, join};
+use std::thread::{Threads, join};
 use std::time::Instant;
-use ticklab_check::{Checks, InTurn, NoMemory, Source, Stopwatch, Timed};
+use ticklab_check::{AllTimed, Checks, InTurn, Source, Stopwatch};
 
 /// Hundredths of a second since it was made.
 #[derive(Drop)]
@@ -50,17 +51,12 @@ pub struct SideBySide<'a, R> {
 }
 
 impl<'a, R: Threads> SideBySide<'a, R> {
-    /// Searches files on as many threads as there are processors, of which at most 64 count; where that isn't known on
-    /// one.
+    /// Searches files on as many threads as `processors` tells.
     pub fn new(rt: &'a R, clock: &'a HostRuntime) -> SideBySide<'a, R> {
-        let processors = match available_parallelism(rt) {
-            Ok(count) => count.get(),
-            Err(_unknown) => 1,
-        };
         SideBySide {
             rt,
             clock,
-            jobs: usize::min(processors, 64) as u8,
+            jobs: processors(rt),
         }
     }
 }
@@ -74,12 +70,7 @@ impl<'a, R: Threads> Checks for SideBySide<'a, R> {
         }
     }
 
-    fn checked(
-        &self,
-        alloc: Global,
-        sources: &[Source],
-        limits: Limits,
-    ) -> Result<Vec<Timed>, NoMemory> {
+    fn checked(&self, alloc: Global, sources: &[Source], limits: Limits) -> AllTimed {
         side_by_side(self.rt, self.clock, alloc, sources, limits, self.jobs)
     }
 }
@@ -93,7 +84,7 @@ fn side_by_side<R: Threads>(
     sources: &[Source],
     limits: Limits,
     threads: u8,
-) -> Result<Vec<Timed>, NoMemory>
+) -> AllTimed
     ensures { IfOk result (λ files. AllZip (λ source timed. SourceComesTo limits source timed.checked) sources.now files.items) }
 {
     if threads < 2 || sources.len() < 2 {
@@ -101,10 +92,10 @@ fn side_by_side<R: Threads>(
     }
     let others = threads - 1;
     let (first, rest) = sources.split_at(sources.len().div_ceil(usize::from(threads)));
-    let earlier = move || -> Result<Vec<Timed>, NoMemory>
+    let earlier = move || -> AllTimed
         ensures { IfOk result (λ files. AllZip (λ source timed. SourceComesTo limits source timed.checked) first.entry.now files.items) }
     { in_turn(clock, alloc, first, limits) };
-    let later = move || -> Result<Vec<Timed>, NoMemory>
+    let later = move || -> AllTimed
         ensures { IfOk result (λ files. AllZip (λ source timed. SourceComesTo limits source timed.checked) rest.entry.now files.items) }
     { side_by_side(rt, clock, alloc, rest, limits, others) };
     let (earlier, later) = join(rt, earlier, later);
@@ -115,12 +106,7 @@ fn side_by_side<R: Threads>(
 }
 
 // The same on this thread alone.
-fn in_turn(
-    clock: &HostRuntime,
-    alloc: Global,
-    sources: &[Source],
-    limits: Limits,
-) -> Result<Vec<Timed>, NoMemory>
+fn in_turn(clock: &HostRuntime, alloc: Global, sources: &[Source], limits: Limits) -> AllTimed
     ensures { IfOk result (λ files. AllZip (λ source timed. SourceComesTo limits source timed.checked) sources.now files.items) }
 {
     let stopwatch = HostStopwatch::new(clock);

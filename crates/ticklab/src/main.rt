@@ -1,7 +1,7 @@
 //! `ticklab` shows what a ticket program does: under every schedule, under random ones, and step by step.
 //!
-//! There is only `main`, with its version, the files of the host, whether it has colours, the line that tells how far a
-//! search is, and the threads and the clock of `check`. `main` calls `ended` of `ticklab_answers`, which does everything else.
+//! `main` calls `ended` of `ticklab_answers`, which does everything else. Here is only what touches the host: its files,
+//! its colours, the line that tells how far a search is, and the threads and the clock of `check`; and the version.
 //! Start with `ended` of `ticklab_answers`.
 #![tactic(auto)]
 

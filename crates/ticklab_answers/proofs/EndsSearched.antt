@@ -1,4 +1,12 @@
--- What an answer of `explore --ends` says, from what was explored and what the answer shows of it.
+-- What an answer of `explore --ends` says, from what was explored and what the answer shows of it: by steps of one kind
+-- (`ends_found_as`), and by merged steps first (`unknown_first`, `fault_first`, `quiet_first`).
+-- The idea is that of `Searched.antt`: by cases of what was explored. A fault and a limit are told as there. Where
+-- nothing is wrong and all states were seen, `told_ends` has the four answers about ends.
+-- The difficulty is the second search, as only single steps tell of endless schedules. They find no fault either, since
+-- after merged steps it is known that no schedule leads to one (`never_faults`, `no_other`). So they tell of ends
+-- (`more_as`). If they meet a limit, the answer tells what merged steps have found of ends (`half_as`). The watch hears
+-- both searches, one after the other (`quiet_first`).
+-- Read `told_ends` first, then `no_other` and `quiet_first`.
 use Rattle.std.proofs.Common.{◌≡◌, ◌∙◌, ◌<◌, ℕ, Bool, true, false, List, All, Option, refl, subst, sym}
 use Rattle.std.proofs.lemmas.Bool.{false≢true}
 use Rattle.std.specs.Prelude.{Vec}

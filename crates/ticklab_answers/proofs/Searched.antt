@@ -1,18 +1,24 @@
--- What an answer says, from what was explored and what the answer shows of it.
+-- What an answer of `explore` says, from what was explored and what the answer shows of it: by steps of one kind
+-- (`found_as`), and by merged steps first (`none_first`, `both_first`).
+-- The idea. What is known of a search, what the answer shows and what a watch hears all go by cases of what was
+-- explored: a trap, a broken line, no fault, or a limit. `told_by` puts the three together in each case.
+-- The difficulty is the second search. Where merged steps have found a fault, single ones look for a shortest schedule.
+-- They can't answer that there is none, since one is known (`fault_by`, `told_shortest`). If they meet a limit, the
+-- answer tells a schedule that needs all its steps (`told_minimal`). The watch hears first the one search and then the
+-- other (`told_both`).
+-- Read `told_by` first, then `told_shortest` and `both_first`.
 use Rattle.std.proofs.Common.{◌≡◌, ◌∙◌, ◌+◌, ◌++◌, ◌<◌, ◌≤◌, ◌*◌, ℕ, Bool, true, false, List, All, ap, length, refl, subst, sym}
 use Rattle.std.proofs.lemmas.Bool.{false≢true, or_right}
 use Rattle.std.proofs.Math.Bool.{true-or}
 use Rattle.std.specs.Prelude.{◌||◌, Vec}
 use Rattle.std.specs.Global.{Global}
-use Rattle.std.proofs.lemmas.List.Folds.{list_any_at}
-use Rattle.std.proofs.lemmas.Option.{get_or_from_slice_get, slice_get_within}
 use Rattle.base.specs.Plain.{WholeProgram}
 use Rattle.language_properties.specs.Properties.{Formula}
 use Rattle.language_properties.specs.Values.{Valued}
 use Rattle.language_properties.specs.declared.property.Property.{Property}
 use Rattle.tick_source.specs.Source.{SourceState, source}
 use Rattle.searches_explore.specs.Explored.{has_trapped}
-use Rattle.searches_explore.specs.Lines.{IsFirstBroken, breaks, is_broken, is_fault, line_value, lines_of}
+use Rattle.searches_explore.specs.Lines.{IsFirstBroken, breaks, is_fault, lines_of}
 use Rattle.searches_states.specs.Answer.{IfFound}
 use Rattle.searches_states.specs.Watching.{AreTold, AreToldToEnd, IsWatched}
 use Rattle.searches_states.specs.declared.limits.Limits.{Limits}
@@ -26,7 +32,10 @@ use Rattle.searches_hunt.specs.Minimal.{IfBroken as IfBreaks, IfTrapped as IfTra
 use Rattle.searches_hunt.specs.Never.{IsMinimalBroken, IsMinimalTrapped}
 use Rattle.searches_hunt.specs.declared.minimal.Minimal.{Minimal}
 use Rattle.searches_hunt.specs.declared.minimal.Minimal.TheVariants as M
-use Rattle.ticklab_answers.specs.BySteps.{BrokenBy, LimitBy, SafeBy, SeesBy, TrapBy}
+use Rattle.searches_explore.specs.BySteps.{TellsBy}
+use Rattle.searches_explore.specs.declared.by_steps.StepKind.{StepKind}
+use Rattle.searches_explore.proofs.Offered.{first_breaks}
+use Rattle.ticklab_answers.specs.BySteps.{BrokenBy, LimitBy, SafeBy, SeesBy, TrapBy, kind_of}
 use Rattle.ticklab_answers.specs.Found.{IsFoundBy, IsFoundFirst, IsQuiet, MeetsLimit, TellsBoth, TellsFault, TellsLimit, TellsSafe, TellsShortest, broken, fault, first_fault, first_safe, first_unknown, minimal_break, minimal_trap, safe, shortest, trapped, unknown}
 use Rattle.ticklab_answers.specs.Hearing.{Heard, HearsOf, IsHeard, IsSearchHeard, IsSearchHeardToEnd, hearing}
 use Rattle.ticklab_answers.specs.Shown.{Shows, ShowsMinimal}
@@ -64,6 +73,20 @@ searched_as begins sees before between after m n same a given lines held limits 
       watched = began begins sees before between after m n same a given limits e first watched;
     }))
 
+-- what an exploration by steps of this kind tells
+module _ {W : Type 0} (begins : W → Bool → W → Type 0) (sees : W → ℕ → ℕ → ℕ → W → Type 0) (before between after : W)
+    (a : WholeProgram ℕ) (given lines : List Property) (held : given ≡ lines) (limits : Limits) (e : NeverExplored) where
+  told_so : (m : Bool) → begins before m between → TellsBy a (lines_of given) limits sees between after (kind_of m) e
+      → IsSearchedBy m a lines limits (hearing begins sees) before after e
+  told_so false first told =
+      searched_as begins sees before between after false false refl a given lines held limits e first told.trapped told.broken told.safe told.at_limit told.watched
+  told_so true first told =
+      searched_as begins sees before between after true true refl a given lines held limits e first told.trapped told.broken told.safe told.at_limit told.watched
+
+  pub told_of_kind : (m : Bool) (kind : StepKind) → kind ≡ kind_of m → begins before m between
+      → TellsBy a (lines_of given) limits sees between after kind e → IsSearchedBy m a lines limits (hearing begins sees) before after e
+  told_of_kind m kind same first told = told_so m first (subst (λ (k : StepKind). TellsBy a (lines_of given) limits sees between after k e) same told)
+
 abbrev is_found : Searched → Bool
 is_found (Found schedule) = true
 is_found s = false
@@ -72,11 +95,6 @@ not_found : {schedule : Vec ℕ Global} {s : Searched} → is_found s ≡ false 
 not_found none is = false≢true (sym none ∙ ap is_found is)
 
 -- a line that is broken, or a process that traps, is a fault
-first_breaks : (lines : List Formula) (s : SourceState) (line : ℕ) (v : Valued) → IsFirstBroken lines s line v → breaks lines s ≡ true
-first_breaks lines s line v is =
-    list_any_at (λ one. is_broken (line_value s one)) lines line is.formula (slice_get_within lines line is.formula is.there)
-    (ap (λ one. is_broken (line_value s one)) (get_or_from_slice_get lines line is.formula is.formula is.there) ∙ ap is_broken is.valued ∙ is.broken)
-
 module _ (a : WholeProgram ℕ) (lines : List Property) where
   trap_is_fault : (s : SourceState) → has_trapped s ≡ true → is_fault (lines_of lines) s ≡ true
   trap_is_fault s is = or_right (breaks (lines_of lines) s) (has_trapped s) is

@@ -11,7 +11,13 @@ use Rattle.searches_explore.specs.Ending.{IsShortestStuck, IsStuckAfter}
 use Rattle.searches_explore.specs.Never.{IsBroken, IsMergedNeverLimit, IsMergedNeverSafe, IsNeverLimit, IsNeverSafe, IsShortestBroken, IsShortestTrapped, SeesNeverMerged}
 use Rattle.searches_explore.specs.Searching.{Sees}
 use Rattle.searches_explore.specs.Trap.{IsTrap}
+use Rattle.searches_explore.specs.declared.by_steps.StepKind.{StepKind}
+use Rattle.searches_explore.specs.declared.by_steps.StepKind.TheVariants.{Single, Merged}
 use Rattle.ticklab_answers.specs.Lines.{shortest_break_line, shortest_line, some_break_line, some_line}
+
+abbrev pub kind_of : Bool → StepKind
+kind_of false = Single
+kind_of true = Merged
 
 abbrev pub TrapBy : Bool → WholeProgram ℕ → List Formula → List ℕ → Type 0
 TrapBy false a lines = IsShortestTrapped a lines

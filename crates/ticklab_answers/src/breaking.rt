@@ -7,7 +7,7 @@ ghost use Rattle.ticklab_answers.specs.Asking.{place_of};
 ghost use Rattle.ticklab_answers.specs.Breaking.{IsFirstAt, IsFirstBreak, NeverBreaks, broken_at};
 
 use crate::asking::{NeverLines, PropertyPlace};
-use crate::seen::Seen;
+use crate::seen::VisibleState;
 use base::{NoMemory, Trap};
 use language_questions::Property;
 use std::alloc::Global;
@@ -87,7 +87,7 @@ fn first_broken(
     ensures broken { IfSome result (λ found. IsFirstBroken (lines_of lines.now) machine.now found.0 found.1) }
     ensures none { IfNone result (breaks (lines_of lines.now) machine.now ≡ false) }
 {
-    let seen = Seen {
+    let seen = VisibleState {
         machine,
         processes: program.processes(),
         rows: program.registers(),
@@ -101,7 +101,7 @@ fn first_broken(
     None
 }
 
-fn value_in(seen: &Seen<'_, '_>, line: &Property) -> Result<u32, Trap>
+fn value_in(seen: &VisibleState<'_, '_>, line: &Property) -> Result<u32, Trap>
     ensures { result ≡ line_value seen.now.machine.now (formula_of line.now) }
 {
     line.value(seen)

@@ -1,10 +1,12 @@
 ghost use Rattle.std.specs.Prelude.{◌≡◌, length};
+ghost use Rattle.ticklab_answers.specs.BySteps.{kind_of};
 
 use crate::search::Search;
+use searches_explore::StepKind;
 
 /// How far a program was explored where no schedule is shown.
 #[derive(Clone, Copy)]
-pub struct Extent {
+pub struct SearchExtent {
     /// How many lines must never hold, of which none breaks.
     pub lines: usize,
     /// Whether the states are those between merged steps.
@@ -14,12 +16,23 @@ pub struct Extent {
 }
 
 /// So many states of a program.
-pub fn extent_of(search: &Search<'_, '_>, is_merged: bool, states: u32) -> Extent
+pub fn extent_of(search: &Search<'_, '_>, is_merged: bool, states: u32) -> SearchExtent
     ensures { result ≡ record { lines = length search.now.lines.now.places.items; is_merged = is_merged; states = states } }
 {
-    Extent {
+    SearchExtent {
         lines: search.lines.places.len(),
         is_merged,
         states,
+    }
+}
+
+/// By merged steps, or by single ones.
+pub fn kind_of(is_merged: bool) -> StepKind
+    ensures { result ≡ kind_of is_merged }
+{
+    if is_merged {
+        StepKind::Merged
+    } else {
+        StepKind::Single
     }
 }

@@ -1,23 +1,23 @@
 //! The state of a program's run, as all can see it.
 ghost use Rattle.std.specs.Coded.{codes};
-ghost use Rattle.std.specs.Prelude.{◌≡◌, length, slice_index};
+ghost use Rattle.std.specs.Prelude.{◌≡◌, length};
 ghost use Rattle.base.specs.prover.Coding.{resolved_blocks};
 
 use base::Status;
 use language_properties::Visible;
 use tick_source::SourceMachine;
-use ticket_core::Tickets;
+use ticklab_trace::ticket_of;
 
 /// The state of a machine that has so many processes and register rows.
 #[derive(Clone, Copy)]
-pub struct Seen<'s, 'a> {
+pub struct VisibleState<'s, 'a> {
     pub machine: &'s SourceMachine<'a>,
     pub processes: u8,
     pub rows: u8,
     ghost fits: { (processes ≡ length machine.now.processes) × (rows ≡ length machine.now.rows) } by { Prim.hlevel (codes, resolved_blocks) },
 }
 
-impl<'s, 'a> Visible for Seen<'s, 'a> {
+impl<'s, 'a> Visible for VisibleState<'s, 'a> {
     ghost use Rattle.language_properties.specs.Seen.{seen_of};
 
     ghost seen = { λ seen. seen_of seen.machine.now };
@@ -45,15 +45,5 @@ impl<'s, 'a> Visible for Seen<'s, 'a> {
 
     fn status(&self, process: u8) -> Status {
         self.machine.status(process)
-    }
-}
-
-fn ticket_of(tickets: &Tickets, process: u8) -> u64
-    ensures { result ≡ slice_index tickets.now process }
-{
-    if process < tickets.count() {
-        tickets.ticket(process)
-    } else {
-        0
     }
 }

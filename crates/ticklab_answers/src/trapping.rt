@@ -58,17 +58,11 @@ pub fn trap_shown(search: &Search<'_, '_>, found: &str, head: Head<'_>, schedule
     requires schedule { IsLawful search.now schedule.now }
     ensures { IfOk result (ShowsTrap found.now (head_members head.entry) (sought_by search.now) schedule.now) }
 {
-    let alloc = search.alloc;
-    match search.form {
-        Form::Text => {
-            let text = trap_text(search, found, schedule)?;
-            Ok(answer(alloc, TRAPPED, text))
-        }
-        Form::Json => {
-            let text = run_object(search, head, schedule, None)?;
-            Ok(answer(alloc, TRAPPED, text))
-        }
-    }
+    let text = match search.form {
+        Form::Text => trap_text(search, found, schedule)?,
+        Form::Json => run_object(search, head, schedule, None)?,
+    };
+    Ok(answer(search.alloc, TRAPPED, text))
 }
 
 fn trap_text(search: &Search<'_, '_>, found: &str, schedule: &[u8]) -> Result<String, NoMemory>

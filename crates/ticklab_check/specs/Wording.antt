@@ -1,5 +1,5 @@
 -- What is told of files, line by line, and the exit status.
-use Rattle.std.specs.Prelude.{◌≡◌, ◌+◌, ◌/◌, ◌%◌, ◌==◌, ◌++◌, ℕ, List, [], ◌∷◌, codes, if◌then◌else◌, string_bytes}
+use Rattle.std.specs.Prelude.{◌≡◌, ◌+◌, ◌/◌, ◌%◌, ◌==◌, ◌++◌, ℕ, Bool, true, false, List, [], ◌∷◌, Option, Some, None, codes, if◌then◌else◌, string_bytes}
 use Rattle.std.specs.List.{AllZip, flat_map, zip}
 use Rattle.std.specs.Fmt.{decimal}
 use Rattle.language_questions.specs.declared.questions.Expected.{Expected}
@@ -7,6 +7,7 @@ use Rattle.language_questions.specs.declared.questions.Expected.TheVariants as X
 use Rattle.searches_states.specs.declared.limits.Limits.{Limits}
 use Rattle.ticklab_check.specs.Checking.{SourceComesTo}
 use Rattle.ticklab_check.specs.Comparing.{compared, verdict_of}
+use Rattle.ticklab_check.specs.Words.{found_word, states_of}
 use Rattle.ticklab_check.specs.declared.checked.Checked.{Checked}
 use Rattle.ticklab_check.specs.declared.checked.Checked.TheVariants as C
 use Rattle.ticklab_check.specs.declared.checked.Timed.{Timed}
@@ -18,15 +19,11 @@ use Rattle.ticklab_check.specs.declared.reporting.Findings.{Findings}
 use Rattle.ticklab_check.specs.declared.source.Source.{Source}
 use Rattle.ticklab_check.specs.declared.tally.Tally.{Tally}
 
+-- its word, and more where that alone says little
 abbrev pub found_text : Found → List ℕ
-found_text (F.Safe states) = codes "safe"
-found_text (F.Ends states) = codes "safe"
-found_text F.Trap = codes "trap"
 found_text F.Never = codes "broken #! never line"
-found_text (F.Stuck states) = codes "stuck"
-found_text (F.Endless states) = codes "endless"
 found_text (F.Unsettled states) = codes "limit, whether all end was not found out"
-found_text (F.Limit states) = codes "limit"
+found_text found = found_word found
 
 -- the word behind `#! expect`
 abbrev pub expected_text : Expected → List ℕ
@@ -48,16 +45,16 @@ count_text states = decimal states ++ (if states == 1 then codes " state" else c
 abbrev pub merged_text : ℕ → List ℕ
 merged_text states = decimal states ++ (if states == 1 then codes " merged state" else codes " merged states")
 
+-- whether they are merged, and how many there are, behind a comma
+abbrev pub behind_text : Option (Bool × ℕ) → List ℕ
+behind_text None = []
+behind_text (Some (true, states)) = codes ", " ++ merged_text states
+behind_text (Some (false, states)) = codes ", " ++ count_text states
+
 -- how many states there are, where that is known
 abbrev pub states_text : Found → List ℕ
-states_text (F.Safe states) = codes ", " ++ merged_text states
-states_text (F.Ends states) = codes ", " ++ count_text states
-states_text F.Trap = []
-states_text F.Never = []
-states_text (F.Stuck states) = codes ", " ++ merged_text states
-states_text (F.Endless states) = codes ", " ++ count_text states
-states_text (F.Unsettled states) = codes ", " ++ merged_text states
 states_text (F.Limit states) = codes ", more than " ++ merged_text states
+states_text found = behind_text (states_of found)
 
 -- hundredths of a second, as seconds
 abbrev pub seconds_text : ℕ → List ℕ

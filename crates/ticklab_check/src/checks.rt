@@ -9,6 +9,9 @@ use base::NoMemory;
 use searches_explore::Limits;
 use std::alloc::Global;
 
+/// What each file comes to, in their order.
+pub type AllTimed = Result<Vec<Timed>, NoMemory>;
+
 /// Says what time it is.
 pub trait Stopwatch {
     /// Hundredths of a second since some moment.
@@ -21,12 +24,7 @@ pub trait Checks: Drop + Sized {
     fn with_jobs(&self, jobs: u32) -> Self;
 
     /// What each file comes to, in their order. Each search has these limits for itself.
-    fn checked(
-        &self,
-        alloc: Global,
-        sources: &[Source],
-        limits: Limits,
-    ) -> Result<Vec<Timed>, NoMemory>
+    fn checked(&self, alloc: Global, sources: &[Source], limits: Limits) -> AllTimed
         ensures { IfOk result (λ files. AllZip (λ source timed. SourceComesTo limits source timed.checked) sources.now files.items) };
 }
 
@@ -43,12 +41,7 @@ impl<'a, T: Stopwatch> Checks for InTurn<'a, T> {
         }
     }
 
-    fn checked(
-        &self,
-        alloc: Global,
-        sources: &[Source],
-        limits: Limits,
-    ) -> Result<Vec<Timed>, NoMemory> {
+    fn checked(&self, alloc: Global, sources: &[Source], limits: Limits) -> AllTimed {
         let mut files = Vec::new(alloc);
         for source in sources {
             let timed = timed_file(alloc, self.stopwatch, source, limits)?;

@@ -1,3 +1,6 @@
+ghost use Rattle.std.specs.Prelude.{◌≡◌};
+ghost use Rattle.ticklab_check.specs.Words.{found_word, states_of};
+
 /// What a search of a program finds.
 #[derive(Clone, Copy, PartialEq, Eq, Debug)]
 pub enum Found {
@@ -20,4 +23,33 @@ pub enum Found {
     Unsettled { states: u32 },
     /// A limit is met: there are more states than this.
     Limit { states: u32 },
+}
+
+/// The word for it.
+pub fn found_word(found: Found) -> &'static str
+    ensures { result.now ≡ found_word found }
+{
+    match found {
+        Found::Safe { .. } | Found::Ends { .. } => "safe",
+        Found::Trap => "trap",
+        Found::Never => "never",
+        Found::Stuck { .. } => "stuck",
+        Found::Endless { .. } => "endless",
+        Found::Unsettled { .. } => "unsettled",
+        Found::Limit { .. } => "limit",
+    }
+}
+
+/// Whether states are merged ones, and how many there are, where that is known.
+pub fn states_of(found: Found) -> Option<(bool, u32)>
+    ensures { result ≡ states_of found }
+{
+    match found {
+        Found::Trap | Found::Never => None,
+        Found::Safe { states }
+        | Found::Stuck { states }
+        | Found::Unsettled { states }
+        | Found::Limit { states } => Some((true, states)),
+        Found::Ends { states } | Found::Endless { states } => Some((false, states)),
+    }
 }

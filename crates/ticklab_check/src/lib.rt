@@ -19,9 +19,9 @@ mod wording;
 
 pub use base::NoMemory;
 pub use checked::{Checked, Timed, Verdict};
-pub use checks::{Checks, InTurn, Stopwatch, timed_file};
+pub use checks::{AllTimed, Checks, InTurn, Stopwatch, timed_file};
 pub use comparing::verdict_of;
-pub use found::Found;
+pub use found::{Found, found_word, states_of};
 pub use language_questions::Expected;
 pub use reporting::{Findings, check};
 pub use searching::checked_file;

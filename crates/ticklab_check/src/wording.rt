@@ -1,11 +1,11 @@
 // Adds what is told of files to a text.
 ghost use Rattle.std.specs.Prelude.{◌≡◌, ◌++◌, ◌==◌, OnOk, length, string_bytes};
 ghost use Rattle.std.specs.Fmt.{decimal};
-ghost use Rattle.ticklab_check.specs.Wording.{checked_text, count_text, expected_text, file_text, files_text, found_text, merged_text, searched_line, seconds_text, states_text, tally_text, verdict_text};
+ghost use Rattle.ticklab_check.specs.Wording.{behind_text, checked_text, count_text, expected_text, file_text, files_text, found_text, merged_text, searched_line, seconds_text, states_text, tally_text, verdict_text};
 
 use crate::checked::{Checked, Timed, Verdict};
 use crate::comparing::compared;
-use crate::found::Found;
+use crate::found::{Found, found_word, states_of};
 use crate::source::Source;
 use crate::tally::Tally;
 use itoa::Buffer;
@@ -61,13 +61,9 @@ fn found_text(found: Found) -> &'static str
     ensures { result.now ≡ found_text found }
 {
     match found {
-        Found::Safe { .. } | Found::Ends { .. } => "safe",
-        Found::Trap => "trap",
         Found::Never => "broken #! never line",
-        Found::Stuck { .. } => "stuck",
-        Found::Endless { .. } => "endless",
         Found::Unsettled { .. } => "limit, whether all end was not found out",
-        Found::Limit { .. } => "limit",
+        _ => found_word(found),
     }
 }
 
@@ -101,19 +97,26 @@ fn push_states(text: &mut Vec<u8>, found: Found) -> Added
     ensures { OnOk result (text.new.items ≡ text.old.items ++ states_text found) }
 {
     match found {
-        Found::Trap | Found::Never => Ok(()),
-        Found::Safe { states } | Found::Stuck { states } | Found::Unsettled { states } => {
-            push(text, ", ")?;
-            push_merged(text, states)
-        }
-        Found::Ends { states } | Found::Endless { states } => {
-            push(text, ", ")?;
-            push_count(text, states)
-        }
         Found::Limit { states } => {
             push(text, ", more than ")?;
             push_merged(text, states)
         }
+        _ => push_behind(text, states_of(found)),
+    }
+}
+
+// Whether they are merged, and how many there are, behind a comma.
+fn push_behind(text: &mut Vec<u8>, states: Option<(bool, u32)>) -> Added
+    ensures { OnOk result (text.new.items ≡ text.old.items ++ behind_text states) }
+{
+    let Some((merged, states)) = states else {
+        return Ok(());
+    };
+    push(text, ", ")?;
+    if merged {
+        push_merged(text, states)
+    } else {
+        push_count(text, states)
     }
 }
 

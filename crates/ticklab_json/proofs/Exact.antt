@@ -1,5 +1,12 @@
--- No object has a float, so each has one text: each part has none, and a member that is put where its key belongs brings
--- none. By cases on what may be left out, and by induction on members and on lists.
+-- No object has a float, so each has one text: none of a step (`statement_exact`, `instruction_exact`), of a run or a
+-- loop that a search has found (`run_told`, `loop_told`), or of what files come to (`findings_exact`).
+-- The idea. A member that is put where its key belongs brings no float if its value has none (`put_exact`). The same
+-- holds of one that may be left out (`with_exact`), where `IsExact` says that what there is has none. So an object is
+-- gone through in the order in which its members are put, from the inside out. Of lists it is an induction
+-- (`items_exact`).
+-- The difficulty is that many members may be left out, and each doubles the cases. So each has a lemma of its own, for
+-- any members that are there before it, and what is there so far has a name (`members_exact`).
+-- Read `put_exact` first, then `with_exact` and `members_exact`.
 use Rattle.std.proofs.Common.{◌≡◌, ℕ, zero, suc, ◌+◌, ◌==◌, ◌||◌, List, [], ◌∷◌, ◌++◌, map, take, length, Option, Some, None, option_map, Ordering, Less, Equal, Greater, Bool, true, false, true≢false, refl, sym, subst, ap, ◌∙◌, nat_cmp, Ok, Err}
 use Rattle.std.specs.Prelude.{codes, if◌then◌else◌, option_and_then, slice_get, ⊤}
 use Rattle.std.specs.Cmp.Lexicographic.{slice_cmp}
@@ -17,6 +24,7 @@ use Rattle.serde_json.specs.Data.{Data, boolean, string, array, Members, no_memb
 use Rattle.serde_json.specs.View.{items_of}
 use Rattle.serde_json.specs.Written.{has_float, items_have_float, members_have_float}
 use Rattle.ticklab_check.specs.Wording.{expected_text}
+use Rattle.ticklab_check.specs.Words.{states_of}
 use Rattle.ticklab_check.specs.declared.checked.Checked.{Checked}
 use Rattle.ticklab_check.specs.declared.checked.Checked.TheVariants as C
 use Rattle.ticklab_check.specs.declared.reporting.Findings.{Findings}
@@ -25,7 +33,7 @@ use Rattle.ticklab_trace.specs.Places.{Standing}
 use Rattle.ticklab_trace.specs.TraceText.{label_rank, ticket_rank}
 use Rattle.ticklab_trace.specs.declared.steps.StatementStep.{StatementStep}
 use Rattle.ticklab_trace.specs.declared.steps.InstructionStep.{InstructionStep}
-use Rattle.ticklab_json.specs.Checks.{file_data, file_list, file_members, findings_data, states_of, with_checked, with_states}
+use Rattle.ticklab_json.specs.Checks.{file_data, file_list, file_members, findings_data, with_checked, with_states}
 use Rattle.ticklab_json.specs.Events.{event_data}
 use Rattle.ticklab_json.specs.Found.{fault_text, head_members, lead_in_data, loop_data, run_data}
 use Rattle.ticklab_json.specs.Members.{count, with_member}

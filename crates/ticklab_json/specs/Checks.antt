@@ -6,26 +6,15 @@ use Rattle.serde_json.specs.Data.{Data, boolean, string, array, object, Members,
 use Rattle.serde_json.specs.View.{items_of}
 use Rattle.ticklab_check.specs.Comparing.{verdict_of}
 use Rattle.ticklab_check.specs.Wording.{expected_text}
+use Rattle.ticklab_check.specs.Words.{found_word, states_of}
 use Rattle.ticklab_check.specs.declared.checked.Checked.{Checked}
 use Rattle.ticklab_check.specs.declared.checked.Checked.TheVariants as C
 use Rattle.ticklab_check.specs.declared.checked.Timed.{Timed}
 use Rattle.ticklab_check.specs.declared.checked.Verdict.{Verdict}
 use Rattle.ticklab_check.specs.declared.checked.Verdict.TheVariants as V
-use Rattle.ticklab_check.specs.declared.found.Found.{Found}
-use Rattle.ticklab_check.specs.declared.found.Found.TheVariants as F
 use Rattle.ticklab_check.specs.declared.reporting.Findings.{Findings}
 use Rattle.ticklab_check.specs.declared.source.Source.{Source}
 use Rattle.ticklab_json.specs.Members.{count}
-
-abbrev pub found_word : Found → List ℕ
-found_word (F.Safe states) = codes "safe"
-found_word (F.Ends states) = codes "safe"
-found_word F.Trap = codes "trap"
-found_word F.Never = codes "never"
-found_word (F.Stuck states) = codes "stuck"
-found_word (F.Endless states) = codes "endless"
-found_word (F.Unsettled states) = codes "unsettled"
-found_word (F.Limit states) = codes "limit"
 
 abbrev pub checked_word : Checked → List ℕ
 checked_word (C.Refused report) = codes "refused"
@@ -35,17 +24,6 @@ abbrev pub verdict_word : Verdict → List ℕ
 verdict_word V.AsExpected = codes "as-expected"
 verdict_word V.Otherwise = codes "otherwise"
 verdict_word V.Limit = codes "limit"
-
--- whether states are merged ones, and how many there are, where that is known
-abbrev pub states_of : Found → Option (Bool × ℕ)
-states_of (F.Safe states) = Some (true, states)
-states_of (F.Ends states) = Some (false, states)
-states_of F.Trap = None
-states_of F.Never = None
-states_of (F.Stuck states) = Some (true, states)
-states_of (F.Endless states) = Some (false, states)
-states_of (F.Unsettled states) = Some (true, states)
-states_of (F.Limit states) = Some (true, states)
 
 abbrev pub with_states : Option (Bool × ℕ) → Members → Members
 with_states None members = members

@@ -2,14 +2,16 @@
 ghost use Rattle.std.specs.Prelude.{◌≡◌, ◌∷◌, [], IfOk, OnOk, length, map, string_bytes};
 ghost use Rattle.serde_json.specs.Data.{object};
 ghost use Rattle.serde_json.specs.View.{members_view, view};
-ghost use Rattle.ticklab_json.specs.Checks.{checked_word, file_data, file_list, file_members, findings_data, findings_members, found_word, states_of, verdict_word, with_checked, with_states};
+ghost use Rattle.ticklab_json.specs.Checks.{checked_word, file_data, file_list, file_members, findings_data, findings_members, verdict_word, with_checked, with_states};
 ghost use Rattle.ticklab_json.specs.Members.{lines};
 
 use crate::members::{Members, answer_on, one_line};
 use base::NoMemory;
 use serde_json::{Value, json, put};
 use std::alloc::{AllocError, Global};
-use ticklab_check::{Checked, Findings, Found, Source, Timed, Verdict, expected_text, verdict_of};
+use ticklab_check::{
+    Checked, Findings, Source, Timed, Verdict, expected_text, found_word, states_of, verdict_of,
+};
 
 /// What these files come to, as an object in a line.
 pub fn findings_object(
@@ -95,40 +97,12 @@ fn put_states(
     put(members, alloc, "states", Value::from(states))
 }
 
-// Whether states are merged ones, and how many there are, where that is known.
-fn states_of(found: Found) -> Option<(bool, u32)>
-    ensures { result ≡ states_of found }
-{
-    match found {
-        Found::Trap | Found::Never => None,
-        Found::Safe { states }
-        | Found::Stuck { states }
-        | Found::Unsettled { states }
-        | Found::Limit { states } => Some((true, states)),
-        Found::Ends { states } | Found::Endless { states } => Some((false, states)),
-    }
-}
-
 fn checked_word(checked: &Checked) -> &'static str
     ensures { result.now ≡ checked_word checked.now }
 {
     match checked {
         Checked::Refused(_) => "refused",
         Checked::Searched { found, .. } => found_word(*found),
-    }
-}
-
-fn found_word(found: Found) -> &'static str
-    ensures { result.now ≡ found_word found }
-{
-    match found {
-        Found::Safe { .. } | Found::Ends { .. } => "safe",
-        Found::Trap => "trap",
-        Found::Never => "never",
-        Found::Stuck { .. } => "stuck",
-        Found::Endless { .. } => "endless",
-        Found::Unsettled { .. } => "unsettled",
-        Found::Limit { .. } => "limit",
     }
 }
 

@@ -1,8 +1,8 @@
 //! `ticklab_json` writes what `ticklab` answers as JSON.
 //!
-//! Each value that an answer has is told as an object whose keys stand in the order of their bytes. `specs/` says
+//! An answer is an object whose keys are sorted by their bytes; a trace is an object in a line for each step. `specs/` says
 //! which: `Events` what others see of a step, `Steps` the steps of both machines, `Found` what a search has found, `Checks`
-//! what files come to, `Explanations` what is wrong with one. An object of a trace is a line.
+//! what files come to, `Explanations` what is wrong with one.
 //! Start with `source_objects` and `found_run`.
 #![tactic(auto)]
 

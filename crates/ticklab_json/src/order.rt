@@ -2,11 +2,11 @@
 ghost use Rattle.std.specs.Prelude.{◌≡◌, ◌<◌, IfOk, length, map, option_map};
 ghost use Rattle.serde_json.specs.View.{view};
 ghost use Rattle.ticklab_json.specs.Steps.{label_order, rank_data, ticket_order};
-ghost use Rattle.ticklab_trace.specs.TraceText.{label_rank, ticket_rank};
 
 use serde_json::Value;
 use std::alloc::{AllocError, Global};
 use ticket_core::Tickets;
+use ticklab_trace::{label_rank, ticket_rank};
 use word_core::LabelWord;
 
 /// By these tickets, where there are some.
@@ -43,27 +43,5 @@ fn rank_value(rank: Option<u8>) -> Value
     match rank {
         Some(rank) => Value::from(rank),
         None => Value::Null,
-    }
-}
-
-fn ticket_rank(tickets: &Tickets, i: u8) -> Option<u8>
-    requires { i < length tickets.now }
-    ensures { result ≡ ticket_rank tickets.now i }
-{
-    if tickets.held(i) {
-        Some(tickets.ranks()[usize::from(i)])
-    } else {
-        None
-    }
-}
-
-fn label_rank(labels: &LabelWord, i: u8) -> Option<u8>
-    requires { i < length labels.now }
-    ensures { result ≡ label_rank labels.now i }
-{
-    if labels.held(i) {
-        Some(labels.rank(i))
-    } else {
-        None
     }
 }

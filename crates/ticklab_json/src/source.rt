@@ -1,5 +1,5 @@
 //! The steps of a program as objects.
-ghost use Rattle.std.specs.Prelude.{◌≡◌, ◌<◌, IfOk, None, OnOk, map, option_and_then, option_map, slice_get, slice_index, string_bytes};
+ghost use Rattle.std.specs.Prelude.{◌≡◌, ◌<◌, IfOk, None, OnOk, map, option_and_then, option_map, slice_get, string_bytes};
 ghost use Rattle.serde_json.specs.View.{members_view, view};
 ghost use Rattle.ticklab_json.specs.Members.{lines};
 ghost use Rattle.ticklab_json.specs.Steps.{broken_at, broken_line, start_data, start_list, statement_data, statement_list, statement_objects, stopped, taken, with_place, written_data};
@@ -14,7 +14,7 @@ use serde_json::{Value, json, put};
 use std::alloc::{AllocError, Global};
 use tick_kinds::Program;
 use ticket_core::Tickets;
-use ticklab_trace::{StatementPlace, StatementStep, Written};
+use ticklab_trace::{StatementPlace, StatementStep, Written, ticket_of};
 
 /// An object in a line for each step: its number, the process, where its statement stands and how it reads, and what it
 /// did. The line that breaks is told in the object of the step after which it does, or in one before all.
@@ -153,16 +153,6 @@ fn ticket_in(p: u8, act: Option<Act>, tickets: Option<Tickets>) -> Option<Value>
     match act {
         Some(Act::Stamp) => Some(Value::from(ticket_of(&tickets, p))),
         _ => None,
-    }
-}
-
-fn ticket_of(tickets: &Tickets, p: u8) -> u64
-    ensures { result ≡ slice_index tickets.now p }
-{
-    if p < tickets.count() {
-        tickets.ticket(p)
-    } else {
-        0
     }
 }
 

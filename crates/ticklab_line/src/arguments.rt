@@ -59,7 +59,7 @@ pub fn schedule_only<'a>(alloc: Global) -> Arg<'a>
     flag(
         alloc,
         "schedule-only",
-        "Prints the line of the schedule alone, and nothing where there is none",
+        "Prints only the schedule, or nothing if there is none",
     )
 }
 
@@ -131,7 +131,7 @@ pub fn limit<'a>(alloc: Global) -> Arg<'a>
         "limit",
         "STATES",
         value_parser!(u32),
-        "Gives up where there are more states than this [default: 4294967295]",
+        "Gives up if there are more states than this [default: 4294967295]",
     )
 }
 
@@ -144,7 +144,7 @@ pub fn memory<'a>(alloc: Global) -> Arg<'a>
         "memory",
         "MB",
         megabytes(),
-        "Gives up where the states take more memory than this, 1 to 1000000 megabytes [default: 1000]",
+        "Gives up if the states take more memory than this, 1 to 1000000 megabytes [default: 1000]",
     )
 }
 
@@ -176,7 +176,7 @@ pub fn ends<'a>(alloc: Global) -> Arg<'a>
         .value_name("P")
         .num_args(0..=1)
         .value_parser(zero_to_five())
-        .help("Asks too whether all processes can still end after every schedule, or process P")
+        .help("Also asks whether all processes, or process P, can still end after every schedule")
 }
 
 fn zero_to_five<'a>() -> ValueParser<'a>

@@ -213,7 +213,7 @@ fn explore<'a>(alloc: Global) -> Result<Command<'a>, AllocError>
     let explore = filed(
         alloc,
         "explore",
-        "Looks under every schedule for one under which a process traps, and then for a shortest one",
+        "Looks under every schedule for one under which a process traps or a #! never line breaks, and then for a shortest one",
         PROGRAM,
     );
     let explore = taking(explore, limit(alloc));
@@ -223,7 +223,7 @@ fn explore<'a>(alloc: Global) -> Result<Command<'a>, AllocError>
         flag(
             alloc,
             "merged",
-            "Only takes the private steps of a process with the step before them: far fewer states, and a schedule that need not be a shortest one",
+            "Searches by merged steps alone: far fewer states, and a schedule that need not be a shortest one",
         ),
     );
     let explore = taking(
@@ -231,7 +231,7 @@ fn explore<'a>(alloc: Global) -> Result<Command<'a>, AllocError>
         flag(
             alloc,
             "single",
-            "Only takes each step by itself: more states, and a shortest schedule; not with --merged",
+            "Searches by single steps alone: more states, and a shortest schedule; not with --merged",
         ),
     );
     let explore = taking(
@@ -240,7 +240,7 @@ fn explore<'a>(alloc: Global) -> Result<Command<'a>, AllocError>
             alloc,
             "never",
             "EXPR",
-            "Asks too whether no state has this property, like a line #! never EXPR of the program; it may be given again",
+            "Also asks that EXPR holds in no state, as a line #! never EXPR of the program does; it may be given again",
         ),
     );
     let explore = taking(explore, schedule_only(alloc));
@@ -326,7 +326,7 @@ fn check<'a>(alloc: Global) -> Result<Command<'a>, AllocError>
         named(
             alloc,
             "check",
-            "Looks in each file, as explore does, whether it is as its line #! expect says: safe, trap, never or stuck; safe without one",
+            "Explores each file, and compares the answer with its line #! expect: safe, trap, never or stuck; safe without one",
         ),
         words(
             alloc,
@@ -375,14 +375,14 @@ fn lasso<'a>(alloc: Global) -> Result<Command<'a>, AllocError>
         filed(
             alloc,
             "lasso",
-            "Says whether a schedule can repeat a part of itself for ever, each process that runs there again and again",
+            "Says whether a cycle after a prefix can go on for ever, with a step of each process that runs there",
             PROGRAM,
         ),
         word(
             alloc,
             "prefix",
             "PREFIX",
-            "The steps before it, as \"0 1*3 0\", or @ and the file that has them",
+            "The steps before the cycle, as \"0 1*3 0\", or @ and the file that has them",
         ),
     );
     taking(
@@ -391,7 +391,7 @@ fn lasso<'a>(alloc: Global) -> Result<Command<'a>, AllocError>
             alloc,
             "cycle",
             "CYCLE",
-            "The steps that are repeated, or @ and the file that has them",
+            "The steps of the cycle, or @ and the file that has them",
         ),
     )
 }
@@ -412,7 +412,7 @@ fn hunt<'a>(alloc: Global) -> Result<Command<'a>, AllocError>
     let hunt = filed(
         alloc,
         "hunt",
-        "Looks under random schedules for one under which a process traps or a line #! never breaks, and leaves out of it what can be",
+        "Tries random schedules until a process traps or a #! never line breaks, and shortens that schedule",
         PROGRAM,
     );
     let hunt = taking(
@@ -467,7 +467,7 @@ fn hunt<'a>(alloc: Global) -> Result<Command<'a>, AllocError>
         flag(
             alloc,
             "uniform",
-            "Each step is of any process alike, in place of bursts of steps of one",
+            "Draws the process of each step by itself, in place of bursts of steps of one process",
         ),
     );
     let hunt = taking(
@@ -476,7 +476,7 @@ fn hunt<'a>(alloc: Global) -> Result<Command<'a>, AllocError>
             alloc,
             "never",
             "EXPR",
-            "Asks too that no state has this property, like a line #! never EXPR of the program; it may be given again",
+            "Also asks that EXPR holds in no state, as a line #! never EXPR of the program does; it may be given again",
         ),
     );
     let hunt = taking(hunt, schedule_only(alloc));
@@ -557,7 +557,7 @@ fn run<'a>(alloc: Global, name: &'a str, about: &'a str) -> Result<Command<'a>, 
             alloc,
             "never",
             "EXPR",
-            "Marks too where this property holds first, like a line #! never EXPR of the program; it may be given again; not with --code or --lift",
+            "Also marks where EXPR first holds, as a line #! never EXPR of the program does; it may be given again; not with --code or --lift",
         ),
     )
 }
@@ -588,7 +588,7 @@ fn draw<'a>(alloc: Global) -> Result<Command<'a>, AllocError>
             "from",
             "STEP",
             step(),
-            "The first step that is shown, counted from 1 as by trace; where there is none, the picture is empty [default: 1]",
+            "The first step that is shown, counted from 1 as by trace; past the last one the picture is empty [default: 1]",
         ),
     );
     let draw = taking(
@@ -713,7 +713,7 @@ fn explain<'a>(alloc: Global) -> Result<Command<'a>, AllocError>
             alloc,
             "schedule",
             "SCHEDULE",
-            "A schedule of it, to be explained too, or @ and the file that has it or an answer",
+            "A schedule of it, to be explained too; or @ and the file that has it or an answer",
         ),
     );
     taking(explain, json(alloc))
@@ -742,7 +742,7 @@ fn labels<'a>(alloc: Global) -> Result<Command<'a>, AllocError>
             alloc,
             "moves",
             "STAMPS",
-            "Who stamps, as \"0 1*2 0\"; c0 gives the label of process 0 up",
+            "Who stamps, as \"0 1*2 0\"; c0 takes the label of process 0 away",
         ),
     )
 }

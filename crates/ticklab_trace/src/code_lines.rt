@@ -2,9 +2,10 @@
 
 ghost use Rattle.std.specs.Prelude.{◌≡◌, ◌<◌, ◌++◌, IfOk, OnOk, length, string_bytes};
 ghost use Rattle.code_text.specs.CodeText.{instr_text};
-ghost use Rattle.ticklab_trace.specs.TraceText.{instruction_line, instruction_lines, instruction_text, label_order_text, label_rank, made_text, words_text};
+ghost use Rattle.ticklab_trace.specs.TraceText.{instruction_line, instruction_lines, instruction_text, label_order_text, made_text, words_text};
 
 use crate::columns::{end_words, push_head, push_place};
+use crate::ranks::label_rank;
 use crate::steps::InstructionStep;
 use crate::wording::{push_act, push_rank};
 use base::NoMemory;
@@ -98,18 +99,7 @@ fn push_order(text: &mut String, labels: Option<LabelWord>) -> Result<(), AllocE
     };
     text.push_str(", order")?;
     for i in 0..labels.n() {
-        push_rank(text, rank_of(&labels, i))?;
+        push_rank(text, label_rank(&labels, i))?;
     }
     Ok(())
-}
-
-fn rank_of(labels: &LabelWord, i: u8) -> Option<u8>
-    requires { i < length labels.now }
-    ensures { result ≡ label_rank labels.now i }
-{
-    if labels.held(i) {
-        Some(labels.rank(i))
-    } else {
-        None
-    }
 }

@@ -1,10 +1,11 @@
 //! The lines of the steps of a program.
 
-ghost use Rattle.std.specs.Prelude.{◌≡◌, ◌<◌, ◌≤◌, ◌+◌, ◌++◌, IfOk, OnOk, length, map, option_map, slice_get, slice_index, string_bytes};
+ghost use Rattle.std.specs.Prelude.{◌≡◌, ◌<◌, ◌≤◌, ◌+◌, ◌++◌, IfOk, OnOk, length, map, option_map, slice_get, string_bytes};
 ghost use Rattle.ticklab_trace.specs.Places.{told_standing};
-ghost use Rattle.ticklab_trace.specs.TraceText.{done_text, order_text, spot_text, statement_line, statement_lines, step_text, taken_text, ticket_rank};
+ghost use Rattle.ticklab_trace.specs.TraceText.{done_text, order_text, spot_text, statement_line, statement_lines, step_text, taken_text};
 
 use crate::columns::{push_head, push_nowhere, push_where, push_words};
+use crate::ranks::{ticket_of, ticket_rank};
 use crate::spots::StatementPlace;
 use crate::steps::StatementStep;
 use crate::wording::{push_act, push_rank, push_variable};
@@ -133,7 +134,7 @@ fn push_order(
     push_taken(text, p, act, &tickets)?;
     text.push_str(", order")?;
     for i in 0..tickets.count() {
-        push_rank(text, rank_of(&tickets, i))?;
+        push_rank(text, ticket_rank(&tickets, i))?;
     }
     Ok(())
 }
@@ -147,26 +148,5 @@ fn push_taken(text: &mut String, p: u8, act: Act, tickets: &Tickets) -> Result<(
             push_number(text, ticket_of(tickets, p))
         }
         _ => Ok(()),
-    }
-}
-
-fn ticket_of(tickets: &Tickets, p: u8) -> u64
-    ensures { result ≡ slice_index tickets.now p }
-{
-    if p < tickets.count() {
-        tickets.ticket(p)
-    } else {
-        0
-    }
-}
-
-fn rank_of(tickets: &Tickets, i: u8) -> Option<u8>
-    requires { i < length tickets.now }
-    ensures { result ≡ ticket_rank tickets.now i }
-{
-    if tickets.held(i) {
-        Some(tickets.ranks()[usize::from(i)])
-    } else {
-        None
     }
 }

@@ -1,12 +1,11 @@
 //! Known programs: deadlocks, a livelock, processes that make room for each other for ever, and their repaired forms.
-ghost use Rattle.std.specs.Prelude.{◌<◌, All, IfOk};
-ghost use Rattle.tick_kinds.specs.Resolution.{resolved};
 
 use super::merged::{Search, Steps, is_said_alike};
+use crate::lawful::lawful_steps;
 use searches_explore::{EndExplored, LassoAnswer, MustStop, NoMemory, explore_lasso};
-use std::alloc::Global;
+use std::alloc::{AllocError, Global};
 use std::test::Fail;
-use tests_shared::{accepted, holds, is_same};
+use tests_shared::{Checked, holds, is_same};
 use tick_kinds::Program;
 
 // What each process of a program does. Each says that it wants to enter, and waits until the other doesn't.
@@ -57,14 +56,16 @@ static FIRST: MustStop = MustStop::Each([true, false, false, false, false, false
 
 static SECOND: MustStop = MustStop::Each([false, true, false, false, false, false]);
 
+static NOBODY: MustStop = MustStop::Each([false; 6]);
+
 // A program of so many processes that do this.
-fn program_of(alloc: Global, processes: &str, acts: &str) -> Result<Program, Fail> {
+fn program_of(alloc: Global, processes: &str, acts: &str) -> Result<Checked, Fail> {
     let mut text = String::from_str(alloc, "processes ")?;
     text.push_str(processes)?;
     text.push_str("; var right, f; reg flag; begin ")?;
     text.push_str(acts)?;
     text.push_str(" end\n")?;
-    accepted(alloc, text.as_str())
+    Checked::new(alloc, text.as_str())
 }
 
 fn search_of(program: &Program, asked: MustStop) -> Search<'_> {
@@ -100,8 +101,7 @@ fn told(alloc: Global, program: &Program, asked: MustStop) -> Result<(&'static s
 
 // The same of two processes that do this.
 fn told_of_two(alloc: Global, acts: &str, asked: MustStop) -> Result<(&'static str, usize), Fail> {
-    let program = program_of(alloc, "2", acts)?;
-    told(alloc, &program, asked)
+    told(alloc, &program_of(alloc, "2", acts)?.program, asked)
 }
 
 #[test]
@@ -124,96 +124,87 @@ fn who_waits_and_who_gives_way(rt: HostRuntime) -> Result<(), Fail> {
 #[test]
 fn three_at_a_table(rt: HostRuntime) -> Result<(), Fail> {
     let alloc = rt.alloc();
-    let program = program_of(alloc, "3", PHILOSOPHERS)?;
-    is_same(&told(alloc, &program, MustStop::All)?, &("stuck", 3))?;
-    let program = program_of(alloc, "3", PHILOSOPHERS_REPAIRED)?;
-    is_same(&told(alloc, &program, MustStop::All)?, &("ends", 0))
+    for (acts, wanted) in [
+        (PHILOSOPHERS, ("stuck", 3)),
+        (PHILOSOPHERS_REPAIRED, ("ends", 0)),
+    ] {
+        let three = program_of(alloc, "3", acts)?;
+        is_same(&told(alloc, &three.program, MustStop::All)?, &wanted)?;
+    }
+    Ok(())
 }
 
 #[test]
 fn only_those_asked_for(rt: HostRuntime) -> Result<(), Fail> {
-    let alloc = rt.alloc();
-    let nobody = MustStop::Each([false; 6]);
-    is_same(
-        &told_of_two(alloc, LOST_FLAG, MustStop::All)?,
-        &("stuck", 1),
-    )?;
-    is_same(&told_of_two(alloc, LOST_FLAG, FIRST)?, &("ends", 0))?;
-    is_same(&told_of_two(alloc, LOST_FLAG, SECOND)?, &("stuck", 1))?;
-    is_same(&told_of_two(alloc, BOTH_WAIT, nobody)?, &("ends", 0))
-}
-
-// These steps but those of processes that there are not.
-fn lawful_steps(alloc: Global, program: &Program, steps: &[u8]) -> Result<Vec<u8>, Fail>
-    ensures { IfOk result (λ lawful. All (λ p. p < (resolved program.now).processes) lawful.items) }
-{
-    let processes = program.processes();
-    let mut lawful = Vec::new(alloc);
-    for &process in steps {
-        if process < processes {
-            lawful.push(process)?;
-        }
+    for (acts, asked, wanted) in [
+        (LOST_FLAG, MustStop::All, ("stuck", 1)),
+        (LOST_FLAG, FIRST, ("ends", 0)),
+        (LOST_FLAG, SECOND, ("stuck", 1)),
+        (BOTH_WAIT, NOBODY, ("ends", 0)),
+    ] {
+        is_same(&told_of_two(rt.alloc(), acts, asked)?, &wanted)?;
     }
-    Ok(lawful)
+    Ok(())
 }
 
-fn lasso(
+// The answer on schedules of two processes that do this.
+fn is_answered(
     alloc: Global,
     acts: &str,
     asked: MustStop,
-    prefix: &[u8],
+    schedules: (&[u8], &[u8]),
+    wanted: LassoAnswer,
+) -> Result<(), Fail> {
+    let two = program_of(alloc, "2", acts)?;
+    let prefix = lawful_steps(alloc, &two.program, schedules.0)?;
+    let cycle = lawful_steps(alloc, &two.program, schedules.1)?;
+    let found = match explore_lasso(alloc, &two.program, asked, &prefix, &cycle) {
+        Err(NoMemory) => explore_lasso(alloc, &two.program, asked, &prefix, &cycle)?,
+        Ok(answer) => answer,
+    };
+    is_same(&found, &Some(wanted))
+}
+
+// Both processes run in each round.
+fn both_run(alloc: Global) -> Result<LassoAnswer, AllocError> {
+    let mut running = vec![in alloc; 0; 1]?;
+    running.push(1)?;
+    Ok(LassoAnswer::Lasso(running))
+}
+
+// Of two that wait for each other, once both wait.
+fn is_waiting(
+    alloc: Global,
+    asked: MustStop,
     cycle: &[u8],
-) -> Result<Option<LassoAnswer>, Fail> {
-    let program = program_of(alloc, "2", acts)?;
-    let prefix = lawful_steps(alloc, &program, prefix)?;
-    let cycle = lawful_steps(alloc, &program, cycle)?;
-    Ok(
-        match explore_lasso(alloc, &program, asked, &prefix, &cycle) {
-            Err(NoMemory) => explore_lasso(alloc, &program, asked, &prefix, &cycle)?,
-            Ok(answer) => answer,
-        },
-    )
+    wanted: LassoAnswer,
+) -> Result<(), Fail> {
+    is_answered(alloc, BOTH_WAIT, asked, (&[0, 1, 0, 1], cycle), wanted)
 }
 
 #[test]
 fn a_lasso_and_why_others_are_none(rt: HostRuntime) -> Result<(), Fail> {
     let alloc = rt.alloc();
-    let mut running = vec![in alloc; 0; 1]?;
-    running.push(1)?;
-    let both = [0, 1, 0, 1];
-    is_same(
-        &lasso(alloc, BOTH_WAIT, MustStop::All, &both, &both)?,
-        &Some(LassoAnswer::Lasso(running)),
-    )?;
-    is_same(
-        &lasso(alloc, BOTH_WAIT, MustStop::All, &both, &both[..1])?,
-        &Some(LassoAnswer::LeftOut(1)),
-    )?;
-    is_same(
-        &lasso(alloc, BOTH_WAIT, MustStop::All, &both, &both[..2])?,
-        &Some(LassoAnswer::Open),
-    )?;
-    is_same(
-        &lasso(alloc, BOTH_WAIT, MustStop::Each([false; 6]), &both, &both)?,
-        &Some(LassoAnswer::AllStopped),
-    )
+    is_waiting(alloc, MustStop::All, &[0, 1, 0, 1], both_run(alloc)?)?;
+    is_waiting(alloc, MustStop::All, &[0], LassoAnswer::LeftOut(1))?;
+    is_waiting(alloc, MustStop::All, &[0, 1], LassoAnswer::Open)?;
+    is_waiting(alloc, NOBODY, &[0, 1, 0, 1], LassoAnswer::AllStopped)
 }
 
 #[test]
 fn what_is_found_is_a_lasso(rt: HostRuntime) -> Result<(), Fail> {
     let alloc = rt.alloc();
-    let program = program_of(alloc, "2", BOTH_GIVE_WAY)?;
-    let EndExplored::Endless { prefix, cycle, .. } = search_of(&program, MustStop::All).found(
-        alloc,
-        Steps::Single,
-    )?
-    else {
+    let two = program_of(alloc, "2", BOTH_GIVE_WAY)?;
+    let search = search_of(&two.program, MustStop::All);
+    let EndExplored::Endless { prefix, cycle, .. } = search.found(alloc, Steps::Single)? else {
         return Err(Fail::new(format_args!("it isn't endless")));
     };
-    let mut running = vec![in alloc; 0; 1]?;
-    running.push(1)?;
-    is_same(
-        &lasso(alloc, BOTH_GIVE_WAY, MustStop::All, &prefix, &cycle)?,
-        &Some(LassoAnswer::Lasso(running)),
+    let schedules = (prefix.as_slice(), cycle.as_slice());
+    is_answered(
+        alloc,
+        BOTH_GIVE_WAY,
+        MustStop::All,
+        schedules,
+        both_run(alloc)?,
     )
 }

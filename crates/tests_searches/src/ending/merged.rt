@@ -6,7 +6,8 @@ use super::slow::Slow;
 use super::stepping::{some_trapped, words_after};
 use super::sweeps::{can_end, is_stuck, nearest_unmarked};
 use searches_explore::{
-    EndExplored, Limits, MustStop, NoMemory, Property, Unwatched, explore_ends, explore_ends_merged,
+    EndExplored, Limits, MustStop, NeverExplored, NoMemory, Property, Unwatched, explore_ends,
+    explore_ends_merged, explore_never, explore_never_merged,
 };
 use std::alloc::Global;
 use std::test::Fail;
@@ -41,6 +42,23 @@ impl Search<'_> {
             Steps::Single => explore_ends(alloc, program, lines, asked, limits, &mut Unwatched),
             Steps::Merged => {
                 explore_ends_merged(alloc, program, lines, asked, limits, &mut Unwatched)
+            }
+        }
+    }
+
+    /// What a search finds that doesn't ask for ends.
+    pub fn found_without_ends(
+        &self,
+        alloc: Global,
+        steps: Steps,
+    ) -> Result<NeverExplored, NoMemory> {
+        let limits = Limits::of_states(self.limit);
+        match steps {
+            Steps::Single => {
+                explore_never(alloc, self.program, self.lines, limits, &mut Unwatched)
+            }
+            Steps::Merged => {
+                explore_never_merged(alloc, self.program, self.lines, limits, &mut Unwatched)
             }
         }
     }

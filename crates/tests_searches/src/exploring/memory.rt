@@ -8,28 +8,8 @@ use searches_explore::{
 };
 use std::alloc::Global;
 use std::test::Fail;
-use tests_shared::{accepted, holds, is_same};
+use tests_shared::{Checked, counting, holds, is_same};
 use tick_kinds::Program;
-
-// A process is before its test with each number up to 12, before its assignment with each up to 11, has nothing left, or
-// has ended: 27 states, so three have 27 * 27 * 27.
-static COUNTING: &str = "\
-processes 3;
-var x;
-begin
-  while (x < 12) { x = (x + 1); }
-end
-";
-
-// Between merged steps a process stands at its start, before its `clear` with each number from 1 to 24, or at its end:
-// 26 states, so three have 26 * 26 * 26.
-static CLEARING: &str = "\
-processes 3;
-var x;
-begin
-  while (x < 24) { x = (x + 1); clear; }
-end
-";
 
 /// How a program is searched.
 #[derive(Clone, Copy, PartialEq, Debug)]
@@ -81,7 +61,7 @@ fn within(
     program: &Program,
     kind: Kind,
     bytes: u64,
-) -> Result<((u32, bool), Told), Fail> {
+) -> Result<((u32, bool), Told), NoMemory> {
     let mut watch = Told::nothing();
     let limits = Limits {
         states: u32::MAX,
@@ -95,22 +75,59 @@ fn within(
 #[derive(Clone, Copy, Debug)]
 struct Search {
     kind: Kind,
-    text: &'static str,
+    /// How far each of three processes counts, and what else it does each time.
+    most: u32,
+    acts: &'static str,
     /// How many states there are, and how many bytes one takes at least: of all together less than twice as many.
     states: u32,
     each: u32,
 }
 
-// Within as many bytes as it holds without a limit it answers the same, within half as many it stops.
-fn is_limited(alloc: Global, search: Search) -> Result<(), Fail> {
+static SEARCHES: [Search; 4] = [
+    // A process is before its test with each number up to 12, before its assignment with each up to 11, has nothing
+    // left, or has ended: 27 states, so three have 27 * 27 * 27.
+    Search {
+        kind: Kind::Single,
+        most: 12,
+        acts: "",
+        states: 19_683,
+        each: 26,
+    },
+    // Between merged steps a process stands at its start, before its `clear` with each number from 1 to 24, or at its
+    // end: 26 states, so three have 26 * 26 * 26.
+    Search {
+        kind: Kind::Merged,
+        most: 24,
+        acts: "clear; ",
+        states: 17_576,
+        each: 26,
+    },
+    // Each step is kept too.
+    Search {
+        kind: Kind::Ends,
+        most: 12,
+        acts: "",
+        states: 19_683,
+        each: 38,
+    },
+    Search {
+        kind: Kind::EndsMerged,
+        most: 24,
+        acts: "clear; ",
+        states: 17_576,
+        each: 38,
+    },
+];
+
+// Without a limit all is found, and within as many bytes as it holds then. The answer is how many.
+fn ample(alloc: Global, program: &Program, search: Search) -> Result<u64, Fail> {
     let Search {
         kind,
-        text,
         states,
         each,
+        ..
     } = search;
-    let program = accepted(alloc, text)?;
-    let (answer, ample) = within(alloc, &program, kind, u64::MAX)?;
+    let (answer, ample) = within(alloc, program, kind, u64::MAX)?;
     is_same(&answer, &(states, true))?;
     is_same(
         &(ample.states, ample.gone, ample.is_more),
@@ -121,13 +138,19 @@ fn is_limited(alloc: Global, search: Search) -> Result<(), Fail> {
         ample.bytes >= least && ample.bytes / 2 < least,
         (kind, ample.bytes),
     )?;
-    let (answer, enough) = within(alloc, &program, kind, ample.bytes)?;
-    is_same(&answer, &(states, true))?;
-    is_same(&enough.bytes, &ample.bytes)?;
-    let half = ample.bytes / 2;
-    let (answer, few) = within(alloc, &program, kind, half)?;
-    is_same(&(answer.1, few.is_more), &(false, true))?;
-    is_same(&few.states, &answer.0)?;
+    let (answer, enough) = within(alloc, program, kind, ample.bytes)?;
+    is_same(&(answer, enough.bytes), &((states, true), ample.bytes))?;
+    Ok(ample.bytes)
+}
+
+// Within half as many bytes as it holds without a limit it stops.
+fn stops_within(alloc: Global, program: &Program, search: Search, half: u64) -> Result<(), Fail> {
+    let Search { kind, states, .. } = search;
+    let (answer, few) = within(alloc, program, kind, half)?;
+    is_same(
+        &(answer.1, few.is_more, few.states),
+        &(false, true, answer.0),
+    )?;
     holds(answer.0 < states && answer.0 > states / 4, (kind, answer.0))?;
     holds(
         few.bytes > half && few.bytes - half < 200_000,
@@ -136,71 +159,34 @@ fn is_limited(alloc: Global, search: Search) -> Result<(), Fail> {
 }
 
 #[test]
-fn single_steps(rt: HostRuntime) -> Result<(), Fail> {
-    is_limited(
-        rt.alloc(),
-        Search {
-            kind: Kind::Single,
-            text: COUNTING,
-            states: 19_683,
-            each: 26,
-        },
-    )
+fn each_search(rt: HostRuntime) -> Result<(), Fail> {
+    let alloc = rt.alloc();
+    for search in SEARCHES {
+        let text = counting(alloc, search.most, search.acts, "")?;
+        let checked = Checked::new(alloc, &text)?;
+        let bytes = ample(alloc, &checked.program, search)?;
+        stops_within(alloc, &checked.program, search, bytes / 2)?;
+    }
+    Ok(())
 }
 
-#[test]
-fn merged_steps(rt: HostRuntime) -> Result<(), Fail> {
-    is_limited(
-        rt.alloc(),
-        Search {
-            kind: Kind::Merged,
-            text: CLEARING,
-            states: 17_576,
-            each: 26,
-        },
-    )
-}
-
-// Each step is kept too.
-#[test]
-fn ends(rt: HostRuntime) -> Result<(), Fail> {
-    is_limited(
-        rt.alloc(),
-        Search {
-            kind: Kind::Ends,
-            text: COUNTING,
-            states: 19_683,
-            each: 38,
-        },
-    )
-}
-
-#[test]
-fn ends_by_merged_steps(rt: HostRuntime) -> Result<(), Fail> {
-    is_limited(
-        rt.alloc(),
-        Search {
-            kind: Kind::EndsMerged,
-            text: CLEARING,
-            states: 17_576,
-            each: 38,
-        },
+fn stops_after(alloc: Global, program: &Program, states: u32) -> Result<(), Fail> {
+    let mut watch = Told::nothing();
+    let limits = Limits::of_states(states);
+    let answer = found(alloc, program, Kind::Single, limits, &mut watch)?;
+    is_same(&answer, &(states, false))?;
+    is_same(
+        &(watch.times, watch.states, watch.is_more),
+        &(1, states, true),
     )
 }
 
 // The end is told at a limit of states too, and where no state is seen.
 #[test]
 fn limits_of_states(rt: HostRuntime) -> Result<(), Fail> {
-    let program = accepted(rt.alloc(), TWO_TICKETS)?;
+    let checked = Checked::new(rt.alloc(), TWO_TICKETS)?;
     for states in [0, 1, 100] {
-        let mut watch = Told::nothing();
-        let limits = Limits::of_states(states);
-        let answer = found(rt.alloc(), &program, Kind::Single, limits, &mut watch)?;
-        is_same(&answer, &(states, false))?;
-        is_same(
-            &(watch.times, watch.states, watch.is_more),
-            &(1, states, true),
-        )?;
+        stops_after(rt.alloc(), &checked.program, states)?;
     }
     Ok(())
 }

@@ -4,10 +4,10 @@ use crate::examples::{TICKET_COUNT, TWO_TICKETS};
 use searches_explore::{Explored, Limits, Watch, explore};
 use std::alloc::Global;
 use std::test::Fail;
-use tests_shared::{accepted, is_same};
+use tests_shared::{Checked, is_same};
 
 /// What was told last, and how often something was.
-#[derive(Drop)]
+#[derive(Clone, Copy)]
 pub struct Told {
     pub times: u32,
     pub states: u32,
@@ -57,9 +57,10 @@ impl<'r, E: Eprint> Watch for Lines<'r, E> {
 }
 
 fn watched(alloc: Global, text: &str, states: u32) -> Result<Told, Fail> {
-    let program = accepted(alloc, text)?;
+    let checked = Checked::new(alloc, text)?;
     let mut watch = Told::nothing();
-    let explored = explore(alloc, &program, Limits::of_states(1_000_000), &mut watch)?;
+    let limits = Limits::of_states(1_000_000);
+    let explored = explore(alloc, &checked.program, limits, &mut watch)?;
     is_same(&explored, &Explored::Safe { states })?;
     Ok(watch)
 }
@@ -78,9 +79,9 @@ fn each_65536_gone(rt: HostRuntime) -> Result<(), Fail> {
 
 #[test]
 fn lines_on_standard_error(rt: HostRuntime) -> Result<(), Fail> {
-    let program = accepted(rt.alloc(), TICKET_COUNT)?;
+    let checked = Checked::new(rt.alloc(), TICKET_COUNT)?;
     let mut lines = Lines { rt: &rt };
     let limits = Limits::of_states(1_000_000);
-    let explored = explore(rt.alloc(), &program, limits, &mut lines)?;
+    let explored = explore(rt.alloc(), &checked.program, limits, &mut lines)?;
     is_same(&explored, &Explored::Safe { states: 168_352 })
 }

@@ -5,21 +5,21 @@ use crate::hunting::programs::{
     ALONE, BAKERY_WITH_FAULT, DECISION_WITH_FAULT, MULTI_WRITER_REGISTER_WITH_FAULT,
     QUEUE_WITH_FAULT, SERVICE_WITH_FAULT, SIX,
 };
-use crate::hunting::replay::{needs_all, traps};
+use crate::hunting::replay::needs_all;
 use searches_hunt::{Hunted, Mode, hunt};
 use std::alloc::Global;
 use std::test::Fail;
-use tests_shared::{accepted, holds};
+use tests_shared::{Checked, holds};
 
 // The fault of a program is found, by a schedule that is minimal.
 fn is_found(alloc: Global, text: &str, mode: Mode) -> Result<(), Fail> {
-    let program = accepted(alloc, text)?;
-    let Hunted::Found { run, schedule } = hunt(alloc, &program, plan(1, 2_000, mode))? else {
+    let checked = Checked::new(alloc, text)?;
+    let plan = plan(1, 2_000, mode);
+    let Hunted::Found { run, schedule } = hunt(alloc, &checked.program, plan)? else {
         return Err("no trap was found")?;
     };
     holds(run < 2_000, run)?;
-    holds(traps(alloc, &program, &schedule)?, run)?;
-    needs_all(alloc, &program, &schedule)
+    needs_all(alloc, &checked.program, &schedule)
 }
 
 fn each_fault(alloc: Global, mode: Mode) -> Result<(), Fail> {

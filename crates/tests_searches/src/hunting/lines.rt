@@ -7,7 +7,7 @@ use searches_hunt::{
 };
 use std::alloc::Global;
 use std::test::Fail;
-use tests_shared::{accepted, holds, is_same};
+use tests_shared::{Checked, holds, is_same};
 
 fn plan(runs: u32) -> Plan {
     Plan {
@@ -34,39 +34,55 @@ fn both(alloc: Global) -> Result<Property, NoMemory> {
     ))
 }
 
-#[test]
-fn second_line_is_broken(rt: HostRuntime) -> Result<(), Fail> {
-    let alloc = rt.alloc();
-    let program = accepted(alloc, BOTH_INSIDE)?;
-    let lines = [Property::Number(0), both(alloc)?];
-    let NeverHunted::Broken {
-        schedule,
-        line,
-        value,
-        ..
-    } = hunt_by(&InTurn, alloc, &program, &lines, plan(1_000), 0)?
-    else {
-        return Err("no line was broken")?;
-    };
-    is_same(&line, &1)?;
-    is_same(&value, &Ok(1))?;
-    // each process makes its two first steps, and nothing else
-    is_same(&schedule.len(), &4)?;
+// What is told of the program that a text is.
+fn told(
+    alloc: Global,
+    text: &str,
+    lines: &[Property],
+    plan: Plan,
+    from: u32,
+) -> Result<NeverHunted, Fail> {
+    let checked = Checked::new(alloc, text)?;
+    Ok(hunt_by(&InTurn, alloc, &checked.program, lines, plan, from)?)
+}
+
+// How many steps are those of process 1.
+fn ones(schedule: &[u8]) -> u32 {
     let mut ones = 0u32;
-    for &p in &schedule {
+    for &p in schedule {
         ones = ones.saturating_add(u32::from(p));
     }
-    is_same(&ones, &2)
+    ones
+}
+
+fn broken_second(alloc: Global) -> Result<NeverHunted, Fail> {
+    let lines = [Property::Number(0), both(alloc)?];
+    told(alloc, BOTH_INSIDE, &lines, plan(1_000), 0)
+}
+
+#[test]
+fn second_line_is_broken(rt: HostRuntime) -> Result<(), Fail> {
+    match &broken_second(rt.alloc())? {
+        NeverHunted::Broken {
+            schedule,
+            line,
+            value,
+            ..
+        } => {
+            // each process makes its two first steps, and nothing else
+            let found = (*line, *value, schedule.len(), ones(schedule));
+            is_same(&found, &(1, Ok(1), 4, 2))
+        }
+        _ => Err("no line was broken")?,
+    }
 }
 
 #[test]
 fn line_that_traps_breaks_at_the_start(rt: HostRuntime) -> Result<(), Fail> {
     let alloc = rt.alloc();
-    let program = accepted(alloc, BOTH_INSIDE)?;
     let lines = [register_of(alloc, 2)?];
-    let found = hunt_by(&InTurn, alloc, &program, &lines, plan(10), 7)?;
     is_same(
-        &found,
+        &told(alloc, BOTH_INSIDE, &lines, plan(10), 7)?,
         &NeverHunted::Broken {
             run: 7,
             schedule: Vec::new(alloc),
@@ -76,53 +92,50 @@ fn line_that_traps_breaks_at_the_start(rt: HostRuntime) -> Result<(), Fail> {
     )
 }
 
+// Beside a line that a trap breaks.
+fn first_trap(alloc: Global) -> Result<NeverHunted, Fail> {
+    let lines = [Property::Of(Question::Trapped, Box::new(alloc, Property::Number(1))?)];
+    told(alloc, WRITTEN, &lines, plan(100), 0)
+}
+
+fn first_trap_alone(alloc: Global) -> Result<Hunted, Fail> {
+    Ok(hunt(alloc, &Checked::new(alloc, WRITTEN)?.program, plan(100))?)
+}
+
 #[test]
 fn trap_is_told_first(rt: HostRuntime) -> Result<(), Fail> {
-    let alloc = rt.alloc();
-    let program = accepted(alloc, WRITTEN)?;
-    let lines = [Property::Of(Question::Trapped, Box::new(alloc, Property::Number(1))?)];
-    let NeverHunted::Trapped { run, schedule } = hunt_by(
-        &InTurn,
-        alloc,
-        &program,
-        &lines,
-        plan(100),
-        0,
-    )?
-    else {
-        return Err("no trap was found")?;
-    };
-    let Hunted::Found {
-        run: other,
-        schedule: same,
-    } = hunt(alloc, &program, plan(100))?
-    else {
-        return Err("no trap was found")?;
-    };
-    is_same(&run, &other)?;
-    is_same(&schedule, &same)
+    match (&first_trap(rt.alloc())?, &first_trap_alone(rt.alloc())?) {
+        (
+            NeverHunted::Trapped { run, schedule },
+            Hunted::Found {
+                run: other,
+                schedule: same,
+            },
+        ) => is_same(&(*run, schedule.as_slice()), &(*other, same.as_slice())),
+        _ => Err("no trap was found")?,
+    }
+}
+
+// What is told of the first of nine runs, or of the rest where these tell nothing.
+fn told_in_parts(alloc: Global, first: u32, from: u32) -> Result<NeverHunted, Fail> {
+    match told(alloc, WRITTEN, &[], plan(first), from)? {
+        NeverHunted::Nothing => {
+            let rest = plan(9u32.saturating_sub(first));
+            told(alloc, WRITTEN, &[], rest, from.saturating_add(first))
+        }
+        found => Ok(found),
+    }
 }
 
 // The answers of parts, in order, are that of the whole.
 #[test]
 fn parts(rt: HostRuntime) -> Result<(), Fail> {
     let alloc = rt.alloc();
-    let program = accepted(alloc, WRITTEN)?;
     for from in 0..6 {
-        let whole = hunt_by(&InTurn, alloc, &program, &[], plan(9), from)?;
+        let whole = told(alloc, WRITTEN, &[], plan(9), from)?;
         for first in 0..9u32 {
-            let mut told = hunt_by(&InTurn, alloc, &program, &[], plan(first), from)?;
-            if told == NeverHunted::Nothing {
-                told = hunt_by(
-                    &InTurn,
-                    alloc,
-                    &program,
-                    &[],
-                    plan(9u32.saturating_sub(first)),
-                    from.saturating_add(first),
-                )?;
-            }
-            holds(told == whole, (from, first))?;
+            let found = told_in_parts(alloc, first, from)?;
+            holds(found == whole, (from, first))?;
         }
     }
     Ok(())
@@ -130,14 +143,11 @@ fn parts(rt: HostRuntime) -> Result<(), Fail> {
 
 #[test]
 fn last_runs(rt: HostRuntime) -> Result<(), Fail> {
-    let alloc = rt.alloc();
-    let program = accepted(alloc, BOTH_INSIDE)?;
-    is_same(
-        &hunt_by(&InTurn, alloc, &program, &[], plan(u32::MAX), u32::MAX)?,
-        &NeverHunted::Nothing,
-    )?;
-    is_same(
-        &hunt_by(&InTurn, alloc, &program, &[], plan(2), 4_294_967_294)?,
-        &NeverHunted::Nothing,
-    )
+    for (runs, from) in [(u32::MAX, u32::MAX), (2, 4_294_967_294)] {
+        is_same(
+            &told(rt.alloc(), BOTH_INSIDE, &[], plan(runs), from)?,
+            &NeverHunted::Nothing,
+        )?;
+    }
+    Ok(())
 }

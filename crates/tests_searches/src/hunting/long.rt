@@ -1,27 +1,26 @@
 //! Long schedules, most of whose steps have to stay.
 
 use crate::hunting::programs::{IN_STEP, THREE_IN_STEP};
-use crate::hunting::replay::{needs_all, traps};
+use crate::hunting::replay::needs_all;
 use searches_hunt::{Hunted, Mode, Plan, hunt};
 use std::alloc::Global;
 use std::test::Fail;
-use tests_shared::{accepted, holds};
+use tests_shared::{Checked, holds};
 
 // The schedule that is found has thousands of steps, and needs each.
 fn needs_thousands(alloc: Global, text: &str, mode: Mode) -> Result<(), Fail> {
-    let program = accepted(alloc, text)?;
+    let checked = Checked::new(alloc, text)?;
     let plan = Plan {
         seed: 0,
         runs: 1,
         steps: 40_000,
         mode,
     };
-    let Hunted::Found { run: _, schedule } = hunt(alloc, &program, plan)? else {
+    let Hunted::Found { run: _, schedule } = hunt(alloc, &checked.program, plan)? else {
         return Err("no trap was found")?;
     };
     holds(schedule.len() > 2_000, schedule.len())?;
-    holds(traps(alloc, &program, &schedule)?, schedule.len())?;
-    needs_all(alloc, &program, &schedule)
+    needs_all(alloc, &checked.program, &schedule)
 }
 
 #[test]

@@ -2,20 +2,23 @@
 
 use crate::hunting::plan;
 use crate::hunting::programs::{QUEUE_WITH_FAULT, SERVICE_WITH_FAULT};
-use searches_hunt::{Hunted, Mode, Plan, hunt};
+use searches_hunt::{Hunted, Mode, NoMemory, Plan, hunt};
+use std::alloc::Global;
 use std::test::Fail;
-use tests_shared::{accepted, holds, is_same};
+use tests_shared::{Checked, holds, is_same};
+use tick_kinds::Program;
+
+// What is told is told again.
+fn is_told_again(alloc: Global, program: &Program, plan: Plan) -> Result<(), Fail> {
+    is_same(&hunt(alloc, program, plan)?, &hunt(alloc, program, plan)?)
+}
 
 #[test]
 fn same_seed(rt: HostRuntime) -> Result<(), Fail> {
-    let program = accepted(rt.alloc(), SERVICE_WITH_FAULT)?;
+    let checked = Checked::new(rt.alloc(), SERVICE_WITH_FAULT)?;
     for seed in [0, 1, 7, u64::MAX] {
         for mode in [Mode::Bursts, Mode::Uniform] {
-            let first = hunt(rt.alloc(), &program, plan(seed, 2_000, mode))?;
-            is_same(
-                &hunt(rt.alloc(), &program, plan(seed, 2_000, mode))?,
-                &first,
-            )?;
+            is_told_again(rt.alloc(), &checked.program, plan(seed, 2_000, mode))?;
         }
     }
     Ok(())
@@ -24,30 +27,37 @@ fn same_seed(rt: HostRuntime) -> Result<(), Fail> {
 // A run that is tried alone traps as it does among others.
 #[test]
 fn fewer_runs(rt: HostRuntime) -> Result<(), Fail> {
-    let program = accepted(rt.alloc(), QUEUE_WITH_FAULT)?;
+    let checked = Checked::new(rt.alloc(), QUEUE_WITH_FAULT)?;
+    let program = &checked.program;
     let all = plan(3, 2_000, Mode::Uniform);
-    let found = hunt(rt.alloc(), &program, all)?;
+    let found = hunt(rt.alloc(), program, all)?;
     let Hunted::Found { run, .. } = &found else {
         return Err("no trap was found")?;
     };
     let runs = *run;
     is_same(
-        &hunt(rt.alloc(), &program, Plan { runs, ..all })?,
+        &hunt(rt.alloc(), program, Plan { runs, ..all })?,
         &Hunted::Nothing,
     )?;
     let runs = runs.saturating_add(1);
-    is_same(&hunt(rt.alloc(), &program, Plan { runs, ..all })?, &found)
+    is_same(&hunt(rt.alloc(), program, Plan { runs, ..all })?, &found)
+}
+
+// How many of these seeds find something else than the first.
+fn others(alloc: Global, program: &Program) -> Result<u32, NoMemory> {
+    let first = hunt(alloc, program, plan(1, 2_000, Mode::Bursts))?;
+    let mut others = 0u32;
+    for seed in 2..10 {
+        if hunt(alloc, program, plan(seed, 2_000, Mode::Bursts))? != first {
+            others = others.saturating_add(1);
+        }
+    }
+    Ok(others)
 }
 
 #[test]
 fn seeds_differ(rt: HostRuntime) -> Result<(), Fail> {
-    let program = accepted(rt.alloc(), SERVICE_WITH_FAULT)?;
-    let first = hunt(rt.alloc(), &program, plan(1, 2_000, Mode::Bursts))?;
-    let mut others = 0u32;
-    for seed in 2..10 {
-        if hunt(rt.alloc(), &program, plan(seed, 2_000, Mode::Bursts))? != first {
-            others = others.saturating_add(1);
-        }
-    }
+    let checked = Checked::new(rt.alloc(), SERVICE_WITH_FAULT)?;
+    let others = others(rt.alloc(), &checked.program)?;
     holds(others > 0, others)
 }

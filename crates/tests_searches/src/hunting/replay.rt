@@ -1,22 +1,15 @@
 //! Whether the whole program traps under a schedule, and under the schedule without one of its steps.
-ghost use Rattle.std.specs.Prelude.{◌<◌, length};
-ghost use Rattle.std.specs.List.{All};
-ghost use Rattle.tick_kinds.specs.Resolution.{resolved};
 
+use crate::lawful::lawful_steps;
 use std::alloc::Global;
 use std::test::Fail;
 use tests_shared::holds;
 use tick_kinds::Program;
 use tick_source::{Status, run};
 
-/// Whether a process traps under this schedule. Numbers that no process has are left out.
-pub fn traps(alloc: Global, program: &Program, schedule: &[u8]) -> Result<bool, Fail> {
-    let mut lawful = Vec::new(alloc);
-    for &p in schedule {
-        if p < program.processes() {
-            lawful.push(p)?;
-        }
-    }
+// Whether a process traps under this schedule. Numbers that no process has are left out.
+fn traps(alloc: Global, program: &Program, schedule: &[u8]) -> Result<bool, Fail> {
+    let lawful = lawful_steps(alloc, program, schedule)?;
     let outcome = run(alloc, program, &lawful)?;
     Ok(
         outcome.statuses.iter().any(|status| match status {
@@ -26,8 +19,9 @@ pub fn traps(alloc: Global, program: &Program, schedule: &[u8]) -> Result<bool, 
     )
 }
 
-/// Where any one step is left out no process traps.
+/// A process traps, and none where any one step is left out.
 pub fn needs_all(alloc: Global, program: &Program, schedule: &[u8]) -> Result<(), Fail> {
+    holds(traps(alloc, program, schedule)?, schedule.len())?;
     for left_out in 0..schedule.len() {
         let mut rest = Vec::new(alloc);
         for (place, &p) in schedule.iter().enumerate() {

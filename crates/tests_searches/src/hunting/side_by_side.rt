@@ -7,7 +7,7 @@ use searches_parallel::OnProcessors;
 use std::alloc::Global;
 use std::test::Fail;
 use std::thread::Threads;
-use tests_shared::{accepted, holds, is_same};
+use tests_shared::{Checked, holds, is_same};
 use tick_kinds::Program;
 
 const JOBS: [u8; 6] = [0, 1, 2, 3, 4, 7];
@@ -57,20 +57,20 @@ fn is_told_at_the_end<R: AllocGlobal + Threads + Sync>(
     mode: Mode,
     from: u32,
 ) -> Result<(), Fail> {
-    let program = accepted(rt.alloc(), text)?;
-    let Some(run) = told_by_all(rt, &program, plan(1, 2_000, mode), from)? else {
+    let checked = Checked::new(rt.alloc(), text)?;
+    let program = &checked.program;
+    let Some(run) = told_by_all(rt, program, plan(1, 2_000, mode), from)? else {
         return Err("no trap was found")?;
     };
     let before = run.saturating_sub(from);
-    is_same(
-        &told_by_all(rt, &program, plan(1, before, mode), from)?,
-        &None,
-    )?;
     let with_it = before.saturating_add(1);
-    is_same(
-        &told_by_all(rt, &program, plan(1, with_it, mode), from)?,
-        &Some(run),
-    )
+    for (runs, wanted) in [(before, None), (with_it, Some(run))] {
+        is_same(
+            &told_by_all(rt, program, plan(1, runs, mode), from)?,
+            &wanted,
+        )?;
+    }
+    Ok(())
 }
 
 #[test]
@@ -82,19 +82,29 @@ fn threads_tell_the_same(rt: HostRuntime) -> Result<(), Fail> {
     Ok(())
 }
 
+// What each number of threads finds, is found in turn.
+fn is_found_by_all<R: AllocGlobal + Threads + Sync>(
+    rt: &R,
+    program: &Program,
+    from: u32,
+) -> Result<(), Fail> {
+    let plan = plan(1, 1_000, Mode::Uniform);
+    let found = hunt_by(&InTurn, rt.alloc(), program, &[], plan, from)?;
+    for jobs in JOBS {
+        let trials = OnProcessors { rt, jobs };
+        is_same(
+            &hunt_by(&trials, rt.alloc(), program, &[], plan, from)?,
+            &found,
+        )?;
+    }
+    Ok(())
+}
+
 #[test]
 fn hunts_find_the_same(rt: HostRuntime) -> Result<(), Fail> {
-    let program = accepted(rt.alloc(), SERVICE_WITH_FAULT)?;
+    let checked = Checked::new(rt.alloc(), SERVICE_WITH_FAULT)?;
     for from in [0, 100, 1_000] {
-        let plan = plan(1, 1_000, Mode::Uniform);
-        let found = hunt_by(&InTurn, rt.alloc(), &program, &[], plan, from)?;
-        for jobs in JOBS {
-            let trials = OnProcessors { rt: &rt, jobs };
-            is_same(
-                &hunt_by(&trials, rt.alloc(), &program, &[], plan, from)?,
-                &found,
-            )?;
-        }
+        is_found_by_all(&rt, &checked.program, from)?;
     }
     Ok(())
 }
@@ -102,14 +112,15 @@ fn hunts_find_the_same(rt: HostRuntime) -> Result<(), Fail> {
 // The answers of parts, in order, are that of the whole.
 #[test]
 fn parts_side_by_side(rt: HostRuntime) -> Result<(), Fail> {
-    let program = accepted(rt.alloc(), WRITTEN)?;
+    let checked = Checked::new(rt.alloc(), WRITTEN)?;
     for from in 0..6 {
-        let whole = told_by_all(&rt, &program, plan(1, 9, Mode::Uniform), from)?;
+        let nine = plan(1, 9, Mode::Uniform);
+        let whole = told_by_all(&rt, &checked.program, nine, from)?;
         for first in 0..9u32 {
-            let mut run = told_by_all(&rt, &program, plan(1, first, Mode::Uniform), from)?;
+            let mut run = told_by_all(&rt, &checked.program, plan(1, first, Mode::Uniform), from)?;
             if run.is_none() {
                 let rest = plan(1, 9u32.saturating_sub(first), Mode::Uniform);
-                run = told_by_all(&rt, &program, rest, from.saturating_add(first))?;
+                run = told_by_all(&rt, &checked.program, rest, from.saturating_add(first))?;
             }
             holds(run == whole, (from, first))?;
         }
@@ -119,10 +130,15 @@ fn parts_side_by_side(rt: HostRuntime) -> Result<(), Fail> {
 
 #[test]
 fn last_runs_side_by_side(rt: HostRuntime) -> Result<(), Fail> {
-    let program = accepted(rt.alloc(), BOTH_INSIDE)?;
+    let checked = Checked::new(rt.alloc(), BOTH_INSIDE)?;
     for from in [u32::MAX, 4_294_967_294, 4_294_967_000] {
         is_same(
-            &told_by_all(&rt, &program, plan(1, u32::MAX, Mode::Uniform), from)?,
+            &told_by_all(
+                &rt,
+                &checked.program,
+                plan(1, u32::MAX, Mode::Uniform),
+                from,
+            )?,
             &None,
         )?;
     }

@@ -98,28 +98,27 @@ fn searched(alloc: Global, forks: &Forks, start: u32, limit: u32) -> Result<EndS
     }
 }
 
+fn tells(alloc: Global, bad: u32, start: u32, limit: u32, wanted: EndSearched) -> Result<(), Fail>
+    requires { start < 4 }
+{
+    is_same(&searched(alloc, &Forks { bad }, start, limit)?, &wanted)
+}
+
 #[test]
 fn one_way_leads_to_no_end(rt: HostRuntime) -> Result<(), Fail> {
     let alloc = rt.alloc();
-    let forks = Forks { bad: 9 };
     let stuck = EndSearched::Stuck {
         schedule: vec![in alloc; 1; 1]?,
         states: 4,
     };
-    is_same(&searched(alloc, &forks, 0, 9)?, &stuck)?;
-    is_same(
-        &searched(alloc, &forks, 1, 9)?,
-        &EndSearched::Ends { states: 2 },
-    )?;
-    is_same(
-        &searched(alloc, &forks, 0, 3)?,
-        &EndSearched::Limit { states: 3 },
-    )
+    tells(alloc, 9, 0, 9, stuck)?;
+    tells(alloc, 9, 1, 9, EndSearched::Ends { states: 2 })?;
+    tells(alloc, 9, 0, 3, EndSearched::Limit { states: 3 })
 }
 
 #[test]
 fn a_bad_state_is_told_first(rt: HostRuntime) -> Result<(), Fail> {
     let alloc = rt.alloc();
     let found = EndSearched::Found(vec![in alloc; 0; 2]?);
-    is_same(&searched(alloc, &Forks { bad: 2 }, 0, 9)?, &found)
+    tells(alloc, 2, 0, 9, found)
 }

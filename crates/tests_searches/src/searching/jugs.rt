@@ -6,7 +6,7 @@ ghost use Rattle.tests_searches.specs.Machines.{poured, nobody_else, none_stops}
 use searches_states::{Limits, Machine, NoMemory, Searched, Unwatched, search};
 use std::alloc::Global;
 use std::test::Fail;
-use tests_shared::{holds, is_same};
+use tests_shared::is_same;
 
 #[derive(Clone, Copy, Debug)]
 struct Jugs {
@@ -101,20 +101,24 @@ fn measuring(measured: u32, left: u32, right: u32) -> Jugs {
     }
 }
 
+fn tells(alloc: Global, jugs: Jugs, limit: u32, wanted: Searched) -> Result<(), Fail> {
+    is_same(&searched(alloc, &jugs, limit)?, &wanted)
+}
+
 #[test]
 fn four_of_three_and_five(rt: HostRuntime) -> Result<(), Fail> {
-    let jugs = measuring(4, 3, 5);
-    match searched(rt.alloc(), &jugs, 100)? {
-        Searched::Found(schedule) => holds(schedule.as_slice() == [1, 5, 2, 5, 1, 5].as_slice(), 4),
-        _ => holds(false, 0),
-    }
+    let schedule = Vec::from_slice(rt.alloc(), &[1, 5, 2, 5, 1, 5])?;
+    tells(
+        rt.alloc(),
+        measuring(4, 3, 5),
+        100,
+        Searched::Found(schedule),
+    )
 }
 
 #[test]
 fn five_of_four_and_six(rt: HostRuntime) -> Result<(), Fail> {
     let jugs = measuring(5, 4, 6);
-    let found = searched(rt.alloc(), &jugs, 100)?;
-    is_same(&found, &Searched::Nowhere { states: 10 })?;
-    let found = searched(rt.alloc(), &jugs, 9)?;
-    is_same(&found, &Searched::Limit { states: 9 })
+    tells(rt.alloc(), jugs, 100, Searched::Nowhere { states: 10 })?;
+    tells(rt.alloc(), jugs, 9, Searched::Limit { states: 9 })
 }

@@ -1,11 +1,11 @@
 //! The steps against the machines: the same events, for the same processes, in the same order.
 
+use crate::tracing::given::{acts_of_code, acts_of_source, code_for, program_for};
 use crate::tracing::programs::RUNS;
 use base::{Act, Event};
 use std::alloc::Global;
 use std::test::Fail;
-use tests_shared::{accepted, is_same};
-use tick_lower::lower;
+use tests_shared::{Checked, is_same};
 use ticklab_trace::{code_steps, source_steps};
 
 // That the steps of a program are of these processes, and that what they do is these events.
@@ -28,34 +28,19 @@ fn same_acts(
 }
 
 fn agree(alloc: Global, text: &str, schedule: &[u8]) -> Result<(), Fail> {
-    let program = accepted(alloc, text)?;
-    let n = program.processes();
-    if !schedule.iter().all(|p| *p < n) {
-        return Err("no such process")?;
-    }
-    let steps = source_steps(alloc, &program, schedule)?;
-    let outcome = tick_source::run(alloc, &program, schedule)?;
-    let mut acts = Vec::new(alloc);
-    for step in &steps {
-        acts.push((step.process, step.act))?;
-    }
-    same_acts(text, acts.as_slice(), schedule, outcome.events.as_slice())
+    let checked = program_for(alloc, text, schedule)?;
+    let steps = source_steps(alloc, &checked.program, schedule)?;
+    let outcome = tick_source::run(alloc, &checked.program, schedule)?;
+    let acts = acts_of_source(alloc, &steps)?;
+    same_acts(text, &acts, schedule, outcome.events.as_slice())
 }
 
 fn code_agrees(alloc: Global, text: &str, schedule: &[u8]) -> Result<(), Fail> {
-    let program = accepted(alloc, text)?;
-    let code = lower(alloc, &program)?;
-    let n = code.sizes().processes();
-    if !schedule.iter().all(|p| *p < n) {
-        return Err("no such process")?;
-    }
-    let outcome = code_machine::run(alloc, &code, schedule)?;
+    let code = code_for(alloc, &Checked::new(alloc, text)?.program, schedule)?;
     let steps = code_steps(alloc, &code, schedule)?;
-    let mut acts = Vec::new(alloc);
-    for step in &steps {
-        acts.push((step.process, step.act))?;
-    }
-    same_acts(text, acts.as_slice(), schedule, outcome.events.as_slice())
+    let outcome = code_machine::run(alloc, &code, schedule)?;
+    let acts = acts_of_code(alloc, &steps)?;
+    same_acts(text, &acts, schedule, outcome.events.as_slice())
 }
 
 #[test]

@@ -2,7 +2,7 @@
 
 use std::alloc::Global;
 use std::test::Fail;
-use tests_shared::{accepted, is_same};
+use tests_shared::{Checked, is_same};
 use tick_syntax::tokens;
 use ticklab_trace::{StatementPlace, places};
 
@@ -70,7 +70,7 @@ fn are(spots: &[StatementPlace<'_>], wanted: &[(usize, usize, &str)]) -> Result<
 fn stand(alloc: Global, text: &str, wanted: &[(usize, usize, &str)]) -> Result<(), Fail> {
     let tokens = tokens(alloc, text)?;
     are(
-        &places(alloc, &accepted(alloc, text)?, text, &tokens)?,
+        &places(alloc, &Checked::new(alloc, text)?.program, text, &tokens)?,
         wanted,
     )
 }
@@ -86,9 +86,9 @@ fn spots(rt: HostRuntime) -> Result<(), Fail> {
 // beginning, without words.
 #[test]
 fn another_text(rt: HostRuntime) -> Result<(), Fail> {
-    let program = accepted(rt.alloc(), "processes 1; begin stamp; clear; end")?;
+    let checked = Checked::new(rt.alloc(), "processes 1; begin stamp; clear; end")?;
     let text = "a b c\n d stamp";
     let tokens = tokens(rt.alloc(), text)?;
-    let spots = places(rt.alloc(), &program, text, &tokens)?;
+    let spots = places(rt.alloc(), &checked.program, text, &tokens)?;
     are(&spots, &[(2, 4, "stamp"), (1, 1, "")])
 }

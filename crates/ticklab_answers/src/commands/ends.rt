@@ -18,7 +18,8 @@ mod wording;
 
 use crate::asking::never_lines;
 use crate::commands::exploring::{
-    break_line, broken_said, ended, limit_shown, shortest_found, states_shown, trap_line, trap_said,
+    break_line, broken_said, concluded, limit_shown, shortest_found, states_shown, trap_line,
+    trap_said,
 };
 use crate::extent::extent_of;
 use crate::fault::LabFault;
@@ -74,7 +75,7 @@ pub fn explored_ends<F: Files, W: Progress>(
         form,
         progress,
     );
-    Ok(ended(alloc, progress, searched)?)
+    Ok(concluded(alloc, progress, searched)?)
 }
 
 fn all_ends<W: Progress>(

@@ -101,17 +101,11 @@ fn explained_for(
 fn fine(alloc: Global, name: &str, behind: &str, form: Form) -> Result<Response, NoMemory>
     ensures { IfOk result (Gives 0 (λ out. out ≡ fine_in form name.now (name.now ++ behind.now))) }
 {
-    let text = fine_text(alloc, name, behind, form)?;
+    let text = match form {
+        Form::Text => format!(in alloc; "{name}{behind}")?,
+        Form::Json => fine_object(alloc, name)?,
+    };
     Ok(answer(alloc, DONE, text))
-}
-
-fn fine_text(alloc: Global, name: &str, behind: &str, form: Form) -> Result<String, NoMemory>
-    ensures { IfOk result (λ text. string_bytes text ≡ fine_in form name.now (name.now ++ behind.now)) }
-{
-    match form {
-        Form::Text => Ok(format!(in alloc; "{name}{behind}")?),
-        Form::Json => fine_object(alloc, name),
-    }
 }
 
 // What is wrong with an input, or with a schedule of so many processes.
@@ -125,27 +119,14 @@ fn wrong(
 ) -> Result<Response, NoMemory>
     ensures { IfOk result (Gives 1 (TellsFault form processes name.now text.now fault)) }
 {
-    let out = fault_told(alloc, processes, name, text, fault, form)?;
-    Ok(output(alloc, REFUSED, out))
-}
-
-fn fault_told(
-    alloc: Global,
-    processes: u8,
-    name: &str,
-    text: &[u8],
-    fault: InputFault,
-    form: Form,
-) -> Result<Vec<u8>, NoMemory>
-    ensures { IfOk result (λ out. TellsFault form processes name.now text.now fault out.items) }
-{
-    match form {
-        Form::Text => report_of(alloc, processes, name, text, fault),
+    let out = match form {
+        Form::Text => report_of(alloc, processes, name, text, fault)?,
         Form::Json => {
             let explanation = explanation_of(alloc, processes, text, fault)?;
-            Ok(explanation_object(alloc, name, explanation)?.into_bytes())
+            explanation_object(alloc, name, explanation)?.into_bytes()
         }
-    }
+    };
+    Ok(output(alloc, REFUSED, out))
 }
 
 // How many processes an input has, or what is wrong with it.

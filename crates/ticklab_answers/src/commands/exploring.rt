@@ -11,7 +11,7 @@ ghost use Rattle.ticklab_answers.specs.Asking.{texts_of};
 ghost use Rattle.ticklab_answers.specs.BySteps.{break_line_by, line_by};
 ghost use Rattle.ticklab_answers.specs.Exploring.{Explores, IsExplored, IsUnexplored};
 ghost use Rattle.ticklab_answers.specs.Faults.{IsOfFile};
-ghost use Rattle.ticklab_answers.specs.Found.{IsFound, IsFoundBy, IsFoundFirst, TellsShortest};
+ghost use Rattle.ticklab_answers.specs.Found.{IsFound, TellsShortest};
 ghost use Rattle.ticklab_answers.specs.Hearing.{IsHeard, hearing};
 ghost use Rattle.ticklab_answers.specs.Lines.{counted_text, larger_text, limit_line, more_text, next_line, safe_line, safe_text, states_text, try_text};
 ghost use Rattle.ticklab_answers.specs.Responses.{Gives};
@@ -23,7 +23,7 @@ ghost use Rattle.ticklab_answers.specs.prover.Searches.{IsSearchedBy, is_limit};
 use crate::commands::ends::{asked_in, asks_ends, ends_found};
 use crate::commands::hunting::{MINIMAL, MINIMAL_BREAK};
 use crate::counts::push_many;
-use crate::extent::{Extent, extent_of};
+use crate::extent::{SearchExtent, extent_of, kind_of};
 use crate::fault::{AnswerFault, LabFault};
 use crate::files::bytes_of;
 use crate::form::Form;
@@ -35,7 +35,7 @@ use crate::search::{Answered, Search, Task};
 use crate::stop::NoAnswer;
 use crate::trapping::{broken_shown, trap_shown};
 use base::{NoMemory, Trap};
-use searches_explore::{Limits, NeverExplored, explore_never, explore_never_merged};
+use searches_explore::{Limits, NeverExplored, explore_by};
 use searches_hunt::{Minimal, shrink_fault};
 use std::alloc::{AllocError, Global};
 use ticklab_json::{Head, found_states};
@@ -73,11 +73,11 @@ pub fn explored<F: Files, W: Progress>(
     let input = bytes_of(alloc, files, file)?;
     let bytes = input.as_slice();
     let searched = all_schedules(alloc, file, never, bytes, limits, steps, form, progress);
-    Ok(ended(alloc, progress, searched)?)
+    Ok(concluded(alloc, progress, searched)?)
 }
 
 /// The answer, or the report of what is refused; the search is over.
-pub fn ended<W: Progress>(
+pub fn concluded<W: Progress>(
     alloc: Global,
     progress: &W,
     searched: Result<Response, NoAnswer>,
@@ -126,36 +126,28 @@ fn all_schedules<W: Progress>(
     Ok(response)
 }
 
-// What is found of the program.
+// What is found of the program by steps of one kind, or by merged ones first, and by single ones where these find a
+// fault.
 fn found<W: Progress>(task: &Task<'_, '_>, steps: Steps, progress: &mut W) -> Answered
     requires sound { IsSound task.now.search }
     ensures { IfOk result (λ response. IsHeard (hearing W.begins W.hears) progress.old progress.new (IsFound (sought_by task.now.search) task.now.limits steps response)) }
 {
     match steps {
-        Steps::MergedFirst => found_first(task, progress),
-        Steps::Single => found_by(task, false, progress),
-        Steps::Merged => found_by(task, true, progress),
-    }
-}
-
-// The same by steps of one kind alone.
-fn found_by<W: Progress>(task: &Task<'_, '_>, is_merged: bool, progress: &mut W) -> Answered
-    requires sound { IsSound task.now.search }
-    ensures { IfOk result (λ response. IsHeard (hearing W.begins W.hears) progress.old progress.new (IsFoundBy (sought_by task.now.search) task.now.limits is_merged response)) }
-{
-    let explored = explored_by(task, is_merged, progress)?;
-    shown(task, is_merged, &explored)
-}
-
-// By merged steps first, and by single ones where these find a fault.
-fn found_first<W: Progress>(task: &Task<'_, '_>, progress: &mut W) -> Answered
-    requires sound { IsSound task.now.search }
-    ensures { IfOk result (λ response. IsHeard (hearing W.begins W.hears) progress.old progress.new (IsFoundFirst (sought_by task.now.search) task.now.limits response)) }
-{
-    let explored = explored_by(task, true, progress)?;
-    match fault_of(explored) {
-        Ok(schedule) => shortest_found(task, schedule, progress),
-        Err(none) => shown(task, true, &none),
+        Steps::Single => {
+            let explored = explored_by(task, false, progress)?;
+            shown(task, false, &explored)
+        }
+        Steps::Merged => {
+            let explored = explored_by(task, true, progress)?;
+            shown(task, true, &explored)
+        }
+        Steps::MergedFirst => {
+            let explored = explored_by(task, true, progress)?;
+            match fault_of(explored) {
+                Ok(schedule) => shortest_found(task, schedule, progress),
+                Err(none) => shown(task, true, &none),
+            }
+        }
     }
 }
 
@@ -213,13 +205,9 @@ fn explored_by<W: Progress>(
     let alloc = search.alloc;
     let program = &search.spelled.program;
     let properties = search.lines.properties.as_slice();
+    let kind = kind_of(is_merged);
     progress.begin(is_merged);
-    if is_merged {
-        let explored = explore_never_merged(alloc, program, properties, limits, progress)?;
-        return Ok(explored);
-    }
-    let explored = explore_never(alloc, program, properties, limits, progress)?;
-    Ok(explored)
+    explore_by(alloc, program, properties, kind, limits, progress)
 }
 
 // The answer that tells what was explored.
@@ -301,7 +289,7 @@ pub fn limit_shown(task: &Task<'_, '_>, is_merged: bool, states: u32) -> Answere
     ensures { IfOk result (ShowsLimit (sought_by task.now.search) is_merged task.now.limits states) }
 {
     let search = &task.search;
-    let extent = Extent {
+    let extent = SearchExtent {
         lines: search.lines.places.len(),
         is_merged,
         states,
@@ -316,23 +304,18 @@ pub fn states_shown(
     search: &Search<'_, '_>,
     status: u8,
     word: &str,
-    extent: Extent,
+    extent: SearchExtent,
     says: &str,
     more: &str,
 ) -> Answered
     ensures { IfOk result (Gives status (IsStatesAnswer search.now.form word.now says.now extent.is_merged extent.states more.now)) }
 {
     let alloc = search.alloc;
-    match search.form {
-        Form::Text => {
-            let text = lines_of(alloc, says, more)?;
-            Ok(answer(alloc, status, text))
-        }
-        Form::Json => {
-            let text = found_states(alloc, word, says, extent.is_merged, extent.states)?;
-            Ok(answer(alloc, status, text))
-        }
-    }
+    let text = match search.form {
+        Form::Text => lines_of(alloc, says, more)?,
+        Form::Json => found_states(alloc, word, says, extent.is_merged, extent.states)?,
+    };
+    Ok(answer(alloc, status, text))
 }
 
 // A line, with more behind it.
@@ -374,7 +357,7 @@ fn push_states(text: &mut String, is_merged: bool, states: u32) -> Result<(), Al
     }
 }
 
-fn safe_line(alloc: Global, extent: Extent) -> Result<String, AllocError>
+fn safe_line(alloc: Global, extent: SearchExtent) -> Result<String, AllocError>
     ensures { IfOk result (λ line. string_bytes line ≡ safe_line extent.is_merged extent.lines extent.states) }
 {
     let mut line = String::from_str(alloc, safe_text(extent.lines))?;
@@ -384,7 +367,7 @@ fn safe_line(alloc: Global, extent: Extent) -> Result<String, AllocError>
 }
 
 /// Adds how many states there are.
-pub fn push_counted(text: &mut String, extent: Extent) -> Result<(), AllocError>
+pub fn push_counted(text: &mut String, extent: SearchExtent) -> Result<(), AllocError>
     ensures { OnOk result (string_bytes text.new ≡ string_bytes text.old ++ counted_text extent.is_merged extent.states) }
 {
     text.push_str(" (")?;
@@ -439,7 +422,7 @@ fn try_text(is_merged: bool) -> &'static str
 }
 
 // What may help where a limit was met.
-fn next_line(alloc: Global, limits: Limits, extent: Extent) -> Result<String, AllocError>
+fn next_line(alloc: Global, limits: Limits, extent: SearchExtent) -> Result<String, AllocError>
     ensures { IfOk result (λ line. string_bytes line ≡ next_line extent.is_merged limits extent.states) }
 {
     let mut line = String::from_str(alloc, try_text(extent.is_merged))?;

@@ -4,7 +4,7 @@ ghost use Rattle.std.specs.List.{list_any};
 ghost use Rattle.ticklab_answers.specs.Lines.{asked_text, can_end_line, can_end_text, endless_line, ends_line, ends_text, half_line, half_next, is_nobody, marked, no_process_line, numbers_text, processes_text, quiet_text, stuck_line};
 
 use crate::commands::exploring::{either, larger, push_counted, push_more, safe_text};
-use crate::extent::Extent;
+use crate::extent::SearchExtent;
 use base::push_number;
 use searches_explore::{Limits, MustStop};
 use std::alloc::{AllocError, Global};
@@ -101,7 +101,7 @@ fn quiet(alloc: Global, lines: usize) -> Result<String, AllocError>
 }
 
 /// They always end, where each process that runs steps again and again; and no line `#! never` breaks.
-pub fn ends_line(alloc: Global, asked: MustStop, extent: Extent) -> Result<String, AllocError>
+pub fn ends_line(alloc: Global, asked: MustStop, extent: SearchExtent) -> Result<String, AllocError>
     ensures { IfOk result (λ line. string_bytes line ≡ ends_line extent.is_merged extent.lines asked extent.states) }
 {
     let mut line = quiet(alloc, extent.lines)?;
@@ -123,7 +123,7 @@ fn push_ends(alloc: Global, text: &mut String, asked: MustStop) -> Result<(), Al
 }
 
 // They can always end, and it isn't known whether they do.
-fn can_end_text(alloc: Global, asked: MustStop, extent: Extent) -> Result<String, AllocError>
+fn can_end_text(alloc: Global, asked: MustStop, extent: SearchExtent) -> Result<String, AllocError>
     ensures { IfOk result (λ text. string_bytes text ≡ can_end_text extent.is_merged extent.lines asked extent.states) }
 {
     let mut text = quiet(alloc, extent.lines)?;
@@ -135,7 +135,11 @@ fn can_end_text(alloc: Global, asked: MustStop, extent: Extent) -> Result<String
 }
 
 /// They can always end; whether they do isn't known.
-pub fn can_end_line(alloc: Global, asked: MustStop, extent: Extent) -> Result<String, AllocError>
+pub fn can_end_line(
+    alloc: Global,
+    asked: MustStop,
+    extent: SearchExtent,
+) -> Result<String, AllocError>
     ensures { IfOk result (λ line. string_bytes line ≡ can_end_line extent.is_merged extent.lines asked extent.states) }
 {
     if is_nobody(asked) {
@@ -156,7 +160,7 @@ pub fn half_line(
 ) -> Result<String, AllocError>
     ensures { IfOk result (λ line. string_bytes line ≡ half_line lines asked states others) }
 {
-    let extent = Extent {
+    let extent = SearchExtent {
         lines,
         is_merged: true,
         states,
