@@ -77,6 +77,8 @@ def run_on_terminal(path, words, key=None, after=b"", no_color=None, has_output=
     with tempfile.TemporaryFile() as to:
         child, terminal = pty.fork()
         if child == 0:
+            # (what runs in the background of a shell is given a Ctrl-C that is ignored)
+            signal.signal(signal.SIGINT, signal.SIG_DFL)
             if not has_output:
                 os.dup2(to.fileno(), 1)
             os.execve(path, [path, *words], environment)
