@@ -2,7 +2,7 @@
 //! has the same outcome. Its report is that of the program under the schedule that `project`
 //! makes.
 
-ghost use Rattle.std.specs.Prelude.{◌≡◌, ◌<◌, length, All};
+ghost use Rattle.std.specs.Prelude.{◌≡◌, ◌<◌, All};
 ghost use Rattle.tick_kinds.specs.Resolution.{resolved};
 ghost use Rattle.tick_lower.specs.Lowered.{lowered, lowered_sizes};
 

@@ -1,5 +1,5 @@
 -- Why there is no answer to the request that the words make.
-use Rattle.std.proofs.Common.{◌≡◌, ℕ, List, Result, Ok, Err, IfErr, map, string_bytes, subst, sym}
+use Rattle.std.proofs.Common.{◌≡◌, ℕ, List, Result, Ok, Err, IfErr, IsErrAnd, map, string_bytes, subst, sym}
 use Rattle.std.specs.Prelude.{String, Vec}
 use Rattle.std.specs.Global.{Global}
 use Rattle.std.specs.declared.io.Error.{Error}
@@ -30,9 +30,10 @@ module _ (version : List ℕ) (given : Result GivenWords Error) (words : Vec (St
   named_by given gives (Host cause) h = absurd h
   named_by given gives (Answer fault) h = tt
 
-  pub failed : (r : Result Response LabFault) → IfErr r (IsOfFileThat (NamesOfLine matched)) → IfErr r (IsOfWordsOrFile version given)
-  failed (Ok x) h = tt
-  failed (Err fault) h = named_by given gives fault h
+  pub failed : (fault : LabFault) → IsOfFileThat (NamesOfLine matched) fault → (r : Result Response LabFault) → IsErrAnd r (λ d. d ≡ fault)
+      → IfErr r (IsOfWordsOrFile version given)
+  failed fault of (Ok x) is = tt
+  failed fault of (Err d) is = subst (IsOfWordsOrFile version given) (sym is) (named_by given gives fault of)
 
   -- an answer to the line is one to the words
   module _ {F M W : Type 0} (Reads : ReadsOf F) (ReadsInput : ReadsInputOf F) (Lists : ListsOf F) (Ran : RunsOf M) (hears : HearsOf W) (before after : F) (rested ran : M)

@@ -13,7 +13,6 @@ use Rattle.std.proofs.Math.Bool.{true-or}
 use Rattle.std.specs.Prelude.{◌||◌, Vec}
 use Rattle.std.specs.Global.{Global}
 use Rattle.base.specs.Plain.{WholeProgram}
-use Rattle.language_properties.specs.Properties.{Formula}
 use Rattle.language_properties.specs.Values.{Valued}
 use Rattle.language_properties.specs.declared.property.Property.{Property}
 use Rattle.tick_source.specs.Source.{SourceState, source}
@@ -35,7 +34,8 @@ use Rattle.searches_hunt.specs.declared.minimal.Minimal.TheVariants as M
 use Rattle.searches_explore.specs.BySteps.{TellsBy}
 use Rattle.searches_explore.specs.declared.by_steps.StepKind.{StepKind}
 use Rattle.searches_explore.proofs.Offered.{first_breaks}
-use Rattle.ticklab_answers.specs.BySteps.{BrokenBy, LimitBy, SafeBy, SeesBy, TrapBy, kind_of}
+use Rattle.ticklab_line.specs.declared.commands.Steps.{Steps}
+use Rattle.ticklab_answers.specs.BySteps.{BrokenBy, LimitBy, SafeBy, SeesBy, TrapBy, begins_merged, kind_of}
 use Rattle.ticklab_answers.specs.Found.{IsFoundBy, IsFoundFirst, IsQuiet, MeetsLimit, TellsBoth, TellsFault, TellsLimit, TellsSafe, TellsShortest, broken, fault, first_fault, first_safe, first_unknown, minimal_break, minimal_trap, safe, shortest, trapped, unknown}
 use Rattle.ticklab_answers.specs.Hearing.{Heard, HearsOf, IsHeard, IsSearchHeard, IsSearchHeardToEnd, hearing}
 use Rattle.ticklab_answers.specs.Shown.{Shows, ShowsMinimal}
@@ -76,16 +76,20 @@ searched_as begins sees before between after m n same a given lines held limits 
 -- what an exploration by steps of this kind tells
 module _ {W : Type 0} (begins : W → Bool → W → Type 0) (sees : W → ℕ → ℕ → ℕ → W → Type 0) (before between after : W)
     (a : WholeProgram ℕ) (given lines : List Property) (held : given ≡ lines) (limits : Limits) (e : NeverExplored) where
-  told_so : (m : Bool) → begins before m between → TellsBy a (lines_of given) limits sees between after (kind_of m) e
+  pub told_so : (m : Bool) → begins before m between → TellsBy a (lines_of given) limits sees between after (kind_of m) e
       → IsSearchedBy m a lines limits (hearing begins sees) before after e
   told_so false first told =
       searched_as begins sees before between after false false refl a given lines held limits e first told.trapped told.broken told.safe told.at_limit told.watched
   told_so true first told =
       searched_as begins sees before between after true true refl a given lines held limits e first told.trapped told.broken told.safe told.at_limit told.watched
 
-  pub told_of_kind : (m : Bool) (kind : StepKind) → kind ≡ kind_of m → begins before m between
-      → TellsBy a (lines_of given) limits sees between after kind e → IsSearchedBy m a lines limits (hearing begins sees) before after e
-  told_of_kind m kind same first told = told_so m first (subst (λ (k : StepKind). TellsBy a (lines_of given) limits sees between after k e) same told)
+  -- the first search of an `explore` by these steps
+  pub told_by_steps : (steps : Steps) (m : Bool) (kind : StepKind) → m ≡ begins_merged steps → kind ≡ kind_of m → begins before m between
+      → TellsBy a (lines_of given) limits sees between after kind e
+      → IsSearchedBy (begins_merged steps) a lines limits (hearing begins sees) before after e
+  told_by_steps steps m kind is same first told =
+      subst (λ (k : Bool). IsSearchedBy k a lines limits (hearing begins sees) before after e) is
+      (told_so m first (subst (λ (k : StepKind). TellsBy a (lines_of given) limits sees between after k e) same told))
 
 abbrev is_found : Searched → Bool
 is_found (Found schedule) = true

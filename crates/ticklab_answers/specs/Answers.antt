@@ -9,6 +9,8 @@ use Rattle.ticklab_line.specs.Commands.{Asked, plain_request}
 use Rattle.ticklab_line.specs.Lines.{Answers}
 use Rattle.ticklab_line.specs.declared.asking.Line.{Line}
 use Rattle.ticklab_line.specs.declared.asking.Line.TheVariants as line
+use Rattle.ticklab_line.specs.declared.asking.Output.{Output}
+use Rattle.ticklab_line.specs.declared.asking.Output.TheVariants as output
 use Rattle.ticklab_line.specs.declared.commands.Request.TheVariants.{Explore, Ends, Check, Lasso, Hunt, Runs, Trace, Draw, Page, Explain, Labels}
 use Rattle.ticklab_answers.specs.Checks.{ChecksAll, IsUnderOne, ListsOf}
 use Rattle.ticklab_answers.specs.Ends.{ExploresEnds}
@@ -42,6 +44,18 @@ GivesWords (Err error) words = ⊥
 abbrev pub limits_of : ℕ → ℕ → Limits
 limits_of states megabytes = record { states = states; bytes = megabytes * 1000000 }
 
+-- the form that an answer is made in
+abbrev pub form_of : Output → Form
+form_of output.Text = Text
+form_of output.ScheduleAlone = Text
+form_of output.Json = Json
+
+-- what is printed of an answer
+abbrev pub IsPrinted : Output → Response → Response → Type 0
+IsPrinted output.Text whole response = response ≡ whole
+IsPrinted output.ScheduleAlone whole response = IsScheduleOf whole response
+IsPrinted output.Json whole response = response ≡ whole
+
 -- Files, a runner and a watch are as they are before and after. Nothing is read that the words don't name, or that isn't in
 -- a folder that they name. The runner makes the runs of `hunt --threads` and no other, and the watch hears of the searches
 -- of an `explore` and of nothing else.
@@ -66,9 +80,9 @@ module _ {F M W : Type 0} (Reads : ReadsOf F) (ReadsInput : ReadsInputOf F) (Lis
   Responds form (Explain file schedule) response = (ran ≡ rested) × (heard ≡ quiet) × Explains Reads ReadsInput before after file schedule form response
   Responds form (Labels processes moves) response = (ran ≡ rested) × (heard ≡ quiet) × (after ≡ before) × DrawsLabels processes moves response
 
-  -- the schedule alone of the answer to a request
-  abbrev pub RespondsAlone : Asked → Response → Type 0
-  RespondsAlone request response = (whole : Response) × Responds Text request whole × IsScheduleOf whole response
+  -- what is printed of the answer to a request
+  abbrev pub RespondsAs : Output → Asked → Response → Type 0
+  RespondsAs output request response = (whole : Response) × Responds (form_of output) request whole × IsPrinted output whole response
 
   -- where nothing is read, run or told of a search
   abbrev pub RespondsAtOnce : (Response → Type 0) → Response → Type 0
@@ -76,9 +90,7 @@ module _ {F M W : Type 0} (Reads : ReadsOf F) (ReadsInput : ReadsInputOf F) (Lis
 
   -- help goes out, so does the version, and a line that is refused is told
   abbrev pub RespondsTo : Line → Response → Type 0
-  RespondsTo (line.Request request) = Responds Text (plain_request request)
-  RespondsTo (line.Schedule request) = RespondsAlone (plain_request request)
-  RespondsTo (line.Json request) = Responds Json (plain_request request)
+  RespondsTo (line.Request request output) = RespondsAs output (plain_request request)
   RespondsTo (line.Help text) = RespondsAtOnce (Gives 0 (λ out. out ≡ string_bytes text))
   RespondsTo (line.Version text) = RespondsAtOnce (Gives 0 (λ out. out ≡ string_bytes text))
   RespondsTo (line.Refused text) = RespondsAtOnce (Refuses 2 (λ told. told ≡ string_bytes text))
@@ -103,9 +115,7 @@ NamesOf (Explain file schedule) name = IsOneOf file schedule name
 NamesOf (Labels processes moves) name = ⊥
 
 abbrev pub NamesOfLine : Line → List ℕ → Type 0
-NamesOfLine (line.Request request) name = NamesOf (plain_request request) name
-NamesOfLine (line.Schedule request) name = NamesOf (plain_request request) name
-NamesOfLine (line.Json request) name = NamesOf (plain_request request) name
+NamesOfLine (line.Request request output) name = NamesOf (plain_request request) name
 NamesOfLine (line.Help text) name = ⊥
 NamesOfLine (line.Version text) name = ⊥
 NamesOfLine (line.Refused text) name = ⊥

@@ -13,7 +13,15 @@ use Rattle.searches_explore.specs.Searching.{Sees}
 use Rattle.searches_explore.specs.Trap.{IsTrap}
 use Rattle.searches_explore.specs.declared.by_steps.StepKind.{StepKind}
 use Rattle.searches_explore.specs.declared.by_steps.StepKind.TheVariants.{Single, Merged}
+use Rattle.ticklab_line.specs.declared.commands.Steps.{Steps}
+use Rattle.ticklab_line.specs.declared.commands.Steps.TheVariants as steps
 use Rattle.ticklab_answers.specs.Lines.{shortest_break_line, shortest_line, some_break_line, some_line}
+
+-- whether the first search is by merged steps
+abbrev pub begins_merged : Steps → Bool
+begins_merged steps.Single = false
+begins_merged steps.Merged = true
+begins_merged steps.MergedFirst = true
 
 abbrev pub kind_of : Bool → StepKind
 kind_of false = Single

@@ -16,7 +16,6 @@ use Rattle.ticklab_trace.specs.Places.{Standing}
 use Rattle.ticklab_trace.specs.TraceText.{instruction_lines, statement_lines}
 use Rattle.tick_sim.specs.Maps.{up}
 use Rattle.ticklab_line.specs.Commands.{plain_drawing}
-use Rattle.ticklab_line.specs.declared.commands.Drawing.{Drawing}
 use Rattle.ticklab_line.specs.declared.commands.AskedRun.{AskedRun}
 use Rattle.ticklab_line.specs.declared.commands.Side.{Side}
 use Rattle.ticklab_line.specs.declared.commands.Side.TheVariants.{Program, Code, Lifted}

@@ -1,9 +1,8 @@
 //! The answer to the words of a command line: each command reads its files and makes its answer.
 ghost use Rattle.std.specs.Prelude.{◌≡◌, IfErr, IfOk};
 ghost use Rattle.std.specs.Vec.Iter.{into_iter_items};
-ghost use Rattle.ticklab_line.specs.Commands.{plain_request};
-ghost use Rattle.ticklab_answers.specs.Answers.{GivesWords, IsOfWordsOrFile, NamesOf, Responds, RespondsToWords, limits_of};
-ghost use Rattle.ticklab_answers.specs.Faults.{IsOfFileThat, IsOfWords};
+ghost use Rattle.ticklab_answers.specs.Answers.{GivesWords, IsOfWordsOrFile, IsPrinted, RespondsToWords, form_of, limits_of};
+ghost use Rattle.ticklab_answers.specs.Faults.{IsOfWords};
 ghost use Rattle.ticklab_answers.specs.Hearing.{hearing};
 
 mod checking;
@@ -36,13 +35,13 @@ pub use lasso::lassoed;
 pub use run_objects::{break_object, run_object};
 use searches_explore::Limits;
 use searches_hunt::Trials;
-use std::alloc::Global;
+use std::alloc::{AllocError, Global};
 use std::env::Args;
 use std::io;
 pub use tallying::tallied;
 use tick_merge::Runner;
 use ticklab_check::Checks;
-use ticklab_line::{Line, Request, asked};
+use ticklab_line::{Line, Output, Request, asked};
 pub use told_run::{Telling, told};
 pub use tracing::{source_text, spots_in};
 
@@ -62,57 +61,14 @@ pub fn response_to<F: Files, M: Runner, T: Trials, C: Checks, W: Progress>(
     ensures err { IfErr result (IsOfWordsOrFile version.now given) }
 {
     let words = words_of(alloc, given)?;
-    match asked(alloc, words.as_slice(), version)? {
-        Line::Request(request) => {
-            let form = Form::Text;
-            answered(
-                alloc, files, runner, trials, checks, progress, request, form,
-            )
-        }
-        Line::Schedule(request) => {
-            let form = Form::Text;
-            let whole = answered(
-                alloc, files, runner, trials, checks, progress, request, form,
-            )?;
-            Ok(schedule_alone(alloc, whole)?)
-        }
-        Line::Json(request) => {
-            let form = Form::Json;
-            answered(
-                alloc, files, runner, trials, checks, progress, request, form,
-            )
-        }
-        Line::Help(text) => Ok(help(alloc, text)),
-        Line::Version(text) => Ok(help(alloc, text)),
-        Line::Refused(text) => Ok(no_command(alloc, text)),
-    }
-}
-
-// So many states, in so many megabytes.
-fn limits_of(states: u32, megabytes: u32) -> Limits
-    ensures { result ≡ limits_of states megabytes }
-{
-    Limits {
-        states,
-        bytes: u64::from(megabytes) * 1_000_000,
-    }
-}
-
-// As JSON where that is asked for and the command has such answers.
-fn answered<F: Files, M: Runner, T: Trials, C: Checks, W: Progress>(
-    alloc: Global,
-    files: &mut F,
-    runner: &mut M,
-    trials: &T,
-    checks: &C,
-    progress: &mut W,
-    request: Request<&str, Vec<&str>>,
-    form: Form,
-) -> Result<Response, LabFault>
-    ensures ok { IfOk result (Responds F.Reads F.ReadsInput F.Lists M.Ran (hearing W.begins W.hears) files.old files.new runner.old runner.new progress.old progress.new form (plain_request request.entry)) }
-    ensures err { IfErr result (IsOfFileThat (NamesOf (plain_request request.entry))) }
-{
-    match request {
+    let (request, output) = match asked(alloc, words.as_slice(), version)? {
+        Line::Request(request, output) => (request, output),
+        Line::Help(text) => return Ok(help(alloc, text)),
+        Line::Version(text) => return Ok(help(alloc, text)),
+        Line::Refused(text) => return Ok(no_command(alloc, text)),
+    };
+    let form = form_of(output);
+    let answered = match request {
         Request::Explore {
             file,
             never,
@@ -172,6 +128,37 @@ fn answered<F: Files, M: Runner, T: Trials, C: Checks, W: Progress>(
         Request::Page(run, title) => told(alloc, files, &run, &Telling::Page(title)),
         Request::Explain { file, schedule } => explained(alloc, files, file, schedule, form),
         Request::Labels { processes, moves } => labelled(alloc, processes, moves),
+    };
+    Ok(printed(alloc, output, answered?)?)
+}
+
+// So many states, in so many megabytes.
+fn limits_of(states: u32, megabytes: u32) -> Limits
+    ensures { result ≡ limits_of states megabytes }
+{
+    Limits {
+        states,
+        bytes: u64::from(megabytes) * 1_000_000,
+    }
+}
+
+// The form that the answer is made in.
+fn form_of(output: Output) -> Form
+    ensures { result ≡ form_of output }
+{
+    match output {
+        Output::Text | Output::ScheduleAlone => Form::Text,
+        Output::Json => Form::Json,
+    }
+}
+
+// What is printed of the whole answer.
+fn printed(alloc: Global, output: Output, whole: Response) -> Result<Response, AllocError>
+    ensures { IfOk result (IsPrinted output whole) }
+{
+    match output {
+        Output::ScheduleAlone => schedule_alone(alloc, whole),
+        Output::Text | Output::Json => Ok(whole),
     }
 }
 

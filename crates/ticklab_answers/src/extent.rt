@@ -1,8 +1,9 @@
 ghost use Rattle.std.specs.Prelude.{◌≡◌, length};
-ghost use Rattle.ticklab_answers.specs.BySteps.{kind_of};
+ghost use Rattle.ticklab_answers.specs.BySteps.{begins_merged, kind_of};
 
 use crate::search::Search;
 use searches_explore::StepKind;
+use ticklab_line::Steps;
 
 /// How far a program was explored where no schedule is shown.
 #[derive(Clone, Copy)]
@@ -23,6 +24,16 @@ pub fn extent_of(search: &Search<'_, '_>, is_merged: bool, states: u32) -> Searc
         lines: search.lines.places.len(),
         is_merged,
         states,
+    }
+}
+
+/// Whether the first search is by merged steps.
+pub fn begins_merged(steps: Steps) -> bool
+    ensures { result ≡ begins_merged steps }
+{
+    match steps {
+        Steps::Single => false,
+        Steps::Merged | Steps::MergedFirst => true,
     }
 }
 

@@ -108,6 +108,17 @@ impl From<AnswerFault> for LabFault {
     }
 }
 
+impl From<NoMemory> for LabFault {
+    ghost use Rattle.ticklab_answers.specs.declared.fault.AnswerFault.TheVariants as answer;
+    ghost use Rattle.ticklab_answers.specs.declared.fault.LabFault.TheVariants.{Answer};
+
+    ghost from_gives = { λ _ fault. fault ≡ Answer answer.NoMemory };
+
+    fn from(_fault: NoMemory) -> LabFault {
+        LabFault::Answer(AnswerFault::NoMemory)
+    }
+}
+
 impl From<AllocError> for LabFault {
     ghost use Rattle.ticklab_answers.specs.declared.fault.AnswerFault.TheVariants.{NoMemory};
     ghost use Rattle.ticklab_answers.specs.declared.fault.LabFault.TheVariants.{Answer};

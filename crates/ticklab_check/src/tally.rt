@@ -1,5 +1,5 @@
 // How many files there are of each verdict.
-ghost use Rattle.std.specs.Prelude.{◌≡◌, ◌<◌, ◌^◌};
+ghost use Rattle.std.specs.Prelude.{◌≡◌, ◌<◌};
 ghost use Rattle.ticklab_check.specs.Wording.{counted, status_of, tally_of};
 
 use crate::checked::{Timed, Verdict};

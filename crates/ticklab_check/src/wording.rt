@@ -1,5 +1,5 @@
 // Adds what is told of files to a text.
-ghost use Rattle.std.specs.Prelude.{◌≡◌, ◌++◌, ◌==◌, OnOk, length, string_bytes};
+ghost use Rattle.std.specs.Prelude.{◌≡◌, ◌++◌, ◌==◌, OnOk, length};
 ghost use Rattle.std.specs.Fmt.{decimal};
 ghost use Rattle.ticklab_check.specs.Wording.{behind_text, checked_text, count_text, expected_text, file_text, files_text, found_text, merged_text, searched_line, seconds_text, states_text, tally_text, verdict_text};
 

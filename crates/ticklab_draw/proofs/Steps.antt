@@ -7,10 +7,9 @@
 -- the greatest of the tickets (`greatest_row`). A process that there is writes into the front of the row, and
 -- leaves the zeros.
 -- Read `Tells` and `does_moves` first.
-use Rattle.std.proofs.Common.{◌≡◌, ℕ, zero, suc, ◌+◌, ◌-◌, ◌<◌, ◌≤◌, Bool, true, false, if◌then◌else◌, List, [], ◌∷◌, ◌++◌, replicate, max, refl, ap, subst, ◌∙◌, sym, length, drop, get_or, set, arith, Result, Ok, Err, Option, None, Some}
+use Rattle.std.proofs.Common.{◌≡◌, ℕ, zero, suc, ◌+◌, ◌-◌, ◌<◌, ◌≤◌, Bool, true, false, if◌then◌else◌, List, [], ◌∷◌, ◌++◌, replicate, max, refl, ap, subst, ◌∙◌, sym, length, set, arith, Result, Ok, Err, Option, None, Some}
 use Rattle.std.specs.Prelude.{nat_lt, ◌==◌, slice_get, slice_set, IfSome}
 use Rattle.std.proofs.lemmas.List.{set-append_left}
-use Rattle.std.proofs.Math.Seq.{drop-cons, drop-length}
 use Rattle.base.specs.Rows.{padded}
 use Rattle.ticket_core.specs.Tickets.{greatest_ticket, stamp_ticket, clear_ticket, older_ticket, holds_ticket}
 use Rattle.ticket_core.proofs.Offered.{greatest-stamp_ticket, greatest-clear_ticket, length-stamp_ticket, length-clear_ticket}

@@ -1,5 +1,5 @@
 -- The table of the last puts, as marks are added.
-use Rattle.std.proofs.Common.{◌≡◌, ℕ, zero, suc, ◌+◌, ◌*◌, ◌<◌, Bool, true, false, cond, if◌then◌else◌, List, [], ◌∷◌, ◌++◌, length, refl, ap, ◌∙◌, sym, subst, arith, Option, Some, None, inl, inr}
+use Rattle.std.proofs.Common.{◌≡◌, ℕ, suc, ◌+◌, Bool, true, false, if◌then◌else◌, List, [], ◌∷◌, ◌++◌, length, refl, ap, ◌∙◌, sym, arith, Option, Some, None}
 use Rattle.std.specs.Prelude.{◌==◌, ◌&&◌}
 use Rattle.std.specs.BTreeMap.{BTreeMap}
 use Rattle.base.specs.declared.event.Act.{Act}
@@ -7,7 +7,7 @@ use Rattle.base.specs.declared.event.Act.TheVariants as A
 use Rattle.base.specs.declared.event.Event.{Event}
 use Rattle.ticklab_draw.specs.declared.mark.Mark.{Mark}
 use Rattle.ticklab_draw.specs.declared.mark.Holdings.{Holdings}
-use Rattle.ticklab_draw.specs.Marks.{is_put, is_row, row_put, last_put, last_put_from, with_event, with_lost, mark_of, sight_of, act_of}
+use Rattle.ticklab_draw.specs.Marks.{is_put, last_put, last_put_from, with_event, with_lost, mark_of}
 use Rattle.ticklab_draw.specs.prover.Tables.{IsTable, Notes, writes}
 
 -- the last mark counts last

@@ -1,5 +1,5 @@
 -- The marks of a run: one for each event, in order, at the number of its step.
-use Rattle.std.specs.Prelude.{ℕ, ◌+◌, ◌==◌, ◌&&◌, Bool, true, false, if◌then◌else◌, List, [], ◌∷◌, ◌++◌, length, slice_get, Option, Some, None, option_and_then}
+use Rattle.std.specs.Prelude.{ℕ, ◌+◌, ◌==◌, ◌&&◌, Bool, false, if◌then◌else◌, List, [], ◌∷◌, ◌++◌, length, slice_get, Option, Some, None, option_and_then}
 use Rattle.base.specs.Rows.{padded}
 use Rattle.word_core.specs.Stamps.{Labels}
 use Rattle.base.specs.declared.event.Act.{Act}
@@ -9,7 +9,7 @@ use Rattle.base.specs.Plain.{WholeProgram}
 use Rattle.tick_source.specs.Source.{SourceState, source_step, source_start}
 use Rattle.code_core.specs.declared.instr.Instr.{Instr}
 use Rattle.code_core.specs.declared.instr.Instr.TheVariants as I
-use Rattle.code_core.specs.Instructions.{CodeSizes, StepCode}
+use Rattle.code_core.specs.Instructions.{StepCode}
 use Rattle.code_machine.specs.Machine.{CodeState, code_step, code_start, next_instruction}
 use Rattle.ticklab_draw.specs.declared.mark.Mark.{Mark}
 use Rattle.ticklab_draw.specs.declared.mark.Sight.{Sight}

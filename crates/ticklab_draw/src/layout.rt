@@ -1,6 +1,6 @@
 // Where things stand on the page. Bands of columns stand one below the other, each with all lanes.
 ghost use Rattle.std.specs.Prelude.{◌≡◌, ◌*◌, ◌+◌, ◌-◌, ◌<◌, ◌≤◌, ◌^◌};
-ghost use Rattle.ticklab_draw.specs.Layout.{above_y, band_end, band_foot, band_height, band_top, column_at, column_behind, edge, field_half, flag_middle, flag_width, from_y, in_x, is_narrow, lane_y, last_column, leave_x, left_x, legend_height, letters_half, next_column, order_y, page_height, page_least, page_width, reach_x, right_x, step_y, track_lane, track_y, way_y};
+ghost use Rattle.ticklab_draw.specs.Layout.{above_y, band_end, band_foot, band_height, band_top, column_at, column_behind, field_half, flag_middle, flag_width, from_y, in_x, is_narrow, lane_y, last_column, leave_x, left_x, legend_height, letters_half, next_column, order_y, page_height, page_least, page_width, reach_x, right_x, step_y, track_lane, track_y, way_y};
 
 use crate::columns::Column;
 

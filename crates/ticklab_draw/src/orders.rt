@@ -1,5 +1,5 @@
 // Who holds a ticket, from the smallest ticket to the greatest.
-ghost use Rattle.std.specs.Prelude.{◌≡◌, ◌++◌, ◌<◌, IfOk, OnOk, length, slice_index};
+ghost use Rattle.std.specs.Prelude.{◌≡◌, ◌++◌, ◌<◌, IfOk, OnOk, slice_index};
 ghost use Rattle.ticket_core.specs.Tickets.{tickets_below};
 ghost use Rattle.ticklab_draw.specs.Orders.{has_label_rank, has_rank, has_ticket_rank, holders, holders_below, order_words, ranked, younger_text};
 

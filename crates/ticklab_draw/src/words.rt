@@ -1,7 +1,6 @@
 // What marks show, in words.
 ghost use Rattle.std.specs.Prelude.{◌≡◌, ◌++◌, ◌+◌, ◌<◌, OnOk, codes, length, map, take, Some};
 ghost use Rattle.std.specs.Fmt.{decimal};
-ghost use Rattle.std.specs.List.{flat_map};
 ghost use Rattle.base.specs.Lines.{spaced};
 ghost use Rattle.word_core.specs.Stamps.{label_at};
 ghost use Rattle.ticklab_draw.specs.Words.{act_text, answer_text, held_text, label_text, origin_text, row_text, sentence, sight_text, names};

@@ -1,5 +1,5 @@
 // What may stand next in a program, as the parser itself decides.
-ghost use Rattle.std.specs.Prelude.{◌≡◌, ◌≢◌, ◌≤◌, ◌<◌, IfOk, length, min, take};
+ghost use Rattle.std.specs.Prelude.{◌≡◌, ◌≢◌, ◌<◌, IfOk, length, min, take};
 ghost use Rattle.ticklab_explain.specs.Following.{AreFitting, BeginsProgram, Fits, IsWhole, MayFollow, Tests, is_at_end, sample};
 
 use crate::wanted::Wanted;

@@ -1,6 +1,5 @@
 // A line of a text with a caret under a part of it.
-ghost use Rattle.std.specs.Prelude.{◌≡◌, ◌++◌, ℕ, List, IfOk, OnOk, length, replicate};
-ghost use Rattle.std.specs.Fmt.{decimal};
+ghost use Rattle.std.specs.Prelude.{◌≡◌, ◌++◌, ℕ, List, OnOk};
 ghost use Rattle.std.specs.List.{flat_map};
 ghost use Rattle.ticklab_explain.specs.Pictures.{IsPicture, caret_of, cut, margin, picture, shown, shown_byte, source_line};
 

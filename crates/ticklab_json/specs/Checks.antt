@@ -1,5 +1,5 @@
 -- What files come to, as an object.
-use Rattle.std.specs.Prelude.{ℕ, Bool, true, false, List, codes, map, Option, Some, None, string_bytes}
+use Rattle.std.specs.Prelude.{ℕ, Bool, List, codes, map, Option, Some, None, string_bytes}
 use Rattle.std.specs.List.{zip}
 use Rattle.std.specs.Str.Lossy.{utf8_lossy}
 use Rattle.serde_json.specs.Data.{Data, boolean, string, array, object, Members, no_members, member, put}

@@ -1,5 +1,5 @@
 //! The order of the processes, as a list of ranks.
-ghost use Rattle.std.specs.Prelude.{◌≡◌, ◌<◌, IfOk, length, map, option_map};
+ghost use Rattle.std.specs.Prelude.{◌≡◌, ◌<◌, IfOk, option_map};
 ghost use Rattle.serde_json.specs.View.{view};
 ghost use Rattle.ticklab_json.specs.Steps.{label_order, rank_data, ticket_order};
 

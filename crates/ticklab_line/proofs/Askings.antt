@@ -51,9 +51,7 @@ one_told version (first ∷ kinds) k found (line.Help text) among told =
 one_told version (first ∷ kinds) k found (line.Version text) among told =
     (subst (λ (a : ErrorKind). IsAmong a (first ∷ kinds)) told.0 among, told.1)
 one_told version (first ∷ kinds) k found (line.Refused text) among told = (k, told.0, told.1, among)
-one_told version (first ∷ kinds) k found (line.Request request) among told = absurd told
-one_told version (first ∷ kinds) k found (line.Schedule request) among told = absurd told
-one_told version (first ∷ kinds) k found (line.Json request) among told = absurd told
+one_told version (first ∷ kinds) k found (line.Request request output) among told = absurd told
 
 pub told_answers : (app : App) (version : Text) (words : List Text) (error : Error) (l : Line)
     → app ≡ ticklab

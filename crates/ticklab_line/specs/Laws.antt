@@ -4,8 +4,10 @@ use Rattle.clap.specs.Walk.{Text}
 use Rattle.clap.specs.Kinds.{Kinds}
 use Rattle.clap.specs.declared.error.kind.ErrorKind.TheVariants as kind
 use Rattle.ticklab_line.specs.Commands.{Asked, request_in, rows}
-use Rattle.ticklab_line.specs.Lines.{Form, as_json, as_text, command_in, faults, form_of, schedule_alone}
+use Rattle.ticklab_line.specs.Lines.{command_in, faults, output_of}
 use Rattle.ticklab_line.specs.Conflicts.{Shown, beside_never, conflict_in, json_and_schedule, merged_and_single, of_file}
+use Rattle.ticklab_line.specs.declared.asking.Output.{Output}
+use Rattle.ticklab_line.specs.declared.asking.Output.TheVariants as output
 use Rattle.ticklab_line.specs.declared.commands.Request.TheVariants.{Explore, Hunt, Runs}
 use Rattle.ticklab_line.specs.declared.commands.Steps.TheVariants.{MergedFirst}
 
@@ -28,9 +30,9 @@ Tells words kinds = faults (line words) ≡ kinds
 abbrev pub read : List Text → Kinds × Option Shown × Option Asked
 read words = (faults (line words), conflict_in (command_in (line words)), request_in (command_in (line words)))
 
--- in which form the answer is asked for
-abbrev pub form_asked : List Text → Form
-form_asked words = form_of (command_in (line words))
+-- what is to be printed of the answer
+abbrev pub output_asked : List Text → Output
+output_asked words = output_of (command_in (line words))
 
 pub record CommandsLaw : Type 0 where
   pub explore : (rest : Text) → Asks (codes "explore" ∷ (97 ∷ rest) ∷ []) (Explore (97 ∷ rest) [] 4294967295 1000 MergedFirst)
@@ -38,19 +40,19 @@ pub record CommandsLaw : Type 0 where
   pub drawn_code_never : IsTaken (codes "draw" ∷ codes "--code" ∷ codes "a" ∷ codes "0" ∷ codes "--never" ∷ codes "n" ∷ []) (Some (beside_never (codes "draw") (codes "--code")))
   pub lift_never : IsTaken (codes "draw" ∷ codes "a" ∷ codes "0" ∷ codes "--never" ∷ codes "n" ∷ codes "--lift" ∷ []) (Some (beside_never (codes "draw") (codes "--lift")))
   pub page_lift : IsTaken (codes "page" ∷ codes "a" ∷ codes "0" ∷ codes "--lift" ∷ codes "--never" ∷ codes "n" ∷ []) (Some (beside_never (codes "page") (codes "--lift")))
-  pub alone : form_asked (codes "explore" ∷ codes "a" ∷ codes "--schedule-only" ∷ []) ≡ schedule_alone
-  pub alone_of_ends : form_asked (codes "explore" ∷ codes "--schedule-only" ∷ codes "a" ∷ codes "--ends" ∷ []) ≡ schedule_alone
-  pub alone_of_a_hunt : form_asked (codes "hunt" ∷ codes "a" ∷ codes "--schedule-only" ∷ []) ≡ schedule_alone
-  pub whole : form_asked (codes "explore" ∷ codes "a" ∷ codes "--ends" ∷ []) ≡ as_text
-  pub whole_of_a_trace : form_asked (codes "trace" ∷ codes "a" ∷ codes "0" ∷ []) ≡ as_text
-  pub json : form_asked (codes "trace" ∷ codes "--json" ∷ codes "a" ∷ codes "0" ∷ []) ≡ as_json
-  pub json_of_a_hunt : form_asked (codes "hunt" ∷ codes "a" ∷ codes "--json" ∷ []) ≡ as_json
-  pub json_of_explore : form_asked (codes "explore" ∷ codes "--json" ∷ codes "a" ∷ []) ≡ as_json
-  pub json_of_ends : form_asked (codes "explore" ∷ codes "a" ∷ codes "--ends" ∷ codes "3" ∷ codes "--json" ∷ []) ≡ as_json
-  pub json_of_a_check : form_asked (codes "check" ∷ codes "a" ∷ codes "--json" ∷ codes "b" ∷ []) ≡ as_json
-  pub json_of_explain : form_asked (codes "explain" ∷ codes "a" ∷ codes "--json" ∷ codes "0" ∷ []) ≡ as_json
-  pub whole_of_explain : form_asked (codes "explain" ∷ codes "a" ∷ codes "0" ∷ []) ≡ as_text
-  pub whole_of_a_check : form_asked (codes "check" ∷ codes "a" ∷ []) ≡ as_text
+  pub alone : output_asked (codes "explore" ∷ codes "a" ∷ codes "--schedule-only" ∷ []) ≡ output.ScheduleAlone
+  pub alone_of_ends : output_asked (codes "explore" ∷ codes "--schedule-only" ∷ codes "a" ∷ codes "--ends" ∷ []) ≡ output.ScheduleAlone
+  pub alone_of_a_hunt : output_asked (codes "hunt" ∷ codes "a" ∷ codes "--schedule-only" ∷ []) ≡ output.ScheduleAlone
+  pub whole : output_asked (codes "explore" ∷ codes "a" ∷ codes "--ends" ∷ []) ≡ output.Text
+  pub whole_of_a_trace : output_asked (codes "trace" ∷ codes "a" ∷ codes "0" ∷ []) ≡ output.Text
+  pub json : output_asked (codes "trace" ∷ codes "--json" ∷ codes "a" ∷ codes "0" ∷ []) ≡ output.Json
+  pub json_of_a_hunt : output_asked (codes "hunt" ∷ codes "a" ∷ codes "--json" ∷ []) ≡ output.Json
+  pub json_of_explore : output_asked (codes "explore" ∷ codes "--json" ∷ codes "a" ∷ []) ≡ output.Json
+  pub json_of_ends : output_asked (codes "explore" ∷ codes "a" ∷ codes "--ends" ∷ codes "3" ∷ codes "--json" ∷ []) ≡ output.Json
+  pub json_of_a_check : output_asked (codes "check" ∷ codes "a" ∷ codes "--json" ∷ codes "b" ∷ []) ≡ output.Json
+  pub json_of_explain : output_asked (codes "explain" ∷ codes "a" ∷ codes "--json" ∷ codes "0" ∷ []) ≡ output.Json
+  pub whole_of_explain : output_asked (codes "explain" ∷ codes "a" ∷ codes "0" ∷ []) ≡ output.Text
+  pub whole_of_a_check : output_asked (codes "check" ∷ codes "a" ∷ []) ≡ output.Text
   pub merged_single : IsTaken (codes "explore" ∷ codes "a" ∷ codes "--merged" ∷ codes "--single" ∷ []) (Some merged_and_single)
   pub single_merged : IsTaken (codes "explore" ∷ codes "--single" ∷ codes "a" ∷ codes "--ends" ∷ codes "--merged" ∷ []) (Some merged_and_single)
   pub json_schedule : IsTaken (codes "explore" ∷ codes "a" ∷ codes "--json" ∷ codes "--schedule-only" ∷ []) (Some (json_and_schedule (codes "explore")))

@@ -1,7 +1,5 @@
 -- What the words of a command line ask for.
-use Rattle.std.specs.Prelude.{◌≡◌, ◌≢◌, List, [], ◌∷◌, MatchOption, ◌++◌, Option, Some, None, Vec, codes, if◌then◌else◌, string_bytes}
-use Rattle.std.specs.Borrow.{Bor}
-use Rattle.std.specs.Global.{Global}
+use Rattle.std.specs.Prelude.{◌≡◌, ◌≢◌, List, [], ◌∷◌, MatchOption, ◌++◌, Option, Some, None, codes, if◌then◌else◌, string_bytes}
 use Rattle.clap.specs.Walk.{Row, Text}
 use Rattle.clap.specs.Simple.{subcommand_of}
 use Rattle.clap.specs.Faults.{fault_of}
@@ -13,7 +11,8 @@ use Rattle.ticklab_line.specs.Commands.{plain_request, request_in, ticklab}
 use Rattle.ticklab_line.specs.Found.{is_set}
 use Rattle.ticklab_line.specs.declared.asking.Line.{Line}
 use Rattle.ticklab_line.specs.declared.asking.Line.TheVariants as line
-use Rattle.ticklab_line.specs.declared.commands.Request.{Request}
+use Rattle.ticklab_line.specs.declared.asking.Output.{Output}
+use Rattle.ticklab_line.specs.declared.asking.Output.TheVariants as output
 
 -- the command that `clap` finds in the words, the first of which is the program's name, with the values that it read
 unfoldable pub command_in : List Text → Option (Text × List Row)
@@ -32,39 +31,20 @@ number_text = codes "error: a number is out of its range\n"
 abbrev pub version_text : Text → Text
 version_text version = codes "ticklab " ++ version ++ codes "\n"
 
--- in which form an answer is asked for: as a text, its schedule alone, or as JSON
-pub data Form : Type 0 where
-  as_text : Form
-  schedule_alone : Form
-  as_json : Form
+-- what is to be printed of the answer
+abbrev pub output_in : List Row → Output
+output_in rows =
+    if is_set (codes "schedule-only") rows then output.ScheduleAlone
+    else if is_set (codes "json") rows then output.Json
+    else output.Text
 
-abbrev pub form_in : List Row → Form
-form_in rows =
-    if is_set (codes "schedule-only") rows then schedule_alone
-    else if is_set (codes "json") rows then as_json
-    else as_text
-
-abbrev pub form_of : Option (Text × List Row) → Form
-form_of None = as_text
-form_of (Some found) = form_in found.1
-
--- the answer to a request is asked for in this form
-abbrev pub IsAskedAs : Form → Request (Bor Text) (Vec (Bor Text) Global) → Line → Type 0
-IsAskedAs form request (line.Request asked) = (form ≡ as_text) × (asked ≡ request)
-IsAskedAs form request (line.Schedule asked) = (form ≡ schedule_alone) × (asked ≡ request)
-IsAskedAs form request (line.Json asked) = (form ≡ as_json) × (asked ≡ request)
-IsAskedAs form request (line.Help text) = ⊥
-IsAskedAs form request (line.Version text) = ⊥
-IsAskedAs form request (line.Refused text) = ⊥
-
-abbrev pub IsAskedBy : Option (Text × List Row) → Request (Bor Text) (Vec (Bor Text) Global) → Line → Type 0
-IsAskedBy found = IsAskedAs (form_of found)
+abbrev pub output_of : Option (Text × List Row) → Output
+output_of None = output.Text
+output_of (Some found) = output_in found.1
 
 -- what is answered to words that have no conflict
 abbrev pub IsMeant : Option (Text × List Row) → Line → Type 0
-IsMeant found (line.Request request) = (form_of found ≡ as_text) × (request_in found ≡ Some (plain_request request))
-IsMeant found (line.Schedule request) = (form_of found ≡ schedule_alone) × (request_in found ≡ Some (plain_request request))
-IsMeant found (line.Json request) = (form_of found ≡ as_json) × (request_in found ≡ Some (plain_request request))
+IsMeant found (line.Request request output) = (output ≡ output_of found) × (request_in found ≡ Some (plain_request request))
 IsMeant found (line.Help text) = ⊥
 IsMeant found (line.Version text) = ⊥
 IsMeant found (line.Refused text) = (request_in found ≡ None) × (string_bytes text ≡ number_text)

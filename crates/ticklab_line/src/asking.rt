@@ -3,7 +3,7 @@ ghost use Rattle.clap.specs.Matches.{found_of};
 ghost use Rattle.clap.specs.Simple.{subcommand_rows_of};
 ghost use Rattle.clap.specs.Values.{kind_of};
 ghost use Rattle.clap.specs.Walk.{rows_of};
-ghost use Rattle.ticklab_line.specs.Lines.{Answers, IsAskedAs, IsAskedBy, IsFound, IsMeant, IsToldBy, form_in, number_text, version_text};
+ghost use Rattle.ticklab_line.specs.Lines.{Answers, IsFound, IsMeant, IsToldBy, number_text, output_in, output_of, version_text};
 
 use crate::commands::{Lent, command_line, request_in};
 use crate::conflicts::{conflict_in, conflict_text};
@@ -12,14 +12,22 @@ use clap::error::ErrorKind;
 use clap::{ArgMatches, Error};
 use std::alloc::{AllocError, Global};
 
+/// What is printed of an answer.
+#[derive(Clone, Copy, PartialEq, Eq, Debug)]
+pub enum Output {
+    /// Its text.
+    Text,
+    /// The schedule in its text, and nothing else.
+    ScheduleAlone,
+    /// The answer as JSON.
+    Json,
+}
+
 /// What a command line asks for, or what is told in place of an answer.
 #[derive(Drop)]
 pub enum Line<'a> {
-    Request(Lent<'a>),
-    /// The schedule alone of the answer to this.
-    Schedule(Lent<'a>),
-    /// The answer to this as JSON.
-    Json(Lent<'a>),
+    /// A command, and what is printed of its answer.
+    Request(Lent<'a>, Output),
     /// The help that was asked for.
     Help(String),
     /// The program's name and its version.
@@ -52,30 +60,28 @@ fn meant<'a>(alloc: Global, matches: &ArgMatches<'a>) -> Result<Line<'a>, AllocE
     ensures { IfOk result (IsMeant (subcommand_rows_of matches.now)) }
 {
     match request_in(alloc, matches)? {
-        Some(request) => Ok(line_of(matches, request)),
+        Some(request) => Ok(Line::Request(request, output_of(matches))),
         None => Ok(Line::Refused(number_refused(alloc)?)),
     }
 }
 
-fn line_of<'a>(matches: &ArgMatches<'a>, request: Lent<'a>) -> Line<'a>
-    ensures { IsAskedBy (subcommand_rows_of matches.now) request.entry result }
+fn output_of(matches: &ArgMatches<'_>) -> Output
+    ensures { result ≡ output_of (subcommand_rows_of matches.now) }
 {
     match matches.subcommand() {
-        Some((_name, given)) => line_as(given, request),
-        None => Line::Request(request),
+        Some((_name, given)) => output_in(given),
+        None => Output::Text,
     }
 }
 
-fn line_as<'a>(given: &ArgMatches<'a>, request: Lent<'a>) -> Line<'a>
-    ensures { IsAskedAs (form_in (rows_of (found_of given.now))) request.entry result }
+fn output_in(given: &ArgMatches<'_>) -> Output
+    ensures { result ≡ output_in (rows_of (found_of given.now)) }
 {
-    if is_set(given, "schedule-only") {
-        return Line::Schedule(request);
+    match (is_set(given, "schedule-only"), is_set(given, "json")) {
+        (true, _) => Output::ScheduleAlone,
+        (false, true) => Output::Json,
+        (false, false) => Output::Text,
     }
-    if is_set(given, "json") {
-        return Line::Json(request);
-    }
-    Line::Request(request)
 }
 
 // Where `clap` took a number that is out of its range.

@@ -15,6 +15,6 @@ mod laws;
 mod parts;
 mod values;
 
-pub use asking::{Line, asked};
+pub use asking::{Line, Output, asked};
 pub use commands::{AskedRun, Drawing, Request, Side, Steps};
 pub use laws::{law_commands, law_hunts, law_no_commands};

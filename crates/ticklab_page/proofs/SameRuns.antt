@@ -1,6 +1,5 @@
 -- The page of a run, of which each part is what it is said to be.
 use Rattle.std.proofs.Common.{◌≡◌, ◌∙◌, ap, refl, ℕ, Bool, List, [], ◌∷◌, map, string_bytes, Option}
-use Rattle.base.specs.Plain.{Name, WholeProgram}
 use Rattle.base.specs.View.{name_of}
 use Rattle.base.specs.declared.tree.Named.{Named}
 use Rattle.ticklab_draw.specs.Never.{Broken}

@@ -1,6 +1,6 @@
 -- A run as a page of HTML, to the byte: what it is of, its fault, the buttons, the state, the program, the steps, the
 -- picture, and what the script replays. Texts of files are written as `Shown` says.
-use Rattle.std.specs.Prelude.{◌≡◌, ℕ, Bool, true, false, List, [], ◌∷◌, ◌++◌, codes, length, map, nat_le, if◌then◌else◌, Option, Some, None, option_map}
+use Rattle.std.specs.Prelude.{ℕ, true, false, List, [], ◌++◌, codes, length, map, nat_le, if◌then◌else◌, Option, Some, None, option_map}
 use Rattle.std.specs.Str.Lines.{lines}
 use Rattle.base.specs.Plain.{Name, WholeProgram}
 use Rattle.code_core.specs.Instructions.{StepCode}

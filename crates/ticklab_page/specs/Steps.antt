@@ -1,5 +1,5 @@
 -- What a page has of each step: of a program and of a code the same.
-use Rattle.std.specs.Prelude.{ℕ, ◌+◌, List, [], ◌∷◌, map, slice_get, Option, Some, None, option_and_then, Bool, true, false, min, if◌then◌else◌}
+use Rattle.std.specs.Prelude.{ℕ, ◌+◌, List, [], ◌∷◌, slice_get, Option, Some, None, option_and_then, Bool, true, false, min, if◌then◌else◌}
 use Rattle.base.specs.declared.event.Act.{Act}
 use Rattle.base.specs.declared.event.Act.TheVariants as A
 use Rattle.code_core.specs.declared.instr.Instr.{Instr}

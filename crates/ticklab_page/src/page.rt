@@ -1,5 +1,5 @@
 // A run as a page of HTML.
-ghost use Rattle.std.specs.Prelude.{◌≡◌, ◌≤◌, ◌++◌, IfOk, OnOk, length, map, option_map};
+ghost use Rattle.std.specs.Prelude.{◌≡◌, ◌++◌, IfOk, OnOk, map, option_map};
 ghost use Rattle.ticklab_trace.specs.Places.{told_standing};
 ghost use Rattle.ticklab_draw.specs.Never.{broken_of};
 ghost use Rattle.ticklab_page.specs.Pages.{about, broken_at, broken_text, buttons, changes_text, code_page, details_head, linked, page_text, picture_text, picture_top, source_page, step_link, title_text, top_text, trap_text};

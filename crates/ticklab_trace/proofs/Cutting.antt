@@ -1,19 +1,19 @@
 -- A text can be cut where a token begins and where one ends, and so at the heads of statements.
-use Rattle.std.proofs.Common.{◌≡◌, ℕ, zero, suc, ◌+◌, ◌-◌, ◌<◌, ◌≤◌, Bool, true, false, ◌&&◌, ◌||◌, ◌==◌, List, [], ◌∷◌, ◌++◌, length, refl, ap, ◌∙◌, sym, subst, arith, take, drop, get_or, slice_get, slice_index_or, slice_range, Option, Some, None, All, IsUtf8, IsCharBoundary, ⊎_elim}
-use Rattle.std.specs.List.{list_all, list_any}
-use Rattle.std.proofs.lemmas.Bool.{and_parts, or_from, cases_lt, cases_Bool, false≢true}
+use Rattle.std.proofs.Common.{◌≡◌, ℕ, ◌+◌, ◌-◌, ◌<◌, ◌≤◌, Bool, true, false, ◌==◌, List, [], ◌∷◌, length, refl, sym, subst, arith, take, drop, get_or, slice_get, slice_index_or, slice_range, Option, Some, None, All, IsUtf8, IsCharBoundary}
+use Rattle.std.specs.List.{list_all}
+use Rattle.std.proofs.lemmas.Bool.{and_parts, false≢true}
 use Rattle.std.proofs.lemmas.Grind.{common_steps}
 use Rattle.std.proofs.lemmas.List.Elements.{All-append, All-cons, All-drop, All-nil, All-take}
 use Rattle.std.proofs.lemmas.Option.{get_or_from_slice_get, slice_get_within}
 use Rattle.std.proofs.lemmas.Str.{IsCharBoundary-after_ascii, IsCharBoundary-before_ascii}
-use Rattle.tick_syntax.specs.Characters.{is_name_part, is_digit, is_letter, is_lone_sign, is_sign, lone_signs, before_equals, may_precede_equals}
+use Rattle.tick_syntax.specs.Characters.{is_name_part, is_digit, is_letter, is_lone_sign, is_sign, may_precede_equals}
 use Rattle.base.specs.declared.span.Span.{Span}
 use Rattle.tick_syntax.specs.declared.token.Sort.{Sort}
 use Rattle.tick_syntax.specs.declared.token.Sort.TheVariants as K
 use Rattle.tick_syntax.specs.declared.token.Token.{Token}
 use Rattle.tick_syntax.specs.Grammar.{block_tokens, statement_tokens}
 use Rattle.base.specs.Plain.{nowhere, Name, Statement, assign, get, put, stamp, clear, scan, copy, older, held, out, branch, repeat, Block, nil, cons, WholeProgram}
-use Rattle.tick_syntax.specs.Spelling.{IsToken, StandInOrder, starts}
+use Rattle.tick_syntax.specs.Spelling.{IsToken, StandInOrder}
 use Rattle.ticklab_trace.specs.Places.{between, extent, head_tokens, heads, inner_heads, opening_tokens, statement_heads}
 use Rattle.ticklab_trace.specs.prover.Heads.{IsCut}
 

@@ -1,5 +1,5 @@
 -- Where the statements of a program stand in its text.
-use Rattle.std.specs.Prelude.{◌≡◌, ℕ, ◌+◌, ◌-◌, ◌==◌, ◌||◌, nat_lt, nat_le, Bool, if◌then◌else◌, List, [], ◌∷◌, ◌++◌, drop, length, map, slice_get, slice_range, take, Option, Some, None}
+use Rattle.std.specs.Prelude.{◌≡◌, ℕ, ◌+◌, ◌-◌, ◌==◌, ◌||◌, nat_lt, nat_le, Bool, if◌then◌else◌, List, [], ◌∷◌, ◌++◌, drop, length, map, slice_get, slice_range, take, Option, Some}
 use Rattle.std.specs.List.{before_first}
 use Rattle.std.specs.Str.{trim_end}
 use Rattle.base.specs.declared.span.Span.{Span}

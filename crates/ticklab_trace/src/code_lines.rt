@@ -1,6 +1,6 @@
 //! The lines of the steps of a code.
 
-ghost use Rattle.std.specs.Prelude.{◌≡◌, ◌<◌, ◌++◌, IfOk, OnOk, length, string_bytes};
+ghost use Rattle.std.specs.Prelude.{◌≡◌, ◌<◌, ◌++◌, IfOk, OnOk, string_bytes};
 ghost use Rattle.code_text.specs.CodeText.{instr_text};
 ghost use Rattle.ticklab_trace.specs.TraceText.{instruction_line, instruction_lines, instruction_text, label_order_text, made_text, words_text};
 

@@ -1,5 +1,5 @@
 ghost use Rattle.std.specs.Prelude.{◌≡◌, IfOk, OnOk, min, slice_get};
-ghost use Rattle.tick_kinds.specs.Resolved.{resolved_block, resolved_expression, resolved_statement};
+ghost use Rattle.tick_kinds.specs.Resolved.{resolved_block, resolved_statement};
 ghost use Rattle.tick_source.specs.Values.{value};
 ghost use Rattle.ticklab_trace.specs.Numbers.{size, size_of};
 ghost use Rattle.ticklab_trace.specs.prover.Links.{Adds, AddsOne, Begins, IsTable, is_past, is_zero, went};

@@ -1,6 +1,6 @@
 //! The lines of the steps of a program.
 
-ghost use Rattle.std.specs.Prelude.{◌≡◌, ◌<◌, ◌≤◌, ◌+◌, ◌++◌, IfOk, OnOk, length, map, option_map, slice_get, string_bytes};
+ghost use Rattle.std.specs.Prelude.{◌≡◌, ◌<◌, ◌≤◌, ◌+◌, ◌++◌, IfOk, OnOk, length, map, option_map, string_bytes};
 ghost use Rattle.ticklab_trace.specs.Places.{told_standing};
 ghost use Rattle.ticklab_trace.specs.TraceText.{done_text, order_text, spot_text, statement_line, statement_lines, step_text, taken_text};
 

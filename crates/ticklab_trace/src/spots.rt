@@ -1,8 +1,8 @@
 //! Where the statements of a program stand in its text.
 
-ghost use Rattle.std.specs.Prelude.{◌≡◌, ◌<◌, ◌≤◌, IfOk, length, map, slice_range};
+ghost use Rattle.std.specs.Prelude.{◌≡◌, ◌<◌, ◌≤◌, IfOk, length, slice_range};
 ghost use Rattle.tick_syntax.specs.Spelling.{Spells};
-ghost use Rattle.ticklab_trace.specs.Places.{Stand, first_line, next_place, standing_at, told_standing};
+ghost use Rattle.ticklab_trace.specs.Places.{Stand, first_line, next_place};
 ghost use Rattle.ticklab_trace.specs.prover.Heads.{HasPassed, IsCut};
 
 use crate::heads::heads;

@@ -1,4 +1,4 @@
-ghost use Rattle.std.specs.Prelude.{◌≡◌, ◌<◌, ◌≤◌, ℕ, [], ◌∷◌, ◌++◌, IfOk, OnOk, All, length, map, option_map, slice_index};
+ghost use Rattle.std.specs.Prelude.{◌≡◌, ◌<◌, ℕ, [], ◌∷◌, ◌++◌, IfOk, OnOk, All, length, map, option_map, slice_index};
 ghost use Rattle.tick_kinds.specs.Resolution.{resolved};
 ghost use Rattle.base.specs.Plain.{Block};
 ghost use Rattle.tick_source.specs.Source.{source, source_step};

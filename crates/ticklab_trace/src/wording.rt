@@ -3,7 +3,6 @@
 ghost use Rattle.std.specs.Prelude.{◌≡◌, ◌++◌, OnOk, Some, map, string_bytes, take};
 ghost use Rattle.base.specs.View.{name_of};
 ghost use Rattle.ticklab_trace.specs.TraceText.{act_text, name_at, rank_text, ranks_text, register_text, variable_text};
-ghost use Rattle.tick_play.specs.Lines.{trap_text};
 
 use base::tree::Named;
 use base::{Act, push_number};

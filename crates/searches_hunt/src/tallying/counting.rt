@@ -1,4 +1,4 @@
-ghost use Rattle.std.specs.Prelude.{◌≡◌, ◌<◌, ◌≤◌, ◌+◌, ◌++◌, ◌∷◌, [], String, cond, map, length, IfOk, OnOk, string_eq};
+ghost use Rattle.std.specs.Prelude.{◌≡◌, ◌<◌, ◌≤◌, ◌+◌, String, cond, map, length, IfOk, OnOk, string_eq};
 ghost use Rattle.std.specs.Global.{Global};
 ghost use Rattle.std.specs.List.{All, Contains, count_by, dedup, sum_by};
 ghost use Rattle.searches_hunt.specs.Tallies.{AreDistinct, AreCommonestFirst, AreTiesInOrder};

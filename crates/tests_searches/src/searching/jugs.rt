@@ -1,6 +1,6 @@
 //! Two jugs that hold three and five: to measure four takes six steps and no fewer. Two jugs that hold even
 //! numbers never measure five.
-ghost use Rattle.std.specs.Prelude.{◌≡◌, ◌<◌, ◌≤◌, ◌==◌, ◌&&◌, ◌||◌, ℕ, Bool, false, length, nat_lt, if◌then◌else◌, slice_index};
+ghost use Rattle.std.specs.Prelude.{◌≡◌, ◌<◌, ◌≤◌, ◌==◌, ◌||◌, ℕ, false, length, nat_lt, if◌then◌else◌, slice_index};
 ghost use Rattle.tests_searches.specs.Machines.{poured, nobody_else, none_stops};
 
 use searches_states::{Limits, Machine, NoMemory, Searched, Unwatched, search};

@@ -1,5 +1,5 @@
 //! A machine whose states have many words.
-ghost use Rattle.std.specs.Prelude.{◌≡◌, ◌<◌, ◌≤◌, ℕ, Bool, true, false, List, length, nat_lt, if◌then◌else◌};
+ghost use Rattle.std.specs.Prelude.{◌≡◌, ◌<◌, ℕ, false, List, length, nat_lt, if◌then◌else◌};
 ghost use Rattle.tests_searches.specs.Machines.{counted_up, nobody_else, none_stops};
 
 use searches_states::{Limits, Machine, Searched, Unwatched, search};

@@ -1,6 +1,6 @@
 //! The calls, made once more where memory was refused.
 
-ghost use Rattle.std.specs.Prelude.{◌≤◌, ◌<◌, ◌+◌, All, IfOk, length, vec_len};
+ghost use Rattle.std.specs.Prelude.{◌≤◌, ◌<◌, ◌+◌, All, IfOk};
 ghost use Rattle.language_schedules.specs.Moves.{mover};
 
 use base::NoMemory;

@@ -1,6 +1,6 @@
 //! Long lists of moves: each frame agrees with the calls of `LabelWord`, each has its element in the picture,
 //! and the picture is well-formed.
-ghost use Rattle.std.specs.Prelude.{◌<◌, ◌≤◌};
+ghost use Rattle.std.specs.Prelude.{◌<◌};
 
 use crate::of_labels::asking::{drawn, told};
 use crate::of_labels::markup::{count_of, is_well_formed};

@@ -1,7 +1,5 @@
 //! What a history is merged to, in rows.
 
-ghost use Rattle.std.specs.Prelude.{◌≡◌, length};
-
 use code_machine::Code;
 use code_text::read_code;
 use std::alloc::{AllocError, Global};

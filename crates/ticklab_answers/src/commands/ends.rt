@@ -10,7 +10,7 @@ ghost use Rattle.ticklab_answers.specs.Faults.{IsOfFile};
 ghost use Rattle.ticklab_answers.specs.Hearing.{IsHeard, hearing};
 ghost use Rattle.ticklab_answers.specs.Shown.{ShowsAllEnd, ShowsCanEnd, ShowsEndless, ShowsEnds, ShowsHalf, ShowsHalved, ShowsStuck, can_end_word};
 ghost use Rattle.ticklab_answers.specs.Sought.{AreLawful, IsLawful, IsSound, sought_by};
-ghost use Rattle.ticklab_answers.specs.Stops.{IfRefused};
+ghost use Rattle.ticklab_answers.specs.Stops.{IfRefused, IsRefusal};
 ghost use Rattle.ticklab_answers.specs.prover.Searches.{AreEndsKnownBy, AreEndsSearchedBy, IsShowable, is_end_limit, states_of};
 
 mod loops;
@@ -18,17 +18,16 @@ mod wording;
 
 use crate::asking::never_lines;
 use crate::commands::exploring::{
-    break_line, broken_said, concluded, limit_shown, shortest_found, states_shown, trap_line,
-    trap_said,
+    break_line, broken_said, limit_shown, shortest_found, states_shown, trap_line, trap_said,
 };
 use crate::extent::extent_of;
-use crate::fault::LabFault;
+use crate::fault::{AnswerFault, LabFault};
 use crate::files::bytes_of;
 use crate::form::Form;
 use crate::host::Files;
 use crate::progress::Progress;
 use crate::reading::spelled_program_of;
-use crate::response::{DONE, LIMIT, Response};
+use crate::response::{DONE, LIMIT, Response, settled};
 use crate::search::{Answered, Search, Task};
 use crate::stop::NoAnswer;
 use base::{NoMemory, set_at};
@@ -76,6 +75,19 @@ pub fn explored_ends<F: Files, W: Progress>(
         progress,
     );
     Ok(concluded(alloc, progress, searched)?)
+}
+
+// The answer, or the report of what is refused; the search is over.
+fn concluded<W: Progress>(
+    alloc: Global,
+    progress: &W,
+    searched: Result<Response, NoAnswer>,
+) -> Result<Response, AnswerFault>
+    ensures { IfOk result (λ response. MatchResult searched (λ given. response ≡ given) (IsRefusal response)) }
+{
+    let response = settled(alloc, searched)?;
+    progress.end();
+    Ok(response)
 }
 
 fn all_ends<W: Progress>(

@@ -1,5 +1,5 @@
 //! `ticklab explain`.
-ghost use Rattle.std.specs.Prelude.{◌≡◌, ◌++◌, IfErr, IfOk, MatchResult, option_map, string_bytes};
+ghost use Rattle.std.specs.Prelude.{◌≡◌, ◌++◌, IfErr, IfOk, MatchResult, option_map};
 ghost use Rattle.ticketc_refusals.specs.Refusals.{IsCode, IsCodeRefused, ProgramIn};
 ghost use Rattle.ticklab_answers.specs.Asking.{IsProgramFile};
 ghost use Rattle.ticklab_answers.specs.Faults.{IsOfFileThat, IsOneOf};

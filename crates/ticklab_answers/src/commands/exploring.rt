@@ -9,7 +9,7 @@ ghost use Rattle.base.specs.Lines.{line_end};
 ghost use Rattle.searches_states.specs.declared.searching.Searched.TheVariants.{Found};
 ghost use Rattle.ticklab_answers.specs.Asking.{texts_of};
 ghost use Rattle.ticklab_answers.specs.BySteps.{break_line_by, line_by};
-ghost use Rattle.ticklab_answers.specs.Exploring.{Explores, IsExplored, IsUnexplored};
+ghost use Rattle.ticklab_answers.specs.Exploring.{Explores};
 ghost use Rattle.ticklab_answers.specs.Faults.{IsOfFile};
 ghost use Rattle.ticklab_answers.specs.Found.{IsFound, TellsShortest};
 ghost use Rattle.ticklab_answers.specs.Hearing.{IsHeard, hearing};
@@ -17,14 +17,13 @@ ghost use Rattle.ticklab_answers.specs.Lines.{counted_text, larger_text, limit_l
 ghost use Rattle.ticklab_answers.specs.Responses.{Gives};
 ghost use Rattle.ticklab_answers.specs.Shown.{IsStatesAnswer, SaysBroken, SaysTrap, Shows, ShowsLimit, ShowsMinimal, ShowsSafe};
 ghost use Rattle.ticklab_answers.specs.Sought.{IsLawful, IsSound, sought_by};
-ghost use Rattle.ticklab_answers.specs.Stops.{IfRefused, IsRefusal};
-ghost use Rattle.ticklab_answers.specs.prover.Searches.{IsSearchedBy, is_limit};
+ghost use Rattle.ticklab_answers.specs.prover.Searches.{is_limit};
 
 use crate::commands::ends::{asked_in, asks_ends, ends_found};
 use crate::commands::hunting::{MINIMAL, MINIMAL_BREAK};
 use crate::counts::push_many;
-use crate::extent::{SearchExtent, extent_of, kind_of};
-use crate::fault::{AnswerFault, LabFault};
+use crate::extent::{SearchExtent, begins_merged, extent_of, kind_of};
+use crate::fault::LabFault;
 use crate::files::bytes_of;
 use crate::form::Form;
 use crate::host::Files;
@@ -32,10 +31,9 @@ use crate::progress::Progress;
 use crate::reading::asked_program;
 use crate::response::{DONE, LIMIT, Response, answer, settled};
 use crate::search::{Answered, Search, Task};
-use crate::stop::NoAnswer;
 use crate::trapping::{broken_shown, trap_shown};
-use base::{NoMemory, Trap};
-use searches_explore::{Limits, NeverExplored, explore_by};
+use base::Trap;
+use searches_explore::{Limits, NeverExplored, StepKind, explore_by};
 use searches_hunt::{Minimal, shrink_fault};
 use std::alloc::{AllocError, Global};
 use ticklab_json::{Head, found_states};
@@ -57,12 +55,12 @@ const SOME_BREAK: &str = "a #! never line breaks under this schedule:";
 /// names somebody, what comes of that is asked too. The progress is told of each search. By merged steps the private
 /// ones of a process go with the step before them: there are fewer states, and a schedule that is found need not be a
 /// shortest one.
-pub fn explored<F: Files, W: Progress>(
+pub fn explored<'a, F: Files, W: Progress>(
     alloc: Global,
     files: &mut F,
     progress: &mut W,
-    file: &str,
-    never: &[&str],
+    file: &'a str,
+    never: &'a [&'a str],
     limits: Limits,
     steps: Steps,
     form: Form,
@@ -72,44 +70,14 @@ pub fn explored<F: Files, W: Progress>(
 {
     let input = bytes_of(alloc, files, file)?;
     let bytes = input.as_slice();
-    let searched = all_schedules(alloc, file, never, bytes, limits, steps, form, progress);
-    Ok(concluded(alloc, progress, searched)?)
-}
-
-/// The answer, or the report of what is refused; the search is over.
-pub fn concluded<W: Progress>(
-    alloc: Global,
-    progress: &W,
-    searched: Result<Response, NoAnswer>,
-) -> Result<Response, AnswerFault>
-    ensures { IfOk result (λ response. MatchResult searched (λ given. response ≡ given) (IsRefusal response)) }
-{
-    let response = settled(alloc, searched)?;
-    progress.end();
-    Ok(response)
-}
-
-fn all_schedules<W: Progress>(
-    alloc: Global,
-    name: &str,
-    never: &[&str],
-    input: &[u8],
-    limits: Limits,
-    steps: Steps,
-    form: Form,
-    progress: &mut W,
-) -> Result<Response, NoAnswer>
-    ensures ok { IfOk result (λ response. IsHeard (hearing W.begins W.hears) progress.old progress.new (IsExplored steps name.now (texts_of never.now) limits form input.now response)) }
-    ensures refused { IfErr result (λ stop. IfRefused stop (λ report. IsUnexplored name.now (texts_of never.now) input.now report × (progress.old ≡ progress.new))) }
-{
-    let asked = match asked_program(alloc, name, input, never) {
+    let asked = match asked_program(alloc, file, bytes, never) {
         Ok(asked) => asked,
-        Err(stop) => return Err(stop),
+        Err(stop) => return Ok(settled(alloc, Err(stop))?),
     };
     let search = Search {
         alloc,
         spelled: &asked.spelled,
-        input,
+        input: bytes,
         lines: &asked.lines,
         form,
     };
@@ -120,9 +88,11 @@ fn all_schedules<W: Progress>(
     };
     if asks_ends(asked.ends) {
         let response = ends_found(&task, steps, progress)?;
+        progress.end();
         return Ok(response);
     }
     let response = found(&task, steps, progress)?;
+    progress.end();
     Ok(response)
 }
 
@@ -132,22 +102,20 @@ fn found<W: Progress>(task: &Task<'_, '_>, steps: Steps, progress: &mut W) -> An
     requires sound { IsSound task.now.search }
     ensures { IfOk result (λ response. IsHeard (hearing W.begins W.hears) progress.old progress.new (IsFound (sought_by task.now.search) task.now.limits steps response)) }
 {
+    let Task { search, limits, .. } = *task;
+    let program = &search.spelled.program;
+    let properties = search.lines.properties.as_slice();
+    let is_merged = begins_merged(steps);
+    let kind = kind_of(is_merged);
+    progress.begin(is_merged);
+    let explored = explore_by(search.alloc, program, properties, kind, limits, progress)?;
     match steps {
-        Steps::Single => {
-            let explored = explored_by(task, false, progress)?;
-            shown(task, false, &explored)
-        }
-        Steps::Merged => {
-            let explored = explored_by(task, true, progress)?;
-            shown(task, true, &explored)
-        }
-        Steps::MergedFirst => {
-            let explored = explored_by(task, true, progress)?;
-            match fault_of(explored) {
-                Ok(schedule) => shortest_found(task, schedule, progress),
-                Err(none) => shown(task, true, &none),
-            }
-        }
+        Steps::Single => shown(task, false, &explored),
+        Steps::Merged => shown(task, true, &explored),
+        Steps::MergedFirst => match fault_of(explored) {
+            Ok(schedule) => shortest_found(task, schedule, progress),
+            Err(none) => shown(task, true, &none),
+        },
     }
 }
 
@@ -174,12 +142,22 @@ pub fn shortest_found<W: Progress>(
     requires fault { is_fault (lines_of task.now.search.lines.now.properties.items) (source (resolved task.now.search.spelled.now.program) schedule.items) ≡ true }
     ensures { IfOk result (λ response. IsHeard (hearing W.begins W.hears) progress.old progress.new (TellsShortest (sought_by task.now.search) task.now.limits response)) }
 {
-    let search = &task.search;
-    let explored = explored_by(task, false, progress)?;
+    let Task { search, limits, .. } = *task;
+    let alloc = search.alloc;
+    let program = &search.spelled.program;
+    let properties = search.lines.properties.as_slice();
+    progress.begin(false);
+    let explored = explore_by(
+        alloc,
+        program,
+        properties,
+        StepKind::Single,
+        limits,
+        progress,
+    )?;
     if is_limit(&explored) {
-        let properties = search.lines.properties.as_slice();
-        let minimal = shrink_fault(search.alloc, &search.spelled.program, properties, schedule)?;
-        return minimal_shown(search, &minimal);
+        let minimal = shrink_fault(alloc, program, properties, schedule)?;
+        return minimal_shown(&search, &minimal);
     }
     shown(task, false, &explored)
 }
@@ -191,23 +169,6 @@ fn is_limit(explored: &NeverExplored) -> bool
         NeverExplored::Limit { .. } => true,
         _ => false,
     }
-}
-
-// By merged steps, or by single ones.
-fn explored_by<W: Progress>(
-    task: &Task<'_, '_>,
-    is_merged: bool,
-    progress: &mut W,
-) -> Result<NeverExplored, NoMemory>
-    ensures { IfOk result (IsSearchedBy is_merged (resolved task.now.search.spelled.now.program) task.now.search.lines.now.properties.items task.now.limits (hearing W.begins W.hears) progress.old progress.new) }
-{
-    let Task { search, limits, .. } = *task;
-    let alloc = search.alloc;
-    let program = &search.spelled.program;
-    let properties = search.lines.properties.as_slice();
-    let kind = kind_of(is_merged);
-    progress.begin(is_merged);
-    explore_by(alloc, program, properties, kind, limits, progress)
 }
 
 // The answer that tells what was explored.

@@ -1,4 +1,4 @@
-use Rattle.std.proofs.Common.{◌≡◌, ◌∙◌, ◌+◌, ap, sym, arith, length, get_or}
+use Rattle.std.proofs.Common.{◌≡◌, ◌∙◌, ◌+◌, ap, arith, length, get_or}
 use Rattle.std.proofs.lemmas.List.{length-replicate}
 use Rattle.code_machine.specs.Machine.{code_start, code_step, start_process, next_instruction}
 use Rattle.ticklab_draw.specs.declared.mark.Holdings.TheVariants as H

@@ -1,4 +1,4 @@
-use Rattle.std.proofs.Common.{◌≡◌, ◌∙◌, ◌+◌, ◌<◌, ap, sym, subst, arith, length, get_or}
+use Rattle.std.proofs.Common.{◌≡◌, ◌∙◌, ◌+◌, ◌<◌, ap, sym, arith, length, get_or}
 use Rattle.ticket_core.specs.Tickets.{greatest_ticket}
 use Rattle.ticket_core.proofs.Offered.{length-start_tickets, greatest-start_tickets}
 use Rattle.base.specs.Rows.{padded}

@@ -1,4 +1,4 @@
-use Rattle.std.proofs.Common.{◌++◌, [], codes}
+use Rattle.std.proofs.Common.{codes}
 use Rattle.ticklab_page.specs.Pages.{changes_text}
 use Rattle.ticklab_page.specs.Writing.{markup}
 use Rattle.ticklab_page.proofs.Pieces.{on_ok, three}

@@ -1,4 +1,3 @@
-use Rattle.std.proofs.Common.{◌++◌}
 use Rattle.ticklab_page.specs.Pages.{linked, step_link}
 use Rattle.ticklab_page.specs.Writing.{markup}
 use Rattle.ticklab_page.proofs.Pieces.{on_ok, three}

@@ -1,4 +1,4 @@
-use Rattle.std.proofs.Common.{◌++◌, []}
+use Rattle.std.proofs.Common.{[]}
 use Rattle.ticklab_page.specs.Writing.{around, twice}
 use Rattle.ticklab_page.proofs.Pieces.{on_ok, two}
 use Rattle.ticklab_page.proofs.writing.push_twice.Goals as goal

@@ -1,4 +1,4 @@
-use Rattle.std.proofs.Common.{◌+◌, ap, ◌∙◌, drop, length, refl}
+use Rattle.std.proofs.Common.{ap, ◌∙◌, drop, length, refl}
 use Rattle.tick_syntax.specs.Grammar.{expression_tokens}
 use Rattle.base.specs.View.{expression_of}
 use Rattle.ticklab_trace.proofs.HeadTokens.{past_two}

@@ -1,4 +1,4 @@
-use Rattle.std.proofs.Common.{◌+◌, ap, ◌∙◌, sym, drop, length, arith, refl}
+use Rattle.std.proofs.Common.{◌+◌, ap, ◌∙◌, sym, drop, length, refl}
 use Rattle.ticklab_trace.specs.prover.Heads.{names_count}
 use Rattle.ticklab_trace.proofs.HeadTokens.{opening_long, past_two}
 use Rattle.ticklab_trace.proofs.heads.past_opening.Goals as goal

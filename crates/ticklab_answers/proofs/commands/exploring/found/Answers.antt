@@ -1,40 +1,76 @@
-use Rattle.std.proofs.Common.{◌≡◌, ℕ, true, false, List, subst, sym}
+-- What is shown stands on what the first search tells, which is by steps of the kind that is asked for.
+use Rattle.std.proofs.Common.{◌≡◌, ◌∙◌, ℕ, true, false, List, ap, subst, sym}
 use Rattle.tick_source.specs.Source.{source}
 use Rattle.searches_explore.specs.Lines.{is_fault, lines_of}
 use Rattle.searches_explore.specs.declared.never_answer.NeverExplored.{NeverExplored}
+use Rattle.ticklab_line.specs.declared.commands.Steps.{Steps}
+use Rattle.ticklab_line.specs.declared.commands.Steps.TheVariants.{MergedFirst, Single, Merged}
+use Rattle.ticklab_answers.specs.BySteps.{begins_merged}
 use Rattle.ticklab_answers.specs.Hearing.{hearing}
+use Rattle.ticklab_answers.specs.Sought.{IsLawful}
 use Rattle.ticklab_answers.specs.prover.Searches.{IsSearchedBy}
 use Rattle.ticklab_answers.proofs.Breaks.{then_ok}
-use Rattle.ticklab_answers.proofs.Placed.{held_of, program_of}
-use Rattle.ticklab_answers.proofs.Searched.{both_first, fault_by, found_as, none_first, of_found}
+use Rattle.ticklab_answers.proofs.Placed.{held_of, program_of, within_places}
+use Rattle.ticklab_answers.proofs.Searched.{both_first, fault_by, found_as, none_first, of_found, told_by_steps}
+use Rattle.ticklab_answers.proofs.commands.exploring.found.Given as given
 use Rattle.ticklab_answers.proofs.commands.exploring.found.Goals as goal
+use Rattle.ticklab_answers.proofs.commands.exploring.found.Goals.{In_ok-explored}
 
-pub returns-in_ok-explored-in-Single : goal.returns-in_ok-explored-in-Single
-returns-in_ok-explored-in-Single g c =
-    let e = c.in_ok-explored-in-Single in
-    rw c.in-Single.is (then_ok c.shown.result
-    (λ x shows. found_as c.args.task.now.search c.args.task.now.limits (hearing g.W.Progress.begins g.W.Watch.hears) _ _ false e.explored x e.ensures shows) c.shown.ensures)
+first_search : (g : given.Over) (c : In_ok-explored g) (steps : Steps) → c.args.steps ≡ steps
+    → IsSearchedBy (begins_merged steps) (program_of c.args.task.now.search) (held_of c.args.task.now.search) c.args.task.now.limits
+    (hearing g.W.Progress.begins g.W.Watch.hears) c.args.progress.now c.explore_by.new.watch c.in_ok-explored.explored
+first_search g c steps is =
+    told_by_steps g.W.Progress.begins g.W.Watch.hears _ _ _ (program_of c.args.task.now.search) c.as_slice-properties.result.now _
+    c.as_slice-properties.ensures.value c.args.task.now.limits c.in_ok-explored.explored steps c.begins_merged-is_merged.result c.kind_of-kind.result
+    (c.begins_merged-is_merged.ensures ∙ ap begins_merged is) c.kind_of-kind.ensures c.begin.ensures c.in_ok-explored.ensures
 
-pub returns-in_ok-explored-in-Merged : goal.returns-in_ok-explored-in-Merged
-returns-in_ok-explored-in-Merged g c =
-    let e = c.in_ok-explored-in-Merged in
-    rw c.in-Merged.is (then_ok c.shown-in-Merged.result
-    (λ x shows. found_as c.args.task.now.search c.args.task.now.limits (hearing g.W.Progress.begins g.W.Watch.hears) _ _ true e.explored x e.ensures shows) c.shown-in-Merged.ensures)
+pub shown-requires-clause-schedule : goal.shown-requires-clause-schedule
+shown-requires-clause-schedule g c = (first_search g (goal.at.shown-requires-clause-schedule g c).In_ok-explored Single c.in-Single.is).known.lawful
+
+pub shown-requires-clause-line : goal.shown-requires-clause-line
+shown-requires-clause-line g c =
+    within_places c.args.task.now.search c.requires.sound c.in_ok-explored.explored
+    (first_search g (goal.at.shown-requires-clause-line g c).In_ok-explored Single c.in-Single.is).known.within
+
+pub returns-in-Single : goal.returns-in-Single
+returns-in-Single g c =
+    rw c.in-Single.is (then_ok c.shown.result (λ x shows. found_as c.args.task.now.search c.args.task.now.limits
+    (hearing g.W.Progress.begins g.W.Watch.hears) _ _ false c.in_ok-explored.explored x
+    (first_search g (goal.at.returns-in-Single g c).In_ok-explored Single c.in-Single.is) shows) c.shown.ensures)
+
+pub shown-requires-in-Merged-clause-schedule : goal.shown-requires-in-Merged-clause-schedule
+shown-requires-in-Merged-clause-schedule g c =
+    (first_search g (goal.at.shown-requires-in-Merged-clause-schedule g c).In_ok-explored Merged c.in-Merged.is).known.lawful
+
+pub shown-requires-in-Merged-clause-line : goal.shown-requires-in-Merged-clause-line
+shown-requires-in-Merged-clause-line g c =
+    within_places c.args.task.now.search c.requires.sound c.in_ok-explored.explored
+    (first_search g (goal.at.shown-requires-in-Merged-clause-line g c).In_ok-explored Merged c.in-Merged.is).known.within
+
+pub returns-in-Merged : goal.returns-in-Merged
+returns-in-Merged g c =
+    rw c.in-Merged.is (then_ok c.shown-in-Merged.result (λ x shows. found_as c.args.task.now.search c.args.task.now.limits
+    (hearing g.W.Progress.begins g.W.Watch.hears) _ _ true c.in_ok-explored.explored x
+    (first_search g (goal.at.returns-in-Merged g c).In_ok-explored Merged c.in-Merged.is) shows) c.shown-in-Merged.ensures)
+
+pub shortest_found-requires-clause-lawful : goal.shortest_found-requires-clause-lawful
+shortest_found-requires-clause-lawful g c =
+    of_found (IsLawful c.args.task.now.search) c.in_ok-explored.explored c.in-Ok.schedule c.in-Ok.ensures
+    (first_search g (goal.at.shortest_found-requires-clause-lawful g c).In_ok-explored MergedFirst c.in-MergedFirst.is).known.lawful
 
 pub shortest_found-requires-clause-fault : goal.shortest_found-requires-clause-fault
 shortest_found-requires-clause-fault g c =
     let a = program_of c.args.task.now.search in
     let props = held_of c.args.task.now.search in
-    let e = c.in_ok-explored-in-MergedFirst in
-    of_found (λ (schedule : List ℕ). is_fault (lines_of props) (source a schedule) ≡ true) e.explored c.in-Ok.schedule c.in-Ok.ensures
-    (fault_by a props true c.args.task.now.limits e.explored e.ensures.known)
+    of_found (λ (schedule : List ℕ). is_fault (lines_of props) (source a schedule) ≡ true) c.in_ok-explored.explored c.in-Ok.schedule c.in-Ok.ensures
+    (fault_by a props true c.args.task.now.limits c.in_ok-explored.explored
+    (first_search g (goal.at.shortest_found-requires-clause-fault g c).In_ok-explored MergedFirst c.in-MergedFirst.is).known)
 
 pub returns-in-Ok : goal.returns-in-Ok
 returns-in-Ok g c =
-    let H = hearing g.W.Progress.begins g.W.Watch.hears in
-    let e = c.in_ok-explored-in-MergedFirst in
-    rw c.in-MergedFirst.is (then_ok c.shortest_found.result (λ x told. both_first c.args.task.now.search c.args.task.now.limits H _ _ _
-    e.explored c.in-Ok.schedule x e.ensures c.in-Ok.ensures told) c.shortest_found.ensures)
+    rw c.in-MergedFirst.is (then_ok c.shortest_found.result (λ x told. both_first c.args.task.now.search c.args.task.now.limits
+    (hearing g.W.Progress.begins g.W.Watch.hears) _ _ _ c.in_ok-explored.explored c.in-Ok.schedule x
+    (first_search g (goal.at.returns-in-Ok g c).In_ok-explored MergedFirst c.in-MergedFirst.is) c.in-Ok.ensures told) c.shortest_found.ensures)
 
 pub returns-in-Err : goal.returns-in-Err
 returns-in-Err g c =
@@ -42,5 +78,6 @@ returns-in-Err g c =
     let H = hearing g.W.Progress.begins g.W.Watch.hears in
     rw c.in-MergedFirst.is (then_ok c.shown-in-Err.result (λ x shows. none_first q c.args.task.now.limits H _ _
     c.in-Err.none x
-    (subst (λ (e : NeverExplored). IsSearchedBy true (program_of q) (held_of q) c.args.task.now.limits H c.args.progress.now c.explored_by-in-MergedFirst.new.progress e)
-    (sym c.in-Err.ensures.0) c.in_ok-explored-in-MergedFirst.ensures) c.in-Err.ensures.1 shows) c.shown-in-Err.ensures)
+    (subst (λ (e : NeverExplored). IsSearchedBy true (program_of q) (held_of q) c.args.task.now.limits H c.args.progress.now c.explore_by.new.watch e)
+    (sym c.in-Err.ensures.0) (first_search g (goal.at.returns-in-Err g c).In_ok-explored MergedFirst c.in-MergedFirst.is)) c.in-Err.ensures.1 shows)
+    c.shown-in-Err.ensures)
