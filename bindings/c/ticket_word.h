@@ -1,5 +1,7 @@
 /* ticket_word.h: first come, first served for one to six processes, in one 64-bit word.
  *
+ * Who wins the exchange that takes a ticket comes first, however long another has tried.
+ *
  * A process takes a ticket (stamp), asks who came first (is_first, older, rank), and gives its ticket up
  * (clear). A ticket counter grows without end; here labels come back, and one word holds all of them.
  *

@@ -1,12 +1,14 @@
 """First come, first served for one to six threads, in one 64-bit word.
 
+Who wins the exchange that takes a ticket comes first, however long another has tried.
+
     from ticket_word import FairMutex
 
     lock = FairMutex(2)
 
     def work(seat):
         with seat:
-            ...                   # one thread at a time, first come, first served
+            ...                   # one thread at a time, in the order of tickets
 
     seats = [lock.seat(), lock.seat()]
 
@@ -198,7 +200,10 @@ class Caller:
 
 
 class FairMutex:
-    """A lock of at most n threads, first come, first served. A thread takes a seat once, and locks by it."""
+    """A lock of at most n threads, which enter in the order of their tickets.
+
+    A thread takes a seat once, and locks by it.
+    """
 
     def __init__(self, n):
         self._table = StampTable(n)

@@ -1,4 +1,5 @@
-//! First come, first served for one to six threads, in one 64-bit word.
+//! First come, first served for one to six threads, in one 64-bit word. Who wins the exchange that takes a ticket comes
+//! first, however long another has tried.
 //!
 //! A process takes a ticket ([`Caller::stamp`]), asks who came first ([`Order::is_first`], [`Order::older`]), and
 //! gives its ticket up ([`Caller::clear`]). A ticket counter grows without end; here labels come back, and one

@@ -4,7 +4,8 @@ use core::cell::UnsafeCell;
 use core::fmt;
 use core::ops::{Deref, DerefMut};
 
-/// A lock of at most `N` threads, first come, first served. A thread takes a seat once, and locks by it.
+/// A lock of at most `N` threads, which enter in the order of their tickets. A thread takes a seat once, and locks by
+/// it.
 ///
 /// ```
 /// use ticket_word::FairMutex;
