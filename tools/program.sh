@@ -14,10 +14,18 @@ start() {
 
 # Sets `program` to the path of a program. Where it fails, the program has to be built there first.
 find_program() {
+    has_sources "$1" || exit 4
     program=$top/crates/$1/out/$1
     [ ! -x "$program" ] || return 0
     is_ready "$1" || return 1
     program=$ready/$1
+}
+
+has_sources() {
+    [ ! -d "$top/crates" ] || return 0
+    echo "$1: this copy has no crates/, so it can't tell what dist/ is made of, nor build: take the whole repository, or \
+start ${ready#"$top/"}/$1 itself" >&2
+    return 1
 }
 
 # Whether the program in dist/ can stand for the one that would be built here. What was found is noted in a file, and
