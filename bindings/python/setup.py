@@ -1,3 +1,4 @@
+# SPDX-License-Identifier: Apache-2.0
 """Links the proved functions and the C header's loops into one shared library, which the package loads by ctypes."""
 import os
 import platform
@@ -34,4 +35,4 @@ class ForOneMachine(Distribution):
         return True
 
 
-setup(cmdclass={"build_py": Build}, distclass=ForOneMachine)
+setup(license="Apache-2.0", cmdclass={"build_py": Build}, distclass=ForOneMachine)
