@@ -1,3 +1,4 @@
+# SPDX-License-Identifier: Apache-2.0
 # find_package(ticket_word) gives the target ticket_word::ticket_word.
 get_filename_component(_ticket_word_prefix "${CMAKE_CURRENT_LIST_DIR}/../../.." ABSOLUTE)
 if(NOT TARGET ticket_word::ticket_word)

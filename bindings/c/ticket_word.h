@@ -1,3 +1,4 @@
+/* SPDX-License-Identifier: Apache-2.0 */
 /* ticket_word.h: first come, first served for one to six processes, in one 64-bit word.
  *
  * Who wins the exchange that takes a ticket comes first, however long another has tried.

@@ -7,7 +7,8 @@ import subprocess
 import tempfile
 import time
 
-from install_parts.tree import PROGRAMS, TOP, File
+from install_parts.tree import DOCUMENTS, LIBRARY_DOCUMENTS, LICENCE, LICENCE_COPY, PROGRAMS, TOP, File
+from parts.released import Texts, version_in
 
 NAME, MACHINE = "ticketc", "amd64"
 LIBRARY = "libc.so.6"
@@ -23,7 +24,22 @@ Priority: optional
 Description: compiler from unbounded tickets to bounded time-stamps
  ticketc compiles algorithms over unbounded tickets to code over bounded
  time-stamps, and runs both. ticklab shows what such an algorithm does under
- every schedule, traces its runs and draws them.
+ every schedule, traces its runs and draws them. For C and C++ there is a
+ ticket object in one word, first come, first served.
+"""
+
+COPYRIGHT = f"""Format: https://www.debian.org/doc/packaging-manuals/copyright-format/1.0/
+Upstream-Name: {NAME}
+Comment: NOTICE, beside this file, lists what of others is compiled into the
+ programs and the archive, and under which licences that is.
+
+Files: *
+Copyright: 2026 Senggubi maintainers
+License: Apache-2.0
+
+License: Apache-2.0
+ The text of the Apache License, Version 2.0, is in the file
+ {LICENCE} of each Debian system.
 """
 
 
@@ -53,14 +69,21 @@ def seconds():
 
 
 def version(at):
-    """The version of a package: the programs have none, so it is the time."""
-    return time.strftime("0+%Y%m%d.%H%M", time.gmtime(at))
+    """The version of a package: that of the programs, which isn't released yet (Debian sorts `~` before it), and the time."""
+    return version_in(Texts(TOP), "CHANGELOG.md") + time.strftime("~%Y%m%d.%H%M", time.gmtime(at))
+
+
+def is_left_out(path):
+    """Whether a file is installed and not packed: each Debian has the licence's text, and a package one folder of texts."""
+    return path == LICENCE_COPY or path.startswith(f"{LIBRARY_DOCUMENTS}/")
 
 
 def packed(tree):
     """The files of the package, by their paths, of the installed tree. (zsh of Debian looks elsewhere below /usr)"""
-    found = {}
+    found = {f"usr/{DOCUMENTS}/copyright": File(COPYRIGHT.encode())}
     for path, file in tree.items():
+        if is_left_out(path):
+            continue
         if path.startswith("share/man/"):
             file, path = File(gzip.compress(file.content, 9, mtime=0)), f"{path}.gz"
         found[f"usr/{path.replace('zsh/site-functions', 'zsh/vendor-completions')}"] = file

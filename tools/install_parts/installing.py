@@ -1,14 +1,17 @@
 """Puts a tree of files below a folder PREFIX, and takes it away again.
 
-The file RECORD has what was put there: a line `file SUM PATH` for each file and `folder PATH` for each folder that was
-made. A file is ours if it is listed with the sum of what is in it. A file that isn't is neither replaced nor removed,
-and a folder that isn't listed, or isn't empty, stays.
+The tree's record, a file below PREFIX, has what was put there: a line `file SUM PATH` for each file and `folder PATH`
+for each folder that was made. Each part that is installed by itself has its own. A file is ours if it is listed with
+the sum of what is in it. A file that isn't is neither replaced nor removed, and a folder that isn't listed, or isn't
+empty, stays.
 """
 import hashlib
 import os
 import re
 
-RECORD = "share/ticketc/installed"
+# The record of each part.
+RECORDS = {"programs": "share/ticketc/installed", "library": "share/ticket_word/installed"}
+RECORD = RECORDS["programs"]
 LINE = re.compile(r"file ([0-9a-f]{64}) (\S.*)|folder (\S.*)")
 
 
@@ -52,16 +55,16 @@ def read(path):
         return file.read()
 
 
-def recorded(prefix):
-    """What the record of a PREFIX says; of a PREFIX without one, None."""
-    content = read(f"{prefix}/{RECORD}")
+def recorded(prefix, record):
+    """What a record of a PREFIX says; None where there is none."""
+    content = read(f"{prefix}/{record}")
     if content is None:
         return None
     files, folders = {}, []
     for line in content.decode(errors="replace").splitlines():
         found = LINE.fullmatch(line)
         if not found or found[2] and os.path.normpath(found[2]).startswith(("..", "/")):
-            raise Refused(f"{prefix}/{RECORD}: no list of what was installed: {line}")
+            raise Refused(f"{prefix}/{record}: no list of what was installed: {line}")
         if found[2]:
             files.setdefault(found[2], set()).add(found[1])
         else:
@@ -69,12 +72,19 @@ def recorded(prefix):
     return Record(files, folders)
 
 
-def missing_folders(prefix, paths):
-    """The folders that these files want and that aren't there, PREFIX and those above it too, outermost first."""
-    found = set()
+def made_by_others(prefix, record):
+    """The folders that other parts made."""
+    others = [recorded(prefix, it) for it in RECORDS.values() if it != record]
+    return {place(prefix, path) for other in others if other for path in other.folders}
+
+
+def folders_to_own(prefix, paths, record):
+    """The folders that these files want and that aren't there, or that another part made, outermost first; PREFIX and
+    those above it too."""
+    found, others = set(), made_by_others(prefix, record)
     for path in paths:
         at = os.path.dirname(place(prefix, path))
-        while not os.path.lexists(at):
+        while not os.path.lexists(at) or at in others:
             found.add(os.path.relpath(at, prefix))
             at = os.path.dirname(at)
     return sorted(found, key=lambda path: place(prefix, path))
@@ -95,8 +105,9 @@ def put(path, content, mode):
 
 def make_folders(prefix, folders):
     for path in folders:
-        os.mkdir(place(prefix, path))
-        os.chmod(place(prefix, path), 0o755)
+        if not os.path.isdir(place(prefix, path)):
+            os.mkdir(place(prefix, path))
+            os.chmod(place(prefix, path), 0o755)
 
 
 def remove_folders(prefix, folders):
@@ -121,41 +132,41 @@ def remove_files(prefix, files):
     return removed, changed
 
 
-def not_ours(prefix, tree, old):
-    """The files that the tree would replace and that no install put there as they are."""
+def keep_others(prefix, tree, record=RECORD):
+    """Refuses a tree that would replace a file which no install put there as it is."""
+    old = recorded(prefix, record) or Record({}, [])
     for path in tree:
         content = read(f"{prefix}/{path}")
         if content is not None and sum_of(content) not in old.files.get(path, ()):
-            yield path
+            raise Refused(f"{prefix}/{path}: is there, and is not as an install put it; remove it first")
 
 
-def install(prefix, tree):
+def install(prefix, tree, record=RECORD):
     """Puts a tree below PREFIX, in place of what an earlier install put there; answers the files that stay, changed."""
-    old = recorded(prefix) or Record({}, [])
-    others = list(not_ours(prefix, tree, old))
-    if others:
-        raise Refused(f"{prefix}/{others[0]}: is there, and is not as an install put it; remove it first")
-    folders = missing_folders(prefix, [*tree, RECORD])
-    new = Record({path: {sum_of(file.content)} for path, file in tree.items()}, [*old.folders, *folders])
+    keep_others(prefix, tree, record)
+    old = recorded(prefix, record) or Record({}, [])
+    folders = folders_to_own(prefix, [*tree, record], record)
+    owned = list(dict.fromkeys([*old.folders, *folders]))
+    new = Record({path: {sum_of(file.content)} for path, file in tree.items()}, owned)
     try:
         make_folders(prefix, folders)
-        put(f"{prefix}/{RECORD}", new.joined(old).text(), 0o644)
+        put(f"{prefix}/{record}", new.joined(old).text(), 0o644)
     except OSError as fault:
         remove_folders(prefix, folders)
         raise Refused(f"{fault.filename}: {fault.strerror}") from None
     for path, file in tree.items():
         put(f"{prefix}/{path}", file.content, file.mode)
     _, changed = remove_files(prefix, {path: sums for path, sums in old.files.items() if path not in tree})
-    put(f"{prefix}/{RECORD}", new.text(), 0o644)
+    put(f"{prefix}/{record}", new.text(), 0o644)
     return changed
 
 
-def uninstall(prefix):
+def uninstall(prefix, record=RECORD):
     """Removes what was put below PREFIX; answers how many files it removed, and those that stay, changed."""
-    record = recorded(prefix)
-    if record is None:
-        raise Refused(f"{prefix}/{RECORD}: there is none, so nothing was installed here")
-    removed, changed = remove_files(prefix, record.files)
-    os.remove(f"{prefix}/{RECORD}")
-    remove_folders(prefix, record.folders)
+    old = recorded(prefix, record)
+    if old is None:
+        raise Refused(f"{prefix}/{record}: there is none, so nothing was installed here")
+    removed, changed = remove_files(prefix, old.files)
+    os.remove(f"{prefix}/{record}")
+    remove_folders(prefix, old.folders)
     return removed, changed

@@ -6,7 +6,7 @@ import shutil
 import subprocess
 
 from install_parts import debian, installing, trials
-from install_parts.tree import PROGRAMS, TOP
+from install_parts.tree import DOCUMENTS, LICENCE, PROGRAMS, TOP
 
 # What a system says of its C library, in the version that is named.
 STATUS = """Package: libc6
@@ -29,6 +29,8 @@ def contents(files, folder):
     found = {path for path, what in trials.seen(folder).items() if what != "a folder"}
     wrong = []
     for path, file in files.items():
+        if debian.is_left_out(path):
+            continue
         at = f"usr/{path.replace('zsh/site-functions', 'zsh/vendor-completions')}"
         if at.startswith("usr/share/man/"):
             at += ".gz"
@@ -36,7 +38,10 @@ def contents(files, folder):
         content = gzip.decompress(content) if at.endswith(".gz") and content else content
         wrong += trials.is_so(f"the package lacks {at}", content == file.content)
         found.discard(at)
-    return wrong + [f"the package has {path}" for path in sorted(found)]
+    copyright = f"usr/{DOCUMENTS}/copyright"
+    refers = LICENCE.encode() in (installing.read(f"{folder}/{copyright}") or b"")
+    wrong += trials.is_so(f"{copyright} refers to {LICENCE}", refers)
+    return wrong + [f"the package has {path}" for path in sorted(found - {copyright})]
 
 
 def told_version():

@@ -138,10 +138,25 @@ def documents_say(top):
     return said | {f"REFUSALS: {number} {name}" for cell in refusals for number, name in REFUSAL.findall(cell)}
 
 
-def grammar_of(top):
-    """The grammar of the language, as docs/LANGUAGE.md has it."""
-    with open(f"{top}/docs/LANGUAGE.md", encoding="utf-8") as text:
-        return section(text.read(), "Grammar").split("```")[1]
+# The grammars that tick(5) has: the documents, and the headings there.
+GRAMMARS = {"docs/LANGUAGE.md": "Grammar", "docs/EXPLORING.md": "Grammar of the lines"}
+# Where the words and signs of the lines that ask are defined.
+WORDS = [f"crates/language_questions/specs/{name}.antt" for name in ("Lines", "Directives", "Words", "Signs")]
+
+
+def grammar_of(top, path="docs/LANGUAGE.md"):
+    """The grammar that a document has; of the language, or of the lines that ask."""
+    with open(f"{top}/{path}", encoding="utf-8") as text:
+        return section(text.read(), GRAMMARS[path]).split("```")[1]
+
+
+def defined_words(top):
+    """The words and signs of the lines that ask, by their definitions."""
+    found = set()
+    for path in WORDS:
+        with open(f"{top}/{path}", encoding="utf-8") as text:
+            found |= set(re.findall(r'codes "([^"]+)"', text.read()))
+    return found
 
 
 def blocks(text):
@@ -157,9 +172,25 @@ def blocks(text):
             block.append(plain(line))
 
 
-def lacks_grammar(text, top):
-    """Whether no block of a page has the grammar, but for its blanks."""
-    return grammar_of(top).split() not in [" ".join(block).split() for block in blocks(text)]
+def lacking_grammars(text, top):
+    """The documents whose grammar no block of a page has, but for blanks."""
+    shown = [" ".join(block).split() for block in blocks(text)]
+    return [path for path in GRAMMARS if grammar_of(top, path).split() not in shown]
+
+
+def words_unlike(grammar, defined):
+    """What is told of a grammar of the lines that ask, where it has others than the defined words."""
+    return [f"docs/EXPLORING.md: grammar: {it} is there or in the definitions alone" for it in
+            sorted(set(re.findall(r'"([^"]+)"', grammar)) ^ defined)]
+
+
+def open_quotes(text):
+    """The lines whose quote goes on past a macro or a comma: it closes where the line ends."""
+    for line in lines_of(text):
+        words = [line.macro, *line.words]
+        behind = words[words.index("Ql") + 1:-1] if "Ql" in words else []
+        if {"No", "Ql", "Fl", "Cm", "Pq", ","} & set(behind):
+            yield line.text
 
 
 def path_of(name):
@@ -175,8 +206,9 @@ def differences(top, texts, programs):
         said = page_says(texts[program.name])
         wrong += [f"{path}: lacks {it}" for it in sorted(wanted - said)]
         wrong += [f"{path}: has {it}, which {program.name} has not" for it in sorted(said - wanted - names_of(program))]
-    if lacks_grammar(texts["tick"], top):
-        wrong.append(f"{path_of('tick')}: GRAMMAR: not that of docs/LANGUAGE.md")
+    wrong += [f"{path_of('tick')}: no grammar as in {it}" for it in lacking_grammars(texts["tick"], top)]
+    wrong += words_unlike(grammar_of(top, "docs/EXPLORING.md"), defined_words(top))
+    wrong += [f"{path_of(name)}: a quote closes too late: {it}" for name, text in texts.items() for it in open_quotes(text)]
     return wrong
 
 

@@ -1,5 +1,7 @@
-"""What is installed: both programs, the files of share/ as they stand there, and the examples."""
+"""What is installed, in two parts. One has both programs, the files of share/ as they stand there, the documents and the
+examples; the other the ticket object for C and C++."""
 import os
+import platform
 import shlex
 import subprocess
 
@@ -7,7 +9,22 @@ from parts.stripping import stripped
 
 TOP = os.path.dirname(os.path.dirname(os.path.dirname(os.path.abspath(__file__))))
 PROGRAMS = ("ticketc", "ticklab")
-EXAMPLES = "share/ticketc/examples"
+DOCUMENTS = "share/doc/ticketc"
+EXAMPLES = f"{DOCUMENTS}/examples"
+# What stands at the top of the repository and lies beside the documents.
+TEXTS = ("README.md", "LICENSE", "NOTICE", "CHANGELOG.md", "CONTRIBUTING.md")
+# The text of the licence, where Debian has it.
+LICENCE = "/usr/share/common-licenses/Apache-2.0"
+LICENCE_COPY = f"{DOCUMENTS}/{os.path.basename(LICENCE)}"
+# The ticket object beside its archive, by the names in bindings/c; and what says under which licences it is.
+LIBRARY_DOCUMENTS = "share/doc/ticket_word"
+LIBRARY_TEXTS = ("LICENSE", "NOTICE")
+LIBRARY = {
+    "include": ("ticket_word.h",),
+    "lib/pkgconfig": ("ticket_word.pc",),
+    "lib/cmake/ticket_word": ("ticket_word-config.cmake", "ticket_word-config-version.cmake"),
+    "share/man/man3": ("ticket_word.3",),
+}
 
 
 class NoProgram(Exception):
@@ -64,9 +81,34 @@ def files_below(folder, to):
             yield f"{to}/{path}", File(read(f"{at}/{name}"))
 
 
-def tree():
-    """All that is installed, by its path below PREFIX."""
+def programs():
+    """Both programs and what goes with them, by the paths below PREFIX. The documents lie as in the repository."""
     found = {f"bin/{name}": program_file(name) for name in PROGRAMS}
     found.update(files_below("share", "share"))
+    found.update(files_below("docs", f"{DOCUMENTS}/docs"))
     found.update(files_below("examples", EXAMPLES))
-    return dict(sorted(found.items()))
+    found.update((f"{DOCUMENTS}/{name}", File(read(f"{TOP}/{name}"))) for name in TEXTS)
+    if os.path.isfile(LICENCE):
+        found[LICENCE_COPY] = File(read(LICENCE))
+    return found
+
+
+def library():
+    """The ticket object for C and C++, by the paths below PREFIX; its archive is the one in dist/ for this machine."""
+    archive = f"dist/{platform.machine()}-linux/libticket_word.a"
+    if not os.path.isfile(f"{TOP}/{archive}"):
+        raise NoProgram(f"{archive}: there is none")
+    found = {"lib/libticket_word.a": File(read(f"{TOP}/{archive}"))}
+    found.update((f"{LIBRARY_DOCUMENTS}/{name}", File(read(f"{TOP}/{name}"))) for name in LIBRARY_TEXTS)
+    for folder, names in LIBRARY.items():
+        found.update((f"{folder}/{name}", File(read(f"{TOP}/bindings/c/{name}"))) for name in names)
+    return found
+
+
+# Each part, by its name.
+PARTS = {"programs": programs, "library": library}
+
+
+def tree():
+    """All that is installed, by its path below PREFIX."""
+    return dict(sorted({**programs(), **library()}.items()))

@@ -2,6 +2,7 @@
 import contextlib
 import hashlib
 import os
+import pathlib
 import shutil
 import stat
 import subprocess
@@ -9,9 +10,9 @@ import tempfile
 
 from install_parts import installing, tree
 from install_parts.tree import TOP, File
-from parts import stripping
+from parts import linked, stripping
 
-# All that is installed, beside the examples.
+# All that is installed of the programs, beside the examples and the pages of docs/.
 WANTED = """
 bin/ticketc bin/ticklab
 share/man/man1/ticketc.1 share/man/man1/ticklab.1 share/man/man5/tick.5
@@ -20,7 +21,17 @@ share/zsh/site-functions/_ticketc share/zsh/site-functions/_ticklab
 share/fish/vendor_completions.d/ticketc.fish share/fish/vendor_completions.d/ticklab.fish
 share/vim/vimfiles/ftdetect/tick.vim share/vim/vimfiles/syntax/tick.vim
 share/ticketc/tick.tmLanguage.json share/ticketc/installed
+share/doc/ticketc/README.md share/doc/ticketc/LICENSE share/doc/ticketc/NOTICE share/doc/ticketc/CHANGELOG.md
+share/doc/ticketc/CONTRIBUTING.md
 """.split()
+# The ticket object for C and C++.
+WANTED_LIBRARY = """
+include/ticket_word.h lib/libticket_word.a lib/pkgconfig/ticket_word.pc
+lib/cmake/ticket_word/ticket_word-config.cmake lib/cmake/ticket_word/ticket_word-config-version.cmake
+share/man/man3/ticket_word.3 share/doc/ticket_word/LICENSE share/doc/ticket_word/NOTICE
+""".split()
+# Where links of the documents lead that need the repository.
+SOURCES = ("answers", "bindings", "crates", "crates.txt")
 
 # A file of another owner.
 OTHER = b"of another owner\n"
@@ -71,15 +82,22 @@ def refusal(call, *words):
     return None
 
 
+def pages_and_examples():
+    pages = {f"{tree.DOCUMENTS}/docs/{name}" for name in os.listdir(f"{TOP}/docs")}
+    return pages | {f"{tree.EXAMPLES}/{name}" for name in os.listdir(f"{TOP}/examples")}
+
+
 def all_of_it(files):
     """What is put where nothing is, and that nothing of it stays."""
-    examples = {f"{tree.EXAMPLES}/{name}" for name in os.listdir(f"{TOP}/examples")}
+    wanted = {*WANTED, *WANTED_LIBRARY, *pages_and_examples()}
+    if os.path.isfile(tree.LICENCE):
+        wanted.add(tree.LICENCE_COPY)
     with folder() as own:
         prefix = f"{own}/some/where"
         installing.install(prefix, files)
         listed = {path for path, what in seen(prefix).items() if what != "a folder"}
-        wrong = [f"not installed: {path}" for path in sorted({*WANTED, *examples} - listed)]
-        wrong += [f"installed too: {path}" for path in sorted(listed - {*WANTED, *examples})]
+        wrong = [f"not installed: {path}" for path in sorted(wanted - listed)]
+        wrong += [f"installed too: {path}" for path in sorted(listed - wanted)]
         modes = {path for path in listed if stat.S_IMODE(os.stat(f"{prefix}/{path}").st_mode) == 0o755}
         programs = {path for path in listed if path.startswith("bin/")}
         wrong += is_so("the programs alone may be run", modes == programs)
@@ -88,10 +106,41 @@ def all_of_it(files):
         return wrong + unlike({}, seen(own))
 
 
+def links_lead(files):
+    """That each link of an installed page leads to an installed file, or to what README says needs the repository."""
+    wrong = []
+    for page in (path for path in files if path.endswith(".md")):
+        for target in linked.links(linked.without_fenced(files[page].content.decode())):
+            path = os.path.normpath(os.path.join(os.path.dirname(page), target.partition("#")[0])) if target[0] != "#" else page
+            source = os.path.relpath(path, tree.DOCUMENTS).split("/")[0]
+            if path not in files and source not in SOURCES:
+                wrong.append(f"{page}: {target}: there is no such file where it is installed")
+    return wrong
+
+
+def in_parts(files):
+    """That the ticket object is installed beside the programs and without them, and each part is taken away by itself."""
+    library = {path: files[path] for path in WANTED_LIBRARY}
+    programs = {path: file for path, file in files.items() if path not in library}
+    parts, wrong = {"programs": programs, "library": library}, []
+    for first, second in (("programs", "library"), ("library", "programs")):
+        for gone, stays in (("programs", "library"), ("library", "programs")):
+            with folder() as own:
+                for name in (first, second, first):
+                    installing.install(f"{own}/it", parts[name], installing.RECORDS[name])
+                installing.uninstall(f"{own}/it", installing.RECORDS[gone])
+                left = {path for path, what in seen(f"{own}/it").items() if what != "a folder"}
+                what = f"{first} and {second} installed, {gone} removed"
+                wrong += is_so(what, left == {*parts[stays], installing.RECORDS[stays]}, ", ".join(sorted(left)[:5]))
+                installing.uninstall(f"{own}/it", installing.RECORDS[stays])
+                wrong += [f"{what}, then the other: {it}" for it in unlike({}, seen(own))]
+    return wrong
+
+
 def beside_others(files, uninstall=installing.uninstall):
     """That what was there before stays as it was, folders that were empty too."""
     with folder() as own:
-        for path in ("bin/another", "share/man/man1/another.1", "share/ticketc/examples/another.tick", "lib/another"):
+        for path in ("bin/another", "share/man/man1/another.1", f"{tree.EXAMPLES}/another.tick", "lib/another"):
             write(f"{own}/{path}")
         os.makedirs(f"{own}/share/vim")
         before = seen(own)
@@ -124,7 +173,7 @@ def changed_since(files):
         wrong = is_so("a changed file is not replaced", path in told, told)
         removed, changed = installing.uninstall(own)
         wrong += is_so("a changed file is told", changed == [path] and removed == len(files) - 1)
-        wanted = {os.path.dirname(path), os.path.dirname(os.path.dirname(path)), "share", path}
+        wanted = {path, *(str(it) for it in pathlib.PurePath(path).parents if it.name)}
         return wrong + is_so("a changed file stays", set(seen(own)) == wanted, ", ".join(seen(own)))
 
 
@@ -186,12 +235,17 @@ def interrupted(call, stop, *words):
         installing.put = put
 
 
-def ran(*words, top=TOP, path=""):
-    """The status of a tool, and all that it says."""
+def ran_in(top, *words, path=""):
+    """The status of a program of a repository, and all that it says."""
     environment = {**os.environ, "PATH": f"{path}:{os.environ['PATH']}" if path else os.environ["PATH"]}
-    run = subprocess.run([f"{top}/tools/{words[0]}", *words[1:]], stdin=subprocess.DEVNULL, stdout=subprocess.PIPE,
+    run = subprocess.run([f"{top}/{words[0]}", *words[1:]], stdin=subprocess.DEVNULL, stdout=subprocess.PIPE,
                          stderr=subprocess.STDOUT, text=True, env=environment)
     return run.returncode, run.stdout
+
+
+def ran(*words, top=TOP, path=""):
+    """The same of a tool."""
+    return ran_in(top, f"tools/{words[0]}", *words[1:], path=path)
 
 
 def refused_lines():
@@ -201,7 +255,7 @@ def refused_lines():
         wrong = []
         for tool in ("install", "uninstall", "deb"):
             for words in ([], ["--help"]):
-                usage = f"usage: tools/{tool} {'FOLDER' if tool == 'deb' else 'PREFIX'}\n"
+                usage = f"usage: tools/{tool} {'FOLDER' if tool == 'deb' else 'PREFIX [programs | library]'}\n"
                 wrong += is_so(f"{tool} {words}", ran(tool, *words) == (2, usage))
         answer = ran("install", f"{own}/file/below")
         wanted = (1, f"install: {own}/file/below: Not a directory\n")
@@ -218,15 +272,17 @@ def by_make():
             run = subprocess.run(["make", "-C", TOP, target, *words], stdin=subprocess.DEVNULL, stdout=subprocess.PIPE,
                                  stderr=subprocess.STDOUT, text=True)
             wrong += is_so(f"make {target}", run.returncode == 0, run.stdout)
-            there = os.path.exists(f"{own}/stage/usr/bin/ticketc")
-            wrong += is_so(f"make {target} below DESTDIR", there == (target == "install"))
+            there = {os.path.exists(f"{own}/stage/usr/{path}") for path in ("bin/ticketc", "include/ticket_word.h")}
+            wrong += is_so(f"make {target} below DESTDIR", there == {target == "install"})
         return wrong + unlike({}, seen(own))
 
 
 def small_repository(own):
     """A repository with no sources to speak of, whose dist/ is of these."""
-    for path in ("tools", "share", "dist/x86_64-linux"):
+    for path in ("tools", "share", "dist/x86_64-linux", "bindings/c"):
         shutil.copytree(f"{TOP}/{path}", f"{own}/{path}")
+    for name in ("ticketc", *tree.TEXTS):
+        shutil.copy(f"{TOP}/{name}", own)
     write(f"{own}/examples/small.tick")
     write(f"{own}/HANDLES")
     write(f"{own}/crates.txt", b"ticketc:\nticklab:\n")
@@ -259,3 +315,18 @@ def which_program():
         status, told = ran("install", prefix, top=top)
         is_built = installing.read(f"{prefix}/bin/ticketc") == stripping.stripped(other)
         return wrong + is_so("what was built", status == 0 and is_built, told)
+
+
+def without_sources(_files, starter=None):
+    """That a copy without crates/ says so in one line, whatever is asked; perhaps with another tools/program.sh."""
+    with folder() as own:
+        small_repository(own)
+        shutil.rmtree(f"{own}/crates")
+        if starter:
+            write(f"{own}/tools/program.sh", starter)
+        wrong = []
+        for words in (["ticketc", "--help"], ["tools/install", f"{own}/prefix"], ["tools/build"]):
+            status, told = ran_in(own, *words)
+            is_told = status != 0 and told.count("\n") == 1 and "this copy has no crates/" in told
+            wrong += is_so(f"{words[0]} without crates/", is_told, told)
+        return wrong
