@@ -237,7 +237,8 @@ def interrupted(call, stop, *words):
 
 def ran_in(top, *words, path=""):
     """The status of a program of a repository, and all that it says."""
-    environment = {**os.environ, "PATH": f"{path}:{os.environ['PATH']}" if path else os.environ["PATH"]}
+    kept = {name: value for name, value in os.environ.items() if top == TOP or name != "TICKET_PROGRAMS"}
+    environment = {**kept, "PATH": f"{path}:{os.environ['PATH']}" if path else os.environ["PATH"]}
     run = subprocess.run([f"{top}/{words[0]}", *words[1:]], stdin=subprocess.DEVNULL, stdout=subprocess.PIPE,
                          stderr=subprocess.STDOUT, text=True, env=environment)
     return run.returncode, run.stdout

@@ -1,15 +1,19 @@
 """Runs the programs, one after the other, over files in memory; many at once by several of these."""
 import os
+import platform
 import signal
 
 TOP = os.path.dirname(os.path.dirname(os.path.dirname(os.path.abspath(__file__))))
 NAMES = ("ticketc", "ticklab")
+READY = f"{TOP}/dist/{platform.machine()}-linux"
 
 
 def program(name):
-    """The program that was built here, else the one that lies ready in dist/."""
-    built = f"{TOP}/crates/{name}/out/{name}"
-    return built if os.access(built, os.X_OK) else f"{TOP}/dist/x86_64-linux/{name}"
+    """The program in the folder that TICKET_PROGRAMS names; where it names none, the one that was built here, else the one
+    that lies ready in dist/."""
+    built = f"{TOP}/crates/{name}/out"
+    folder = os.environ.get("TICKET_PROGRAMS") or (built if os.access(f"{built}/{name}", os.X_OK) else READY)
+    return f"{folder}/{name}"
 
 
 class TookTooLong(Exception):
