@@ -20,18 +20,30 @@ class TookTooLong(Exception):
     """The program did not end in its time."""
 
 
+def used(process):
+    """The seconds of a processor that a process has used; 0 of one that has just ended."""
+    try:
+        with open(f"/proc/{process}/stat", "rb") as text:
+            fields = text.read().rpartition(b")")[2].split()
+    except OSError:
+        return 0
+    return (int(fields[11]) + int(fields[12])) / os.sysconf("SC_CLK_TCK")
+
+
 class Asker:
-    """Asks a program; its input and both outputs are files in memory, which serve one call after the other."""
+    """Asks a program; its input and both outputs are files in memory, which serve one call after the other. A program may use
+    so many seconds of a processor, and on a busy machine take ten times as long."""
 
     def __init__(self, patience=60):
-        self.patience = patience
+        self.patience, self.running, self.rings = patience, 0, 0
         self.files = [os.memfd_create(name) for name in ("input", "output", "told")]
         self.actions = [(os.POSIX_SPAWN_DUP2, file, number) for number, file in enumerate(self.files)]
         signal.signal(signal.SIGALRM, self.stop)
 
-    @staticmethod
-    def stop(_number, _frame):
-        raise TookTooLong
+    def stop(self, _number, _frame):
+        self.rings += 1
+        if self.rings == 10 or used(self.running) >= 0.9 * self.patience:
+            raise TookTooLong
 
     def answer(self, path, words, given):
         """The status, the output, and what is told on standard error."""
@@ -40,13 +52,13 @@ class Asker:
             os.lseek(file, 0, os.SEEK_SET)
         # (a write to a file in memory takes all)
         os.pwrite(self.files[0], given, 0)
-        running = os.posix_spawn(path, words, {}, file_actions=self.actions)
-        signal.setitimer(signal.ITIMER_REAL, self.patience)
+        self.running, self.rings = os.posix_spawn(path, words, {}, file_actions=self.actions), 0
+        signal.setitimer(signal.ITIMER_REAL, self.patience, self.patience)
         try:
-            status = os.waitpid(running, 0)[1]
+            status = os.waitpid(self.running, 0)[1]
         except TookTooLong:
-            os.kill(running, signal.SIGKILL)
-            os.waitpid(running, 0)
+            os.kill(self.running, signal.SIGKILL)
+            os.waitpid(self.running, 0)
             raise
         finally:
             signal.setitimer(signal.ITIMER_REAL, 0)
