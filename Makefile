@@ -17,4 +17,8 @@ uninstall:
 deb:
 	tools/deb out
 
-.PHONY: all install uninstall deb
+# Checks the programs in dist/, without building any; where make is given PREFIX or DESTDIR, those that are installed there.
+check:
+	@tools/check $(if $(filter-out file,$(origin PREFIX) $(origin DESTDIR)),--programs "$(DESTDIR)$(PREFIX)/bin")
+
+.PHONY: all install uninstall deb check
