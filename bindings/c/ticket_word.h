@@ -31,8 +31,19 @@
 #include <stddef.h>
 #include <stdint.h>
 
+/* The number itself, where it is one to six. */
 #ifdef __cplusplus
+extern "C++" {
+template <unsigned long long n> struct ticket_count {
+    static_assert(n >= 1 && n <= 6, "a table has one to six processes");
+    static const uint8_t of = static_cast<uint8_t>(n);
+};
+}
+#define TICKET_COUNT(n) (ticket_count<(n)>::of)
 extern "C" {
+#else
+#define TICKET_COUNT(n) \
+    (uint8_t)((n) + 0 * sizeof(struct { _Static_assert((n) >= 1 && (n) <= 6, "a table has one to six processes"); int of; }))
 #endif
 
 /* ---- The proved functions: of numbers alone, any numbers. ---- */
@@ -106,8 +117,8 @@ typedef struct ticket_order {
     uint8_t n;
 } ticket_order;
 
-/* A table of n processes at the start, as an initializer. */
-#define TICKET_TABLE(n) {0, (n)}
+/* A table of n processes at the start, as an initializer. n is a constant, and any but one to six doesn't compile. */
+#define TICKET_TABLE(n) {0, TICKET_COUNT(n)}
 
 /* A process number as the proved functions take it; what is too large for them is no process there either. */
 static inline uint8_t ticket_number(unsigned p) {
