@@ -1,9 +1,11 @@
 """What tables, callers, orders and locks answer, beside tickets as whole numbers."""
 import random
+import signal
 import threading
 import unittest
+from unittest import mock
 
-from ticket_word import BadCount, BadProcess, BadWord, FairMutex, StampTable
+from ticket_word import BadCount, BadProcess, BadWord, FairMutex, NoSeat, StampTable
 
 
 def is_first(tickets, p):
@@ -82,12 +84,51 @@ class Locks(unittest.TestCase):
                     count[0] = found + 1
 
         threads = [threading.Thread(target=work, args=(lock.seat(),)) for _ in range(4)]
-        self.assertIsNone(lock.seat())
+        with self.assertRaisesRegex(NoSeat, "^All seats of the lock are taken.$"):
+            lock.seat()
         for thread in threads:
             thread.start()
         for thread in threads:
             thread.join()
         self.assertEqual(count[0], 1200)
+
+    def test_a_third_seat_of_two_is_told(self):
+        lock = FairMutex(2)
+        one, _other = lock.seat(), lock.seat()
+        self.assertRaises(NoSeat, lock.seat)
+        one.close()
+        self.assertTrue(lock.seat())
+
+    def waits_in_vain(self, fault):
+        """Waits behind another, where this fault ends it: then only the other holds a ticket."""
+        lock = FairMutex(2)
+        one, other = lock.seat(), lock.seat()
+        with one:
+            with self.assertRaises(fault):
+                other.__enter__()
+            order = lock._table.scan()
+            self.assertEqual([order.held(0), order.held(1)], [True, False])
+        with other:
+            self.assertTrue(lock._table.scan().is_first(1))
+
+    def test_ctrl_c_gives_the_ticket_up(self):
+        found = signal.signal(signal.SIGINT, signal.default_int_handler)
+        try:
+            with mock.patch("time.sleep", side_effect=lambda _: signal.raise_signal(signal.SIGINT)):
+                self.waits_in_vain(KeyboardInterrupt)
+        finally:
+            signal.signal(signal.SIGINT, found)
+
+    def test_any_fault_of_waiting_gives_the_ticket_up(self):
+        for fault in (KeyboardInterrupt, SystemExit, OSError):
+            with mock.patch("time.sleep", side_effect=fault):
+                self.waits_in_vain(fault)
+
+    def test_a_fault_under_the_lock_leaves_it(self):
+        lock = FairMutex(2)
+        with self.assertRaises(OSError), lock.seat():
+            raise OSError
+        self.assertFalse(lock._table.scan().held(0))
 
 
 if __name__ == "__main__":

@@ -19,7 +19,9 @@ import os
 import threading
 import time
 
-__all__ = ["BadCount", "BadProcess", "BadWord", "Caller", "FairMutex", "Order", "Seat", "StampTable", "TicketFault"]
+__all__ = [
+    "BadCount", "BadProcess", "BadWord", "Caller", "FairMutex", "NoSeat", "Order", "Seat", "StampTable", "TicketFault",
+]
 
 
 class TicketFault(ValueError):
@@ -38,6 +40,10 @@ class BadWord(TicketFault):
     """The word stands for no tickets: something else wrote it."""
 
 
+class NoSeat(TicketFault):
+    """All seats of the lock are taken."""
+
+
 _FAULTS = {-1: BadCount, -2: BadProcess, -3: BadWord}
 _NO_PROCESS = 255
 
@@ -51,7 +57,22 @@ class _Order(ctypes.Structure):
 
 
 _calls = ctypes.CDLL(os.path.join(os.path.dirname(os.path.abspath(__file__)), "libticket_word_calls.so"))
-_calls.table_scan.restype = None
+# What each call takes and answers, as calls.c declares it.
+_TABLE, _ORDER, _NUMBER = ctypes.POINTER(_Table), ctypes.POINTER(_Order), ctypes.c_uint
+_CALLS = {
+    "table_init": (ctypes.c_int, _TABLE, _NUMBER),
+    "table_scan": (None, _TABLE, _ORDER),
+    "table_stamp": (ctypes.c_int, _TABLE, _NUMBER, _ORDER),
+    "table_try_stamp": (ctypes.c_int, _TABLE, _NUMBER, _ORDER),
+    "table_clear": (ctypes.c_int, _TABLE, _NUMBER, _ORDER),
+    "order_held": (ctypes.c_int, _ORDER, _NUMBER),
+    "order_older": (ctypes.c_int, _ORDER, _NUMBER, _NUMBER),
+    "order_is_first": (ctypes.c_int, _ORDER, _NUMBER),
+    "order_rank": (ctypes.c_int, _ORDER, _NUMBER),
+}
+for _name, (_answer, *_takes) in _CALLS.items():
+    _call = getattr(_calls, _name)
+    _call.restype, _call.argtypes = _answer, _takes
 
 
 def _number(p):
@@ -209,22 +230,28 @@ class FairMutex:
         self._table = StampTable(n)
 
     def seat(self):
-        """A seat, or None where all n are taken."""
+        """A seat; NoSeat where all n are taken."""
         callers = (self._table.caller(p) for p in range(self._table.n))
         caller = next((caller for caller in callers if caller), None)
-        return Seat(caller) if caller else None
+        if not caller:
+            raise NoSeat(NoSeat.__doc__)
+        return Seat(caller)
 
 
 class Seat:
-    """A place at a lock: `with seat:` is under the lock."""
+    """A place at a lock: `with seat:` is under the lock. Who stops waiting, as by Ctrl-C, gives the ticket up."""
 
     def __init__(self, caller):
         self._caller = caller
 
     def __enter__(self):
-        self._caller.stamp()
-        while not self._caller.is_first():
-            time.sleep(0)
+        try:
+            self._caller.stamp()
+            while not self._caller.is_first():
+                time.sleep(0)
+        except BaseException:
+            self._caller.clear()
+            raise
         return self
 
     def __exit__(self, *_):

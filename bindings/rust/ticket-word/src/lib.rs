@@ -8,15 +8,17 @@
 //! The first lock is a [`FairMutex`]:
 //!
 //! ```
-//! use ticket_word::FairMutex;
+//! use ticket_word::{FairMutex, NoSeat};
 //!
 //! let counter = FairMutex::<u32, 2>::new(0);
+//! let seats = [counter.seat()?, counter.seat()?];
 //! std::thread::scope(|scope| {
-//!     for mut seat in [counter.seat(), counter.seat()].into_iter().flatten() {
+//!     for mut seat in seats {
 //!         scope.spawn(move || *seat.lock_with(std::thread::yield_now) += 1);
 //!     }
 //! });
 //! assert_eq!(counter.into_inner(), 2);
+//! # Ok::<(), NoSeat>(())
 //! ```
 //!
 //! All accesses are sequentially consistent. No call takes memory. Only [`Caller::stamp`] and a lock may try again
@@ -29,6 +31,6 @@ mod order;
 mod raw;
 mod table;
 
-pub use mutex::{FairMutex, Guard, Seat};
+pub use mutex::{FairMutex, Guard, NoSeat, Seat};
 pub use order::{Fault, Order};
 pub use table::{Caller, StampTable, Tried};

@@ -29,9 +29,10 @@ impl<T, const N: usize> FairMutex<T, N> {
         FairMutex { table: StampTable::new(), value: UnsafeCell::new(value) }
     }
 
-    /// A seat; `None` where all `N` are taken.
-    pub fn seat(&self) -> Option<Seat<'_, T, N>> {
-        (0..N).find_map(|p| self.table.caller(p)).map(|caller| Seat { mutex: self, caller })
+    /// A seat, unless all `N` are taken.
+    pub fn seat(&self) -> Result<Seat<'_, T, N>, NoSeat> {
+        let caller = (0..N).find_map(|p| self.table.caller(p)).ok_or(NoSeat)?;
+        Ok(Seat { mutex: self, caller })
     }
 
     /// The value.
@@ -51,6 +52,18 @@ impl<T, const N: usize> fmt::Debug for FairMutex<T, N> {
     }
 }
 
+/// All `N` seats of a lock are taken.
+#[derive(Clone, Copy, PartialEq, Eq, Debug)]
+pub struct NoSeat;
+
+impl fmt::Display for NoSeat {
+    fn fmt(&self, to: &mut fmt::Formatter<'_>) -> fmt::Result {
+        to.write_str("all seats of the lock are taken")
+    }
+}
+
+impl core::error::Error for NoSeat {}
+
 /// A place at a lock. It is free again when it is dropped.
 pub struct Seat<'a, T, const N: usize> {
     mutex: &'a FairMutex<T, N>,
@@ -67,20 +80,19 @@ impl<T, const N: usize> Seat<'_, T, N> {
     ///
     /// # Panics
     ///
-    /// Where the lock's word was written from outside, which safe code can't do.
+    /// Where `wait` does, or the lock's word was written from outside, which safe code can't do. The ticket is given up.
     pub fn lock_with(&mut self, mut wait: impl FnMut()) -> Guard<'_, T, N> {
-        if let Err(fault) = self.come(&mut wait) {
-            panic!("{fault}");
-        }
-        Guard { table: &self.mutex.table, process: self.caller.process(), value: self.mutex.value.get() }
+        self.come(&mut wait).unwrap_or_else(|fault| panic!("{fault}"))
     }
 
-    fn come(&mut self, wait: &mut impl FnMut()) -> Result<(), Fault> {
+    fn come(&mut self, wait: &mut impl FnMut()) -> Result<Guard<'_, T, N>, Fault> {
         self.caller.stamp()?;
+        // It gives the ticket up when it is dropped, also where `wait` panics.
+        let guard = Guard { table: &self.mutex.table, process: self.caller.process(), value: self.mutex.value.get() };
         while !self.caller.is_first()? {
             wait();
         }
-        Ok(())
+        Ok(guard)
     }
 }
 

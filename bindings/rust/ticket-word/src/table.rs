@@ -9,6 +9,10 @@ use core::sync::atomic::{AtomicU64, AtomicU8};
 /// ```compile_fail
 /// let table = ticket_word::StampTable::<7>::new();
 /// ```
+///
+/// ```compile_fail
+/// let table = ticket_word::StampTable::<258>::new();
+/// ```
 // The first two members are those of the C header's table.
 #[repr(C)]
 #[derive(Debug)]
