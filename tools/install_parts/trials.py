@@ -31,7 +31,7 @@ lib/cmake/ticket_word/ticket_word-config.cmake lib/cmake/ticket_word/ticket_word
 share/man/man3/ticket_word.3 share/doc/ticket_word/LICENSE share/doc/ticket_word/NOTICE
 """.split()
 # Where links of the documents lead that need the repository.
-SOURCES = ("answers", "bindings", "crates", "crates.txt")
+SOURCES = ("answers", "bindings", "crates", "crates.txt", "HANDLES")
 
 # A file of another owner.
 OTHER = b"of another owner\n"
