@@ -70,7 +70,7 @@ def proved(top, names, crates, tell=None, first=()):
     with tempfile.TemporaryDirectory(prefix=f"rt-copy-{os.getpid()}-") as room:
         laid(top, names, crates, room)
         if first:
-            prove(room, tell, ["rt", "ci", *first], {**os.environ, "RT_JOBS": str(os.cpu_count())})
+            prove(room, tell, ["rt", "ci", *first], {**os.environ, "RT_JOBS": str(len(os.sched_getaffinity(0)))})
         prove(room, tell or (lambda name: None), ["rt", "ci"], os.environ)
         yield room
 
