@@ -24,6 +24,8 @@ LICENSED = {
     "bindings/rust/ticket-word/Cargo.toml": '\nlicense = "Apache-2.0"\n',
     "bindings/python/setup.py": 'license="Apache-2.0"',
 }
+# What is taken away by itself has these texts too; the toolchain refuses links.
+COPIED = [f"{folder}/{name}" for folder in ("bindings/python", "bindings/rust/ticket-word", "dist") for name in ("LICENSE", "NOTICE")]
 # What is made of the crates, and lies in dist/.
 MADE = ("ticketc", "ticklab", "ticket_word")
 
@@ -58,6 +60,10 @@ def lacking_licences(texts):
     return (f"{path}: no {text.strip()}" for path, text in LICENSED.items() if text not in texts[path])
 
 
+def unlike_copies(texts):
+    return (f"{path}: is not {name}" for path in COPIED for name in [path.rpartition("/")[2]] if texts[path] != texts[name])
+
+
 def unlisted_libraries(texts):
     """The libraries of the toolchain that crates.txt names for what is made, and NOTICE doesn't list."""
     crates = crates_of(texts.top)
@@ -68,4 +74,4 @@ def unlisted_libraries(texts):
 
 def faults(texts, number):
     """What doesn't agree with the version of the programs, the licence or the crates."""
-    return [*unlike_versions(texts, number), *lacking_licences(texts), *unlisted_libraries(texts)]
+    return [*unlike_versions(texts, number), *lacking_licences(texts), *unlike_copies(texts), *unlisted_libraries(texts)]
