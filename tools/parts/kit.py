@@ -25,10 +25,10 @@ def keeps():
     return "--anew" in told
 
 
-def check_words(kit, name, top, crates, near):
-    """The command that checks a crate, over the libraries that stand built in the repository `top`."""
+def check_words(kit, name, top, crates, near, verb="check"):
+    """The command that checks a crate, or does more, over the libraries that stand built in the repository `top`."""
     crate, kin = crates[name], near[:-1]
-    words = [f"{kit}/bin/rattle", "check", "--crate-name", name, root_file(f"{top}/crates/{name}")]
+    words = [f"{kit}/bin/rattle", verb, "--crate-name", name, root_file(f"{top}/crates/{name}")]
     for library in ["std", *[it for it in crate.libraries if it not in crates]]:
         words += ["--extern", f"{library}={kit}/rlibs/{library}.rlib"]
     words += ["-L", f"dependency={kit}/rlibs"]
