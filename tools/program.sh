@@ -1,10 +1,15 @@
 # Starts a program of this repository. `top` is the folder of the repository.
 #
-# It is the program that was built here, else the one that lies ready in dist/, where that was made of the sources
-# that stand here and starts on this machine; else it is proved and built first. Where TICKET_PROGRAMS names a folder
-# (an absolute path), it is the one there, and nothing is built.
+# It is the program that was built here, else the one that lies ready in dist/ for this machine, where that was made of
+# the sources that stand here and starts; else it is proved and built first. Where TICKET_PROGRAMS names a folder (an
+# absolute path), it is the one there, and nothing is built.
 
-ready=${TICKET_PROGRAMS:-$top/dist/x86_64-linux}
+# (on a machine of another kind those do not start)
+case $(uname -m) in
+aarch64) ready=$top/dist/aarch64-linux ;;
+*) ready=$top/dist/x86_64-linux ;;
+esac
+ready=${TICKET_PROGRAMS:-$ready}
 
 start() {
     name=$1
@@ -34,7 +39,7 @@ start ${ready#"$top/"}/$1 itself" >&2
 is_ready() {
     [ -z "${TICKET_PROGRAMS:-}" ] || return 0
     [ -x "$ready/$1" ] || return 1
-    noted=$top/dist/.checked
+    noted=$top/dist/.checked-${ready##*/}
     if [ -f "$noted" ] && [ -z "$(newer_than "$noted")" ]; then
         return 0
     fi
@@ -59,10 +64,10 @@ starts_here() {
     ticketc) words='order 1' ;;
     *) words='labels 1 0' ;;
     esac
-    if [ "$(uname -sm)" = 'Linux x86_64' ] && "$ready/$1" $words </dev/null >/dev/null 2>&1; then
-        return 0
-    fi
-    echo "$1: the program in dist/ does not start here: it needs Linux on x86_64, with glibc 2.34 or later. \
+    case $(uname -sm) in
+    'Linux x86_64' | 'Linux aarch64') "$ready/$1" $words </dev/null >/dev/null 2>&1 && return 0 ;;
+    esac
+    echo "$1: the program in dist/ does not start here: it needs Linux on x86_64 or aarch64, with glibc 2.34 or later. \
 \`tools/build $1\` proves and builds one with the Rattle toolchain." >&2
     return 1
 }

@@ -10,8 +10,10 @@ import time
 from install_parts.tree import DOCUMENTS, LIBRARY_DOCUMENTS, LICENCE, LICENCE_COPY, PROGRAMS, TOP, File
 from parts.released import Texts, version_in
 
-NAME, MACHINE = "ticketc", "amd64"
+NAME = "ticketc"
 LIBRARY = "libc.so.6"
+# What Debian calls the machines that programs are made for, by their number in the head of a program.
+MACHINES = {62: "amd64", 183: "arm64"}
 
 CONTROL = """Package: {name}
 Version: {version}
@@ -45,6 +47,11 @@ License: Apache-2.0
 
 class NotPacked(Exception):
     """No package was made; says why."""
+
+
+def machine_of(program):
+    """The machine that a program is made for."""
+    return MACHINES[int.from_bytes(program[18:20], "little")]
 
 
 def glibc_of(programs):
@@ -90,7 +97,7 @@ def packed(tree):
     return dict(sorted(found.items()))
 
 
-def control(files, at):
+def control(files, at, machine):
     """The texts that tell what the package is."""
     programs = [files[f"usr/bin/{name}"].content for name in PROGRAMS]
     others = other_libraries(programs)
@@ -98,7 +105,7 @@ def control(files, at):
         raise NotPacked(f"the programs need {', '.join(others)}, which tools/install_parts/debian.py doesn't know")
     size = sum(-(-len(file.content) // 1024) for file in files.values())
     sums = [f"{hashlib.md5(file.content).hexdigest()}  {path}\n" for path, file in files.items()]
-    about = CONTROL.format(name=NAME, version=version(at), machine=MACHINE, size=size, glibc=glibc_of(programs))
+    about = CONTROL.format(name=NAME, version=version(at), machine=machine, size=size, glibc=glibc_of(programs))
     return {"control": about, "md5sums": "".join(sums)}
 
 
@@ -112,10 +119,11 @@ def write(path, content, mode=0o644):
 def make(tree, folder):
     """Makes the package in a folder, and answers its path. The same tree gives the same bytes."""
     at, files = seconds(), packed(tree)
-    path = f"{folder}/{NAME}_{version(at)}_{MACHINE}.deb"
+    machine = machine_of(files[f"usr/bin/{NAME}"].content)
+    path = f"{folder}/{NAME}_{version(at)}_{machine}.deb"
     with tempfile.TemporaryDirectory() as root:
         os.chmod(root, 0o755)
-        for name, text in control(files, at).items():
+        for name, text in control(files, at, machine).items():
             write(f"{root}/DEBIAN/{name}", text.encode())
         for name, file in files.items():
             write(f"{root}/{name}", file.content, file.mode)

@@ -6,12 +6,12 @@ import shutil
 import subprocess
 
 from install_parts import debian, installing, trials
-from install_parts.tree import DOCUMENTS, LICENCE, PROGRAMS, TOP
+from install_parts.tree import DOCUMENTS, LICENCE, PROGRAMS, TOP, File
 
-# What a system says of its C library, in the version that is named.
+# What a system says of its C library, on the machine and in the version that are named.
 STATUS = """Package: libc6
 Status: install ok installed
-Architecture: amd64
+Architecture: {}
 Maintainer: nobody
 Version: {}
 Description: none
@@ -53,26 +53,36 @@ def told_version():
     return found
 
 
-def system(root, libc):
+def system(root, machine, libc):
     """Lays a system without any package but a C library below a folder."""
     for path in ("info", "updates", "triggers"):
         os.makedirs(f"{root}/var/lib/dpkg/{path}")
-    trials.write(f"{root}/var/lib/dpkg/status", STATUS.format(libc).encode())
+    trials.write(f"{root}/var/lib/dpkg/status", STATUS.format(machine, libc).encode())
     return ["dpkg", f"--root={root}", "--force-not-root", "--log=/dev/null"]
 
 
-def by_dpkg(path, own):
+def by_dpkg(path, own, machine):
     """That dpkg installs the package where the C library is of the version that it names, and takes all away again."""
     if not shutil.which("dpkg"):
         return []
-    status, told = ran(*system(f"{own}/old", "2.33-1"), "-i", path)
+    status, told = ran(*system(f"{own}/old", machine, "2.33-1"), "-i", path)
     wrong = trials.is_so("an older C library is refused", status != 0 and "depends on libc6 (>= 2.34)" in told, told)
-    dpkg = system(f"{own}/new", "2.34-1")
+    dpkg = system(f"{own}/new", machine, "2.34-1")
     status, told = ran(*dpkg, "-i", path)
     wrong += trials.is_so("dpkg installs the package", status == 0 and os.path.isfile(f"{own}/new/usr/bin/ticketc"), told)
     status, told = ran(*dpkg, "--purge", debian.NAME)
     wrong += trials.is_so("dpkg removes the package", status == 0 and os.listdir(f"{own}/new") == ["var"], told)
     return wrong
+
+
+def for_aarch64(files, own):
+    """That a package of the programs for aarch64 says so, and names the C library that they need."""
+    programs = {f"bin/{name}": File(installing.read(f"{TOP}/dist/aarch64-linux/{name}"), 0o755) for name in PROGRAMS}
+    os.mkdir(f"{own}/aarch64")
+    path = debian.make({**files, **programs}, f"{own}/aarch64")
+    about = ran("dpkg-deb", "-f", path, "Architecture", "Depends")[1]
+    is_so = path.endswith("_arm64.deb") and about == "Architecture: arm64\nDepends: libc6 (>= 2.34)\n"
+    return trials.is_so("the package for aarch64", is_so, f"{path}: {about}")
 
 
 def package(files):
@@ -90,4 +100,5 @@ def package(files):
         wrong += trials.is_so("the package depends on libc6", about == f"libc6 (>= {needed})", about)
         told = told_version()
         wrong += trials.is_so("README.md and tools/program.sh tell this glibc", told == {needed}, f"{told}, not {needed}")
-        return wrong + by_dpkg(path, own)
+        wrong += for_aarch64(files, own)
+        return wrong + by_dpkg(path, own, debian.machine_of(files["bin/ticketc"].content))

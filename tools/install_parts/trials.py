@@ -35,6 +35,9 @@ SOURCES = ("answers", "bindings", "crates", "crates.txt", "HANDLES")
 
 # A file of another owner.
 OTHER = b"of another owner\n"
+# What dist/ has for this machine, and a machine for which it has something too.
+HERE = f"dist/{os.uname().machine}-linux"
+OTHER_MACHINE = "aarch64" if "x86_64" in HERE else "x86_64"
 
 
 @contextlib.contextmanager
@@ -280,7 +283,7 @@ def by_make():
 
 def small_repository(own):
     """A repository with no sources to speak of, whose dist/ is of these."""
-    for path in ("tools", "share", "dist/x86_64-linux", "bindings/c"):
+    for path in ("tools", "share", HERE, "bindings/c"):
         shutil.copytree(f"{TOP}/{path}", f"{own}/{path}")
     for name in ("ticketc", *tree.TEXTS):
         shutil.copy(f"{TOP}/{name}", own)
@@ -293,23 +296,36 @@ def small_repository(own):
     write(f"{own}/dist/SOURCES", sources + b"toolchain none\n")
 
 
+def script(path, lines=""):
+    write(path, f"#!/bin/sh\n{lines}".encode())
+    os.chmod(path, 0o755)
+
+
+def on_machine(name, own):
+    """A folder with a `uname` of a machine of this name."""
+    script(f"{own}/{name}/uname", f'[ "$1" = -m ] || printf "Linux "\necho {name}\n')
+    return f"{own}/{name}"
+
+
 def which_program():
-    """Which program is installed: that of dist/, or what was built; and where there is none."""
+    """Which program is installed: that of dist/ for this machine, or what was built; and where there is none."""
     with folder() as own:
         top, prefix = f"{own}/top", f"{own}/prefix"
         small_repository(top)
-        with open(f"{top}/dist/x86_64-linux/ticketc", "rb") as file:
-            ready = file.read()
-        write(f"{own}/uname/uname", b"#!/bin/sh\necho Linux riscv64\n")
-        os.chmod(f"{own}/uname/uname", 0o755)
-        status, told = ran("install", prefix, top=top, path=f"{own}/uname")
-        wrong = is_so("another machine", status == 1 and "it needs Linux on x86_64" in told, told)
+        ready = installing.read(f"{top}/{HERE}/ticketc")
+        status, told = ran("install", prefix, top=top, path=on_machine("riscv64", own))
+        wrong = is_so("another machine", status == 1 and "it needs Linux on x86_64 or aarch64" in told, told)
+        for name in tree.PROGRAMS:
+            script(f"{top}/dist/{OTHER_MACHINE}-linux/{name}")
+        status, told = ran("install", prefix, top=top, path=on_machine(OTHER_MACHINE, own))
+        is_other = installing.read(f"{prefix}/bin/ticketc") == b"#!/bin/sh\n"
+        wrong += is_so(f"the program of dist/ for {OTHER_MACHINE}", status == 0 and is_other, told)
         status, told = ran("install", prefix, top=top)
         wrong += is_so("the program of dist/", status == 0 and installing.read(f"{prefix}/bin/ticketc") == ready, told)
         write(f"{top}/crates/ticklab/src/main.rt", b"another text\n")
         status, told = ran("install", prefix, top=top)
         wrong += is_so("a dist/ of other sources", status == 1 and "`tools/build ticketc` proves and builds" in told, told)
-        other = f"{top}/dist/x86_64-linux/ticklab"
+        other = f"{top}/{HERE}/ticklab"
         for name in tree.PROGRAMS:
             os.mkdir(f"{top}/crates/{name}/out")
             shutil.copy(other, f"{top}/crates/{name}/out/{name}")
