@@ -4,11 +4,12 @@ use Rattle.tick_syntax.specs.declared.fault.TextFault.TheVariants.{TextTooLong}
 use Rattle.ticketc_refusals.specs.Refusals.{IsNoText, too_long, unread_code, unread_program}
 use Rattle.ticketc_refusals.specs.declared.refusal.Refusal.TheVariants.{Text}
 use Rattle.ticketc_refusals.proofs.Offered.{IsDecided, begins_or_not}
-use Rattle.ticketc_line.specs.Asked.{Asked, PlainCommand}
-use Rattle.ticketc_line.specs.declared.command.Command.TheVariants.{Order, Check, Emit, Source, Code, Expand, Project, Run}
+use Rattle.ticketc_line.specs.Asked.{Asked, PlainCommand, PlainRequest}
+use Rattle.ticketc_line.specs.declared.command.Command.TheVariants.{Order, Check, Emit, Source, Code, Expand, Project}
+use Rattle.ticketc_line.specs.declared.command.Request.TheVariants.{Alone, Run}
 use Rattle.ticketc_answers.specs.Answer.{Answer, refused}
 use Rattle.ticketc_answers.specs.Codes.{IsNoCode, IsNotLowered, code_answer, emit_answer, no_code, no_program, not_lowered}
-use Rattle.ticketc_answers.specs.Commands.{Answers, InputAnswers, asks_run, is_run, line_answer}
+use Rattle.ticketc_answers.specs.Commands.{Answers, CommandAnswers, InputAnswers, asks_run, line_answer}
 use Rattle.ticketc_answers.specs.Inputs.{Answered, Is, gives_up, takes}
 use Rattle.ticketc_answers.specs.Maps.{carried_answer}
 use Rattle.ticketc_answers.specs.Order.{order_answer}
@@ -40,18 +41,18 @@ module _ {T : Type 0} (taken : T → Type 0) (refuses : Answer → Type 0) (is :
   determined : IsDetermined Allowed
   determined = (one_answer, some_answer)
 
-by_command : (command : PlainCommand) (input : List ℕ) → is_run command ≡ false → IsDetermined (InputAnswers command input)
-by_command (Order n) input single = determined _ _ (texts input) (order_answer n)
-by_command Check input single = determined _ _ (programs input) check_answer
-by_command Emit input single = determined _ _ (lowerings input) emit_answer
-by_command (Source schedule) input single = determined _ _ (programs input) (source_answer schedule)
-by_command (Code schedule) input single = determined _ _ (codings input) (code_answer schedule)
-by_command (Expand schedule) input single = determined _ _ (lowerings input) (carried_answer Up schedule)
-by_command (Project schedule) input single = determined _ _ (lowerings input) (carried_answer Down schedule)
-by_command (Run turns) input single = absurd (cc)
+by_command : (command : PlainCommand) (input : List ℕ) → IsDetermined (CommandAnswers command input)
+by_command (Order n) input = determined _ _ (texts input) (order_answer n)
+by_command Check input = determined _ _ (programs input) check_answer
+by_command Emit input = determined _ _ (lowerings input) emit_answer
+by_command (Source schedule) input = determined _ _ (programs input) (source_answer schedule)
+by_command (Code schedule) input = determined _ _ (codings input) (code_answer schedule)
+by_command (Expand schedule) input = determined _ _ (lowerings input) (carried_answer Up schedule)
+by_command (Project schedule) input = determined _ _ (lowerings input) (carried_answer Down schedule)
 
 pub answers_determined : (asked : Asked) (input : List ℕ) → asks_run asked ≡ false → IsDetermined (Answers asked input)
-answers_determined (Ok command) input single = by_command command input single
+answers_determined (Ok (Alone command)) input single = by_command command input
+answers_determined (Ok (Run turns)) input single = absurd (cc)
 answers_determined (Err fault) input single = (λ a b h k. h ∙ sym k, (line_answer fault, refl))
 
 -- the answer to an input that is too long
@@ -77,21 +78,21 @@ as_other : {T : Type 0} (taken there : T → Type 0) (refuses refuses_there : An
 as_other taken there refuses refuses_there by told a is h k (takes it t answers) = absurd (is.never it told t h)
 as_other taken there refuses refuses_there by told a is h k (gives_up g) = gives_up (subst refuses_there (is.one_refused told a h g) k)
 
-pub both_too_long : (command : PlainCommand) (read all : List ℕ) → 1000000 < length read → 1000000 < length all → (a : Answer)
-    → InputAnswers command read a → InputAnswers command all a
-both_too_long (Order n) read all long longer a is =
+pub both_too_long : (request : PlainRequest) (read all : List ℕ) → 1000000 < length read → 1000000 < length all → (a : Answer)
+    → InputAnswers request read a → InputAnswers request all a
+both_too_long (Alone (Order n)) read all long longer a is =
     as_other _ _ _ _ _ long_answer a (texts read) (Text TextTooLong, no_text read long, refl) (Text TextTooLong, no_text all longer, refl) is
-both_too_long Check read all long longer a is =
+both_too_long (Alone Check) read all long longer a is =
     as_other _ _ _ _ _ long_answer a (programs read) (Text TextTooLong, unread_program (no_text read long), refl) (Text TextTooLong, unread_program (no_text all longer), refl) is
-both_too_long Emit read all long longer a is =
+both_too_long (Alone Emit) read all long longer a is =
     as_other _ _ _ _ _ long_answer a (lowerings read) (not_lowered_long read long) (not_lowered_long all longer) is
-both_too_long (Source schedule) read all long longer a is =
+both_too_long (Alone (Source schedule)) read all long longer a is =
     as_other _ _ _ _ _ long_answer a (programs read) (Text TextTooLong, unread_program (no_text read long), refl) (Text TextTooLong, unread_program (no_text all longer), refl) is
-both_too_long (Code schedule) read all long longer a is =
+both_too_long (Alone (Code schedule)) read all long longer a is =
     as_other _ _ _ _ _ long_answer a (codings read) (no_code_long read long) (no_code_long all longer) is
-both_too_long (Expand schedule) read all long longer a is =
+both_too_long (Alone (Expand schedule)) read all long longer a is =
     as_other _ _ _ _ _ long_answer a (lowerings read) (not_lowered_long read long) (not_lowered_long all longer) is
-both_too_long (Project schedule) read all long longer a is =
+both_too_long (Alone (Project schedule)) read all long longer a is =
     as_other _ _ _ _ _ long_answer a (lowerings read) (not_lowered_long read long) (not_lowered_long all longer) is
 both_too_long (Run turns) read all long longer a is =
     as_other _ _ _ _ _ long_answer a (codings read) (no_code_long read long) (no_code_long all longer) is

@@ -4,6 +4,7 @@ pub mod Decided
 pub mod Determined
 pub mod OrderLemmas
 pub mod ServingLemmas
+pub mod Exits
 pub mod Weakening
 pub mod Reported
 pub mod RunKinds

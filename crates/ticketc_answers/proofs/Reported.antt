@@ -29,7 +29,7 @@ use Rattle.ticketc_refusals.proofs.Offered.{program_begins_otherwise}
 use Rattle.ticketc_line.specs.declared.command.Command.TheVariants.{Source, Code, Project}
 use Rattle.ticketc_answers.specs.Answer.{Answer, done, refused, scheduled}
 use Rattle.ticketc_answers.specs.Codes.{IsCodeOf, IsLowered, IsNoCode, IsNotLowered, code_answer, code_of, is_code, is_lowered, long_code, no_code, no_program, not_lowered}
-use Rattle.ticketc_answers.specs.Commands.{InputAnswers}
+use Rattle.ticketc_answers.specs.Commands.{CommandAnswers}
 use Rattle.ticketc_answers.specs.Inputs.{Refuses, gives_up, takes}
 use Rattle.ticketc_answers.specs.Laws.{DropLaw, LiftLaw}
 use Rattle.ticketc_answers.specs.Maps.{carried, carried_answer, schedule_line}
@@ -101,7 +101,7 @@ as_code_of input p is c low = is_lowered (program_begins_otherwise input low.pro
 
 module _ (schedule input : List ℕ) where
   drop_lowered : (reported : Answer) (c : StepCode) → IsLowered input c → reported ≡ code_answer schedule c → reported.status ≡ 0
-      → (line : List ℕ) × InputAnswers (Project schedule) input (done (line ++ line_end)) × InputAnswers (Source line) input reported
+      → (line : List ℕ) × CommandAnswers (Project schedule) input (done (line ++ line_end)) × CommandAnswers (Source line) input reported
   drop_lowered reported c low told zero =
       let p = low.program.program in
       let fine = low.program.accepted in
@@ -120,7 +120,7 @@ module _ (schedule input : List ℕ) where
       → (c : StepCode) → IsLowered input c → lifted.status ≡ 0
       → lifted ≡ scheduled (λ these. schedule_line (led p these)) (schedule_of p.processes schedule)
       → (steps : List ℕ) × (lifted ≡ done (schedule_line steps))
-      × (length steps ≤ 10000000 → InputAnswers (Code (schedule_text steps)) input reported)
+      × (length steps ≤ 10000000 → CommandAnswers (Code (schedule_text steps)) input reported)
   lift_lowered reported lifted p is told c low nought carries =
       let fine : IsAccepted p = subst IsAccepted (sym is.1) is.0.accepted in
       let run = scheduling (λ these. schedule_line (led p these)) (schedule_of p.processes schedule) lifted carries nought in

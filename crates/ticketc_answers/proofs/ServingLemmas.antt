@@ -17,7 +17,7 @@ use Rattle.ticketc_io.specs.Writing.{CountsWrites, WritesPrefix}
 use Rattle.ticketc_io.specs.declared.counts.Counts.{Counts}
 use Rattle.ticketc_io.specs.declared.fault.EndFault.{EndFault}
 use Rattle.ticketc_io.specs.declared.fault.EndFault.TheVariants as end
-use Rattle.ticketc_line.specs.Asked.{Asked, PlainCommand}
+use Rattle.ticketc_line.specs.Asked.{Asked, PlainRequest}
 use Rattle.ticketc_line.specs.declared.command.LineFault.{LineFault}
 use Rattle.ticketc_answers.specs.Answer.{Answer}
 use Rattle.ticketc_answers.specs.Commands.{Answers, InputAnswers, asks_run, line_answer, wants_input}
@@ -37,9 +37,9 @@ Consumes-nil : (a : Option (List ℕ)) → Consumes a a []
 Consumes-nil None = tt
 Consumes-nil (Some bytes) = refl
 
-module _ (command : PlainCommand) (response : StatusText) where
+module _ (request : PlainRequest) (response : StatusText) where
   abbrev By : List ℕ → Type 0
-  By input = IsResponse (InputAnswers command input) response
+  By input = IsResponse (InputAnswers request input) response
 
   -- what was read has the answers of the whole input
   pub on_read : (known left : Option (List ℕ)) (read : List ℕ) → IsRead known left read → By read → OnInput known By
@@ -57,18 +57,18 @@ module _ (command : PlainCommand) (response : StatusText) where
           let longer : 1000000 < length all = omega (arith, long.1, ap length is.taken, length-append read rest) in
           record {
             answer = answered.answer;
-            is_allowed = both_too_long command read all long.1 longer answered.answer answered.is_allowed;
+            is_allowed = both_too_long request read all long.1 longer answered.answer answered.is_allowed;
             says = answered.says;
           }
     ];
   }
 
 -- the response to a command, by the input
-pub answered_on_read : (command : PlainCommand) (known left : Option (List ℕ)) (read slice : List ℕ) (response : StatusText)
-    → slice ≡ read → IsRead known left read → IsResponse (InputAnswers command slice) response
-    → OnInput known (λ input. IsResponse (Answers (Ok command) input) response)
-answered_on_read command known left read slice response same reads answered =
-    on_read command response known left read reads (subst (λ (l : List ℕ). IsResponse (InputAnswers command l) response) same answered)
+pub answered_on_read : (request : PlainRequest) (known left : Option (List ℕ)) (read slice : List ℕ) (response : StatusText)
+    → slice ≡ read → IsRead known left read → IsResponse (InputAnswers request slice) response
+    → OnInput known (λ input. IsResponse (Answers (Ok request) input) response)
+answered_on_read request known left read slice response same reads answered =
+    on_read request response known left read reads (subst (λ (l : List ℕ). IsResponse (InputAnswers request l) response) same answered)
 
 -- a response that no input changes is one on the known input
 pub on_any : (known : Option (List ℕ)) (P : List ℕ → Type 0) → ((input : List ℕ) → P input) → OnInput known P
@@ -184,8 +184,8 @@ fault_told is_run allowed stop Read is held = absurd is
 fault_told is_run allowed stop Write is held = absurd is
 
 -- the response to what stopped a command, or what keeps it away
-pub stop_answered : (command : PlainCommand) (input : List ℕ) (stop : Stop) (result : Result StatusText EngineFault)
+pub stop_answered : (request : PlainRequest) (input : List ℕ) (stop : Stop) (result : Result StatusText EngineFault)
     → IfOk result (λ response. SaysStop response stop) → IfErr result (IsFaultOf stop)
-    → IfTold (asks_run (Ok command)) (InputAnswers command input) stop → IsAnswered command input result
-stop_answered command input stop (Ok response) told fault held = stop_says _ (InputAnswers command input) response stop told held
-stop_answered command input stop (Err e) told fault held = fault_told _ (InputAnswers command input) stop e fault held
+    → IfTold (asks_run (Ok request)) (InputAnswers request input) stop → IsAnswered request input result
+stop_answered request input stop (Ok response) told fault held = stop_says _ (InputAnswers request input) response stop told held
+stop_answered request input stop (Err e) told fault held = fault_told _ (InputAnswers request input) stop e fault held

@@ -1,7 +1,8 @@
 -- What the engine answers, by what the words ask for and by the input.
 use Rattle.std.specs.Prelude.{◌≡◌, ℕ, Bool, true, false, List, Ok, Err}
-use Rattle.ticketc_line.specs.Asked.{Asked, PlainCommand}
-use Rattle.ticketc_line.specs.declared.command.Command.TheVariants.{Order, Check, Emit, Source, Code, Expand, Project, Run}
+use Rattle.ticketc_line.specs.Asked.{Asked, PlainCommand, PlainRequest}
+use Rattle.ticketc_line.specs.declared.command.Command.TheVariants.{Order, Check, Emit, Source, Code, Expand, Project}
+use Rattle.ticketc_line.specs.declared.command.Request.TheVariants.{Alone, Run}
 use Rattle.ticketc_line.specs.declared.command.LineFault.{LineFault}
 use Rattle.ticketc_line.specs.declared.command.LineFault.TheVariants.{Usage, Processes}
 use Rattle.ticketc_answers.specs.Answer.{Answer, no_processes, usage}
@@ -14,14 +15,18 @@ use Rattle.ticketc_answers.specs.Runs.{IsOutcomeOf}
 use Rattle.ticketc_answers.specs.declared.maps.Way.TheVariants.{Up, Down}
 
 -- what a command answers on an input
-abbrev pub InputAnswers : PlainCommand → List ℕ → Answer → Type 0
-InputAnswers (Order n) = OnText (Is (order_answer n))
-InputAnswers Check = OnProgram (Is check_answer)
-InputAnswers Emit = OnLowered (Is emit_answer)
-InputAnswers (Source schedule) = OnProgram (Is (source_answer schedule))
-InputAnswers (Code schedule) = OnCode (Is (code_answer schedule))
-InputAnswers (Expand schedule) = OnLowered (Is (carried_answer Up schedule))
-InputAnswers (Project schedule) = OnLowered (Is (carried_answer Down schedule))
+abbrev pub CommandAnswers : PlainCommand → List ℕ → Answer → Type 0
+CommandAnswers (Order n) = OnText (Is (order_answer n))
+CommandAnswers Check = OnProgram (Is check_answer)
+CommandAnswers Emit = OnLowered (Is emit_answer)
+CommandAnswers (Source schedule) = OnProgram (Is (source_answer schedule))
+CommandAnswers (Code schedule) = OnCode (Is (code_answer schedule))
+CommandAnswers (Expand schedule) = OnLowered (Is (carried_answer Up schedule))
+CommandAnswers (Project schedule) = OnLowered (Is (carried_answer Down schedule))
+
+-- the same of whatever is asked for
+abbrev pub InputAnswers : PlainRequest → List ℕ → Answer → Type 0
+InputAnswers (Alone command) = CommandAnswers command
 InputAnswers (Run turns) = OnCode (IsOutcomeOf turns)
 
 -- words that are refused have an answer that no input changes
@@ -30,19 +35,19 @@ line_answer Usage = usage
 line_answer Processes = no_processes
 
 abbrev pub Answers : Asked → List ℕ → Answer → Type 0
-Answers (Ok command) input a = InputAnswers command input a
+Answers (Ok request) input a = InputAnswers request input a
 Answers (Err fault) input a = a ≡ line_answer fault
 
 -- whether the input is read at all
 abbrev pub wants_input : Asked → Bool
-wants_input (Ok command) = true
+wants_input (Ok request) = true
 wants_input (Err fault) = false
 
 -- whether it is a run on threads, the one command that may have more than one answer
-abbrev pub is_run : PlainCommand → Bool
+abbrev pub is_run : PlainRequest → Bool
+is_run (Alone command) = false
 is_run (Run turns) = true
-is_run other = false
 
 abbrev pub asks_run : Asked → Bool
-asks_run (Ok command) = is_run command
+asks_run (Ok request) = is_run request
 asks_run (Err fault) = false

@@ -8,10 +8,11 @@ use Rattle.code_core.specs.Instructions.{StepCode}
 use Rattle.language_schedules.specs.Written.{schedule_text}
 use Rattle.tick_syntax.specs.RoundTrip.{IsTextOf}
 use Rattle.ticketc_line.specs.Asked.{Asked}
-use Rattle.ticketc_line.specs.declared.command.Command.TheVariants.{Source, Code, Expand, Project, Run}
+use Rattle.ticketc_line.specs.declared.command.Command.TheVariants.{Source, Code, Expand, Project}
+use Rattle.ticketc_line.specs.declared.command.Request.TheVariants.{Run}
 use Rattle.ticketc_answers.specs.Answer.{Answer, done}
 use Rattle.ticketc_answers.specs.Codes.{IsCodeOf}
-use Rattle.ticketc_answers.specs.Commands.{Answers, InputAnswers, asks_run}
+use Rattle.ticketc_answers.specs.Commands.{Answers, CommandAnswers, InputAnswers, asks_run}
 use Rattle.ticketc_answers.specs.Maps.{schedule_line}
 use Rattle.ticketc_answers.specs.Runs.{IsOutcomeOf, IsProgramOutcome}
 
@@ -33,7 +34,7 @@ RunOutcomeLaw =
 abbrev pub RunRefusalLaw : Type 0
 RunRefusalLaw =
     (turns : ℕ) (input : List ℕ) (a : Answer) → ((c : StepCode) → IsCodeOf input c → ⊥)
-    → InputAnswers (Run turns) input a ↔ (InputAnswers (Code []) input a × (a.status ≡ 1))
+    → InputAnswers (Run turns) input a ↔ (CommandAnswers (Code []) input a × (a.status ≡ 1))
 
 -- Where the input is a program, what a run is answered, if it is no refusal, is an outcome of that program on whole-number
 -- tickets, under one schedule.
@@ -45,14 +46,14 @@ RunProgramLaw =
 -- Where `code` reports on a program, `drop` prints a line, and `source` reports the same under it.
 abbrev pub DropLaw : Type 0
 DropLaw = (schedule input : List ℕ) (p : WholeProgram Name) (reported : Answer) → IsTextOf input p
-    → InputAnswers (Code schedule) input reported → reported.status ≡ 0
-    → (line : List ℕ) × InputAnswers (Project schedule) input (done (line ++ line_end)) × InputAnswers (Source line) input reported
+    → CommandAnswers (Code schedule) input reported → reported.status ≡ 0
+    → (line : List ℕ) × CommandAnswers (Project schedule) input (done (line ++ line_end)) × CommandAnswers (Source line) input reported
 
 -- Where `source` reports, and `lift` prints a line, that is of some steps; and `code` reports the same
 -- under it, where they are no more than a schedule can have.
 abbrev pub LiftLaw : Type 0
 LiftLaw = (schedule input : List ℕ) (reported lifted : Answer)
-    → InputAnswers (Source schedule) input reported → reported.status ≡ 0
-    → InputAnswers (Expand schedule) input lifted → lifted.status ≡ 0
+    → CommandAnswers (Source schedule) input reported → reported.status ≡ 0
+    → CommandAnswers (Expand schedule) input lifted → lifted.status ≡ 0
     → (steps : List ℕ) × (lifted ≡ done (schedule_line steps))
-    × (length steps ≤ 10000000 → InputAnswers (Code (schedule_text steps)) input reported)
+    × (length steps ≤ 10000000 → CommandAnswers (Code (schedule_text steps)) input reported)

@@ -5,11 +5,14 @@ use Rattle.ticketc_io.specs.Reading.{CountsReads, TakesFew}
 use Rattle.ticketc_io.specs.Writing.{CountsWrites, WritesPrefix}
 use Rattle.ticketc_io.specs.declared.counts.Counts.{Counts}
 use Rattle.ticketc_line.specs.Asked.{Asked}
+use Rattle.ticketc_line.specs.declared.command.Request.TheVariants.{Run}
 use Rattle.ticketc_answers.specs.Answer.{Answer}
 use Rattle.ticketc_answers.specs.Commands.{Answers, asks_run, wants_input}
 use Rattle.ticketc_answers.specs.Faults.{end_fault_in}
 use Rattle.ticketc_answers.specs.declared.fault.EngineFault.{EngineFault}
 use Rattle.ticketc_answers.specs.declared.fault.EngineFault.TheVariants.{Read, Write, Memory, Thread}
+use Rattle.ticketc_answers.specs.declared.heard.Heard.{Heard}
+use Rattle.ticketc_answers.specs.declared.heard.Heard.TheVariants as heard
 
 -- P of some input, which is the one that is still to come where that is known
 pub record OnInput (known : Option (List ℕ)) (P : List ℕ → Type 0) : Type 0 where
@@ -50,3 +53,13 @@ pub record Serves {R W : Type 0} (asked : Asked) (remaining : R → Option (List
   pub calls : (reads reader_new).calls ≤ (reads reader_old).calls + 2000000
   pub reads_counted : CountsReads (end_fault_in result) (reads reader_old) (reads reader_new)
   pub writes_counted : CountsWrites (end_fault_in result) (writes writer_old) (writes writer_new)
+
+-- A command line was served without threads; or it asks for a run, and nothing was read or written yet.
+abbrev pub ServesOrRuns : {R W : Type 0} → Asked → (R → Option (List ℕ)) → (R → Counts) → (W → Option (List ℕ)) → (W → Counts)
+    → R → R → W → W → Result (Heard ℕ) EngineFault → Type 0
+ServesOrRuns asked remaining reads written writes reader_old reader_new writer_old writer_new (Ok (heard.Served status)) =
+    (asks_run asked ≡ false) × Serves asked remaining reads written writes reader_old reader_new writer_old writer_new (Ok status)
+ServesOrRuns asked remaining reads written writes reader_old reader_new writer_old writer_new (Ok (heard.Run turns)) =
+    (asked ≡ Ok (Run turns)) × (reader_new ≡ reader_old) × (writer_new ≡ writer_old)
+ServesOrRuns asked remaining reads written writes reader_old reader_new writer_old writer_new (Err fault) =
+    Serves asked remaining reads written writes reader_old reader_new writer_old writer_new (Err fault)

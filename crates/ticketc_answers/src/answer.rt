@@ -1,6 +1,8 @@
 //! The response to a command on an input, with one case for each command.
+ghost use Rattle.std.specs.Prelude.{false};
 ghost use Rattle.ticketc_line.specs.Asked.{Fits, plain_command};
-ghost use Rattle.ticketc_answers.specs.Commands.{InputAnswers, is_run};
+ghost use Rattle.ticketc_line.specs.declared.command.Request.TheVariants.{Alone, Run};
+ghost use Rattle.ticketc_answers.specs.Commands.{CommandAnswers};
 ghost use Rattle.ticketc_answers.specs.Stop.{Tells};
 ghost use Rattle.ticketc_answers.specs.prover.Responses.{IsAnswered};
 
@@ -17,25 +19,23 @@ use tick_merge::OneRun;
 use ticketc_line::Command;
 
 /// The whole response to a command, by its input.
-pub fn response_to<O: OneRun>(
+pub fn response_to(
     alloc: Global,
-    one: O,
     command: Command<&str>,
     input: &[u8],
 ) -> Result<StatusText, EngineFault>
     requires fits { Fits (plain_command command) }
-    ensures { IsAnswered (plain_command command.entry) input.now result }
+    ensures { IsAnswered (Alone (plain_command command.entry)) input.now result }
 {
-    match text_answer(alloc, one, command, input) {
+    match text_answer(alloc, command, input) {
         Ok(text) => Ok(StatusText { status: 0, text }),
         Err(stop) => stop_response(alloc, stop),
     }
 }
 
-// A run is made by `one`, and all else without it.
-fn text_answer<O: OneRun>(alloc: Global, one: O, command: Command<&str>, input: &[u8]) -> Reply
+fn text_answer(alloc: Global, command: Command<&str>, input: &[u8]) -> Reply
     requires fits { Fits (plain_command command) }
-    ensures { Tells (is_run (plain_command command.entry)) (InputAnswers (plain_command command.entry) input.now) result }
+    ensures { Tells false (CommandAnswers (plain_command command.entry) input.now) result }
 {
     match command {
         Command::Order(n) => order_text(alloc, n, input),
@@ -45,6 +45,20 @@ fn text_answer<O: OneRun>(alloc: Global, one: O, command: Command<&str>, input: 
         Command::Code(schedule) => code_report(alloc, input, schedule),
         Command::Expand(schedule) => carried_text(alloc, Way::Up, input, schedule),
         Command::Project(schedule) => carried_text(alloc, Way::Down, input, schedule),
-        Command::Run(turns) => run_text(alloc, one, input, turns),
+    }
+}
+
+/// The whole response to a run on threads of the code that an input has, which `one` makes.
+pub fn run_response<O: OneRun>(
+    alloc: Global,
+    one: O,
+    turns: u64,
+    input: &[u8],
+) -> Result<StatusText, EngineFault>
+    ensures { IsAnswered (Run turns) input.now result }
+{
+    match run_text(alloc, one, input, turns) {
+        Ok(text) => Ok(StatusText { status: 0, text }),
+        Err(stop) => stop_response(alloc, stop),
     }
 }

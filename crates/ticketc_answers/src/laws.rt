@@ -1,5 +1,8 @@
 //! What holds of the answers that `specs/Commands.antt` defines, whichever program gives them.
+ghost use Rattle.ticketc_answers.specs.Ended.{WholeLaw};
 ghost use Rattle.ticketc_answers.specs.Laws.{AtMostOneAnswerLaw, DropLaw, LiftLaw, RunOutcomeLaw, RunProgramLaw, RunRefusalLaw, SomeAnswerLaw};
+
+use ticketc_io::{ByteSink, ByteSource};
 
 /// Each command line has an answer on each input, and no two.
 pub fn law_answers()
@@ -21,4 +24,9 @@ pub fn law_run_answers()
 pub fn law_reports()
     ensures drop { DropLaw }
     ensures lift { LiftLaw }
+{}
+
+/// `ended`, and `run_ended` where that tells a run, are the program as a whole.
+pub fn law_whole<R: ByteSource, W: ByteSink>()
+    ensures { WholeLaw R.remaining R.counts W.written W.counts }
 {}

@@ -3,7 +3,9 @@ use Rattle.std.specs.Prelude.{ℕ, ◌≤◌, ◌&&◌, nat_le, nat_lt, List, Op
 use Rattle.std.specs.Borrow.{Bor}
 use Rattle.base.specs.Number.{number_of}
 use Rattle.ticketc_line.specs.declared.command.Command.{Command}
-use Rattle.ticketc_line.specs.declared.command.Command.TheVariants.{Order, Check, Emit, Source, Code, Expand, Project, Run}
+use Rattle.ticketc_line.specs.declared.command.Command.TheVariants.{Order, Check, Emit, Source, Code, Expand, Project}
+use Rattle.ticketc_line.specs.declared.command.Request.{Request}
+use Rattle.ticketc_line.specs.declared.command.Request.TheVariants.{Alone, Run}
 use Rattle.ticketc_line.specs.declared.command.LineFault.{LineFault}
 use Rattle.ticketc_line.specs.declared.command.LineFault.TheVariants.{Usage, Processes}
 
@@ -11,9 +13,12 @@ use Rattle.ticketc_line.specs.declared.command.LineFault.TheVariants.{Usage, Pro
 abbrev pub PlainCommand : Type 0
 PlainCommand = Command (List ℕ)
 
+abbrev pub PlainRequest : Type 0
+PlainRequest = Request (List ℕ)
+
 -- what a command line asks for, or why it is refused
 abbrev pub Asked : Type 0
-Asked = Result PlainCommand LineFault
+Asked = Result PlainRequest LineFault
 
 -- a command with a schedule that is lent, as one with its text
 abbrev pub plain_command : Command (Bor (List ℕ)) → PlainCommand
@@ -24,16 +29,23 @@ plain_command (Source schedule) = Source schedule.now
 plain_command (Code schedule) = Code schedule.now
 plain_command (Expand schedule) = Expand schedule.now
 plain_command (Project schedule) = Project schedule.now
-plain_command (Run turns) = Run turns
 
-abbrev pub plain_asked : Result (Command (Bor (List ℕ))) LineFault → Asked
-plain_asked (Ok command) = Ok (plain_command command)
+abbrev pub plain_request : Request (Bor (List ℕ)) → PlainRequest
+plain_request (Alone command) = Alone (plain_command command)
+plain_request (Run turns) = Run turns
+
+abbrev pub plain_asked : Result (Request (Bor (List ℕ))) LineFault → Asked
+plain_asked (Ok request) = Ok (plain_request request)
 plain_asked (Err fault) = Err fault
 
 -- its number of processes is one that a label word can have
 abbrev pub Fits : PlainCommand → Type 0
 Fits (Order n) = (1 ≤ n) × (n ≤ 6)
 Fits other = Unit {0}
+
+abbrev pub FitsRequest : PlainRequest → Type 0
+FitsRequest (Alone command) = Fits command
+FitsRequest (Run turns) = Unit {0}
 
 -- a number up to the limit
 abbrev pub lawful : ℕ → Option ℕ → Option ℕ
@@ -55,19 +67,19 @@ wanted (Some turns) = Ok turns
 abbrev pub turns_of : List ℕ → Result ℕ LineFault
 turns_of text = wanted (lawful 1000000000 (number_of text))
 
--- the command of a number
-abbrev pub with_number : (ℕ → PlainCommand) → Result ℕ LineFault → Asked
+-- what is asked for with a number
+abbrev pub with_number : (ℕ → PlainRequest) → Result ℕ LineFault → Asked
 with_number by (Ok n) = Ok (by n)
 with_number by (Err fault) = Err fault
 
--- the command of this name, with the text that it wants
+-- what is asked for by this name, with the text that it wants
 abbrev pub named_with : List ℕ → List ℕ → Asked
 named_with name text =
-    if bytes_eq name (codes "order") then with_number Order (processes_of text)
-    else if bytes_eq name (codes "source") then Ok (Source text)
-    else if bytes_eq name (codes "code") then Ok (Code text)
-    else if bytes_eq name (codes "lift") then Ok (Expand text)
-    else if bytes_eq name (codes "drop") then Ok (Project text)
+    if bytes_eq name (codes "order") then with_number (λ n. Alone (Order n)) (processes_of text)
+    else if bytes_eq name (codes "source") then Ok (Alone (Source text))
+    else if bytes_eq name (codes "code") then Ok (Alone (Code text))
+    else if bytes_eq name (codes "lift") then Ok (Alone (Expand text))
+    else if bytes_eq name (codes "drop") then Ok (Alone (Project text))
     else if bytes_eq name (codes "run") then with_number Run (turns_of text)
     else Err Usage
 
@@ -77,6 +89,6 @@ with_text by None = Err Usage
 
 abbrev pub named : List ℕ → Option (List ℕ) → Asked
 named name text =
-    if bytes_eq name (codes "check") then Ok Check
-    else if bytes_eq name (codes "emit") then Ok Emit
+    if bytes_eq name (codes "check") then Ok (Alone Check)
+    else if bytes_eq name (codes "emit") then Ok (Alone Emit)
     else with_text (named_with name) text

@@ -3,7 +3,8 @@ use Rattle.std.specs.Prelude.{◌≡◌, ℕ, List, [], ◌∷◌, Ok, Err, code
 use Rattle.clap.specs.Walk.{Text}
 use Rattle.ticketc_line.specs.Line.{asked_in}
 use Rattle.ticketc_line.specs.Asked.{Asked, processes_of, turns_of, with_number}
-use Rattle.ticketc_line.specs.declared.command.Command.TheVariants.{Order, Check, Emit, Source, Code, Expand, Project, Run}
+use Rattle.ticketc_line.specs.declared.command.Command.TheVariants.{Order, Check, Emit, Source, Code, Expand, Project}
+use Rattle.ticketc_line.specs.declared.command.Request.TheVariants.{Alone, Run}
 use Rattle.ticketc_line.specs.declared.command.LineFault.TheVariants.{Usage}
 
 -- the words after the program's name ask for this
@@ -11,8 +12,8 @@ abbrev pub Asks : List Text → Asked → Type 0
 Asks words asked = asked_in (codes "ticketc" ∷ words) ≡ asked
 
 pub record BareCommandsLaw : Type 0 where
-  pub check : Asks (codes "check" ∷ []) (Ok Check)
-  pub emit : Asks (codes "emit" ∷ []) (Ok Emit)
+  pub check : Asks (codes "check" ∷ []) (Ok (Alone Check))
+  pub emit : Asks (codes "emit" ∷ []) (Ok (Alone Emit))
   pub text_after_check : Asks (codes "check" ∷ codes "2" ∷ []) (Err Usage)
   pub text_after_emit : Asks (codes "emit" ∷ codes "2" ∷ []) (Err Usage)
 
@@ -33,11 +34,11 @@ pub record TakesText (name : Text) (asking : Text → Asked) : Type 0 where
   pub flag : Asks (name ∷ codes "-1" ∷ []) (Err Usage)
 
 pub record CommandsWithTextLaw : Type 0 where
-  pub order : TakesText (codes "order") (λ text. with_number Order (processes_of text))
-  pub source : TakesText (codes "source") (λ text. Ok (Source text))
-  pub code : TakesText (codes "code") (λ text. Ok (Code text))
-  pub lift : TakesText (codes "lift") (λ text. Ok (Expand text))
-  pub drop : TakesText (codes "drop") (λ text. Ok (Project text))
+  pub order : TakesText (codes "order") (λ text. with_number (λ n. Alone (Order n)) (processes_of text))
+  pub source : TakesText (codes "source") (λ text. Ok (Alone (Source text)))
+  pub code : TakesText (codes "code") (λ text. Ok (Alone (Code text)))
+  pub lift : TakesText (codes "lift") (λ text. Ok (Alone (Expand text)))
+  pub drop : TakesText (codes "drop") (λ text. Ok (Alone (Project text)))
   pub run : TakesText (codes "run") (λ text. with_number Run (turns_of text))
 
 pub record OtherLinesLaw : Type 0 where

@@ -1,9 +1,9 @@
 ghost use Rattle.std.specs.Prelude.{◌≡◌, IfOk, Ok, map, option_map, string_bytes};
 ghost use Rattle.clap.specs.Simple.{App, Shape, app_of, subcommand_rows_of, with_subcommand};
-ghost use Rattle.ticketc_line.specs.Asked.{Fits, named, named_with, plain_asked, plain_command};
+ghost use Rattle.ticketc_line.specs.Asked.{FitsRequest, named, named_with, plain_asked, plain_request};
 ghost use Rattle.ticketc_line.specs.Line.{IsLine, IsPart, asked_in, asked_in_rows, command_shape, plain_row, subcommand_wanted, ticketc, with_commands};
 
-use crate::command::{Command, LineFault};
+use crate::command::{Command, LineFault, Request};
 use crate::numbers::{processes, turns};
 use clap::error::ErrorKind;
 use clap::{Arg, ArgMatches, Command as Line};
@@ -14,9 +14,9 @@ use std::alloc::{AllocError, Global};
 pub fn asked<'a>(
     alloc: Global,
     words: &'a [String],
-) -> Result<Result<Command<&'a str>, LineFault>, AllocError>
+) -> Result<Result<Request<&'a str>, LineFault>, AllocError>
     ensures asked { IfOk result (λ r. plain_asked r ≡ asked_in (map string_bytes words.entry.now)) }
-    ensures fits { IfOk result (λ r. IfOk r (λ command. Fits (plain_command command))) }
+    ensures fits { IfOk result (λ r. IfOk r (λ request. FitsRequest (plain_request request))) }
 {
     match command_line(alloc)?.try_get_matches_from(words) {
         Ok(matches) => Ok(found(&matches)),
@@ -88,41 +88,41 @@ fn command<'a>(alloc: Global, name: &'a str, takes_text: bool) -> Result<Line<'a
     Ok(command)
 }
 
-fn found<'a>(matches: &ArgMatches<'a>) -> Result<Command<&'a str>, LineFault>
+fn found<'a>(matches: &ArgMatches<'a>) -> Result<Request<&'a str>, LineFault>
     ensures asked { plain_asked result ≡ asked_in_rows (subcommand_rows_of matches.now) }
-    ensures fits { IfOk result (λ command. Fits (plain_command command)) }
+    ensures fits { IfOk result (λ request. FitsRequest (plain_request request)) }
 {
     match matches.subcommand() {
-        Some((name, inner)) => command_named(name, inner.get_str("value")),
+        Some((name, inner)) => request_named(name, inner.get_str("value")),
         None => Err(LineFault::Usage),
     }
 }
 
-fn command_named<'a>(name: &str, text: Option<&'a str>) -> Result<Command<&'a str>, LineFault>
+fn request_named<'a>(name: &str, text: Option<&'a str>) -> Result<Request<&'a str>, LineFault>
     ensures asked { plain_asked result ≡ named name.now (option_map (λ t. t.now) text.entry) }
-    ensures fits { IfOk result (λ command. Fits (plain_command command)) }
+    ensures fits { IfOk result (λ request. FitsRequest (plain_request request)) }
 {
     match name {
-        "check" => Ok(Command::Check),
-        "emit" => Ok(Command::Emit),
+        "check" => Ok(Request::Alone(Command::Check)),
+        "emit" => Ok(Request::Alone(Command::Emit)),
         _ => match text {
-            Some(text) => command_with(name, text),
+            Some(text) => request_with(name, text),
             None => Err(LineFault::Usage),
         },
     }
 }
 
-fn command_with<'a>(name: &str, text: &'a str) -> Result<Command<&'a str>, LineFault>
+fn request_with<'a>(name: &str, text: &'a str) -> Result<Request<&'a str>, LineFault>
     ensures asked { plain_asked result ≡ named_with name.now text.entry.now }
-    ensures fits { IfOk result (λ command. Fits (plain_command command)) }
+    ensures fits { IfOk result (λ request. FitsRequest (plain_request request)) }
 {
     match name {
-        "order" => Ok(Command::Order(processes(text)?)),
-        "source" => Ok(Command::Source(text)),
-        "code" => Ok(Command::Code(text)),
-        "lift" => Ok(Command::Expand(text)),
-        "drop" => Ok(Command::Project(text)),
-        "run" => Ok(Command::Run(turns(text)?)),
+        "order" => Ok(Request::Alone(Command::Order(processes(text)?))),
+        "source" => Ok(Request::Alone(Command::Source(text))),
+        "code" => Ok(Request::Alone(Command::Code(text))),
+        "lift" => Ok(Request::Alone(Command::Expand(text))),
+        "drop" => Ok(Request::Alone(Command::Project(text))),
+        "run" => Ok(Request::Run(turns(text)?)),
         _ => Err(LineFault::Usage),
     }
 }

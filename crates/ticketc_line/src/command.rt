@@ -1,4 +1,13 @@
-/// What a command line asks for, with its number read; a schedule is the text of one.
+/// What a command line asks for, with its number read.
+#[derive(Drop)]
+pub enum Request<T> {
+    /// A command that no thread is started for.
+    Alone(Command<T>),
+    /// A run on threads of so many turns, at most 1,000,000,000.
+    Run(u64),
+}
+
+/// A command that is answered on the thread that asks; a schedule is the text of one.
 #[derive(Drop)]
 pub enum Command<T> {
     /// For so many processes, 1 to 6.
@@ -13,8 +22,6 @@ pub enum Command<T> {
     Expand(T),
     /// The command `drop`: the schedule of a program that this one of its code stands for.
     Project(T),
-    /// A run on threads of so many turns, at most 1,000,000,000.
-    Run(u64),
 }
 
 /// Why a command line is refused.

@@ -12,5 +12,5 @@ mod laws;
 mod numbers;
 
 pub use asking::asked;
-pub use command::{Command, LineFault};
+pub use command::{Command, LineFault, Request};
 pub use laws::{law_bare_commands, law_commands_with_text, law_other_lines};

@@ -5,8 +5,9 @@ use std::sync::Wait;
 use std::test::Fail;
 use std::thread::Threads;
 use tests_shared::holds;
+use tick_merge::OneRun;
 use tick_run::OnThreads;
-use ticketc_answers::{EngineFault, engine};
+use ticketc_answers::{EngineFault, Heard, engine, run_engine};
 
 pub const USAGE: &str =
     "usage: ticketc order N | check | emit | source S | code S | lift S | drop S | run TURNS\n";
@@ -36,7 +37,21 @@ pub fn line(alloc: Global, words: &[&str]) -> Result<Vec<String>, AllocError> {
     Ok(line)
 }
 
-/// Serves the words over these ends.
+/// Serves the words over these ends, as the program does: a run on threads is made by `one`.
+pub fn status_of<O: OneRun>(
+    alloc: Global,
+    one: O,
+    words: &[String],
+    reader: &mut Input<'_>,
+    writer: &mut Output,
+) -> Result<u8, EngineFault> {
+    match engine(alloc, words, reader, writer)? {
+        Heard::Served(status) => Ok(status),
+        Heard::Run(turns) => run_engine(alloc, one, turns, reader, writer),
+    }
+}
+
+/// The same with threads.
 pub fn served<R: AllocGlobal + Threads + Wait>(
     rt: &R,
     words: &[&str],
@@ -44,7 +59,7 @@ pub fn served<R: AllocGlobal + Threads + Wait>(
     mut writer: Output,
 ) -> Result<LineOutcome, Fail> {
     let line = line(rt.alloc(), words)?;
-    let status = engine(
+    let status = status_of(
         rt.alloc(),
         OnThreads::new(rt),
         line.as_slice(),

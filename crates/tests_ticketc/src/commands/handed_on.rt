@@ -1,5 +1,5 @@
 //! A run that is handed on where there are no threads.
-use crate::commands::answering::line;
+use crate::commands::answering::{line, status_of};
 use crate::commands::in_memory::{Disturbance, Input, Output};
 use base::RunOutcome;
 use code_core::Code;
@@ -7,7 +7,7 @@ use std::alloc::Global;
 use std::test::Fail;
 use tests_shared::holds;
 use tick_merge::{OneRun, RunFault};
-use ticketc_answers::{EngineFault, engine};
+use ticketc_answers::EngineFault;
 
 const COUNT: &[u8] = b"processes 1; var x; begin while (x < 2) { x = (x + 1); } out x; end";
 
@@ -40,7 +40,7 @@ fn handed_on(alloc: Global, words: &[&str]) -> Result<HandedOn, Fail> {
     let line = line(alloc, words)?;
     let mut turns = None;
     let one = Unthreaded { turns: &mut turns };
-    let status = engine(alloc, one, line.as_slice(), &mut reader, &mut writer);
+    let status = status_of(alloc, one, line.as_slice(), &mut reader, &mut writer);
     Ok(HandedOn {
         status,
         turns,

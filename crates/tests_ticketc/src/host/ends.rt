@@ -7,7 +7,7 @@ use std::sync::Wait;
 use std::test::Fail;
 use std::thread::Threads;
 use tick_run::OnThreads;
-use ticketc_answers::ended;
+use ticketc_answers::{Heard, ended, run_ended};
 use ticketc_io::HostEnd;
 
 /// One call that fails, the first being 1.
@@ -134,13 +134,13 @@ pub fn ending_of<A: AllocGlobal + Threads + Wait>(
 ) -> ProgramOutcome {
     let mut reader = HostEnd::new(&mut input);
     let mut writer = HostEnd::new(&mut output);
-    let status = ended(
-        rt.alloc(),
-        OnThreads::new(rt),
-        words,
-        &mut reader,
-        &mut writer,
-    );
+    let status = match ended(rt.alloc(), words, &mut reader, &mut writer) {
+        Heard::Served(status) => status,
+        Heard::Run(turns) => {
+            let one = OnThreads::new(rt);
+            run_ended(rt.alloc(), one, turns, &mut reader, &mut writer)
+        }
+    };
     ProgramOutcome {
         status,
         reads: input.calls,

@@ -1,6 +1,6 @@
 -- When responses, and what stops a command, are what the definitions say.
 use Rattle.std.specs.Prelude.{◌≡◌, ℕ, Bool, true, List, Result, Ok, Err, string_bytes}
-use Rattle.ticketc_line.specs.Asked.{PlainCommand}
+use Rattle.ticketc_line.specs.Asked.{PlainRequest}
 use Rattle.ticketc_answers.specs.Answer.{Answer, refused, too_long}
 use Rattle.ticketc_answers.specs.Commands.{InputAnswers, is_run}
 use Rattle.ticketc_answers.specs.declared.fault.EngineFault.{EngineFault}
@@ -26,9 +26,9 @@ IsUnanswered run fault.Memory = Unit {0}
 IsUnanswered run fault.Thread = run ≡ true
 IsUnanswered run other = ⊥
 
-abbrev pub IsAnswered : PlainCommand → List ℕ → Result StatusText EngineFault → Type 0
-IsAnswered command input (Ok response) = IsResponse (InputAnswers command input) response
-IsAnswered command input (Err fault) = IsUnanswered (is_run command) fault
+abbrev pub IsAnswered : PlainRequest → List ℕ → Result StatusText EngineFault → Type 0
+IsAnswered request input (Ok response) = IsResponse (InputAnswers request input) response
+IsAnswered request input (Err fault) = IsUnanswered (is_run request) fault
 
 -- the response to what stops a command
 abbrev pub SaysStop : StatusText → Stop → Type 0

@@ -1,25 +1,22 @@
 use Rattle.ticketc_answers.proofs.answer.text_answer.Goals as goal
 
 pub returns-in-Order : goal.returns-in-Order
-returns-in-Order g c = rw c.in-Order.is c.order_text.ensures
+returns-in-Order c = rw c.in-Order.is c.order_text.ensures
 
 pub returns-in-Check : goal.returns-in-Check
-returns-in-Check g c = rw c.in-Check.is c.check_text.ensures
+returns-in-Check c = rw c.in-Check.is c.check_text.ensures
 
 pub returns-in-Emit : goal.returns-in-Emit
-returns-in-Emit g c = rw c.in-Emit.is c.emit_text.ensures
+returns-in-Emit c = rw c.in-Emit.is c.emit_text.ensures
 
 pub returns-in-Source : goal.returns-in-Source
-returns-in-Source g c = rw c.in-Source.is c.source_text.ensures
+returns-in-Source c = rw c.in-Source.is c.source_text.ensures
 
 pub returns-in-Code : goal.returns-in-Code
-returns-in-Code g c = rw c.in-Code.is c.code_report.ensures
+returns-in-Code c = rw c.in-Code.is c.code_report.ensures
 
 pub returns-in-Expand : goal.returns-in-Expand
-returns-in-Expand g c = rw c.in-Expand.is c.carried_text.ensures
+returns-in-Expand c = rw c.in-Expand.is c.carried_text.ensures
 
 pub returns-in-Project : goal.returns-in-Project
-returns-in-Project g c = rw c.in-Project.is c.carried_text-in-Project.ensures
-
-pub returns-in-Run : goal.returns-in-Run
-returns-in-Run g c = rw c.in-Run.is c.run_text.ensures
+returns-in-Project c = rw c.in-Project.is c.carried_text-in-Project.ensures

@@ -1,13 +1,14 @@
-use Rattle.std.proofs.Common.{Err, ap, arith, refl, ◌∙◌}
+use Rattle.std.proofs.Common.{Err, arith, refl, subst, sym}
+use Rattle.ticketc_answers.specs.Commands.{asks_run}
+use Rattle.ticketc_answers.specs.Ended.{asked_by}
+use Rattle.ticketc_answers.specs.prover.Responses.{IsUnanswered}
+use Rattle.ticketc_answers.proofs.Exits.{ended_of}
 use Rattle.ticketc_answers.proofs.ServingLemmas.{takes_none, unanswered}
-use Rattle.ticketc_answers.specs.Exit.{exit_of}
-use Rattle.ticketc_answers.specs.declared.fault.EngineFault.{EngineFault}
-use Rattle.ticketc_answers.specs.declared.fault.EngineFault.TheVariants.{Memory}
 use Rattle.ticketc_answers.proofs.whole.ended.Goals as goal
 
 pub returns-in-Err-words_of : goal.returns-in-Err-words_of
-returns-in-Err-words_of g c = rw c.in-Ok.is (record {
-  outcome = Err Memory;
-  serves = unanswered _ _ _ _ _ _ _ (λ _. refl) (takes_none _) (omega arith) Memory tt _ refl;
-  status_is = c.exit_code-in-Err-words_of.ensures ∙ ap (λ (fault : EngineFault). exit_of (Err fault)) c.in-Err-words_of.ensures.err;
-})
+returns-in-Err-words_of g c =
+    let memory = subst (IsUnanswered (asks_run (asked_by c.in-Ok.given))) (sym c.in-Err-words_of.ensures.err) tt in
+    rw c.in-Ok.is (ended_of c.in-Ok.given _ _ _ _ _ _ _ _ (Err c.in-Err-words_of.fault) _
+    (unanswered (asked_by c.in-Ok.given) g.R.ByteSource.remaining g.R.ByteSource.counts g.W.ByteSink.written g.W.ByteSink.counts c.args.reader.now c.args.reader.now
+    (λ _. refl) (takes_none _) (omega arith) c.in-Err-words_of.fault memory _ refl) c.exits-in-Err-words_of.ensures)

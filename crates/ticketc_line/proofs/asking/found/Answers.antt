@@ -7,6 +7,6 @@ use Rattle.ticketc_line.proofs.asking.found.Goals as goal
 
 pub returns-in-Some-clause-asked : goal.returns-in-Some-clause-asked
 returns-in-Some-clause-asked c =
-    c.command_named.ensures.asked
+    c.request_named.ensures.asked
     ∙ ap (named c.in-Some.name.now) (c.get_str.ensures ∙ first_value-rows (found_of c.in-Some.inner.now) (codes "value"))
     ∙ named-rows _ _ _ c.in-Some.ensures.name c.in-Some.ensures.rows
