@@ -19,6 +19,8 @@ MADE = (["Vec", "::", "new"], ["String", "::", "new"], ["Vec", "::", "with_capac
 # What grows to just a size, what is never dropped, and what has no end.
 NEVER = {"reserve_exact", "try_reserve_exact", "shrink_to", "shrink_to_fit", "forget", "leak", "into_raw", "ManuallyDrop"}
 NEVER |= {"repeat_with", "repeat_n", "from_fn", "successors"}
+# What makes a number of turns far larger than what it is given.
+TURNED = re.compile("_mul|pow|wrapping_|rotate_|swap_bytes|reverse_bits|to_bits")
 MOST = 255
 
 # What grows in a loop though it isn't answered: why it stays small.
@@ -87,16 +89,16 @@ NO_NUMBER = {"alloc", "rt"}
 
 
 def named(words):
-    """The names of values among some words, each with what stands behind it."""
+    """The names of values among some words, each with what stands before it and behind."""
     for at, word in enumerate(words):
         before, behind = words[at - 1] if at else "", words[at + 1] if at + 1 < len(words) else ""
         if word.isidentifier() and not word[0].isupper() and word not in KEYWORDS | TYPES | NO_NUMBER:
             if before not in (".", "::", "'") and behind not in ("(", "!", "::"):
-                yield word, behind
+                yield word, before, behind
 
 
 def names(words):
-    return {word for word, _ in named(words)}
+    return {word for word, _, _ in named(words)}
 
 
 def number(word):
@@ -168,7 +170,7 @@ class Body:
                 begin = at
         inside = {place for at, _, closes in self.loops for place in range(at, closes)}
         spans.append([word for at, word in enumerate(self.words) if begin <= at and at not in inside])
-        return {name for span in spans for name, behind in named(span) if behind != "."}
+        return {name for span in spans for name, before, behind in named(span) if before not in ("&", "mut") and behind != "."}
 
     def root(self, at):
         """The name at which the place begins whose call stands here, as `a` of `a.b[c].push`; none of a type's call."""
@@ -223,7 +225,8 @@ def endless(body):
         expanded, ends = body.expanded(head, known), parts(head, ("..", "..="))
         is_given = names(head) - body.fixed or len(ends) == 2 and all(map(body.is_number, ends))
         pairs = list(zip(["", *expanded], expanded))
-        has_product = any("_mul" in word or "pow" in word or pair == ("<", "<") or is_product(*pair) for pair in pairs for word in pair)
+        has_product = any(TURNED.search(word) or pair == ("<", "<") or is_product(*pair) for pair in pairs for word in pair)
+        has_product |= words[at] != "while" and "!" in expanded
         if not is_given or has_product or body.has_large(expanded + body.expanded(whole, body.fixed)):
             yield at
 
