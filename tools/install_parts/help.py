@@ -2,8 +2,11 @@
 
 ticklab has a help of several sections, and one for each command. ticketc has a line: `usage: ticketc order N | check`.
 """
+import os
 import re
+import shutil
 import subprocess
+import tempfile
 
 USAGE = re.compile(r"usage: (\S+) (.*)\n")
 COMMAND = re.compile(r"  (\S+)  +(\S.*)")
@@ -11,6 +14,10 @@ ARGUMENT = re.compile(r"  ([<\[])([^>\]]+)[>\]](\.\.\.)?(?:  +(\S.*))?")
 # (a value in `[` and `]` may be left out; a word behind the option that begins with no `-` is taken for it all the same)
 OPTION = re.compile(r"  (?:(-\w)(?:, )?|    )(--[\w-]+)?((?: \[?<[^>]+>\]?)*)(?:  +(\S.*))?")
 STATUS = re.compile(r"(?:: |; )(\d+) ")
+
+
+# (below the help of a command, and among those below the whole help)
+EXAMPLE = re.compile(r"^(?:Example: |  )(?=ticklab )(.*)$", re.MULTILINE)
 
 
 class BadHelp(Exception):
@@ -117,3 +124,42 @@ def program(name, path):
     if usage:
         return of_usage(name, usage[2])
     return of_sections(name, text, lambda command: said(path, "help", command))
+
+
+def helps(path):
+    """The whole help of ticklab, and that of each command by its name."""
+    whole = said(path, "--help")
+    names = [it[1] for it in matched(COMMAND, sections(whole).get("Commands", [])) if it[1] != "help"]
+    return whole, {name: said(path, name, "--help") for name in names}
+
+
+def wrong_examples(path, program, change=lambda text: text):
+    """How many commands ticklab has, and what is told of the examples in their help, which `change` may plant a fault in:
+    each shows one of its own, the whole help shows all of them, and each ends as it has to of this program."""
+    whole, own = helps(path)
+    of_each = {name: EXAMPLE.findall(change(text)) for name, text in own.items()}
+    wrong = [f"help of {name}: its example is none of it: {found}" for name, found in of_each.items()
+             if [it.split()[1] for it in found] != [name]]
+    if EXAMPLE.findall(whole) != [it for found in of_each.values() for it in found]:
+        wrong.append("the whole help has other examples than those of the commands")
+    with tempfile.TemporaryDirectory() as folder:
+        os.mkdir(f"{folder}/programs")
+        for name in ("lock.tick", "programs/lock.tick"):
+            shutil.copy(program, f"{folder}/{name}")
+        ran = [(it, *run_in(folder, path, it)) for found in of_each.values() for it in found]
+    # (after the steps of the example both processes run, and the cycle has steps of one)
+    return len(own), wrong + [f"help: {it}: status {status}, {bytes_written} bytes" for it, status, bytes_written in ran
+                              if status != (1 if " lasso " in it else 0) or not bytes_written]
+
+
+def run_in(folder, path, line):
+    """The status of a command of ticklab in a folder, and how many bytes it writes there or shows."""
+    before = size_of(folder)
+    environment = {**os.environ, "PATH": f"{os.path.dirname(path)}:{os.environ['PATH']}"}
+    ran = subprocess.run(["bash", "-c", line], cwd=folder, env=environment, stdin=subprocess.DEVNULL,
+                         stdout=subprocess.PIPE, stderr=subprocess.DEVNULL)
+    return ran.returncode, len(ran.stdout) + size_of(folder) - before
+
+
+def size_of(folder):
+    return sum(os.path.getsize(f"{folder}/{name}") for name in os.listdir(folder))
