@@ -96,7 +96,8 @@ def is_ending(graph, asked, who, status, output):
         return False
     schedule, lead_in, *_ = found
     if not stuck:
-        return not lead_in
+        # (no way to the loop is shorter)
+        return not lead_in and len(schedule) == graph.depth[graph.led(schedule)]
     return graph.led(schedule) in stuck and len(schedule) == min(graph.depth[state] for state in stuck)
 
 

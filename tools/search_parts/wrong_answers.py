@@ -94,6 +94,7 @@ CASES = (
     ("another is told than was asked for", with_output("process 0", "process 1")),
     ("a way to where none ends lacks its last step", with_way(lambda way, *rest: (way[:-1], *rest))),
     ("a way to where none ends is of other processes", with_way(lambda way, *rest: ([it ^ 1 for it in way], *rest))),
+    ("a way to a loop is a detour round it", with_way(lambda way, on, cycle, quiet: (way if on else way + cycle, on, cycle, quiet))),
     ("what repeats lacks its last step", with_way(lambda way, on, cycle, quiet: (way, on, cycle[:-1], quiet))),
     ("what repeats is of one process", with_way(lambda way, on, cycle, quiet: (way, on, cycle[:1] * 20, quiet))),
     ("what writes is told not to", with_way(lambda way, on, cycle, quiet: (way, on, cycle, True))),
