@@ -40,15 +40,20 @@ def closing(kinds):
     return lambda: [os.close(number) for number in numbers]
 
 
-def run(path, words, given, out="kept", err="kept", reads=None):
-    """Runs a program over ends of these kinds; its input is a file, or closed where `reads` says so."""
+def run(path, words, given, out="kept", err="kept", reads=None, has_rights=True):
+    """Runs a program over ends of these kinds; its input is a file, or closed where `reads` says so. Root has all rights: then
+    nobody runs it in root's place, if it can be run so, else nothing came."""
+    other = {} if has_rights or os.geteuid() else {"user": 65534, "group": 65534, "extra_groups": []}
     with tempfile.TemporaryFile() as source, ENDS[out]() as to, ENDS[err]() as tells:
         source.write(given)
         source.seek(0)
-        ran = subprocess.run(
-            [path, *words], stdin=source, stdout=to, stderr=tells, timeout=PATIENCE, check=False,
-            preexec_fn=closing((reads, out, err)),
-        )
+        try:
+            ran = subprocess.run(
+                [path, *words], stdin=source, stdout=to, stderr=tells, timeout=PATIENCE, check=False,
+                preexec_fn=closing((reads, out, err)), **other,
+            )
+        except PermissionError:
+            return None
         return Came(ran.returncode, held(to, out), held(tells, err))
 
 
