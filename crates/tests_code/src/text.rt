@@ -3,6 +3,7 @@
 //! Start with the file that is named by what you look for; `answers` has what they share.
 
 mod answers;
+mod debug;
 mod large;
 mod reading;
 mod round_trip;
