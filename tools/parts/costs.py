@@ -26,6 +26,7 @@ MOST = 255
 # What grows in a loop though it isn't answered: why it stays small.
 HELD = {
     "crates/code_text/src/reading.rt": {"line"},  # of one line: it is cleared before each
+    "crates/searches_fairness/src/fixed_point.rt": {"steps"},  # a loop and what leads into it: all is answered
     "crates/searches_fairness/src/round_robin.rt": {"steps"},  # a round of the processes for each place; part is answered
     "crates/searches_hunt/src/vain.rt": {"all"},  # an entry for each process
 }
@@ -75,7 +76,7 @@ RECURSIONS = {
     "crates/tick_syntax/src/printer.rt": (BRACKETS, "push_expression", "push_statement push_braces push_block"),
     "crates/tick_syntax/src/terminals.rt": (OTHERS, "text", ""),
     "crates/ticklab/src/checking.rt": (THREADS, "side_by_side", ""),
-    "crates/ticklab_answers/src/commands/ends/wording.rt": (PROCESSES, "push_marked push_numbers", ""),
+    "crates/ticklab_verdicts/src/ends/wording.rt": (PROCESSES, "push_marked push_numbers", ""),
     "crates/ticklab_explain/src/condition.rt": (OTHERS, "holds", ""),
     "crates/ticklab_explain/src/hint.rt": (OTHERS, "span", ""),
     "crates/ticklab_trace/src/heads.rt": (BRACKETS, "past_expression", "add_block add"),

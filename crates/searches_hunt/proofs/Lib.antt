@@ -2,8 +2,6 @@ mod Runs
 mod Left
 mod Drawings
 mod Replayed
-mod Told
-mod Unlined
 mod Chained
 mod Joined
 mod Ordered

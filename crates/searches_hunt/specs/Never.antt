@@ -9,8 +9,6 @@ use Rattle.searches_explore.specs.Explored.{has_trapped}
 use Rattle.searches_explore.specs.Lines.{is_fault}
 use Rattle.searches_explore.specs.Never.{IsBroken}
 pub use Rattle.searches_explore.specs.Needed.{IsFaultless, NeedsAll}
-use Rattle.searches_hunt.specs.declared.never_answer.NeverHunted.{NeverHunted}
-use Rattle.searches_hunt.specs.declared.never_answer.NeverHunted.TheVariants.{Trapped, Broken, Nothing}
 use Rattle.searches_hunt.specs.declared.plan.Plan.{Plan}
 use Rattle.searches_hunt.specs.Draws.{random_schedule}
 
@@ -53,22 +51,3 @@ module _ (a : WholeProgram ℕ) (lines : List Formula) where
   -- what is told of the runs: that none has one, or the first that has
   abbrev pub TellsFirst : Plan → ℕ → Option ℕ → Type 0
   TellsFirst plan from told = MatchOption told (NoRunFaults plan from) (IsFirstFault plan from)
-
--- a statement about the answer, for each kind of answer
-abbrev pub IfTrapped : NeverHunted → (List ℕ → Type 0) → Type 0
-IfTrapped (Trapped run schedule) P = P schedule.items
-IfTrapped _ P = Unit {0}
-
-abbrev pub IfBroken : NeverHunted → (List ℕ → ℕ → Valued → Type 0) → Type 0
-IfBroken (Broken run schedule line v) P = P schedule.items line v
-IfBroken _ P = Unit {0}
-
--- where either of these is found
-abbrev pub IfFault : NeverHunted → (ℕ → List ℕ → Type 0) → Type 0
-IfFault (Trapped run schedule) P = P run schedule.items
-IfFault (Broken run schedule line v) P = P run schedule.items
-IfFault Nothing P = Unit {0}
-
-abbrev pub IfNothing : NeverHunted → Type 0 → Type 0
-IfNothing Nothing P = P
-IfNothing _ P = Unit {0}

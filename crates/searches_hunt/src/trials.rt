@@ -1,4 +1,4 @@
-ghost use Rattle.std.specs.Prelude.{IfOk};
+ghost use Rattle.std.specs.Prelude.{◌≡◌, ℕ, IfOk, max, min};
 ghost use Rattle.tick_kinds.specs.Resolution.{resolved};
 ghost use Rattle.searches_explore.specs.Lines.{lines_of};
 ghost use Rattle.searches_hunt.specs.Never.{TellsFirst};
@@ -20,8 +20,12 @@ pub struct Sought<'a> {
 
 /// Tries runs of a plan. Each run stands alone, so it doesn't matter in which order they are tried.
 pub trait Trials: Drop + Sized {
+    // How many runs it tries at once at most.
+    ghost at_once: { Self → ℕ };
+
     /// The same, that tries at most so many runs at once; 0 counts as 1.
-    fn with_jobs(&self, jobs: u32) -> Self;
+    fn with_jobs(&self, jobs: u32) -> Self
+        ensures { Self.at_once result ≡ min (max 1 jobs) (Self.at_once self.now) };
 
     /// The first run of the plan, from this one on, under which a process traps or a line is broken.
     fn first_fault(&self, sought: Sought, plan: Plan, from: u32) -> Result<Option<u32>, NoMemory>
@@ -33,6 +37,8 @@ pub trait Trials: Drop + Sized {
 pub struct InTurn;
 
 impl Trials for InTurn {
+    ghost at_once = { λ in_turn. 1 };
+
     fn with_jobs(&self, _jobs: u32) -> InTurn {
         InTurn
     }

@@ -1,7 +1,7 @@
 //! `searches_parallel` tries the runs of a random hunt side by side, on threads.
 //!
 //! However many threads work, `OnProcessors` finds the run that `InTurn` of `searches_hunt` finds: the first with a
-//! fault. Hand it to `hunt_by`.
+//! fault. Hand it to `hunt`.
 //! Start with `OnProcessors`; `sharing` shares the runs of a round among threads.
 #![tactic(auto)]
 

@@ -1,4 +1,4 @@
-ghost use Rattle.std.specs.Prelude.{◌≤◌};
+ghost use Rattle.std.specs.Prelude.{◌≤◌, max};
 
 use crate::sharing::side_by_side;
 use searches_hunt::{NoMemory, Plan, Sought, Trials};
@@ -19,7 +19,9 @@ pub struct OnProcessors<'a, R> {
 
 impl<'a, R: Threads> OnProcessors<'a, R> {
     /// Tries runs on as many threads as `processors` tells.
-    pub fn new(rt: &'a R) -> OnProcessors<'a, R> {
+    pub fn new(rt: &'a R) -> OnProcessors<'a, R>
+        ensures { result.jobs ≤ 64 }
+    {
         OnProcessors {
             rt,
             jobs: processors(rt),
@@ -38,6 +40,8 @@ pub fn processors<R: Threads>(rt: &R) -> u8
 }
 
 impl<'a, R: Threads> Trials for OnProcessors<'a, R> {
+    ghost at_once = { λ trials. max 1 trials.jobs };
+
     fn with_jobs(&self, jobs: u32) -> OnProcessors<'a, R> {
         OnProcessors {
             rt: self.rt,

@@ -1,5 +1,5 @@
 //! The steps of runs on threads are noted, and merged to a schedule of the code. Under this schedule the code
-//! has the same outcome. Its report is that of the program under the schedule that `project`
+//! has the same outcome. Its report is that of the program under the schedule that `drop`
 //! makes.
 
 ghost use Rattle.std.specs.Prelude.{◌≡◌, ◌<◌, All};
@@ -21,7 +21,7 @@ use tick_lower::lower;
 use tick_merge::{Shared, merge};
 use tick_play::{play_code, play_source, read_schedule, write_schedule};
 use tick_run::RunOutcome;
-use tick_sim::project;
+use tick_sim::drop;
 
 const SEED: u64 = 20_261_123;
 
@@ -54,7 +54,7 @@ fn has_report(alloc: Global, program: &Program, code: &Code, steps: &[u8]) -> Re
     requires code { code.now ≡ record { sizes = lowered_sizes (resolved program.now); instructions = lowered (resolved program.now) } }
     requires processes { All (λ p. p < (resolved program.now).processes) steps.now }
 {
-    let kept = project(alloc, program, code, steps)?;
+    let kept = drop(alloc, program, code, steps)?;
     let of_code = play_code(alloc, code, steps)?;
     is_same(&of_code, &play_source(alloc, program, &kept)?)
 }

@@ -6,10 +6,12 @@ use std::alloc::Global;
 use std::str;
 use std::test::Fail;
 use tests_shared::is_same;
-use ticklab_answers::AnswerFault::NoMemory;
-use ticklab_answers::LabFault::Answer;
-use ticklab_answers::{Form, LabFault, Progress, Response, explored, labelled};
+use ticklab_answers::labelled;
+use ticklab_files::AnswerFault::NoMemory;
+use ticklab_files::LabFault::Answer;
+use ticklab_files::{Form, LabFault, Response};
 use ticklab_line::Steps;
+use ticklab_verdicts::{Progress, explored};
 
 pub type Answered = Result<Response, LabFault>;
 

@@ -6,8 +6,9 @@ use std::alloc::{AllocError, Global};
 use std::str;
 use std::test::Fail;
 use tests_shared::{holds, is_same};
-use ticklab_answers::{Response, Telling, told};
+use ticklab_files::Response;
 use ticklab_line::{AskedRun, Drawing, Side};
+use ticklab_runs::{Telling, told};
 
 static SCHEDULE: &str = "1 0*4 1";
 

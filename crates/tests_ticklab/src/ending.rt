@@ -12,8 +12,10 @@ use std::process::ExitCode;
 use std::test::Fail;
 use tests_shared::holds;
 use tick_merge::{RunFault, Runner};
-use ticklab_answers::{Colours, Files, Host, Progress, ended};
+use ticklab_answers::{Colours, Host, ended};
 use ticklab_check::Stopwatch;
+use ticklab_files::Files;
+use ticklab_verdicts::Progress;
 
 static FILES: [(&str, &[u8]); 8] = [
     ("out", b"processes 1; begin out 7; end"),
@@ -51,6 +53,8 @@ impl Files for Shelf {
     ghost ReadsInput = { λ _ _ _ _. Unit {0} };
 
     ghost Lists = { λ _ _ _ _. Unit {0} };
+
+    ghost Fails = { λ _ _ _ _. Unit {0} };
 
     fn file(&mut self, alloc: Global, name: &str, most: u64) -> io::Result<Vec<u8>> {
         self.files = self.files.saturating_add(1);

@@ -2,7 +2,7 @@
 use std::alloc::Global;
 use std::io;
 use std::io::{Error, ErrorKind};
-use ticklab_answers::Files;
+use ticklab_files::Files;
 
 /// One file. There is no other, and no standard input.
 #[derive(Drop)]
@@ -17,6 +17,8 @@ impl<'a> Files for OneFile<'a> {
     ghost ReadsInput = { λ _ _ _ _. Unit {0} };
 
     ghost Lists = { λ _ _ _ _. Unit {0} };
+
+    ghost Fails = { λ _ _ _ _. Unit {0} };
 
     fn file(&mut self, alloc: Global, name: &str, most: u64) -> io::Result<Vec<u8>> {
         if name != self.name {

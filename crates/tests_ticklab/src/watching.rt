@@ -4,8 +4,8 @@ use searches_explore::{Limits, Watch};
 use std::alloc::Global;
 use std::test::Fail;
 use tests_shared::{counting, is_same};
-use ticklab_answers::Progress;
 use ticklab_line::Steps;
+use ticklab_verdicts::Progress;
 
 /// Which searches began, and of the last of them what was told last, how often, and whether more each time.
 #[derive(Drop)]

@@ -16,8 +16,8 @@ use Rattle.tick_merge.specs.Local.{outputs_of}
 use Rattle.tick_merge.specs.Ran.{run_under, events_by}
 use Rattle.tick_lower.specs.Lowered.{lowered, lowered_sizes}
 use Rattle.tick_sim.specs.Laws.{seen, seen_of_code}
-use Rattle.tick_sim.specs.Maps.{down}
-use Rattle.tick_sim.proofs.Offered.{down_law}
+use Rattle.tick_sim.specs.Maps.{dropped}
+use Rattle.tick_sim.proofs.Offered.{drop_law}
 use Rattle.tick_merge.specs.Runs.{EndsAs, IsWholeRun}
 use Rattle.threads_source.specs.Shown.{status_of, ShowsOutcome}
 use Rattle.threads_source.specs.Laws.{code_of, ThreadedSourceLaw}
@@ -34,8 +34,8 @@ ends_by TurnsSpent c q count turns given outs ends = ends.0
 ends_by OutputsFull c q count turns given outs ends = gives_running q.status (slice_get c.instructions q.place) ends.2
 
 module _ (a : WholeProgram ℕ) (turns outs : ℕ) (o : RunObservables) (run : IsWholeRun (code_of a) turns outs o) where
-  same : seen_of_code a run.schedule ≡ seen a (down (lowered_sizes a) (lowered a) run.schedule)
-  same = down_law a run.schedule
+  same : seen_of_code a run.schedule ≡ seen a (dropped (lowered_sizes a) (lowered a) run.schedule)
+  same = drop_law a run.schedule
 
   -- each output list has its end, and each end its outputs
   end_there : (p : ℕ) (given : List ℕ) → slice_get o.outputs p ≡ Some given → slice_get o.ends p ≡ Some (get_or o.ends p Ended)
@@ -46,7 +46,7 @@ module _ (a : WholeProgram ℕ) (turns outs : ℕ) (o : RunObservables) (run : I
   outputs_there p end at =
       slice_get-get_or o.outputs p [] (omega (arith, slice_get_within o.ends p end at, run.all_outputs, run.all_ends))
 
-  shows : ShowsOutcome a (down (lowered_sizes a) (lowered a) run.schedule) o
+  shows : ShowsOutcome a (dropped (lowered_sizes a) (lowered a) run.schedule) o
   shows = record {
     all_outputs = run.all_outputs;
     all_ends = run.all_ends;

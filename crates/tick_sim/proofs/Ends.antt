@@ -18,16 +18,16 @@ use Rattle.tick_source.specs.Source.{SourceProcess, SourceState}
 use Rattle.code_machine.specs.Machine as C
 use Rattle.code_machine.specs.Machine.{CodeProcess, CodeState}
 use Rattle.tick_lower.specs.Lowered.{lowered, lowered_sizes}
-use Rattle.tick_sim.specs.Maps.{down_from, down, up}
+use Rattle.tick_sim.specs.Maps.{dropped_from, dropped, lifted}
 use Rattle.tick_sim.specs.Properties.{code_state_after}
 use Rattle.tick_sim.specs.Ends.{have_stopped, statuses, code_statuses, EndAlike, EndsLaw}
 use Rattle.tick_sim.proofs.Match.{Between, IsInside, Matches, inside}
 use Rattle.tick_sim.proofs.Pairs.{first_at, first_none}
 use Rattle.tick_sim.proofs.States.{MatchStates, seen_same, match_weaker, stopped_source, runs_or_not}
-use Rattle.tick_sim.proofs.Down as D
-use Rattle.tick_sim.proofs.Down.{AnyMatch, AllMatch, between_any, any_status, down_runs, down_matches}
-use Rattle.tick_sim.proofs.Up.{run_append, Others, AloneStep, ends_step, has_less, has_lost, alone_step, solo, up_matches}
-use Rattle.tick_sim.proofs.Maps.{down_lawful}
+use Rattle.tick_sim.proofs.Dropped as D
+use Rattle.tick_sim.proofs.Dropped.{AnyMatch, AllMatch, between_any, any_status, dropped_runs, dropped_matches}
+use Rattle.tick_sim.proofs.Lifted.{run_append, Others, AloneStep, ends_step, has_less, has_lost, alone_step, solo, lifted_matches}
+use Rattle.tick_sim.proofs.Maps.{dropped_lawful}
 
 source_append : (n : ℕ) (t u : List ℕ) (s : SourceState) → S.source_run n (t ++ u) s ≡ S.source_run n u (S.source_run n t s)
 source_append n [] u s = refl
@@ -131,10 +131,10 @@ module _ (a : WholeProgram ℕ) (schedule steps : List ℕ)
   program_too : (next : List ℕ) × All P next × (statuses a (schedule ++ next) ≡ code_statuses a (steps ++ more))
   program_too =
       let d : CodeState = code_state_after a steps in
-      let next : List ℕ = down_from n code more d in (
+      let next : List ℕ = dropped_from n code more d in (
         next,
-        down_lawful n code P more d lawful,
-        same_statuses next more (down_runs n code more (S.source a schedule) d all),
+        dropped_lawful n code P more d lawful,
+        same_statuses next more (dropped_runs n code more (S.source a schedule) d all),
       )
 
   -- and what more the program does the code
@@ -167,22 +167,22 @@ matching_end_alike a asked schedule steps all = record {
   );
 }
 
-down_end_alike : (a : WholeProgram ℕ) (asked : ℕ → Bool) (steps : List ℕ) → EndAlike a asked (down (lowered_sizes a) (lowered a) steps) steps
-down_end_alike a asked steps = matching_end_alike a asked (down (lowered_sizes a) (lowered a) steps) steps (down_matches a steps)
+dropped_end_alike : (a : WholeProgram ℕ) (asked : ℕ → Bool) (steps : List ℕ) → EndAlike a asked (dropped (lowered_sizes a) (lowered a) steps) steps
+dropped_end_alike a asked steps = matching_end_alike a asked (dropped (lowered_sizes a) (lowered a) steps) steps (dropped_matches a steps)
 
-up_end_alike : (a : WholeProgram ℕ) (asked : ℕ → Bool) (schedule : List ℕ) → EndAlike a asked schedule (up (lowered_sizes a) (lowered a) schedule)
-up_end_alike a asked schedule =
-    let steps : List ℕ = up (lowered_sizes a) (lowered a) schedule in
+lifted_end_alike : (a : WholeProgram ℕ) (asked : ℕ → Bool) (schedule : List ℕ) → EndAlike a asked schedule (lifted (lowered_sizes a) (lowered a) schedule)
+lifted_end_alike a asked schedule =
+    let steps : List ℕ = lifted (lowered_sizes a) (lowered a) schedule in
     matching_end_alike a asked schedule steps
     (match_weaker a.processes (λ p. Between a.processes (lowered a)) (AnyMatch a.processes (lowered a)) (S.source a schedule)
-    (code_state_after a steps) (between_any a.processes (lowered a)) (up_matches a schedule))
+    (code_state_after a steps) (between_any a.processes (lowered a)) (lifted_matches a schedule))
 
 pub ends_law : EndsLaw
 ends_law = record {
-  down = down_end_alike;
-  up = up_end_alike;
+  dropped = dropped_end_alike;
+  lifted = lifted_end_alike;
   always = λ a asked. (
-    λ always steps. (down_end_alike a asked steps).can.0 (always (down (lowered_sizes a) (lowered a) steps)),
-    λ always schedule. (up_end_alike a asked schedule).can.1 (always (up (lowered_sizes a) (lowered a) schedule)),
+    λ always steps. (dropped_end_alike a asked steps).can.0 (always (dropped (lowered_sizes a) (lowered a) steps)),
+    λ always schedule. (lifted_end_alike a asked schedule).can.1 (always (lifted (lowered_sizes a) (lowered a) schedule)),
   );
 }

@@ -1,8 +1,8 @@
 -- Small programs beside their codes: what they show, and which schedules stand for each other.
 --
 -- Each lemma is one case, computed: both sides come to the same, by `refl`. `seen` is what a program shows,
--- and `seen_of_code` what its code shows. `down` makes a schedule of the program from one of the code, and
--- `up` the other way. For all programs and schedules the laws are proved in `Down.antt` and `Up.antt`.
+-- and `seen_of_code` what its code shows. `dropped` makes a schedule of the program from one of the code, and
+-- `lifted` the other way. For all programs and schedules the laws are proved in `Dropped.antt` and `Lifted.antt`.
 -- The cases are those that are difficult for the maps: an exchange that is lost (`lost`), a process that
 -- has stopped (`counts_past`), a trap inside an expression (`trapped_below`), and labels that come back while a
 -- stamp is on its way (`back`, `went_around`).
@@ -24,7 +24,7 @@ use Rattle.tick_source.specs.Source.{source_start, source_run, statuses_of}
 use Rattle.code_machine.specs.Machine.{CodeState, run_of}
 use Rattle.tick_lower.specs.Lowered.{lowered, lowered_sizes}
 use Rattle.tick_lower.proofs.Offered.{program, stamps_and_compares, gives_up, counts_to_two}
-use Rattle.tick_sim.specs.Maps.{steps_to_commit, down, up_from, up}
+use Rattle.tick_sim.specs.Maps.{steps_to_commit, dropped, lifted_from, lifted}
 use Rattle.tick_sim.specs.Laws.{seen, seen_of_code, running}
 use Rattle.tick_sim.specs.Ends.{have_stopped, statuses, code_statuses, CanEnd, IsStuck}
 
@@ -37,13 +37,13 @@ ranks a b c = A.Scan (a ∷ b ∷ c ∷ 0 ∷ 0 ∷ 0 ∷ [])
 -- The code shows this under these steps, which stand for a schedule of the program, which shows the same.
 record StandsFor (a : WholeProgram ℕ) (steps schedule : List ℕ) (shown : Observables) : Type 0 where
   code : seen_of_code a steps ≡ shown
-  down_to : down (lowered_sizes a) (lowered a) steps ≡ schedule
+  dropped_to : dropped (lowered_sizes a) (lowered a) steps ≡ schedule
   source : seen a schedule ≡ shown
 
 -- The program shows this under a schedule, through which these steps of its code lead, which shows the same.
 record LedThrough (a : WholeProgram ℕ) (schedule steps : List ℕ) (shown : Observables) : Type 0 where
   source : seen a schedule ≡ shown
-  up_to : up (lowered_sizes a) (lowered a) schedule ≡ steps
+  lifted_to : lifted (lowered_sizes a) (lowered a) schedule ≡ steps
   code : seen_of_code a steps ≡ shown
 
 -- a stamp, a scan, a comparison and an output, of one process and then of the other
@@ -61,7 +61,7 @@ both_whole = record {
 
 -- ten instructions each
 its_run : LedThrough stamps_and_compares one_after_the_other (replicate 10 0 ++ replicate 10 1) both_whole
-its_run = record { source = refl; up_to = refl; code = refl }
+its_run = record { source = refl; lifted_to = refl; code = refl }
 
 -- the first exchange of process 1 is lost, its second is won
 abbrev lost_once : List ℕ
@@ -71,21 +71,21 @@ abbrev two_stamps : Observables
 two_stamps = record { events = by 0 A.Stamp ∷ by 1 A.Stamp ∷ []; rows = []; statuses = Running ∷ Running ∷ [] }
 
 lost : StandsFor stamps_and_compares lost_once (0 ∷ 1 ∷ []) two_stamps
-lost = record { code = refl; down_to = refl; source = refl }
+lost = record { code = refl; dropped_to = refl; source = refl }
 
 -- a loop that counts to two
 abbrev counted : Observables
 counted = record { events = by 0 (A.Out 2) ∷ by 0 A.End ∷ []; rows = []; statuses = Ended ∷ [] }
 
 counts : LedThrough counts_to_two (replicate 7 0) (replicate 25 0) counted
-counts = record { source = refl; up_to = refl; code = refl }
+counts = record { source = refl; lifted_to = refl; code = refl }
 
 -- tests, which nobody sees, are steps of the program
-counts_down : down (lowered_sizes counts_to_two) (lowered counts_to_two) (replicate 30 0) ≡ replicate 7 0
+counts_down : dropped (lowered_sizes counts_to_two) (lowered counts_to_two) (replicate 30 0) ≡ replicate 7 0
 counts_down = refl
 
 -- nothing stands for a step of a process that has stopped, or that there is not
-counts_past : up (lowered_sizes counts_to_two) (lowered counts_to_two) (replicate 9 0 ++ 3 ∷ []) ≡ replicate 25 0
+counts_past : lifted (lowered_sizes counts_to_two) (lowered counts_to_two) (replicate 9 0 ++ 3 ∷ []) ≡ replicate 25 0
 counts_past = refl
 
 counts_kept : running counts_to_two (replicate 9 0 ++ 3 ∷ []) ≡ replicate 7 0
@@ -99,7 +99,7 @@ abbrev below : Observables
 below = record { events = by 1 (A.Trap T.Below) ∷ []; rows = []; statuses = Running ∷ Trapped T.Below ∷ [] }
 
 trapped_below : StandsFor goes_below (0 ∷ replicate 6 1) (1 ∷ []) below
-trapped_below = record { code = refl; down_to = refl; source = refl }
+trapped_below = record { code = refl; dropped_to = refl; source = refl }
 
 -- Process 0 loads its labels, six stamps of the others bring the same labels back, and its exchange
 -- is won.
@@ -130,7 +130,7 @@ abbrev back_steps : List ℕ
 back_steps = replicate 2 0 ++ replicate 2 1 ++ replicate 2 2 ++ 1 ∷ 2 ∷ 1 ∷ 2 ∷ 1 ∷ 2 ∷ 1 ∷ 0 ∷ 0 ∷ []
 
 back : StandsFor stamps_and_scans (until_back ++ replicate 2 0) back_steps came_back
-back = record { code = refl; down_to = refl; source = refl }
+back = record { code = refl; dropped_to = refl; source = refl }
 
 -- a ticket is given up; before that the other process is found without one, and after it process 0 itself
 abbrev given_up : Observables
@@ -143,7 +143,7 @@ given_up = record {
 }
 
 gave_up : LedThrough gives_up (replicate 9 0) (replicate 15 0) given_up
-gave_up = record { source = refl; up_to = refl; code = refl }
+gave_up = record { source = refl; lifted_to = refl; code = refl }
 
 -- Process 1 loads the labels; process 0 gives its ticket up and takes one again, which brings the same labels
 -- back; and the exchange of process 1 is won.
@@ -157,7 +157,7 @@ abbrev taken_again : Observables
 taken_again = record { events = by 0 A.Stamp ∷ by 0 A.Clear ∷ by 0 A.Stamp ∷ by 1 A.Stamp ∷ []; rows = []; statuses = Running ∷ Running ∷ [] }
 
 went_around : StandsFor stamps_and_clears around (0 ∷ 0 ∷ 1 ∷ 0 ∷ 0 ∷ 0 ∷ 1 ∷ []) taken_again
-went_around = record { code = refl; down_to = refl; source = refl }
+went_around = record { code = refl; dropped_to = refl; source = refl }
 
 -- what `have_stopped` says of a program after a schedule, and of its code after one
 record StopsAs (a : WholeProgram ℕ) (asked : ℕ → Bool) (schedule steps : List ℕ) (stopped : Bool) : Type 0 where
@@ -208,14 +208,14 @@ never_ends : IsStuck 1 every (statuses turns) []
 never_ends more = ap (λ s. have_stopped every 1 (statuses_of s)) (turns_on more)
 
 -- Process 1 has loaded labels that process 0 has changed since. It loses its exchange, and so its next step takes more
--- instructions than the code has: begun here, `up` finds no end of it.
+-- instructions than the code has: begun here, `lifted` finds no end of it.
 abbrev one_stamp : WholeProgram ℕ
 one_stamp = program 2 [] [] [] (cons stamp nil)
 
 abbrev changed_since : CodeState
 changed_since = run_of (lowered_sizes one_stamp) (lowered one_stamp) (1 ∷ 0 ∷ 0 ∷ 0 ∷ [])
 
-finds_none : up_from 2 (lowered one_stamp) (1 ∷ []) changed_since ≡ []
+finds_none : lifted_from 2 (lowered one_stamp) (1 ∷ []) changed_since ≡ []
 finds_none = refl
 
 takes_five : steps_to_commit 2 (lowered one_stamp) 1 5 changed_since ≡ Some 5

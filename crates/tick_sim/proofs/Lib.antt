@@ -8,8 +8,8 @@ mod Pairs
 mod States
 mod SeenAlike
 mod Start
-mod Down
-mod Up
+mod Dropped
+mod Lifted
 mod Round
 mod Ends
 mod PropertyValues

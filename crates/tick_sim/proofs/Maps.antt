@@ -1,7 +1,7 @@
 -- The two maps item by item, as the code makes them: `down_more` and `up_more`, with `all_done` at the end.
 --
 -- Both loops keep the same invariant: what was made so far, with what the map makes of the rest, is the
--- whole. One item more unrolls the definition once (`next_item`); at the end the whole is made (`made`). For `up` an inner loop makes the steps of one item:
+-- whole. One item more unrolls the definition once (`next_item`); at the end the whole is made (`made`). For `lifted` an inner loop makes the steps of one item:
 -- `leads_on` says where each of them leads, one that ends none of the program (`goes_on`) and the one that does.
 -- The difficulty is that this inner loop has to come to such a step within the length of the code. It does
 -- where all processes stand between two steps of the program (`running_commits`). After each item they stand
@@ -23,12 +23,12 @@ use Rattle.tick_source.specs.Source.{SourceState, source_step}
 use Rattle.tick_lower.specs.Lowered.{lowered, lowered_sizes}
 use Rattle.code_machine.specs.Machine as C
 use Rattle.code_machine.specs.Machine.{CodeState}
-use Rattle.tick_sim.specs.Maps.{is_commit, one_more, steps_to_commit, repeated, steps_of, down_from, down, up_from, up}
+use Rattle.tick_sim.specs.Maps.{is_commit, one_more, steps_to_commit, repeated, steps_of, dropped_from, dropped, lifted_from, lifted}
 use Rattle.tick_sim.specs.Laws.{seen, seen_of_code}
 use Rattle.tick_sim.proofs.Pairs.{first_at}
 use Rattle.tick_sim.proofs.States.{AllBetween}
-use Rattle.tick_sim.proofs.Up.{steps_by, never_commits, EndsWithin, running_ends, between_status, moves, stays, turn, up_law}
-use Rattle.tick_sim.proofs.Down.{down_law}
+use Rattle.tick_sim.proofs.Lifted.{steps_by, never_commits, EndsWithin, running_ends, between_status, moves, stays, turn, lift_law}
+use Rattle.tick_sim.proofs.Dropped.{drop_law}
 use Rattle.tick_sim.proofs.Reached.{told_part, ends_stopped}
 
 -- where the whole schedule is done nothing more is added
@@ -90,27 +90,27 @@ module _ (from : ℕ → List Instr → List ℕ → CodeState → List ℕ) (no
 
 module _ (n : ℕ) (code : List Instr) where
   -- what is kept of a lawful schedule is lawful
-  pub down_lawful : (P : ℕ → Type 0) (schedule : List ℕ) (d : CodeState) → All P schedule
-      → All P (down_from n code schedule d)
-  down_lawful P [] d all = All-nil P
-  down_lawful P (p ∷ schedule) d all =
-      let later = down_lawful P schedule (C.code_step n code p d) (λ k x inside. all (suc k) x (omega arith)) in
+  pub dropped_lawful : (P : ℕ → Type 0) (schedule : List ℕ) (d : CodeState) → All P schedule
+      → All P (dropped_from n code schedule d)
+  dropped_lawful P [] d all = All-nil P
+  dropped_lawful P (p ∷ schedule) d all =
+      let later = dropped_lawful P schedule (C.code_step n code p d) (λ k x inside. all (suc k) x (omega arith)) in
       elim (is_commit n code p d) as (λ b. All P
-      (if b then p ∷ down_from n code schedule (C.code_step n code p d) else down_from n code schedule
+      (if b then p ∷ dropped_from n code schedule (C.code_step n code p d) else dropped_from n code schedule
       (C.code_step n code p d))) [
-        | true ↦ All-cons P p (down_from n code schedule (C.code_step n code p d)) (all 0 p (omega arith)) later
+        | true ↦ All-cons P p (dropped_from n code schedule (C.code_step n code p d)) (all 0 p (omega arith)) later
         | false ↦ later
       ]
 
   -- one item of a schedule of the code, whose step ended a step of the program, or none
-  pub down_more : (i : ℕ) (schedule steps steps' : List ℕ) (d d' : CodeState) (ends : Bool) (last : List ℕ) → i < length schedule
+  pub dropped_more : (i : ℕ) (schedule steps steps' : List ℕ) (d d' : CodeState) (ends : Bool) (last : List ℕ) → i < length schedule
       → ends ≡ is_commit n code (get_or schedule i 0) d → d' ≡ C.code_step n code (get_or schedule i 0) d
       → steps' ≡ (if ends then steps ++ get_or schedule i 0 ∷ [] else steps)
-      → steps ++ down_from n code (drop i schedule) d ≡ last → steps' ++ down_from n code (drop (i + 1) schedule) d' ≡ last
-  down_more i schedule steps steps' d d' ends last inside told step grown whole =
+      → steps ++ dropped_from n code (drop i schedule) d ≡ last → steps' ++ dropped_from n code (drop (i + 1) schedule) d' ≡ last
+  dropped_more i schedule steps steps' d d' ends last inside told step grown whole =
       let p : ℕ = get_or schedule i 0 in
-      let later : List ℕ = down_from n code (drop (suc i) schedule) (C.code_step n code p d) in
-      next_item (down_from n code) i schedule steps steps' d d' (C.code_step n code p d) last inside step
+      let later : List ℕ = dropped_from n code (drop (suc i) schedule) (C.code_step n code p d) in
+      next_item (dropped_from n code) i schedule steps steps' d d' (C.code_step n code p d) last inside step
       (ap (λ s. s ++ later) grown ∙ by p later ends ∙ ap (λ b. steps ++ (if b then p ∷ later else later)) told) whole
     where
       by : (p : ℕ) (later : List ℕ) (b : Bool) → (if b then steps ++ p ∷ [] else steps) ++ later ≡ steps ++ (if b then p ∷ later else later)
@@ -118,27 +118,27 @@ module _ (n : ℕ) (code : List Instr) where
       by p later false = refl
 
   -- one item of a schedule of the program
-  pub up_more : (i : ℕ) (schedule steps steps' : List ℕ) (d d' : CodeState) (last : List ℕ) → i < length schedule
+  pub lifted_more : (i : ℕ) (schedule steps steps' : List ℕ) (d d' : CodeState) (last : List ℕ) → i < length schedule
       → d' ≡ C.code_run n code (steps_of n code (get_or schedule i 0) d) d
       → steps' ≡ steps ++ steps_of n code (get_or schedule i 0) d
-      → steps ++ up_from n code (drop i schedule) d ≡ last → steps' ++ up_from n code (drop (i + 1) schedule) d' ≡ last
-  up_more i schedule steps steps' d d' last inside run grown whole =
+      → steps ++ lifted_from n code (drop i schedule) d ≡ last → steps' ++ lifted_from n code (drop (i + 1) schedule) d' ≡ last
+  lifted_more i schedule steps steps' d d' last inside run grown whole =
       let more : List ℕ = steps_of n code (get_or schedule i 0) d in
-      let later : List ℕ = up_from n code (drop (suc i) schedule) (C.code_run n code more d) in
-      next_item (up_from n code) i schedule steps steps' d d' (C.code_run n code more d) last inside run
+      let later : List ℕ = lifted_from n code (drop (suc i) schedule) (C.code_run n code more d) in
+      next_item (lifted_from n code) i schedule steps steps' d d' (C.code_run n code more d) last inside run
       (ap (λ s. s ++ later) grown ∙ append_assoc steps more later) whole
 
   repeated_lawful : (P : ℕ → Type 0) (p : ℕ) (o : Option ℕ) → P p → All P (repeated p o)
   repeated_lawful P p None lawful = All-nil P
   repeated_lawful P p (Some k) lawful = All-replicate P k p lawful
 
-  pub up_lawful : (P : ℕ → Type 0) (schedule : List ℕ) (d : CodeState) → All P schedule
-      → All P (up_from n code schedule d)
-  up_lawful P [] d all = All-nil P
-  up_lawful P (p ∷ schedule) d all =
-      All-append P (steps_of n code p d) (up_from n code schedule (C.code_run n code (steps_of n code p d) d))
+  pub lifted_lawful : (P : ℕ → Type 0) (schedule : List ℕ) (d : CodeState) → All P schedule
+      → All P (lifted_from n code schedule d)
+  lifted_lawful P [] d all = All-nil P
+  lifted_lawful P (p ∷ schedule) d all =
+      All-append P (steps_of n code p d) (lifted_from n code schedule (C.code_run n code (steps_of n code p d) d))
       (repeated_lawful P p (steps_to_commit n code p (length code) d) (all 0 p (omega arith)))
-      (up_lawful P schedule (C.code_run n code (steps_of n code p d) d) (λ k x inside. all (suc k) x (omega arith)))
+      (lifted_lawful P schedule (C.code_run n code (steps_of n code p d) d) (λ k x inside. all (suc k) x (omega arith)))
 
   -- where all stand between two steps a process that runs commits
   pub running_commits : (p : ℕ) (s : SourceState) (d : CodeState) → AllBetween n code s d
@@ -221,16 +221,16 @@ module _ (n : ℕ) (code : List Instr) where
             );
       }
 
--- what `expand` made of a whole schedule
+-- what `lift` made of a whole schedule
 pub expanded : (a : WholeProgram ℕ) (code : StepCode) (schedule steps : List ℕ) (d : CodeState) (i : ℕ) → code ≡ low_code a → All (λ p. p < a.processes) schedule
-    → length schedule ≤ i → i ≤ length schedule → steps ++ up_from code.sizes.processes code.instructions (drop i schedule) d ≡ up code.sizes code.instructions schedule
-    → IsMade a.processes (up code.sizes code.instructions schedule) steps (seen_of_code a) (seen a schedule)
+    → length schedule ≤ i → i ≤ length schedule → steps ++ lifted_from code.sizes.processes code.instructions (drop i schedule) d ≡ lifted code.sizes code.instructions schedule
+    → IsMade a.processes (lifted code.sizes code.instructions schedule) steps (seen_of_code a) (seen a schedule)
 expanded a code schedule steps d i same lawful =
-    made up_from (λ n code d. refl) (λ n code processes. up_lawful n code (λ p. p < processes)) (seen_of_code a) (seen a schedule) (low_code a) code schedule (sym (up_law a schedule)) same a.processes lawful i steps d
+    made lifted_from (λ n code d. refl) (λ n code processes. lifted_lawful n code (λ p. p < processes)) (seen_of_code a) (seen a schedule) (low_code a) code schedule (sym (lift_law a schedule)) same a.processes lawful i steps d
 
--- and what `project` made
+-- and what `drop` made
 pub projected : (a : WholeProgram ℕ) (code : StepCode) (schedule steps : List ℕ) (d : CodeState) (i : ℕ) → code ≡ low_code a → All (λ p. p < a.processes) schedule
-    → length schedule ≤ i → i ≤ length schedule → steps ++ down_from code.sizes.processes code.instructions (drop i schedule) d ≡ down code.sizes code.instructions schedule
-    → IsMade a.processes (down code.sizes code.instructions schedule) steps (seen a) (seen_of_code a schedule)
+    → length schedule ≤ i → i ≤ length schedule → steps ++ dropped_from code.sizes.processes code.instructions (drop i schedule) d ≡ dropped code.sizes code.instructions schedule
+    → IsMade a.processes (dropped code.sizes code.instructions schedule) steps (seen a) (seen_of_code a schedule)
 projected a code schedule steps d i same lawful =
-    made down_from (λ n code d. refl) (λ n code processes. down_lawful n code (λ p. p < processes)) (seen a) (seen_of_code a schedule) (low_code a) code schedule (sym (down_law a schedule)) same a.processes lawful i steps d
+    made dropped_from (λ n code d. refl) (λ n code processes. dropped_lawful n code (λ p. p < processes)) (seen a) (seen_of_code a schedule) (low_code a) code schedule (sym (drop_law a schedule)) same a.processes lawful i steps d

@@ -14,7 +14,7 @@ use Rattle.tick_sim.specs.Maps.{commit_as, commit_of, is_commit}
 use Rattle.tick_sim.specs.prover.Stepping.{IsReached}
 use Rattle.tick_sim.proofs.Match.{HasStopped}
 use Rattle.tick_sim.proofs.States.{stopped_step, runs_or_not}
-use Rattle.tick_sim.proofs.Up.{run_append}
+use Rattle.tick_sim.proofs.Lifted.{run_append}
 
 -- what a list of parts tells of the whole
 pub told_part : {X Y : Type 0} (f : X → Y) (xs : List X) (k : ℕ) (y : Y) → slice_get (map f xs) k ≡ Some y

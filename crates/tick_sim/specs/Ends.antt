@@ -4,7 +4,7 @@ use Rattle.base.specs.declared.status.Status.{Status}
 use Rattle.base.specs.declared.status.Status.TheVariants.{Running, Ended}
 use Rattle.base.specs.Plain.{WholeProgram}
 use Rattle.tick_lower.specs.Lowered.{lowered, lowered_sizes}
-use Rattle.tick_sim.specs.Maps.{down, up}
+use Rattle.tick_sim.specs.Maps.{dropped, lifted}
 use Rattle.tick_sim.specs.Laws.{seen, seen_of_code}
 
 abbrev pub is_stop : Status → Bool
@@ -47,7 +47,7 @@ pub record EndAlike (a : WholeProgram ℕ) (asked : ℕ → Bool) (schedule step
 -- It is so of each schedule of the code and the one that it stands for, and of each schedule of the program and the one
 -- that leads through it. So a program can always end exactly if its code can.
 pub record EndsLaw : Type 0 where
-  pub down : (a : WholeProgram ℕ) (asked : ℕ → Bool) (steps : List ℕ) → EndAlike a asked (down (lowered_sizes a) (lowered a) steps) steps
-  pub up : (a : WholeProgram ℕ) (asked : ℕ → Bool) (schedule : List ℕ) → EndAlike a asked schedule (up (lowered_sizes a) (lowered a) schedule)
+  pub dropped : (a : WholeProgram ℕ) (asked : ℕ → Bool) (steps : List ℕ) → EndAlike a asked (dropped (lowered_sizes a) (lowered a) steps) steps
+  pub lifted : (a : WholeProgram ℕ) (asked : ℕ → Bool) (schedule : List ℕ) → EndAlike a asked schedule (lifted (lowered_sizes a) (lowered a) schedule)
   pub always : (a : WholeProgram ℕ) (asked : ℕ → Bool)
       → CanAlwaysEnd a.processes asked (statuses a) ↔ CanAlwaysEnd a.processes asked (code_statuses a)

@@ -8,7 +8,7 @@ use Rattle.tick_source.specs.Source as S
 use Rattle.tick_source.specs.Source.{SourceProcess, SourceState}
 use Rattle.code_machine.specs.Machine as C
 use Rattle.tick_lower.specs.Lowered.{lowered, lowered_sizes}
-use Rattle.tick_sim.specs.Maps.{down, up}
+use Rattle.tick_sim.specs.Maps.{dropped, lifted}
 
 -- what others see of a program under a schedule
 abbrev pub seen : WholeProgram ℕ → List ℕ → Observables
@@ -19,12 +19,12 @@ abbrev pub seen_of_code : WholeProgram ℕ → List ℕ → Observables
 seen_of_code a schedule = C.observables (C.run_of (lowered_sizes a) (lowered a) schedule)
 
 -- Under every schedule the code shows what the program shows under the one that it stands for.
-abbrev pub DownLaw : Type 0
-DownLaw = (a : WholeProgram ℕ) (schedule : List ℕ) → seen_of_code a schedule ≡ seen a (down (lowered_sizes a) (lowered a) schedule)
+abbrev pub DropLaw : Type 0
+DropLaw = (a : WholeProgram ℕ) (schedule : List ℕ) → seen_of_code a schedule ≡ seen a (dropped (lowered_sizes a) (lowered a) schedule)
 
 -- Whatever a program shows under a schedule, its code shows under the schedule that leads through it.
-abbrev pub UpLaw : Type 0
-UpLaw = (a : WholeProgram ℕ) (schedule : List ℕ) → seen a schedule ≡ seen_of_code a (up (lowered_sizes a) (lowered a) schedule)
+abbrev pub LiftLaw : Type 0
+LiftLaw = (a : WholeProgram ℕ) (schedule : List ℕ) → seen a schedule ≡ seen_of_code a (lifted (lowered_sizes a) (lowered a) schedule)
 
 abbrev pub kept_as : ℕ → Status → List ℕ → List ℕ
 kept_as p Running later = p ∷ later
@@ -46,8 +46,8 @@ running a schedule = running_from a.processes schedule (S.source_start a)
 -- A schedule of the program that leads through its code stands for itself, without the items at which
 -- the process had stopped; and it is not longer than so many times the code.
 pub record IsRound (a : WholeProgram ℕ) (schedule : List ℕ) : Type 0 where
-  pub back : down (lowered_sizes a) (lowered a) (up (lowered_sizes a) (lowered a) schedule) ≡ running a schedule
-  pub few : length (up (lowered_sizes a) (lowered a) schedule) ≤ length schedule * length (lowered a)
+  pub back : dropped (lowered_sizes a) (lowered a) (lifted (lowered_sizes a) (lowered a) schedule) ≡ running a schedule
+  pub few : length (lifted (lowered_sizes a) (lowered a) schedule) ≤ length schedule * length (lowered a)
 
 abbrev pub RoundLaw : Type 0
 RoundLaw = (a : WholeProgram ℕ) (schedule : List ℕ) → IsRound a schedule

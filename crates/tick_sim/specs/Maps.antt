@@ -43,15 +43,15 @@ abbrev pub is_commit : ℕ → List Instr → ℕ → CodeState → Bool
 is_commit n code p s = commit_of n code p s (slice_get s.processes p)
 
 -- the schedule without each item whose step ends none, where the code goes on from this state
-abbrev pub down_from : ℕ → List Instr → List ℕ → CodeState → List ℕ
-down_from n code [] s = []
-down_from n code (p ∷ schedule) s =
-    let later = down_from n code schedule (code_step n code p s) in
+abbrev pub dropped_from : ℕ → List Instr → List ℕ → CodeState → List ℕ
+dropped_from n code [] s = []
+dropped_from n code (p ∷ schedule) s =
+    let later = dropped_from n code schedule (code_step n code p s) in
     if is_commit n code p s then p ∷ later else later
 
 -- the schedule of the program that a schedule of its code stands for
-abbrev pub down : CodeSizes → List Instr → List ℕ → List ℕ
-down sizes code schedule = down_from sizes.processes code schedule (code_start sizes)
+abbrev pub dropped : CodeSizes → List Instr → List ℕ → List ℕ
+dropped sizes code schedule = dropped_from sizes.processes code schedule (code_start sizes)
 
 abbrev pub one_more : Option ℕ → Option ℕ
 one_more None = None
@@ -72,12 +72,12 @@ repeated p (Some k) = replicate k p
 abbrev pub steps_of : ℕ → List Instr → ℕ → CodeState → List ℕ
 steps_of n code p s = repeated p (steps_to_commit n code p (length code) s)
 
-abbrev pub up_from : ℕ → List Instr → List ℕ → CodeState → List ℕ
-up_from n code [] s = []
-up_from n code (p ∷ schedule) s =
+abbrev pub lifted_from : ℕ → List Instr → List ℕ → CodeState → List ℕ
+lifted_from n code [] s = []
+lifted_from n code (p ∷ schedule) s =
     let steps = steps_of n code p s in
-    steps ++ up_from n code schedule (code_run n code steps s)
+    steps ++ lifted_from n code schedule (code_run n code steps s)
 
 -- the schedule of the code of a program that leads through the steps of a schedule of the program
-abbrev pub up : CodeSizes → List Instr → List ℕ → List ℕ
-up sizes code schedule = up_from sizes.processes code schedule (code_start sizes)
+abbrev pub lifted : CodeSizes → List Instr → List ℕ → List ℕ
+lifted sizes code schedule = lifted_from sizes.processes code schedule (code_start sizes)

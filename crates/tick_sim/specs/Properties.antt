@@ -10,7 +10,7 @@ use Rattle.language_properties.specs.Seen.{seen_of}
 use Rattle.language_properties.specs.Values.{SeenState, Valued, value}
 use Rattle.code_machine.specs.Machine.{CodeState, run_of, statuses_of}
 use Rattle.tick_lower.specs.Lowered.{lowered, lowered_sizes}
-use Rattle.tick_sim.specs.Maps.{down, up}
+use Rattle.tick_sim.specs.Maps.{dropped, lifted}
 
 -- what all can see of a code's state
 abbrev pub seen_by_labels : CodeState → SeenState
@@ -38,7 +38,7 @@ module _ (a : WholeProgram ℕ) (processes : List ℕ) (e : Formula) where
 -- stands for; and after every schedule of the program the value that it has in the code after the one that leads through
 -- it.
 pub record PropertiesLaw : Type 0 where
-  pub down : (a : WholeProgram ℕ) (processes : List ℕ) (e : Formula) (schedule : List ℕ)
-      → code_value_after a processes e schedule ≡ value_after a processes e (down (lowered_sizes a) (lowered a) schedule)
-  pub up : (a : WholeProgram ℕ) (processes : List ℕ) (e : Formula) (schedule : List ℕ)
-      → value_after a processes e schedule ≡ code_value_after a processes e (up (lowered_sizes a) (lowered a) schedule)
+  pub dropped : (a : WholeProgram ℕ) (processes : List ℕ) (e : Formula) (schedule : List ℕ)
+      → code_value_after a processes e schedule ≡ value_after a processes e (dropped (lowered_sizes a) (lowered a) schedule)
+  pub lifted : (a : WholeProgram ℕ) (processes : List ℕ) (e : Formula) (schedule : List ℕ)
+      → value_after a processes e schedule ≡ code_value_after a processes e (lifted (lowered_sizes a) (lowered a) schedule)

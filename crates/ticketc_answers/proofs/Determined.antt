@@ -5,7 +5,7 @@ use Rattle.ticketc_refusals.specs.Refusals.{IsNoText, too_long, unread_code, unr
 use Rattle.ticketc_refusals.specs.declared.refusal.Refusal.TheVariants.{Text}
 use Rattle.ticketc_refusals.proofs.Offered.{IsDecided, begins_or_not}
 use Rattle.ticketc_line.specs.Asked.{Asked, PlainCommand, PlainRequest}
-use Rattle.ticketc_line.specs.declared.command.Command.TheVariants.{Order, Check, Emit, Source, Code, Expand, Project}
+use Rattle.ticketc_line.specs.declared.command.Command.TheVariants.{Order, Check, Emit, Source, Code, Lift, Drop}
 use Rattle.ticketc_line.specs.declared.command.Request.TheVariants.{Alone, Run}
 use Rattle.ticketc_answers.specs.Answer.{Answer, refused}
 use Rattle.ticketc_answers.specs.Codes.{IsNoCode, IsNotLowered, code_answer, emit_answer, no_code, no_program, not_lowered}
@@ -14,7 +14,7 @@ use Rattle.ticketc_answers.specs.Inputs.{Answered, Is, gives_up, takes}
 use Rattle.ticketc_answers.specs.Maps.{carried_answer}
 use Rattle.ticketc_answers.specs.Order.{order_answer}
 use Rattle.ticketc_answers.specs.Programs.{check_answer, source_answer}
-use Rattle.ticketc_answers.specs.declared.maps.Way.TheVariants.{Up, Down}
+use Rattle.ticketc_answers.specs.declared.maps.Way.TheVariants.{Lift, Drop}
 use Rattle.ticketc_answers.proofs.Decided.{codings, lowerings, programs, texts}
 
 -- there is one, and no other
@@ -47,8 +47,8 @@ by_command Check input = determined _ _ (programs input) check_answer
 by_command Emit input = determined _ _ (lowerings input) emit_answer
 by_command (Source schedule) input = determined _ _ (programs input) (source_answer schedule)
 by_command (Code schedule) input = determined _ _ (codings input) (code_answer schedule)
-by_command (Expand schedule) input = determined _ _ (lowerings input) (carried_answer Up schedule)
-by_command (Project schedule) input = determined _ _ (lowerings input) (carried_answer Down schedule)
+by_command (Lift schedule) input = determined _ _ (lowerings input) (carried_answer Lift schedule)
+by_command (Drop schedule) input = determined _ _ (lowerings input) (carried_answer Drop schedule)
 
 pub answers_determined : (asked : Asked) (input : List ℕ) → asks_run asked ≡ false → IsDetermined (Answers asked input)
 answers_determined (Ok (Alone command)) input single = by_command command input
@@ -90,9 +90,9 @@ both_too_long (Alone (Source schedule)) read all long longer a is =
     as_other _ _ _ _ _ long_answer a (programs read) (Text TextTooLong, unread_program (no_text read long), refl) (Text TextTooLong, unread_program (no_text all longer), refl) is
 both_too_long (Alone (Code schedule)) read all long longer a is =
     as_other _ _ _ _ _ long_answer a (codings read) (no_code_long read long) (no_code_long all longer) is
-both_too_long (Alone (Expand schedule)) read all long longer a is =
+both_too_long (Alone (Lift schedule)) read all long longer a is =
     as_other _ _ _ _ _ long_answer a (lowerings read) (not_lowered_long read long) (not_lowered_long all longer) is
-both_too_long (Alone (Project schedule)) read all long longer a is =
+both_too_long (Alone (Drop schedule)) read all long longer a is =
     as_other _ _ _ _ _ long_answer a (lowerings read) (not_lowered_long read long) (not_lowered_long all longer) is
 both_too_long (Run turns) read all long longer a is =
     as_other _ _ _ _ _ long_answer a (codings read) (no_code_long read long) (no_code_long all longer) is

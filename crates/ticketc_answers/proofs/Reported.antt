@@ -3,7 +3,7 @@
 --
 -- Only what is done has status 0. So an answer of status 0 comes from an accepted program, whose code is not
 -- too long, and from a schedule that spells steps (`scheduling`). For these steps the two laws of the
--- simulation give the same report (`same_down`, `same_up`).
+-- simulation give the same report (`same_dropped`, `same_lifted`).
 -- The difficulty is that the steps are printed and read again. They read back as the same steps if each is of
 -- a process that there is and they are at most 10,000,000 (`kept_reads_back`, `led_reads_back`). `drop` makes
 -- no more steps than it reads. `lift` may make more, so there the number is a premise.
@@ -21,12 +21,12 @@ use Rattle.tick_kinds.specs.Accepted.{IsAccepted}
 use Rattle.tick_kinds.specs.Resolution.{resolved}
 use Rattle.tick_lower.specs.Lowered.{lowered, lowered_sizes}
 use Rattle.tick_play.specs.Report.{code_report, report, source_report}
-use Rattle.tick_sim.proofs.Offered.{down_law, up_law, down_lawful, down_short, up_lawful}
+use Rattle.tick_sim.proofs.Offered.{drop_law as run_drop_law, lift_law as run_lift_law, dropped_lawful, dropped_short, lifted_lawful}
 use Rattle.ticketc_refusals.specs.Refusals.{ProgramIn}
 use Rattle.ticketc_refusals.specs.declared.refusal.Refusal.{Refusal}
 use Rattle.ticketc_refusals.specs.declared.refusal.Refusal.TheVariants.{Schedule}
 use Rattle.ticketc_refusals.proofs.Offered.{program_begins_otherwise}
-use Rattle.ticketc_line.specs.declared.command.Command.TheVariants.{Source, Code, Project}
+use Rattle.ticketc_line.specs.declared.command.Command.TheVariants.{Source, Code, Drop}
 use Rattle.ticketc_answers.specs.Answer.{Answer, done, refused, scheduled}
 use Rattle.ticketc_answers.specs.Codes.{IsCodeOf, IsLowered, IsNoCode, IsNotLowered, code_answer, code_of, is_code, is_lowered, long_code, no_code, no_program, not_lowered}
 use Rattle.ticketc_answers.specs.Commands.{CommandAnswers}
@@ -34,7 +34,7 @@ use Rattle.ticketc_answers.specs.Inputs.{Refuses, gives_up, takes}
 use Rattle.ticketc_answers.specs.Laws.{DropLaw, LiftLaw}
 use Rattle.ticketc_answers.specs.Maps.{carried, carried_answer, schedule_line}
 use Rattle.ticketc_answers.specs.Programs.{source_answer}
-use Rattle.ticketc_answers.specs.declared.maps.Way.TheVariants.{Up, Down}
+use Rattle.ticketc_answers.specs.declared.maps.Way.TheVariants.{Lift, Drop}
 use Rattle.ticketc_answers.proofs.Decided.{one_program_in}
 
 -- Only what is done has status 0.
@@ -63,11 +63,11 @@ scheduling by (Err fault) a is zero = absurd (not_both a (status_one a (refused 
 
 -- the steps of the code that was run, as steps of the program
 abbrev pub kept : WholeProgram Name → List ℕ → List ℕ
-kept p steps = carried Down (code_of p) steps
+kept p steps = carried Drop (code_of p) steps
 
 -- and the other way round
 abbrev pub led : WholeProgram Name → List ℕ → List ℕ
-led p steps = carried Up (code_of p) steps
+led p steps = carried Lift (code_of p) steps
 
 module _ (p : WholeProgram Name) (fine : IsAccepted p) where
   abbrev below : ℕ → Type 0
@@ -79,21 +79,21 @@ module _ (p : WholeProgram Name) (fine : IsAccepted p) where
   kept_reads_back : (text steps : List ℕ) → schedule_of p.processes text ≡ Ok steps → schedule_of p.processes (schedule_text (kept p steps)) ≡ Ok (kept p steps)
   kept_reads_back text steps read =
       written_reads_back p.processes (kept p steps) few
-      (down_lawful p.processes (lowered (resolved p)) below steps (code_start (lowered_sizes (resolved p))) (schedule_of-below p.processes text steps read))
-      (omega (arith, down_short p.processes (lowered (resolved p)) steps (code_start (lowered_sizes (resolved p))), schedule_of-short p.processes text steps read))
+      (dropped_lawful p.processes (lowered (resolved p)) below steps (code_start (lowered_sizes (resolved p))) (schedule_of-below p.processes text steps read))
+      (omega (arith, dropped_short p.processes (lowered (resolved p)) steps (code_start (lowered_sizes (resolved p))), schedule_of-short p.processes text steps read))
 
   led_reads_back : (text steps : List ℕ) → schedule_of p.processes text ≡ Ok steps → length (led p steps) ≤ 10000000
       → schedule_of p.processes (schedule_text (led p steps)) ≡ Ok (led p steps)
   led_reads_back text steps read short =
       written_reads_back p.processes (led p steps) few
-      (up_lawful p.processes (lowered (resolved p)) below steps (code_start (lowered_sizes (resolved p))) (schedule_of-below p.processes text steps read))
+      (lifted_lawful p.processes (lowered (resolved p)) below steps (code_start (lowered_sizes (resolved p))) (schedule_of-below p.processes text steps read))
       short
 
-  same_down : (steps : List ℕ) → code_report (code_of p) steps ≡ source_report (resolved p) (kept p steps)
-  same_down steps = ap report (down_law (resolved p) steps)
+  same_dropped : (steps : List ℕ) → code_report (code_of p) steps ≡ source_report (resolved p) (kept p steps)
+  same_dropped steps = ap report (run_drop_law (resolved p) steps)
 
-  same_up : (steps : List ℕ) → source_report (resolved p) steps ≡ code_report (code_of p) (led p steps)
-  same_up steps = ap report (up_law (resolved p) steps)
+  same_lifted : (steps : List ℕ) → source_report (resolved p) steps ≡ code_report (code_of p) (led p steps)
+  same_lifted steps = ap report (run_lift_law (resolved p) steps)
 
 -- the code of a program, as the code that an input has
 as_code_of : (input : List ℕ) (p : WholeProgram Name) → ProgramIn input p → (c : StepCode) → IsLowered input c → IsCodeOf input c
@@ -101,7 +101,7 @@ as_code_of input p is c low = is_lowered (program_begins_otherwise input low.pro
 
 module _ (schedule input : List ℕ) where
   drop_lowered : (reported : Answer) (c : StepCode) → IsLowered input c → reported ≡ code_answer schedule c → reported.status ≡ 0
-      → (line : List ℕ) × CommandAnswers (Project schedule) input (done (line ++ line_end)) × CommandAnswers (Source line) input reported
+      → (line : List ℕ) × CommandAnswers (Drop schedule) input (done (line ++ line_end)) × CommandAnswers (Source line) input reported
   drop_lowered reported c low told zero =
       let p = low.program.program in
       let fine = low.program.accepted in
@@ -112,7 +112,7 @@ module _ (schedule input : List ℕ) where
         line,
         takes (code_of p) lowering (sym (ap (scheduled (λ these. schedule_line (kept p these))) run.1)),
         takes p (low.program, refl)
-            (run.2 ∙ ap done (same_down p fine steps)
+            (run.2 ∙ ap done (same_dropped p fine steps)
             ∙ sym (ap (scheduled (source_report (resolved p))) (kept_reads_back p fine schedule steps run.1))),
       )
 
@@ -130,7 +130,7 @@ module _ (schedule input : List ℕ) where
         led p steps,
         run.2,
         λ few. takes (code_of p) (as_code_of input p is (code_of p) lowering)
-            (told ∙ ap (scheduled (source_report (resolved p))) run.1 ∙ ap done (same_up p fine steps)
+            (told ∙ ap (scheduled (source_report (resolved p))) run.1 ∙ ap done (same_lifted p fine steps)
             ∙ sym (ap (scheduled (code_report (code_of p))) (led_reads_back p fine schedule steps run.1 few))),
       )
 
@@ -142,7 +142,7 @@ drop_law schedule input p reported is (gives_up h) zero = absurd (not_both repor
 pub lift_law : LiftLaw
 lift_law schedule input reported lifted (takes p is told) zero (takes c low carries) nought =
     let same : c ≡ code_of p = low.code ∙ sym (ap code_of (is.1 ∙ one_program_in input is.0 low.program)) in
-    let by : StepCode → Answer = carried_answer Up schedule in
+    let by : StepCode → Answer = carried_answer Lift schedule in
     lift_lowered schedule input reported lifted p is told c low nought (carries ∙ ap by same)
 lift_law schedule input reported lifted (takes p is told) zero (gives_up h) nought =
     absurd (not_both lifted (not_lowered_status input lifted h) nought)

@@ -1,7 +1,7 @@
 -- What the engine answers, by what the words ask for and by the input.
 use Rattle.std.specs.Prelude.{◌≡◌, ℕ, Bool, true, false, List, Ok, Err}
 use Rattle.ticketc_line.specs.Asked.{Asked, PlainCommand, PlainRequest}
-use Rattle.ticketc_line.specs.declared.command.Command.TheVariants.{Order, Check, Emit, Source, Code, Expand, Project}
+use Rattle.ticketc_line.specs.declared.command.Command.TheVariants.{Order, Check, Emit, Source, Code, Lift, Drop}
 use Rattle.ticketc_line.specs.declared.command.Request.TheVariants.{Alone, Run}
 use Rattle.ticketc_line.specs.declared.command.LineFault.{LineFault}
 use Rattle.ticketc_line.specs.declared.command.LineFault.TheVariants.{Usage, Processes}
@@ -12,7 +12,7 @@ use Rattle.ticketc_answers.specs.Maps.{carried_answer}
 use Rattle.ticketc_answers.specs.Order.{order_answer}
 use Rattle.ticketc_answers.specs.Programs.{check_answer, source_answer}
 use Rattle.ticketc_answers.specs.Runs.{IsOutcomeOf}
-use Rattle.ticketc_answers.specs.declared.maps.Way.TheVariants.{Up, Down}
+use Rattle.ticketc_answers.specs.declared.maps.Way.TheVariants.{Lift, Drop}
 
 -- what a command answers on an input
 abbrev pub CommandAnswers : PlainCommand → List ℕ → Answer → Type 0
@@ -21,8 +21,8 @@ CommandAnswers Check = OnProgram (Is check_answer)
 CommandAnswers Emit = OnLowered (Is emit_answer)
 CommandAnswers (Source schedule) = OnProgram (Is (source_answer schedule))
 CommandAnswers (Code schedule) = OnCode (Is (code_answer schedule))
-CommandAnswers (Expand schedule) = OnLowered (Is (carried_answer Up schedule))
-CommandAnswers (Project schedule) = OnLowered (Is (carried_answer Down schedule))
+CommandAnswers (Lift schedule) = OnLowered (Is (carried_answer Lift schedule))
+CommandAnswers (Drop schedule) = OnLowered (Is (carried_answer Drop schedule))
 
 -- the same of whatever is asked for
 abbrev pub InputAnswers : PlainRequest → List ℕ → Answer → Type 0

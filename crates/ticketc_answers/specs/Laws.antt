@@ -8,7 +8,7 @@ use Rattle.code_core.specs.Instructions.{StepCode}
 use Rattle.language_schedules.specs.Written.{schedule_text}
 use Rattle.tick_syntax.specs.RoundTrip.{IsTextOf}
 use Rattle.ticketc_line.specs.Asked.{Asked}
-use Rattle.ticketc_line.specs.declared.command.Command.TheVariants.{Source, Code, Expand, Project}
+use Rattle.ticketc_line.specs.declared.command.Command.TheVariants.{Source, Code, Lift, Drop}
 use Rattle.ticketc_line.specs.declared.command.Request.TheVariants.{Run}
 use Rattle.ticketc_answers.specs.Answer.{Answer, done}
 use Rattle.ticketc_answers.specs.Codes.{IsCodeOf}
@@ -47,13 +47,13 @@ RunProgramLaw =
 abbrev pub DropLaw : Type 0
 DropLaw = (schedule input : List ℕ) (p : WholeProgram Name) (reported : Answer) → IsTextOf input p
     → CommandAnswers (Code schedule) input reported → reported.status ≡ 0
-    → (line : List ℕ) × CommandAnswers (Project schedule) input (done (line ++ line_end)) × CommandAnswers (Source line) input reported
+    → (line : List ℕ) × CommandAnswers (Drop schedule) input (done (line ++ line_end)) × CommandAnswers (Source line) input reported
 
 -- Where `source` reports, and `lift` prints a line, that is of some steps; and `code` reports the same
 -- under it, where they are no more than a schedule can have.
 abbrev pub LiftLaw : Type 0
 LiftLaw = (schedule input : List ℕ) (reported lifted : Answer)
     → CommandAnswers (Source schedule) input reported → reported.status ≡ 0
-    → CommandAnswers (Expand schedule) input lifted → lifted.status ≡ 0
+    → CommandAnswers (Lift schedule) input lifted → lifted.status ≡ 0
     → (steps : List ℕ) × (lifted ≡ done (schedule_line steps))
     × (length steps ≤ 10000000 → CommandAnswers (Code (schedule_text steps)) input reported)

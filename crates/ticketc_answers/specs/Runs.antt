@@ -10,7 +10,7 @@ use Rattle.tick_play.specs.Outcome.{outcome_lines}
 use Rattle.ticketc_answers.specs.Answer.{Answer, done}
 use Rattle.ticketc_answers.specs.Codes.{code_of}
 use Rattle.ticketc_answers.specs.Maps.{carried}
-use Rattle.ticketc_answers.specs.declared.maps.Way.TheVariants.{Down}
+use Rattle.ticketc_answers.specs.declared.maps.Way.TheVariants.{Drop}
 
 -- the answer is that of a run of the code, in which each process makes at most `turns` instructions and
 -- gives out at most 10,000 values
@@ -24,5 +24,5 @@ pub record IsOutcomeOf (turns : ℕ) (c : StepCode) (a : Answer) : Type 0 where
 pub record IsProgramOutcome (p : WholeProgram Name) (turns : ℕ) (a : Answer) : Type 0 where
   pub outcome : RunObservables
   pub is_run : IsWholeRun (code_of p) turns 10000 outcome
-  pub shows : ShowsOutcome (resolved p) (carried Down (code_of p) is_run.schedule) outcome
+  pub shows : ShowsOutcome (resolved p) (carried Drop (code_of p) is_run.schedule) outcome
   pub told : a ≡ done (outcome_lines outcome)

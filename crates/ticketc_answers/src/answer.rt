@@ -43,8 +43,8 @@ fn text_answer(alloc: Global, command: Command<&str>, input: &[u8]) -> Reply
         Command::Emit => emit_text(alloc, input),
         Command::Source(schedule) => source_text(alloc, input, schedule),
         Command::Code(schedule) => code_report(alloc, input, schedule),
-        Command::Expand(schedule) => carried_text(alloc, Way::Up, input, schedule),
-        Command::Project(schedule) => carried_text(alloc, Way::Down, input, schedule),
+        Command::Lift(schedule) => carried_text(alloc, Way::Lift, input, schedule),
+        Command::Drop(schedule) => carried_text(alloc, Way::Drop, input, schedule),
     }
 }
 

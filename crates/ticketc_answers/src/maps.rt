@@ -12,15 +12,15 @@ use code_core::Code;
 use language_schedules::{NoMemory, read_schedule, write_schedule};
 use std::alloc::Global;
 use tick_kinds::Program;
-use tick_sim::{expand, project};
+use tick_sim::{drop, lift};
 
 /// Which way a schedule is carried.
 #[derive(Clone, Copy)]
 pub enum Way {
     /// From the program to its code.
-    Up,
+    Lift,
     /// From the code to its program.
-    Down,
+    Drop,
 }
 
 /// The schedule that the spelled one is on the other side, of the program that an input is and its code.
@@ -73,8 +73,8 @@ fn carried(
     ensures { IfOk result (λ there. there.items ≡ carried_steps way code.now steps.now) }
 {
     match way {
-        Way::Up => expand(alloc, program, code, steps),
-        Way::Down => project(alloc, program, code, steps),
+        Way::Lift => lift(alloc, program, code, steps),
+        Way::Drop => drop(alloc, program, code, steps),
     }
 }
 

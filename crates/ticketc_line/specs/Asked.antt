@@ -3,7 +3,7 @@ use Rattle.std.specs.Prelude.{ℕ, ◌≤◌, ◌&&◌, nat_le, nat_lt, List, Op
 use Rattle.std.specs.Borrow.{Bor}
 use Rattle.base.specs.Number.{number_of}
 use Rattle.ticketc_line.specs.declared.command.Command.{Command}
-use Rattle.ticketc_line.specs.declared.command.Command.TheVariants.{Order, Check, Emit, Source, Code, Expand, Project}
+use Rattle.ticketc_line.specs.declared.command.Command.TheVariants.{Order, Check, Emit, Source, Code, Lift, Drop}
 use Rattle.ticketc_line.specs.declared.command.Request.{Request}
 use Rattle.ticketc_line.specs.declared.command.Request.TheVariants.{Alone, Run}
 use Rattle.ticketc_line.specs.declared.command.LineFault.{LineFault}
@@ -27,8 +27,8 @@ plain_command Check = Check
 plain_command Emit = Emit
 plain_command (Source schedule) = Source schedule.now
 plain_command (Code schedule) = Code schedule.now
-plain_command (Expand schedule) = Expand schedule.now
-plain_command (Project schedule) = Project schedule.now
+plain_command (Lift schedule) = Lift schedule.now
+plain_command (Drop schedule) = Drop schedule.now
 
 abbrev pub plain_request : Request (Bor (List ℕ)) → PlainRequest
 plain_request (Alone command) = Alone (plain_command command)
@@ -78,8 +78,8 @@ named_with name text =
     if bytes_eq name (codes "order") then with_number (λ n. Alone (Order n)) (processes_of text)
     else if bytes_eq name (codes "source") then Ok (Alone (Source text))
     else if bytes_eq name (codes "code") then Ok (Alone (Code text))
-    else if bytes_eq name (codes "lift") then Ok (Alone (Expand text))
-    else if bytes_eq name (codes "drop") then Ok (Alone (Project text))
+    else if bytes_eq name (codes "lift") then Ok (Alone (Lift text))
+    else if bytes_eq name (codes "drop") then Ok (Alone (Drop text))
     else if bytes_eq name (codes "run") then with_number Run (turns_of text)
     else Err Usage
 

@@ -3,7 +3,7 @@ use Rattle.std.specs.Prelude.{◌≡◌, ℕ, List, [], ◌∷◌, Ok, Err, code
 use Rattle.clap.specs.Walk.{Text}
 use Rattle.ticketc_line.specs.Line.{asked_in}
 use Rattle.ticketc_line.specs.Asked.{Asked, processes_of, turns_of, with_number}
-use Rattle.ticketc_line.specs.declared.command.Command.TheVariants.{Order, Check, Emit, Source, Code, Expand, Project}
+use Rattle.ticketc_line.specs.declared.command.Command.TheVariants.{Order, Check, Emit, Source, Code, Lift, Drop}
 use Rattle.ticketc_line.specs.declared.command.Request.TheVariants.{Alone, Run}
 use Rattle.ticketc_line.specs.declared.command.LineFault.TheVariants.{Usage}
 
@@ -37,8 +37,8 @@ pub record CommandsWithTextLaw : Type 0 where
   pub order : TakesText (codes "order") (λ text. with_number (λ n. Alone (Order n)) (processes_of text))
   pub source : TakesText (codes "source") (λ text. Ok (Alone (Source text)))
   pub code : TakesText (codes "code") (λ text. Ok (Alone (Code text)))
-  pub lift : TakesText (codes "lift") (λ text. Ok (Alone (Expand text)))
-  pub drop : TakesText (codes "drop") (λ text. Ok (Alone (Project text)))
+  pub lift : TakesText (codes "lift") (λ text. Ok (Alone (Lift text)))
+  pub drop : TakesText (codes "drop") (λ text. Ok (Alone (Drop text)))
   pub run : TakesText (codes "run") (λ text. with_number Run (turns_of text))
 
 pub record OtherLinesLaw : Type 0 where

@@ -120,8 +120,8 @@ fn request_with<'a>(name: &str, text: &'a str) -> Result<Request<&'a str>, LineF
         "order" => Ok(Request::Alone(Command::Order(processes(text)?))),
         "source" => Ok(Request::Alone(Command::Source(text))),
         "code" => Ok(Request::Alone(Command::Code(text))),
-        "lift" => Ok(Request::Alone(Command::Expand(text))),
-        "drop" => Ok(Request::Alone(Command::Project(text))),
+        "lift" => Ok(Request::Alone(Command::Lift(text))),
+        "drop" => Ok(Request::Alone(Command::Drop(text))),
         "run" => Ok(Request::Run(turns(text)?)),
         _ => Err(LineFault::Usage),
     }

@@ -19,9 +19,9 @@ pub enum Command<T> {
     /// A code, or the code of a program, under this schedule.
     Code(T),
     /// The command `lift`: the schedule of its code that leads through this one of a program.
-    Expand(T),
+    Lift(T),
     /// The command `drop`: the schedule of a program that this one of its code stands for.
-    Project(T),
+    Drop(T),
 }
 
 /// Why a command line is refused.

@@ -5,7 +5,7 @@ use std::alloc::Global;
 use std::fs::File;
 use std::io::Read;
 use std::{fs, io};
-use ticklab_answers::Files;
+use ticklab_files::Files;
 
 /// Files by their names, as the host has them.
 #[derive(Drop)]
@@ -28,6 +28,8 @@ impl<'a> Files for HostFiles<'a> {
     ghost ReadsInput = { λ _ _ _ _. Unit {0} };
 
     ghost Lists = { λ _ _ _ _. Unit {0} };
+
+    ghost Fails = { λ _ _ _ _. Unit {0} };
 
     fn file(&mut self, alloc: Global, name: &str, most: u64) -> io::Result<Vec<u8>> {
         first_bytes(alloc, File::open(self.rt, name)?, most)

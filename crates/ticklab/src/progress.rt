@@ -4,7 +4,7 @@ ghost use Rattle.std.specs.Prelude.{◌≡◌, false};
 use searches_explore::Watch;
 use std::io::IsTerminal;
 use std::time::Instant;
-use ticklab_answers::Progress;
+use ticklab_verdicts::Progress;
 
 /// A line that is written over while a search goes on.
 #[derive(Drop)]

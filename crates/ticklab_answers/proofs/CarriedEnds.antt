@@ -28,6 +28,6 @@ code_ends_law = record {
       (ends_law.always a (is_asked asked)).0 (λ schedule.
       ((can schedule).0, (can schedule).1, sym (ended_same asked (source a (schedule ++ (can schedule).0)) a.processes) ∙ (can schedule).2));
   stuck = λ a asked schedule stuck.
-      (ends_law.up a (is_asked asked) schedule).stuck.0 (λ more.
+      (ends_law.lifted a (is_asked asked) schedule).stuck.0 (λ more.
       sym (ended_same asked (source a (schedule ++ more)) a.processes) ∙ stuck more);
 }

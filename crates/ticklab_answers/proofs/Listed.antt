@@ -1,14 +1,12 @@
 -- Files that were listed and read so far, with all that may follow.
-use Rattle.std.proofs.Common.{◌≡◌, ◌++◌, ℕ, Bool, Bor, true, false, List, [], ◌∷◌, map, string_bytes, refl, subst, sym, inl, inr, Some, None, Result, Ok, Err, IfErr, IsErrAnd}
+use Rattle.std.proofs.Common.{◌++◌, ℕ, Bool, Bor, true, false, List, [], ◌∷◌, map, string_bytes, refl, subst, sym, inl, inr, Some, None}
 use Rattle.std.proofs.lemmas.List.{append-nil, append_assoc}
 use Rattle.std.specs.Prelude.{String}
 use Rattle.std.specs.Global.{Global}
 use Rattle.ticklab_check.specs.declared.source.Source.{Source}
-use Rattle.ticklab_answers.specs.Checks.{AreNamed, AreRead, IsAmong, IsNamed, IsNamedBy, IsUnder, IsUnderOne, ListsOf, name_in}
-use Rattle.ticklab_answers.specs.Faults.{IsOfFileThat}
-use Rattle.ticklab_answers.specs.Reading.{IsRead, ReadsOf, ReadsInputOf, is_input}
-use Rattle.ticklab_answers.specs.declared.fault.LabFault.{LabFault}
-use Rattle.ticklab_answers.specs.declared.fault.LabFault.TheVariants.{Words, Unread, Host, Answer}
+use Rattle.ticklab_answers.specs.Checks.{AreNamed, AreRead, IsAmong, IsNamed, IsNamedBy, IsUnder, IsUnderOne, name_in}
+use Rattle.ticklab_files.specs.Reading.{ListsOf}
+use Rattle.ticklab_files.specs.Reading.{IsRead, ReadsOf, ReadsInputOf, is_input}
 
 -- a text that stands where there is none
 abbrev pub nothing : Bor (List ℕ)
@@ -82,15 +80,3 @@ module _ {F : Type 0} (Lists : ListsOf F) where
   all_under now after (path ∷ paths) names (first, more, between, one, rest, whole) name is =
       in_either name first more (IsUnderOne (path ∷ paths) name) (λ here. inl (under_by (is_input path) now between path first one name here))
       (λ there. inr (all_under between after paths more rest name there)) (subst (λ (names : List (List ℕ)). IsAmong names name) whole is)
-
--- a fault of a file of which more is known
-pub of_file_as : (P Q : List ℕ → Type 0) → ((name : List ℕ) → P name → Q name) → (fault : LabFault) → IsOfFileThat P fault → IsOfFileThat Q fault
-of_file_as P Q f (Words cause) is = is
-of_file_as P Q f (Unread name cause) is = f (string_bytes name) is
-of_file_as P Q f (Host cause) is = is
-of_file_as P Q f (Answer fault) is = is
-
--- a `?` hands a fault on
-pub faulty_by : {T : Type 0} (Q : LabFault → Type 0) (fault : LabFault) (r : Result T LabFault) → IsErrAnd r (λ d. d ≡ fault) → Q fault → IfErr r Q
-faulty_by Q fault (Ok x) err held = tt
-faulty_by Q fault (Err d) err held = subst Q (sym err) held

@@ -6,34 +6,37 @@ use Rattle.std.specs.declared.io.Error.{Error}
 use Rattle.ticklab_line.specs.Lines.{Answers}
 use Rattle.ticklab_line.specs.declared.asking.Line.{Line}
 use Rattle.ticklab_answers.specs.Answers.{GivenWords, GivesWords, IsOfWordsOrFile, NamesOfLine, RespondsTo, RespondsToWords}
-use Rattle.ticklab_answers.specs.Checks.{ListsOf}
-use Rattle.ticklab_answers.specs.Faults.{IsOfFileThat}
-use Rattle.ticklab_answers.specs.Hearing.{HearsOf}
-use Rattle.ticklab_answers.specs.Reading.{ReadsOf, ReadsInputOf}
-use Rattle.ticklab_answers.specs.Tallies.{RunsOf}
-use Rattle.ticklab_answers.specs.declared.fault.LabFault.{LabFault}
-use Rattle.ticklab_answers.specs.declared.fault.LabFault.TheVariants.{Words, Unread, Host, Answer}
-use Rattle.ticklab_answers.specs.declared.response.Response.{Response}
+use Rattle.ticklab_files.specs.Reading.{ListsOf}
+use Rattle.ticklab_files.specs.Faults.{Causes, IsOfFileThat}
+use Rattle.ticklab_verdicts.specs.Hearing.{HearsOf}
+use Rattle.ticklab_files.specs.Reading.{ReadsOf, ReadsInputOf}
+use Rattle.ticklab_verdicts.specs.Tallies.{RunsOf}
+use Rattle.ticklab_files.specs.declared.fault.LabFault.{LabFault}
+use Rattle.ticklab_files.specs.declared.fault.LabFault.TheVariants.{Words, Unread, Unwritten, Answer}
+use Rattle.ticklab_files.specs.declared.response.Response.{Response}
 
 -- the words ask for this line, which was matched
 module _ (version : List ℕ) (given : Result GivenWords Error) (words : Vec (String Global) Global) (slice : List (String Global)) (l matched : Line)
     (gives : GivesWords given words) (same : slice ≡ words.items) (answers : Answers version (map string_bytes slice) l) (is : l ≡ matched) where
-  named_by : (given : Result GivenWords Error) → GivesWords given words → (fault : LabFault) → IsOfFileThat (NamesOfLine matched) fault
-      → IsOfWordsOrFile version given fault
-  named_by given gives (Words cause) h = tt
-  named_by (Ok given) gives (Unread name cause) h = (
-    l,
-    subst (λ (ws : List (String Global)). Answers version (map string_bytes ws) l) gives (subst (λ (ws : List (String Global)). Answers version (map string_bytes ws) l) same answers),
-    subst (λ (m : Line). NamesOfLine m (string_bytes name)) (sym is) h,
+  named_by : (U : Causes) (given : Result GivenWords Error) → GivesWords given words → (fault : LabFault) → IsOfFileThat U (NamesOfLine matched) fault
+      → IsOfWordsOrFile U version given fault
+  named_by U given gives (Words cause) h = absurd h
+  named_by U (Ok given) gives (Unread name cause) h = (
+    (
+      l,
+      subst (λ (ws : List (String Global)). Answers version (map string_bytes ws) l) gives (subst (λ (ws : List (String Global)). Answers version (map string_bytes ws) l) same answers),
+      subst (λ (m : Line). NamesOfLine m (string_bytes name)) (sym is) h.0,
+    ),
+    h.1,
   )
-  named_by (Err error) gives (Unread name cause) h = absurd gives
-  named_by given gives (Host cause) h = absurd h
-  named_by given gives (Answer fault) h = tt
+  named_by U (Err error) gives (Unread name cause) h = absurd gives
+  named_by U given gives (Unwritten cause) h = absurd h
+  named_by U given gives (Answer fault) h = tt
 
-  pub failed : (fault : LabFault) → IsOfFileThat (NamesOfLine matched) fault → (r : Result Response LabFault) → IsErrAnd r (λ d. d ≡ fault)
-      → IfErr r (IsOfWordsOrFile version given)
-  failed fault of (Ok x) is = tt
-  failed fault of (Err d) is = subst (IsOfWordsOrFile version given) (sym is) (named_by given gives fault of)
+  pub failed : (U : Causes) (fault : LabFault) → IsOfFileThat U (NamesOfLine matched) fault → (r : Result Response LabFault) → IsErrAnd r (λ d. d ≡ fault)
+      → IfErr r (IsOfWordsOrFile U version given)
+  failed U fault of (Ok x) is = tt
+  failed U fault of (Err d) is = subst (IsOfWordsOrFile U version given) (sym is) (named_by U given gives fault of)
 
   -- an answer to the line is one to the words
   module _ {F M W : Type 0} (Reads : ReadsOf F) (ReadsInput : ReadsInputOf F) (Lists : ListsOf F) (Ran : RunsOf M) (hears : HearsOf W) (before after : F) (rested ran : M)

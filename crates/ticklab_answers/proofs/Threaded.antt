@@ -7,7 +7,7 @@ use Rattle.std.proofs.lemmas.Option.{slice_get_within, get_or_from_slice_get}
 use Rattle.base.specs.declared.status.Status.{Status}
 use Rattle.base.specs.declared.status.Status.TheVariants as S
 use Rattle.tick_lower.specs.Lowered.{lowered, lowered_sizes}
-use Rattle.tick_sim.specs.Maps.{down}
+use Rattle.tick_sim.specs.Maps.{dropped}
 use Rattle.searches_explore.specs.Explored.{is_trap}
 use Rattle.threads_source.proofs.Offered.{threaded_source_law}
 use Rattle.ticklab_answers.specs.Laws.{ThreadsLaw}
@@ -21,6 +21,6 @@ some_trapped statuses p status there trapped =
 
 pub threads_law : ThreadsLaw
 threads_law a never turns outs o run p trap ends =
-    let schedule = down (lowered_sizes a) (lowered a) run.schedule in
+    let schedule = dropped (lowered_sizes a) (lowered a) run.schedule in
     let shown = threaded_source_law a turns outs o run in
     true≢false (sym (some_trapped _ p (S.Trapped trap) (shown.ends p _ ends) (λ i. true)) ∙ never schedule)

@@ -12,25 +12,26 @@ use Rattle.ticklab_line.specs.declared.asking.Line.TheVariants as line
 use Rattle.ticklab_line.specs.declared.asking.Output.{Output}
 use Rattle.ticklab_line.specs.declared.asking.Output.TheVariants as output
 use Rattle.ticklab_line.specs.declared.commands.Request.TheVariants.{Explore, Ends, Check, Lasso, Hunt, Runs, Trace, Draw, Page, Explain, Labels}
-use Rattle.ticklab_answers.specs.Checks.{ChecksAll, IsUnderOne, ListsOf}
-use Rattle.ticklab_answers.specs.Ends.{ExploresEnds}
+use Rattle.ticklab_answers.specs.Checks.{ChecksAll, IsUnderOne}
+use Rattle.ticklab_files.specs.Reading.{ListsOf}
+use Rattle.ticklab_verdicts.specs.Ends.{ExploresEnds}
 use Rattle.ticklab_answers.specs.Explanations.{Explains}
-use Rattle.ticklab_answers.specs.Exploring.{Explores}
-use Rattle.ticklab_answers.specs.Faults.{IsEither, IsOneOf}
-use Rattle.ticklab_answers.specs.Hearing.{HearsOf}
-use Rattle.ticklab_answers.specs.Hunting.{Hunts, plan_of}
+use Rattle.ticklab_verdicts.specs.Exploring.{Explores}
+use Rattle.ticklab_files.specs.Faults.{Causes, IsEither, IsOneOf}
+use Rattle.ticklab_verdicts.specs.Hearing.{HearsOf}
+use Rattle.ticklab_verdicts.specs.Hunting.{Hunts, plan_of}
 use Rattle.ticklab_answers.specs.Labels.{DrawsLabels}
-use Rattle.ticklab_answers.specs.Lasso.{IsOfThree, Lassoes}
-use Rattle.ticklab_answers.specs.Reading.{ReadsOf, ReadsInputOf}
-use Rattle.ticklab_answers.specs.Responses.{Gives, IsScheduleOf, Refuses}
-use Rattle.ticklab_answers.specs.Runs.{TellsRun}
-use Rattle.ticklab_answers.specs.Tallies.{RunsOf, Tallies}
-use Rattle.ticklab_answers.specs.declared.commands.told_run.Telling.TheVariants as telling
-use Rattle.ticklab_answers.specs.declared.fault.LabFault.{LabFault}
-use Rattle.ticklab_answers.specs.declared.fault.LabFault.TheVariants.{Words, Unread, Host, Answer}
-use Rattle.ticklab_answers.specs.declared.form.Form.{Form}
-use Rattle.ticklab_answers.specs.declared.form.Form.TheVariants.{Text, Json}
-use Rattle.ticklab_answers.specs.declared.response.Response.{Response}
+use Rattle.ticklab_verdicts.specs.Lasso.{IsOfThree, Lassoes}
+use Rattle.ticklab_files.specs.Reading.{ReadsOf, ReadsInputOf}
+use Rattle.ticklab_files.specs.Responses.{Gives, IsScheduleOf, Refuses}
+use Rattle.ticklab_runs.specs.Runs.{TellsRun}
+use Rattle.ticklab_verdicts.specs.Tallies.{RunsOf, Tallies}
+use Rattle.ticklab_runs.specs.declared.told_run.Telling.TheVariants as telling
+use Rattle.ticklab_files.specs.declared.fault.LabFault.{LabFault}
+use Rattle.ticklab_files.specs.declared.fault.LabFault.TheVariants.{Words, Unread, Unwritten, Answer}
+use Rattle.ticklab_files.specs.declared.form.Form.{Form}
+use Rattle.ticklab_files.specs.declared.form.Form.TheVariants.{Text, Json}
+use Rattle.ticklab_files.specs.declared.response.Response.{Response}
 
 -- the words that the host gave
 abbrev pub GivenWords : Type 0
@@ -125,9 +126,10 @@ abbrev pub IsNamed : List ℕ → Result GivenWords Error → List ℕ → Type 
 IsNamed version (Ok given) name = (l : Line) × Answers version (map string_bytes (into_iter_items given)) l × NamesOfLine l name
 IsNamed version (Err error) name = ⊥
 
--- memory or a thread was refused, the words can't be had, or a file can't be read that they name
-abbrev pub IsOfWordsOrFile : List ℕ → Result GivenWords Error → LabFault → Type 0
-IsOfWordsOrFile version given (Words cause) = ⊤
-IsOfWordsOrFile version given (Unread name cause) = IsNamed version given (string_bytes name)
-IsOfWordsOrFile version given (Host cause) = ⊥
-IsOfWordsOrFile version given (Answer fault) = ⊤
+-- Memory or a thread was refused, the host says why the words can't be had, or a file can't be read that they name. The
+-- causes say why.
+abbrev pub IsOfWordsOrFile : Causes → List ℕ → Result GivenWords Error → LabFault → Type 0
+IsOfWordsOrFile U version given (Words cause) = given ≡ Err cause
+IsOfWordsOrFile U version given (Unread name cause) = IsNamed version given (string_bytes name) × U (string_bytes name) cause
+IsOfWordsOrFile U version given (Unwritten cause) = ⊥
+IsOfWordsOrFile U version given (Answer fault) = ⊤

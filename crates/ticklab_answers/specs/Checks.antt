@@ -9,19 +9,11 @@ use Rattle.ticklab_check.specs.declared.reporting.Findings.{Findings}
 use Rattle.ticklab_check.specs.declared.source.Source.{Source}
 use Rattle.ticklab_json.specs.Checks.{findings_data}
 use Rattle.ticklab_json.specs.Members.{lines}
-use Rattle.ticklab_answers.specs.Reading.{IsRead, ReadsOf, ReadsInputOf, is_input}
-use Rattle.ticklab_answers.specs.Responses.{Gives}
-use Rattle.ticklab_answers.specs.declared.form.Form.{Form}
-use Rattle.ticklab_answers.specs.declared.form.Form.TheVariants.{Text, Json}
-use Rattle.ticklab_answers.specs.declared.response.Response.{Response}
-
--- What files are before a folder of a name is listed, the names of what is in it, unless it is no folder, and what files
--- are after.
-abbrev pub ListsOf : Type 0 → Type 1
-ListsOf F = F → List ℕ → Option (List (String Global)) → F → Type 0
-
-abbrev pub is_tick : List ℕ → Bool
-is_tick name = ends_with eqb name (codes ".tick")
+use Rattle.ticklab_files.specs.Reading.{IsRead, ListsOf, ReadsOf, ReadsInputOf, is_input, is_tick}
+use Rattle.ticklab_files.specs.Responses.{Gives}
+use Rattle.ticklab_files.specs.declared.form.Form.{Form}
+use Rattle.ticklab_files.specs.declared.form.Form.TheVariants.{Text, Json}
+use Rattle.ticklab_files.specs.declared.response.Response.{Response}
 
 abbrev pub slash_after : List ℕ → List ℕ
 slash_after folder = if ends_with eqb folder (codes "/") then [] else codes "/"

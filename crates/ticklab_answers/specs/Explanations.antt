@@ -11,13 +11,13 @@ use Rattle.ticklab_explain.specs.declared.explanation.InputFault.{InputFault}
 use Rattle.ticklab_explain.specs.declared.explanation.InputFault.TheVariants as I
 use Rattle.ticklab_json.specs.Explanations.{explanation_data, fine_data}
 use Rattle.ticklab_json.specs.Members.{lines}
-use Rattle.ticklab_answers.specs.Asking.{IsProgramFile}
+use Rattle.ticklab_files.specs.Asking.{IsProgramFile}
 use Rattle.ticklab_answers.specs.Lines.{both_taken_line, taken_line}
-use Rattle.ticklab_answers.specs.Reading.{AfterBoth, AfterFile, ReadsOf, ReadsInputOf}
-use Rattle.ticklab_answers.specs.Responses.{Gives}
-use Rattle.ticklab_answers.specs.declared.form.Form.{Form}
-use Rattle.ticklab_answers.specs.declared.form.Form.TheVariants.{Text, Json}
-use Rattle.ticklab_answers.specs.declared.response.Response.{Response}
+use Rattle.ticklab_files.specs.Reading.{AfterBoth, AfterFile, ReadsOf, ReadsInputOf}
+use Rattle.ticklab_files.specs.Responses.{Gives}
+use Rattle.ticklab_files.specs.declared.form.Form.{Form}
+use Rattle.ticklab_files.specs.declared.form.Form.TheVariants.{Text, Json}
+use Rattle.ticklab_files.specs.declared.response.Response.{Response}
 
 -- the input is a code, or the program of a file, of so many processes
 pub data HasProcesses (input : List ℕ) (n : ℕ) : Type 0 where

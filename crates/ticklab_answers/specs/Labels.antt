@@ -5,9 +5,10 @@ use Rattle.language_schedules.specs.Moves.{moves_of}
 use Rattle.language_schedules.specs.declared.schedule.ScheduleFault.{ScheduleFault}
 use Rattle.ticklab_draw.specs.labels.Frames.{frames_of}
 use Rattle.ticklab_draw.specs.labels.Pictures.{picture}
-use Rattle.ticklab_answers.specs.Lines.{many_line, number_line, spelling_line}
-use Rattle.ticklab_answers.specs.Responses.{Gives, Refuses}
-use Rattle.ticklab_answers.specs.declared.response.Response.{Response}
+use Rattle.ticklab_answers.specs.Lines.{many_line, number_line}
+use Rattle.ticklab_files.specs.Lines.{spelling_line}
+use Rattle.ticklab_files.specs.Responses.{Gives, Refuses}
+use Rattle.ticklab_files.specs.declared.response.Response.{Response}
 
 -- of 1 to 6 processes and at most 400 moves
 pub record AreDrawn (n : ℕ) (text out : List ℕ) : Type 0 where

@@ -7,7 +7,7 @@ use Rattle.base.specs.Observables.{RunObservables}
 use Rattle.base.specs.Plain.{WholeProgram}
 use Rattle.tick_source.specs.Source.{source}
 use Rattle.tick_lower.specs.Lowered.{lowered, lowered_sizes}
-use Rattle.tick_sim.specs.Maps.{up}
+use Rattle.tick_sim.specs.Maps.{lifted}
 use Rattle.tick_sim.specs.Ends as S
 use Rattle.tick_sim.specs.Laws.{seen_of_code}
 use Rattle.tick_merge.specs.Runs.{IsWholeRun}
@@ -25,7 +25,7 @@ code_has_trapped a schedule = list_any is_trap (seen_of_code a schedule).statuse
 pub record CodeLaw : Type 0 where
   pub never : (a : WholeProgram ℕ) → NeverTraps a → (schedule : List ℕ) → code_has_trapped a schedule ≡ false
   pub traps : (a : WholeProgram ℕ) (schedule : List ℕ) → has_trapped (source a schedule) ≡ true
-      → code_has_trapped a (up (lowered_sizes a) (lowered a) schedule) ≡ true
+      → code_has_trapped a (lifted (lowered_sizes a) (lowered a) schedule) ≡ true
 
 -- Where no process of a program traps under any schedule, none ends trapped in a run of its code on threads.
 abbrev pub ThreadsLaw : Type 0
@@ -38,4 +38,4 @@ ThreadsLaw = (a : WholeProgram ℕ) → NeverTraps a → (turns outs : ℕ) (o :
 pub record CodeEndsLaw : Type 0 where
   pub always : (a : WholeProgram ℕ) (asked : MustStop) → E.CanAlwaysEnd a asked → S.CanAlwaysEnd a.processes (is_asked asked) (S.code_statuses a)
   pub stuck : (a : WholeProgram ℕ) (asked : MustStop) (schedule : List ℕ) → E.IsStuck a asked schedule
-      → S.IsStuck a.processes (is_asked asked) (S.code_statuses a) (up (lowered_sizes a) (lowered a) schedule)
+      → S.IsStuck a.processes (is_asked asked) (S.code_statuses a) (lifted (lowered_sizes a) (lowered a) schedule)

@@ -1,17 +1,17 @@
 -- What the whole program does: what it reads, runs and writes, and its exit status.
-use Rattle.std.specs.Prelude.{◌≡◌, ℕ, IfOk, List, [], Option, Result, Ok, Err}
+use Rattle.std.specs.Prelude.{◌≡◌, ◌++◌, ◌⊎◌, ℕ, IfErr, IfOk, List, [], Option, Result, Ok, Err}
 use Rattle.std.specs.Io.KnownBytes.{Appends}
 use Rattle.std.specs.declared.io.Error.{Error}
-use Rattle.ticklab_answers.specs.Answers.{GivenWords, RespondsToWords}
-use Rattle.ticklab_answers.specs.Checks.{ListsOf}
+use Rattle.ticklab_answers.specs.Answers.{GivenWords, IsOfWordsOrFile, RespondsToWords}
+use Rattle.ticklab_files.specs.Reading.{ListsOf}
 use Rattle.ticklab_answers.specs.Colours.{shown_as}
-use Rattle.ticklab_answers.specs.Hearing.{HearsOf}
-use Rattle.ticklab_answers.specs.Faults.{status_of}
-use Rattle.ticklab_answers.specs.Reading.{ReadsOf, ReadsInputOf}
-use Rattle.ticklab_answers.specs.Tallies.{RunsOf}
+use Rattle.ticklab_verdicts.specs.Hearing.{HearsOf}
+use Rattle.ticklab_files.specs.Faults.{Causes, IsOfOutput, status_of}
+use Rattle.ticklab_files.specs.Reading.{ReadsOf, ReadsInputOf}
+use Rattle.ticklab_verdicts.specs.Tallies.{RunsOf}
 use Rattle.ticklab_answers.specs.declared.colours.Colours.{Colours}
-use Rattle.ticklab_answers.specs.declared.fault.LabFault.{LabFault}
-use Rattle.ticklab_answers.specs.declared.response.Response.{Response}
+use Rattle.ticklab_files.specs.declared.fault.LabFault.{LabFault}
+use Rattle.ticklab_files.specs.declared.response.Response.{Response}
 
 -- what an output holds, where that is known
 abbrev pub Known : Type 0
@@ -42,10 +42,22 @@ abbrev pub Ends : {F M W : Type 0} → ReadsOf F → ReadsInputOf F → ListsOf 
 Ends Reads ReadsInput Lists Ran hears files read rested ran quiet heard old new version colours given status =
     IsShown colours old new (RespondsToWords Reads ReadsInput Lists Ran hears files read rested ran quiet heard version given) status
 
+-- There is no answer, for a reason of which Q holds; or there is one, of which not all can be written.
+abbrev pub IsUnshown : Colours → (Response → Type 0) → (LabFault → Type 0) → LabFault → Type 0
+IsUnshown colours P Q fault =
+    Q fault
+    ⊎ ((response : Response) × P response × IsOfOutput (shown_as colours.out response.out.items ++ shown_as colours.err response.told.items) fault)
+
+-- Why the words come to no end: there is no answer, or not all of it can be written. The causes say why a file can't be read.
+abbrev pub Fails : {F M W : Type 0} → ReadsOf F → ReadsInputOf F → ListsOf F → RunsOf M → HearsOf W → F → F → M → M → W → W → Causes
+    → List ℕ → Colours → Result GivenWords Error → LabFault → Type 0
+Fails Reads ReadsInput Lists Ran hears files read rested ran quiet heard U version colours given =
+    IsUnshown colours (RespondsToWords Reads ReadsInput Lists Ran hears files read rested ran quiet heard version given) (IsOfWordsOrFile U version given)
+
 abbrev pub exit_of : Result ℕ LabFault → ℕ
 exit_of (Ok status) = status
 exit_of (Err fault) = status_of fault
 
--- the status is that of what came of it
-abbrev pub Exits : (ℕ → Type 0) → ℕ → Type 0
-Exits P status = (outcome : Result ℕ LabFault) × IfOk outcome P × (status ≡ exit_of outcome)
+-- The status is that of what came of it: of an end of which P holds, or of a fault of which Q holds.
+abbrev pub Exits : (ℕ → Type 0) → (LabFault → Type 0) → ℕ → Type 0
+Exits P Q status = (outcome : Result ℕ LabFault) × IfOk outcome P × IfErr outcome Q × (status ≡ exit_of outcome)

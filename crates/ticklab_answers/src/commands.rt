@@ -2,48 +2,27 @@
 ghost use Rattle.std.specs.Prelude.{◌≡◌, IfErr, IfOk};
 ghost use Rattle.std.specs.Vec.Iter.{into_iter_items};
 ghost use Rattle.ticklab_answers.specs.Answers.{GivesWords, IsOfWordsOrFile, IsPrinted, RespondsToWords, form_of, limits_of};
-ghost use Rattle.ticklab_answers.specs.Faults.{IsOfWords};
-ghost use Rattle.ticklab_answers.specs.Hearing.{hearing};
+ghost use Rattle.ticklab_files.specs.Faults.{IsOfMemory, IsOfWords, IsUnread};
+ghost use Rattle.ticklab_verdicts.specs.Hearing.{hearing};
 
 mod checking;
-mod drawing;
-mod ends;
 mod explaining;
-mod exploring;
-mod hunting;
 mod labels;
-mod lasso;
-mod objects;
-mod paging;
-mod run_objects;
-mod tallying;
-mod told_run;
-mod tracing;
 
-use crate::fault::LabFault;
-use crate::form::Form;
-use crate::host::Files;
-use crate::progress::Progress;
-use crate::response::{Response, help, no_command, schedule_alone};
 pub use checking::checked;
-pub use ends::explored_ends;
 pub use explaining::explained;
-pub use exploring::explored;
-pub use hunting::{hunted, plan_of};
 pub use labels::labelled;
-pub use lasso::lassoed;
-pub use run_objects::{break_object, run_object};
 use searches_explore::Limits;
 use searches_hunt::Trials;
 use std::alloc::{AllocError, Global};
 use std::env::Args;
 use std::io;
-pub use tallying::tallied;
 use tick_merge::Runner;
 use ticklab_check::Checks;
+use ticklab_files::{Files, Form, LabFault, Response, help, no_command, schedule_alone};
 use ticklab_line::{Line, Output, Request, asked};
-pub use told_run::{Telling, told};
-pub use tracing::{source_text, spots_in};
+use ticklab_runs::{Telling, told};
+use ticklab_verdicts::{Progress, explored, explored_ends, hunted, lassoed, plan_of, tallied};
 
 /// The answer to the words of the command line. Runs of a code are made by the runner alone, random ones of a program
 /// are tried by `trials`, and files are checked by `checks`. `version` is that of the program.
@@ -58,7 +37,7 @@ pub fn response_to<F: Files, M: Runner, T: Trials, C: Checks, W: Progress>(
     given: io::Result<Args>,
 ) -> Result<Response, LabFault>
     ensures ok { IfOk result (RespondsToWords F.Reads F.ReadsInput F.Lists M.Ran (hearing W.begins W.hears) files.old files.new runner.old runner.new progress.old progress.new version.now given) }
-    ensures err { IfErr result (IsOfWordsOrFile version.now given) }
+    ensures err { IfErr result (IsOfWordsOrFile (IsUnread F.Reads F.ReadsInput F.Lists F.Fails) version.now given) }
 {
     let words = words_of(alloc, given)?;
     let (request, output) = match asked(alloc, words.as_slice(), version)? {
@@ -164,7 +143,7 @@ fn printed(alloc: Global, output: Output, whole: Response) -> Result<Response, A
 
 fn words_of(alloc: Global, given: io::Result<Args>) -> Result<Vec<String>, LabFault>
     ensures ok { IfOk result (GivesWords given) }
-    ensures err { IfErr result IsOfWords }
+    ensures err { IfErr result (IsOfWords given) }
 {
     match given {
         Ok(given) => words_in(alloc, given),
@@ -174,7 +153,7 @@ fn words_of(alloc: Global, given: io::Result<Args>) -> Result<Vec<String>, LabFa
 
 fn words_in(alloc: Global, given: Args) -> Result<Vec<String>, LabFault>
     ensures ok { IfOk result (λ words. words.items ≡ into_iter_items given) }
-    ensures err { IfErr result IsOfWords }
+    ensures err { IfErr result IsOfMemory }
 {
     let mut words = Vec::new(alloc);
     for word in given {

@@ -1,14 +1,12 @@
 //! The whole program, from the words that the host gave to the exit status. `main` only calls it.
 ghost use Rattle.std.specs.Prelude.{◌≡◌};
 ghost use Rattle.std.specs.Process.{exit_status};
-ghost use Rattle.ticklab_answers.specs.Faults.{status_of};
-ghost use Rattle.ticklab_answers.specs.Hearing.{hearing};
-ghost use Rattle.ticklab_answers.specs.Serving.{Ends, Exits};
+ghost use Rattle.ticklab_files.specs.Faults.{IsUnread, status_of};
+ghost use Rattle.ticklab_verdicts.specs.Hearing.{hearing};
+ghost use Rattle.ticklab_answers.specs.Serving.{Ends, Exits, Fails};
 
 use crate::commands::response_to;
-use crate::fault::LabFault;
-use crate::host::{Files, Host};
-use crate::progress::Progress;
+use crate::host::Host;
 use crate::writing::told;
 use searches_hunt::Trials;
 use std::alloc::Global;
@@ -18,6 +16,8 @@ use std::io::Write;
 use std::process::ExitCode;
 use tick_merge::Runner;
 use ticklab_check::Checks;
+use ticklab_files::{Files, LabFault};
+use ticklab_verdicts::Progress;
 
 /// Answers the words of the command line, as `std::env::args` gave them. Why there is no answer is told on
 /// standard error. Runs of a code are made by the runner alone, random ones of a program are tried by `trials`, and files
@@ -31,7 +31,7 @@ pub fn ended<F: Files, O: Write, T: Write, M: Runner, S: Trials, C: Checks, W: P
     progress: &mut W,
     given: io::Result<Args>,
 ) -> ExitCode
-    ensures { Exits (Ends F.Reads F.ReadsInput F.Lists M.Ran (hearing W.begins W.hears) host.old.files host.new.files runner.old runner.new progress.old progress.new (record { out = O.contents host.old.out; err = T.contents host.old.err }) (record { out = O.contents host.new.out; err = T.contents host.new.err }) host.old.version.now host.old.colours given) (exit_status result) }
+    ensures { Exits (Ends F.Reads F.ReadsInput F.Lists M.Ran (hearing W.begins W.hears) host.old.files host.new.files runner.old runner.new progress.old progress.new (record { out = O.contents host.old.out; err = T.contents host.old.err }) (record { out = O.contents host.new.out; err = T.contents host.new.err }) host.old.version.now host.old.colours given) (Fails F.Reads F.ReadsInput F.Lists M.Ran (hearing W.begins W.hears) host.old.files host.new.files runner.old runner.new progress.old progress.new (IsUnread F.Reads F.ReadsInput F.Lists F.Fails) host.old.version.now host.old.colours given) (exit_status result) }
 {
     match response_to(
         alloc,

@@ -4,40 +4,60 @@ use Rattle.base.specs.Plain.{WholeProgram}
 use Rattle.language_properties.specs.Properties.{Formula}
 use Rattle.searches_states.specs.declared.limits.Limits.{Limits}
 use Rattle.searches_states.specs.declared.must_stop.MustStop.{MustStop}
-use Rattle.searches_explore.specs.Ending.{CanAlwaysEnd, EndsIfFair, GoesOn, IfCanEnd, IfEndless, IfEnds, never_answer}
-use Rattle.searches_explore.specs.Never.{IfSafe, IsMergedNeverSafe, IsNeverSafe}
-use Rattle.searches_explore.specs.declared.end_answer.EndExplored.{EndExplored}
-use Rattle.searches_explore.specs.declared.end_answer.EndExplored.TheVariants as E
+use Rattle.searches_states.specs.declared.verdict.Verdict.{Verdict}
+use Rattle.searches_states.specs.declared.verdict.Verdict.TheVariants as V
+use Rattle.searches_fairness.specs.FairAnswer.{IfCanEnd}
+use Rattle.searches_fairness.specs.declared.liveness.Liveness.{Liveness}
+use Rattle.searches_fairness.specs.declared.liveness.Liveness.TheVariants as L
+use Rattle.searches_explore.specs.BySteps.{KnowsEnds}
+use Rattle.searches_explore.specs.Ending.{CanAlwaysEnd}
+use Rattle.searches_explore.specs.Never.{IfBroken, IfKnown, IfLimit, IfSafe, IfTrapped, IsMergedSafe, IsLimit, IsSafe, IsShortestBroken, IsShortestTrapped}
+use Rattle.searches_explore.specs.declared.exploring.StepKind.TheVariants.{Merged, Single}
+use Rattle.searches_explore.specs.declared.fault.Fault.{Fault}
+use Rattle.searches_explore.specs.declared.fault.Fault.TheVariants.{Trapped, Broken}
 use Rattle.ticklab_check.specs.Checking.{IsFoundOfAsked}
 use Rattle.ticklab_check.specs.declared.found.Found.{Found}
 use Rattle.ticklab_check.specs.declared.found.Found.TheVariants as F
-use Rattle.ticklab_check.specs.prover.Answers.{merged_found, settled}
+use Rattle.ticklab_check.specs.prover.Answers.{fault_of, merged_found, merged_known, settled, single_known}
 
 abbrev IfUnsettled : Found → (ℕ → Type 0) → Type 0
 IfUnsettled (F.Unsettled states) P = P states
 IfUnsettled found P = Unit {0}
 
-if_unsettled : (e : EndExplored) (P : ℕ → Type 0) (C : Type 0) → IfSafe (never_answer e) P → IfCanEnd e C → IfUnsettled (merged_found e) (λ k. P k × C)
-if_unsettled (E.Trapped schedule) P C safe can = tt
-if_unsettled (E.Broken schedule line v) P C safe can = tt
-if_unsettled (E.Stuck schedule lead_in cycle states) P C safe can = tt
-if_unsettled (E.Endless prefix cycle states) P C safe can = (safe, can)
-if_unsettled (E.Ends states) P C safe can = (safe, can)
-if_unsettled (E.CanEnd states) P C safe can = (safe, can)
-if_unsettled (E.Limit states) P C safe can = tt
+known_unsettled : (l : Liveness) (states : ℕ) (P : ℕ → Type 0) (C : Type 0) → P states → IfCanEnd l C → IfUnsettled (merged_known l states) (λ k. P k × C)
+known_unsettled (L.Stuck schedule lead_in cycle) states P C safe can = tt
+known_unsettled (L.Endless prefix cycle) states P C safe can = (safe, can)
+known_unsettled L.Ends states P C safe can = (safe, can)
+known_unsettled L.CanEnd states P C safe can = (safe, can)
 
--- merged steps have found that they can
-pub can_end : (e : EndExplored) (states : ℕ) (P : ℕ → Type 0) (C : Type 0) → merged_found e ≡ F.Unsettled states
-    → IfSafe (never_answer e) P → IfCanEnd e C → P states × C
-can_end e states P C is safe can = subst (λ found. IfUnsettled found (λ k. P k × C)) is (if_unsettled e P C safe can)
+fault_settled : (f : Fault) (P : ℕ → Type 0) → IfUnsettled (fault_of f) P
+fault_settled (Trapped schedule) P = tt
+fault_settled (Broken schedule line v) P = tt
+
+module _ (a : WholeProgram ℕ) (asked : MustStop) where
+  if_unsettled : (e : Verdict Fault Liveness) (P : ℕ → Type 0) → IfSafe e P → IfKnown e (KnowsEnds a asked Merged)
+      → IfUnsettled (merged_found e) (λ k. P k × CanAlwaysEnd a asked)
+  if_unsettled (V.Found fault) P safe known = fault_settled fault (λ k. P k × CanAlwaysEnd a asked)
+  if_unsettled (V.Nowhere states l) P safe known = known_unsettled l states P (CanAlwaysEnd a asked) safe known.can
+  if_unsettled (V.Limit states) P safe known = tt
+
+  -- merged steps have found that they can
+  pub can_end : (e : Verdict Fault Liveness) (states : ℕ) (P : ℕ → Type 0) → merged_found e ≡ F.Unsettled states
+      → IfSafe e P → IfKnown e (KnowsEnds a asked Merged) → P states × CanAlwaysEnd a asked
+  can_end e states P is safe known = subst (λ found. IfUnsettled found (λ k. P k × CanAlwaysEnd a asked)) is (if_unsettled e P safe known)
 
 module _ (a : WholeProgram ℕ) (lines : List Formula) (limits : Limits) (asked : MustStop) where
-  pub settled_is : (e : EndExplored) (merged : ℕ) → IfSafe (never_answer e) (IsNeverSafe a lines limits) → IfEndless e (GoesOn a asked) → IfEnds e (EndsIfFair a asked)
-      → IsMergedNeverSafe a lines limits merged × CanAlwaysEnd a asked → IsFoundOfAsked a lines limits asked (settled e merged)
-  settled_is (E.Trapped schedule) merged safe endless ends is = is
-  settled_is (E.Broken schedule line v) merged safe endless ends is = is
-  settled_is (E.Stuck schedule lead_in cycle states) merged safe endless ends is = is
-  settled_is (E.Endless prefix cycle states) merged safe endless ends is = (safe, is.1, prefix.items, cycle.items, endless)
-  settled_is (E.Ends states) merged safe endless ends is = (safe, is.1, ends)
-  settled_is (E.CanEnd states) merged safe endless ends is = is
-  settled_is (E.Limit states) merged safe endless ends is = is
+  known_is : (l : Liveness) (states merged : ℕ) → IsSafe a lines limits states → KnowsEnds a asked Single l
+      → IsMergedSafe a lines limits merged × CanAlwaysEnd a asked → IsFoundOfAsked a lines limits asked (single_known l states merged)
+  known_is (L.Stuck schedule lead_in cycle) states merged safe known is = (is.0, schedule.items, record { lawful = known.stuck.lawful; stuck = known.stuck.stuck })
+  known_is (L.Endless prefix cycle) states merged safe known is = (safe, is.1, prefix.items, cycle.items, known.for_ever)
+  known_is L.Ends states merged safe known is = (safe, is.1, known.ends)
+  known_is L.CanEnd states merged safe known is = absurd known.known
+
+  pub settled_is : (e : Verdict Fault Liveness) (merged : ℕ) → IfTrapped e (IsShortestTrapped a lines) → IfBroken e (IsShortestBroken a lines)
+      → IfSafe e (IsSafe a lines limits) → IfLimit e (IsLimit a lines limits) → IfKnown e (KnowsEnds a asked Single)
+      → IsMergedSafe a lines limits merged × CanAlwaysEnd a asked → IsFoundOfAsked a lines limits asked (settled e merged)
+  settled_is (V.Found (Trapped schedule)) merged trapped broken safe limit known is = (schedule.items, record { lawful = trapped.lawful; traps = trapped.traps })
+  settled_is (V.Found (Broken schedule line v)) merged trapped broken safe limit known is = (schedule.items, line, v, broken.broken)
+  settled_is (V.Nowhere states l) merged trapped broken safe limit known is = known_is l states merged safe known is
+  settled_is (V.Limit states) merged trapped broken safe limit known is = (is.0, is.1, states, limit)

@@ -3,13 +3,13 @@ use Rattle.language_questions.specs.declared.questions.Expected.{Expected}
 use Rattle.language_questions.specs.declared.questions.Expected.TheVariants as X
 use Rattle.ticklab_check.specs.declared.checked.Checked.{Checked}
 use Rattle.ticklab_check.specs.declared.checked.Checked.TheVariants as C
-use Rattle.ticklab_check.specs.declared.checked.Verdict.{Verdict}
-use Rattle.ticklab_check.specs.declared.checked.Verdict.TheVariants as V
+use Rattle.ticklab_check.specs.declared.checked.Comparison.{Comparison}
+use Rattle.ticklab_check.specs.declared.checked.Comparison.TheVariants as V
 use Rattle.ticklab_check.specs.declared.found.Found.{Found}
 use Rattle.ticklab_check.specs.declared.found.Found.TheVariants as F
 
 -- what is found, beside what was expected
-abbrev pub compared : Found → Expected → Verdict
+abbrev pub compared : Found → Expected → Comparison
 compared (F.Safe states) X.Safe = V.AsExpected
 compared (F.Ends states) X.Safe = V.AsExpected
 compared F.Trap X.Trap = V.AsExpected
@@ -21,6 +21,6 @@ compared (F.Limit states) expected = V.Limit
 compared found expected = V.Otherwise
 
 -- nothing else is expected of a refused file than to be a program
-abbrev pub verdict_of : Checked → Verdict
-verdict_of (C.Refused report) = V.Otherwise
-verdict_of (C.Searched found expected) = compared found expected
+abbrev pub comparison_of : Checked → Comparison
+comparison_of (C.Refused report) = V.Otherwise
+comparison_of (C.Searched found expected) = compared found expected

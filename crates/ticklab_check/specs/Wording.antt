@@ -6,13 +6,13 @@ use Rattle.language_questions.specs.declared.questions.Expected.{Expected}
 use Rattle.language_questions.specs.declared.questions.Expected.TheVariants as X
 use Rattle.searches_states.specs.declared.limits.Limits.{Limits}
 use Rattle.ticklab_check.specs.Checking.{SourceComesTo}
-use Rattle.ticklab_check.specs.Comparing.{compared, verdict_of}
+use Rattle.ticklab_check.specs.Comparing.{compared, comparison_of}
 use Rattle.ticklab_check.specs.Words.{found_word, states_of}
 use Rattle.ticklab_check.specs.declared.checked.Checked.{Checked}
 use Rattle.ticklab_check.specs.declared.checked.Checked.TheVariants as C
 use Rattle.ticklab_check.specs.declared.checked.Timed.{Timed}
-use Rattle.ticklab_check.specs.declared.checked.Verdict.{Verdict}
-use Rattle.ticklab_check.specs.declared.checked.Verdict.TheVariants as V
+use Rattle.ticklab_check.specs.declared.checked.Comparison.{Comparison}
+use Rattle.ticklab_check.specs.declared.checked.Comparison.TheVariants as V
 use Rattle.ticklab_check.specs.declared.found.Found.{Found}
 use Rattle.ticklab_check.specs.declared.found.Found.TheVariants as F
 use Rattle.ticklab_check.specs.declared.reporting.Findings.{Findings}
@@ -33,7 +33,7 @@ expected_text X.Never = codes "never"
 expected_text X.Stuck = codes "stuck"
 
 -- how it compares with what was expected: of a safe program that was expected to be safe nothing is said
-abbrev pub verdict_text : Verdict → Expected → List ℕ
+abbrev pub verdict_text : Comparison → Expected → List ℕ
 verdict_text V.AsExpected X.Safe = []
 verdict_text V.AsExpected expected = codes ", as expected"
 verdict_text V.Otherwise expected = codes ", but " ++ expected_text expected ++ codes " was expected"
@@ -78,7 +78,7 @@ abbrev pub files_text : List Source → List Timed → List ℕ
 files_text sources timed = flat_map (λ file. file_text file.0 file.1) (zip sources timed)
 
 -- how many files there are of each verdict
-abbrev pub counted : Verdict → Tally → Tally
+abbrev pub counted : Comparison → Tally → Tally
 counted V.AsExpected t = record t { as_expected = t.as_expected + 1 }
 counted V.Otherwise t = record t { otherwise = t.otherwise + 1 }
 counted V.Limit t = record t { limit = t.limit + 1 }
@@ -86,7 +86,7 @@ counted V.Limit t = record t { limit = t.limit + 1 }
 -- with these after others
 unfoldable pub tallied : Tally → List Timed → Tally
 tallied t [] = t
-tallied t (timed ∷ more) = tallied (counted (verdict_of timed.checked) t) more
+tallied t (timed ∷ more) = tallied (counted (comparison_of timed.checked) t) more
 
 abbrev pub tally_of : List Timed → Tally
 tally_of files = tallied (record { as_expected = 0; otherwise = 0; limit = 0 }) files

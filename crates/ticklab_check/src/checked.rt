@@ -20,7 +20,7 @@ pub struct Timed {
 
 /// How what a file comes to compares with what is expected of it.
 #[derive(Clone, Copy, PartialEq, Eq, Debug)]
-pub enum Verdict {
+pub enum Comparison {
     AsExpected,
     /// It is something else, or the file is refused.
     Otherwise,

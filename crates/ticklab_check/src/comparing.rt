@@ -1,9 +1,9 @@
 // Whether what is found is what was expected.
 ghost use Rattle.std.specs.Prelude.{◌≡◌};
 ghost use Rattle.ticklab_check.specs.Checking.{expected_of};
-ghost use Rattle.ticklab_check.specs.Comparing.{compared, verdict_of};
+ghost use Rattle.ticklab_check.specs.Comparing.{compared, comparison_of};
 
-use crate::checked::{Checked, Verdict};
+use crate::checked::{Checked, Comparison};
 use crate::found::Found;
 use language_questions::Expected;
 
@@ -18,27 +18,27 @@ pub fn expected_of(said: Option<Expected>) -> Expected
 }
 
 /// How this compares with what was expected.
-pub fn compared(found: Found, expected: Expected) -> Verdict
+pub fn compared(found: Found, expected: Expected) -> Comparison
     ensures { result ≡ compared found expected }
 {
     match (found, expected) {
-        (Found::Limit { .. }, _) => Verdict::Limit,
-        (Found::Unsettled { .. }, _) => Verdict::Limit,
+        (Found::Limit { .. }, _) => Comparison::Limit,
+        (Found::Unsettled { .. }, _) => Comparison::Limit,
         (Found::Safe { .. }, Expected::Safe)
         | (Found::Ends { .. }, Expected::Safe)
         | (Found::Trap, Expected::Trap)
         | (Found::Never, Expected::Never)
         | (Found::Stuck { .. }, Expected::Stuck)
-        | (Found::Endless { .. }, Expected::Stuck) => Verdict::AsExpected,
-        _ => Verdict::Otherwise,
+        | (Found::Endless { .. }, Expected::Stuck) => Comparison::AsExpected,
+        _ => Comparison::Otherwise,
     }
 }
 
-pub fn verdict_of(checked: &Checked) -> Verdict
-    ensures { result ≡ verdict_of checked.now }
+pub fn comparison_of(checked: &Checked) -> Comparison
+    ensures { result ≡ comparison_of checked.now }
 {
     match checked {
-        Checked::Refused(_) => Verdict::Otherwise,
+        Checked::Refused(_) => Comparison::Otherwise,
         Checked::Searched { found, expected } => compared(*found, *expected),
     }
 }

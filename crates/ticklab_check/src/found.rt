@@ -19,7 +19,7 @@ pub enum Found {
     /// The same, and they always can; but under some endless schedule, in which each process that runs steps again and
     /// again, they don't. There are so many single states.
     Endless { states: u32 },
-    /// The same, and they always can; whether they will was not found out.
+    /// The same, and they always can; whether they will was not found out, since single steps met a limit.
     Unsettled { states: u32 },
     /// A limit is met: there are more states than this.
     Limit { states: u32 },

@@ -18,9 +18,9 @@ mod tally;
 mod wording;
 
 pub use base::NoMemory;
-pub use checked::{Checked, Timed, Verdict};
+pub use checked::{Checked, Comparison, Timed};
 pub use checks::{AllTimed, Checks, InTurn, Stopwatch, timed_file};
-pub use comparing::verdict_of;
+pub use comparing::comparison_of;
 pub use found::{Found, found_word, states_of};
 pub use language_questions::Expected;
 pub use reporting::{Findings, check};

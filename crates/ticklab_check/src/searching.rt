@@ -5,7 +5,7 @@ ghost use Rattle.searches_explore.specs.Lines.{lines_of};
 ghost use Rattle.tick_kinds.specs.Resolution.{resolved};
 ghost use Rattle.ticketc_refusals.specs.Refusals.{ProgramIn};
 ghost use Rattle.ticklab_check.specs.Checking.{ComesTo, IsFound, IsFoundOfAsked, SourceComesTo, asked_for};
-ghost use Rattle.ticklab_check.specs.prover.Answers.{found_of, merged_found, settled};
+ghost use Rattle.ticklab_check.specs.prover.Answers.{fault_of, found_of, merged_found, merged_known, settled, single_known};
 
 use crate::checked::Checked;
 use crate::comparing::expected_of;
@@ -14,8 +14,7 @@ use crate::source::Source;
 use base::NoMemory;
 use language_questions::{Ends, NeverLine, Property, Questions, questions_of};
 use searches_explore::{
-    EndExplored, Limits, MustStop, NeverExplored, Unwatched, explore_ends, explore_ends_merged,
-    explore_never_merged,
+    Fault, Limits, Liveness, MustStop, StepKind, Unwatched, Verdict, explore, explore_ends,
 };
 use std::alloc::{AllocError, Global};
 use std::str;
@@ -112,21 +111,30 @@ fn found_in(
 {
     match asked {
         None => {
-            let explored = explore_never_merged(alloc, program, lines, limits, &mut Unwatched)?;
+            let kind = StepKind::Merged;
+            let explored = explore(alloc, program, lines, kind, limits, &mut Unwatched)?;
             Ok(found_of(&explored))
         }
         Some(asked) => found_of_asked(alloc, program, lines, asked, limits),
     }
 }
 
-fn found_of(explored: &NeverExplored) -> Found
+fn found_of(explored: &Verdict<Fault, ()>) -> Found
     ensures { result ≡ found_of explored.now }
 {
     match explored {
-        NeverExplored::Trapped(_) => Found::Trap,
-        NeverExplored::Broken { .. } => Found::Never,
-        NeverExplored::Safe { states } => Found::Safe { states: *states },
-        NeverExplored::Limit { states } => Found::Limit { states: *states },
+        Verdict::Found(fault) => fault_of(fault),
+        Verdict::Nowhere { states, .. } => Found::Safe { states: *states },
+        Verdict::Limit { states } => Found::Limit { states: *states },
+    }
+}
+
+fn fault_of(fault: &Fault) -> Found
+    ensures { result ≡ fault_of fault.now }
+{
+    match fault {
+        Fault::Trapped(_) => Found::Trap,
+        Fault::Broken { .. } => Found::Never,
     }
 }
 
@@ -140,38 +148,57 @@ fn found_of_asked(
 ) -> Result<Found, NoMemory>
     ensures { IfOk result (IsFoundOfAsked (resolved program.now) (lines_of lines.now) limits asked) }
 {
-    let merged = explore_ends_merged(alloc, program, lines, asked, limits, &mut Unwatched)?;
+    let kind = StepKind::Merged;
+    let merged = explore_ends(alloc, program, lines, asked, kind, limits, &mut Unwatched)?;
     match merged_found(&merged) {
         Found::Unsettled { states } => {
-            let single = explore_ends(alloc, program, lines, asked, limits, &mut Unwatched)?;
+            let kind = StepKind::Single;
+            let single = explore_ends(alloc, program, lines, asked, kind, limits, &mut Unwatched)?;
             Ok(settled(&single, states))
         }
         found => Ok(found),
     }
 }
 
-// By merged steps no endless schedule is found, nor that there is none.
-fn merged_found(explored: &EndExplored) -> Found
+fn merged_found(explored: &Verdict<Fault, Liveness>) -> Found
     ensures { result ≡ merged_found explored.now }
 {
     match explored {
-        EndExplored::Trapped(_) => Found::Trap,
-        EndExplored::Broken { .. } => Found::Never,
-        EndExplored::Stuck { states, .. } => Found::Stuck { states: *states },
-        EndExplored::Endless { states, .. }
-        | EndExplored::Ends { states }
-        | EndExplored::CanEnd { states } => Found::Unsettled { states: *states },
-        EndExplored::Limit { states } => Found::Limit { states: *states },
+        Verdict::Found(fault) => fault_of(fault),
+        Verdict::Nowhere { states, known } => merged_known(known, *states),
+        Verdict::Limit { states } => Found::Limit { states: *states },
+    }
+}
+
+// By merged steps no endless schedule is found, nor that there is none.
+fn merged_known(known: &Liveness, states: u32) -> Found
+    ensures { result ≡ merged_known known.now states }
+{
+    match known {
+        Liveness::Stuck { .. } => Found::Stuck { states },
+        Liveness::Endless { .. } | Liveness::Ends | Liveness::CanEnd => Found::Unsettled { states },
     }
 }
 
 // What single steps find, where there are so many merged states and those asked for can always end.
-fn settled(explored: &EndExplored, merged: u32) -> Found
+fn settled(explored: &Verdict<Fault, Liveness>, merged: u32) -> Found
     ensures { result ≡ settled explored.now merged }
 {
     match explored {
-        EndExplored::Endless { states, .. } => Found::Endless { states: *states },
-        EndExplored::Ends { states } => Found::Ends { states: *states },
-        _ => Found::Unsettled { states: merged },
+        Verdict::Found(fault) => fault_of(fault),
+        Verdict::Nowhere { states, known } => single_known(known, *states, merged),
+        Verdict::Limit { .. } => Found::Unsettled { states: merged },
+    }
+}
+
+// They always find out whether those asked for will end.
+fn single_known(known: &Liveness, states: u32, merged: u32) -> Found
+    ensures { result ≡ single_known known.now states merged }
+{
+    match known {
+        Liveness::Endless { .. } => Found::Endless { states },
+        Liveness::Ends => Found::Ends { states },
+        Liveness::Stuck { .. } => Found::Stuck { states: merged },
+        Liveness::CanEnd => Found::Unsettled { states: merged },
     }
 }

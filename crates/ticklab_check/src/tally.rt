@@ -2,8 +2,8 @@
 ghost use Rattle.std.specs.Prelude.{◌≡◌, ◌<◌};
 ghost use Rattle.ticklab_check.specs.Wording.{counted, status_of, tally_of};
 
-use crate::checked::{Timed, Verdict};
-use crate::comparing::verdict_of;
+use crate::checked::{Comparison, Timed};
+use crate::comparing::comparison_of;
 
 /// How many files are as expected, how many are not, and how many met the limit.
 #[derive(Clone, Copy, PartialEq, Eq, Debug)]
@@ -28,22 +28,22 @@ impl Tally {
     }
 
     // With one file more.
-    fn with(self, verdict: Verdict) -> Tally
+    fn with(self, verdict: Comparison) -> Tally
         requires as_expected { self.as_expected < 18446744073709551615 }
         requires otherwise { self.otherwise < 18446744073709551615 }
         requires limit { self.limit < 18446744073709551615 }
         ensures { result ≡ counted verdict self }
     {
         match verdict {
-            Verdict::AsExpected => Tally {
+            Comparison::AsExpected => Tally {
                 as_expected: self.as_expected + 1,
                 ..self
             },
-            Verdict::Otherwise => Tally {
+            Comparison::Otherwise => Tally {
                 otherwise: self.otherwise + 1,
                 ..self
             },
-            Verdict::Limit => Tally {
+            Comparison::Limit => Tally {
                 limit: self.limit + 1,
                 ..self
             },
@@ -62,7 +62,7 @@ pub fn tally_of(files: &[Timed]) -> Tally
         limit: 0,
     };
     for timed in files {
-        tally = tally.with(verdict_of(&timed.checked));
+        tally = tally.with(comparison_of(&timed.checked));
     }
     tally
 }

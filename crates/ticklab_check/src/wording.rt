@@ -3,7 +3,7 @@ ghost use Rattle.std.specs.Prelude.{◌≡◌, ◌++◌, ◌==◌, OnOk, length}
 ghost use Rattle.std.specs.Fmt.{decimal};
 ghost use Rattle.ticklab_check.specs.Wording.{behind_text, checked_text, count_text, expected_text, file_text, files_text, found_text, merged_text, searched_line, seconds_text, states_text, tally_text, verdict_text};
 
-use crate::checked::{Checked, Timed, Verdict};
+use crate::checked::{Checked, Comparison, Timed};
 use crate::comparing::compared;
 use crate::found::{Found, found_word, states_of};
 use crate::source::Source;
@@ -67,13 +67,13 @@ fn found_text(found: Found) -> &'static str
     }
 }
 
-fn push_verdict(text: &mut Vec<u8>, verdict: Verdict, expected: Expected) -> Added
+fn push_verdict(text: &mut Vec<u8>, verdict: Comparison, expected: Expected) -> Added
     ensures { OnOk result (text.new.items ≡ text.old.items ++ verdict_text verdict expected) }
 {
     match (verdict, expected) {
-        (Verdict::AsExpected, Expected::Safe) | (Verdict::Limit, _) => Ok(()),
-        (Verdict::AsExpected, _) => push(text, ", as expected"),
-        (Verdict::Otherwise, _) => {
+        (Comparison::AsExpected, Expected::Safe) | (Comparison::Limit, _) => Ok(()),
+        (Comparison::AsExpected, _) => push(text, ", as expected"),
+        (Comparison::Otherwise, _) => {
             push(text, ", but ")?;
             push(text, expected_text(expected))?;
             push(text, " was expected")

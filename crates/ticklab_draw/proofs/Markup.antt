@@ -17,7 +17,14 @@ use Rattle.ticklab_draw.specs.declared.look.Look.{Look}
 use Rattle.ticklab_draw.specs.declared.mark.Mark.{Mark}
 use Rattle.ticklab_draw.specs.declared.mark.Sight.{Sight}
 use Rattle.ticklab_draw.specs.declared.mark.Sight.TheVariants as S
+use Rattle.ticklab_draw.specs.declared.pieces.TheConstants.{GROUP_END, TEXT_END, TITLE_END, WORDS_END}
+use Rattle.ticklab_draw.specs.declared.never.TheConstants.{MUST_NEVER_HOLD, NEVER_MARK}
+use Rattle.ticklab_draw.specs.declared.page.TheConstants.{ABOUT, ABOUT_END, MARKS_OF_PROCESSES, PAGE_TITLE_END, SEEN_TITLE, TITLE}
 use Rattle.ticklab_draw.specs.declared.shapes.Shape.TheVariants.{Put, Get}
+use Rattle.ticklab_draw.specs.declared.shapes.TheConstants.{ABOVE, BELOW}
+use Rattle.ticklab_draw.specs.declared.style.TheConstants.{BACKDROP, SHEET}
+use Rattle.ticklab_draw.specs.declared.words.TheConstants.{BECOMES, GETS, HAS_VALUE, PROCESS, PUTS, STEP}
+use Rattle.ticklab_draw.specs.declared.writing.TheConstants.{AMPERSAND, APOSTROPHE, GREATER_THAN, LESS_THAN, QUOTE}
 use Rattle.ticklab_draw.specs.Chosen.{chosen_count, is_chosen, lane_of, lanes}
 use Rattle.ticklab_draw.specs.Columns.{columns}
 use Rattle.ticklab_draw.specs.Escapes.{escaped, escaped_byte}
@@ -25,10 +32,10 @@ use Rattle.ticklab_draw.specs.Laws.{MarkupLaw, RenamedLaw, openings, reworded}
 use Rattle.ticklab_draw.specs.Layout.{above_y, band_foot, band_top, behind_x, column_at, column_behind, last_column, page_height, page_width}
 use Rattle.ticklab_draw.specs.Legend.{legend_text}
 use Rattle.ticklab_draw.specs.Never.{Broken, dashed_line, marks_within, moment_text, never_behind, never_label, never_text, never_title, value_text}
-use Rattle.ticklab_draw.specs.Pictures.{about, group_head, group_text, groups_text, heading, page_head, page_size, picture, picture_in, title_element, titled, under_text}
-use Rattle.ticklab_draw.specs.Shapes.{above, below, beside, drawn, drawn_as, label, outline, shape_of, words_text}
-use Rattle.ticklab_draw.specs.Style.{backdrop, sheet}
-use Rattle.ticklab_draw.specs.Words.{act_text, origin_text, row_as, row_text, sentence, sight_text}
+use Rattle.ticklab_draw.specs.Pictures.{group_head, group_text, groups_text, heading, page_head, page_size, picture, picture_in, titled, under_text}
+use Rattle.ticklab_draw.specs.Shapes.{beside, drawn, drawn_as, label, outline, shape_of, words_text}
+use Rattle.ticklab_draw.specs.Words.{act_text, origin_text, read_text, row_as, row_text, sentence, sight_text, written_text}
+use Rattle.ticklab_draw.specs.Writing.{two_numbers}
 
 -- Two texts have as many `<`.
 pub record Alike (a b : List ℕ) : Type 0 where
@@ -58,7 +65,7 @@ where_shown false alike = both []
 
 -- an escaped byte, by what it is
 byte_by : (amp lt gt quote tick odd : Bool) (b : ℕ) → (b == 60) ≡ lt
-    → openings (if amp then codes "&amp;" else if lt then codes "&lt;" else if gt then codes "&gt;" else if quote then codes "&quot;" else if tick then codes "&#39;" else if odd then codes "?" else b ∷ []) ≡ 0
+    → openings (if amp then AMPERSAND.now else if lt then LESS_THAN.now else if gt then GREATER_THAN.now else if quote then QUOTE.now else if tick then APOSTROPHE.now else if odd then codes "?" else b ∷ []) ≡ 0
 byte_by true lt gt quote tick odd b is = refl
 byte_by false true gt quote tick odd b is = refl
 byte_by false false true quote tick odd b is = refl
@@ -90,21 +97,17 @@ module _ (n : ℕ) (rows renamed : List (List ℕ)) (e : length rows ≡ length 
   at_row : (r : ℕ) → Alike (row_text rows r) (row_text renamed r)
   at_row r = named r rows renamed r e
 
-  put_alike : (r v : ℕ) → Alike (row_text rows r ++ codes " := " ++ decimal v) (row_text renamed r ++ codes " := " ++ decimal v)
-  put_alike r v = joined (joined (at_row r) (both (codes " := "))) (both (decimal v))
+  put_alike : (r v : ℕ) → Alike (written_text rows r v) (written_text renamed r v)
+  put_alike r v = joined (joined (at_row r) (both BECOMES.now)) (both (decimal v))
 
-  read_alike : (r i v : ℕ)
-      → Alike (row_text rows r ++ codes "[" ++ decimal i ++ codes "] = " ++ decimal v) (row_text renamed r ++ codes "[" ++ decimal i ++ codes "] = " ++ decimal v)
-  read_alike r i v = joined (joined (joined (joined (at_row r) (both (codes "["))) (both (decimal i))) (both (codes "] = "))) (both (decimal v))
+  read_alike : (r i v : ℕ) → Alike (read_text rows r i v) (read_text renamed r i v)
+  read_alike r i v = joined (joined (joined (joined (at_row r) (both (codes "["))) (both (decimal i))) (both HAS_VALUE.now)) (both (decimal v))
 
-  gets_alike : (r i v : ℕ)
-      → Alike (codes "gets " ++ row_text rows r ++ codes "[" ++ decimal i ++ codes "] = " ++ decimal v)
-      (codes "gets " ++ row_text renamed r ++ codes "[" ++ decimal i ++ codes "] = " ++ decimal v)
-  gets_alike r i v =
-      joined (joined (joined (joined (joined (both (codes "gets ")) (at_row r)) (both (codes "["))) (both (decimal i))) (both (codes "] = "))) (both (decimal v))
+  gets_alike : (r i v : ℕ) → Alike (GETS.now ++ read_text rows r i v) (GETS.now ++ read_text renamed r i v)
+  gets_alike r i v = joined (both GETS.now) (read_alike r i v)
 
   act_alike : (act : Act) → Alike (act_text n rows act) (act_text n renamed act)
-  act_alike (A.Put r v) = joined (joined (joined (both (codes "puts ")) (at_row r)) (both (codes " := "))) (both (decimal v))
+  act_alike (A.Put r v) = joined (both PUTS.now) (put_alike r v)
   act_alike (A.Get r i v) = gets_alike r i v
   act_alike A.Stamp = both _
   act_alike A.Clear = both _
@@ -125,19 +128,19 @@ module _ (n : ℕ) (rows renamed : List (List ℕ)) (e : length rows ≡ length 
   sentence_alike : (m : Mark) → Alike (sentence n rows m) (sentence n renamed m)
   unfolding sentence
   sentence_alike m =
-      joined (both (codes "step " ++ decimal m.step ++ codes ": P" ++ decimal m.process ++ codes " ")) (sight_alike m.sight)
+      joined (both (STEP.now ++ decimal m.step ++ PROCESS.now ++ decimal m.process ++ codes " ")) (sight_alike m.sight)
 
   label_alike : {w v : List ℕ} (head style : List ℕ) → Alike w v → Alike (label head style w) (label head style v)
   unfolding label
-  label_alike head style alike = joined (joined (both (head ++ style ++ codes ">")) alike) (both (codes "</text>"))
+  label_alike head style alike = joined (joined (both (head ++ style ++ codes ">")) alike) (both WORDS_END.now)
 
   put_drawn : {w v : List ℕ} → Alike w v → Alike (drawn_as Put w) (drawn_as Put v)
   unfolding outline words_text
-  put_drawn alike = joined (both (outline Put 0)) (label_alike above [] alike)
+  put_drawn alike = joined (both (outline Put 0)) (label_alike ABOVE.now [] alike)
 
   get_drawn : {w v : List ℕ} → Alike w v → Alike (drawn_as Get w) (drawn_as Get v)
   unfolding outline words_text
-  get_drawn alike = joined (both (outline Get 0)) (label_alike below [] alike)
+  get_drawn alike = joined (both (outline Get 0)) (label_alike BELOW.now [] alike)
 
   act_drawn : (p : ℕ) (act : Act)
       → Alike (drawn_as (shape_of (S.Act act)) (beside n rows p (S.Act act))) (drawn_as (shape_of (S.Act act)) (beside n renamed p (S.Act act)))
@@ -169,7 +172,7 @@ module _ (n : ℕ) (rows renamed : List (List ℕ)) (e : length rows ≡ length 
   unfolding group_text
   group_alike look count c at m =
       where_shown (is_chosen look m)
-      (joined (joined (joined (joined (both (group_head count c at m.process)) (sentence_alike m)) (both (codes "</title>"))) (drawn_alike m)) (both (codes "</g>\n")))
+      (joined (joined (joined (joined (both (group_head count c at m.process)) (sentence_alike m)) (both TITLE_END.now)) (drawn_alike m)) (both GROUP_END.now))
 
   groups_alike : (look : Look) (count : ℕ) (columns : List Column) (at : ℕ) (marks : List Mark)
       → Alike (groups_text look count n rows columns at marks) (groups_text look count n renamed columns at marks)
@@ -183,19 +186,19 @@ titled_alike before title other after = joined (joined (both before) (texts titl
 
 head_alike : (title other : List ℕ) (width height n count : ℕ)
     → Alike (page_head title width height n count) (page_head other width height n count)
-unfolding page_head title_element
+unfolding page_head
 head_alike title other width height n count =
-    joined (joined (both (page_size width height)) (titled_alike (codes "<title id=\"title\">") title other (codes "</title>\n"))) (both (about n count))
+    joined (joined (both (page_size width height)) (titled_alike TITLE.now title other PAGE_TITLE_END.now)) (both (two_numbers ABOUT.now count MARKS_OF_PROCESSES.now n ABOUT_END.now))
 
 heading_alike : (title other : List ℕ) → Alike (heading title) (heading other)
 unfolding heading
 heading_alike title other =
-    joined (both (sheet ++ backdrop)) (titled_alike (codes "<text class=\"title\" x=\"16\" y=\"26\">") title other (codes "</text>\n"))
+    joined (both (SHEET.now ++ BACKDROP.now)) (titled_alike SEEN_TITLE.now title other TEXT_END.now)
 
 never_titled : (b : Broken) (text : List ℕ) → Alike (never_title b) (never_title (reworded text b))
 unfolding never_title
 never_titled b text =
-    joined (joined (joined (joined (both (codes "<g id=\"never\"><title>" ++ moment_text b.steps ++ codes ": ")) (texts b.text text)) (both (codes " must never hold, and "))) (both (value_text b.value))) (both (codes "</title>"))
+    joined (joined (joined (joined (both (NEVER_MARK.now ++ moment_text b.steps ++ codes ": ")) (texts b.text text)) (both MUST_NEVER_HOLD.now)) (both (value_text b.value))) (both TITLE_END.now)
 
 behind_alike : (n : ℕ) (c : Column) (b : Broken) (text : List ℕ) → Alike (never_behind n c b) (never_behind n c (reworded text b))
 unfolding never_behind

@@ -1,6 +1,7 @@
 -- Arrows from puts to the gets that read them. They go where no text stands: in the gutters between columns, and on tracks
 -- between two lanes.
 use Rattle.std.specs.Prelude.{ℕ, ◌+◌, ◌-◌, ◌==◌, nat_lt, if◌then◌else◌, List, [], ◌++◌, codes, slice_get, Option, Some, None}
+use Rattle.ticklab_draw.specs.declared.arrows.TheConstants.{ARROW, ARROW_END, DOWN_TO_RIGHT, FROM_STEP, RIGHT_TO_DOWN, RIGHT_TO_UP, UP_TO_RIGHT}
 use Rattle.ticklab_draw.specs.declared.columns.Column.{Column}
 use Rattle.ticklab_draw.specs.declared.look.Look.{Look}
 use Rattle.ticklab_draw.specs.declared.mark.Mark.{Mark}
@@ -15,21 +16,21 @@ use Rattle.ticklab_draw.specs.Writing.{one_number, two_numbers}
 unfoldable pub turn : ℕ → ℕ → ℕ → List ℕ
 turn x y to =
     if y == to then []
-    else if nat_lt y to then two_numbers (codes "H") (x - 4) (codes "q4 0 4 4V") (to - 4) (codes "q0 4 4 4")
-    else two_numbers (codes "H") (x - 4) (codes "q4 0 4 -4V") (to + 4) (codes "q0 -4 4 -4")
+    else if nat_lt y to then two_numbers (codes "H") (x - 4) RIGHT_TO_DOWN.now (to - 4) DOWN_TO_RIGHT.now
+    else two_numbers (codes "H") (x - 4) RIGHT_TO_UP.now (to + 4) UP_TO_RIGHT.now
 
 -- From the put of this place, in its column, to the get in another column of its band: out of the
 -- sign into the gutter behind its column, there to the height of the way, along it to the gutter before the get, there to the
 -- lane, and to the sign.
 unfoldable pub route_text : ℕ → ℕ → Column → Column → List ℕ
 route_text n from c d =
-    two_numbers (codes "<path class=\"arrow\" d=\"M") (leave_x c) (codes " ") (lane_y n c.band c.lane) []
+    two_numbers ARROW.now (leave_x c) (codes " ") (lane_y n c.band c.lane) []
     ++ turn (out_x c) (lane_y n c.band c.lane) (way_y n from c d) ++ turn (in_x d) (way_y n from c d) (lane_y n c.band d.lane)
-    ++ one_number (codes "H") (reach_x d) (codes "\"/>\n")
+    ++ one_number (codes "H") (reach_x d) ARROW_END.now
 
 -- what stands for it at a get whose put is of an earlier band, or isn't shown
 unfoldable pub from_text : ℕ → Column → ℕ → List ℕ
-from_text n d step = step_text d.x (from_y n d.band d.lane) (codes "from step ") step
+from_text n d step = step_text d.x (from_y n d.band d.lane) FROM_STEP.now step
 
 -- to the get in a column from the put of a step, in that of another place
 unfoldable pub arrow_from : ℕ → ℕ → Column → Column → ℕ → List ℕ

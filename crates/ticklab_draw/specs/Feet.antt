@@ -2,11 +2,13 @@
 -- line through all lanes and the new order. Arrows lead from puts to gets.
 use Rattle.std.specs.Prelude.{ℕ, ◌+◌, if◌then◌else◌, List, [], ◌∷◌, ◌++◌, codes}
 use Rattle.ticklab_draw.specs.declared.columns.Column.{Column}
+use Rattle.ticklab_draw.specs.declared.feet.TheConstants.{CHANGED, ORDER_AT}
 use Rattle.ticklab_draw.specs.declared.look.Look.{Look}
 use Rattle.ticklab_draw.specs.declared.mark.Mark.{Mark}
 use Rattle.ticklab_draw.specs.declared.mark.Sight.{Sight}
 use Rattle.ticklab_draw.specs.declared.mark.Sight.TheVariants as S
 use Rattle.ticklab_draw.specs.declared.mark.Holdings.{Holdings}
+use Rattle.ticklab_draw.specs.declared.pieces.TheConstants.{AND_COLOUR, AND_Y, PATH_END, PATH_FROM, TEXT_END}
 use Rattle.ticklab_draw.specs.Arrows.{arrow_text}
 use Rattle.ticklab_draw.specs.Chosen.{is_chosen}
 use Rattle.ticklab_draw.specs.Colours.{colour, stroke}
@@ -18,13 +20,12 @@ use Rattle.ticklab_draw.specs.Writing.{one_number, two_numbers}
 -- a line through all lanes in the colour of process `p`
 unfoldable pub when_line : ℕ → ℕ → ℕ → ℕ → List ℕ
 when_line x top foot p =
-    stroke (codes "<path class=\"when\"") p ++ two_numbers (codes " d=\"M") x (codes " ") top (codes "V") ++ one_number [] foot (codes "\"/>")
+    stroke CHANGED.now p ++ two_numbers PATH_FROM.now x (codes " ") top (codes "V") ++ one_number [] foot PATH_END.now
 
 -- these processes at this place, in the colour of process `p`
 unfoldable pub order_at : ℕ → ℕ → ℕ → List ℕ → List ℕ
 order_at x y p ps =
-    two_numbers (codes "<text class=\"order\" x=\"") x (codes "\" y=\"") y (codes "\" color=\"") ++ colour p ++ codes "\">"
-    ++ order_words ps ++ codes "</text>\n"
+    two_numbers ORDER_AT.now x AND_Y.now y AND_COLOUR.now ++ colour p ++ codes "\">" ++ order_words ps ++ TEXT_END.now
 
 -- process `p` changed the order to this, in this column
 unfoldable pub order_text : ℕ → Column → ℕ → Holdings → List ℕ

@@ -7,9 +7,11 @@ use Rattle.base.specs.declared.status.Status.{Status}
 use Rattle.base.specs.declared.status.Status.TheVariants as T
 use Rattle.tick_play.specs.Lines.{trap_text}
 use Rattle.ticklab_draw.specs.declared.columns.Column.{Column}
+use Rattle.ticklab_draw.specs.declared.lanes.TheConstants.{AT_X, CAPTION_AT, ENDED, FROM_EDGE, LANE, NAME_AT, ORDER, PROCESS, RUNNING, STATUS, STEP, TRAP, TRAP_STATUS}
 use Rattle.ticklab_draw.specs.declared.mark.Mark.{Mark}
 use Rattle.ticklab_draw.specs.declared.mark.Sight.{Sight}
 use Rattle.ticklab_draw.specs.declared.mark.Sight.TheVariants as S
+use Rattle.ticklab_draw.specs.declared.pieces.TheConstants.{AND_COLOUR, AND_Y, PATH_END, TEXT_END}
 use Rattle.ticklab_draw.specs.Chosen.{is_lane, lane_of}
 use Rattle.ticklab_draw.specs.Colours.{colour, stroke}
 use Rattle.ticklab_draw.specs.Layout.{beside_x, edge, end_x, lane_y, order_y, step_y}
@@ -17,13 +19,11 @@ use Rattle.ticklab_draw.specs.Writing.{one_number, two_numbers}
 
 -- the line of a process at this height up to this place, in its colour
 unfoldable pub lane_line : ℕ → ℕ → ℕ → List ℕ
-lane_line y end p = stroke (codes "<path class=\"lane\"") p ++ one_number (codes " d=\"M50 ") y (codes "H") ++ one_number [] end (codes "\"/>")
+lane_line y end p = stroke LANE.now p ++ one_number FROM_EDGE.now y (codes "H") ++ one_number [] end PATH_END.now
 
 -- its name, in its colour
 unfoldable pub lane_name : ℕ → ℕ → List ℕ
-lane_name y p =
-    one_number (codes "<text class=\"name\" x=\"16\" y=\"") y (codes "\" color=\"") ++ colour p
-    ++ one_number (codes "\">P") p (codes "</text>\n")
+lane_name y p = one_number NAME_AT.now y AND_COLOUR.now ++ colour p ++ one_number PROCESS.now p TEXT_END.now
 
 unfoldable pub lane_text : ℕ → ℕ → ℕ → List ℕ
 lane_text y end p = lane_line y end p ++ lane_name (y + 5) p
@@ -37,13 +37,13 @@ lanes_text lanes n c (suc p) =
 
 -- words at the left edge
 unfoldable pub caption : ℕ → List ℕ → List ℕ
-caption y words = one_number (codes "<text class=\"left\" x=\"16\" y=\"") y (codes "\">") ++ words ++ codes "</text>\n"
+caption y words = one_number CAPTION_AT.now y (codes "\">") ++ words ++ TEXT_END.now
 
 -- the band that ends with this column: its lanes, and what stands below them
 unfoldable pub band_text : List Bool → ℕ → Column → List ℕ
 band_text lanes n c =
-    lanes_text lanes n c n ++ caption (order_y (lane_of lanes n) c.band) (codes "order")
-    ++ caption (step_y (lane_of lanes n) c.band) (codes "step")
+    lanes_text lanes n c n ++ caption (order_y (lane_of lanes n) c.band) ORDER.now
+    ++ caption (step_y (lane_of lanes n) c.band) STEP.now
 
 -- the bands from that of this column on, behind which these stand
 abbrev pub bands_from : List Bool → ℕ → Column → List Column → List ℕ
@@ -72,19 +72,18 @@ abbrev pub end_of : ℕ → List Mark → Status
 end_of p marks = end_from p T.Running marks
 
 abbrev pub end_style : Status → List ℕ
-end_style T.Running = codes "<text class=\"left\""
-end_style T.Ended = codes "<text class=\"left\""
-end_style (T.Trapped trap) = codes "<text class=\"left trap\""
+end_style (T.Trapped trap) = TRAP_STATUS.now
+end_style status = STATUS.now
 
 abbrev pub end_words : Status → List ℕ
-end_words T.Running = codes "running"
-end_words T.Ended = codes "ended"
-end_words (T.Trapped trap) = codes "trap " ++ trap_text trap
+end_words T.Running = RUNNING.now
+end_words T.Ended = ENDED.now
+end_words (T.Trapped trap) = TRAP.now ++ trap_text trap
 
 -- a status at this place
 unfoldable pub end_text : ℕ → ℕ → Status → List ℕ
 end_text x y status =
-    end_style status ++ two_numbers (codes " x=\"") x (codes "\" y=\"") y (codes "\">") ++ end_words status ++ codes "</text>\n"
+    end_style status ++ two_numbers AT_X.now x AND_Y.now y (codes "\">") ++ end_words status ++ TEXT_END.now
 
 -- those of the processes below `p`, beside the lanes that end with this column
 abbrev pub ends_text : List Bool → ℕ → Column → List Mark → ℕ → List ℕ

@@ -14,7 +14,6 @@ pub mod Arrows
 pub mod Feet
 pub mod Legend
 pub mod Never
-pub mod Style
 pub mod Pictures
 pub mod Laws
 pub mod labels

@@ -1,7 +1,6 @@
 -- The marks of a run: one for each event, in order, at the number of its step.
 use Rattle.std.specs.Prelude.{ℕ, ◌+◌, ◌==◌, ◌&&◌, Bool, false, if◌then◌else◌, List, [], ◌∷◌, ◌++◌, length, slice_get, Option, Some, None, option_and_then}
 use Rattle.base.specs.Rows.{padded}
-use Rattle.word_core.specs.Stamps.{Labels}
 use Rattle.base.specs.declared.event.Act.{Act}
 use Rattle.base.specs.declared.event.Act.TheVariants as A
 use Rattle.base.specs.declared.event.Event.{Event}

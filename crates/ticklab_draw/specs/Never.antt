@@ -7,7 +7,9 @@ use Rattle.base.specs.declared.status.Trap.{Trap}
 use Rattle.tick_play.specs.Lines.{trap_text}
 use Rattle.ticklab_draw.specs.declared.columns.Column.{Column}
 use Rattle.ticklab_draw.specs.declared.mark.Mark.{Mark}
+use Rattle.ticklab_draw.specs.declared.pieces.TheConstants.{AND_Y, PATH_END, PATH_FROM, STEP_AT, TITLE_END}
 use Rattle.ticklab_draw.specs.declared.never.NeverMark.{NeverMark}
+use Rattle.ticklab_draw.specs.declared.never.TheConstants.{AFTER_STEP, AT_THE_START, DASHES, ITS_VALUE_IS, IT_TRAPS_WITH, MUST_NEVER_HOLD, NEVER, NEVER_END, NEVER_MARK}
 use Rattle.ticklab_draw.specs.Escapes.{escaped}
 use Rattle.ticklab_draw.specs.Layout.{above_y, band_foot, band_top, behind_x, column_behind}
 use Rattle.ticklab_draw.specs.Writing.{one_number, two_numbers}
@@ -28,34 +30,28 @@ abbrev pub marks_within : ℕ → List Mark → ℕ
 marks_within steps marks = count_by (λ m. nat_le m.step steps) marks
 
 abbrev pub moment_text : ℕ → List ℕ
-moment_text steps = if steps == 0 then codes "at the start" else codes "after step " ++ decimal steps
+moment_text steps = if steps == 0 then AT_THE_START.now else AFTER_STEP.now ++ decimal steps
 
 abbrev pub value_text : Result ℕ Trap → List ℕ
-value_text (Ok v) = codes "its value is " ++ decimal v
-value_text (Err trap) = codes "it traps with " ++ trap_text trap
+value_text (Ok v) = ITS_VALUE_IS.now ++ decimal v
+value_text (Err trap) = IT_TRAPS_WITH.now ++ trap_text trap
 
 -- when the property holds, how it reads, and what it comes to
 unfoldable pub never_title : Broken → List ℕ
 never_title b =
-    codes "<g id=\"never\"><title>" ++ moment_text b.steps ++ codes ": " ++ escaped b.text ++ codes " must never hold, and "
-    ++ value_text b.value ++ codes "</title>"
-
--- how a grey dashed line begins
-unfoldable pub dashes : List ℕ
-dashes = codes "<path fill=\"none\" stroke=\"#666\" stroke-dasharray=\"5 4\""
+    NEVER_MARK.now ++ moment_text b.steps ++ codes ": " ++ escaped b.text ++ MUST_NEVER_HOLD.now ++ value_text b.value ++ TITLE_END.now
 
 -- a line from one height to another
 unfoldable pub dashed_line : ℕ → ℕ → ℕ → List ℕ
-dashed_line x top foot = dashes ++ two_numbers (codes " d=\"M") x (codes " ") top (codes "V") ++ one_number [] foot (codes "\"/>")
+dashed_line x top foot = DASHES.now ++ two_numbers PATH_FROM.now x (codes " ") top (codes "V") ++ one_number [] foot PATH_END.now
 
 abbrev pub never_words : Option ℕ → List ℕ
-never_words None = codes "never"
-never_words (Some number) = codes "never " ++ decimal number
+never_words None = NEVER.now
+never_words (Some number) = NEVER.now ++ codes " " ++ decimal number
 
 -- the words at this place
 unfoldable pub never_label : ℕ → ℕ → Option ℕ → List ℕ
-never_label x y number =
-    two_numbers (codes "<text class=\"step\" x=\"") x (codes "\" y=\"") y (codes "\">") ++ never_words number ++ codes "</text></g>\n"
+never_label x y number = two_numbers STEP_AT.now x AND_Y.now y (codes "\">") ++ never_words number ++ NEVER_END.now
 
 -- the mark in the gutter behind a column
 unfoldable pub never_behind : ℕ → Column → Broken → List ℕ

@@ -1,11 +1,13 @@
 -- Who holds a ticket, from the smallest ticket to the greatest.
-use Rattle.std.specs.Prelude.{ℕ, zero, suc, ◌==◌, ◌&&◌, nat_lt, Bool, if◌then◌else◌, List, [], ◌∷◌, ◌++◌, codes, length, slice_index}
+use Rattle.std.specs.Prelude.{ℕ, zero, suc, ◌==◌, ◌&&◌, nat_lt, Bool, if◌then◌else◌, List, [], ◌∷◌, ◌++◌, length, slice_index}
 use Rattle.std.specs.Fmt.{decimal}
 use Rattle.ticket_core.specs.Tickets.{holds_ticket, tickets_below}
 use Rattle.word_core.specs.Order.{label_ranks}
 use Rattle.word_core.specs.Stamps.{Labels, is_present, label_at}
 use Rattle.ticklab_draw.specs.declared.mark.Holdings.{Holdings}
 use Rattle.ticklab_draw.specs.declared.mark.Holdings.TheVariants as H
+use Rattle.ticklab_draw.specs.declared.orders.TheConstants.{NOBODY}
+use Rattle.ticklab_draw.specs.declared.writing.TheConstants.{LESS_THAN}
 
 -- whether process `i` holds a ticket that has this rank: so many others are smaller
 abbrev pub has_ticket_rank : List ℕ → ℕ → ℕ → Bool
@@ -36,8 +38,8 @@ holders held = holders_below held 6 6
 -- each after a sign that the one before it is older
 abbrev pub younger_text : List ℕ → List ℕ
 younger_text [] = []
-younger_text (p ∷ ps) = codes "&lt;" ++ decimal p ++ younger_text ps
+younger_text (p ∷ ps) = LESS_THAN.now ++ decimal p ++ younger_text ps
 
 abbrev pub order_words : List ℕ → List ℕ
-order_words [] = codes "none"
+order_words [] = NOBODY.now
 order_words (p ∷ ps) = decimal p ++ younger_text ps

@@ -5,6 +5,9 @@ use Rattle.std.specs.Prelude.{ℕ, Bool, ◌+◌, ◌==◌, if◌then◌else◌,
 use Rattle.ticklab_draw.specs.declared.columns.Column.{Column}
 use Rattle.ticklab_draw.specs.declared.look.Look.{Look}
 use Rattle.ticklab_draw.specs.declared.mark.Mark.{Mark}
+use Rattle.ticklab_draw.specs.declared.pieces.TheConstants.{AND_COLOUR, GROUP_END, TEXT_END, TITLE_END}
+use Rattle.ticklab_draw.specs.declared.page.TheConstants.{ABOUT, ABOUT_END, AND_HEIGHT, MARK, MARKS_OF_PROCESSES, MARK_AT, MARK_TITLE, PAGE, PAGE_TITLE_END, SEEN_TITLE, TITLE, VIEW, VIEW_END}
+use Rattle.ticklab_draw.specs.declared.style.TheConstants.{BACKDROP, SHEET}
 use Rattle.ticklab_draw.specs.Chosen.{chosen_count, is_chosen, lane_of, lanes}
 use Rattle.ticklab_draw.specs.Colours.{colour}
 use Rattle.ticklab_draw.specs.Columns.{columns}
@@ -15,26 +18,20 @@ use Rattle.ticklab_draw.specs.Layout.{column_at, lane_y, last_column, page_heigh
 use Rattle.ticklab_draw.specs.Legend.{legend_text}
 use Rattle.ticklab_draw.specs.Never.{Broken, never_text}
 use Rattle.ticklab_draw.specs.Shapes.{drawn}
-use Rattle.ticklab_draw.specs.Style.{backdrop, sheet}
 use Rattle.ticklab_draw.specs.Words.{sentence}
 use Rattle.ticklab_draw.specs.Writing.{one_number, two_numbers}
-
-unfoldable pub group_name : ℕ → List ℕ
-group_name at = one_number (codes "<g id=\"mark-") (at + 1) (codes "\" color=\"")
-
-unfoldable pub group_place : ℕ → ℕ → List ℕ
-group_place x y = two_numbers (codes "\" transform=\"translate(") x (codes " ") y (codes ")\"><title>")
 
 -- the head of the group of the mark of this place and column, which is of process `p`, where there are `n` lanes: its name, its
 -- colour, and where it stands
 unfoldable pub group_head : ℕ → Column → ℕ → ℕ → List ℕ
-group_head n c at p = group_name at ++ colour p ++ group_place c.x (lane_y n c.band c.lane)
+group_head n c at p =
+    one_number MARK.now (at + 1) AND_COLOUR.now ++ colour p ++ two_numbers MARK_AT.now c.x (codes " ") (lane_y n c.band c.lane) MARK_TITLE.now
 
 -- a mark that is shown: its place, what it shows in words, and what is drawn of it
 unfoldable pub group_text : Look → ℕ → ℕ → List (List ℕ) → Column → ℕ → Mark → List ℕ
 group_text look count n rows c at m =
     if is_chosen look m
-    then group_head count c at m.process ++ sentence n rows m ++ codes "</title>" ++ drawn n rows m ++ codes "</g>\n"
+    then group_head count c at m.process ++ sentence n rows m ++ TITLE_END.now ++ drawn n rows m ++ GROUP_END.now
     else []
 
 -- a group for each of these marks, in order, the first of which has this place
@@ -43,31 +40,19 @@ groups_text look count n rows columns at [] = []
 groups_text look count n rows columns at (m ∷ marks) =
     group_text look count n rows (column_at columns at) at m ++ groups_text look count n rows columns (at + 1) marks
 
--- so much of what is drawn in an element is seen
-unfoldable pub page_view : ℕ → ℕ → List ℕ
-page_view width height = two_numbers (codes " viewBox=\"0 0 ") width (codes " ") height (codes "\">\n")
-
--- an element so wide and so high
-unfoldable pub page_element : ℕ → ℕ → List ℕ
-page_element width height =
-    two_numbers (codes "<svg xmlns=\"http://www.w3.org/2000/svg\" role=\"img\" aria-labelledby=\"title about\" width=\"") width (codes "\" height=\"") height (codes "\"")
-
+-- an element so wide and so high, in which so much of what is drawn is seen
 unfoldable pub page_size : ℕ → ℕ → List ℕ
-page_size width height = page_element width height ++ page_view width height
+page_size width height =
+    two_numbers PAGE.now width AND_HEIGHT.now height (codes "\"") ++ two_numbers VIEW.now width (codes " ") height VIEW_END.now
 
 -- the title between these pieces of markup
 unfoldable pub titled : List ℕ → List ℕ → List ℕ → List ℕ
 titled before title after = before ++ escaped title ++ after
 
-unfoldable pub title_element : List ℕ → List ℕ
-title_element title = titled (codes "<title id=\"title\">") title (codes "</title>\n")
-
-unfoldable pub about : ℕ → ℕ → List ℕ
-about n count = two_numbers (codes "<desc id=\"about\">") count (codes " marks of a run; processes: ") n (codes "</desc>\n")
-
 -- the page of this size, its title and what it is of
 unfoldable pub page_head : List ℕ → ℕ → ℕ → ℕ → ℕ → List ℕ
-page_head title width height n count = page_size width height ++ title_element title ++ about n count
+page_head title width height n count =
+    page_size width height ++ titled TITLE.now title PAGE_TITLE_END.now ++ two_numbers ABOUT.now count MARKS_OF_PROCESSES.now n ABOUT_END.now
 
 -- the last part of a path, the name of its file
 abbrev pub name_from : List ℕ → List ℕ → List ℕ
@@ -79,7 +64,7 @@ file_name path = name_from path path
 
 -- the style; and the title, which is seen
 unfoldable pub heading : List ℕ → List ℕ
-heading title = sheet ++ backdrop ++ titled (codes "<text class=\"title\" x=\"16\" y=\"26\">") title (codes "</text>\n")
+heading title = SHEET.now ++ BACKDROP.now ++ titled SEEN_TITLE.now title TEXT_END.now
 
 -- what stands under the marks: lanes, how each process ended, and steps, orders and arrows
 unfoldable pub under_text : Look → List Bool → ℕ → List Column → List Mark → List ℕ

@@ -5,15 +5,18 @@ use Rattle.base.specs.Lines.{spaced}
 use Rattle.word_core.specs.Stamps.{Labels, label_at}
 use Rattle.base.specs.declared.event.Act.{Act}
 use Rattle.base.specs.declared.event.Act.TheVariants as A
+use Rattle.ticklab_draw.specs.declared.beside.TheConstants.{HELD, OLDER_THAN}
 use Rattle.ticklab_draw.specs.declared.mark.Mark.{Mark}
 use Rattle.ticklab_draw.specs.declared.mark.Sight.{Sight}
 use Rattle.ticklab_draw.specs.declared.mark.Sight.TheVariants as S
 use Rattle.ticklab_draw.specs.declared.mark.Holdings.{Holdings}
 use Rattle.ticklab_draw.specs.declared.mark.Holdings.TheVariants as H
+use Rattle.ticklab_draw.specs.declared.pieces.TheConstants.{WORDS_END}
 use Rattle.ticklab_draw.specs.declared.shapes.Shape.{Shape}
 use Rattle.ticklab_draw.specs.declared.shapes.Shape.TheVariants.{Put, Get, Stamp, Clear, Scan, Yes, No, Out, Trap, End, Lost}
+use Rattle.ticklab_draw.specs.declared.shapes.TheConstants.{ABOVE, BAR, BELOW, BROKEN_CIRCLE, CIRCLE, CROSS, EMPTY_DIAMOND, EMPTY_SQUARE, FIELD, FIELD_END, FIELD_TOP, FIELD_WIDTH, FLAG, FLAG_END, FULL_DIAMOND, FULL_SQUARE, INSIDE, ON_FLAG, ON_FLAG_TOP, STRONG, TRAP_STYLE, TRIANGLE}
 use Rattle.ticklab_draw.specs.Layout.{field_half, flag_middle, flag_width}
-use Rattle.ticklab_draw.specs.Words.{answer_text, label_text, row_text}
+use Rattle.ticklab_draw.specs.Words.{answer_text, label_text, read_text, written_text}
 use Rattle.ticklab_draw.specs.Writing.{one_number}
 use Rattle.tick_play.specs.Lines.{trap_text}
 
@@ -50,13 +53,13 @@ own_text p (H.Labels labels) = own_label p labels
 
 -- the words beside an act: a row and a value, ranks, a question with its answer, a value, or why a process was stopped
 abbrev pub beside_act : ℕ → List (List ℕ) → Act → List ℕ
-beside_act n rows (A.Put r v) = row_text rows r ++ codes " := " ++ decimal v
-beside_act n rows (A.Get r i v) = row_text rows r ++ codes "[" ++ decimal i ++ codes "] = " ++ decimal v
+beside_act n rows (A.Put r v) = written_text rows r v
+beside_act n rows (A.Get r i v) = read_text rows r i v
 beside_act n rows A.Stamp = []
 beside_act n rows A.Clear = []
 beside_act n rows (A.Scan ranks) = spaced (map decimal (take n ranks))
-beside_act n rows (A.Older i j answer) = decimal i ++ codes " &lt; " ++ decimal j ++ codes "? " ++ answer_text answer
-beside_act n rows (A.Held i answer) = decimal i ++ codes " held? " ++ answer_text answer
+beside_act n rows (A.Older i j answer) = decimal i ++ OLDER_THAN.now ++ decimal j ++ codes "? " ++ answer_text answer
+beside_act n rows (A.Held i answer) = decimal i ++ HELD.now ++ answer_text answer
 beside_act n rows (A.Out v) = decimal v
 beside_act n rows (A.Trap trap) = trap_text trap
 beside_act n rows A.End = []
@@ -64,59 +67,47 @@ beside_act n rows A.End = []
 -- those beside what a mark of process `p` shows
 abbrev pub beside : ℕ → List (List ℕ) → ℕ → Sight → List ℕ
 beside n rows p (S.Act act) = beside_act n rows act
-beside n rows p (S.Get r i v put) = row_text rows r ++ codes "[" ++ decimal i ++ codes "] = " ++ decimal v
+beside n rows p (S.Get r i v put) = read_text rows r i v
 beside n rows p (S.Stamp held) = own_text p held
 beside n rows p (S.Clear held) = []
 beside n rows p (S.Lost held) = []
 
 -- a field so wide on each side
 unfoldable pub field : ℕ → List ℕ
-field half =
-    one_number (codes "<rect class=\"f\" x=\"-") half (codes "\" y=\"-12\"") ++ one_number (codes " width=\"") (half * 2) (codes "\"")
-    ++ codes " height=\"24\" rx=\"12\"/>"
-
-unfoldable pub flag : ℕ → List ℕ
-flag width = one_number (codes "<path class=\"flag\" d=\"M0 0V-28H") width (codes "l-5 8l5 8H0\"/>")
+field half = one_number FIELD.now half FIELD_TOP.now ++ one_number FIELD_WIDTH.now (half * 2) (codes "\"") ++ FIELD_END.now
 
 -- how each shape is drawn: that of a stamp and that of a value given out are as wide as the letters in them
 unfoldable pub outline : Shape → ℕ → List ℕ
-outline Put letters = codes "<rect class=\"f\" x=\"-7\" y=\"-7\" width=\"14\" height=\"14\"/>"
-outline Get letters = codes "<rect class=\"o\" x=\"-6\" y=\"-6\" width=\"12\" height=\"12\"/>"
+outline Put letters = FULL_SQUARE.now
+outline Get letters = EMPTY_SQUARE.now
 outline Stamp letters = field (field_half letters)
-outline Clear letters = codes "<path class=\"o\" d=\"M-9 -7H9L0 9Z\"/>"
-outline Scan letters = codes "<circle class=\"o\" r=\"8\"/>"
-outline Yes letters = codes "<path class=\"f\" d=\"M-8 0L0 -8L8 0L0 8Z\"/>"
-outline No letters = codes "<path class=\"o\" d=\"M-8 0L0 -8L8 0L0 8Z\"/>"
-outline Out letters = flag (flag_width letters)
-outline Trap letters = codes "<path class=\"x\" d=\"M-8 -8L8 8M8 -8L-8 8\"/>"
-outline End letters = codes "<rect class=\"f\" x=\"-2\" y=\"-11\" width=\"5\" height=\"22\"/>"
-outline Lost letters = codes "<circle class=\"o\" r=\"7\" stroke-dasharray=\"3 2.5\"/>"
-
--- above and below a shape
-abbrev pub above : List ℕ
-above = codes "<text y=\"-14\""
-
-abbrev pub below : List ℕ
-below = codes "<text y=\"21\""
+outline Clear letters = TRIANGLE.now
+outline Scan letters = CIRCLE.now
+outline Yes letters = FULL_DIAMOND.now
+outline No letters = EMPTY_DIAMOND.now
+outline Out letters = one_number FLAG.now (flag_width letters) FLAG_END.now
+outline Trap letters = CROSS.now
+outline End letters = BAR.now
+outline Lost letters = BROKEN_CIRCLE.now
 
 -- words where the text's head says, in this style
 unfoldable pub label : List ℕ → List ℕ → List ℕ → List ℕ
-label head style words = head ++ style ++ codes ">" ++ words ++ codes "</text>"
+label head style words = head ++ style ++ codes ">" ++ words ++ WORDS_END.now
 
 unfoldable pub flag_label : List ℕ → List ℕ
-flag_label words = one_number (codes "<text class=\"on\" x=\"") (flag_middle (length words)) (codes "\" y=\"-16\">") ++ words ++ codes "</text>"
+flag_label words = one_number ON_FLAG.now (flag_middle (length words)) ON_FLAG_TOP.now ++ words ++ WORDS_END.now
 
 -- where the words of each shape stand
 unfoldable pub words_text : Shape → List ℕ → List ℕ
-words_text Put words = label above [] words
-words_text Get words = label below [] words
-words_text Stamp words = label (codes "<text class=\"in\" y=\"4\"") [] words
+words_text Put words = label ABOVE.now [] words
+words_text Get words = label BELOW.now [] words
+words_text Stamp words = label INSIDE.now [] words
 words_text Clear words = []
-words_text Scan words = label below (codes " class=\"strong\"") words
-words_text Yes words = label below [] words
-words_text No words = label below [] words
+words_text Scan words = label BELOW.now STRONG.now words
+words_text Yes words = label BELOW.now [] words
+words_text No words = label BELOW.now [] words
 words_text Out words = flag_label words
-words_text Trap words = label above (codes " class=\"trap\"") words
+words_text Trap words = label ABOVE.now TRAP_STYLE.now words
 words_text End words = []
 words_text Lost words = []
 

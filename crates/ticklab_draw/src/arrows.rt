@@ -9,7 +9,23 @@ use crate::layout::{
 };
 use crate::look::{Look, is_chosen};
 use crate::mark::{Mark, Sight};
+use crate::pieces::{AND_Y, STEP_AT, TEXT_END};
 use crate::writing::{Added, push_one, push_two};
+
+const FROM_STEP: &str = "from step ";
+
+// An arrow, and the corners on its way.
+const ARROW: &str = "<path class=\"arrow\" d=\"M";
+
+const RIGHT_TO_DOWN: &str = "q4 0 4 4V";
+
+const DOWN_TO_RIGHT: &str = "q0 4 4 4";
+
+const RIGHT_TO_UP: &str = "q4 0 4 -4V";
+
+const UP_TO_RIGHT: &str = "q0 -4 4 -4";
+
+const ARROW_END: &str = "\"/>\n";
 
 /// The put that is read, by its place among the marks.
 pub fn read_from(sight: Sight) -> Option<usize>
@@ -92,7 +108,7 @@ fn push_from(out: &mut Vec<u8>, n: u8, column: Column, step: usize) -> Added
     ensures { OnOk result (out.new.items ≡ out.old.items ++ from_text n column step) }
 {
     let y = from_y(n, column.band, column.lane);
-    push_step(out, u64::from(column.x), y, "from step ", step)
+    push_step(out, u64::from(column.x), y, FROM_STEP, step)
 }
 
 // Within a band: out of the sign into the gutter behind its column, there to the height of the way, along it to
@@ -104,17 +120,10 @@ fn push_route(out: &mut Vec<u8>, n: u8, from: usize, start: Column, column: Colu
     let y = lane_y(n, start.band, start.lane);
     let end = lane_y(n, start.band, column.lane);
     let way = way_y(n, from, start, column);
-    push_two(
-        out,
-        "<path class=\"arrow\" d=\"M",
-        leave_x(start),
-        " ",
-        y,
-        "",
-    )?;
+    push_two(out, ARROW, leave_x(start), " ", y, "")?;
     push_turn(out, right_x(start) + ARROW_BEHIND, y, way)?;
     push_turn(out, in_x(column), way, end)?;
-    push_one(out, "H", u128::from(reach_x(column)), "\"/>\n")
+    push_one(out, "H", u128::from(reach_x(column)), ARROW_END)
 }
 
 // On the way to the right, from one height to another at this place, round both corners.
@@ -127,16 +136,10 @@ fn push_turn(out: &mut Vec<u8>, x: u64, y: u128, to: u128) -> Added
     if y == to {
         Ok(())
     } else if y < to {
-        push_two(
-            out,
-            "H",
-            left,
-            "q4 0 4 4V",
-            to.saturating_sub(4),
-            "q0 4 4 4",
-        )
+        let down = to.saturating_sub(4);
+        push_two(out, "H", left, RIGHT_TO_DOWN, down, DOWN_TO_RIGHT)
     } else {
-        push_two(out, "H", left, "q4 0 4 -4V", to + 4, "q0 -4 4 -4")
+        push_two(out, "H", left, RIGHT_TO_UP, to + 4, UP_TO_RIGHT)
     }
 }
 
@@ -145,7 +148,6 @@ fn push_turn(out: &mut Vec<u8>, x: u64, y: u128, to: u128) -> Added
 pub fn push_step(out: &mut Vec<u8>, x: u64, y: u128, words: &str, step: usize) -> Added
     ensures { OnOk result (out.new.items ≡ out.old.items ++ step_text x y words.now step) }
 {
-    let begin = "<text class=\"step\" x=\"";
-    push_two(out, begin, x, "\" y=\"", y, "\">")?;
-    push_one(out, words, step as u128, "</text>\n")
+    push_two(out, STEP_AT, x, AND_Y, y, "\">")?;
+    push_one(out, words, step as u128, TEXT_END)
 }

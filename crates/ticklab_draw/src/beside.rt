@@ -13,6 +13,11 @@ use std::alloc::{AllocError, Global};
 use tick_play::trap_name;
 use word_core::LabelWord;
 
+// Questions about two processes and about one.
+const OLDER_THAN: &str = " &lt; ";
+
+const HELD: &str = " held? ";
+
 /// The words beside a mark.
 pub fn beside(alloc: Global, cast: Cast<'_>, mark: &Mark) -> Result<Vec<u8>, AllocError>
     ensures { IfOk result (λ words. words.items ≡ beside cast.entry.processes (names cast.entry.registers.now) mark.now.process mark.now.sight) }
@@ -50,17 +55,17 @@ fn push_beside_act(out: &mut Vec<u8>, cast: Cast<'_>, act: Act) -> Added
 
 #[tactic(auto, unfolding(crate::specs::Writing::two_numbers))]
 fn push_compared(out: &mut Vec<u8>, i: u8, j: u8, answer: u8) -> Added
-    ensures { OnOk result (out.new.items ≡ out.old.items ++ (decimal i ++ codes " &lt; " ++ decimal j ++ codes "? " ++ answer_text answer)) }
+    ensures { OnOk result (out.new.items ≡ out.old.items ++ (decimal i ++ OLDER_THAN.now ++ decimal j ++ codes "? " ++ answer_text answer)) }
 {
-    push_two(out, "", u64::from(i), " &lt; ", u128::from(j), "? ")?;
+    push_two(out, "", u64::from(i), OLDER_THAN, u128::from(j), "? ")?;
     push_answer(out, answer)
 }
 
 #[tactic(auto, unfolding(crate::specs::Writing::one_number))]
 fn push_asked(out: &mut Vec<u8>, index: u8, answer: u8) -> Added
-    ensures { OnOk result (out.new.items ≡ out.old.items ++ (decimal index ++ codes " held? " ++ answer_text answer)) }
+    ensures { OnOk result (out.new.items ≡ out.old.items ++ (decimal index ++ HELD.now ++ answer_text answer)) }
 {
-    push_one(out, "", u128::from(index), " held? ")?;
+    push_one(out, "", u128::from(index), HELD)?;
     push_answer(out, answer)
 }
 

@@ -10,8 +10,13 @@ use crate::layout::{band_foot, band_top, column_at, order_y, step_y};
 use crate::look::{Look, is_chosen};
 use crate::mark::{Holdings, Mark, Sight};
 use crate::orders::{holders, push_order_words};
+use crate::pieces::{AND_COLOUR, AND_Y, PATH_END, PATH_FROM, TEXT_END};
 use crate::writing::{Added, push, push_one, push_two};
 use std::alloc::Global;
+
+const CHANGED: &str = "<path class=\"when\"";
+
+const ORDER_AT: &str = "<text class=\"order\" x=\"";
 
 /// Adds what stands below the lanes for each of these marks that is shown, which have these columns.
 pub fn push_feet(
@@ -93,19 +98,18 @@ fn push_order(
 fn push_when(out: &mut Vec<u8>, x: u64, top: u128, foot: u128, p: u8) -> Added
     ensures { OnOk result (out.new.items ≡ out.old.items ++ when_line x top foot p) }
 {
-    push_stroke(out, "<path class=\"when\"", p)?;
-    push_two(out, " d=\"M", x, " ", top, "V")?;
-    push_one(out, "", foot, "\"/>")
+    push_stroke(out, CHANGED, p)?;
+    push_two(out, PATH_FROM, x, " ", top, "V")?;
+    push_one(out, "", foot, PATH_END)
 }
 
 #[tactic(auto, unfolding(crate::specs::Feet::order_at))]
 fn push_order_at(out: &mut Vec<u8>, x: u64, y: u128, p: u8, processes: &[u8]) -> Added
     ensures { OnOk result (out.new.items ≡ out.old.items ++ order_at x y p processes.now) }
 {
-    let begin = "<text class=\"order\" x=\"";
-    push_two(out, begin, x, "\" y=\"", y, "\" color=\"")?;
+    push_two(out, ORDER_AT, x, AND_Y, y, AND_COLOUR)?;
     push_colour(out, p)?;
     push(out, "\">")?;
     push_order_words(out, processes)?;
-    push(out, "</text>\n")
+    push(out, TEXT_END)
 }

@@ -9,9 +9,38 @@ use crate::columns::Column;
 use crate::layout::{EDGE, LANES_BEHIND, WORDS_BEHIND, lane_y, order_y, right_x, step_y};
 use crate::look::{is_lane, lane_of};
 use crate::mark::{Mark, Sight};
+use crate::pieces::{AND_COLOUR, AND_Y, PATH_END, TEXT_END};
 use crate::writing::{Added, push, push_one, push_two};
 use base::{Act, Status};
 use tick_play::trap_name;
+
+const LANE: &str = "<path class=\"lane\"";
+
+const FROM_EDGE: &str = " d=\"M50 ";
+
+// Words at the left edge.
+const NAME_AT: &str = "<text class=\"name\" x=\"16\" y=\"";
+
+const PROCESS: &str = "\">P";
+
+const CAPTION_AT: &str = "<text class=\"left\" x=\"16\" y=\"";
+
+const ORDER: &str = "order";
+
+const STEP: &str = "step";
+
+// How a process stands.
+const STATUS: &str = "<text class=\"left\"";
+
+const TRAP_STATUS: &str = "<text class=\"left trap\"";
+
+const AT_X: &str = " x=\"";
+
+const RUNNING: &str = "running";
+
+const ENDED: &str = "ended";
+
+const TRAP: &str = "trap ";
 
 /// Adds the bands of these columns.
 pub fn push_bands(out: &mut Vec<u8>, lanes: &[bool], n: u8, columns: &[Column]) -> Added
@@ -42,8 +71,8 @@ fn push_band(out: &mut Vec<u8>, lanes: &[bool], n: u8, last: Column) -> Added
 {
     let count = lane_of(lanes, n);
     push_lanes(out, lanes, n, last)?;
-    push_caption(out, order_y(count, last.band), "order")?;
-    push_caption(out, step_y(count, last.band), "step")
+    push_caption(out, order_y(count, last.band), ORDER)?;
+    push_caption(out, step_y(count, last.band), STEP)
 }
 
 fn push_lanes(out: &mut Vec<u8>, lanes: &[bool], n: u8, last: Column) -> Added
@@ -80,18 +109,18 @@ fn push_lane(out: &mut Vec<u8>, y: u128, end: u64, p: u8) -> Added
 fn push_lane_line(out: &mut Vec<u8>, y: u128, end: u64, p: u8) -> Added
     ensures { OnOk result (out.new.items ≡ out.old.items ++ lane_line y end p) }
 {
-    push_stroke(out, "<path class=\"lane\"", p)?;
-    push_one(out, " d=\"M50 ", y, "H")?;
-    push_one(out, "", u128::from(end), "\"/>")
+    push_stroke(out, LANE, p)?;
+    push_one(out, FROM_EDGE, y, "H")?;
+    push_one(out, "", u128::from(end), PATH_END)
 }
 
 #[tactic(auto, unfolding(crate::specs::Lanes::lane_name))]
 fn push_lane_name(out: &mut Vec<u8>, y: u128, p: u8) -> Added
     ensures { OnOk result (out.new.items ≡ out.old.items ++ lane_name y p) }
 {
-    push_one(out, "<text class=\"name\" x=\"16\" y=\"", y, "\" color=\"")?;
+    push_one(out, NAME_AT, y, AND_COLOUR)?;
     push_colour(out, p)?;
-    push_one(out, "\">P", u128::from(p), "</text>\n")
+    push_one(out, PROCESS, u128::from(p), TEXT_END)
 }
 
 /// Adds words at the left edge.
@@ -99,9 +128,9 @@ fn push_lane_name(out: &mut Vec<u8>, y: u128, p: u8) -> Added
 pub fn push_caption(out: &mut Vec<u8>, y: u128, words: &str) -> Added
     ensures { OnOk result (out.new.items ≡ out.old.items ++ caption y words.now) }
 {
-    push_one(out, "<text class=\"left\" x=\"16\" y=\"", y, "\">")?;
+    push_one(out, CAPTION_AT, y, "\">")?;
     push(out, words)?;
-    push(out, "</text>\n")
+    push(out, TEXT_END)
 }
 
 /// Adds how each process that has a lane stands after these marks, beside it; it ends with this column.
@@ -169,18 +198,17 @@ fn push_end(out: &mut Vec<u8>, x: u64, y: u128, status: Status) -> Added
     ensures { OnOk result (out.new.items ≡ out.old.items ++ end_text x y status) }
 {
     push(out, end_style(status))?;
-    push_two(out, " x=\"", x, "\" y=\"", y, "\">")?;
+    push_two(out, AT_X, x, AND_Y, y, "\">")?;
     push_end_words(out, status)?;
-    push(out, "</text>\n")
+    push(out, TEXT_END)
 }
 
 fn end_style(status: Status) -> &'static str
     ensures { result.now ≡ end_style status }
 {
     match status {
-        Status::Running => "<text class=\"left\"",
-        Status::Ended => "<text class=\"left\"",
-        Status::Trapped(_) => "<text class=\"left trap\"",
+        Status::Trapped(_) => TRAP_STATUS,
+        _ => STATUS,
     }
 }
 
@@ -188,10 +216,10 @@ fn push_end_words(out: &mut Vec<u8>, status: Status) -> Added
     ensures { OnOk result (out.new.items ≡ out.old.items ++ end_words status) }
 {
     match status {
-        Status::Running => push(out, "running"),
-        Status::Ended => push(out, "ended"),
+        Status::Running => push(out, RUNNING),
+        Status::Ended => push(out, ENDED),
         Status::Trapped(trap) => {
-            push(out, "trap ")?;
+            push(out, TRAP)?;
             push(out, trap_name(trap))
         }
     }

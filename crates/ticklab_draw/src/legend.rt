@@ -1,10 +1,37 @@
 // What the picture's signs mean, below all bands.
 ghost use Rattle.std.specs.Prelude.{◌≡◌, ◌++◌, ◌<◌, ◌^◌, OnOk};
-ghost use Rattle.ticklab_draw.specs.Legend.{first_legend, legend_text, narrow_line, narrow_lines, second_legend, third_legend, wide_legend};
+ghost use Rattle.ticklab_draw.specs.Legend.{legend_text, narrow_line, narrow_lines, wide_legend};
 
 use crate::lanes::push_caption;
 use crate::layout::{is_narrow, page_height};
+use crate::pieces::PICTURE_END;
 use crate::writing::{Added, push};
+
+// The lines of a wide page.
+const FIRST_LEGEND: &str =
+    "■ put · □ get, and an arrow from the put that it reads · ● stamp, with its ticket · ▽ clear · order: who holds a ticket, smallest first";
+
+const SECOND_LEGEND: &str =
+    "○ scan, with ranks · ◆ yes, ◇ no to a question · flag: a value given out · ✕ trap · ▌ end";
+
+const THIRD_LEGEND: &str = "dashed: a lost exchange · step: its number in the schedule";
+
+// Those of a narrow one, each of at most 40 letters.
+const PUT_AND_STAMP: &str = "■ put · ● stamp, with its ticket";
+
+const GET_AND_ARROW: &str = "□ get: arrow from the put that it reads";
+
+const CLEAR_AND_SCAN: &str = "▽ clear · ○ scan, with ranks";
+
+const ORDER_BELOW: &str = "order: who holds a ticket, oldest first";
+
+const YES_AND_NO: &str = "◆ yes, ◇ no to a question";
+
+const OUT_AND_TRAP: &str = "flag: a value given out · ✕ trap";
+
+const END_AND_LOST: &str = "▌ end · dashed: a lost exchange";
+
+const STEP_BELOW: &str = "step: its number in the schedule";
 
 /// Adds the legend of the page of this width with this last band, and the end of the picture.
 #[tactic(auto, unfolding(crate::specs::Legend::legend_text))]
@@ -17,7 +44,7 @@ pub fn push_legend(out: &mut Vec<u8>, n: u8, last: usize, width: u64) -> Added
     } else {
         push_wide(out, foot)?;
     }
-    push(out, "</svg>\n")
+    push(out, PICTURE_END)
 }
 
 // At the foot of a page so high.
@@ -25,9 +52,9 @@ pub fn push_legend(out: &mut Vec<u8>, n: u8, last: usize, width: u64) -> Added
 fn push_wide(out: &mut Vec<u8>, foot: u128) -> Added
     ensures { OnOk result (out.new.items ≡ out.old.items ++ wide_legend foot) }
 {
-    push_caption(out, foot.saturating_sub(62), first_legend())?;
-    push_caption(out, foot.saturating_sub(42), second_legend())?;
-    push_caption(out, foot.saturating_sub(22), third_legend())
+    push_caption(out, foot.saturating_sub(62), FIRST_LEGEND)?;
+    push_caption(out, foot.saturating_sub(42), SECOND_LEGEND)?;
+    push_caption(out, foot.saturating_sub(22), THIRD_LEGEND)
 }
 
 // The lines for a narrow page, from this height on.
@@ -46,34 +73,13 @@ fn narrow_line(at: u8) -> &'static str
     ensures { result.now ≡ narrow_line at }
 {
     match at {
-        0 => "■ put · ● stamp, with its ticket",
-        1 => "□ get: arrow from the put that it reads",
-        2 => "▽ clear · ○ scan, with ranks",
-        3 => "order: who holds a ticket, oldest first",
-        4 => "◆ yes, ◇ no to a question",
-        5 => "flag: a value given out · ✕ trap",
-        6 => "▌ end · dashed: a lost exchange",
-        _ => "step: its number in the schedule",
+        0 => PUT_AND_STAMP,
+        1 => GET_AND_ARROW,
+        2 => CLEAR_AND_SCAN,
+        3 => ORDER_BELOW,
+        4 => YES_AND_NO,
+        5 => OUT_AND_TRAP,
+        6 => END_AND_LOST,
+        _ => STEP_BELOW,
     }
-}
-
-#[tactic(auto, unfolding(crate::specs::Legend::first_legend))]
-fn first_legend() -> &'static str
-    ensures { result.now ≡ first_legend }
-{
-    "■ put · □ get, and an arrow from the put that it reads · ● stamp, with its ticket · ▽ clear · order: who holds a ticket, smallest first"
-}
-
-#[tactic(auto, unfolding(crate::specs::Legend::second_legend))]
-fn second_legend() -> &'static str
-    ensures { result.now ≡ second_legend }
-{
-    "○ scan, with ranks · ◆ yes, ◇ no to a question · flag: a value given out · ✕ trap · ▌ end"
-}
-
-#[tactic(auto, unfolding(crate::specs::Legend::third_legend))]
-fn third_legend() -> &'static str
-    ensures { result.now ≡ third_legend }
-{
-    "dashed: a lost exchange · step: its number in the schedule"
 }

@@ -23,6 +23,7 @@ mod marking;
 mod never;
 mod orders;
 mod page;
+mod pieces;
 mod run;
 mod shapes;
 mod style;

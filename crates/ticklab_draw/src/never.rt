@@ -1,14 +1,33 @@
 // The mark of a property that must never hold, and does.
-ghost use Rattle.std.specs.Prelude.{◌≡◌, ◌++◌, OnOk, codes, option_map};
-ghost use Rattle.std.specs.Fmt.{decimal};
-ghost use Rattle.ticklab_draw.specs.Never.{broken_of, dashed_line, dashes, marks_within, moment_text, never_behind, never_label, never_text, never_title, never_words, value_text};
+ghost use Rattle.std.specs.Prelude.{◌≡◌, ◌++◌, OnOk, option_map};
+ghost use Rattle.ticklab_draw.specs.Never.{broken_of, dashed_line, marks_within, moment_text, never_behind, never_label, never_text, never_title, never_words, value_text};
 
 use crate::columns::Column;
 use crate::layout::{LINE_BEHIND, above_y, band_foot, band_top, column_behind, right_x};
 use crate::mark::Mark;
-use crate::writing::{Added, push, push_escaped_bytes, push_number, push_one, push_two};
+use crate::pieces::{AND_Y, PATH_END, PATH_FROM, STEP_AT, TITLE_END};
+use crate::writing::{Added, push, push_escaped_bytes, push_numbered, push_one, push_two};
 use base::Trap;
 use tick_play::trap_name;
+
+const NEVER_MARK: &str = "<g id=\"never\"><title>";
+
+const AT_THE_START: &str = "at the start";
+
+const AFTER_STEP: &str = "after step ";
+
+const MUST_NEVER_HOLD: &str = " must never hold, and ";
+
+const ITS_VALUE_IS: &str = "its value is ";
+
+const IT_TRAPS_WITH: &str = "it traps with ";
+
+// A grey dashed line.
+const DASHES: &str = "<path fill=\"none\" stroke=\"#666\" stroke-dasharray=\"5 4\"";
+
+const NEVER: &str = "never";
+
+const NEVER_END: &str = "</text></g>\n";
 
 /// A property that must never hold, and does in a run.
 #[derive(Clone, Copy)]
@@ -71,82 +90,61 @@ fn push_never_behind(out: &mut Vec<u8>, n: u8, column: Column, never: NeverMark<
 fn push_never_title(out: &mut Vec<u8>, never: NeverMark<'_>) -> Added
     ensures { OnOk result (out.new.items ≡ out.old.items ++ never_title (broken_of never.entry)) }
 {
-    push(out, "<g id=\"never\"><title>")?;
+    push(out, NEVER_MARK)?;
     push_moment(out, never.steps)?;
     push(out, ": ")?;
     push_escaped_bytes(out, never.text)?;
-    push(out, " must never hold, and ")?;
+    push(out, MUST_NEVER_HOLD)?;
     push_value(out, never.value)?;
-    push(out, "</title>")
+    push(out, TITLE_END)
 }
 
 fn push_moment(out: &mut Vec<u8>, steps: usize) -> Added
     ensures { OnOk result (out.new.items ≡ out.old.items ++ moment_text steps) }
 {
     if steps == 0 {
-        push(out, "at the start")
+        push(out, AT_THE_START)
     } else {
-        push_after(out, steps)
+        push_numbered(out, AFTER_STEP, steps as u64)
     }
-}
-
-fn push_after(out: &mut Vec<u8>, steps: usize) -> Added
-    ensures { OnOk result (out.new.items ≡ out.old.items ++ (codes "after step " ++ decimal steps)) }
-{
-    push(out, "after step ")?;
-    push_number(out, steps as u64)
 }
 
 fn push_value(out: &mut Vec<u8>, value: Result<u32, Trap>) -> Added
     ensures { OnOk result (out.new.items ≡ out.old.items ++ value_text value) }
 {
     match value {
-        Ok(value) => {
-            push(out, "its value is ")?;
-            push_number(out, u64::from(value))
-        }
+        Ok(value) => push_numbered(out, ITS_VALUE_IS, u64::from(value)),
         Err(trap) => {
-            push(out, "it traps with ")?;
+            push(out, IT_TRAPS_WITH)?;
             push(out, trap_name(trap))
         }
     }
-}
-
-// How a grey dashed line begins.
-#[tactic(auto, unfolding(crate::specs::Never::dashes))]
-fn dashes() -> &'static str
-    ensures { result.now ≡ dashes }
-{
-    "<path fill=\"none\" stroke=\"#666\" stroke-dasharray=\"5 4\""
 }
 
 #[tactic(auto, unfolding(crate::specs::Never::dashed_line))]
 fn push_dashed_line(out: &mut Vec<u8>, x: u64, top: u128, foot: u128) -> Added
     ensures { OnOk result (out.new.items ≡ out.old.items ++ dashed_line x top foot) }
 {
-    push(out, dashes())?;
-    push_two(out, " d=\"M", x, " ", top, "V")?;
-    push_one(out, "", foot, "\"/>")
+    push(out, DASHES)?;
+    push_two(out, PATH_FROM, x, " ", top, "V")?;
+    push_one(out, "", foot, PATH_END)
 }
 
 #[tactic(auto, unfolding(crate::specs::Never::never_label))]
 fn push_never_label(out: &mut Vec<u8>, x: u64, y: u128, number: Option<usize>) -> Added
     ensures { OnOk result (out.new.items ≡ out.old.items ++ never_label x y number) }
 {
-    let begin = "<text class=\"step\" x=\"";
-    push_two(out, begin, x, "\" y=\"", y, "\">")?;
+    push_two(out, STEP_AT, x, AND_Y, y, "\">")?;
     push_never_words(out, number)?;
-    push(out, "</text></g>\n")
+    push(out, NEVER_END)
 }
 
 fn push_never_words(out: &mut Vec<u8>, number: Option<usize>) -> Added
     ensures { OnOk result (out.new.items ≡ out.old.items ++ never_words number) }
 {
+    push(out, NEVER)?;
     match number {
-        Some(number) => {
-            push(out, "never ")?;
-            push_number(out, number as u64)
-        }
-        None => push(out, "never"),
+        Some(number) => push_numbered(out, " ", number as u64),
+        None => Ok(()),
     }
 }

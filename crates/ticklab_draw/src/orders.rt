@@ -4,9 +4,12 @@ ghost use Rattle.ticket_core.specs.Tickets.{tickets_below};
 ghost use Rattle.ticklab_draw.specs.Orders.{has_label_rank, has_rank, has_ticket_rank, holders, holders_below, order_words, ranked, younger_text};
 
 use crate::mark::Holdings;
-use crate::writing::{Added, push, push_number};
+use crate::writing::{Added, LESS_THAN, push, push_number, push_numbered};
 use std::alloc::{AllocError, Global};
 use word_core::LabelWord;
+
+// Where no process holds a ticket.
+const NOBODY: &str = "none";
 
 /// All who hold a ticket, the oldest first.
 #[tactic(auto, unfolding(crate::specs::Orders::holders))]
@@ -83,7 +86,7 @@ pub fn push_order_words(out: &mut Vec<u8>, processes: &[u8]) -> Added
             push_number(out, u64::from(*oldest))?;
             push_younger(out, younger)
         }
-        [] => push(out, "none"),
+        [] => push(out, NOBODY),
     }
 }
 
@@ -91,8 +94,7 @@ fn push_younger(out: &mut Vec<u8>, processes: &[u8]) -> Added
     ensures { OnOk result (out.new.items ≡ out.old.items ++ younger_text processes.now) }
 {
     for &process in processes {
-        push(out, "&lt;")?;
-        push_number(out, u64::from(process))?;
+        push_numbered(out, LESS_THAN, u64::from(process))?;
     }
     Ok(())
 }

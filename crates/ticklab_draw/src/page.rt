@@ -2,7 +2,7 @@
 ghost use Rattle.std.specs.Prelude.{◌≡◌, ◌++◌, IfOk, OnOk, option_map};
 ghost use Rattle.ticklab_draw.specs.Never.{broken_of};
 ghost use Rattle.ticklab_draw.specs.Words.{names};
-ghost use Rattle.ticklab_draw.specs.Pictures.{about, file_name, group_head, group_name, group_place, group_text, groups_text, heading, page_element, page_head, page_size, page_view, picture, picture_in, title_element, titled, under_text};
+ghost use Rattle.ticklab_draw.specs.Pictures.{file_name, group_head, group_text, groups_text, heading, page_head, page_size, picture, picture_in, titled, under_text};
 
 use crate::colours::push_colour;
 use crate::columns::{Column, columns};
@@ -13,13 +13,42 @@ use crate::legend::push_legend;
 use crate::look::{Look, chosen_count, is_chosen, lane_of, lanes};
 use crate::mark::Mark;
 use crate::never::{NeverMark, push_never};
+use crate::pieces::{AND_COLOUR, GROUP_END, TEXT_END, TITLE_END};
 use crate::shapes::push_drawn;
-use crate::style::{backdrop, sheet};
+use crate::style::{BACKDROP, SHEET};
 use crate::words::{Cast, push_sentence};
 use crate::writing::{Added, push, push_escaped_bytes, push_one, push_two};
 use base::NoMemory;
 use base::tree::Named;
 use std::alloc::Global;
+
+const PAGE: &str =
+    "<svg xmlns=\"http://www.w3.org/2000/svg\" role=\"img\" aria-labelledby=\"title about\" width=\"";
+
+const AND_HEIGHT: &str = "\" height=\"";
+
+const VIEW: &str = " viewBox=\"0 0 ";
+
+const VIEW_END: &str = "\">\n";
+
+const TITLE: &str = "<title id=\"title\">";
+
+const PAGE_TITLE_END: &str = "</title>\n";
+
+const ABOUT: &str = "<desc id=\"about\">";
+
+const MARKS_OF_PROCESSES: &str = " marks of a run; processes: ";
+
+const ABOUT_END: &str = "</desc>\n";
+
+const SEEN_TITLE: &str = "<text class=\"title\" x=\"16\" y=\"26\">";
+
+// A mark.
+const MARK: &str = "<g id=\"mark-";
+
+const MARK_AT: &str = "\" transform=\"translate(";
+
+const MARK_TITLE: &str = ")\"><title>";
 
 /// Those of the marks of a run of `processes` processes that are shown, as SVG. Rows of registers have these names, and
 /// `r` with its number where there is none. What must never hold has a mark where it does.
@@ -87,40 +116,18 @@ fn push_page(
 ) -> Added
     ensures { OnOk result (out.new.items ≡ out.old.items ++ page_head title.now width height n count) }
 {
+    let (count, n) = (count as u64, u128::from(n));
     push_size(out, width, height)?;
-    push_title(out, title)?;
-    push_about(out, n, count)
+    push_titled(out, TITLE, title, PAGE_TITLE_END)?;
+    push_two(out, ABOUT, count, MARKS_OF_PROCESSES, n, ABOUT_END)
 }
 
 #[tactic(auto, unfolding(crate::specs::Pictures::page_size))]
 fn push_size(out: &mut Vec<u8>, width: u64, height: u128) -> Added
     ensures { OnOk result (out.new.items ≡ out.old.items ++ page_size width height) }
 {
-    push_page_element(out, width, height)?;
-    push_page_view(out, width, height)
-}
-
-#[tactic(auto, unfolding(crate::specs::Pictures::page_element))]
-fn push_page_element(out: &mut Vec<u8>, width: u64, height: u128) -> Added
-    ensures { OnOk result (out.new.items ≡ out.old.items ++ page_element width height) }
-{
-    let begin =
-        "<svg xmlns=\"http://www.w3.org/2000/svg\" role=\"img\" aria-labelledby=\"title about\" width=\"";
-    push_two(out, begin, width, "\" height=\"", height, "\"")
-}
-
-#[tactic(auto, unfolding(crate::specs::Pictures::page_view))]
-fn push_page_view(out: &mut Vec<u8>, width: u64, height: u128) -> Added
-    ensures { OnOk result (out.new.items ≡ out.old.items ++ page_view width height) }
-{
-    push_two(out, " viewBox=\"0 0 ", width, " ", height, "\">\n")
-}
-
-#[tactic(auto, unfolding(crate::specs::Pictures::title_element))]
-fn push_title(out: &mut Vec<u8>, title: &[u8]) -> Added
-    ensures { OnOk result (out.new.items ≡ out.old.items ++ title_element title.now) }
-{
-    push_titled(out, "<title id=\"title\">", title, "</title>\n")
+    push_two(out, PAGE, width, AND_HEIGHT, height, "\"")?;
+    push_two(out, VIEW, width, " ", height, VIEW_END)
 }
 
 // The title between pieces of markup.
@@ -133,30 +140,14 @@ fn push_titled(out: &mut Vec<u8>, before: &str, title: &[u8], after: &str) -> Ad
     push(out, after)
 }
 
-#[tactic(auto, unfolding(crate::specs::Pictures::about))]
-fn push_about(out: &mut Vec<u8>, n: u8, count: usize) -> Added
-    ensures { OnOk result (out.new.items ≡ out.old.items ++ about n count) }
-{
-    let (begin, between) = ("<desc id=\"about\">", " marks of a run; processes: ");
-    push_two(
-        out,
-        begin,
-        count as u64,
-        between,
-        u128::from(n),
-        "</desc>\n",
-    )
-}
-
 // The style; and the title, which is seen.
 #[tactic(auto, unfolding(crate::specs::Pictures::heading))]
 fn push_heading(out: &mut Vec<u8>, title: &[u8]) -> Added
     ensures { OnOk result (out.new.items ≡ out.old.items ++ heading title.now) }
 {
-    push(out, sheet())?;
-    push(out, backdrop())?;
-    let before = "<text class=\"title\" x=\"16\" y=\"26\">";
-    push_titled(out, before, title, "</text>\n")
+    push(out, SHEET)?;
+    push(out, BACKDROP)?;
+    push_titled(out, SEEN_TITLE, title, TEXT_END)
 }
 
 /// The last part of a path, the name of its file.
@@ -229,32 +220,17 @@ fn push_group(
     }
     push_group_head(out, count, column, at, mark.process)?;
     push_sentence(out, cast, mark)?;
-    push(out, "</title>")?;
+    push(out, TITLE_END)?;
     push_drawn(alloc, out, cast, mark)?;
-    push(out, "</g>\n")
+    push(out, GROUP_END)
 }
 
 #[tactic(auto, unfolding(crate::specs::Pictures::group_head))]
 fn push_group_head(out: &mut Vec<u8>, n: u8, column: Column, at: usize, p: u8) -> Added
     ensures { OnOk result (out.new.items ≡ out.old.items ++ group_head n column at p) }
 {
-    push_group_name(out, at)?;
+    push_one(out, MARK, at as u128 + 1, AND_COLOUR)?;
     push_colour(out, p)?;
     let y = lane_y(n, column.band, column.lane);
-    push_group_place(out, u64::from(column.x), y)
-}
-
-#[tactic(auto, unfolding(crate::specs::Pictures::group_name))]
-fn push_group_name(out: &mut Vec<u8>, at: usize) -> Added
-    ensures { OnOk result (out.new.items ≡ out.old.items ++ group_name at) }
-{
-    push_one(out, "<g id=\"mark-", at as u128 + 1, "\" color=\"")
-}
-
-#[tactic(auto, unfolding(crate::specs::Pictures::group_place))]
-fn push_group_place(out: &mut Vec<u8>, x: u64, y: u128) -> Added
-    ensures { OnOk result (out.new.items ≡ out.old.items ++ group_place x y) }
-{
-    let place = "\" transform=\"translate(";
-    push_two(out, place, x, " ", y, ")\"><title>")
+    push_two(out, MARK_AT, u64::from(column.x), " ", y, MARK_TITLE)
 }

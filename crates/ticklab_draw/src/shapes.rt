@@ -1,15 +1,61 @@
 // The shapes of marks, with the words beside them. Each is drawn about the point where its mark stands.
-ghost use Rattle.std.specs.Prelude.{◌≡◌, ◌++◌, ◌<◌, ◌^◌, OnOk, codes};
+ghost use Rattle.std.specs.Prelude.{◌≡◌, ◌++◌, ◌<◌, ◌^◌, OnOk};
 ghost use Rattle.ticklab_draw.specs.Words.{names};
-ghost use Rattle.ticklab_draw.specs.Shapes.{above, act_shape, answer_shape, below, drawn, field, flag, flag_label, label, outline, shape_of, words_text};
+ghost use Rattle.ticklab_draw.specs.Shapes.{act_shape, answer_shape, drawn, field, flag_label, label, outline, shape_of, words_text};
 
 use crate::beside::beside;
 use crate::layout::{field_half, flag_middle, flag_width};
 use crate::mark::{Mark, Sight};
+use crate::pieces::WORDS_END;
 use crate::words::Cast;
 use crate::writing::{Added, push, push_one};
 use base::Act;
 use std::alloc::Global;
+
+const FULL_SQUARE: &str = "<rect class=\"f\" x=\"-7\" y=\"-7\" width=\"14\" height=\"14\"/>";
+
+const EMPTY_SQUARE: &str = "<rect class=\"o\" x=\"-6\" y=\"-6\" width=\"12\" height=\"12\"/>";
+
+const TRIANGLE: &str = "<path class=\"o\" d=\"M-9 -7H9L0 9Z\"/>";
+
+const CIRCLE: &str = "<circle class=\"o\" r=\"8\"/>";
+
+const FULL_DIAMOND: &str = "<path class=\"f\" d=\"M-8 0L0 -8L8 0L0 8Z\"/>";
+
+const EMPTY_DIAMOND: &str = "<path class=\"o\" d=\"M-8 0L0 -8L8 0L0 8Z\"/>";
+
+const CROSS: &str = "<path class=\"x\" d=\"M-8 -8L8 8M8 -8L-8 8\"/>";
+
+const BAR: &str = "<rect class=\"f\" x=\"-2\" y=\"-11\" width=\"5\" height=\"22\"/>";
+
+const BROKEN_CIRCLE: &str = "<circle class=\"o\" r=\"7\" stroke-dasharray=\"3 2.5\"/>";
+
+const FIELD: &str = "<rect class=\"f\" x=\"-";
+
+const FIELD_TOP: &str = "\" y=\"-12\"";
+
+const FIELD_WIDTH: &str = " width=\"";
+
+const FIELD_END: &str = " height=\"24\" rx=\"12\"/>";
+
+const FLAG: &str = "<path class=\"flag\" d=\"M0 0V-28H";
+
+const FLAG_END: &str = "l-5 8l5 8H0\"/>";
+
+// Where words stand, and in which style.
+const ABOVE: &str = "<text y=\"-14\"";
+
+const BELOW: &str = "<text y=\"21\"";
+
+const INSIDE: &str = "<text class=\"in\" y=\"4\"";
+
+const STRONG: &str = " class=\"strong\"";
+
+const TRAP_STYLE: &str = " class=\"trap\"";
+
+const ON_FLAG: &str = "<text class=\"on\" x=\"";
+
+const ON_FLAG_TOP: &str = "\" y=\"-16\">";
 
 /// What stands in a lane for a mark, as the legend has it.
 #[derive(Clone, Copy)]
@@ -82,28 +128,16 @@ fn push_outline(out: &mut Vec<u8>, shape: Shape, letters: usize) -> Added
         Shape::Put => push(out, FULL_SQUARE),
         Shape::Get => push(out, EMPTY_SQUARE),
         Shape::Stamp => push_field(out, field_half(letters)),
-        Shape::Clear => push(out, "<path class=\"o\" d=\"M-9 -7H9L0 9Z\"/>"),
-        Shape::Scan => push(out, "<circle class=\"o\" r=\"8\"/>"),
-        Shape::Yes => push(out, "<path class=\"f\" d=\"M-8 0L0 -8L8 0L0 8Z\"/>"),
-        Shape::No => push(out, "<path class=\"o\" d=\"M-8 0L0 -8L8 0L0 8Z\"/>"),
-        Shape::Out => push_flag(out, flag_width(letters)),
-        Shape::Trap => push(out, "<path class=\"x\" d=\"M-8 -8L8 8M8 -8L-8 8\"/>"),
+        Shape::Clear => push(out, TRIANGLE),
+        Shape::Scan => push(out, CIRCLE),
+        Shape::Yes => push(out, FULL_DIAMOND),
+        Shape::No => push(out, EMPTY_DIAMOND),
+        Shape::Out => push_one(out, FLAG, flag_width(letters), FLAG_END),
+        Shape::Trap => push(out, CROSS),
         Shape::End => push(out, BAR),
         Shape::Lost => push(out, BROKEN_CIRCLE),
     }
 }
-
-// Of a put.
-const FULL_SQUARE: &str = "<rect class=\"f\" x=\"-7\" y=\"-7\" width=\"14\" height=\"14\"/>";
-
-// Of a get.
-const EMPTY_SQUARE: &str = "<rect class=\"o\" x=\"-6\" y=\"-6\" width=\"12\" height=\"12\"/>";
-
-// Of an end.
-const BAR: &str = "<rect class=\"f\" x=\"-2\" y=\"-11\" width=\"5\" height=\"22\"/>";
-
-// Of a lost exchange.
-const BROKEN_CIRCLE: &str = "<circle class=\"o\" r=\"7\" stroke-dasharray=\"3 2.5\"/>";
 
 // A field so wide on each side.
 #[tactic(auto, unfolding(crate::specs::Shapes::field))]
@@ -111,17 +145,9 @@ fn push_field(out: &mut Vec<u8>, half: u128) -> Added
     requires { half < 2 ^ 90 }
     ensures { OnOk result (out.new.items ≡ out.old.items ++ field half) }
 {
-    push_one(out, "<rect class=\"f\" x=\"-", half, "\" y=\"-12\"")?;
-    push_one(out, " width=\"", half * 2, "\"")?;
-    push(out, " height=\"24\" rx=\"12\"/>")
-}
-
-#[tactic(auto, unfolding(crate::specs::Shapes::flag))]
-fn push_flag(out: &mut Vec<u8>, width: u128) -> Added
-    ensures { OnOk result (out.new.items ≡ out.old.items ++ flag width) }
-{
-    let begin = "<path class=\"flag\" d=\"M0 0V-28H";
-    push_one(out, begin, width, "l-5 8l5 8H0\"/>")
+    push_one(out, FIELD, half, FIELD_TOP)?;
+    push_one(out, FIELD_WIDTH, half * 2, "\"")?;
+    push(out, FIELD_END)
 }
 
 #[tactic(auto, unfolding(crate::specs::Shapes::words_text))]
@@ -129,30 +155,18 @@ fn push_words(out: &mut Vec<u8>, shape: Shape, words: &[u8]) -> Added
     ensures { OnOk result (out.new.items ≡ out.old.items ++ words_text shape words.now) }
 {
     match shape {
-        Shape::Put => push_label(out, above(), "", words),
-        Shape::Get => push_label(out, below(), "", words),
-        Shape::Stamp => push_label(out, "<text class=\"in\" y=\"4\"", "", words),
+        Shape::Put => push_label(out, ABOVE, "", words),
+        Shape::Get => push_label(out, BELOW, "", words),
+        Shape::Stamp => push_label(out, INSIDE, "", words),
         Shape::Clear => Ok(()),
-        Shape::Scan => push_label(out, below(), " class=\"strong\"", words),
-        Shape::Yes => push_label(out, below(), "", words),
-        Shape::No => push_label(out, below(), "", words),
+        Shape::Scan => push_label(out, BELOW, STRONG, words),
+        Shape::Yes => push_label(out, BELOW, "", words),
+        Shape::No => push_label(out, BELOW, "", words),
         Shape::Out => push_flag_label(out, words),
-        Shape::Trap => push_label(out, above(), " class=\"trap\"", words),
+        Shape::Trap => push_label(out, ABOVE, TRAP_STYLE, words),
         Shape::End => Ok(()),
         Shape::Lost => Ok(()),
     }
-}
-
-fn above() -> &'static str
-    ensures { result.now ≡ above }
-{
-    "<text y=\"-14\""
-}
-
-fn below() -> &'static str
-    ensures { result.now ≡ below }
-{
-    "<text y=\"21\""
 }
 
 #[tactic(auto, unfolding(crate::specs::Shapes::label))]
@@ -162,7 +176,8 @@ fn push_label(out: &mut Vec<u8>, head: &str, style: &str, words: &[u8]) -> Added
     push(out, head)?;
     push(out, style)?;
     push(out, ">")?;
-    push_rest(out, words)
+    out.extend_from_slice(words)?;
+    push(out, WORDS_END)
 }
 
 #[tactic(auto, unfolding(crate::specs::Shapes::flag_label))]
@@ -170,14 +185,7 @@ fn push_flag_label(out: &mut Vec<u8>, words: &[u8]) -> Added
     ensures { OnOk result (out.new.items ≡ out.old.items ++ flag_label words.now) }
 {
     let middle = flag_middle(words.len());
-    push_one(out, "<text class=\"on\" x=\"", middle, "\" y=\"-16\">")?;
-    push_rest(out, words)
-}
-
-// Words, and the end of their element.
-fn push_rest(out: &mut Vec<u8>, words: &[u8]) -> Added
-    ensures { OnOk result (out.new.items ≡ out.old.items ++ (words.now ++ codes "</text>")) }
-{
+    push_one(out, ON_FLAG, middle, ON_FLAG_TOP)?;
     out.extend_from_slice(words)?;
-    push(out, "</text>")
+    push(out, WORDS_END)
 }

@@ -1,18 +1,63 @@
 // What marks show, in words.
-ghost use Rattle.std.specs.Prelude.{◌≡◌, ◌++◌, ◌+◌, ◌<◌, OnOk, codes, length, map, take, Some};
+ghost use Rattle.std.specs.Prelude.{◌≡◌, ◌++◌, ◌<◌, OnOk, codes, length, map, take, Some};
 ghost use Rattle.std.specs.Fmt.{decimal};
 ghost use Rattle.base.specs.Lines.{spaced};
 ghost use Rattle.word_core.specs.Stamps.{label_at};
-ghost use Rattle.ticklab_draw.specs.Words.{act_text, answer_text, held_text, label_text, origin_text, row_text, sentence, sight_text, names};
+ghost use Rattle.ticklab_draw.specs.Words.{act_text, answer_text, held_text, label_text, origin_text, read_text, row_text, sentence, sight_text, names, written_text};
 ghost use Rattle.tick_play.specs.Lines.{trap_text};
 
 use crate::mark::{Holdings, Mark, Sight};
-use crate::writing::{Added, push, push_escaped, push_number};
+use crate::writing::{Added, push, push_escaped, push_number, push_numbered};
 use base::tree::Named;
 use base::{Act, Trap};
 use label_core::Label;
 use tick_play::trap_name;
 use word_core::LabelWord;
+
+const STEP: &str = "step ";
+
+const PROCESS: &str = ": P";
+
+// What a process did.
+const STAMPS: &str = "stamps";
+
+const CLEARS: &str = "clears";
+
+const ENDS: &str = "ends";
+
+const PUTS: &str = "puts ";
+
+const GETS: &str = "gets ";
+
+const SCANS: &str = "scans: ranks";
+
+const ASKS_WHETHER: &str = "asks whether ";
+
+const IS_OLDER_THAN: &str = " is older than ";
+
+const HOLDS_A_TICKET: &str = " holds a ticket: ";
+
+const GIVES_OUT: &str = "gives out ";
+
+const TRAPS: &str = "traps: ";
+
+const LOSES_AN_EXCHANGE: &str = "loses an exchange";
+
+const TICKETS: &str = "tickets";
+
+const LABELS: &str = "labels";
+
+const BECOMES: &str = " := ";
+
+const HAS_VALUE: &str = "] = ";
+
+const AS_AT_THE_START: &str = ", as at the start";
+
+const PUT_BY_MARK: &str = ", put by mark ";
+
+const NO: &str = "no";
+
+const YES: &str = "yes";
 
 /// What is known besides the marks: how many processes there are, and the names of the rows.
 #[derive(Clone, Copy)]
@@ -26,10 +71,8 @@ pub struct Cast<'a> {
 pub fn push_sentence(out: &mut Vec<u8>, cast: Cast<'_>, mark: &Mark) -> Added
     ensures { OnOk result (out.new.items ≡ out.old.items ++ sentence cast.entry.processes (names cast.entry.registers.now) mark.now) }
 {
-    push(out, "step ")?;
-    push_number(out, mark.step as u64)?;
-    push(out, ": P")?;
-    push_number(out, u64::from(mark.process))?;
+    push_numbered(out, STEP, mark.step as u64)?;
+    push_numbered(out, PROCESS, u64::from(mark.process))?;
     push(out, " ")?;
     push_sight(out, cast, mark.sight)
 }
@@ -40,9 +83,9 @@ fn push_sight(out: &mut Vec<u8>, cast: Cast<'_>, sight: Sight) -> Added
     match sight {
         Sight::Act(act) => push_act(out, cast, act),
         Sight::Get(row, index, value, put) => push_got(out, cast.registers, row, index, value, put),
-        Sight::Stamp(held) => push_left(out, "stamps: ", cast.processes, held),
-        Sight::Clear(held) => push_left(out, "clears: ", cast.processes, held),
-        Sight::Lost(held) => push_left(out, "loses an exchange: ", cast.processes, held),
+        Sight::Stamp(held) => push_left(out, STAMPS, cast.processes, held),
+        Sight::Clear(held) => push_left(out, CLEARS, cast.processes, held),
+        Sight::Lost(held) => push_left(out, LOSES_AN_EXCHANGE, cast.processes, held),
     }
 }
 
@@ -54,17 +97,17 @@ fn push_got(
     value: u32,
     put: Option<usize>,
 ) -> Added
-    ensures { OnOk result (out.new.items ≡ out.old.items ++ codes "gets " ++ row_text (names registers.now) row ++ codes "[" ++ decimal index ++ codes "] = " ++ decimal value ++ origin_text put) }
+    ensures { OnOk result (out.new.items ≡ out.old.items ++ GETS.now ++ read_text (names registers.now) row index value ++ origin_text put) }
 {
-    push(out, "gets ")?;
-    push_read(out, registers, row, index, value)?;
+    push_gets(out, registers, row, index, value)?;
     push_origin(out, put)
 }
 
 fn push_left(out: &mut Vec<u8>, did: &str, n: u8, held: Holdings) -> Added
-    ensures { OnOk result (out.new.items ≡ out.old.items ++ did.now ++ held_text n held) }
+    ensures { OnOk result (out.new.items ≡ out.old.items ++ did.now ++ codes ": " ++ held_text n held) }
 {
     push(out, did)?;
+    push(out, ": ")?;
     push_held(out, n, held)
 }
 
@@ -74,78 +117,67 @@ fn push_act(out: &mut Vec<u8>, cast: Cast<'_>, act: Act) -> Added
     match act {
         Act::Put(row, value) => push_put(out, cast.registers, row, value),
         Act::Get(row, index, value) => push_gets(out, cast.registers, row, index, value),
-        Act::Stamp => push(out, "stamps"),
-        Act::Clear => push(out, "clears"),
+        Act::Stamp => push(out, STAMPS),
+        Act::Clear => push(out, CLEARS),
         Act::Scan(ranks) => push_scanned(out, cast.processes, &ranks),
         Act::Older(i, j, answer) => push_asked(out, i, j, answer),
         Act::Held(index, answer) => push_asked_held(out, index, answer),
-        Act::Out(value) => push_given(out, value),
+        Act::Out(value) => push_numbered(out, GIVES_OUT, u64::from(value)),
         Act::Trap(trap) => push_trap(out, trap),
-        Act::End => push(out, "ends"),
+        Act::End => push(out, ENDS),
     }
 }
 
 fn push_put(out: &mut Vec<u8>, registers: &[Named], row: u8, value: u32) -> Added
-    ensures { OnOk result (out.new.items ≡ out.old.items ++ codes "puts " ++ row_text (names registers.now) row ++ codes " := " ++ decimal value) }
+    ensures { OnOk result (out.new.items ≡ out.old.items ++ PUTS.now ++ written_text (names registers.now) row value) }
 {
-    push(out, "puts ")?;
+    push(out, PUTS)?;
     push_written(out, registers, row, value)
 }
 
 /// A row, and the value that is put into its register.
 pub fn push_written(out: &mut Vec<u8>, registers: &[Named], row: u8, value: u32) -> Added
-    ensures { OnOk result (out.new.items ≡ out.old.items ++ (row_text (names registers.now) row ++ codes " := " ++ decimal value)) }
+    ensures { OnOk result (out.new.items ≡ out.old.items ++ written_text (names registers.now) row value) }
 {
     push_row(out, registers, row)?;
-    push(out, " := ")?;
-    push_number(out, u64::from(value))
+    push_numbered(out, BECOMES, u64::from(value))
 }
 
 fn push_gets(out: &mut Vec<u8>, registers: &[Named], row: u8, index: u8, value: u32) -> Added
-    ensures { OnOk result (out.new.items ≡ out.old.items ++ codes "gets " ++ row_text (names registers.now) row ++ codes "[" ++ decimal index ++ codes "] = " ++ decimal value) }
+    ensures { OnOk result (out.new.items ≡ out.old.items ++ GETS.now ++ read_text (names registers.now) row index value) }
 {
-    push(out, "gets ")?;
+    push(out, GETS)?;
     push_read(out, registers, row, index, value)
 }
 
 fn push_scanned(out: &mut Vec<u8>, n: u8, ranks: &[u8]) -> Added
-    ensures { OnOk result (out.new.items ≡ out.old.items ++ codes "scans: ranks" ++ spaced (map decimal (take n ranks.now))) }
+    ensures { OnOk result (out.new.items ≡ out.old.items ++ SCANS.now ++ spaced (map decimal (take n ranks.now))) }
 {
-    push(out, "scans: ranks")?;
+    push(out, SCANS)?;
     push_ranks(out, n, ranks)
 }
 
 fn push_asked(out: &mut Vec<u8>, i: u8, j: u8, answer: u8) -> Added
-    ensures { OnOk result (out.new.items ≡ out.old.items ++ codes "asks whether " ++ decimal i ++ codes " is older than " ++ decimal j ++ codes ": " ++ answer_text answer) }
+    ensures { OnOk result (out.new.items ≡ out.old.items ++ ASKS_WHETHER.now ++ decimal i ++ IS_OLDER_THAN.now ++ decimal j ++ codes ": " ++ answer_text answer) }
 {
-    push(out, "asks whether ")?;
-    push_number(out, u64::from(i))?;
-    push(out, " is older than ")?;
-    push_number(out, u64::from(j))?;
+    push_numbered(out, ASKS_WHETHER, u64::from(i))?;
+    push_numbered(out, IS_OLDER_THAN, u64::from(j))?;
     push(out, ": ")?;
     push_answer(out, answer)
 }
 
 fn push_asked_held(out: &mut Vec<u8>, index: u8, answer: u8) -> Added
-    ensures { OnOk result (out.new.items ≡ out.old.items ++ codes "asks whether " ++ decimal index ++ codes " holds a ticket: " ++ answer_text answer) }
+    ensures { OnOk result (out.new.items ≡ out.old.items ++ ASKS_WHETHER.now ++ decimal index ++ HOLDS_A_TICKET.now ++ answer_text answer) }
 {
-    push(out, "asks whether ")?;
-    push_number(out, u64::from(index))?;
-    push(out, " holds a ticket: ")?;
+    push_numbered(out, ASKS_WHETHER, u64::from(index))?;
+    push(out, HOLDS_A_TICKET)?;
     push_answer(out, answer)
 }
 
-fn push_given(out: &mut Vec<u8>, value: u32) -> Added
-    ensures { OnOk result (out.new.items ≡ out.old.items ++ codes "gives out " ++ decimal value) }
-{
-    push(out, "gives out ")?;
-    push_number(out, u64::from(value))
-}
-
 fn push_trap(out: &mut Vec<u8>, trap: Trap) -> Added
-    ensures { OnOk result (out.new.items ≡ out.old.items ++ codes "traps: " ++ trap_text trap) }
+    ensures { OnOk result (out.new.items ≡ out.old.items ++ TRAPS.now ++ trap_text trap) }
 {
-    push(out, "traps: ")?;
+    push(out, TRAPS)?;
     push(out, trap_name(trap))
 }
 
@@ -153,18 +185,16 @@ fn push_trap(out: &mut Vec<u8>, trap: Trap) -> Added
 pub fn push_answer(out: &mut Vec<u8>, answer: u8) -> Added
     ensures { OnOk result (out.new.items ≡ out.old.items ++ answer_text answer) }
 {
-    push(out, if answer == 0 { "no" } else { "yes" })
+    push(out, if answer == 0 { NO } else { YES })
 }
 
 /// A register and the value that it has.
 pub fn push_read(out: &mut Vec<u8>, registers: &[Named], row: u8, index: u8, value: u32) -> Added
-    ensures { OnOk result (out.new.items ≡ out.old.items ++ row_text (names registers.now) row ++ codes "[" ++ decimal index ++ codes "] = " ++ decimal value) }
+    ensures { OnOk result (out.new.items ≡ out.old.items ++ read_text (names registers.now) row index value) }
 {
     push_row(out, registers, row)?;
-    push(out, "[")?;
-    push_number(out, u64::from(index))?;
-    push(out, "] = ")?;
-    push_number(out, u64::from(value))
+    push_numbered(out, "[", u64::from(index))?;
+    push_numbered(out, HAS_VALUE, u64::from(value))
 }
 
 /// The name of a row, or `r` and its number where it has none.
@@ -173,10 +203,7 @@ pub fn push_row(out: &mut Vec<u8>, registers: &[Named], row: u8) -> Added
 {
     match registers.get(row as usize) {
         Some(named) => push_escaped(out, &named.name),
-        None => {
-            push(out, "r")?;
-            push_number(out, u64::from(row))
-        }
+        None => push_numbered(out, "r", u64::from(row)),
     }
 }
 
@@ -184,16 +211,9 @@ fn push_origin(out: &mut Vec<u8>, put: Option<usize>) -> Added
     ensures { OnOk result (out.new.items ≡ out.old.items ++ origin_text put) }
 {
     match put {
-        Some(at) => push_put_mark(out, at),
-        None => push(out, ", as at the start"),
+        Some(at) => push_numbered(out, PUT_BY_MARK, at as u128 + 1),
+        None => push(out, AS_AT_THE_START),
     }
-}
-
-fn push_put_mark(out: &mut Vec<u8>, at: usize) -> Added
-    ensures { OnOk result (out.new.items ≡ out.old.items ++ codes ", put by mark " ++ decimal (at + 1)) }
-{
-    push(out, ", put by mark ")?;
-    push_number(out, at as u128 + 1)
 }
 
 /// Ranks of so many processes, each after a space.
@@ -202,8 +222,7 @@ pub fn push_ranks(out: &mut Vec<u8>, n: u8, ranks: &[u8]) -> Added
 {
     let told = &ranks[..ranks.len().min(n as usize)];
     for &rank in told {
-        push(out, " ")?;
-        push_number(out, u64::from(rank))?;
+        push_numbered(out, " ", u64::from(rank))?;
     }
     Ok(())
 }
@@ -213,11 +232,11 @@ fn push_held(out: &mut Vec<u8>, n: u8, held: Holdings) -> Added
 {
     match held {
         Holdings::Tickets(tickets) => {
-            push(out, "tickets")?;
+            push(out, TICKETS)?;
             push_tickets(out, n, &tickets)
         }
         Holdings::Labels(word) => {
-            push(out, "labels")?;
+            push(out, LABELS)?;
             push_labels(out, &word)
         }
     }
@@ -228,8 +247,7 @@ fn push_tickets(out: &mut Vec<u8>, n: u8, tickets: &[u64]) -> Added
 {
     let told = &tickets[..tickets.len().min(n as usize)];
     for &ticket in told {
-        push(out, " ")?;
-        push_number(out, ticket)?;
+        push_numbered(out, " ", ticket)?;
     }
     Ok(())
 }

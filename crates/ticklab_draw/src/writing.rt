@@ -8,6 +8,17 @@ ghost use Rattle.ticklab_draw.specs.Writing.{one_number, two_numbers};
 use itoa::{Buffer, Integer};
 use std::alloc::AllocError;
 
+// How bytes stand in markup that it has a use for.
+const AMPERSAND: &str = "&amp;";
+
+pub const LESS_THAN: &str = "&lt;";
+
+const GREATER_THAN: &str = "&gt;";
+
+const QUOTE: &str = "&quot;";
+
+const APOSTROPHE: &str = "&#39;";
+
 /// It was added to the picture, or memory was refused.
 pub type Added = Result<(), AllocError>;
 
@@ -25,6 +36,14 @@ pub fn push_number<N: Integer>(out: &mut Vec<u8>, number: N) -> Added
     push(out, Buffer::new().format(number))
 }
 
+/// Adds markup and the digits of a number.
+pub fn push_numbered<N: Integer>(out: &mut Vec<u8>, before: &str, number: N) -> Added
+    ensures { OnOk result (out.new.items ≡ out.old.items ++ before.now ++ N.text number) }
+{
+    push(out, before)?;
+    push_number(out, number)
+}
+
 /// How many digits a number has.
 pub fn digits(number: u64) -> usize
     ensures { result ≡ length (decimal number) }
@@ -37,8 +56,7 @@ pub fn digits(number: u64) -> usize
 pub fn push_one(out: &mut Vec<u8>, before: &str, number: u128, after: &str) -> Added
     ensures { OnOk result (out.new.items ≡ out.old.items ++ one_number before.now number after.now) }
 {
-    push(out, before)?;
-    push_number(out, number)?;
+    push_numbered(out, before, number)?;
     push(out, after)
 }
 
@@ -54,10 +72,8 @@ pub fn push_two(
 ) -> Added
     ensures { OnOk result (out.new.items ≡ out.old.items ++ two_numbers before.now first between.now second after.now) }
 {
-    push(out, before)?;
-    push_number(out, first)?;
-    push(out, between)?;
-    push_number(out, second)?;
+    push_numbered(out, before, first)?;
+    push_numbered(out, between, second)?;
     push(out, after)
 }
 
@@ -82,11 +98,11 @@ fn push_byte(out: &mut Vec<u8>, byte: u8) -> Added
     ensures { OnOk result (out.new.items ≡ out.old.items ++ escaped_byte byte) }
 {
     match byte {
-        b'&' => push(out, "&amp;"),
-        b'<' => push(out, "&lt;"),
-        b'>' => push(out, "&gt;"),
-        b'"' => push(out, "&quot;"),
-        b'\'' => push(out, "&#39;"),
+        b'&' => push(out, AMPERSAND),
+        b'<' => push(out, LESS_THAN),
+        b'>' => push(out, GREATER_THAN),
+        b'"' => push(out, QUOTE),
+        b'\'' => push(out, APOSTROPHE),
         0..=31 | 127 => push(out, "?"),
         _ => out.extend_from_slice(&[byte]),
     }

@@ -5,3 +5,4 @@ pub mod Fitting
 pub mod Utf8
 pub mod Backwards
 pub mod Tails
+pub mod Helps

@@ -4,6 +4,7 @@ use Rattle.std.specs.Borrow.{Bor}
 use Rattle.std.specs.List.{list_any, starts_with, ends_with}
 use Rattle.ticklab_explain.specs.Facts.{is_so}
 use Rattle.ticklab_explain.specs.Following.{is_one_of_now}
+use Rattle.ticklab_explain.specs.Helps.{Help, help_of}
 use Rattle.ticklab_explain.specs.Parts.{has}
 use Rattle.ticklab_explain.specs.Rules.{is, is_name_after, is_name_before, wants}
 use Rattle.ticklab_explain.specs.Settings.{Setting, about, after, before, here, shortened}
@@ -49,7 +50,7 @@ fit s wanted so_far [] = so_far
 fit s wanted so_far (condition ∷ conditions) = so_far && fit s wanted (holds s wanted condition) conditions
 
 -- of rules, which are conditions and a hint, the hint of the first whose conditions all hold
-abbrev pub first_fitting : Setting → List Wanted → List (Bor (List Condition) × Hint) → Option Hint
+abbrev pub first_fitting : Setting → List Wanted → List (Bor (List Condition) × Hint) → Option Help
 first_fitting s wanted [] = None
 first_fitting s wanted (rule ∷ rules) =
-    if fit s wanted true rule.0.now then Some rule.1 else first_fitting s wanted rules
+    if fit s wanted true rule.0.now then Some (help_of rule.1) else first_fitting s wanted rules

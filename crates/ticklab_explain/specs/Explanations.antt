@@ -5,6 +5,7 @@ use Rattle.language_questions.specs.declared.fault.QuestionFault.{QuestionFault}
 use Rattle.ticketc_refusals.specs.RefusalLine.{number_and_name}
 use Rattle.ticketc_refusals.specs.declared.refusal.Refusal.{Refusal}
 use Rattle.ticklab_explain.specs.Choosing.{hint_of}
+use Rattle.ticklab_explain.specs.Helps.{Help}
 use Rattle.ticklab_explain.specs.Hints.{hint_text}
 use Rattle.ticklab_explain.specs.Messages.{message_of}
 use Rattle.ticklab_explain.specs.Places.{IsPlace}
@@ -15,7 +16,6 @@ use Rattle.ticklab_explain.specs.Spots.{IsSpanAt, spot_of}
 use Rattle.ticklab_explain.specs.declared.explanation.Explanation.{Explanation}
 use Rattle.ticklab_explain.specs.declared.explanation.InputFault.{InputFault}
 use Rattle.ticklab_explain.specs.declared.explanation.InputFault.TheVariants as I
-use Rattle.ticklab_explain.specs.declared.hint.Hint.{Hint}
 use Rattle.ticklab_explain.specs.declared.place.Place.{Place}
 use Rattle.ticklab_explain.specs.declared.wanted.Wanted.{Wanted}
 
@@ -32,7 +32,7 @@ IsPlaceOf text (Some span) None = ⊥
 IsPlaceOf text (Some span) (Some place) = IsPlace text (min span.start (length text)) place
 
 -- what a hint says, if there is one
-abbrev pub hint_words : Setting → Option Hint → Option (List ℕ)
+abbrev pub hint_words : Setting → Option Help → Option (List ℕ)
 hint_words s hint = option_map (hint_text s) hint
 
 -- the line of `ticketc` without its end

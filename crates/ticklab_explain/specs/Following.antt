@@ -15,6 +15,8 @@ use Rattle.tick_syntax.specs.declared.token.Sort.{Sort}
 use Rattle.tick_syntax.specs.declared.token.Sort.TheVariants as K
 use Rattle.ticklab_explain.specs.Pieces.{joined}
 use Rattle.ticklab_explain.specs.Settings.{Setting, here, sort_here}
+use Rattle.ticklab_explain.specs.declared.expectation.TheConstants.{EXPECTED, FOUND, NO_PROGRAM_GOES_ON, OR, THE_KEYWORD, THE_NAME, THE_NUMBER}
+use Rattle.ticklab_explain.specs.declared.wanted.TheConstants.{AN_EXPRESSION, AN_OPERATOR, A_NAME, A_NUMBER, A_STATEMENT, A_VALUE, END_OF_TEXT}
 use Rattle.ticklab_explain.specs.declared.wanted.Wanted.{Wanted}
 use Rattle.ticklab_explain.specs.declared.wanted.Wanted.TheVariants.{Statement, Value, Expression, Operator, Name as AName, Number, TextEnd, Word}
 
@@ -46,13 +48,13 @@ is_at_end NoMemory length = false
 
 -- a token of what is wanted, where it is of a kind the first of them that comes to mind; and how it is told
 abbrev pub words : Wanted → List ℕ × List ℕ
-words Statement = (codes "stamp", codes "a statement")
-words Value = (codes "get", codes "a value")
-words Expression = (codes "me", codes "an expression")
-words Operator = (codes "+", codes "an operator")
-words AName = (codes "x", codes "a name")
-words Number = (codes "0", codes "a number")
-words TextEnd = ([], codes "the end of the text")
+words Statement = (codes "stamp", A_STATEMENT.now)
+words Value = (codes "get", A_VALUE.now)
+words Expression = (codes "me", AN_EXPRESSION.now)
+words Operator = (codes "+", AN_OPERATOR.now)
+words AName = (codes "x", A_NAME.now)
+words Number = (codes "0", A_NUMBER.now)
+words TextEnd = ([], END_OF_TEXT.now)
 words (Word terminal) = (spelling terminal, joined (codes "`" ∷ spelling terminal ∷ codes "`" ∷ []))
 
 abbrev pub sample : Wanted → List ℕ
@@ -126,25 +128,25 @@ choices word =
 
 -- what stands before the word at this index of so many
 abbrev pub joint : ℕ → ℕ → List ℕ
-joint index count = if index == 0 then [] else if index + 1 == count then codes " or " else codes ", "
+joint index count = if index == 0 then [] else if index + 1 == count then OR.now else codes ", "
 
 abbrev pub listed : ℕ → ℕ → List Wanted → List ℕ
 listed index count [] = []
 listed index count (one ∷ more) = joint index count ++ told one ++ listed (index + 1) count more
 
 abbrev pub opening : List Wanted → List ℕ
-opening [] = codes "no program goes on here"
-opening (one ∷ more) = codes "expected "
+opening [] = NO_PROGRAM_GOES_ON.now
+opening (one ∷ more) = EXPECTED.now
 
 -- the token that was found, and of which sort it is
 abbrev pub found : Option Sort → List ℕ → List ℕ
-found None word = codes "the end of the text"
-found (Some K.Name) word = joined (codes "the name `" ∷ word ∷ codes "`" ∷ [])
-found (Some (K.Num value)) word = joined (codes "the number `" ∷ word ∷ codes "`" ∷ [])
-found (Some K.Keyword) word = joined (codes "the keyword `" ∷ word ∷ codes "`" ∷ [])
+found None word = END_OF_TEXT.now
+found (Some K.Name) word = joined (THE_NAME.now ∷ word ∷ codes "`" ∷ [])
+found (Some (K.Num value)) word = joined (THE_NUMBER.now ∷ word ∷ codes "`" ∷ [])
+found (Some K.Keyword) word = joined (THE_KEYWORD.now ∷ word ∷ codes "`" ∷ [])
 found (Some K.Sign) word = joined (codes "`" ∷ word ∷ codes "`" ∷ [])
 
 -- what is told where no program goes on
 unfoldable pub expectation : Setting → List Wanted → List ℕ
 expectation s wanted =
-    opening wanted ++ listed 0 (length wanted) wanted ++ codes ", found " ++ found (sort_here s) (here s)
+    opening wanted ++ listed 0 (length wanted) wanted ++ FOUND.now ++ found (sort_here s) (here s)

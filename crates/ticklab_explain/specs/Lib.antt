@@ -2,6 +2,7 @@ pub mod Places
 pub mod Spots
 pub mod Pictures
 pub mod Pieces
+pub mod Helps
 pub mod Settings
 pub mod Parts
 pub mod Rewrites

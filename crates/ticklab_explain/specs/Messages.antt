@@ -17,63 +17,60 @@ use Rattle.ticklab_explain.specs.Pieces.{joined}
 use Rattle.ticklab_explain.specs.Settings.{Setting, about, shortened}
 use Rattle.ticketc_refusals.specs.declared.refusal.Refusal.{Refusal}
 use Rattle.ticketc_refusals.specs.declared.refusal.Refusal.TheVariants.{Text, Kinds, Code, Schedule}
+use Rattle.ticklab_explain.specs.declared.messages.TheConstants.{AND_A, BRACKET_TOO_DEEP, BREAKS_A_STAMP, BYTES, CODE_EMPTY, CODE_TOO_LONG, DECLARED_TWICE, EXPECTED_ITEM, GOES_ON_PAST, INPUT_HAS, INSTRUCTION, IS_A, IS_WANTED, ITS_LAST, JUMPS_PAST_THE_END, MOST_BYTES, NAME_HAS, NOT_DECLARED, NO_FIRST_LINE, NO_LINE, NO_PROCESS_AS_IN, NO_SUCH_SLOT, NO_TOKEN_BEGINS, NO_UTF8, NUMBER_TOO_GREAT, ONE_NAME_MORE, OTHER_HEIGHT, PROCESSES_OUT_OF_RANGE, REGISTER, SCAN, SCHEDULE_TOO_LONG, TAKES_TOO_MANY, VARIABLE}
 use Rattle.ticklab_explain.specs.declared.wanted.Wanted.{Wanted}
 
 -- the character at fault is quoted where the text is UTF-8
 unfoldable pub character_message : Setting → List ℕ
-character_message s =
-    if is_utf8 s.text then joined (codes "no token begins with `" ∷ about s ∷ codes "`" ∷ []) else codes "these bytes are no UTF-8"
+character_message s = if is_utf8 s.text then joined (NO_TOKEN_BEGINS.now ∷ about s ∷ codes "`" ∷ []) else NO_UTF8.now
 
 abbrev pub text_message : Setting → List Wanted → TextFault → List ℕ
-text_message s wanted T.TextTooLong =
-    joined (codes "the input has " ∷ decimal (length s.text) ∷ codes " bytes, and at most 1000000 are read" ∷ [])
+text_message s wanted T.TextTooLong = joined (INPUT_HAS.now ∷ decimal (length s.text) ∷ MOST_BYTES.now ∷ [])
 text_message s wanted (T.BadCharacter place) = character_message s
-text_message s wanted (T.NumberTooBig span) = codes "this number is too great"
-text_message s wanted (T.NameTooLong span) =
-    joined (codes "this name has " ∷ decimal (span.end - span.start) ∷ codes " bytes" ∷ [])
+text_message s wanted (T.NumberTooBig span) = NUMBER_TOO_GREAT.now
+text_message s wanted (T.NameTooLong span) = joined (NAME_HAS.now ∷ decimal (span.end - span.start) ∷ BYTES.now ∷ [])
 text_message s wanted (T.Unexpected span) = expectation s wanted
-text_message s wanted (T.TooDeep span) = codes "this bracket is the 65th that is open at once"
+text_message s wanted (T.TooDeep span) = BRACKET_TOO_DEEP.now
 text_message s wanted T.NoMemory = []
 
 unfoldable pub kind_word : Kind → List ℕ
-kind_word K.Variable = codes "variable"
-kind_word K.Scan = codes "scan"
-kind_word K.Register = codes "register"
+kind_word K.Variable = VARIABLE.now
+kind_word K.Scan = SCAN.now
+kind_word K.Register = REGISTER.now
 
 -- a name of one kind where another is wanted
 abbrev pub wrong_kind : List ℕ → Kind → Kind → List ℕ
 wrong_kind name wanted found =
-    joined (codes "`" ∷ name ∷ codes "` is a " ∷ kind_word found ∷ codes ", and a " ∷ kind_word wanted ∷ codes " is wanted here" ∷ [])
+    joined (codes "`" ∷ name ∷ IS_A.now ∷ kind_word found ∷ AND_A.now ∷ kind_word wanted ∷ IS_WANTED.now ∷ [])
 
 abbrev pub kinds_message : Setting → KindFault → List ℕ
-kinds_message s (N.Processes span) = codes "the number of processes is out of range"
-kinds_message s (N.Twice span) = joined (codes "`" ∷ about s ∷ codes "` is declared twice" ∷ [])
-kinds_message s (N.Unknown span) = joined (codes "`" ∷ about s ∷ codes "` is not declared" ∷ [])
+kinds_message s (N.Processes span) = PROCESSES_OUT_OF_RANGE.now
+kinds_message s (N.Twice span) = joined (codes "`" ∷ about s ∷ DECLARED_TWICE.now ∷ [])
+kinds_message s (N.Unknown span) = joined (codes "`" ∷ about s ∷ NOT_DECLARED.now ∷ [])
 kinds_message s (N.WrongKind span wanted found) = wrong_kind (about s) wanted found
-kinds_message s (N.TooMany span) = codes "one name more than there may be of its kind"
+kinds_message s (N.TooMany span) = ONE_NAME_MORE.now
 kinds_message s N.NoMemory = []
 
 -- an instruction by its place, which is counted from 0
 abbrev pub instruction : ℕ → List ℕ → List ℕ
-instruction place fault = joined (codes "instruction " ∷ decimal place ∷ fault ∷ [])
+instruction place fault = joined (INSTRUCTION.now ∷ decimal place ∷ fault ∷ [])
 
 abbrev pub code_message : CodeFault → List ℕ
-code_message C.Empty = codes "the code is empty"
-code_message C.TooLong = codes "the code is too long"
-code_message (C.BadJump place) = instruction place (codes " jumps past the end")
-code_message (C.StackShort place) = instruction place (codes " takes more values than there are")
-code_message (C.HeightsDiffer place) = instruction place (codes " is reached, or jumps, with another height of the stack")
-code_message (C.BadSlot place) = instruction place (codes " names a slot that there is not")
-code_message (C.FallsOff place) = joined (codes "the code goes on past instruction " ∷ decimal place ∷ codes ", its last" ∷ [])
-code_message (C.BadStamp place) = instruction place (codes " breaks a stamp")
-code_message (C.BadLine line) =
-    if line == 1 then codes "this is no first line of a code" else codes "this is no line of an instruction"
+code_message C.Empty = CODE_EMPTY.now
+code_message C.TooLong = CODE_TOO_LONG.now
+code_message (C.BadJump place) = instruction place JUMPS_PAST_THE_END.now
+code_message (C.StackShort place) = instruction place TAKES_TOO_MANY.now
+code_message (C.HeightsDiffer place) = instruction place OTHER_HEIGHT.now
+code_message (C.BadSlot place) = instruction place NO_SUCH_SLOT.now
+code_message (C.FallsOff place) = joined (GOES_ON_PAST.now ∷ decimal place ∷ ITS_LAST.now ∷ [])
+code_message (C.BadStamp place) = instruction place BREAKS_A_STAMP.now
+code_message (C.BadLine line) = if line == 1 then NO_FIRST_LINE.now else NO_LINE.now
 code_message C.NoMemory = []
 
 abbrev pub schedule_message : Setting → ScheduleFault → List ℕ
-schedule_message s (S.BadItem place) = joined (codes "expected `P` or `P*K`, found `" ∷ shortened (about s) ∷ codes "`" ∷ [])
-schedule_message s (S.NoSuchProcess place) = joined (codes "there is no such process as in `" ∷ shortened (about s) ∷ codes "`" ∷ [])
-schedule_message s S.TooLong = codes "the schedule is too long"
+schedule_message s (S.BadItem place) = joined (EXPECTED_ITEM.now ∷ shortened (about s) ∷ codes "`" ∷ [])
+schedule_message s (S.NoSuchProcess place) = joined (NO_PROCESS_AS_IN.now ∷ shortened (about s) ∷ codes "`" ∷ [])
+schedule_message s S.TooLong = SCHEDULE_TOO_LONG.now
 schedule_message s S.NoMemory = []
 
 abbrev pub message_of : Setting → List Wanted → Refusal → List ℕ

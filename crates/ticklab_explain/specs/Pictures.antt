@@ -6,11 +6,12 @@ use Rattle.std.specs.Str.Lossy.{utf8_lossy}
 use Rattle.base.specs.Lines.{line_end}
 use Rattle.base.specs.declared.span.Span.{Span}
 use Rattle.ticklab_explain.specs.Places.{IsLineStart, IsLineEnd, begins_character}
+use Rattle.ticklab_explain.specs.declared.picture.TheConstants.{BAR, TAB}
 
 -- a tab is shown as four blanks, a carriage return as nothing, another control byte as `?`
 abbrev pub shown_byte : ℕ → List ℕ
 shown_byte byte =
-    if byte == 9 then codes "    " else if byte == 13 then [] else if nat_lt byte 32 then codes "?" else byte ∷ []
+    if byte == 9 then TAB.now else if byte == 13 then [] else if nat_lt byte 32 then codes "?" else byte ∷ []
 
 -- bytes as they are shown: those that are no UTF-8 as U+FFFD
 abbrev pub shown : List ℕ → List ℕ
@@ -25,7 +26,7 @@ abbrev pub margin : ℕ → List ℕ
 margin number = replicate (length (decimal number)) 32 ++ codes " |"
 
 abbrev pub source_line : ℕ → List ℕ → List ℕ → List ℕ → List ℕ
-source_line number before part after = decimal number ++ codes " | " ++ before ++ part ++ after ++ line_end
+source_line number before part after = decimal number ++ BAR.now ++ before ++ part ++ after ++ line_end
 
 -- the caret is as wide as the part, and one wide at least
 abbrev pub caret_of : ℕ → ℕ → ℕ → List ℕ

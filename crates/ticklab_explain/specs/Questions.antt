@@ -1,5 +1,5 @@
 -- What is told of a fault in a question, and of a part of a text.
-use Rattle.std.specs.Prelude.{◌≡◌, ◌++◌, ℕ, List, [], codes, length, min}
+use Rattle.std.specs.Prelude.{◌≡◌, ◌++◌, ℕ, List, [], length, min}
 use Rattle.base.specs.Lines.{line_end}
 use Rattle.base.specs.Plain.{nowhere}
 use Rattle.base.specs.declared.span.Span.{Span}
@@ -8,7 +8,10 @@ use Rattle.language_questions.specs.declared.fault.QuestionFault.TheVariants as 
 use Rattle.ticklab_explain.specs.Pictures.{IsPicture}
 use Rattle.ticklab_explain.specs.Places.{IsPlace}
 use Rattle.ticklab_explain.specs.Reports.{error_text, place_text}
+use Rattle.ticklab_explain.specs.declared.advice.TheConstants.{COUNTED_FROM_ZERO}
 use Rattle.ticklab_explain.specs.declared.place.Place.{Place}
+use Rattle.ticklab_explain.specs.declared.questions.TheConstants.{BRACKETS_OF_ITS_OWN, CANNOT_GO_ON, ENDS_TWICE, EXPECTED_TWICE, GREATEST_NUMBER, HAS_A_MEANING, MOST_LEVELS, NAMES_A_ROW_TOO, NESTED_TOO_DEEPLY, NOT_EXPECTED, NO_SUCH_CHARACTER, NO_SUCH_NAME, NO_SUCH_PROCESS, NO_SUCH_WORD, NUMBER_TOO_GREAT, ONE_IS_EXPECTED, ONE_LINE_NAMES_ALL, OUT_OF_MEMORY, PARTS_OF_QUESTIONS, RENAME_THE_ROW, SEEN_BY_NO_OTHER, TAKE_ANOTHER_NAME, WHAT_IS_SEEN, WORDS_OF_EXPECT, WORDS_OF_QUESTIONS, WRITE_INTO_A_ROW}
+use Rattle.ticklab_explain.specs.declared.report.TheConstants.{HINT}
 
 -- what is told of a fault: where it is, what is wrong, and what may help
 pub record Told : Type 0 where
@@ -18,72 +21,20 @@ pub record Told : Type 0 where
 
 -- Want of memory has no place.
 abbrev pub question_told : QuestionFault → Told
-question_told (F.BadCharacter span) = record {
-  span = span;
-  message = codes "no question has this character";
-  hint = codes "a question has names, numbers, brackets, and the operators of the language";
-}
-question_told (F.NumberTooBig span) = record {
-  span = span;
-  message = codes "this number is above 4294967295";
-  hint = codes "numbers go up to 4294967295";
-}
-question_told (F.Unexpected span) = record {
-  span = span;
-  message = codes "a question can't go on with this";
-  hint = codes "an operation in another has brackets of its own, as in `1 < (sum p: row[p])`";
-}
-question_told (F.TooDeep span) = record {
-  span = span;
-  message = codes "this is nested too deeply";
-  hint = codes "there are at most 64 levels, 64 times `and` or `or` in a row, and 8 names at once";
-}
-question_told (F.Unknown span) = record {
-  span = span;
-  message = codes "nothing has this name";
-  hint = codes "a question sees register rows, and `held`, `older`, `ended` and `trapped`";
-}
-question_told (F.NotShared span) = record {
-  span = span;
-  message = codes "no other process sees this";
-  hint = codes "write it into a register row, and ask for the row";
-}
-question_told (F.Twice span) = record {
-  span = span;
-  message = codes "this name has a meaning already";
-  hint = codes "take another name";
-}
-question_told (F.TwoMeanings span) = record {
-  span = span;
-  message = codes "this word names a register row too";
-  hint = codes "give the register row another name";
-}
-question_told (F.NoSuchProcess span) = record {
-  span = span;
-  message = codes "there is no process of this number";
-  hint = codes "processes are counted from 0";
-}
-question_told (F.NoSuchWord span) = record {
-  span = span;
-  message = codes "no question begins with this word";
-  hint = codes "behind `#!` stands `never`, `ends` or `expect`";
-}
-question_told (F.EndsTwice span) = record {
-  span = span;
-  message = codes "a line above says already who has to end";
-  hint = codes "one line names all of them, as `#! ends 0 2`";
-}
-question_told (F.NotExpected span) = record {
-  span = span;
-  message = codes "nothing is expected by this word";
-  hint = codes "behind `#! expect` stands `safe`, `trap`, `never` or `stuck`";
-}
-question_told (F.ExpectTwice span) = record {
-  span = span;
-  message = codes "a line above says already what is expected";
-  hint = codes "one thing is expected of a file";
-}
-question_told F.NoMemory = record { span = nowhere; message = codes "out of memory"; hint = [] }
+question_told (F.BadCharacter span) = record { span = span; message = NO_SUCH_CHARACTER.now; hint = PARTS_OF_QUESTIONS.now }
+question_told (F.NumberTooBig span) = record { span = span; message = NUMBER_TOO_GREAT.now; hint = GREATEST_NUMBER.now }
+question_told (F.Unexpected span) = record { span = span; message = CANNOT_GO_ON.now; hint = BRACKETS_OF_ITS_OWN.now }
+question_told (F.TooDeep span) = record { span = span; message = NESTED_TOO_DEEPLY.now; hint = MOST_LEVELS.now }
+question_told (F.Unknown span) = record { span = span; message = NO_SUCH_NAME.now; hint = WHAT_IS_SEEN.now }
+question_told (F.NotShared span) = record { span = span; message = SEEN_BY_NO_OTHER.now; hint = WRITE_INTO_A_ROW.now }
+question_told (F.Twice span) = record { span = span; message = HAS_A_MEANING.now; hint = TAKE_ANOTHER_NAME.now }
+question_told (F.TwoMeanings span) = record { span = span; message = NAMES_A_ROW_TOO.now; hint = RENAME_THE_ROW.now }
+question_told (F.NoSuchProcess span) = record { span = span; message = NO_SUCH_PROCESS.now; hint = COUNTED_FROM_ZERO.now }
+question_told (F.NoSuchWord span) = record { span = span; message = NO_SUCH_WORD.now; hint = WORDS_OF_QUESTIONS.now }
+question_told (F.EndsTwice span) = record { span = span; message = ENDS_TWICE.now; hint = ONE_LINE_NAMES_ALL.now }
+question_told (F.NotExpected span) = record { span = span; message = NOT_EXPECTED.now; hint = WORDS_OF_EXPECT.now }
+question_told (F.ExpectTwice span) = record { span = span; message = EXPECTED_TWICE.now; hint = ONE_IS_EXPECTED.now }
+question_told F.NoMemory = record { span = nowhere; message = OUT_OF_MEMORY.now; hint = [] }
 
 abbrev pub question_span : QuestionFault → Span
 question_span fault = (question_told fault).span
@@ -106,4 +57,4 @@ pub record IsPointed (name text : List ℕ) (span : Span) (message told : List �
 pub record IsQuestionReport (name text : List ℕ) (fault : QuestionFault) (report : List ℕ) : Type 0 where
   pub pointed : List ℕ
   pub is : IsPointed name text (question_span fault) (question_message fault) pointed
-  pub whole : report ≡ pointed ++ (codes "hint: " ++ question_hint fault ++ line_end)
+  pub whole : report ≡ pointed ++ (HINT.now ++ question_hint fault ++ line_end)

@@ -7,6 +7,7 @@ use Rattle.tick_syntax.specs.declared.fault.TextFault.{TextFault}
 use Rattle.tick_syntax.specs.declared.fault.TextFault.TheVariants as T
 use Rattle.ticklab_explain.specs.Choosing.{hint_of}
 use Rattle.ticklab_explain.specs.Following.{AreFitting, choices}
+use Rattle.ticklab_explain.specs.Helps.{Help}
 use Rattle.ticklab_explain.specs.Hints.{hint_span, hint_text}
 use Rattle.ticklab_explain.specs.Messages.{message_of}
 use Rattle.ticklab_explain.specs.Pictures.{IsPicture}
@@ -14,10 +15,10 @@ use Rattle.ticklab_explain.specs.Places.{IsPlace}
 use Rattle.ticketc_refusals.specs.RefusalLine.{refusal_line}
 use Rattle.ticklab_explain.specs.Settings.{IsSetting, Setting, before}
 use Rattle.ticklab_explain.specs.Spots.{IsSpanAt, spot_of}
-use Rattle.ticklab_explain.specs.declared.hint.Hint.{Hint}
 use Rattle.ticklab_explain.specs.declared.place.Place.{Place}
 use Rattle.ticketc_refusals.specs.declared.refusal.Refusal.{Refusal}
 use Rattle.ticketc_refusals.specs.declared.refusal.Refusal.TheVariants.{Text, Kinds, Code, Schedule}
+use Rattle.ticklab_explain.specs.declared.report.TheConstants.{ARROW, ERROR, HINT, TICKETC}
 use Rattle.ticklab_explain.specs.declared.wanted.Wanted.{Wanted}
 
 -- `NAME:LINE:COLUMN`
@@ -25,11 +26,11 @@ abbrev pub place_text : List ℕ → Place → List ℕ
 place_text name place = name ++ codes ":" ++ decimal place.line ++ codes ":" ++ decimal place.column
 
 abbrev pub error_text : List ℕ → List ℕ
-error_text message = codes ": error: " ++ message ++ line_end
+error_text message = ERROR.now ++ message ++ line_end
 
 -- `ticketc: ` and the line that `ticketc` tells
 abbrev pub last_line : Refusal → List ℕ
-last_line refusal = codes "ticketc: " ++ refusal_line refusal
+last_line refusal = TICKETC.now ++ refusal_line refusal
 
 -- The place of the refusal and the message, and then the line with a caret. Where the refusal has no
 -- place, there is no such line.
@@ -44,13 +45,13 @@ pub data IsHead (name text : List ℕ) (refusal : Refusal) (message head : List 
 pub data IsSeen (name text : List ℕ) (span : Option Span) (seen : List ℕ) : Type 0 where
   shown : (other : Span) (place : Place) (drawn : List ℕ) → span ≡ Some other
       → IsPlace text (min other.start (length text)) place → IsPicture text other place.line drawn
-      → seen ≡ codes " --> " ++ place_text name place ++ line_end ++ drawn → IsSeen name text span seen
+      → seen ≡ ARROW.now ++ place_text name place ++ line_end ++ drawn → IsSeen name text span seen
   unshown : span ≡ None → seen ≡ [] → IsSeen name text span seen
 
 -- the line of a hint, and what it speaks of; without a hint nothing
-pub data AreHintLines (name text : List ℕ) (s : Setting) (hint : Option Hint) (lines : List ℕ) : Type 0 where
-  hinted : (it : Hint) (seen : List ℕ) → hint ≡ Some it → IsSeen name text (hint_span s it) seen
-      → lines ≡ codes "hint: " ++ hint_text s it ++ line_end ++ seen → AreHintLines name text s hint lines
+pub data AreHintLines (name text : List ℕ) (s : Setting) (hint : Option Help) (lines : List ℕ) : Type 0 where
+  hinted : (it : Help) (seen : List ℕ) → hint ≡ Some it → IsSeen name text (hint_span s it) seen
+      → lines ≡ HINT.now ++ hint_text s it ++ line_end ++ seen → AreHintLines name text s hint lines
   unhinted : hint ≡ None → lines ≡ [] → AreHintLines name text s hint lines
 
 -- where no program goes on, those of the choices that fit are wanted

@@ -5,12 +5,12 @@ use Rattle.std.specs.Option.{option_map_or}
 use Rattle.std.specs.Str.{bytes_eq}
 use Rattle.tick_syntax.specs.declared.token.Token.{Token}
 use Rattle.ticklab_explain.specs.Following.{sample}
+use Rattle.ticklab_explain.specs.Helps.{Help}
 use Rattle.ticklab_explain.specs.Settings.{Setting, is_keyword, is_name, sort_here}
-use Rattle.ticklab_explain.specs.declared.hint.Hint.{Hint}
 use Rattle.ticklab_explain.specs.declared.wanted.Wanted.{Wanted}
 
 -- of rules, which are whether they fit and a hint, the first that fits
-abbrev pub first_that_fits : List (Bool × Hint) → Option Hint
+abbrev pub first_that_fits : List (Bool × Help) → Option Help
 first_that_fits [] = None
 first_that_fits (rule ∷ rules) = if rule.0 then Some rule.1 else first_that_fits rules
 

@@ -8,6 +8,17 @@ use crate::words::beside;
 use crate::writing::Added;
 use tick_syntax::token::Token;
 
+// What is told before the names, without any, and of each section.
+const DECLARED_ARE: &str = "declared are";
+
+const NO_NAMES: &str = " no names: `var x;` after the number of processes declares one";
+
+const VARIABLES: &str = "variables";
+
+const SCANS: &str = "scans";
+
+const REGISTERS: &str = "registers";
+
 /// Whether a word begins a section.
 #[tactic(auto, unfolding(crate::specs::Hints::is_section))]
 pub fn is_section(word: &str) -> bool
@@ -21,7 +32,7 @@ pub fn is_section(word: &str) -> bool
 pub fn push_declared_names(text: &mut String, scene: &Scene) -> Added
     ensures { OnOk result (string_bytes text.new ≡ string_bytes text.old ++ declared_names (setting scene.now)) }
 {
-    text.push_str("declared are")?;
+    text.push_str(DECLARED_ARE)?;
     push_declared(text, scene.text, scene.tokens)
 }
 
@@ -51,7 +62,7 @@ fn push_no_names(text: &mut String, is_first: bool) -> Added
     ensures { OnOk result (string_bytes text.new ≡ string_bytes text.old ++ no_names is_first) }
 {
     if is_first {
-        text.push_str(" no names: `var x;` after the number of processes declares one")
+        text.push_str(NO_NAMES)
     } else {
         Ok(())
     }
@@ -75,6 +86,6 @@ fn push_name(text: &mut String, is_next: bool, name: &str) -> Added
 fn section_name(keyword: &str) -> &'static str
     ensures { result.now ≡ section_name keyword.now }
 {
-    let rows = [("var", "variables"), ("scan", "scans")];
-    beside(&rows, keyword, "registers")
+    let rows = [("var", VARIABLES), ("scan", SCANS)];
+    beside(&rows, keyword, REGISTERS)
 }

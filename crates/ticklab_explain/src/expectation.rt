@@ -8,9 +8,23 @@ ghost use Rattle.ticklab_explain.specs.Settings.{Setting, here, setting, sort_he
 use crate::piece::Piece::Here;
 use crate::piece::{Piece, pieces, push_pieces};
 use crate::scene::Scene;
-use crate::wanted::Wanted;
+use crate::wanted::{END_OF_TEXT, Wanted};
 use crate::writing::Added;
 use tick_syntax::token::Sort;
+
+const EXPECTED: &str = "expected ";
+
+const NO_PROGRAM_GOES_ON: &str = "no program goes on here";
+
+const OR: &str = " or ";
+
+const FOUND: &str = ", found ";
+
+const THE_NAME: &str = "the name `";
+
+const THE_NUMBER: &str = "the number `";
+
+const THE_KEYWORD: &str = "the keyword `";
 
 /// Adds what was expected, and what was found.
 #[tactic(auto, unfolding(crate::specs::Following::expectation))]
@@ -19,7 +33,7 @@ pub fn push_expectation(text: &mut String, scene: &Scene, wanted: &[Wanted]) -> 
 {
     text.push_str(opening(wanted))?;
     push_listed(text, wanted)?;
-    text.push_str(", found ")?;
+    text.push_str(FOUND)?;
     push_found(text, scene)
 }
 
@@ -37,8 +51,8 @@ fn opening(wanted: &[Wanted]) -> &'static str
     ensures { result.now ≡ opening wanted.now }
 {
     match wanted {
-        [] => "no program goes on here",
-        _ => "expected ",
+        [] => NO_PROGRAM_GOES_ON,
+        _ => EXPECTED,
     }
 }
 
@@ -50,7 +64,7 @@ fn joint(index: usize, count: usize) -> &'static str
     if index == 0 {
         ""
     } else if index + 1 == count {
-        " or "
+        OR
     } else {
         ", "
     }
@@ -66,10 +80,10 @@ fn found(sort: Option<Sort>) -> &'static [Piece]
     ensures { (s : Setting) → flat_map (piece_text s) result.now ≡ found sort (here s) }
 {
     match sort {
-        None => pieces!("the end of the text"),
-        Some(Sort::Name) => pieces!("the name `" [Here] "`"),
-        Some(Sort::Num(_)) => pieces!("the number `" [Here] "`"),
-        Some(Sort::Keyword) => pieces!("the keyword `" [Here] "`"),
+        None => pieces!(END_OF_TEXT),
+        Some(Sort::Name) => pieces!(THE_NAME [Here] "`"),
+        Some(Sort::Num(_)) => pieces!(THE_NUMBER [Here] "`"),
+        Some(Sort::Keyword) => pieces!(THE_KEYWORD [Here] "`"),
         Some(Sort::Sign) => pieces!("`" [Here] "`"),
     }
 }

@@ -1,6 +1,7 @@
 // What is wrong with an input, for people and in parts.
 ghost use Rattle.std.specs.Prelude.{◌≡◌, IfOk, option_map, string_bytes};
 ghost use Rattle.ticklab_explain.specs.Explanations.{ArePartsIn, AreQuestionParts, AreRefusalParts, IsExplanation, IsFaultReport, IsPlaceOf, hint_words, refusal_words};
+ghost use Rattle.ticklab_explain.specs.Helps.{help_of};
 ghost use Rattle.ticklab_explain.specs.Settings.{setting};
 
 use crate::choosing::hint_of;
@@ -121,7 +122,7 @@ fn hint_words(
     scene: &Scene,
     hint: Option<Hint>,
 ) -> Result<Option<String>, AllocError>
-    ensures { IfOk result (λ words. option_map string_bytes words ≡ hint_words (setting scene.now) hint) }
+    ensures { IfOk result (λ words. option_map string_bytes words ≡ hint_words (setting scene.now) (option_map help_of hint)) }
 {
     let Some(hint) = hint else {
         return Ok(None);

@@ -1,9 +1,10 @@
 // Common slips at a token where no program goes on, known by the tokens around the place.
-ghost use Rattle.std.specs.Prelude.{◌≡◌};
+ghost use Rattle.std.specs.Prelude.{◌≡◌, option_map};
 ghost use Rattle.ticklab_explain.specs.Choosing.{declaration_slip, foreign_slip, keyword_slip, missing_slip, operator_slip, place_slip, sign_hint, sign_slip, slip, whole_slip, word_hint};
+ghost use Rattle.ticklab_explain.specs.Helps.{help_of};
 ghost use Rattle.ticklab_explain.specs.Settings.{setting};
 
-use crate::advice::Advice;
+use crate::advice;
 use crate::block_slips::{block_slip, body_slip};
 use crate::call_slips::call_slip;
 use crate::condition::Condition::{
@@ -23,26 +24,26 @@ use crate::statement_slips::{other_slip, statement_slip};
 use crate::wanted::Wanted;
 
 /// What may help: the first that fits.
-#[tactic(auto, unfolding(crate::specs::Choosing::slip))]
+#[tactic(auto, using(crate::proofs::Helps::first_help), unfolding(crate::specs::Choosing::slip))]
 pub fn slip(scene: &Scene, wanted: &[Wanted]) -> Option<Hint>
-    ensures { result ≡ slip (setting scene.now) wanted.now }
+    ensures { option_map help_of result ≡ slip (setting scene.now) wanted.now }
 {
     let about_line = word_hint(scene, wanted).or(sign_hint(scene, wanted));
     whole_slip(scene, wanted).or(block_slip(scene, wanted).or(about_line))
 }
 
-#[tactic(auto, unfolding(crate::specs::Choosing::word_hint))]
+#[tactic(auto, using(crate::proofs::Helps::first_help), unfolding(crate::specs::Choosing::word_hint))]
 fn word_hint(scene: &Scene, wanted: &[Wanted]) -> Option<Hint>
-    ensures { result ≡ word_hint (setting scene.now) wanted.now }
+    ensures { option_map help_of result ≡ word_hint (setting scene.now) wanted.now }
 {
     let of_names = declaration_slip(scene, wanted).or(place_slip(scene, wanted));
     let of_calls = call_slip(scene, wanted).or(keyword_slip(scene, wanted).or(of_names));
     foreign_slip(scene).or(body_slip(scene, wanted).or(of_calls))
 }
 
-#[tactic(auto, unfolding(crate::specs::Choosing::sign_hint))]
+#[tactic(auto, using(crate::proofs::Helps::first_help), unfolding(crate::specs::Choosing::sign_hint))]
 fn sign_hint(scene: &Scene, wanted: &[Wanted]) -> Option<Hint>
-    ensures { result ≡ sign_hint (setting scene.now) wanted.now }
+    ensures { option_map help_of result ≡ sign_hint (setting scene.now) wanted.now }
 {
     let of_words = missing_slip(scene, wanted).or(other_slip(scene, wanted));
     let of_signs = sign_slip(scene, wanted).or(statement_slip(scene, wanted).or(of_words));
@@ -51,36 +52,36 @@ fn sign_hint(scene: &Scene, wanted: &[Wanted]) -> Option<Hint>
 
 #[tactic(auto, unfolding(crate::specs::Choosing::whole_slip))]
 fn whole_slip(scene: &Scene, wanted: &[Wanted]) -> Option<Hint>
-    ensures { result ≡ whole_slip (setting scene.now) wanted.now }
+    ensures { option_map help_of result ≡ whole_slip (setting scene.now) wanted.now }
 {
     first_rule!(scene, wanted;
-        Is(Empty) => Fixed(Advice::EmptyText);
-        Is(AtStart), Here("tickcode") => Fixed(Advice::CodeText);
-        Before(1, "end") => Fixed(Advice::NothingFollows);
-        Is(AtEnd), WantsEither("end", "=") => Fixed(Advice::EndIsMissing);
+        Is(Empty) => Fixed(advice::EMPTY_TEXT);
+        Is(AtStart), Here("tickcode") => Fixed(advice::CODE_TEXT);
+        Before(1, "end") => Fixed(advice::NOTHING_FOLLOWS);
+        Is(AtEnd), WantsEither("end", "=") => Fixed(advice::END_IS_MISSING);
     )
 }
 
 // Words that other languages have.
 #[tactic(auto, unfolding(crate::specs::Choosing::foreign_slip))]
 fn foreign_slip(scene: &Scene) -> Option<Hint>
-    ensures { result ≡ foreign_slip (setting scene.now) }
+    ensures { option_map help_of result ≡ foreign_slip (setting scene.now) }
 {
     first_rule!(scene, &[];
         Before(1, "not") => Quoting(Quote::NotWord);
         Before(1, "await") => Quoting(Quote::Await);
-        Before(1, "and") => Fixed(Advice::NoAnd);
-        Here("const") => Fixed(Advice::NoConstants);
-        Here("and") => Fixed(Advice::NoAnd);
-        Here("or") => Fixed(Advice::NoOr);
-        Here("mod") => Fixed(Advice::RemainderSign);
+        Before(1, "and") => Fixed(advice::NO_AND);
+        Here("const") => Fixed(advice::NO_CONSTANTS);
+        Here("and") => Fixed(advice::NO_AND);
+        Here("or") => Fixed(advice::NO_OR);
+        Here("mod") => Fixed(advice::REMAINDER_SIGN);
     )
 }
 
 // Keywords at places of names and values.
 #[tactic(auto, unfolding(crate::specs::Choosing::keyword_slip))]
 fn keyword_slip(scene: &Scene, wanted: &[Wanted]) -> Option<Hint>
-    ensures { result ≡ keyword_slip (setting scene.now) wanted.now }
+    ensures { option_map help_of result ≡ keyword_slip (setting scene.now) wanted.now }
 {
     first_rule!(scene, wanted;
         Is(Keyword), Wants("x") => Quoting(Quote::Keyword);
@@ -93,67 +94,67 @@ fn keyword_slip(scene: &Scene, wanted: &[Wanted]) -> Option<Hint>
 // Names before `begin`, and sections.
 #[tactic(auto, unfolding(crate::specs::Choosing::declaration_slip))]
 fn declaration_slip(scene: &Scene, wanted: &[Wanted]) -> Option<Hint>
-    ensures { result ≡ declaration_slip (setting scene.now) wanted.now }
+    ensures { option_map help_of result ≡ declaration_slip (setting scene.now) wanted.now }
 {
     first_rule!(scene, wanted;
         Wants(","), Is(Name) => Rewriting(Rewrite::CommaBetween);
-        Wants(","), Here("=") => Fixed(Advice::AllBeginAsZero);
-        Wants(","), Here("-") => Fixed(Advice::NameLetters);
-        Wants("x"), Here(";"), Before(1, ",") => Fixed(Advice::NoLastComma);
-        Wants("x"), Not(Begun), Has(OperandAfter(0)), Not(Keyword) => Fixed(Advice::NameBegins);
+        Wants(","), Here("=") => Fixed(advice::ALL_BEGIN_AS_ZERO);
+        Wants(","), Here("-") => Fixed(advice::NAME_LETTERS);
+        Wants("x"), Here(";"), Before(1, ",") => Fixed(advice::NO_LAST_COMMA);
+        Wants("x"), Not(Begun), Has(OperandAfter(0)), Not(Keyword) => Fixed(advice::NAME_BEGINS);
         Wants("var"), Is(Name), NameAfter(1), After(2, ";") => Rewriting(Rewrite::DeclaredByVar);
-        Wants("begin"), Is(Name), NameAfter(1) => Fixed(Advice::SectionWords);
-        WantsEither("processes", "0") => Fixed(Advice::ProgramBegins);
+        Wants("begin"), Is(Name), NameAfter(1) => Fixed(advice::SECTION_WORDS);
+        WantsEither("processes", "0") => Fixed(advice::PROGRAM_BEGINS);
     )
 }
 
 // What the place wants first.
 #[tactic(auto, unfolding(crate::specs::Choosing::place_slip))]
 fn place_slip(scene: &Scene, wanted: &[Wanted]) -> Option<Hint>
-    ensures { result ≡ place_slip (setting scene.now) wanted.now }
+    ensures { option_map help_of result ≡ place_slip (setting scene.now) wanted.now }
 {
     first_rule!(scene, wanted;
         Wants("me"), Before(2, "get") => Quoting(Quote::GetWantsProcess);
-        Wants("begin"), Is(Section) => Fixed(Advice::SectionOrder);
-        Wants("begin") => Fixed(Advice::BeginIsMissing);
+        Wants("begin"), Is(Section) => Fixed(advice::SECTION_ORDER);
+        Wants("begin") => Fixed(advice::BEGIN_IS_MISSING);
     )
 }
 
 // An equals sign or an operator that no program has there.
 #[tactic(auto, unfolding(crate::specs::Choosing::operator_slip))]
 fn operator_slip(scene: &Scene, wanted: &[Wanted]) -> Option<Hint>
-    ensures { result ≡ operator_slip (setting scene.now) wanted.now }
+    ensures { option_map help_of result ≡ operator_slip (setting scene.now) wanted.now }
 {
     first_rule!(scene, wanted;
-        Is(Comment) => Fixed(Advice::CommentSign);
-        Here("=="), Wants("=") => Fixed(Advice::OneEqualsAssigns);
-        Here("="), Wants("+") => Fixed(Advice::TwoEqualsCompare);
+        Is(Comment) => Fixed(advice::COMMENT_SIGN);
+        Here("=="), Wants("=") => Fixed(advice::ONE_EQUALS_ASSIGNS);
+        Here("="), Wants("+") => Fixed(advice::TWO_EQUALS_COMPARE);
         HereOneOf(&["+", "-", "*", "/", "%"]), Wants("="), After(1, "="), Has(OperandAfter(2))
             => Rewriting(Rewrite::AssignedInPlace);
-        Here("-"), WantsEither("get", "me") => Fixed(Advice::NoNegatives);
+        Here("-"), WantsEither("get", "me") => Fixed(advice::NO_NEGATIVES);
     )
 }
 
 // Other signs.
 #[tactic(auto, unfolding(crate::specs::Choosing::sign_slip))]
 fn sign_slip(scene: &Scene, wanted: &[Wanted]) -> Option<Hint>
-    ensures { result ≡ sign_slip (setting scene.now) wanted.now }
+    ensures { option_map help_of result ≡ sign_slip (setting scene.now) wanted.now }
 {
     first_rule!(scene, wanted;
-        Here(";"), Wants("stamp"), Before(1, "}") => Fixed(Advice::NoSemicolonAfterBlock);
-        Here(";"), Wants("stamp") => Fixed(Advice::NoEmptyStatement);
-        Here(";"), Wants("x"), Not(Begun) => Fixed(Advice::NoEmptySection);
-        Here(","), Wants(";") => Fixed(Advice::SemicolonForComma);
+        Here(";"), Wants("stamp"), Before(1, "}") => Fixed(advice::NO_SEMICOLON_AFTER_BLOCK);
+        Here(";"), Wants("stamp") => Fixed(advice::NO_EMPTY_STATEMENT);
+        Here(";"), Wants("x"), Not(Begun) => Fixed(advice::NO_EMPTY_SECTION);
+        Here(","), Wants(";") => Fixed(advice::SEMICOLON_FOR_COMMA);
     )
 }
 
 // A letter in a number, and a `;` that was left out, told where it belongs.
 #[tactic(auto, unfolding(crate::specs::Choosing::missing_slip))]
 fn missing_slip(scene: &Scene, wanted: &[Wanted]) -> Option<Hint>
-    ensures { result ≡ missing_slip (setting scene.now) wanted.now }
+    ensures { option_map help_of result ≡ missing_slip (setting scene.now) wanted.now }
 {
     first_rule!(scene, wanted;
-        Wants(";"), Is(Name), Is(Touches), NotBefore(1, ")") => Fixed(Advice::DecimalDigits);
+        Wants(";"), Is(Name), Is(Touches), NotBefore(1, ")") => Fixed(advice::DECIMAL_DIGITS);
         Wants(";"), Is(EndsStatement) => Quoting(Quote::SemicolonIsMissing);
     )
 }

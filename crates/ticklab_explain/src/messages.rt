@@ -15,6 +15,73 @@ use tick_kinds::{Kind, KindFault};
 use tick_syntax::TextFault;
 use ticketc_refusals::Refusal;
 
+// The words, and those about what is quoted.
+const INPUT_HAS: &str = "the input has ";
+
+const MOST_BYTES: &str = " bytes, and at most 1000000 are read";
+
+const NUMBER_TOO_GREAT: &str = "this number is too great";
+
+const NAME_HAS: &str = "this name has ";
+
+const BYTES: &str = " bytes";
+
+const BRACKET_TOO_DEEP: &str = "this bracket is the 65th that is open at once";
+
+const NO_TOKEN_BEGINS: &str = "no token begins with `";
+
+const NO_UTF8: &str = "these bytes are no UTF-8";
+
+const PROCESSES_OUT_OF_RANGE: &str = "the number of processes is out of range";
+
+const DECLARED_TWICE: &str = "` is declared twice";
+
+const NOT_DECLARED: &str = "` is not declared";
+
+const ONE_NAME_MORE: &str = "one name more than there may be of its kind";
+
+const IS_A: &str = "` is a ";
+
+const AND_A: &str = ", and a ";
+
+const IS_WANTED: &str = " is wanted here";
+
+const VARIABLE: &str = "variable";
+
+const SCAN: &str = "scan";
+
+const REGISTER: &str = "register";
+
+const CODE_EMPTY: &str = "the code is empty";
+
+const CODE_TOO_LONG: &str = "the code is too long";
+
+const INSTRUCTION: &str = "instruction ";
+
+const JUMPS_PAST_THE_END: &str = " jumps past the end";
+
+const TAKES_TOO_MANY: &str = " takes more values than there are";
+
+const OTHER_HEIGHT: &str = " is reached, or jumps, with another height of the stack";
+
+const NO_SUCH_SLOT: &str = " names a slot that there is not";
+
+const GOES_ON_PAST: &str = "the code goes on past instruction ";
+
+const ITS_LAST: &str = ", its last";
+
+const BREAKS_A_STAMP: &str = " breaks a stamp";
+
+const NO_FIRST_LINE: &str = "this is no first line of a code";
+
+const NO_LINE: &str = "this is no line of an instruction";
+
+const EXPECTED_ITEM: &str = "expected `P` or `P*K`, found `";
+
+const NO_PROCESS_AS_IN: &str = "there is no such process as in `";
+
+const SCHEDULE_TOO_LONG: &str = "the schedule is too long";
+
 /// Adds what is wrong.
 pub fn push_message(text: &mut String, scene: &Scene, wanted: &[Wanted], refusal: Refusal) -> Added
     ensures { OnOk result (string_bytes text.new ≡ string_bytes text.old ++ message_of (setting scene.now) wanted.now refusal) }
@@ -31,22 +98,14 @@ fn push_text(text: &mut String, scene: &Scene, wanted: &[Wanted], fault: TextFau
     ensures { OnOk result (string_bytes text.new ≡ string_bytes text.old ++ text_message (setting scene.now) wanted.now fault) }
 {
     match fault {
-        TextFault::TextTooLong => push_number(
-            text,
-            "the input has ",
-            scene.text.len(),
-            " bytes, and at most 1000000 are read",
-        ),
+        TextFault::TextTooLong => push_number(text, INPUT_HAS, scene.text.len(), MOST_BYTES),
         TextFault::BadCharacter(_) => push_character(text, scene),
-        TextFault::NumberTooBig(_) => text.push_str("this number is too great"),
-        TextFault::NameTooLong(span) => push_number(
-            text,
-            "this name has ",
-            span.end.saturating_sub(span.start),
-            " bytes",
-        ),
+        TextFault::NumberTooBig(_) => text.push_str(NUMBER_TOO_GREAT),
+        TextFault::NameTooLong(span) => {
+            push_number(text, NAME_HAS, span.end.saturating_sub(span.start), BYTES)
+        }
         TextFault::Unexpected(_) => push_expectation(text, scene, wanted),
-        TextFault::TooDeep(_) => text.push_str("this bracket is the 65th that is open at once"),
+        TextFault::TooDeep(_) => text.push_str(BRACKET_TOO_DEEP),
         TextFault::NoMemory => Ok(()),
     }
 }
@@ -56,9 +115,9 @@ fn push_character(text: &mut String, scene: &Scene) -> Added
     ensures { OnOk result (string_bytes text.new ≡ string_bytes text.old ++ character_message (setting scene.now)) }
 {
     if is_text(scene.text) {
-        push_pieces(text, scene, pieces!("no token begins with `" [About] "`"))
+        push_pieces(text, scene, pieces!(NO_TOKEN_BEGINS [About] "`"))
     } else {
-        text.push_str("these bytes are no UTF-8")
+        text.push_str(NO_UTF8)
     }
 }
 
@@ -66,11 +125,11 @@ fn push_kinds(text: &mut String, scene: &Scene, fault: KindFault) -> Added
     ensures { OnOk result (string_bytes text.new ≡ string_bytes text.old ++ kinds_message (setting scene.now) fault) }
 {
     match fault {
-        KindFault::Processes(_) => text.push_str("the number of processes is out of range"),
-        KindFault::Twice(_) => push_pieces(text, scene, pieces!("`" [About] "` is declared twice")),
-        KindFault::Unknown(_) => push_pieces(text, scene, pieces!("`" [About] "` is not declared")),
+        KindFault::Processes(_) => text.push_str(PROCESSES_OUT_OF_RANGE),
+        KindFault::Twice(_) => push_pieces(text, scene, pieces!("`" [About] DECLARED_TWICE)),
+        KindFault::Unknown(_) => push_pieces(text, scene, pieces!("`" [About] NOT_DECLARED)),
         KindFault::WrongKind { wanted, found, .. } => push_wrong_kind(text, scene, wanted, found),
-        KindFault::TooMany(_) => text.push_str("one name more than there may be of its kind"),
+        KindFault::TooMany(_) => text.push_str(ONE_NAME_MORE),
         KindFault::NoMemory => Ok(()),
     }
 }
@@ -78,17 +137,10 @@ fn push_kinds(text: &mut String, scene: &Scene, fault: KindFault) -> Added
 fn push_wrong_kind(text: &mut String, scene: &Scene, wanted: Kind, found: Kind) -> Added
     ensures { OnOk result (string_bytes text.new ≡ string_bytes text.old ++ wrong_kind (about (setting scene.now)) wanted found) }
 {
+    let (found, wanted) = (kind_word(found), kind_word(wanted));
     push_all(
         text,
-        &[
-            "`",
-            scene.about(),
-            "` is a ",
-            kind_word(found),
-            ", and a ",
-            kind_word(wanted),
-            " is wanted here",
-        ],
+        &["`", scene.about(), IS_A, found, AND_A, wanted, IS_WANTED],
     )
 }
 
@@ -97,9 +149,9 @@ fn kind_word<'a>(kind: Kind) -> &'a str
     ensures { result.now ≡ kind_word kind }
 {
     match kind {
-        Kind::Variable => "variable",
-        Kind::Scan => "scan",
-        Kind::Register => "register",
+        Kind::Variable => VARIABLE,
+        Kind::Scan => SCAN,
+        Kind::Register => REGISTER,
     }
 }
 
@@ -107,29 +159,16 @@ fn push_code(text: &mut String, fault: CodeFault) -> Added
     ensures { OnOk result (string_bytes text.new ≡ string_bytes text.old ++ code_message fault) }
 {
     match fault {
-        CodeFault::Empty => text.push_str("the code is empty"),
-        CodeFault::TooLong => text.push_str("the code is too long"),
-        CodeFault::BadJump(place) => push_instruction(text, place, " jumps past the end"),
-        CodeFault::StackShort(place) => {
-            push_instruction(text, place, " takes more values than there are")
-        }
-        CodeFault::HeightsDiffer(place) => push_instruction(
-            text,
-            place,
-            " is reached, or jumps, with another height of the stack",
-        ),
-        CodeFault::BadSlot(place) => {
-            push_instruction(text, place, " names a slot that there is not")
-        }
-        CodeFault::FallsOff(place) => push_number(
-            text,
-            "the code goes on past instruction ",
-            usize::from(place),
-            ", its last",
-        ),
-        CodeFault::BadStamp(place) => push_instruction(text, place, " breaks a stamp"),
-        CodeFault::BadLine(1) => text.push_str("this is no first line of a code"),
-        CodeFault::BadLine(_) => text.push_str("this is no line of an instruction"),
+        CodeFault::Empty => text.push_str(CODE_EMPTY),
+        CodeFault::TooLong => text.push_str(CODE_TOO_LONG),
+        CodeFault::BadJump(place) => push_instruction(text, place, JUMPS_PAST_THE_END),
+        CodeFault::StackShort(place) => push_instruction(text, place, TAKES_TOO_MANY),
+        CodeFault::HeightsDiffer(place) => push_instruction(text, place, OTHER_HEIGHT),
+        CodeFault::BadSlot(place) => push_instruction(text, place, NO_SUCH_SLOT),
+        CodeFault::FallsOff(place) => push_number(text, GOES_ON_PAST, usize::from(place), ITS_LAST),
+        CodeFault::BadStamp(place) => push_instruction(text, place, BREAKS_A_STAMP),
+        CodeFault::BadLine(1) => text.push_str(NO_FIRST_LINE),
+        CodeFault::BadLine(_) => text.push_str(NO_LINE),
         CodeFault::NoMemory => Ok(()),
     }
 }
@@ -137,7 +176,7 @@ fn push_code(text: &mut String, fault: CodeFault) -> Added
 fn push_instruction(text: &mut String, place: u16, fault: &str) -> Added
     ensures { OnOk result (string_bytes text.new ≡ string_bytes text.old ++ instruction place fault.now) }
 {
-    push_number(text, "instruction ", usize::from(place), fault)
+    push_number(text, INSTRUCTION, usize::from(place), fault)
 }
 
 fn push_schedule(text: &mut String, scene: &Scene, fault: ScheduleFault) -> Added
@@ -145,13 +184,9 @@ fn push_schedule(text: &mut String, scene: &Scene, fault: ScheduleFault) -> Adde
 {
     let item = shortened(scene.about());
     match fault {
-        ScheduleFault::BadItem(_) => {
-            push_all(text, &["expected `P` or `P*K`, found `", item, "`"])
-        }
-        ScheduleFault::NoSuchProcess(_) => {
-            push_all(text, &["there is no such process as in `", item, "`"])
-        }
-        ScheduleFault::TooLong => push_all(text, &["the schedule is too long"]),
+        ScheduleFault::BadItem(_) => push_all(text, &[EXPECTED_ITEM, item, "`"]),
+        ScheduleFault::NoSuchProcess(_) => push_all(text, &[NO_PROCESS_AS_IN, item, "`"]),
+        ScheduleFault::TooLong => push_all(text, &[SCHEDULE_TOO_LONG]),
         ScheduleFault::NoMemory => Ok(()),
     }
 }

@@ -9,6 +9,11 @@ use base::span::Span;
 use itoa::Buffer;
 use std::alloc::Global;
 
+// Behind the number of a line, and for a tab.
+const BAR: &str = " | ";
+
+const TAB: &str = "    ";
+
 const BEFORE_LIMIT: usize = 120;
 
 const AFTER_LIMIT: usize = 240;
@@ -79,7 +84,7 @@ fn push_source(out: &mut Vec<u8>, line: SourceLine<'_>) -> Added
     ensures { OnOk result (out.new.items ≡ out.old.items ++ source_line line.entry.number line.entry.before.now line.entry.part.now line.entry.after.now) }
 {
     push_decimal(out, line.number)?;
-    push(out, " | ")?;
+    push(out, BAR)?;
     out.extend_from_slice(line.before)?;
     out.extend_from_slice(line.part)?;
     out.extend_from_slice(line.after)?;
@@ -126,7 +131,7 @@ fn push_byte(out: &mut Vec<u8>, byte: u8) -> Added
     ensures { OnOk result (out.new.items ≡ out.old.items ++ shown_byte byte) }
 {
     match byte {
-        b'\t' => push(out, "    "),
+        b'\t' => push(out, TAB),
         b'\r' => Ok(()),
         0..=31 => push(out, "?"),
         _ => out.extend_from_slice(&[byte]),

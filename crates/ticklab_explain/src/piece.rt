@@ -10,6 +10,23 @@ use crate::scene::Scene;
 use crate::words::beside;
 use crate::writing::Added;
 
+// What a keyword means, and a statement of each keyword that has operands or gives a scan.
+const NUMBER_OF_PROCESSES: &str = ", the number of processes";
+
+const NUMBER_OF_ITSELF: &str = ", the number of the process itself";
+
+const OLDER_STATEMENT: &str = "x = older s 0 1;";
+
+const HELD_STATEMENT: &str = "x = held s 0;";
+
+const GET_STATEMENT: &str = "x = get r me;";
+
+const PUT_STATEMENT: &str = "put r 1;";
+
+const SCAN_STATEMENT: &str = "s = scan;";
+
+const COPY_STATEMENT: &str = "t = copy s;";
+
 /// Words, or what is quoted of the text about the place.
 #[derive(Clone, Copy)]
 pub enum Piece {
@@ -38,7 +55,7 @@ pub enum Piece {
 
 // The pieces of a text: words, with what is quoted in brackets between them.
 macro_rules! pieces {
-    ($first:literal $([$quoted:expr] $words:literal)*) => {
+    ($first:tt $([$quoted:expr] $words:tt)*) => {
         &[$crate::piece::Piece::Words($first) $(, $quoted, $crate::piece::Piece::Words($words))*]
     };
 }
@@ -89,8 +106,8 @@ fn meaning(keyword: &str) -> &'static str
     ensures { result.now ≡ meaning keyword.now }
 {
     match keyword {
-        "n" => ", the number of processes",
-        "me" => ", the number of the process itself",
+        "n" => NUMBER_OF_PROCESSES,
+        "me" => NUMBER_OF_ITSELF,
         _ => "",
     }
 }
@@ -101,11 +118,11 @@ fn statement_of(keyword: &str) -> &'static str
     ensures { result.now ≡ statement_of keyword.now }
 {
     let rows = [
-        ("older", "x = older s 0 1;"),
-        ("held", "x = held s 0;"),
-        ("get", "x = get r me;"),
-        ("put", "put r 1;"),
-        ("scan", "s = scan;"),
+        ("older", OLDER_STATEMENT),
+        ("held", HELD_STATEMENT),
+        ("get", GET_STATEMENT),
+        ("put", PUT_STATEMENT),
+        ("scan", SCAN_STATEMENT),
     ];
-    beside(&rows, keyword, "t = copy s;")
+    beside(&rows, keyword, COPY_STATEMENT)
 }

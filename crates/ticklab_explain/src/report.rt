@@ -1,6 +1,7 @@
 // The report of a refusal.
-ghost use Rattle.std.specs.Prelude.{◌≡◌, ◌++◌, ℕ, List, IfOk, OnOk, codes, length, min, string_bytes};
+ghost use Rattle.std.specs.Prelude.{◌≡◌, ◌++◌, ℕ, List, IfOk, OnOk, length, min, option_map, string_bytes};
 ghost use Rattle.base.specs.Lines.{line_end};
+ghost use Rattle.ticklab_explain.specs.Helps.{help_of};
 ghost use Rattle.ticklab_explain.specs.Hints.{hint_text};
 ghost use Rattle.ticklab_explain.specs.Messages.{message_of};
 ghost use Rattle.ticklab_explain.specs.Pictures.{IsPicture};
@@ -24,6 +25,15 @@ use base::NoMemory;
 use base::span::Span;
 use std::alloc::{AllocError, Global};
 use ticketc_refusals::{Refusal, line_of};
+
+// What stands before a message, before another place, before a hint and before the line of `ticketc`.
+const ERROR: &str = ": error: ";
+
+const ARROW: &str = " --> ";
+
+pub const HINT: &str = "hint: ";
+
+const TICKETC: &str = "ticketc: ";
 
 /// The report of a refusal, of a schedule of so many processes: its place, what is wrong, the line with
 /// a caret, what may help, and the line that `ticketc` tells.
@@ -128,7 +138,7 @@ fn push_place(out: &mut Vec<u8>, name: &str, place: Place) -> Added
 fn push_error(out: &mut Vec<u8>, message: &str) -> Added
     ensures { OnOk result (out.new.items ≡ out.old.items ++ error_text message.now) }
 {
-    push(out, ": error: ")?;
+    push(out, ERROR)?;
     push(out, message)?;
     push(out, "\n")
 }
@@ -141,7 +151,7 @@ fn push_hint(
     scene: &Scene,
     hint: Option<Hint>,
 ) -> Added
-    ensures { OnOk result ((lines : List ℕ) × AreHintLines name.now scene.now.text.now (setting scene.now) hint lines × (out.new.items ≡ out.old.items ++ lines)) }
+    ensures { OnOk result ((lines : List ℕ) × AreHintLines name.now scene.now.text.now (setting scene.now) (option_map help_of hint) lines × (out.new.items ≡ out.old.items ++ lines)) }
 {
     match hint {
         Some(hint) => {
@@ -154,11 +164,11 @@ fn push_hint(
 }
 
 fn push_words(alloc: Global, out: &mut Vec<u8>, scene: &Scene, hint: Hint) -> Added
-    ensures { OnOk result (out.new.items ≡ out.old.items ++ (codes "hint: " ++ hint_text (setting scene.now) hint ++ line_end)) }
+    ensures { OnOk result (out.new.items ≡ out.old.items ++ (HINT.now ++ hint_text (setting scene.now) (help_of hint) ++ line_end)) }
 {
     let mut words = String::new(alloc);
     hint.push(&mut words, scene)?;
-    push(out, "hint: ")?;
+    push(out, HINT)?;
     push(out, &words)?;
     push(out, "\n")
 }
@@ -174,7 +184,7 @@ fn push_seen(alloc: Global, out: &mut Vec<u8>, name: &str, text: &[u8], span: Op
 }
 
 fn push_other(alloc: Global, out: &mut Vec<u8>, name: &str, text: &[u8], span: Span) -> Added
-    ensures { OnOk result ((place : Place) × (drawn : List ℕ) × IsPlace text.now (min span.start (length text.now)) place × IsPicture text.now span place.line drawn × (out.new.items ≡ out.old.items ++ (codes " --> " ++ place_text name.now place ++ line_end ++ drawn))) }
+    ensures { OnOk result ((place : Place) × (drawn : List ℕ) × IsPlace text.now (min span.start (length text.now)) place × IsPicture text.now span place.line drawn × (out.new.items ≡ out.old.items ++ (ARROW.now ++ place_text name.now place ++ line_end ++ drawn))) }
 {
     let place = place_of(text, span.start.min(text.len()));
     push_seen_place(out, name, place)?;
@@ -182,9 +192,9 @@ fn push_other(alloc: Global, out: &mut Vec<u8>, name: &str, text: &[u8], span: S
 }
 
 fn push_seen_place(out: &mut Vec<u8>, name: &str, place: Place) -> Added
-    ensures { OnOk result (out.new.items ≡ out.old.items ++ (codes " --> " ++ place_text name.now place ++ line_end)) }
+    ensures { OnOk result (out.new.items ≡ out.old.items ++ (ARROW.now ++ place_text name.now place ++ line_end)) }
 {
-    push(out, " --> ")?;
+    push(out, ARROW)?;
     push_place(out, name, place)?;
     push(out, "\n")
 }
@@ -193,6 +203,6 @@ fn push_last(alloc: Global, out: &mut Vec<u8>, refusal: Refusal) -> Added
     ensures { OnOk result (out.new.items ≡ out.old.items ++ last_line refusal) }
 {
     let line = line_of(alloc, refusal)?;
-    push(out, "ticketc: ")?;
+    push(out, TICKETC)?;
     push(out, &line)
 }

@@ -6,6 +6,21 @@ ghost use Rattle.ticklab_explain.specs.Pieces.{joined};
 use crate::writing::{Added, push_all};
 use tick_syntax::terminals::Terminal;
 
+// How what may be expected is told.
+const A_STATEMENT: &str = "a statement";
+
+const A_VALUE: &str = "a value";
+
+const AN_EXPRESSION: &str = "an expression";
+
+const AN_OPERATOR: &str = "an operator";
+
+const A_NAME: &str = "a name";
+
+const A_NUMBER: &str = "a number";
+
+pub const END_OF_TEXT: &str = "the end of the text";
+
 /// What may be expected: all tokens of a kind, one word or sign, or the end of the text.
 #[derive(Clone, Copy)]
 pub enum Wanted {
@@ -42,13 +57,13 @@ impl Wanted {
         ensures told { joined (result.2.now ∷ result.1.now ∷ result.2.now ∷ []) ≡ told self }
     {
         match self {
-            Wanted::Statement => ("stamp", "a statement", ""),
-            Wanted::Value => ("get", "a value", ""),
-            Wanted::Expression => ("me", "an expression", ""),
-            Wanted::Operator => ("+", "an operator", ""),
-            Wanted::Name => ("x", "a name", ""),
-            Wanted::Number => ("0", "a number", ""),
-            Wanted::TextEnd => ("", "the end of the text", ""),
+            Wanted::Statement => ("stamp", A_STATEMENT, ""),
+            Wanted::Value => ("get", A_VALUE, ""),
+            Wanted::Expression => ("me", AN_EXPRESSION, ""),
+            Wanted::Operator => ("+", AN_OPERATOR, ""),
+            Wanted::Name => ("x", A_NAME, ""),
+            Wanted::Number => ("0", A_NUMBER, ""),
+            Wanted::TextEnd => ("", END_OF_TEXT, ""),
             Wanted::Word(terminal) => (terminal.text(), terminal.text(), "`"),
         }
     }

@@ -4,14 +4,14 @@ use Rattle.std.specs.List.{zip}
 use Rattle.std.specs.Str.Lossy.{utf8_lossy}
 use Rattle.serde_json.specs.Data.{Data, boolean, string, array, object, Members, no_members, member, put}
 use Rattle.serde_json.specs.View.{items_of}
-use Rattle.ticklab_check.specs.Comparing.{verdict_of}
+use Rattle.ticklab_check.specs.Comparing.{comparison_of}
 use Rattle.ticklab_check.specs.Wording.{expected_text}
 use Rattle.ticklab_check.specs.Words.{found_word, states_of}
 use Rattle.ticklab_check.specs.declared.checked.Checked.{Checked}
 use Rattle.ticklab_check.specs.declared.checked.Checked.TheVariants as C
 use Rattle.ticklab_check.specs.declared.checked.Timed.{Timed}
-use Rattle.ticklab_check.specs.declared.checked.Verdict.{Verdict}
-use Rattle.ticklab_check.specs.declared.checked.Verdict.TheVariants as V
+use Rattle.ticklab_check.specs.declared.checked.Comparison.{Comparison}
+use Rattle.ticklab_check.specs.declared.checked.Comparison.TheVariants as V
 use Rattle.ticklab_check.specs.declared.reporting.Findings.{Findings}
 use Rattle.ticklab_check.specs.declared.source.Source.{Source}
 use Rattle.ticklab_json.specs.Members.{count}
@@ -20,7 +20,7 @@ abbrev pub checked_word : Checked → List ℕ
 checked_word (C.Refused report) = codes "refused"
 checked_word (C.Searched found expected) = found_word found
 
-abbrev pub verdict_word : Verdict → List ℕ
+abbrev pub verdict_word : Comparison → List ℕ
 verdict_word V.AsExpected = codes "as-expected"
 verdict_word V.Otherwise = codes "otherwise"
 verdict_word V.Limit = codes "limit"
@@ -39,7 +39,7 @@ with_checked (C.Searched found expected) members =
 abbrev pub file_members : Source → Timed → Members
 file_members source timed =
     member (codes "answer") (string (checked_word timed.checked)) (member (codes "file") (string (string_bytes source.name))
-    (member (codes "hundredths") (count timed.hundredths) (member (codes "verdict") (string (verdict_word (verdict_of timed.checked))) no_members)))
+    (member (codes "hundredths") (count timed.hundredths) (member (codes "verdict") (string (verdict_word (comparison_of timed.checked))) no_members)))
 
 abbrev pub file_data : Source → Timed → Data
 file_data source timed = object (with_checked timed.checked (file_members source timed))

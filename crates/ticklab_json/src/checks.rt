@@ -10,7 +10,8 @@ use base::NoMemory;
 use serde_json::{Value, json, put};
 use std::alloc::{AllocError, Global};
 use ticklab_check::{
-    Checked, Findings, Source, Timed, Verdict, expected_text, found_word, states_of, verdict_of,
+    Checked, Comparison, Findings, Source, Timed, comparison_of, expected_text, found_word,
+    states_of,
 };
 
 /// What these files come to, as an object in a line.
@@ -58,7 +59,7 @@ fn file_value(alloc: Global, source: &Source, timed: &Timed) -> Result<Value, Al
 fn file_members(alloc: Global, source: &Source, timed: &Timed) -> Result<Members, AllocError>
     ensures { IfOk result (λ members. members_view members.entries ≡ file_members source.now timed.now) }
 {
-    let verdict = Value::try_from_str(alloc, verdict_word(verdict_of(&timed.checked)))?;
+    let verdict = Value::try_from_str(alloc, verdict_word(comparison_of(&timed.checked)))?;
     let hundredths = Value::from(timed.hundredths);
     let mut members = answer_on(alloc, checked_word(&timed.checked), source.name.as_str())?;
     put(&mut members, alloc, "hundredths", hundredths)?;
@@ -106,12 +107,12 @@ fn checked_word(checked: &Checked) -> &'static str
     }
 }
 
-fn verdict_word(verdict: Verdict) -> &'static str
+fn verdict_word(verdict: Comparison) -> &'static str
     ensures { result.now ≡ verdict_word verdict }
 {
     match verdict {
-        Verdict::AsExpected => "as-expected",
-        Verdict::Otherwise => "otherwise",
-        Verdict::Limit => "limit",
+        Comparison::AsExpected => "as-expected",
+        Comparison::Otherwise => "otherwise",
+        Comparison::Limit => "limit",
     }
 }

@@ -2,8 +2,6 @@ pub mod Shown
 pub mod Writing
 pub mod Steps
 pub mod Changes
-pub mod Style
-pub mod Script
 pub mod States
 pub mod Lists
 pub mod Runs

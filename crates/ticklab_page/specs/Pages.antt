@@ -1,5 +1,5 @@
 -- A run as a page of HTML, to the byte: what it is of, its fault, the buttons, the state, the program, the steps, the
--- picture, and what the script replays. Texts of files are written as `Shown` says.
+-- picture, and what the script replays. Texts of files are written as `Shown` says; fixed ones are constants of the code.
 use Rattle.std.specs.Prelude.{ℕ, true, false, List, [], ◌++◌, codes, length, map, nat_le, if◌then◌else◌, Option, Some, None, option_map}
 use Rattle.std.specs.Str.Lines.{lines}
 use Rattle.base.specs.Plain.{Name, WholeProgram}
@@ -13,16 +13,17 @@ use Rattle.ticklab_draw.specs.Never.{Broken}
 use Rattle.ticklab_page.specs.Changes.{change_lines}
 use Rattle.ticklab_page.specs.Lists.{listing_text, steps_text}
 use Rattle.ticklab_page.specs.Runs.{ShownRun}
-use Rattle.ticklab_page.specs.Script.{script}
 use Rattle.ticklab_page.specs.Shown.{shown}
 use Rattle.ticklab_page.specs.States.{table_text}
 use Rattle.ticklab_page.specs.Steps.{first_trap, of_instruction, of_statement, opened_at}
-use Rattle.ticklab_page.specs.Style.{opening, sheet}
 use Rattle.ticklab_page.specs.Writing.{around, markup, twice}
+use Rattle.ticklab_page.specs.declared.page.TheConstants.{BUTTONS, PICTURE_TOP}
+use Rattle.ticklab_page.specs.declared.script.TheConstants.{SCRIPT}
+use Rattle.ticklab_page.specs.declared.style.TheConstants.{OPENING, SHEET}
 
 unfoldable pub title_text : List ℕ → List ℕ
 title_text title =
-    markup opening ++ markup sheet ++ markup (codes "<title>") ++ shown title ++ markup (codes ": a run</title>\n</head>\n<body>\n<h1>") ++ shown title ++ markup (codes "</h1>\n")
+    markup OPENING.now ++ markup SHEET.now ++ markup (codes "<title>") ++ shown title ++ markup (codes ": a run</title>\n</head>\n<body>\n<h1>") ++ shown title ++ markup (codes "</h1>\n")
 
 -- where the page opens, how many steps there are, and how many processes
 unfoldable pub about : ℕ → ℕ → ℕ → List ℕ
@@ -48,29 +49,13 @@ abbrev pub broken_text : Option Broken → List ℕ
 broken_text None = []
 broken_text (Some b) = broken_at b.steps ++ shown b.text ++ markup (codes "</code></p>\n")
 
--- the buttons, and the sentence that is read out
-unfoldable pub buttons : List ℕ
-buttons =
-    codes "<noscript><p>What each step leaves is shown by a script. The steps and the picture are here without one.</p></noscript>\n"
-    ++ codes "<div class=\"move\" data-live hidden>\n"
-    ++ codes "<button id=\"first\" type=\"button\" aria-label=\"To the start\">|&lt;</button>\n"
-    ++ codes "<button id=\"back\" type=\"button\" aria-label=\"One step back\">&lt;</button>\n"
-    ++ codes "<button id=\"forth\" type=\"button\" aria-label=\"One step forward\">&gt;</button>\n"
-    ++ codes "<button id=\"last\" type=\"button\" aria-label=\"To the last step\">&gt;|</button>\n"
-    ++ codes "<p id=\"said\" class=\"said\" aria-live=\"polite\"></p>\n</div>\n"
-
 -- a large picture is closed at first
 abbrev pub details_head : ℕ → List ℕ
 details_head count = if nat_le count 2000 then codes "<details open>\n" else codes "<details>\n"
 
-unfoldable pub picture_top : List ℕ
-picture_top =
-    codes "<summary>What others see of the steps; a mark goes to its step</summary>\n"
-    ++ codes "<div id=\"picture\" class=\"box drawn\" tabindex=\"0\" role=\"region\" aria-label=\"Picture\">\n"
-
 unfoldable pub picture_text : ℕ → List ℕ → List ℕ
 picture_text count drawn =
-    markup (codes "<section>\n<h2>Picture</h2>\n") ++ markup (details_head count) ++ markup picture_top
+    markup (codes "<section>\n<h2>Picture</h2>\n") ++ markup (details_head count) ++ markup PICTURE_TOP.now
     ++ drawn ++ markup (codes "</div>\n</details>\n</section>\n")
 
 unfoldable pub changes_text : List ℕ → List ℕ
@@ -79,14 +64,14 @@ changes_text changes = markup (codes "<pre id=\"changes\" hidden>\n") ++ changes
 unfoldable pub top_text : ShownRun → Option Broken → List ℕ
 top_text run broken =
     title_text run.title ++ about (opened_at run.trap (option_map (λ b. b.steps) broken)) run.count run.processes
-    ++ trap_text run.trap ++ broken_text broken ++ markup buttons
+    ++ trap_text run.trap ++ broken_text broken ++ markup BUTTONS.now
 
 unfoldable pub page_text : ShownRun → Option Broken → List ℕ
 page_text run broken =
     top_text run broken ++ table_text run.is_code run.processes run.rows run.variables
     ++ listing_text run.is_code run.listing ++ steps_text run.trace
     ++ picture_text run.count run.drawn
-    ++ changes_text run.changes ++ markup script
+    ++ changes_text run.changes ++ markup SCRIPT.now
 
 abbrev pub letters : List Name → List (List ℕ)
 letters names = map (λ x. x.letters) names

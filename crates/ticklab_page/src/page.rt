@@ -2,15 +2,15 @@
 ghost use Rattle.std.specs.Prelude.{◌≡◌, ◌++◌, IfOk, OnOk, map, option_map};
 ghost use Rattle.ticklab_trace.specs.Places.{told_standing};
 ghost use Rattle.ticklab_draw.specs.Never.{broken_of};
-ghost use Rattle.ticklab_page.specs.Pages.{about, broken_at, broken_text, buttons, changes_text, code_page, details_head, linked, page_text, picture_text, picture_top, source_page, step_link, title_text, top_text, trap_text};
+ghost use Rattle.ticklab_page.specs.Pages.{about, broken_at, broken_text, changes_text, code_page, details_head, linked, page_text, picture_text, source_page, step_link, title_text, top_text, trap_text};
 ghost use Rattle.ticklab_page.specs.Runs.{run_of};
 
 use crate::changes::{instruction_changes, statement_changes};
 use crate::lists::{instructions_of, lent, lines_of, push_listing, push_steps};
-use crate::script::script;
+use crate::script::SCRIPT;
 use crate::states::push_table;
 use crate::steps::{first_trap, first_trap_of_code, opened_at};
-use crate::style::{opening, sheet};
+use crate::style::{OPENING, SHEET};
 use crate::writing::{Added, push, push_around, push_shown, push_twice};
 use base::NoMemory;
 use base::tree::Named;
@@ -22,6 +22,23 @@ use ticklab_trace::{InstructionStep, StatementPlace, StatementStep, code_trace, 
 
 /// A page is meant for at most so many steps.
 pub const MOST_STEPS: usize = 20_000;
+
+// The buttons, and the sentence that is read out.
+const BUTTONS: &str =
+    "<noscript><p>What each step leaves is shown by a script. The steps and the picture are here without one.</p></noscript>
+<div class=\"move\" data-live hidden>
+<button id=\"first\" type=\"button\" aria-label=\"To the start\">|&lt;</button>
+<button id=\"back\" type=\"button\" aria-label=\"One step back\">&lt;</button>
+<button id=\"forth\" type=\"button\" aria-label=\"One step forward\">&gt;</button>
+<button id=\"last\" type=\"button\" aria-label=\"To the last step\">&gt;|</button>
+<p id=\"said\" class=\"said\" aria-live=\"polite\"></p>
+</div>
+";
+
+// What stands above the picture.
+const PICTURE_TOP: &str = "<summary>What others see of the steps; a mark goes to its step</summary>
+<div id=\"picture\" class=\"box drawn\" tabindex=\"0\" role=\"region\" aria-label=\"Picture\">
+";
 
 /// A run as a page has it.
 #[derive(Clone, Copy)]
@@ -124,7 +141,7 @@ fn push_page(alloc: Global, out: &mut Vec<u8>, run: Run<'_>, never: Option<Never
     push_steps(alloc, out, run.trace)?;
     push_picture(out, run.count, run.drawn)?;
     push_changes(out, run.changes)?;
-    push(out, script())
+    push(out, SCRIPT)
 }
 
 // What it is of, its fault and the buttons.
@@ -137,7 +154,7 @@ fn push_top(out: &mut Vec<u8>, run: Run<'_>, never: Option<NeverMark<'_>>) -> Ad
     push_about(out, opened, run.count, run.processes)?;
     push_trap(out, run.trap)?;
     push_broken(out, never)?;
-    push(out, buttons())
+    push(out, BUTTONS)
 }
 
 fn broken_step(never: Option<NeverMark<'_>>) -> Option<usize>
@@ -153,8 +170,8 @@ fn broken_step(never: Option<NeverMark<'_>>) -> Option<usize>
 fn push_title(out: &mut Vec<u8>, title: &[u8]) -> Added
     ensures { OnOk result (out.new.items ≡ out.old.items ++ title_text title.now) }
 {
-    push(out, opening())?;
-    push(out, sheet())?;
+    push(out, OPENING)?;
+    push(out, SHEET)?;
     push(out, "<title>")?;
     push_shown(out, title)?;
     push(out, ": a run</title>\n</head>\n<body>\n<h1>")?;
@@ -224,40 +241,15 @@ fn push_step_link(out: &mut Vec<u8>, step: usize) -> Added
     push_twice(out, "<a href=\"#step-", step as u64, "\">step ", "</a>")
 }
 
-// The buttons, and the sentence that is read out.
-#[tactic(auto, unfolding(crate::specs::Pages::buttons))]
-fn buttons() -> &'static str
-    ensures { result.now ≡ buttons }
-{
-    "<noscript><p>What each step leaves is shown by a script. The steps and the picture are here without one.</p></noscript>
-<div class=\"move\" data-live hidden>
-<button id=\"first\" type=\"button\" aria-label=\"To the start\">|&lt;</button>
-<button id=\"back\" type=\"button\" aria-label=\"One step back\">&lt;</button>
-<button id=\"forth\" type=\"button\" aria-label=\"One step forward\">&gt;</button>
-<button id=\"last\" type=\"button\" aria-label=\"To the last step\">&gt;|</button>
-<p id=\"said\" class=\"said\" aria-live=\"polite\"></p>
-</div>
-"
-}
-
 #[tactic(auto, unfolding(crate::specs::Pages::picture_text))]
 fn push_picture(out: &mut Vec<u8>, count: usize, drawn: &[u8]) -> Added
     ensures { OnOk result (out.new.items ≡ out.old.items ++ picture_text count drawn.now) }
 {
     push(out, "<section>\n<h2>Picture</h2>\n")?;
     push(out, details_head(count))?;
-    push(out, picture_top())?;
+    push(out, PICTURE_TOP)?;
     out.extend_from_slice(drawn)?;
     push(out, "</div>\n</details>\n</section>\n")
-}
-
-#[tactic(auto, unfolding(crate::specs::Pages::picture_top))]
-fn picture_top() -> &'static str
-    ensures { result.now ≡ picture_top }
-{
-    "<summary>What others see of the steps; a mark goes to its step</summary>
-<div id=\"picture\" class=\"box drawn\" tabindex=\"0\" role=\"region\" aria-label=\"Picture\">
-"
 }
 
 #[tactic(auto, unfolding(crate::specs::Pages::changes_text))]

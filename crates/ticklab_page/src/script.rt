@@ -1,13 +1,7 @@
 // The script of every page.
-ghost use Rattle.std.specs.Prelude.{◌≡◌};
-ghost use Rattle.ticklab_page.specs.Script.{script};
 
-/// The script, and the end of the page.
-#[tactic(auto, unfolding(crate::specs::Script::script))]
-pub fn script() -> &'static str
-    ensures { result.now ≡ script }
-{
-    "<script>'use strict';
+/// The script, and the end of the page. It replays the changes of the steps, up to the one that was chosen.
+pub const SCRIPT: &str = "<script>'use strict';
 (function () {
   var by = function (id) { return document.getElementById(id); };
   var run = by('run'), steps = by('steps').children, lines = by('program').children, from = Number(by('program').dataset.first);
@@ -147,5 +141,4 @@ pub fn script() -> &'static str
 </script>
 </body>
 </html>
-"
-}
+";

@@ -1,27 +1,17 @@
 // The head of every page, and its style sheet.
-ghost use Rattle.std.specs.Prelude.{◌≡◌};
-ghost use Rattle.ticklab_page.specs.Style.{opening, sheet};
 
-/// What stands before the style sheet.
-#[tactic(auto, unfolding(crate::specs::Style::opening))]
-pub fn opening() -> &'static str
-    ensures { result.now ≡ opening }
-{
-    "<!DOCTYPE html>
+/// What stands before the style sheet. Nothing is loaded from elsewhere, and no script runs but the one of this text, whose
+/// SHA-256 this is.
+pub const OPENING: &str = "<!DOCTYPE html>
 <html lang=\"en\">
 <head>
 <meta charset=\"utf-8\">
 <meta name=\"viewport\" content=\"width=device-width,initial-scale=1\">
 <meta http-equiv=\"Content-Security-Policy\" content=\"default-src 'none';style-src 'unsafe-inline';script-src 'sha256-ZgFg1YiOrExyzRkM8AKWQqXTw4qTfoy6MSZtwhHNqEU='\">
-"
-}
+";
 
-/// The style sheet.
-#[tactic(auto, unfolding(crate::specs::Style::sheet))]
-pub fn sheet() -> &'static str
-    ensures { result.now ≡ sheet }
-{
-    "<style>
+/// The style sheet, for dark and light, for narrow pages and for paper.
+pub const SHEET: &str = "<style>
 :root{color-scheme:light dark;--ink:#1a1a1a;--paper:#fff;--faint:#5c5c5c;--rule:#c8c8c8;--shade:#f1f1ee;--now:#ffe79a;--fault:#a80016;--link:#0b57a4}
 @media (prefers-color-scheme:dark){:root{--ink:#e6e6e6;--paper:#16181b;--faint:#a5a5a5;--rule:#45484d;--shade:#202327;--now:#574a12;--fault:#ff8a8f;--link:#8ab8f0}.drawn svg{filter:invert(.91) hue-rotate(180deg)}}
 *{box-sizing:border-box}
@@ -64,5 +54,4 @@ code,.listing,.told,.state td,.state th{font-family:ui-monospace,'DejaVu Sans Mo
 [hidden]{display:none!important}
 @media print{.move{display:none!important}.box{max-height:none;overflow:visible;border:0}.listing,.told{min-width:0}.listing li,.told li{white-space:pre-wrap}.drawn svg{width:100%;height:auto;filter:none}body{max-width:none}}
 </style>
-"
-}
+";

@@ -1,8 +1,10 @@
 //! Known programs: deadlocks, a livelock, processes that make room for each other for ever, and their repaired forms.
 
-use super::merged::{Search, Steps, is_said_alike};
+use super::merged::{Explored, Search, is_said_alike};
 use crate::lawful::lawful_steps;
-use searches_explore::{EndExplored, LassoAnswer, MustStop, NoMemory, explore_lasso};
+use searches_explore::{
+    Fault, LassoAnswer, Liveness, MustStop, NoMemory, StepKind, Verdict, explore_lasso,
+};
 use std::alloc::{AllocError, Global};
 use std::test::Fail;
 use tests_shared::{Checked, holds, is_same};
@@ -78,23 +80,29 @@ fn search_of(program: &Program, asked: MustStop) -> Search<'_> {
 }
 
 // What is told, and how many steps lead to where nothing leads on to an end.
-fn kind_of(found: &EndExplored) -> (&'static str, usize) {
+fn kind_of(found: &Explored) -> (&'static str, usize) {
     match found {
-        EndExplored::Trapped(..) => ("trapped", 0),
-        EndExplored::Broken { .. } => ("broken", 0),
-        EndExplored::Stuck { schedule, .. } => ("stuck", schedule.len()),
-        EndExplored::Endless { .. } => ("endless", 0),
-        EndExplored::Ends { .. } => ("ends", 0),
-        EndExplored::CanEnd { .. } => ("can end", 0),
-        EndExplored::Limit { .. } => ("limit", 0),
+        Verdict::Found(Fault::Trapped(_)) => ("trapped", 0),
+        Verdict::Found(Fault::Broken { .. }) => ("broken", 0),
+        Verdict::Nowhere { known, .. } => kind_of_known(known),
+        Verdict::Limit { .. } => ("limit", 0),
+    }
+}
+
+fn kind_of_known(known: &Liveness) -> (&'static str, usize) {
+    match known {
+        Liveness::Stuck { schedule, .. } => ("stuck", schedule.len()),
+        Liveness::Endless { .. } => ("endless", 0),
+        Liveness::Ends => ("ends", 0),
+        Liveness::CanEnd => ("can end", 0),
     }
 }
 
 // The same of a program. By merged steps it is told alike.
 fn told(alloc: Global, program: &Program, asked: MustStop) -> Result<(&'static str, usize), Fail> {
     let search = search_of(program, asked);
-    let found = search.found(alloc, Steps::Single)?;
-    let merged = search.found(alloc, Steps::Merged)?;
+    let found = search.found(alloc, StepKind::Single)?;
+    let merged = search.found(alloc, StepKind::Merged)?;
     holds(is_said_alike(&found, &merged), "by merged steps")?;
     Ok(kind_of(&found))
 }
@@ -196,7 +204,11 @@ fn what_is_found_is_a_lasso(rt: HostRuntime) -> Result<(), Fail> {
     let alloc = rt.alloc();
     let two = program_of(alloc, "2", BOTH_GIVE_WAY)?;
     let search = search_of(&two.program, MustStop::All);
-    let EndExplored::Endless { prefix, cycle, .. } = search.found(alloc, Steps::Single)? else {
+    let Verdict::Nowhere {
+        known: Liveness::Endless { prefix, cycle },
+        ..
+    } = search.found(alloc, StepKind::Single)?
+    else {
         return Err(Fail::new(format_args!("it isn't endless")));
     };
     let schedules = (prefix.as_slice(), cycle.as_slice());

@@ -6,19 +6,15 @@ use super::slow::Slow;
 use super::stepping::{some_trapped, words_after};
 use super::sweeps::{can_end, is_stuck, nearest_unmarked};
 use searches_explore::{
-    EndExplored, Limits, MustStop, NeverExplored, NoMemory, Property, Unwatched, explore_ends,
-    explore_ends_merged, explore_never, explore_never_merged,
+    Fault, Limits, Liveness, MustStop, NoMemory, Property, StepKind, Unwatched, Verdict, explore,
+    explore_ends,
 };
 use std::alloc::Global;
 use std::test::Fail;
 use tick_kinds::Program;
 
-/// The steps of a search for ends.
-#[derive(Clone, Copy)]
-pub enum Steps {
-    Single,
-    Merged,
-}
+/// What a search for ends comes to.
+pub type Explored = Verdict<Fault, Liveness>;
 
 /// A search for ends.
 #[derive(Clone, Copy)]
@@ -30,7 +26,7 @@ pub struct Search<'a> {
 }
 
 impl Search<'_> {
-    fn once(&self, alloc: Global, steps: Steps) -> Result<EndExplored, NoMemory> {
+    fn once(&self, alloc: Global, steps: StepKind) -> Result<Explored, NoMemory> {
         let Search {
             program,
             lines,
@@ -38,33 +34,28 @@ impl Search<'_> {
             limit,
         } = *self;
         let limits = Limits::of_states(limit);
-        match steps {
-            Steps::Single => explore_ends(alloc, program, lines, asked, limits, &mut Unwatched),
-            Steps::Merged => {
-                explore_ends_merged(alloc, program, lines, asked, limits, &mut Unwatched)
-            }
-        }
+        explore_ends(alloc, program, lines, asked, steps, limits, &mut Unwatched)
     }
 
     /// What a search finds that doesn't ask for ends.
     pub fn found_without_ends(
         &self,
         alloc: Global,
-        steps: Steps,
-    ) -> Result<NeverExplored, NoMemory> {
+        steps: StepKind,
+    ) -> Result<Verdict<Fault, ()>, NoMemory> {
         let limits = Limits::of_states(self.limit);
-        match steps {
-            Steps::Single => {
-                explore_never(alloc, self.program, self.lines, limits, &mut Unwatched)
-            }
-            Steps::Merged => {
-                explore_never_merged(alloc, self.program, self.lines, limits, &mut Unwatched)
-            }
-        }
+        explore(
+            alloc,
+            self.program,
+            self.lines,
+            steps,
+            limits,
+            &mut Unwatched,
+        )
     }
 
     /// What is found. Where a growth was refused, it is asked once more.
-    pub fn found(&self, alloc: Global, steps: Steps) -> Result<EndExplored, NoMemory> {
+    pub fn found(&self, alloc: Global, steps: StepKind) -> Result<Explored, NoMemory> {
         match self.once(alloc, steps) {
             Err(NoMemory) => self.once(alloc, steps),
             found => found,
@@ -72,35 +63,45 @@ impl Search<'_> {
     }
 }
 
-/// Whether merged steps say of the processes what single ones do: that they can be stuck, or that they never are.
-pub fn is_said_alike(single: &EndExplored, merged: &EndExplored) -> bool {
+// The same of what is known of ends.
+fn is_known_alike(single: &Liveness, merged: &Liveness) -> bool {
     match single {
-        EndExplored::Trapped(..) | EndExplored::Broken { .. } => matches!(
-            merged,
-            EndExplored::Trapped(..) | EndExplored::Broken { .. }
-        ),
-        EndExplored::Stuck { .. } => matches!(merged, EndExplored::Stuck { .. }),
-        EndExplored::Endless { .. } | EndExplored::Ends { .. } | EndExplored::CanEnd { .. } => {
-            matches!(merged, EndExplored::CanEnd { .. })
+        Liveness::Stuck { .. } => matches!(merged, Liveness::Stuck { .. }),
+        Liveness::Endless { .. } | Liveness::Ends | Liveness::CanEnd => {
+            matches!(merged, Liveness::CanEnd)
         }
-        EndExplored::Limit { .. } => true,
     }
 }
 
-// Whether a process has trapped or a line is broken after this schedule, as it is told.
-fn is_fault_after(
-    alloc: Global,
-    program: &Drawn,
-    lines: &[Line],
-    schedule: &[u8],
-    found: &EndExplored,
-) -> Result<bool, Fail> {
-    let words = words_after(alloc, program, schedule)?;
-    Ok(match found {
-        EndExplored::Broken { line, value, .. } => !some_trapped(program, &words)
-            && first_broken(program, &words, lines) == Some((*line, *value)),
-        _ => some_trapped(program, &words),
-    })
+/// Whether merged steps say of the processes what single ones do: that they can be stuck, or that they never are.
+pub fn is_said_alike(single: &Explored, merged: &Explored) -> bool {
+    match (single, merged) {
+        (Verdict::Limit { .. }, _) => true,
+        (Verdict::Found(_), Verdict::Found(_)) => true,
+        (Verdict::Nowhere { known, .. }, Verdict::Nowhere { known: other, .. }) => {
+            is_known_alike(known, other)
+        }
+        _ => false,
+    }
+}
+
+// Whether a process has trapped or a line is broken after its schedule, as it is told.
+fn is_fault(alloc: Global, program: &Drawn, lines: &[Line], found: &Fault) -> Result<bool, Fail> {
+    match found {
+        Fault::Trapped(schedule) => {
+            let words = words_after(alloc, program, schedule)?;
+            Ok(some_trapped(program, &words))
+        }
+        Fault::Broken {
+            schedule,
+            line,
+            value,
+        } => {
+            let words = words_after(alloc, program, schedule)?;
+            let first = first_broken(program, &words, lines);
+            Ok(!some_trapped(program, &words) && first == Some((*line, *value)))
+        }
+    }
 }
 
 // Whether there may be so many states between merged steps, and no fault.
@@ -117,20 +118,27 @@ pub struct Case<'a> {
     pub slow: &'a Slow,
 }
 
-/// Whether this is so of the program. Where the slow search didn't see all, it can't say whether something is stuck.
-pub fn is_right_merged(alloc: Global, case: &Case<'_>, found: &EndExplored) -> Result<bool, Fail> {
+// Whether this is so of ends. Where the slow search didn't see all, it can't say whether something is stuck.
+fn is_known_merged(alloc: Global, case: &Case<'_>, known: &Liveness) -> Result<bool, Fail> {
     let slow = case.slow;
     let marks = can_end(alloc, slow, case.asked)?;
+    Ok(match known {
+        Liveness::Stuck { .. } => slow.is_full || is_stuck(alloc, slow, &marks, known)?,
+        Liveness::CanEnd => slow.is_full || nearest_unmarked(slow, &marks).is_none(),
+        Liveness::Endless { .. } | Liveness::Ends => false,
+    })
+}
+
+/// Whether this is so of the program.
+pub fn is_right_merged(alloc: Global, case: &Case<'_>, found: &Explored) -> Result<bool, Fail> {
+    let slow = case.slow;
     Ok(match found {
-        EndExplored::Trapped(schedule) | EndExplored::Broken { schedule, .. } => {
-            (slow.is_faulty || slow.is_full)
-                && is_fault_after(alloc, case.program, case.lines, schedule, found)?
+        Verdict::Found(fault) => {
+            (slow.is_faulty || slow.is_full) && is_fault(alloc, case.program, case.lines, fault)?
         }
-        EndExplored::Stuck { states, .. } => is_fewer(slow, *states)
-            && (slow.is_full || is_stuck(alloc, slow, &marks, found)?),
-        EndExplored::CanEnd { states } => is_fewer(slow, *states)
-            && (slow.is_full || nearest_unmarked(slow, &marks).is_none()),
-        EndExplored::Limit { .. } => slow.is_full,
-        EndExplored::Endless { .. } | EndExplored::Ends { .. } => false,
+        Verdict::Nowhere { states, known } => {
+            is_fewer(slow, *states) && is_known_merged(alloc, case, known)?
+        }
+        Verdict::Limit { .. } => slow.is_full,
     })
 }

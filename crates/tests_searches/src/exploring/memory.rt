@@ -3,8 +3,7 @@
 use super::watching::Told;
 use crate::examples::TWO_TICKETS;
 use searches_explore::{
-    EndExplored, Explored, Limits, MustStop, NoMemory, explore, explore_ends, explore_ends_merged,
-    explore_merged,
+    Fault, Limits, MustStop, NoMemory, StepKind, Verdict, explore, explore_ends,
 };
 use std::alloc::Global;
 use std::test::Fail;
@@ -21,19 +20,11 @@ enum Kind {
 }
 
 // How many states are told, and whether these are all.
-fn number(explored: &Explored) -> (u32, bool) {
+fn number<E>(explored: &Verdict<Fault, E>) -> (u32, bool) {
     match explored {
-        Explored::Safe { states } => (*states, true),
-        Explored::Limit { states } => (*states, false),
-        Explored::Trapped(..) => (0, true),
-    }
-}
-
-fn number_of_ends(explored: &EndExplored) -> (u32, bool) {
-    match explored {
-        EndExplored::Ends { states } | EndExplored::CanEnd { states } => (*states, true),
-        EndExplored::Limit { states } => (*states, false),
-        _ => (0, true),
+        Verdict::Nowhere { states, .. } => (*states, true),
+        Verdict::Limit { states } => (*states, false),
+        Verdict::Found(_) => (0, true),
     }
 }
 
@@ -44,15 +35,19 @@ fn found(
     limits: Limits,
     watch: &mut Told,
 ) -> Result<(u32, bool), NoMemory> {
-    let all = MustStop::All;
-    Ok(match kind {
-        Kind::Single => number(&explore(alloc, program, limits, watch)?),
-        Kind::Merged => number(&explore_merged(alloc, program, limits, watch)?),
-        Kind::Ends => number_of_ends(&explore_ends(alloc, program, &[], all, limits, watch)?),
-        Kind::EndsMerged => {
-            number_of_ends(&explore_ends_merged(alloc, program, &[], all, limits, watch)?)
-        }
-    })
+    let (steps, of_ends) = match kind {
+        Kind::Single => (StepKind::Single, false),
+        Kind::Merged => (StepKind::Merged, false),
+        Kind::Ends => (StepKind::Single, true),
+        Kind::EndsMerged => (StepKind::Merged, true),
+    };
+    if of_ends {
+        let all = MustStop::All;
+        let explored = explore_ends(alloc, program, &[], all, steps, limits, watch)?;
+        return Ok(number(&explored));
+    }
+    let explored = explore(alloc, program, &[], steps, limits, watch)?;
+    Ok(number(&explored))
 }
 
 // What is found, and what a watch is told, within so many bytes.

@@ -1,7 +1,7 @@
 //! What a watch is told of how far a search is.
 
 use crate::examples::{TICKET_COUNT, TWO_TICKETS};
-use searches_explore::{Explored, Limits, Watch, explore};
+use searches_explore::{Limits, StepKind, Verdict, Watch, explore};
 use std::alloc::Global;
 use std::test::Fail;
 use tests_shared::{Checked, is_same};
@@ -60,8 +60,10 @@ fn watched(alloc: Global, text: &str, states: u32) -> Result<Told, Fail> {
     let checked = Checked::new(alloc, text)?;
     let mut watch = Told::nothing();
     let limits = Limits::of_states(1_000_000);
-    let explored = explore(alloc, &checked.program, limits, &mut watch)?;
-    is_same(&explored, &Explored::Safe { states })?;
+    let program = &checked.program;
+    let explored = explore(alloc, program, &[], StepKind::Single, limits, &mut watch)?;
+    let known = ();
+    is_same(&explored, &Verdict::Nowhere { states, known })?;
     Ok(watch)
 }
 
@@ -82,6 +84,18 @@ fn lines_on_standard_error(rt: HostRuntime) -> Result<(), Fail> {
     let checked = Checked::new(rt.alloc(), TICKET_COUNT)?;
     let mut lines = Lines { rt: &rt };
     let limits = Limits::of_states(1_000_000);
-    let explored = explore(rt.alloc(), &checked.program, limits, &mut lines)?;
-    is_same(&explored, &Explored::Safe { states: 168_352 })
+    let program = &checked.program;
+    let explored = explore(
+        rt.alloc(),
+        program,
+        &[],
+        StepKind::Single,
+        limits,
+        &mut lines,
+    )?;
+    let all = Verdict::Nowhere {
+        states: 168_352,
+        known: (),
+    };
+    is_same(&explored, &all)
 }

@@ -6,7 +6,8 @@ use crate::hunting::programs::{
     QUEUE_WITH_FAULT, SERVICE_WITH_FAULT, SIX,
 };
 use crate::hunting::replay::needs_all;
-use searches_hunt::{Hunted, Mode, hunt};
+use searches_explore::Fault;
+use searches_hunt::{InTurn, Mode, hunt};
 use std::alloc::Global;
 use std::test::Fail;
 use tests_shared::{Checked, holds};
@@ -15,7 +16,8 @@ use tests_shared::{Checked, holds};
 fn is_found(alloc: Global, text: &str, mode: Mode) -> Result<(), Fail> {
     let checked = Checked::new(alloc, text)?;
     let plan = plan(1, 2_000, mode);
-    let Hunted::Found { run, schedule } = hunt(alloc, &checked.program, plan)? else {
+    let found = hunt(&InTurn, alloc, &checked.program, &[], plan, 0)?;
+    let Some((run, Fault::Trapped(schedule))) = found else {
         return Err("no trap was found")?;
     };
     holds(run < 2_000, run)?;

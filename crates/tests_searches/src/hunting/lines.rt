@@ -1,13 +1,15 @@
 //! Hunts with lines that must never hold, from any run on.
 
 use crate::hunting::programs::{BOTH_INSIDE, WRITTEN};
-use language_properties::{Junction, Question};
-use searches_hunt::{
-    Hunted, InTurn, Mode, NeverHunted, NoMemory, Plan, Property, Trap, hunt, hunt_by,
-};
+use language_properties::{Junction, Question, Trap};
+use searches_explore::Fault;
+use searches_hunt::{InTurn, Mode, NoMemory, Plan, Property, hunt};
 use std::alloc::Global;
 use std::test::Fail;
 use tests_shared::{Checked, holds, is_same};
+
+/// The run that comes to a fault, and the fault.
+type Hunted = Option<(u32, Fault)>;
 
 fn plan(runs: u32) -> Plan {
     Plan {
@@ -41,9 +43,9 @@ fn told(
     lines: &[Property],
     plan: Plan,
     from: u32,
-) -> Result<NeverHunted, Fail> {
+) -> Result<Hunted, Fail> {
     let checked = Checked::new(alloc, text)?;
-    Ok(hunt_by(&InTurn, alloc, &checked.program, lines, plan, from)?)
+    Ok(hunt(&InTurn, alloc, &checked.program, lines, plan, from)?)
 }
 
 // How many steps are those of process 1.
@@ -55,7 +57,7 @@ fn ones(schedule: &[u8]) -> u32 {
     ones
 }
 
-fn broken_second(alloc: Global) -> Result<NeverHunted, Fail> {
+fn broken_second(alloc: Global) -> Result<Hunted, Fail> {
     let lines = [Property::Number(0), both(alloc)?];
     told(alloc, BOTH_INSIDE, &lines, plan(1_000), 0)
 }
@@ -63,12 +65,16 @@ fn broken_second(alloc: Global) -> Result<NeverHunted, Fail> {
 #[test]
 fn second_line_is_broken(rt: HostRuntime) -> Result<(), Fail> {
     match &broken_second(rt.alloc())? {
-        NeverHunted::Broken {
-            schedule,
-            line,
-            value,
-            ..
-        } => {
+        Some(
+            (
+                _,
+                Fault::Broken {
+                    schedule,
+                    line,
+                    value,
+                },
+            ),
+        ) => {
             // each process makes its two first steps, and nothing else
             let found = (*line, *value, schedule.len(), ones(schedule));
             is_same(&found, &(1, Ok(1), 4, 2))
@@ -81,45 +87,34 @@ fn second_line_is_broken(rt: HostRuntime) -> Result<(), Fail> {
 fn line_that_traps_breaks_at_the_start(rt: HostRuntime) -> Result<(), Fail> {
     let alloc = rt.alloc();
     let lines = [register_of(alloc, 2)?];
+    let fault = Fault::Broken {
+        schedule: Vec::new(alloc),
+        line: 0,
+        value: Err(Trap::Index),
+    };
     is_same(
         &told(alloc, BOTH_INSIDE, &lines, plan(10), 7)?,
-        &NeverHunted::Broken {
-            run: 7,
-            schedule: Vec::new(alloc),
-            line: 0,
-            value: Err(Trap::Index),
-        },
+        &Some((7, fault)),
     )
 }
 
 // Beside a line that a trap breaks.
-fn first_trap(alloc: Global) -> Result<NeverHunted, Fail> {
+fn first_trap(alloc: Global) -> Result<Hunted, Fail> {
     let lines = [Property::Of(Question::Trapped, Box::new(alloc, Property::Number(1))?)];
     told(alloc, WRITTEN, &lines, plan(100), 0)
 }
 
-fn first_trap_alone(alloc: Global) -> Result<Hunted, Fail> {
-    Ok(hunt(alloc, &Checked::new(alloc, WRITTEN)?.program, plan(100))?)
-}
-
 #[test]
 fn trap_is_told_first(rt: HostRuntime) -> Result<(), Fail> {
-    match (&first_trap(rt.alloc())?, &first_trap_alone(rt.alloc())?) {
-        (
-            NeverHunted::Trapped { run, schedule },
-            Hunted::Found {
-                run: other,
-                schedule: same,
-            },
-        ) => is_same(&(*run, schedule.as_slice()), &(*other, same.as_slice())),
-        _ => Err("no trap was found")?,
-    }
+    let found = first_trap(rt.alloc())?;
+    holds(matches!(&found, Some((_, Fault::Trapped(_)))), "a trap")?;
+    is_same(&found, &told(rt.alloc(), WRITTEN, &[], plan(100), 0)?)
 }
 
 // What is told of the first of nine runs, or of the rest where these tell nothing.
-fn told_in_parts(alloc: Global, first: u32, from: u32) -> Result<NeverHunted, Fail> {
+fn told_in_parts(alloc: Global, first: u32, from: u32) -> Result<Hunted, Fail> {
     match told(alloc, WRITTEN, &[], plan(first), from)? {
-        NeverHunted::Nothing => {
+        None => {
             let rest = plan(9u32.saturating_sub(first));
             told(alloc, WRITTEN, &[], rest, from.saturating_add(first))
         }
@@ -146,7 +141,7 @@ fn last_runs(rt: HostRuntime) -> Result<(), Fail> {
     for (runs, from) in [(u32::MAX, u32::MAX), (2, 4_294_967_294)] {
         is_same(
             &told(rt.alloc(), BOTH_INSIDE, &[], plan(runs), from)?,
-            &NeverHunted::Nothing,
+            &None,
         )?;
     }
     Ok(())

@@ -2,7 +2,8 @@
 
 use crate::hunting::programs::{IN_STEP, THREE_IN_STEP};
 use crate::hunting::replay::needs_all;
-use searches_hunt::{Hunted, Mode, Plan, hunt};
+use searches_explore::Fault;
+use searches_hunt::{InTurn, Mode, Plan, hunt};
 use std::alloc::Global;
 use std::test::Fail;
 use tests_shared::{Checked, holds};
@@ -16,7 +17,8 @@ fn needs_thousands(alloc: Global, text: &str, mode: Mode) -> Result<(), Fail> {
         steps: 40_000,
         mode,
     };
-    let Hunted::Found { run: _, schedule } = hunt(alloc, &checked.program, plan)? else {
+    let found = hunt(&InTurn, alloc, &checked.program, &[], plan, 0)?;
+    let Some((_run, Fault::Trapped(schedule))) = found else {
         return Err("no trap was found")?;
     };
     holds(schedule.len() > 2_000, schedule.len())?;

@@ -2,7 +2,7 @@
 
 use crate::hunting::plan;
 use crate::hunting::programs::{BOTH_INSIDE, QUEUE_WITH_FAULT, SERVICE_WITH_FAULT, WRITTEN};
-use searches_hunt::{InTurn, Mode, NoMemory, Plan, Sought, Trials, hunt_by};
+use searches_hunt::{InTurn, Mode, NoMemory, Plan, Sought, Trials, hunt};
 use searches_parallel::OnProcessors;
 use std::alloc::Global;
 use std::test::Fail;
@@ -89,11 +89,11 @@ fn is_found_by_all<R: AllocGlobal + Threads + Sync>(
     from: u32,
 ) -> Result<(), Fail> {
     let plan = plan(1, 1_000, Mode::Uniform);
-    let found = hunt_by(&InTurn, rt.alloc(), program, &[], plan, from)?;
+    let found = hunt(&InTurn, rt.alloc(), program, &[], plan, from)?;
     for jobs in JOBS {
         let trials = OnProcessors { rt, jobs };
         is_same(
-            &hunt_by(&trials, rt.alloc(), program, &[], plan, from)?,
+            &hunt(&trials, rt.alloc(), program, &[], plan, from)?,
             &found,
         )?;
     }

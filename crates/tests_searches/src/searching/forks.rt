@@ -2,7 +2,7 @@
 ghost use Rattle.std.specs.Prelude.{◌≡◌, ◌<◌, ◌==◌, ℕ, length, nat_lt, if◌then◌else◌, slice_index};
 ghost use Rattle.tests_searches.specs.Machines.{forked, idle_within, nobody_else, stays_within};
 
-use searches_states::{EndSearched, Limits, Machine, MustStop, NoMemory, Unwatched, search_ends};
+use searches_states::{Limits, Machine, MustStop, NoMemory, Unwatched, Verdict, explored_graph};
 use std::alloc::Global;
 use std::test::Fail;
 use tests_shared::is_same;
@@ -73,32 +73,38 @@ impl Machine for Forks {
     }
 }
 
-// Where a growth was refused, it is asked once more.
-fn searched(alloc: Global, forks: &Forks, start: u32, limit: u32) -> Result<EndSearched, NoMemory>
+/// What a search for ends comes to.
+type Found = Verdict<Vec<u8>, Option<Vec<u8>>>;
+
+// What is found, where these have to stop.
+fn once(
+    alloc: Global,
+    forks: &Forks,
+    asked: MustStop,
+    start: u32,
+    limit: u32,
+) -> Result<Found, NoMemory>
     requires { start < 4 }
 {
     let limits = Limits::of_states(limit);
-    match search_ends(
-        alloc,
-        forks,
-        MustStop::All,
-        &[start],
-        limits,
-        &mut Unwatched,
-    ) {
-        Err(NoMemory) => search_ends(
-            alloc,
-            forks,
-            MustStop::Each([false, true, false, false, false, false]),
-            &[start],
-            limits,
-            &mut Unwatched,
-        ),
+    let (found, _graph) = explored_graph(alloc, forks, asked, &[start], limits, &mut Unwatched)?;
+    Ok(found)
+}
+
+// Where a growth was refused, it is asked once more.
+fn searched(alloc: Global, forks: &Forks, start: u32, limit: u32) -> Result<Found, NoMemory>
+    requires { start < 4 }
+{
+    match once(alloc, forks, MustStop::All, start, limit) {
+        Err(NoMemory) => {
+            let second = MustStop::Each([false, true, false, false, false, false]);
+            once(alloc, forks, second, start, limit)
+        }
         found => found,
     }
 }
 
-fn tells(alloc: Global, bad: u32, start: u32, limit: u32, wanted: EndSearched) -> Result<(), Fail>
+fn tells(alloc: Global, bad: u32, start: u32, limit: u32, wanted: Found) -> Result<(), Fail>
     requires { start < 4 }
 {
     is_same(&searched(alloc, &Forks { bad }, start, limit)?, &wanted)
@@ -107,18 +113,22 @@ fn tells(alloc: Global, bad: u32, start: u32, limit: u32, wanted: EndSearched) -
 #[test]
 fn one_way_leads_to_no_end(rt: HostRuntime) -> Result<(), Fail> {
     let alloc = rt.alloc();
-    let stuck = EndSearched::Stuck {
-        schedule: vec![in alloc; 1; 1]?,
+    let stuck = Verdict::Nowhere {
         states: 4,
+        known: Some(vec![in alloc; 1; 1]?),
     };
     tells(alloc, 9, 0, 9, stuck)?;
-    tells(alloc, 9, 1, 9, EndSearched::Ends { states: 2 })?;
-    tells(alloc, 9, 0, 3, EndSearched::Limit { states: 3 })
+    let ends = Verdict::Nowhere {
+        states: 2,
+        known: None,
+    };
+    tells(alloc, 9, 1, 9, ends)?;
+    tells(alloc, 9, 0, 3, Verdict::Limit { states: 3 })
 }
 
 #[test]
 fn a_bad_state_is_told_first(rt: HostRuntime) -> Result<(), Fail> {
     let alloc = rt.alloc();
-    let found = EndSearched::Found(vec![in alloc; 0; 2]?);
+    let found = Verdict::Found(vec![in alloc; 0; 2]?);
     tells(alloc, 2, 0, 9, found)
 }

@@ -3,7 +3,7 @@
 ghost use Rattle.std.specs.Prelude.{◌≡◌, ◌<◌, ◌≤◌, ◌==◌, ◌||◌, ℕ, false, length, nat_lt, if◌then◌else◌, slice_index};
 ghost use Rattle.tests_searches.specs.Machines.{poured, nobody_else, none_stops};
 
-use searches_states::{Limits, Machine, NoMemory, Searched, Unwatched, search};
+use searches_states::{Limits, Machine, NoMemory, Unwatched, Verdict, search};
 use std::alloc::Global;
 use std::test::Fail;
 use tests_shared::is_same;
@@ -84,7 +84,7 @@ impl Machine for Jugs {
 }
 
 // Where a growth was refused, it is asked once more.
-fn searched(alloc: Global, jugs: &Jugs, limit: u32) -> Result<Searched, NoMemory> {
+fn searched(alloc: Global, jugs: &Jugs, limit: u32) -> Result<Verdict<Vec<u8>, ()>, NoMemory> {
     let limits = Limits::of_states(limit);
     match search(alloc, jugs, &[0, 0], limits, &mut Unwatched) {
         Err(NoMemory) => search(alloc, jugs, &[0, 0], limits, &mut Unwatched),
@@ -101,7 +101,7 @@ fn measuring(measured: u32, left: u32, right: u32) -> Jugs {
     }
 }
 
-fn tells(alloc: Global, jugs: Jugs, limit: u32, wanted: Searched) -> Result<(), Fail> {
+fn tells(alloc: Global, jugs: Jugs, limit: u32, wanted: Verdict<Vec<u8>, ()>) -> Result<(), Fail> {
     is_same(&searched(alloc, &jugs, limit)?, &wanted)
 }
 
@@ -112,13 +112,17 @@ fn four_of_three_and_five(rt: HostRuntime) -> Result<(), Fail> {
         rt.alloc(),
         measuring(4, 3, 5),
         100,
-        Searched::Found(schedule),
+        Verdict::Found(schedule),
     )
 }
 
 #[test]
 fn five_of_four_and_six(rt: HostRuntime) -> Result<(), Fail> {
     let jugs = measuring(5, 4, 6);
-    tells(rt.alloc(), jugs, 100, Searched::Nowhere { states: 10 })?;
-    tells(rt.alloc(), jugs, 9, Searched::Limit { states: 9 })
+    let nowhere = Verdict::Nowhere {
+        states: 10,
+        known: (),
+    };
+    tells(rt.alloc(), jugs, 100, nowhere)?;
+    tells(rt.alloc(), jugs, 9, Verdict::Limit { states: 9 })
 }

@@ -2,7 +2,7 @@
 ghost use Rattle.std.specs.Prelude.{◌≡◌, ◌<◌, ℕ, false, List, length, nat_lt, if◌then◌else◌};
 ghost use Rattle.tests_searches.specs.Machines.{counted_up, nobody_else, none_stops};
 
-use searches_states::{Limits, Machine, Searched, Unwatched, search};
+use searches_states::{Limits, Machine, Unwatched, Verdict, search};
 use std::test::Fail;
 use tests_shared::holds;
 
@@ -81,5 +81,9 @@ fn many_states_of_many_words(rt: HostRuntime) -> Result<(), Fail> {
         Limits::of_states(10_000),
         &mut Unwatched,
     )?;
-    holds(found == Searched::Nowhere { states: 8_000 }, 0)
+    let all = Verdict::Nowhere {
+        states: 8_000,
+        known: (),
+    };
+    holds(found == all, 0)
 }

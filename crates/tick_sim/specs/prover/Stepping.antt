@@ -1,4 +1,4 @@
--- The machine of a code, as `project` and `expand` let it step.
+-- The machine of a code, as `drop` and `lift` let it step.
 use Rattle.std.specs.Prelude.{◌≡◌, ℕ, Bool, ◌||◌, List}
 use Rattle.code_core.specs.declared.instr.Instr.{Instr}
 use Rattle.code_core.specs.declared.instr.Instr.TheVariants as I

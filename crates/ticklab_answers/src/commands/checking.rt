@@ -1,20 +1,18 @@
 //! `ticklab check`.
 ghost use Rattle.std.specs.Prelude.{◌≡◌, ◌∷◌, [], IfErr, IfOk, length, map, option_map, string_bytes};
 ghost use Rattle.std.specs.List.{filter};
-ghost use Rattle.ticklab_answers.specs.Asking.{texts_of};
-ghost use Rattle.ticklab_answers.specs.Checks.{AreIn, AreNamed, AreRead, ChecksAll, IsAmong, IsNamed, IsUnderOne, TellsFindings, findings_in, is_tick, name_in, slash_after};
-ghost use Rattle.ticklab_answers.specs.Faults.{IsOfFile, IsOfFileThat, IsOfHost};
+ghost use Rattle.ticklab_files.specs.Asking.{texts_of};
+ghost use Rattle.ticklab_answers.specs.Checks.{AreIn, AreNamed, AreRead, ChecksAll, IsAmong, IsNamed, IsUnderOne, TellsFindings, findings_in, name_in, slash_after};
+ghost use Rattle.ticklab_files.specs.Reading.{is_tick};
+ghost use Rattle.ticklab_files.specs.Faults.{HasNoTicks, IsOfFile, IsOfFileThat, IsUnread};
 
-use crate::fault::{AnswerFault, LabFault};
-use crate::files::{bytes_of, is_input};
-use crate::form::Form;
-use crate::host::Files;
-use crate::response::{Response, output};
-use anyhow::anyhow;
 use base::NoMemory;
 use searches_explore::Limits;
 use std::alloc::{AllocError, Global};
 use ticklab_check::{Checks, Findings, Source, check};
+use ticklab_files::{
+    AnswerFault, Files, Form, LabFault, ReadFault, Response, bytes_of, is_input, output,
+};
 use ticklab_json::findings_object;
 
 /// Whether each of these files, and of the `.tick` files in these folders, is as it says, as far as these limits let each
@@ -28,7 +26,7 @@ pub fn checked<F: Files, C: Checks>(
     form: Form,
 ) -> Result<Response, LabFault>
     ensures ok { IfOk result (ChecksAll F.Reads F.ReadsInput F.Lists files.old files.new (texts_of paths.now) limits form) }
-    ensures err { IfErr result (IsOfFileThat (IsUnderOne (texts_of paths.now))) }
+    ensures err { IfErr result (IsOfFileThat (IsUnread F.Reads F.ReadsInput F.Lists F.Fails) (IsUnderOne (texts_of paths.now))) }
 {
     let names = names_of(alloc, files, paths)?;
     let sources = sources_of(alloc, files, names)?;
@@ -67,7 +65,7 @@ fn findings_told(
 // The files that these paths stand for.
 fn names_of<F: Files>(alloc: Global, files: &mut F, paths: &[&str]) -> Result<Vec<String>, LabFault>
     ensures ok { IfOk result (λ names. AreNamed F.Lists files.old (texts_of paths.now) (map string_bytes names.items) files.new) }
-    ensures err { IfErr result (IsOfFileThat (IsUnderOne (texts_of paths.now))) }
+    ensures err { IfErr result (IsOfFileThat (IsUnread F.Reads F.ReadsInput F.Lists F.Fails) (IsUnderOne (texts_of paths.now))) }
 {
     let mut names = Vec::new(alloc);
     for path in paths {
@@ -80,7 +78,7 @@ fn names_of<F: Files>(alloc: Global, files: &mut F, paths: &[&str]) -> Result<Ve
 // The files that a path stands for.
 fn names_at<F: Files>(alloc: Global, files: &mut F, path: &str) -> Result<Vec<String>, LabFault>
     ensures ok { IfOk result (λ names. IsNamed F.Lists files.old path.now (map string_bytes names.items) files.new) }
-    ensures err { IfErr result (IsOfFile path.now) }
+    ensures err { IfErr result (IsOfFile (IsUnread F.Reads F.ReadsInput F.Lists F.Fails) path.now) }
 {
     if is_input(path) {
         return Ok(itself(alloc, path)?);
@@ -106,34 +104,22 @@ fn entries_of<F: Files>(
     path: &str,
 ) -> Result<Option<Vec<String>>, LabFault>
     ensures ok { IfOk result (λ entries. F.Lists files.old path.now (option_map (λ names. names.items) entries) files.new) }
-    ensures err { IfErr result (IsOfFile path.now) }
+    ensures err { IfErr result (IsOfFile (IsUnread F.Reads F.ReadsInput F.Lists F.Fails) path.now) }
 {
-    match listed(alloc, files, path) {
-        Err(LabFault::Host(cause)) => Err(LabFault::Unread(String::from_str(alloc, path)?, cause)),
-        answer => answer,
+    match files.folder(alloc, path) {
+        Ok(entries) => Ok(entries),
+        Err(error) => Err(LabFault::of_call(alloc, path, error)),
     }
-}
-
-fn listed<F: Files>(
-    alloc: Global,
-    files: &mut F,
-    path: &str,
-) -> Result<Option<Vec<String>>, LabFault>
-    ensures ok { IfOk result (λ entries. F.Lists files.old path.now (option_map (λ names. names.items) entries) files.new) }
-    ensures err { IfErr result IsOfHost }
-{
-    Ok(files.folder(alloc, path)?)
 }
 
 // The `.tick` files among what is in a folder.
 fn names_among(alloc: Global, folder: &str, entries: Vec<String>) -> Result<Vec<String>, LabFault>
     ensures ok { IfOk result (λ names. AreIn folder.now entries.items (map string_bytes names.items)) }
-    ensures err { IfErr result (IsOfFile folder.now) }
+    ensures err { IfErr result (IsOfFile (λ _ cause. (cause ≡ ReadFault.NoTicks) × HasNoTicks entries.items) folder.now) }
 {
     let mut ticks = ticks_among(alloc, entries)?;
     if ticks.is_empty() {
-        let cause = anyhow!("there is no .tick file in this folder");
-        return Err(LabFault::Unread(String::from_str(alloc, folder)?, cause));
+        return Err(LabFault::of_file(alloc, folder, ReadFault::NoTicks));
     }
     ticks.sort()?;
     Ok(names_in(alloc, folder, &ticks)?)
@@ -193,7 +179,7 @@ fn sources_of<F: Files>(
     names: Vec<String>,
 ) -> Result<Vec<Source>, LabFault>
     ensures ok { IfOk result (λ sources. AreRead F.Reads F.ReadsInput files.old (map string_bytes names.items) sources.items files.new) }
-    ensures err { IfErr result (IsOfFileThat (IsAmong (map string_bytes names.items))) }
+    ensures err { IfErr result (IsOfFileThat (IsUnread F.Reads F.ReadsInput F.Lists F.Fails) (IsAmong (map string_bytes names.items))) }
 {
     let mut sources = Vec::new(alloc);
     for name in names {

@@ -1,16 +1,11 @@
 //! `ticklab explain`.
 ghost use Rattle.std.specs.Prelude.{◌≡◌, ◌++◌, IfErr, IfOk, MatchResult, option_map};
 ghost use Rattle.ticketc_refusals.specs.Refusals.{IsCode, IsCodeRefused, ProgramIn};
-ghost use Rattle.ticklab_answers.specs.Asking.{IsProgramFile};
-ghost use Rattle.ticklab_answers.specs.Faults.{IsOfFileThat, IsOneOf};
+ghost use Rattle.ticklab_files.specs.Asking.{IsProgramFile};
+ghost use Rattle.ticklab_files.specs.Faults.{IsOfFileThat, IsOneOf, IsUnread};
 ghost use Rattle.ticklab_answers.specs.Explanations.{Explains, ExplainsBoth, ExplainsInput, ExplainsSchedule, HasProcesses, IsFaultOf, IsLineFault, TellsFault, fine_in};
-ghost use Rattle.ticklab_answers.specs.Responses.{Gives};
+ghost use Rattle.ticklab_files.specs.Responses.{Gives};
 
-use crate::fault::{AnswerFault, LabFault};
-use crate::files::{bytes_of, is_input, text_of};
-use crate::form::Form;
-use crate::host::Files;
-use crate::response::{DONE, REFUSED, Response, answer, output};
 use base::NoMemory;
 use language_questions::{QuestionFault, questions_of};
 use std::alloc::Global;
@@ -18,6 +13,10 @@ use std::str;
 use tick_kinds::Program;
 use ticketc_refusals::{Refusal, begins_code, code_in, program_in, schedule_refusal};
 use ticklab_explain::{InputFault, explanation_of, report_of};
+use ticklab_files::{
+    AnswerFault, DONE, Files, Form, LabFault, REFUSED, Response, answer, bytes_of, is_input,
+    output, text_of,
+};
 use ticklab_json::{explanation_object, fine_object};
 
 /// What is wrong with a program or a code, and where nothing is with a schedule of it. The report is the answer.
@@ -29,7 +28,7 @@ pub fn explained<F: Files>(
     form: Form,
 ) -> Result<Response, LabFault>
     ensures ok { IfOk result (Explains F.Reads F.ReadsInput files.old files.new file.now (option_map (λ text. text.now) schedule.entry) form) }
-    ensures err { IfErr result (IsOfFileThat (IsOneOf file.now (option_map (λ text. text.now) schedule.entry))) }
+    ensures err { IfErr result (IsOfFileThat (IsUnread F.Reads F.ReadsInput F.Lists F.Fails) (IsOneOf file.now (option_map (λ text. text.now) schedule.entry))) }
 {
     let input = bytes_of(alloc, files, file)?;
     match schedule {

@@ -1,23 +1,20 @@
 //! `ticklab labels`.
 ghost use Rattle.std.specs.Prelude.{◌≡◌, ◌≤◌, IfErr, IfOk, string_bytes};
-ghost use Rattle.ticklab_answers.specs.Faults.{IsOfFileThat};
+ghost use Rattle.ticklab_files.specs.Faults.{IsOfMemory};
 ghost use Rattle.ticklab_answers.specs.Labels.{AreDrawn, AreUndrawn, DrawsLabels};
 ghost use Rattle.ticklab_answers.specs.Lines.{many_line};
-ghost use Rattle.ticklab_answers.specs.Responses.{Gives};
-ghost use Rattle.ticklab_answers.specs.Stops.{IfRefused};
+ghost use Rattle.ticklab_files.specs.Responses.{Gives};
+ghost use Rattle.ticklab_files.specs.Stops.{IfRefused};
 
-use crate::fault::LabFault;
-use crate::reading::moves_of;
-use crate::response::{DONE, Response, output, settled};
-use crate::stop::NoAnswer;
 use base::NoMemory;
 use std::alloc::{AllocError, Global};
 use ticklab_draw::{MOST_MOVES, frames, write_frames};
+use ticklab_files::{DONE, LabFault, NoAnswer, Response, moves_of, output, settled};
 
 /// The labels of `n` processes under the stamps and clears that a text spells, as a picture.
 pub fn labelled(alloc: Global, n: u8, text: &str) -> Result<Response, LabFault>
     ensures ok { IfOk result (DrawsLabels n text.now) }
-    ensures err { IfErr result (IsOfFileThat (λ name. ⊥)) }
+    ensures err { IfErr result IsOfMemory }
 {
     Ok(settled(alloc, labels_drawn(alloc, n, text))?)
 }

@@ -1,30 +1,43 @@
--- What is found, by the answer of a search.
+-- What is found, by the verdict of a search.
 use Rattle.std.specs.Prelude.{ℕ}
-use Rattle.searches_explore.specs.declared.end_answer.EndExplored.{EndExplored}
-use Rattle.searches_explore.specs.declared.end_answer.EndExplored.TheVariants as E
-use Rattle.searches_explore.specs.declared.never_answer.NeverExplored.{NeverExplored}
-use Rattle.searches_explore.specs.declared.never_answer.NeverExplored.TheVariants as N
+use Rattle.searches_states.specs.declared.verdict.Verdict.{Verdict}
+use Rattle.searches_states.specs.declared.verdict.Verdict.TheVariants as V
+use Rattle.searches_fairness.specs.declared.liveness.Liveness.{Liveness}
+use Rattle.searches_fairness.specs.declared.liveness.Liveness.TheVariants as L
+use Rattle.searches_explore.specs.declared.fault.Fault.{Fault}
+use Rattle.searches_explore.specs.declared.fault.Fault.TheVariants.{Trapped, Broken}
 use Rattle.ticklab_check.specs.declared.found.Found.{Found}
 use Rattle.ticklab_check.specs.declared.found.Found.TheVariants as F
 
-abbrev pub found_of : NeverExplored → Found
-found_of (N.Trapped schedule) = F.Trap
-found_of (N.Broken schedule line v) = F.Never
-found_of (N.Safe states) = F.Safe states
-found_of (N.Limit states) = F.Limit states
+abbrev pub fault_of : Fault → Found
+fault_of (Trapped schedule) = F.Trap
+fault_of (Broken schedule line v) = F.Never
+
+abbrev pub found_of : Verdict Fault (Unit {0}) → Found
+found_of (V.Found fault) = fault_of fault
+found_of (V.Nowhere states known) = F.Safe states
+found_of (V.Limit states) = F.Limit states
 
 -- by merged steps no endless schedule is found, nor that there is none
-abbrev pub merged_found : EndExplored → Found
-merged_found (E.Trapped schedule) = F.Trap
-merged_found (E.Broken schedule line v) = F.Never
-merged_found (E.Stuck schedule lead_in cycle states) = F.Stuck states
-merged_found (E.Endless prefix cycle states) = F.Unsettled states
-merged_found (E.Ends states) = F.Unsettled states
-merged_found (E.CanEnd states) = F.Unsettled states
-merged_found (E.Limit states) = F.Limit states
+abbrev pub merged_known : Liveness → ℕ → Found
+merged_known (L.Stuck schedule lead_in cycle) states = F.Stuck states
+merged_known (L.Endless prefix cycle) states = F.Unsettled states
+merged_known L.Ends states = F.Unsettled states
+merged_known L.CanEnd states = F.Unsettled states
+
+abbrev pub merged_found : Verdict Fault Liveness → Found
+merged_found (V.Found fault) = fault_of fault
+merged_found (V.Nowhere states known) = merged_known known states
+merged_found (V.Limit states) = F.Limit states
 
 -- what single steps find, where there are so many merged states and those asked for can always end
-abbrev pub settled : EndExplored → ℕ → Found
-settled (E.Endless prefix cycle states) merged = F.Endless states
-settled (E.Ends states) merged = F.Ends states
-settled explored merged = F.Unsettled merged
+abbrev pub single_known : Liveness → ℕ → ℕ → Found
+single_known (L.Endless prefix cycle) states merged = F.Endless states
+single_known L.Ends states merged = F.Ends states
+single_known (L.Stuck schedule lead_in cycle) states merged = F.Stuck merged
+single_known L.CanEnd states merged = F.Unsettled merged
+
+abbrev pub settled : Verdict Fault Liveness → ℕ → Found
+settled (V.Found fault) merged = fault_of fault
+settled (V.Nowhere states known) merged = single_known known states merged
+settled (V.Limit states) merged = F.Unsettled merged

@@ -3,9 +3,16 @@ ghost use Rattle.std.specs.Prelude.{◌≡◌, ◌++◌, ◌≤◌, OnOk, length
 ghost use Rattle.ticklab_draw.specs.labels.Captions.{labels_line, labels_told, line_begin, mark_before, order_line, order_of, order_text, ranked_text};
 
 use crate::labels::layout::{frames_of, is_nested};
+use crate::pieces::TEXT_END;
 use crate::words::push_labels;
-use crate::writing::{Added, push, push_one};
+use crate::writing::{Added, LESS_THAN, push, push_one};
 use word_core::LabelWord;
+
+const TOLD_AT: &str = "<text class='told' x='8' y='";
+
+const LABELS: &str = "'>labels";
+
+const ORDER: &str = "'>order ";
 
 /// Adds the labels, as `ticketc order` writes them. A table has them above.
 pub fn push_labels_line(out: &mut Vec<u8>, labels: &LabelWord) -> Added
@@ -22,9 +29,9 @@ pub fn push_labels_line(out: &mut Vec<u8>, labels: &LabelWord) -> Added
 fn push_labels_told(out: &mut Vec<u8>, labels: &LabelWord) -> Added
     ensures { OnOk result (out.new.items ≡ out.old.items ++ labels_told labels.now) }
 {
-    push_begin(out, labels.n(), 38, "'>labels")?;
+    push_begin(out, labels.n(), 38, LABELS)?;
     push_labels(out, labels)?;
-    push(out, "</text>\n")
+    push(out, TEXT_END)
 }
 
 // Adds the beginning of a line of words, so far above the lower end of the frame.
@@ -33,7 +40,7 @@ fn push_begin(out: &mut Vec<u8>, n: u8, above: u64, words: &str) -> Added
     ensures { OnOk result (out.new.items ≡ out.old.items ++ line_begin n above words.now) }
 {
     let height = u128::from(frames_of(n).height - above);
-    push_one(out, "<text class='told' x='8' y='", height, words)
+    push_one(out, TOLD_AT, height, words)
 }
 
 /// Adds the processes from the oldest on.
@@ -41,9 +48,9 @@ fn push_begin(out: &mut Vec<u8>, n: u8, above: u64, words: &str) -> Added
 pub fn push_order_line(out: &mut Vec<u8>, labels: &LabelWord) -> Added
     ensures { OnOk result (out.new.items ≡ out.old.items ++ order_line labels.now) }
 {
-    push_begin(out, labels.n(), 20, "'>order ")?;
+    push_begin(out, labels.n(), 20, ORDER)?;
     push_order_of(out, labels)?;
-    push(out, "</text>\n")
+    push(out, TEXT_END)
 }
 
 #[tactic(auto, using(crate::proofs::labels::RankLemmas::order_of_row))]
@@ -84,6 +91,6 @@ fn mark_before(rank: u8, first: bool) -> &'static str
     match (rank, first) {
         (_, false) => ",",
         (0, true) => "",
-        _ => "&lt;",
+        _ => LESS_THAN,
     }
 }

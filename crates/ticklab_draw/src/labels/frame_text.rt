@@ -2,7 +2,7 @@
 ghost use Rattle.std.specs.Prelude.{◌≡◌, ◌++◌, ◌≤◌, ◌<◌, OnOk, length};
 ghost use Rattle.ticklab_draw.specs.labels.Captions.{heading_text};
 ghost use Rattle.ticklab_draw.specs.labels.Figures.{figure_text, figures_text, nest_text};
-ghost use Rattle.ticklab_draw.specs.labels.Pictures.{begin_text, frame_name, frame_place, frame_text};
+ghost use Rattle.ticklab_draw.specs.labels.Pictures.{begin_text, frame_text};
 ghost use Rattle.word_core.specs.Stamps.{label_at};
 
 use crate::labels::caption::{push_labels_line, push_order_line};
@@ -10,9 +10,26 @@ use crate::labels::cycles::push_process;
 use crate::labels::layout::{frame_left, frame_top, is_nested};
 use crate::labels::run::Frame;
 use crate::labels::table::push_row;
+use crate::pieces::{GROUP_END, TEXT_END};
 use crate::writing::{Added, push, push_one, push_two};
 use ticket_core::Move;
 use word_core::LabelWord;
+
+const FRAME: &str = "<g id='frame-";
+
+const FRAME_AT: &str = " transform='translate(";
+
+const FRAME_AT_END: &str = ")'>\n";
+
+const START: &str = "<text class='move' x='8' y='18'>start</text>\n";
+
+const MOVE: &str = "<text class='move' x='8' y='18'>";
+
+const STAMPED: &str = ": stamp ";
+
+const CLEARED: &str = ": clear ";
+
+const NEST: &str = "<use href='#nest'/>\n";
 
 /// Adds a frame, which stands at this place of the list.
 pub fn push_frame(out: &mut Vec<u8>, at: usize, frame: &Frame) -> Added
@@ -26,42 +43,28 @@ pub fn push_frame(out: &mut Vec<u8>, at: usize, frame: &Frame) -> Added
     push_figures(out, frame.made, &frame.labels)?;
     push_labels_line(out, &frame.labels)?;
     push_order_line(out, &frame.labels)?;
-    push(out, "</g>\n")
+    push(out, GROUP_END)
 }
 
+// The name of the frame, and its place on the page.
+#[tactic(auto, unfolding(crate::specs::labels::Pictures::begin_text))]
 fn push_begin(out: &mut Vec<u8>, n: u8, at: u64) -> Added
     requires { at ≤ 400 }
     ensures { OnOk result (out.new.items ≡ out.old.items ++ begin_text n at) }
 {
-    push_frame_name(out, at)?;
-    push_frame_place(out, n, at)
-}
-
-#[tactic(auto, unfolding(crate::specs::labels::Pictures::frame_name))]
-fn push_frame_name(out: &mut Vec<u8>, at: u64) -> Added
-    ensures { OnOk result (out.new.items ≡ out.old.items ++ frame_name at) }
-{
-    push_one(out, "<g id='frame-", u128::from(at), "'")
-}
-
-#[tactic(auto, unfolding(crate::specs::labels::Pictures::frame_place))]
-fn push_frame_place(out: &mut Vec<u8>, n: u8, at: u64) -> Added
-    requires { at ≤ 400 }
-    ensures { OnOk result (out.new.items ≡ out.old.items ++ frame_place n at) }
-{
-    let (begin, left) = (" transform='translate(", frame_left(n, at));
-    push_two(out, begin, left, " ", u128::from(frame_top(n, at)), ")'>\n")
+    push_one(out, FRAME, u128::from(at), "'")?;
+    let (left, top) = (frame_left(n, at), u128::from(frame_top(n, at)));
+    push_two(out, FRAME_AT, left, " ", top, FRAME_AT_END)
 }
 
 #[tactic(auto, unfolding(crate::specs::labels::Captions::heading_text))]
 fn push_heading(out: &mut Vec<u8>, at: u64, made: Option<Move>) -> Added
     ensures { OnOk result (out.new.items ≡ out.old.items ++ heading_text at made) }
 {
-    let begin = "<text class='move' x='8' y='18'>";
     match made {
-        None => push(out, "<text class='move' x='8' y='18'>start</text>\n"),
-        Some(Move::Stamp(p)) => push_two(out, begin, at, ": stamp ", u128::from(p), "</text>\n"),
-        Some(Move::Clear(p)) => push_two(out, begin, at, ": clear ", u128::from(p), "</text>\n"),
+        None => push(out, START),
+        Some(Move::Stamp(p)) => push_two(out, MOVE, at, STAMPED, u128::from(p), TEXT_END),
+        Some(Move::Clear(p)) => push_two(out, MOVE, at, CLEARED, u128::from(p), TEXT_END),
     }
 }
 
@@ -70,7 +73,7 @@ fn push_nest(out: &mut Vec<u8>, n: u8) -> Added
     ensures { OnOk result (out.new.items ≡ out.old.items ++ nest_text n) }
 {
     if is_nested(n) {
-        push(out, "<use href='#nest'/>\n")
+        push(out, NEST)
     } else {
         Ok(())
     }

@@ -5,6 +5,7 @@ ghost use Rattle.ticklab_draw.specs.labels.Pictures.{frames_text, picture};
 use crate::labels::frame_text::push_frame;
 use crate::labels::head::push_head;
 use crate::labels::run::Frame;
+use crate::pieces::PICTURE_END;
 use crate::writing::{Added, push};
 use base::NoMemory;
 use std::alloc::Global;
@@ -21,7 +22,7 @@ pub fn write_frames(alloc: Global, n: u8, frames: &[Frame]) -> Result<Vec<u8>, N
     let mut out = Vec::new(alloc);
     push_head(&mut out, n, frames.len() as u64)?;
     push_frames(&mut out, frames)?;
-    push(&mut out, "</svg>\n")?;
+    push(&mut out, PICTURE_END)?;
     Ok(out)
 }
 

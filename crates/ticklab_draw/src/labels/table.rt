@@ -1,34 +1,32 @@
 // A process in the table: a row of digits.
 ghost use Rattle.std.specs.Prelude.{◌≡◌, ◌++◌, ◌<◌, OnOk};
-ghost use Rattle.ticklab_draw.specs.labels.Figures.{cell_text, cells_text, digits_text, row_head, row_text};
+ghost use Rattle.ticklab_draw.specs.labels.Figures.{cell_text, cells_text, digits_text, row_text};
 
-use crate::labels::cycles::push_mark;
+use crate::labels::cycles::{USE_END, push_mark};
 use crate::labels::layout::{cell_left, row_top};
+use crate::pieces::WORDS_END;
 use crate::writing::{Added, push, push_two};
 use label_core::Label;
 use ticket_core::Move;
+
+const ROW_AT: &str = "<g transform='translate(8 ";
+
+const ROW_NAME: &str = ")'><text y='15'>";
+
+const DIGIT: &str = "<use href='#digit-";
+
+const AND_X: &str = "' x='";
+
+const NO_LABEL: &str = "<use href='#absent'/>";
 
 /// Adds the row of a process.
 pub fn push_row(out: &mut Vec<u8>, made: Option<Move>, process: u8, label: &Option<Label>) -> Added
     ensures { OnOk result (out.new.items ≡ out.old.items ++ row_text made process label.now) }
 {
-    push_row_head(out, process)?;
+    let (y, name) = (row_top(process), u128::from(process));
+    push_two(out, ROW_AT, y, ROW_NAME, name, WORDS_END)?;
     push_cells(out, label)?;
     push_mark(out, made, process)
-}
-
-#[tactic(auto, unfolding(crate::specs::labels::Figures::row_head))]
-fn push_row_head(out: &mut Vec<u8>, process: u8) -> Added
-    ensures { OnOk result (out.new.items ≡ out.old.items ++ row_head process) }
-{
-    push_two(
-        out,
-        "<g transform='translate(8 ",
-        row_top(process),
-        ")'><text y='15'>",
-        u128::from(process),
-        "</text>",
-    )
 }
 
 fn push_cells(out: &mut Vec<u8>, label: &Option<Label>) -> Added
@@ -36,7 +34,7 @@ fn push_cells(out: &mut Vec<u8>, label: &Option<Label>) -> Added
 {
     match label {
         Some(label) => push_digits(out, label),
-        None => push(out, "<use href='#absent'/>"),
+        None => push(out, NO_LABEL),
     }
 }
 
@@ -54,12 +52,6 @@ fn push_cell(out: &mut Vec<u8>, place: usize, digit: u8) -> Added
     requires { place < 5 }
     ensures { OnOk result (out.new.items ≡ out.old.items ++ cell_text place digit) }
 {
-    push_two(
-        out,
-        "<use href='#digit-",
-        u64::from(digit),
-        "' x='",
-        u128::from(cell_left(place)),
-        "'/>",
-    )
+    let (digit, x) = (u64::from(digit), u128::from(cell_left(place)));
+    push_two(out, DIGIT, digit, AND_X, x, USE_END)
 }

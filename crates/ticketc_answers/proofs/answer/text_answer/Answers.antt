@@ -15,8 +15,8 @@ returns-in-Source c = rw c.in-Source.is c.source_text.ensures
 pub returns-in-Code : goal.returns-in-Code
 returns-in-Code c = rw c.in-Code.is c.code_report.ensures
 
-pub returns-in-Expand : goal.returns-in-Expand
-returns-in-Expand c = rw c.in-Expand.is c.carried_text.ensures
+pub returns-in-Lift : goal.returns-in-Lift
+returns-in-Lift c = rw c.in-Lift.is c.carried_text.ensures
 
-pub returns-in-Project : goal.returns-in-Project
-returns-in-Project c = rw c.in-Project.is c.carried_text-in-Project.ensures
+pub returns-in-Drop : goal.returns-in-Drop
+returns-in-Drop c = rw c.in-Drop.is c.carried_text-in-Drop.ensures

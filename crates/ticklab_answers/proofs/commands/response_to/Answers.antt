@@ -1,21 +1,26 @@
 -- Each command answers its request; what is printed of that answer is the answer to the words.
 use Rattle.std.proofs.Common.{IfErr, IfOk, refl}
+use Rattle.std.proofs.lemmas.Result.{IfErr-weaker}
 use Rattle.ticklab_line.specs.Commands.{plain_request}
 use Rattle.ticklab_line.specs.declared.asking.Line.TheVariants as line
 use Rattle.ticklab_answers.specs.Answers.{NamesOf, Responds}
-use Rattle.ticklab_answers.specs.Faults.{IsOfFileThat}
-use Rattle.ticklab_answers.specs.Hearing.{hearing}
-use Rattle.ticklab_answers.proofs.Breaks.{then_ok}
+use Rattle.ticklab_files.specs.Faults.{Causes, IsOfFileThat, IsUnread}
+use Rattle.ticklab_verdicts.specs.Hearing.{hearing}
+use Rattle.ticklab_files.proofs.Responding.{then_ok}
+use Rattle.ticklab_files.proofs.Faulted.{of_memory}
 use Rattle.ticklab_answers.proofs.Responded.{failed, responded}
 use Rattle.ticklab_answers.proofs.commands.response_to.Given as given
 use Rattle.ticklab_answers.proofs.commands.response_to.Goals as goal
 use Rattle.ticklab_answers.proofs.commands.response_to.Goals.{After-branch-answered, in-Explore, in-Ends, in-Check, in-Lasso, in-Hunt, in-Runs, in-Trace, in-Draw, in-Page, in-Explain, in-Labels}
 
+abbrev causes_of : given.Over → Causes
+causes_of g = IsUnread g.F.Files.Reads g.F.Files.ReadsInput g.F.Files.Lists g.F.Files.Fails
+
 answers : (g : given.Over) (c : After-branch-answered g)
     → IfOk c.match-request.answered (Responds g.F.Files.Reads g.F.Files.ReadsInput g.F.Files.Lists g.M.Runner.Ran
     (hearing g.W.Progress.begins g.W.Watch.hears) c.args.files.now c.match-request.files c.args.runner.now c.match-request.runner
     c.args.progress.now c.match-request.progress c.form_of-form.result (plain_request c.in-Request.request))
-    × IfErr c.match-request.answered (IsOfFileThat (NamesOf (plain_request c.in-Request.request)))
+    × IfErr c.match-request.answered (IsOfFileThat (causes_of g) (NamesOf (plain_request c.in-Request.request)))
 answers g c = elim c.match-request.branch [
   | in-Explore w ↦ rw (w.in-Explore.is, w.answered-is, w.files-is, w.runner-is, w.progress-is) (
     then_ok w.explored-answered.result (λ x h. (refl, h)) (rw (w.deref.ensures.value, w.limits_of-limits.ensures) at w.explored-answered.ensures.ok),
@@ -59,14 +64,14 @@ answers g c = elim c.match-request.branch [
   )
   | in-Labels w ↦ rw (w.in-Labels.is, w.answered-is, w.files-is, w.runner-is, w.progress-is) (
     then_ok w.labelled-answered.result (λ x h. (refl, refl, refl, h)) w.labelled-answered.ensures.ok,
-    w.labelled-answered.ensures.err,
+    IfErr-weaker w.labelled-answered.result _ _ (of_memory (causes_of g) (λ name. ⊥)) w.labelled-answered.ensures.err,
   )
 ]
 
 pub returns-in_err-answered-clause-err : goal.returns-in_err-answered-clause-err
 returns-in_err-answered-clause-err g c =
     failed c.args.version.now c.args.given c.in_ok-words.words c.as_slice.result.now c.in_ok-request.field-0
-    (line.Request c.in-Request.request c.in-Request.output) c.in_ok-words.ensures.ok c.as_slice.ensures.value c.in_ok-request.ensures c.in-Request.is
+    (line.Request c.in-Request.request c.in-Request.output) c.in_ok-words.ensures.ok c.as_slice.ensures.value c.in_ok-request.ensures c.in-Request.is (causes_of g)
     c.in_err-answered.field-0.0 (rw c.in_err-answered.was at (answers g (goal.at.returns-in_err-answered-clause-err g c).After-branch-answered).1)
     c.from_residual-in_err-answered.result c.from_residual-in_err-answered.ensures.1
 

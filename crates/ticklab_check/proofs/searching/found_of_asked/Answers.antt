@@ -11,6 +11,6 @@ returns-in-Unsettled c =
     let lines = lines_of c.args.lines.now in
     let merged = c.in_ok-merged.ensures in
     let single = c.in_ok-single-in-Unsettled.ensures in
-    let can = can_end c.in_ok-merged.merged c.in-Unsettled.states _ _ (sym c.merged_found.ensures ∙ c.in-Unsettled.is) merged.safe merged.can in
+    let can = can_end a c.args.asked c.in_ok-merged.merged c.in-Unsettled.states _ (sym c.merged_found.ensures ∙ c.in-Unsettled.is) merged.0.safe merged.1 in
     subst (IsFoundOfAsked a lines c.args.limits c.args.asked) (sym c.settled.ensures)
-    (settled_is a lines c.args.limits c.args.asked c.in_ok-single-in-Unsettled.single c.in-Unsettled.states single.safe single.for_ever single.ends can)
+    (settled_is a lines c.args.limits c.args.asked c.in_ok-single-in-Unsettled.single c.in-Unsettled.states single.0.trapped single.0.broken single.0.safe single.0.at_limit single.1 can)

@@ -1,7 +1,7 @@
 use Rattle.std.proofs.Common.{◌∙◌, ◌++◌, ℕ, List, Option, ap, subst}
+use Rattle.ticklab_explain.specs.Helps.{Help}
 use Rattle.ticklab_explain.specs.Reports.{AreHintLines, IsHead, last_line}
 use Rattle.ticklab_explain.specs.Settings.{setting}
-use Rattle.ticklab_explain.specs.declared.hint.Hint.{Hint}
 use Rattle.ticklab_explain.proofs.report.told.Goals as goal
 
 pub returns : goal.returns
@@ -11,7 +11,7 @@ returns c =
     let h = c.in_ok-push_head.ensures in
     let k = c.in_ok-push_hint.ensures in
     let P : List ℕ → Type 0 = λ m. IsHead name s.text c.args.refusal m h.0 in
-    let Q : Option Hint → Type 0 = λ o. AreHintLines name s.text s o k.0 in
+    let Q : Option Help → Type 0 = λ o. AreHintLines name s.text s o k.0 in
     record {
       head = h.0;
       is_head = subst P (c.deref.ensures ∙ c.in_ok-message.ensures) h.1;

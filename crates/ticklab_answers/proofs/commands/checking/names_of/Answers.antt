@@ -1,18 +1,20 @@
 use Rattle.std.proofs.Common.{◌≡◌, ◌∙◌, ◌+◌, ℕ, Bor, List, ap, drop, get_or, inl, inr, map, string_bytes, subst, sym}
 use Rattle.std.proofs.Math.ListN.{drop_of_length-le}
 use Rattle.std.proofs.lemmas.List.{map-append}
-use Rattle.ticklab_answers.specs.Asking.{texts_of}
+use Rattle.ticklab_files.specs.Asking.{texts_of}
 use Rattle.ticklab_answers.specs.Checks.{IsUnderOne}
-use Rattle.ticklab_answers.specs.Faults.{IsOfFileThat}
-use Rattle.ticklab_answers.proofs.Listed.{AreNamedSoFar, all_named, faulty_by, more_named, nothing, of_file_as}
-use Rattle.ticklab_answers.proofs.NeverLines.{next_text}
+use Rattle.ticklab_files.specs.Faults.{IsOfFileThat, IsUnread}
+use Rattle.ticklab_answers.proofs.Listed.{AreNamedSoFar, all_named, more_named, nothing}
+use Rattle.ticklab_files.proofs.Faulted.{faulty_by, of_file_as}
+use Rattle.ticklab_files.proofs.LinesAsked.{next_text}
 use Rattle.ticklab_answers.proofs.commands.checking.names_of.Goals as goal
 
 pub returns-in_err-more-clause-err : goal.returns-in_err-more-clause-err
 returns-in_err-more-clause-err g c =
     let paths = c.args.paths.now in
-    faulty_by (IsOfFileThat (IsUnderOne (texts_of paths))) _ c.from_residual.result c.from_residual.ensures.1
-    (of_file_as (λ name. name ≡ (get_or paths c.loop-path.path-index nothing).now) (IsUnderOne (texts_of paths)) (λ name is. c.loop-path.invariant.1 name
+    let causes = IsUnread g.F.Files.Reads g.F.Files.ReadsInput g.F.Files.Lists g.F.Files.Fails in
+    faulty_by (IsOfFileThat causes (IsUnderOne (texts_of paths))) _ c.from_residual.result c.from_residual.ensures.1
+    (of_file_as causes (λ name. name ≡ (get_or paths c.loop-path.path-index nothing).now) (IsUnderOne (texts_of paths)) (λ name is. c.loop-path.invariant.1 name
     (subst (λ (texts : List (List ℕ)). IsUnderOne texts name) (sym (next_text paths c.loop-path.path-index nothing c.loop-path-test.true)) (inl (inl is))))
     _ c.in_err-more.ensures.err)
 

@@ -1,5 +1,5 @@
 use Rattle.std.proofs.Common.{ℕ, List, drop, map, string_bytes}
-use Rattle.ticklab_answers.specs.Asking.{texts_of}
+use Rattle.ticklab_files.specs.Asking.{texts_of}
 use Rattle.ticklab_answers.specs.Checks.{IsUnderOne}
 use Rattle.ticklab_answers.proofs.Listed.{AreNamedSoFar}
 use Rattle.ticklab_answers.proofs.commands.checking.names_of.Given as goal

@@ -1,6 +1,6 @@
 use Rattle.std.proofs.Common.{◌∙◌, sym}
 use Rattle.std.proofs.lemmas.Slice.Zip.{AllZip-long}
-use Rattle.ticklab_answers.proofs.Settled.{gives_of}
+use Rattle.ticklab_files.proofs.Responding.{gives_of}
 use Rattle.ticklab_answers.proofs.commands.checking.sources_checked.Goals as goal
 
 pub findings_told-requires : goal.findings_told-requires

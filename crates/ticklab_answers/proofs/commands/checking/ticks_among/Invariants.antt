@@ -1,7 +1,7 @@
 use Rattle.std.proofs.Common.{◌≡◌, ◌++◌, string_bytes}
 use Rattle.std.specs.List.{filter}
 use Rattle.std.specs.Vec.Iter.{into_iter_items}
-use Rattle.ticklab_answers.specs.Checks.{is_tick}
+use Rattle.ticklab_files.specs.Reading.{is_tick}
 use Rattle.ticklab_answers.proofs.commands.checking.ticks_among.Given as goal
 
 abbrev pub invariant-loop-entry : goal.invariant-loop-entry

@@ -1,6 +1,6 @@
 use Rattle.std.proofs.Common.{ℕ, List, Option, Bor, option_map, string_bytes, subst, sym}
 use Rattle.ticklab_answers.specs.Explanations.{Explains, ExplainsBoth, ExplainsInput}
-use Rattle.ticklab_answers.proofs.Ran.{read_both}
+use Rattle.ticklab_runs.proofs.Ran.{read_both}
 use Rattle.ticklab_answers.proofs.commands.explaining.explained.Goals as goal
 
 pub returns-clause-ok : goal.returns-clause-ok

@@ -3,7 +3,7 @@ use Rattle.std.proofs.lemmas.Result.{IfOk-weaker}
 use Rattle.ticklab_explain.specs.declared.explanation.InputFault.TheVariants as I
 use Rattle.ticklab_answers.specs.Explanations.{ExplainsSchedule, TellsFault, fine_in, schedule_explained, schedule_taken}
 use Rattle.ticklab_answers.specs.Lines.{both_taken_line}
-use Rattle.ticklab_answers.specs.Responses.{Gives}
+use Rattle.ticklab_files.specs.Responses.{Gives}
 use Rattle.ticklab_answers.proofs.commands.explaining.explained_for.Goals as goal
 
 pub returns-in-Some : goal.returns-in-Some

@@ -1,7 +1,7 @@
 use Rattle.std.proofs.Common.{◌≡◌, Result, Ok, Err, MatchResult, refl}
 use Rattle.std.proofs.lemmas.Result.{IfOk-weaker}
 use Rattle.ticketc_refusals.specs.Refusals.{BeginsCode}
-use Rattle.ticklab_answers.specs.Asking.{IsProgramFile}
+use Rattle.ticklab_files.specs.Asking.{IsProgramFile}
 use Rattle.ticklab_answers.specs.Explanations.{HasProcesses, IsFaultOf, IsLineFault, no_code, no_program, no_question, processes_of_code, processes_of_program}
 use Rattle.ticklab_answers.proofs.commands.explaining.processes_of.Goals as goal
 

@@ -2,7 +2,7 @@ use Rattle.std.proofs.Common.{◌∙◌, ℕ, ap}
 use Rattle.std.specs.Global.{Global}
 use Rattle.std.specs.Prelude.{Vec}
 use Rattle.ticklab_answers.specs.Explanations.{TellsFault}
-use Rattle.ticklab_answers.proofs.Settled.{gives_of}
+use Rattle.ticklab_files.proofs.Responding.{gives_of}
 use Rattle.ticklab_answers.proofs.commands.explaining.wrong.Goals as goal
 use Rattle.ticklab_answers.proofs.commands.explaining.wrong.Goals.{in-Text+in_ok-out-in-Text, in-Json+in_ok-explanation-in-Json+in_ok-explanation_object-in-Json}
 

@@ -1,7 +1,7 @@
 use Rattle.std.proofs.Common.{rules, ◌≡◌, ◌<◌, length}
 use Rattle.ticklab_answers.specs.Labels.{AreUndrawn, misspelled, too_many}
 use Rattle.ticklab_answers.specs.Lines.{many_line}
-use Rattle.ticklab_answers.proofs.Settled.{refused_as, stopped_by}
+use Rattle.ticklab_files.proofs.Responding.{refused_as, stopped_by}
 use Rattle.ticklab_answers.proofs.commands.labels.frames_drawn.Goals as goal
 
 pub returns-in_err-moves-clause-refused : goal.returns-in_err-moves-clause-refused

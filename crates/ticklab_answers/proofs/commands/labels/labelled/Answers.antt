@@ -1,5 +1,5 @@
 use Rattle.ticklab_answers.specs.Labels.{drawn, undrawn}
-use Rattle.ticklab_answers.proofs.Settled.{settled_with}
+use Rattle.ticklab_files.proofs.Responding.{settled_with}
 use Rattle.ticklab_answers.proofs.commands.labels.labelled.Goals as goal
 
 pub returns-clause-ok : goal.returns-clause-ok

@@ -1,7 +1,0 @@
-use Rattle.std.proofs.Common.{◌≡◌, false, take}
-use Rattle.searches_explore.specs.Lines.{breaks, lines_of}
-use Rattle.ticklab_answers.proofs.breaking.first_broken.Given as goal
-
--- no line before it is broken
-abbrev pub invariant-loop-at : goal.invariant-loop-at
-invariant-loop-at l = breaks (take l.at (lines_of l.lines)) l.machine ≡ false

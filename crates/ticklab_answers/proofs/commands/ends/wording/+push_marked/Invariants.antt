@@ -1,5 +1,0 @@
-use Rattle.std.proofs.Common.{length}
-use Rattle.ticklab_answers.proofs.commands.ends.wording.+push_marked.Given as goal
-
-abbrev pub decreases-push_marked : goal.decreases-push_marked
-decreases-push_marked l = length l.marks.now

@@ -1,5 +1,0 @@
-use Rattle.ticklab_answers.proofs.ProgramFiles.{is_of}
-use Rattle.ticklab_answers.proofs.reading.program_of.Goals as goal
-
-pub returns-clause-ok : goal.returns-clause-ok
-returns-clause-ok c = is_of _ _ _ c.in_ok-spelled.ensures.spelled.0 c.in_ok-spelled.ensures.questions

@@ -1,0 +1,5 @@
+pub mod Faulted
+pub mod LinesAsked
+pub mod ProgramFiles
+pub mod Refusals
+pub mod Responding

@@ -1,0 +1,87 @@
+-- A run that is followed step by step until a line first is broken, and the lines of a state one by one until one is.
+use Rattle.std.proofs.Common.{◌≡◌, ◌∙◌, ◌<◌, ◌≤◌, ◌+◌, ℕ, Bool, false, List, [], ◌∷◌, ◌++◌, length, get_or, map, take, refl, ap, sym, subst, arith, inl, inr, Option, Some, MatchOption, true≢false}
+use Rattle.std.specs.Prelude.{◌||◌, is_some, slice_get, unwrap_or}
+use Rattle.std.specs.List.{list_any}
+use Rattle.std.proofs.lemmas.Bool.{cases_lt}
+use Rattle.std.proofs.lemmas.List.{get_or-map, length-map, take_more}
+use Rattle.std.proofs.lemmas.List.Folds.{list_any_more}
+use Rattle.std.proofs.lemmas.Option.{get_or_from_slice_get, slice_get-get_or, slice_get_within}
+use Rattle.base.specs.Plain.{WholeProgram}
+use Rattle.language_properties.specs.declared.property.Property.{Property}
+use Rattle.language_properties.specs.Properties.{Formula, formula_of}
+use Rattle.searches_explore.specs.Lines.{IsFirstBroken, breaks, lines_of}
+use Rattle.tick_source.specs.Source.{SourceState, source, source_run, source_start, source_step}
+use Rattle.ticklab_files.specs.Asking.{TextPlace}
+use Rattle.ticklab_runs.specs.Breaking.{BrokenAt, IsFirstAt, IsFirstBreak, NeverBreaks, breaking, unbroken}
+use Rattle.ticklab_runs.specs.declared.breaking.Break.{Break}
+
+-- what is held at an index, in whatever form the definitions have it
+pub held_there : {X Y : Type 0} (form : X → Y) (xs : List X) (at : ℕ) (x : X) → at < length xs → x ≡ get_or xs at x
+    → slice_get (map form xs) at ≡ Some (form x)
+held_there form xs at x inside is =
+    slice_get-get_or (map form xs) at (form x) (omega (arith, inside, length-map xs form))
+    ∙ ap Some (get_or-map form xs at x (form x) inside ∙ ap form (sym is))
+
+-- what was found of lines that the code has as a slice
+pub found_in : (a : WholeProgram ℕ) (lines given : List Property) (schedule : List ℕ) (found : Option Break) (b : Break) → given ≡ lines → found ≡ Some b
+    → MatchOption found (NeverBreaks a (lines_of given) schedule) (IsFirstBreak a (lines_of given) schedule) → IsFirstBreak a (lines_of lines) schedule b
+found_in a lines given schedule found b same is told =
+    subst (λ (ls : List Property). IsFirstBreak a (lines_of ls) schedule b) same
+    (subst (λ (o : Option Break). MatchOption o (NeverBreaks a (lines_of given) schedule) (IsFirstBreak a (lines_of given) schedule)) is told)
+
+-- it has a place
+pub placed : {Y : Type 0} (a : WholeProgram ℕ) (lines : List Property) (places : List Y) (schedule : List ℕ) (b : Break)
+    → IsFirstBreak a (lines_of lines) schedule b → length lines ≡ length places → b.line < length places
+placed a lines places schedule b first as_many =
+    omega (arith, as_many, length-map lines formula_of, slice_get_within (lines_of lines) b.line first.broken.formula first.broken.there)
+
+-- what was found has a place, and comes after no more steps than there are
+module _ (a : WholeProgram ℕ) (lines : List Formula) (places : List TextPlace) (schedule : List ℕ) where
+  pub line_within : (found : BrokenAt) → IsFirstAt a lines places schedule (Some found) → found.broken.line < length places
+  line_within found (unbroken never none) = absurd (true≢false (ap is_some none))
+  line_within found (breaking b first place there same) =
+      subst (λ (f : BrokenAt). f.broken.line < length places) (sym (ap (λ o. unwrap_or o found) same)) (slice_get_within places b.line place there)
+
+  pub steps_within : (found : BrokenAt) → IsFirstAt a lines places schedule (Some found) → found.broken.steps ≤ length schedule
+  steps_within found (unbroken never none) = absurd (true≢false (ap is_some none))
+  steps_within found (breaking b first place there same) =
+      subst (λ (f : BrokenAt). f.broken.steps ≤ length schedule) (sym (ap (λ o. unwrap_or o found) same)) first.within
+
+-- one more that doesn't pass the test
+pub none_more : {X : Type 0} (test : X → Bool) (xs : List X) (at : ℕ) (x : X) → slice_get xs at ≡ Some x
+    → list_any test (take at xs) ≡ false → test x ≡ false → list_any test (take (at + 1) xs) ≡ false
+none_more test xs at x there before none =
+    list_any_more test xs at x (slice_get_within xs at x there)
+    ∙ λ i. before i || (ap test (get_or_from_slice_get xs at x x there) ∙ none) i
+
+-- what holds of all so far, and of one more
+more_so_far : (P : ℕ → Type 0) (i : ℕ) → ((k : ℕ) → k < i → P k) → P i → (k : ℕ) → k < i + 1 → P k
+more_so_far P i before here k below = elim (cases_lt k i) as (λ _. P k) [
+  | inl earlier ↦ before k earlier
+  | inr past ↦ subst P (omega (arith, below, past)) here
+]
+
+source_more : (n p : ℕ) (xs : List ℕ) (s : SourceState) → source_run n (xs ++ p ∷ []) s ≡ source_step n p (source_run n xs s)
+source_more n p [] s = refl
+source_more n p (x ∷ xs) s = source_more n p xs (source_step n x s)
+
+-- one item more of the schedule
+pub source_on : (a : WholeProgram ℕ) (schedule : List ℕ) (i : ℕ) → i < length schedule
+    → source a (take (i + 1) schedule) ≡ source_step a.processes (get_or schedule i 0) (source a (take i schedule))
+source_on a schedule i inside =
+    ap (source a) (take_more schedule i 0 inside) ∙ source_more a.processes (get_or schedule i 0) (take i schedule) (source_start a)
+
+module _ (a : WholeProgram ℕ) (lines : List Formula) (schedule : List ℕ) (i : ℕ) (s : SourceState)
+    (at : s ≡ source a (take i schedule)) (before : (k : ℕ) → k < i → breaks lines (source a (take k schedule)) ≡ false) where
+  pub unbroken_on : breaks lines s ≡ false → (k : ℕ) → k < i + 1 → breaks lines (source a (take k schedule)) ≡ false
+  unbroken_on none = more_so_far (λ k. breaks lines (source a (take k schedule)) ≡ false) i before (ap (breaks lines) (sym at) ∙ none)
+
+  pub broken_here : (b : Break) → b.steps ≡ i → i ≤ length schedule → IsFirstBroken lines s b.line b.value → IsFirstBreak a lines schedule b
+  broken_here b steps within first = record {
+    within = subst (λ k. k ≤ length schedule) (sym steps) within;
+    broken = subst (λ (t : SourceState). IsFirstBroken lines t b.line b.value) (at ∙ ap (λ k. source a (take k schedule)) (sym steps)) first;
+    none_before = λ k below. before k (subst (λ j. k < j) steps below);
+  }
+
+  pub never_broken : length schedule ≤ i → breaks lines s ≡ false → NeverBreaks a lines schedule
+  never_broken all none k within = unbroken_on none k (omega (arith, all, within))

@@ -1,0 +1,3 @@
+pub mod Breaks
+pub mod Pictured
+pub mod Ran

@@ -1,0 +1,62 @@
+use Rattle.std.proofs.Common.{◌∙◌, Bool, List, ap, length, map, refl, subst}
+use Rattle.searches_explore.specs.Lines.{lines_of}
+use Rattle.ticklab_files.specs.Asking.{TextPlace, place_of, texts_of}
+use Rattle.ticklab_files.specs.Asking.{IsUnexplored}
+use Rattle.ticklab_runs.specs.Runs.{IsTold, IsToldWith, IsUnrun, is_of_code, plain_telling}
+use Rattle.ticklab_files.proofs.ProgramFiles.{asks_of}
+use Rattle.ticklab_runs.proofs.Ran.{code_unrun, long_unrun, run_by, schedule_unrun, unexplored_unrun}
+use Rattle.ticklab_files.proofs.Responding.{refused_as}
+use Rattle.ticklab_runs.proofs.told_run.run_told.Goals as goal
+
+pub returns-in-Err-clause-refused : goal.returns-in-Err-clause-refused
+returns-in-Err-clause-refused c =
+    refused_as {P = IsUnexplored c.args.name.now (texts_of c.args.never.now) c.args.input.now}
+    {Q = IsUnrun (plain_telling c.args.telling.now) c.args.name.now (texts_of c.args.never.now) c.args.input.now c.args.from.now c.args.schedule.now c.args.side} c.in-Err.stop
+    (unexplored_unrun (plain_telling c.args.telling.now) _ _ _ c.args.from.now c.args.schedule.now c.args.side) c.in-Err.ensures.refused
+
+pub returns-in_err-given-clause-refused : goal.returns-in_err-given-clause-refused
+returns-in_err-given-clause-refused c =
+    schedule_unrun c.in-Ok.ensures.asks (plain_telling c.args.telling.now) c.args.from.now c.args.schedule.now c.args.side c.processes.result c.processes.ensures.count
+    c.from_residual.result _ c.from_residual.ensures.1 c.in_err-given.ensures.refused
+
+pub returns-in_err-steps-clause-refused : goal.returns-in_err-steps-clause-refused
+returns-in_err-steps-clause-refused c =
+    code_unrun c.in-Ok.ensures.asks (plain_telling c.args.telling.now) c.args.from.now c.args.schedule.now c.args.side c.processes.result c.processes.ensures.count
+    c.from_residual-in_err-steps.result _ c.from_residual-in_err-steps.ensures.1 (is_of_code c.args.side) refl c.in_ok-given.given.items c.in_ok-given.ensures.ok c.in_err-steps.ensures.refused
+
+pub returns-in_err-within_a_page-clause-refused : goal.returns-in_err-within_a_page-clause-refused
+returns-in_err-within_a_page-clause-refused c =
+    long_unrun c.in-Ok.ensures.asks (plain_telling c.args.telling.now) c.args.from.now c.args.schedule.now c.args.side c.processes.result c.processes.ensures.count
+    c.from_residual-in_err-within_a_page.result _ c.from_residual-in_err-within_a_page.ensures.1 c.in_ok-given.given.items c.in_ok-given.ensures.ok
+    (length c.as_slice-steps.result.now) (ap length (c.as_slice-steps.ensures.value ∙ c.in_ok-steps.ensures.ok)) c.in_err-within_a_page.ensures.refused
+
+pub returns-in_err-out-clause-refused : goal.returns-in_err-out-clause-refused
+returns-in_err-out-clause-refused c =
+    code_unrun c.in-Ok.ensures.asks (plain_telling c.args.telling.now) c.args.from.now c.args.schedule.now c.args.side c.processes.result c.processes.ensures.count
+    c.from_residual-in_err-out.result _ c.from_residual-in_err-out.ensures.1 c.is_of_code.result c.is_of_code.ensures
+    c.in_ok-given.given.items c.in_ok-given.ensures.ok c.in_err-out.ensures.refused
+
+pub returns-clause-ok : goal.returns-clause-ok
+returns-clause-ok c =
+    let known = c.in-Ok.ensures.asks in
+    let name = c.args.name.now in
+    let input = c.args.input.now in
+    let side = c.args.side in
+    let telling = plain_telling c.args.telling.now in
+    let texts = texts_of c.args.never.now in
+    let p = c.in-Ok.asked.spelled.program in
+    let lines = lines_of c.in-Ok.asked.lines.properties.items in
+    let steps = c.as_slice-steps.result.now in
+    let out = c.in_ok-out.out.items in
+    let places = map place_of c.in-Ok.asked.lines.places.items in
+    record {
+      status = c.output.ensures.status;
+      quiet = c.output.ensures.told;
+      out = run_by side (IsTold telling side name texts input) (asks_of known) c.args.schedule.now
+          c.processes.result c.processes.ensures.count c.in_ok-given.given.items steps c.in_ok-given.ensures.ok
+          (c.as_slice-steps.ensures.value ∙ c.in_ok-steps.ensures.ok) out _ (ap (λ out. out.items) c.output.ensures.out) (
+            c.in_ok-within_a_page.ensures.ok,
+            subst (λ (places : List TextPlace). IsToldWith telling (is_of_code side) name lines places input p steps out) known.stand
+                (subst (λ (is_code : Bool). IsToldWith telling is_code name lines places input p steps out) c.is_of_code.ensures c.in_ok-out.ensures.ok),
+          );
+    }

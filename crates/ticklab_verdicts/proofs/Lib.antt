@@ -1,0 +1,10 @@
+pub mod Chosen
+pub mod EndsSearched
+pub mod Heard
+pub mod HuntSearched
+pub mod Looped
+pub mod Placed
+pub mod Searched
+pub mod ToldLoops
+pub mod Uncoded
+pub mod Within

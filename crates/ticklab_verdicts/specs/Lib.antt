@@ -1,0 +1,14 @@
+pub mod BySteps
+pub mod Ends
+pub mod Exploring
+pub mod Found
+pub mod Hearing
+pub mod Hunting
+pub mod Lasso
+pub mod Lines
+pub mod Loops
+pub mod RunObjects
+pub mod Shown
+pub mod Sought
+pub mod Tallies
+pub mod prover

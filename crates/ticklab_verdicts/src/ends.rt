@@ -1,0 +1,373 @@
+//! `ticklab explore --ends`.
+ghost use Rattle.std.specs.Prelude.{◌≡◌, ◌<◌, IfErr, IfOk, MatchResult, None, length, true};
+ghost use Rattle.tick_kinds.specs.Resolution.{resolved};
+ghost use Rattle.searches_explore.specs.Lines.{lines_of};
+ghost use Rattle.searches_explore.specs.Never.{IfBroken, IfFault, IfKnown};
+ghost use Rattle.ticklab_verdicts.specs.BySteps.{SafeBy};
+ghost use Rattle.ticklab_files.specs.Asking.{texts_of};
+ghost use Rattle.ticklab_verdicts.specs.Ends.{ExploresEnds, IsEndsExplored, IsEndsFound, IsEndsFoundBy, IsEndsFoundFirst, IsEndsRefused, IsPast, IsThere, TellsMore, asked_by, asks_ends};
+ghost use Rattle.ticklab_files.specs.Faults.{IsOfFile, IsUnread};
+ghost use Rattle.ticklab_verdicts.specs.Hearing.{IsHeard, hearing};
+ghost use Rattle.ticklab_verdicts.specs.Shown.{ShowsAllEnd, ShowsCanEnd, ShowsEndless, ShowsEnds, ShowsHalf, ShowsHalved, ShowsKnown, ShowsStuck, can_end_word};
+ghost use Rattle.ticklab_verdicts.specs.Sought.{AreLawful, IsLawful, IsSound, sought_by};
+ghost use Rattle.ticklab_files.specs.Stops.{IfRefused, IsRefusal};
+ghost use Rattle.ticklab_verdicts.specs.prover.Searches.{AreEndsKnownBy, AreEndsSearchedBy, IsShowable};
+
+mod loops;
+mod wording;
+
+use crate::exploring::{
+    break_line, fault_said, into_schedule, limit_shown, shortest_found, states_shown, trap_line,
+};
+use crate::extent::{extent_of, kind_of};
+use crate::progress::Progress;
+use crate::search::{Answered, Search, Task};
+use base::{NoMemory, set_at};
+use language_questions::Ends;
+use loops::loop_shown;
+pub use loops::loop_text;
+use searches_explore::{Fault, Limits, Liveness, MustStop, Verdict, explore_ends};
+use std::alloc::Global;
+use ticklab_files::{
+    AnswerFault, DONE, Files, Form, LIMIT, LabFault, NoAnswer, Response, bytes_of, never_lines,
+    settled, spelled_program_of,
+};
+use ticklab_json::Loop;
+use ticklab_line::Steps;
+pub use wording::push_processes;
+use wording::{
+    can_end_line, endless_line, ends_line, half_line, half_next, is_nobody, no_process_line,
+    stuck_line,
+};
+
+/// Whether those processes of the program end that its file asks, or this one: after every schedule, whether they still
+/// can, and whether they do where each process that runs steps again and again; as far as `limits` let a
+/// search go. A trap is told first, and a line `#! never` of the file that breaks, or one of these texts that are
+/// the same. By merged steps alone only the first is asked. The progress is told of each search.
+pub fn explored_ends<F: Files, W: Progress>(
+    alloc: Global,
+    files: &mut F,
+    progress: &mut W,
+    file: &str,
+    never: &[&str],
+    process: Option<u8>,
+    limits: Limits,
+    steps: Steps,
+    form: Form,
+) -> Result<Response, LabFault>
+    ensures ok { IfOk result (ExploresEnds F.Reads F.ReadsInput (hearing W.begins W.hears) files.old files.new progress.old progress.new file.now (texts_of never.now) process limits steps form) }
+    ensures err { IfErr result (IsOfFile (IsUnread F.Reads F.ReadsInput F.Lists F.Fails) file.now) }
+{
+    let input = bytes_of(alloc, files, file)?;
+    let searched = all_ends(
+        alloc,
+        file,
+        never,
+        input.as_slice(),
+        process,
+        limits,
+        steps,
+        form,
+        progress,
+    );
+    Ok(concluded(alloc, progress, searched)?)
+}
+
+// The answer, or the report of what is refused; the search is over.
+fn concluded<W: Progress>(
+    alloc: Global,
+    progress: &W,
+    searched: Result<Response, NoAnswer>,
+) -> Result<Response, AnswerFault>
+    ensures { IfOk result (λ response. MatchResult searched (λ given. response ≡ given) (IsRefusal response)) }
+{
+    let response = settled(alloc, searched)?;
+    progress.end();
+    Ok(response)
+}
+
+fn all_ends<W: Progress>(
+    alloc: Global,
+    name: &str,
+    never: &[&str],
+    input: &[u8],
+    process: Option<u8>,
+    limits: Limits,
+    steps: Steps,
+    form: Form,
+    progress: &mut W,
+) -> Result<Response, NoAnswer>
+    ensures ok { IfOk result (λ response. IsHeard (hearing W.begins W.hears) progress.old progress.new (IsEndsExplored steps name.now (texts_of never.now) process limits form input.now response)) }
+    ensures refused { IfErr result (λ stop. IfRefused stop (λ report. IsEndsRefused name.now (texts_of never.now) process input.now report × (progress.old ≡ progress.new))) }
+{
+    let (spelled, questions) = spelled_program_of(alloc, name, input)?;
+    let asked = asked_of(alloc, questions.ends, process, spelled.program.processes())?;
+    let lines = never_lines(alloc, name, input, &spelled.program, questions, never)?;
+    let search = Search {
+        alloc,
+        spelled: &spelled,
+        input,
+        lines: &lines,
+        form,
+    };
+    let task = Task {
+        search,
+        limits,
+        asked,
+    };
+    Ok(ends_found(&task, steps, progress)?)
+}
+
+/// What is found of the program where these processes are asked for.
+pub fn ends_found<W: Progress>(task: &Task<'_, '_>, steps: Steps, progress: &mut W) -> Answered
+    requires sound { IsSound task.now.search }
+    ensures { IfOk result (λ response. IsHeard (hearing W.begins W.hears) progress.old progress.new (IsEndsFound (sought_by task.now.search) task.now.limits task.now.asked steps response)) }
+{
+    match steps {
+        Steps::Single => found_by(task, false, progress),
+        Steps::Merged => found_by(task, true, progress),
+        Steps::MergedFirst => found_first(task, progress),
+    }
+}
+
+// By steps of one kind alone.
+fn found_by<W: Progress>(task: &Task<'_, '_>, is_merged: bool, progress: &mut W) -> Answered
+    requires sound { IsSound task.now.search }
+    ensures { IfOk result (λ response. IsHeard (hearing W.begins W.hears) progress.old progress.new (IsEndsFoundBy (sought_by task.now.search) task.now.limits task.now.asked is_merged response)) }
+{
+    let explored = explored_by(task, is_merged, progress)?;
+    shown(task, is_merged, explored)
+}
+
+// By merged steps first, and by single ones where these tell more.
+fn found_first<W: Progress>(task: &Task<'_, '_>, progress: &mut W) -> Answered
+    requires sound { IsSound task.now.search }
+    ensures { IfOk result (λ response. IsHeard (hearing W.begins W.hears) progress.old progress.new (IsEndsFoundFirst (sought_by task.now.search) task.now.limits task.now.asked response)) }
+{
+    if is_nobody(task.asked) {
+        return found_by(task, true, progress);
+    }
+    let explored = explored_by(task, true, progress)?;
+    match explored {
+        Verdict::Found(fault) => shortest_found(task, into_schedule(fault), progress),
+        Verdict::Nowhere { states, known } => more_found(task, states, known, progress),
+        Verdict::Limit { states } => limit_shown(task, true, states),
+    }
+}
+
+// What single steps find of ends, where merged ones have found nothing wrong in so many states, and this of ends; where
+// single ones meet a limit, what merged ones have found.
+fn more_found<W: Progress>(
+    task: &Task<'_, '_>,
+    states: u32,
+    known: Liveness,
+    progress: &mut W,
+) -> Answered
+    requires sound { IsSound task.now.search }
+    requires safe { SafeBy true (resolved task.now.search.spelled.now.program) (lines_of task.now.search.lines.now.properties.items) task.now.limits states }
+    requires known { AreEndsKnownBy true (resolved task.now.search.spelled.now.program) task.now.asked known }
+    ensures { IfOk result (λ response. IsHeard (hearing W.begins W.hears) progress.old progress.new (TellsMore (sought_by task.now.search) task.now.limits task.now.asked states response)) }
+{
+    let single = explored_by(task, false, progress)?;
+    match single {
+        Verdict::Found(_) => unreachable!(),
+        Verdict::Nowhere {
+            states: seen,
+            known: settled,
+        } => known_shown(task, false, seen, settled),
+        Verdict::Limit { states: others } => half_shown(task, states, known, others),
+    }
+}
+
+// By merged steps, or by single ones.
+fn explored_by<W: Progress>(
+    task: &Task<'_, '_>,
+    is_merged: bool,
+    progress: &mut W,
+) -> Result<Verdict<Fault, Liveness>, NoMemory>
+    ensures { IfOk result (AreEndsSearchedBy is_merged (resolved task.now.search.spelled.now.program) task.now.search.lines.now.properties.items task.now.asked task.now.limits (hearing W.begins W.hears) progress.old progress.new) }
+{
+    let Task {
+        search,
+        limits,
+        asked,
+    } = *task;
+    let alloc = search.alloc;
+    let program = &search.spelled.program;
+    let properties = search.lines.properties.as_slice();
+    let kind = kind_of(is_merged);
+    progress.begin(is_merged);
+    let explored = explore_ends(alloc, program, properties, asked, kind, limits, progress)?;
+    Ok(explored)
+}
+
+/// Whether the search of `explore` asks for ends too, where a file says this of them.
+pub fn asks_ends(ends: Option<Ends>) -> bool
+    ensures { result ≡ asks_ends ends }
+{
+    match ends {
+        Some(Ends::All | Ends::Each(_)) => true,
+        Some(Ends::Nobody) | None => false,
+    }
+}
+
+// Who is asked for, of so many processes; a file says this of it.
+fn asked_of(
+    alloc: Global,
+    ends: Option<Ends>,
+    process: Option<u8>,
+    n: u8,
+) -> Result<MustStop, NoAnswer>
+    ensures asked { IfOk result (λ asked. asked ≡ asked_by ends process) }
+    ensures there { IfOk result (λ asked. IsThere n process) }
+    ensures refused { IfErr result (λ stop. IfRefused stop (IsPast n process)) }
+{
+    match process {
+        None => Ok(asked_in(ends)),
+        Some(process) if process < n => {
+            let mut marks = [false; 6];
+            set_at(&mut marks, usize::from(process), true);
+            Ok(MustStop::Each(marks))
+        }
+        Some(process) => {
+            let line = no_process_line(alloc, process)?;
+            Err(NoAnswer::Refused(line.into_bytes()))
+        }
+    }
+}
+
+/// Who is asked for by a file.
+pub fn asked_in(ends: Option<Ends>) -> MustStop
+    ensures { result ≡ asked_by ends None }
+{
+    match ends {
+        Some(Ends::Each(marks)) => MustStop::Each(marks),
+        Some(Ends::Nobody) => MustStop::Each([false; 6]),
+        Some(Ends::All) | None => MustStop::All,
+    }
+}
+
+// The answer that tells what merged steps have found, where by single ones there are more states than these.
+fn half_shown(task: &Task<'_, '_>, states: u32, known: Liveness, others: u32) -> Answered
+    requires sound { IsSound task.now.search }
+    requires shown { IsShowable task.now.search known }
+    ensures { IfOk result (ShowsHalved task.now.asked (sought_by task.now.search) task.now.limits others states known) }
+{
+    match known {
+        Liveness::CanEnd => can_half_shown(task, states, others),
+        other => known_shown(task, true, states, other),
+    }
+}
+
+// The answer that tells what was explored. What `explore` would find it tells in the same way.
+fn shown(task: &Task<'_, '_>, is_merged: bool, explored: Verdict<Fault, Liveness>) -> Answered
+    requires sound { IsSound task.now.search }
+    requires schedule { IfFault explored (IsLawful task.now.search) }
+    requires line { IfBroken explored (λ schedule line v. line < length task.now.search.lines.now.places.items) }
+    requires shown { IfKnown explored (IsShowable task.now.search) }
+    ensures { IfOk result (ShowsEnds is_merged task.now.asked (sought_by task.now.search) task.now.limits explored) }
+{
+    match explored {
+        Verdict::Found(fault) => {
+            let trap = trap_line(is_merged);
+            fault_said(&task.search, &fault, trap, break_line(is_merged))
+        }
+        Verdict::Nowhere { states, known } => known_shown(task, is_merged, states, known),
+        Verdict::Limit { states } => limit_shown(task, is_merged, states),
+    }
+}
+
+// Nothing is wrong in so many states, and this is known of ends.
+fn known_shown(task: &Task<'_, '_>, is_merged: bool, states: u32, known: Liveness) -> Answered
+    requires sound { IsSound task.now.search }
+    requires shown { IsShowable task.now.search known }
+    ensures { IfOk result (ShowsKnown is_merged task.now.asked (sought_by task.now.search) states known) }
+{
+    match known {
+        Liveness::Stuck {
+            schedule,
+            lead_in,
+            cycle,
+        } => {
+            let looped = Loop {
+                schedule: &schedule,
+                lead_in: &lead_in,
+                cycle: &cycle,
+            };
+            stuck_shown(task, is_merged, looped)
+        }
+        Liveness::Endless { prefix, cycle } => endless_shown(task, &prefix, &cycle),
+        Liveness::Ends => ends_shown(task, states),
+        Liveness::CanEnd => can_end_shown(task, is_merged, states),
+    }
+}
+
+// They can't end any more, and these steps repeat for ever.
+fn stuck_shown(task: &Task<'_, '_>, is_merged: bool, looped: Loop<'_>) -> Answered
+    requires sound { IsSound task.now.search }
+    requires lawful { AreLawful (resolved task.now.search.spelled.now.program).processes looped }
+    ensures { IfOk result (ShowsStuck (sought_by task.now.search) is_merged task.now.asked looped.entry.schedule.now looped.entry.lead_in.now looped.entry.cycle.now) }
+{
+    let search = &task.search;
+    let says = stuck_line(
+        search.alloc,
+        is_merged,
+        search.lines.places.len(),
+        task.asked,
+    )?;
+    loop_shown(search, "stuck", &says, looped)
+}
+
+// They can end, and where the cycle is gone round for ever they don't.
+fn endless_shown(task: &Task<'_, '_>, prefix: &[u8], cycle: &[u8]) -> Answered
+    requires sound { IsSound task.now.search }
+    requires prefix { IsLawful task.now.search prefix.now }
+    requires cycle { IsLawful task.now.search cycle.now }
+    ensures { IfOk result (ShowsEndless (sought_by task.now.search) task.now.asked prefix.now cycle.now) }
+{
+    let search = &task.search;
+    let says = endless_line(search.alloc, search.lines.places.len(), task.asked)?;
+    let looped = Loop {
+        schedule: prefix,
+        lead_in: &[],
+        cycle,
+    };
+    loop_shown(search, "endless", &says, looped)
+}
+
+// They always end.
+fn ends_shown(task: &Task<'_, '_>, states: u32) -> Answered
+    ensures { IfOk result (ShowsAllEnd (sought_by task.now.search) task.now.asked states) }
+{
+    let search = &task.search;
+    let extent = extent_of(search, false, states);
+    let says = ends_line(search.alloc, task.asked, extent)?;
+    states_shown(search, DONE, "ends", extent, &says, "")
+}
+
+// They always can.
+fn can_end_shown(task: &Task<'_, '_>, is_merged: bool, states: u32) -> Answered
+    ensures { IfOk result (ShowsCanEnd (sought_by task.now.search) is_merged task.now.asked states) }
+{
+    let word = can_end_word(task.asked);
+    let extent = extent_of(&task.search, is_merged, states);
+    let says = can_end_line(task.search.alloc, task.asked, extent)?;
+    states_shown(&task.search, DONE, word, extent, &says, "")
+}
+
+// By merged steps they always can; by single ones there are more states than these.
+fn can_half_shown(task: &Task<'_, '_>, states: u32, others: u32) -> Answered
+    ensures { IfOk result (ShowsHalf (sought_by task.now.search) task.now.asked states task.now.limits others) }
+{
+    let alloc = task.search.alloc;
+    let extent = extent_of(&task.search, true, states);
+    let says = half_line(alloc, extent.lines, task.asked, states, others)?;
+    let more = half_next(alloc, task.limits, others)?;
+    states_shown(&task.search, LIMIT, "limit", extent, &says, &more)
+}
+
+fn can_end_word(asked: MustStop) -> &'static str
+    ensures { result.now ≡ can_end_word asked }
+{
+    if is_nobody(asked) { "ends" } else { "can-end" }
+}

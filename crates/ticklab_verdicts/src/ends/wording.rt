@@ -1,0 +1,220 @@
+//! The lines of the answers to `explore --ends`.
+ghost use Rattle.std.specs.Prelude.{◌≡◌, ◌≤◌, ◌+◌, ◌++◌, IfOk, OnOk, length, string_bytes};
+ghost use Rattle.std.specs.List.{list_any};
+ghost use Rattle.ticklab_verdicts.specs.Lines.{asked_text, can_end_line, can_end_text, endless_line, ends_line, ends_text, half_line, half_next, is_nobody, marked, no_process_line, numbers_text, processes_text, quiet_text, stuck_line};
+
+use crate::exploring::{either, larger, push_counted, push_more, safe_text};
+use crate::extent::SearchExtent;
+use base::push_number;
+use searches_explore::{Limits, MustStop};
+use std::alloc::{AllocError, Global};
+
+fn push_asked(alloc: Global, text: &mut String, asked: MustStop) -> Result<(), AllocError>
+    ensures { OnOk result (string_bytes text.new ≡ string_bytes text.old ++ asked_text asked) }
+{
+    match asked {
+        MustStop::All => text.push_str("all processes"),
+        MustStop::Each(marks) => {
+            let mut processes = Vec::new(alloc);
+            push_marked(&mut processes, 0, &marks)?;
+            push_processes(text, processes.as_slice())
+        }
+    }
+}
+
+// Adds the numbers, counted from this one, at which there is a `true`.
+fn push_marked(processes: &mut Vec<u8>, first: u8, marks: &[bool]) -> Result<(), AllocError>
+    requires { first + length marks.now ≤ 255 }
+    ensures { OnOk result (processes.new.items ≡ processes.old.items ++ marked first marks.now) }
+{
+    match marks {
+        [] => Ok(()),
+        [mark, more @ ..] => {
+            if *mark {
+                processes.push(first)?;
+                push_marked(processes, first + 1, more)
+            } else {
+                push_marked(processes, first + 1, more)
+            }
+        }
+    }
+}
+
+/// Adds who these are, as `process 1`, or `processes 0, 1 and 2`.
+pub fn push_processes(text: &mut String, processes: &[u8]) -> Result<(), AllocError>
+    ensures { OnOk result (string_bytes text.new ≡ string_bytes text.old ++ processes_text processes.now) }
+{
+    match processes {
+        [] => text.push_str("no process"),
+        [process] => {
+            text.push_str("process ")?;
+            push_number(text, u64::from(*process))
+        }
+        [process, more @ ..] => {
+            text.push_str("processes ")?;
+            push_numbers(text, *process, more)
+        }
+    }
+}
+
+// Adds a number, and the others behind commas and the last behind `and`.
+fn push_numbers(text: &mut String, first: u8, more: &[u8]) -> Result<(), AllocError>
+    ensures { OnOk result (string_bytes text.new ≡ string_bytes text.old ++ numbers_text first more.now) }
+{
+    push_number(text, u64::from(first))?;
+    match more {
+        [] => Ok(()),
+        [last] => {
+            text.push_str(" and ")?;
+            push_number(text, u64::from(*last))
+        }
+        [next, rest @ ..] => {
+            text.push_str(", ")?;
+            push_numbers(text, *next, rest)
+        }
+    }
+}
+
+/// Whether nobody is asked for.
+pub fn is_nobody(asked: MustStop) -> bool
+    ensures { result ≡ is_nobody asked }
+{
+    match asked {
+        MustStop::All => false,
+        MustStop::Each(marks) => !has_mark(&marks),
+    }
+}
+
+fn has_mark(marks: &[bool]) -> bool
+    ensures { result ≡ list_any (λ mark. mark) marks.now }
+{
+    marks.iter().any(|mark| *mark)
+}
+
+// Nothing is wrong, and so many lines `#! never` don't break.
+fn quiet(alloc: Global, lines: usize) -> Result<String, AllocError>
+    ensures { IfOk result (λ text. string_bytes text ≡ quiet_text lines) }
+{
+    let mut text = String::from_str(alloc, safe_text(lines))?;
+    text.push_str(" under any schedule; ")?;
+    Ok(text)
+}
+
+/// They always end, where each process that runs steps again and again; and no line `#! never` breaks.
+pub fn ends_line(alloc: Global, asked: MustStop, extent: SearchExtent) -> Result<String, AllocError>
+    ensures { IfOk result (λ line. string_bytes line ≡ ends_line extent.is_merged extent.lines asked extent.states) }
+{
+    let mut line = quiet(alloc, extent.lines)?;
+    push_ends(alloc, &mut line, asked)?;
+    push_counted(&mut line, extent)?;
+    Ok(line)
+}
+
+fn push_ends(alloc: Global, text: &mut String, asked: MustStop) -> Result<(), AllocError>
+    ensures { OnOk result (string_bytes text.new ≡ string_bytes text.old ++ ends_text asked) }
+{
+    if is_nobody(asked) {
+        return text.push_str("no process is asked whether it can end");
+    }
+    push_asked(alloc, text, asked)?;
+    text.push_str(
+        " can still end after every schedule, and will if each that runs steps again and again",
+    )
+}
+
+// They can always end, and it isn't known whether they do.
+fn can_end_text(alloc: Global, asked: MustStop, extent: SearchExtent) -> Result<String, AllocError>
+    ensures { IfOk result (λ text. string_bytes text ≡ can_end_text extent.is_merged extent.lines asked extent.states) }
+{
+    let mut text = quiet(alloc, extent.lines)?;
+    push_asked(alloc, &mut text, asked)?;
+    text.push_str(" can still end after every schedule")?;
+    push_counted(&mut text, extent)?;
+    text.push_str("; of those in which each that runs steps again and again nothing was ")?;
+    Ok(text)
+}
+
+/// They can always end; whether they do isn't known.
+pub fn can_end_line(
+    alloc: Global,
+    asked: MustStop,
+    extent: SearchExtent,
+) -> Result<String, AllocError>
+    ensures { IfOk result (λ line. string_bytes line ≡ can_end_line extent.is_merged extent.lines asked extent.states) }
+{
+    if is_nobody(asked) {
+        return ends_line(alloc, asked, extent);
+    }
+    let mut line = can_end_text(alloc, asked, extent)?;
+    line.push_str(either(extent.is_merged, "asked", "found out"))?;
+    Ok(line)
+}
+
+/// By merged steps they can always end; by single ones there are more states than these.
+pub fn half_line(
+    alloc: Global,
+    lines: usize,
+    asked: MustStop,
+    states: u32,
+    others: u32,
+) -> Result<String, AllocError>
+    ensures { IfOk result (λ line. string_bytes line ≡ half_line lines asked states others) }
+{
+    let extent = SearchExtent {
+        lines,
+        is_merged: true,
+        states,
+    };
+    let mut line = can_end_text(alloc, asked, extent)?;
+    line.push_str("found out: ")?;
+    push_more(&mut line, false, others)?;
+    Ok(line)
+}
+
+/// What may help where single steps met a limit.
+pub fn half_next(alloc: Global, limits: Limits, others: u32) -> Result<String, AllocError>
+    ensures { IfOk result (λ line. string_bytes line ≡ half_next limits others) }
+{
+    let mut line = String::from_str(alloc, "try ")?;
+    line.push_str(larger(limits, others))?;
+    line.push_str(", or fewer processes or rounds\n")?;
+    Ok(line)
+}
+
+/// They can always end, and under a schedule they don't.
+pub fn endless_line(alloc: Global, lines: usize, asked: MustStop) -> Result<String, AllocError>
+    ensures { IfOk result (λ line. string_bytes line ≡ endless_line lines asked) }
+{
+    let mut line = quiet(alloc, lines)?;
+    push_asked(alloc, &mut line, asked)?;
+    line.push_str(
+        " can still end after every schedule, but not under this one, in which each that runs steps again and again:",
+    )?;
+    Ok(line)
+}
+
+/// They can't end any more.
+pub fn stuck_line(
+    alloc: Global,
+    is_merged: bool,
+    lines: usize,
+    asked: MustStop,
+) -> Result<String, AllocError>
+    ensures { IfOk result (λ line. string_bytes line ≡ stuck_line is_merged lines asked) }
+{
+    let mut line = quiet(alloc, lines)?;
+    line.push_str("after this schedule no further steps end ")?;
+    push_asked(alloc, &mut line, asked)?;
+    line.push_str(either(is_merged, ":", ", and after each shorter one some do:"))?;
+    Ok(line)
+}
+
+/// There is no such process.
+pub fn no_process_line(alloc: Global, process: u8) -> Result<String, AllocError>
+    ensures { IfOk result (λ line. string_bytes line ≡ no_process_line process) }
+{
+    let mut line = String::from_str(alloc, "--ends: error: there is no process ")?;
+    push_number(&mut line, u64::from(process))?;
+    line.push_str("\n")?;
+    Ok(line)
+}
