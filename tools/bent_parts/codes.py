@@ -1,30 +1,13 @@
-"""What the text of a code is, or why it is none (docs/CODE.md)."""
+"""What the text of a code is, or why it is none: the first fault, each place by what stands before it (docs/CODE.md)."""
 import re
 
-from . import heights
-from .refusal import Refusal
+from .tokens import Refusal
 
 # Each instruction with its operands, how many values it takes from the stack, and how many it then puts on it.
 TABLE = """
-Push VALUE 0 1
-Load VARIABLE 0 1
-Me 0 1
-Count 0 1
-Bin SIGN 2 1
-Store VARIABLE 1 0
-Get ROW VARIABLE 1 0
-Put ROW 1 0
-LoadWord 0 0
-Next 0 0
-Exchange PLACE 0 0
-Scan SCAN 0 0
-Copy SCAN SCAN 0 0
-Older SCAN VARIABLE 2 0
-Out 1 0
-JumpZero PLACE 1 0
-Jump PLACE 0 0
-Halt 0 0
-Clear 0 0
+Push VALUE 0 1 | Load VARIABLE 0 1 | Me 0 1 | Count 0 1 | Bin SIGN 2 1 | Store VARIABLE 1 0 | Get ROW VARIABLE 1 0 |
+Put ROW 1 0 | LoadWord 0 0 | Next 0 0 | Exchange PLACE 0 0 | Scan SCAN 0 0 | Copy SCAN SCAN 0 0 |
+Older SCAN VARIABLE 2 0 | Out 1 0 | JumpZero PLACE 1 0 | Jump PLACE 0 0 | Halt 0 0 | Clear 0 0 |
 Held SCAN VARIABLE 1 0
 """
 NOT_IN_FIRST = {"Clear", "Held"}
@@ -37,22 +20,18 @@ PLAIN = re.compile("0|[1-9][0-9]*")
 
 
 class Form:
-    """A kind of instruction."""
-
     def __init__(self, line):
         self.name, *self.operands, takes, gives = line.split()
         self.takes, self.gives = int(takes), int(gives)
 
 
 class Instruction:
-    """A kind of instruction, and its operands; `numbers` has those that are numbers."""
-
     def __init__(self, form, words):
         self.form, self.name = form, form.name
         self.numbers = [int(word) for word in words if word not in SIGNS]
 
 
-FORMS = {form.name: form for form in map(Form, TABLE.strip().split("\n"))}
+FORMS = {form.name: form for form in map(Form, TABLE.split("|"))}
 
 
 def code(text):
@@ -64,12 +43,11 @@ def code(text):
         raise Refusal("29 BadLine", len(lines))
     if len(instructions) > MOST_INSTRUCTIONS:
         raise Refusal("27 TooLong")
-    heights.verify(instructions, sizes)
+    verify(instructions, sizes)
     return sizes[0], text.encode("latin-1")
 
 
 def header(line, is_ended):
-    """The version of the text, and how many processes, variables, scans and register rows there are."""
     words = line.split(" ")
     sizes = [number(word) for word in words[2:]]
     is_so = words[0] == "tickcode" and words[1] in ("1", "2") and len(sizes) == len(SIZES)
@@ -79,12 +57,10 @@ def header(line, is_ended):
 
 
 def number(word):
-    """The number that a word spells without zeros in front, or -1."""
     return int(word) if PLAIN.fullmatch(word) else -1
 
 
 def instruction(line, at, version):
-    """The instruction that a line is."""
     name, *words = line.split(" ")
     form = FORMS.get(name)
     is_so = form and len(words) == len(form.operands) and all(map(is_spelled, form.operands, words))
@@ -95,3 +71,77 @@ def instruction(line, at, version):
 
 def is_spelled(operand, word):
     return word in SIGNS if operand == "SIGN" else 0 <= number(word) <= GREATEST[operand]
+
+
+# Which of the sizes of a code an operand has to be below.
+SLOTS = {"VARIABLE": 1, "SCAN": 2, "ROW": 3}
+GO_ELSEWHERE = ("Jump", "Halt")
+
+
+class Place:
+    """A place of a code: its instruction, how many values stand there, and how many it leaves; with the places before it."""
+
+    def __init__(self, instructions, sizes, before):
+        self.all, self.sizes, self.before, self.at = instructions, sizes, before, len(before)
+        self.instruction, self.height = instructions[self.at], height_behind(before)
+        self.left = self.height - self.instruction.form.takes + self.instruction.form.gives
+        self.target = self.instruction.numbers[0] if self.instruction.name in ("Jump", "JumpZero") else None
+        self.goes_on = self.instruction.name not in GO_ELSEWHERE
+
+    def name_at(self, place):
+        return self.all[place].name if 0 <= place < len(self.all) else None
+
+    def has_bad_slot(self):
+        slots = zip(self.instruction.form.operands, self.instruction.numbers)
+        return any(number >= self.sizes[SLOTS[operand]] for operand, number in slots if operand in SLOTS)
+
+    def breaks_stamp(self):
+        last, following = self.name_at(self.at - 1), self.name_at(self.at + 1)
+        if self.instruction.name == "LoadWord":
+            return following != "Next"
+        if self.instruction.name == "Next":
+            return last != "LoadWord" or following != "Exchange"
+        if self.instruction.name == "Exchange":
+            return last != "Next" or self.instruction.numbers[0] != self.at - 2
+        return self.target is not None and self.name_at(self.target) in ("Next", "Exchange")
+
+    def jumps_to_other_height(self):
+        if self.target is None:
+            return False
+        known = [*self.before, self]
+        if self.target < len(known):
+            return known[self.target].height != self.left
+        return any(one.left != self.left for one in self.before if one.target == self.target)
+
+
+# What is looked at, in this order.
+TESTS = (
+    ("24 HeightsDiffer", lambda here: any(one.left != here.height for one in here.before if one.target == here.at)),
+    ("25 BadSlot", Place.has_bad_slot),
+    ("22 BadJump", lambda here: here.target is not None and here.target >= len(here.all)),
+    ("23 StackShort", lambda here: here.height < here.instruction.form.takes),
+    ("30 BadStamp", Place.breaks_stamp),
+    ("24 HeightsDiffer", Place.jumps_to_other_height),
+    ("26 FallsOff", lambda here: here.goes_on and here.at + 1 == len(here.all)),
+)
+
+
+def height_behind(before):
+    """The height of the place behind these."""
+    if not before:
+        return 0
+    if before[-1].goes_on:
+        return before[-1].left
+    return next((one.left for one in before if one.target == len(before)), 0)
+
+
+def verify(instructions, sizes):
+    if not instructions:
+        raise Refusal("21 Empty")
+    before = []
+    for number in range(len(instructions)):
+        here = Place(instructions, sizes, before)
+        for name, is_fault in TESTS:
+            if is_fault(here):
+                raise Refusal(name, number)
+        before.append(here)

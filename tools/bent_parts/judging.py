@@ -1,24 +1,21 @@
 """Whether the program answers as it has to."""
-from . import codes, programs, schedules, tokens
+from . import codes, kinds, schedules, tokens
 from .inputs import FORM, MOVES, PLAYED, PROCESSES, PROGRAM, RUNNABLE
-from .refusal import Refusal
+from .tokens import Refusal
 
 NOT_HAD = (4, b"")
 
 
 def taken(reads, given):
-    """How many processes an input has, and a text that means the same."""
     text = tokens.text_of(given)
     if reads == MOVES:
         return PROCESSES, schedules.schedule(text, PROCESSES, True)
     if reads == RUNNABLE and text.startswith("tickcode "):
         return codes.code(text)
-    return programs.program(text)
+    return kinds.program(text)
 
 
 class Judge:
-    """Asks a program, and keeps what it wrote of plain inputs."""
-
     def __init__(self, ask):
         self.ask, self.kept = ask, {}
 
@@ -37,7 +34,6 @@ class Judge:
         return wrong
 
     def wrong_schedule(self, command, schedule, given):
-        """The same of a schedule that is the last word of a command on a program."""
         words = (command, schedule)
         try:
             tokens.text_of(schedule)
@@ -46,7 +42,6 @@ class Judge:
         return self.difference(words, given, self.wanted(PLAYED, words, *taken(PROGRAM, given)))
 
     def wanted(self, shows, words, processes, plain):
-        """The status and the answer to an input that is taken."""
         if shows == FORM:
             return 0, plain
         if shows == PLAYED:

@@ -1,10 +1,30 @@
-"""The first fault of the names of a program, each looked up in the tokens before it (docs/LANGUAGE.md)."""
+"""What a text of a program is, or why it is none: each name is looked up in the tokens before it; and its printed form
+(docs/LANGUAGE.md)."""
+import collections
+
+from . import tree
+from .tokens import tokens_of
+
+ENDS_OF_LINES = {";", "{", "}", "begin", "end"}
 MOST_PROCESSES = 6
 SECTIONS = {"var": "Variable", "scan": "Scan", "reg": "Register"}
 MOST = {"Variable": 64, "Scan": 16, "Register": 8}
 # The kind of a name by the word before it, or, of one before `=`, by the word after that.
 AFTER = {"get": "Register", "put": "Register", "copy": "Scan", "older": "Scan", "held": "Scan"}
 GIVEN = {"scan": "Scan", "copy": "Scan"}
+
+
+def program(text):
+    """How many processes a program has, and its printed form."""
+    found = tokens_of(text)
+    tree.Reader(found, len(text), collections.defaultdict(int)).program()
+    printed = "".join(plain(token) + ("\n" if token.word in ENDS_OF_LINES else " ") for token in found)
+    return processes(found), printed.encode()
+
+
+def plain(token):
+    """The word of a token, a number without the zeros in front."""
+    return token.word.lstrip("0") or "0" if token.symbol == "NUMBER" else token.word
 
 
 def processes(tokens):
@@ -43,7 +63,6 @@ def use(name, kind, declared):
 
 
 def wanted(tokens, place):
-    """The kind that a name of a statement has to be of, by the tokens beside it."""
     before, after = tokens[place - 1].word, [token.word for token in tokens[place + 1 : place + 3]]
     if before in AFTER:
         return AFTER[before]

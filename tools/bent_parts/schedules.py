@@ -1,7 +1,7 @@
 """What a schedule is, or why it is none; and stamps and clears (docs/FORMATS.md)."""
 import re
 
-from .refusal import Refusal
+from .tokens import Refusal
 
 ITEM = re.compile(r"[^ \t\r\n]+")
 STEPS = re.compile(r"([0-9]+)(?:\*([0-9]+))?")
@@ -24,7 +24,6 @@ def schedule(text, processes, has_clears):
 
 
 def steps_of(word, place):
-    """The process of an item, and how many steps it makes."""
     found = STEPS.fullmatch(word)
     count = int(found[2] or 1) if found else 0
     if count == 0:

@@ -1,13 +1,17 @@
-"""The tokens of a program, each the longest that begins where it does (docs/LANGUAGE.md)."""
+"""The tokens of a program, each the longest that begins where it does (docs/LANGUAGE.md); and what a refusal tells."""
 import re
-
-from .refusal import Refusal
 
 KEYWORDS = set("processes var scan reg begin end get put stamp clear copy older held out if else while me n".split())
 # No two kinds of words begin with the same character, so the longest of one kind is the longest of all.
 WORDS = r"(?P<gap>[ \t\r\n]+|#[^\n]*)|(?P<NUMBER>[0-9]+)|(?P<NAME>[A-Za-z_][A-Za-z_0-9]*)|<=|==|!=|[;,(){}=+*/%<-]"
 WORD = re.compile(WORDS)
 GREATEST, LONGEST_NAME, LONGEST_TEXT = 4294967295, 64, 1000000
+
+
+class Refusal(Exception):
+    def __init__(self, name, *fields):
+        super().__init__(name)
+        self.line = " ".join(["refused", name, *map(str, fields)]).encode() + b"\n"
 
 
 class Token:
@@ -33,7 +37,6 @@ def text_of(given):
 
 
 def tokens_of(text):
-    """The tokens of a text, in order."""
     tokens, place = [], 0
     while place < len(text):
         found = WORD.match(text, place)
@@ -46,7 +49,6 @@ def tokens_of(text):
 
 
 def within(token):
-    """A token, where it is within the limits."""
     if token.symbol == "NUMBER" and int(token.word) > GREATEST:
         raise token.refused("3 NumberTooBig")
     if token.symbol == "NAME" and len(token.word) > LONGEST_NAME:

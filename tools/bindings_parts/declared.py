@@ -1,15 +1,11 @@
-"""Whether the header and the packages declare what crates/ticket_word exports, and whether the archive answers so.
-
-What is exported stands in the crate's source: its functions, and its structs with their fields in order, from which C
-computes sizes and offsets. Of that a program in C is made in which the compiler compares each type of the header, for
-both machines, and another one which calls the archive without the header and looks at the bytes of each answer. The
-Rust package's declarations are compared as they are written, the Python package's by a program in C again.
-"""
+"""Whether the header and the packages declare what crates/ticket_word exports, and whether the archive answers so
+(docs/TICKET_WORD.md). From a struct's fields in order C computes sizes and offsets, for both machines."""
 import itertools
 import json
 import os
 import re
-import subprocess
+
+from parts.tool import ran, read_bytes, write
 
 CRATE, HEADER = "crates/ticket_word/src/calls.rt", "bindings/c/ticket_word.h"
 RAW = "bindings/rust/ticket-word/src/raw.rs"
@@ -52,7 +48,6 @@ CASES = (
 
 
 def pairs(text, start=""):
-    """The names and types of what is declared in a row."""
     return [tuple(it.strip() for it in part.removeprefix(start).split(":")) for part in text.split(",") if ":" in part]
 
 
@@ -91,7 +86,6 @@ def is_one(value, kind, what):
 
 
 def asserted(name, given, answer):
-    """What holds in C of a function that is declared as it is exported."""
     zeros, types = ", ".join("0" for _ in given), ", ".join(IN_C[kind] for _, kind in given)
     yield f"typedef __typeof__({name}({zeros})) {name}_answer;"
     yield is_one(f"&{name}", f"{name}_answer (*)({types})", f"{name}: its parameters")
@@ -106,19 +100,15 @@ def asserted(name, given, answer):
 
 
 def compiled(command, text, folder, *others):
-    """What stands against a program in C, or None."""
-    path = f"{folder}/declared.c"
-    with open(path, "w", encoding="utf-8") as file:
-        file.write(text)
-    ran = subprocess.run([*command.split(), "-std=c11", "-Wall", "-Werror", path, *others], capture_output=True, text=True, check=False)
-    return next((line for line in ran.stderr.split("\n") if "error" in line), "it doesn't compile") if ran.returncode else None
+    write(f"{folder}/declared.c", text)
+    came = ran(*command.split(), "-std=c11", "-Wall", "-Werror", f"{folder}/declared.c", *others)
+    errors = [line for line in came.stdout.split("\n") if "error" in line] or ["it doesn't compile"]
+    return errors[0] if came.returncode else None
 
 
 def of_header(texts, folder, _archives):
-    """What stands against the header's declarations."""
     functions = exported(texts[CRATE])
-    with open(f"{folder}/ticket_word.h", "w", encoding="utf-8") as file:
-        file.write(texts[HEADER])
+    write(f"{folder}/ticket_word.h", texts[HEADER])
     declared = {name: [it.split()[-1] for it in given.split(",")] for name, given in PROTOTYPE.findall(texts[HEADER])}
     for name in sorted(declared.keys() ^ functions.keys()):
         yield f"header: {name} is declared or exported alone"
@@ -133,7 +123,6 @@ def of_header(texts, folder, _archives):
 
 
 def of_raw(texts, _folder, _archives):
-    """What stands against the Rust package's declarations."""
     wanted = {name: it for name, it in exported(texts[CRATE]).items() if name not in NOT_CALLED}
     found = exported(texts[RAW])
     return (f"raw.rs: {name}: {found.get(name)}, and {wanted.get(name)} is exported"
@@ -150,7 +139,6 @@ print(json.dumps([laid, {name: [short.get(it, str(it)) for it in kinds] for name
 
 
 def in_c_of_python(structs, calls):
-    """What holds in C of the structs and calls that Python declares."""
     for name, (size, members) in structs.items():
         yield f'_Static_assert(sizeof({name}) == {size}, "the size of {name}");'
         for field, offset, width in members:
@@ -164,23 +152,18 @@ def in_c_of_python(structs, calls):
 
 
 def of_python(texts, folder, archives):
-    """What stands against the structs and calls that the Python package declares."""
     package = f"{folder}/ticket_word"
-    os.makedirs(package, exist_ok=True)
     for path, place in ((PYTHON, f"{package}/__init__.py"), (CALLS, f"{folder}/calls.c"), (HEADER, f"{folder}/ticket_word.h")):
-        with open(place, "w", encoding="utf-8") as file:
-            file.write(texts[path])
-    built = ["gcc", "-std=c11", "-fPIC", "-shared", "-o", f"{package}/libticket_word_calls.so", f"{folder}/calls.c", archives[0]]
-    if subprocess.run(built, capture_output=True, check=False).returncode:
+        write(place, texts[path])
+    library = f"{package}/libticket_word_calls.so"
+    if ran("gcc", "-std=c11", "-fPIC", "-shared", "-o", library, f"{folder}/calls.c", archives[0]).returncode:
         yield "Python: calls.c doesn't compile"
         return
-    ran = subprocess.run(
-        ["python3", "-B", "-c", PROBE], cwd=folder, capture_output=True, text=True, check=False, env={**os.environ, "PYTHONPATH": folder},
-    )
-    if ran.returncode:
-        yield f"Python: {ran.stderr.strip().splitlines()[-1]}"
+    came = ran("python3", "-B", "-c", PROBE, cwd=folder, env={**os.environ, "PYTHONPATH": folder})
+    if came.returncode:
+        yield f"Python: {came.stdout.strip().splitlines()[-1]}"
         return
-    structs, calls = json.loads(ran.stdout)
+    structs, calls = json.loads(came.stdout)
     names = set(re.findall(r"^\w+ (\w+)\(", texts[CALLS], re.M))
     yield from (f"Python: {name} stands in calls.c or in the package alone" for name in sorted(names ^ calls.keys()))
     told = compiled("gcc", '#include "calls.c"\n#include <stddef.h>\n' + "\n".join(in_c_of_python(structs, calls)) + "\n", folder, "-fsyntax-only")
@@ -189,16 +172,13 @@ def of_python(texts, folder, archives):
 
 
 def symbols(path):
-    """The names that an archive's list gives out."""
-    with open(path, "rb") as file:
-        content = file.read()
+    content = read_bytes(path)
     length = int(content[8 + 48 : 8 + 58])
     listed, count = content[68 : 68 + length], int.from_bytes(content[68:72], "big")
     return {it.decode() for it in listed[4 + 4 * count :].split(b"\0")[:count]}
 
 
 def bytes_of(members, answer):
-    """For each byte of an answer that isn't padding its place and what it is."""
     offsets = laid(members)[0]
     for name, kind in members:
         value, size = answer[name], SIZES[kind][0]
@@ -244,8 +224,7 @@ def of_archives(texts, folder, archives):
         yield f"archive: no case fits: {fault}"
         return
     told = compiled("gcc", text, folder, "-o", f"{folder}/asking", archives[0])
-    ran = told or subprocess.run([f"{folder}/asking"], capture_output=True, text=True, check=False).stdout
-    yield from (f"archive: {line}" for line in ran.splitlines())
+    yield from (f"archive: {line}" for line in (told or ran(f"{folder}/asking").stdout).splitlines())
 
 
 # What compares a file's declarations.
@@ -253,7 +232,6 @@ JUDGES = {CRATE: of_archives, HEADER: of_header, RAW: of_raw, PYTHON: of_python,
 
 
 def faults(texts, folder, archives):
-    """All that is told of declarations."""
     if texts[CRATE].count("no_mangle") != len(exported(texts[CRATE])):
         yield f"{CRATE}: not each exported function is read"
     for judge in dict.fromkeys(JUDGES.values()):

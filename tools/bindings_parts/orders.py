@@ -1,8 +1,6 @@
-"""The atomic accesses of the header and of the Rust package, each as it is written, with its order.
-
-No run tells each weaker order: on x86_64 an exchange without an order is the same instruction, and on aarch64 one that
-acquires and releases is. So the texts are compared with what stands here.
-"""
+"""The atomic accesses of the header and of the Rust package, each as it is written, with its order: on x86_64 an exchange
+without an order is the same instruction, and on aarch64 one that acquires and releases is, so no run tells each weaker
+one."""
 import re
 
 HEADER, TABLE = "bindings/c/ticket_word.h", "bindings/rust/ticket-word/src/table.rs"
@@ -59,7 +57,6 @@ def accesses(text, pattern):
 
 
 def faults(texts):
-    """What stands against the accesses of the header and of the package."""
     for path, pattern in ((HEADER, IN_C), (TABLE, IN_RUST)):
         found, wanted = accesses(texts[path], pattern), WANTED[path]
         if found != wanted:
@@ -68,14 +65,18 @@ def faults(texts):
 
 
 EXCHANGE = "__atomic_compare_exchange_n(&table->word, &seen->word, next.word, false, __ATOMIC_SEQ_CST, __ATOMIC_SEQ_CST)"
+LOAD, CLEAR = "__atomic_load_n(&table->word, __ATOMIC_SEQ_CST)", "mask.word, __ATOMIC_SEQ_CST)"
+RUST_EXCHANGE = ".compare_exchange(seen.word, next, SeqCst, SeqCst)"
 
 
 def exchange(success, failure, weak="false"):
     return f"__atomic_compare_exchange_n(&table->word, &seen->word, next.word, {weak}, __ATOMIC_{success}, __ATOMIC_{failure})"
 
 
-LOAD, CLEAR = "__atomic_load_n(&table->word, __ATOMIC_SEQ_CST)", "mask.word, __ATOMIC_SEQ_CST)"
-RUST_EXCHANGE = ".compare_exchange(seen.word, next, SeqCst, SeqCst)"
+def weaker(access, order):
+    """A load or a clear by another order."""
+    return access.replace("SEQ_CST", order)
+
 
 PLANTED = (
     (HEADER, EXCHANGE, exchange("ACQ_REL", "ACQUIRE")),
@@ -83,11 +84,11 @@ PLANTED = (
     (HEADER, EXCHANGE, exchange("RELEASE", "SEQ_CST")),
     (HEADER, EXCHANGE, exchange("SEQ_CST", "RELAXED")),
     (HEADER, EXCHANGE, exchange("SEQ_CST", "SEQ_CST", "true")),
-    (HEADER, LOAD, LOAD.replace("SEQ_CST", "ACQUIRE")),
-    (HEADER, LOAD, LOAD.replace("SEQ_CST", "RELAXED")),
+    (HEADER, LOAD, weaker(LOAD, "ACQUIRE")),
+    (HEADER, LOAD, weaker(LOAD, "RELAXED")),
     (HEADER, LOAD, "table->word"),
-    (HEADER, CLEAR, CLEAR.replace("SEQ_CST", "ACQ_REL")),
-    (HEADER, CLEAR, CLEAR.replace("SEQ_CST", "RELEASE")),
+    (HEADER, CLEAR, weaker(CLEAR, "ACQ_REL")),
+    (HEADER, CLEAR, weaker(CLEAR, "RELEASE")),
     (TABLE, RUST_EXCHANGE, RUST_EXCHANGE.replace("SeqCst, SeqCst", "AcqRel, Acquire")),
     (TABLE, RUST_EXCHANGE, RUST_EXCHANGE.replace("SeqCst, SeqCst", "Relaxed, Relaxed")),
     (TABLE, RUST_EXCHANGE, RUST_EXCHANGE.replace("exchange", "exchange_weak")),

@@ -1,9 +1,10 @@
 """Compiles C and links programs for aarch64: by the toolchain, with the C library of Debian's cross packages."""
 import os
-import subprocess
+import shutil
 import tempfile
 
 from parts import kit
+from parts.tool import ran, read_bytes
 
 TARGET = "aarch64-unknown-linux-gnu"
 LIBRARY, COMPILER = "/usr/aarch64-linux-gnu", "/usr/lib/gcc-cross/aarch64-linux-gnu/12"
@@ -29,22 +30,15 @@ class NotBuilt(Exception):
 
 
 def lacking():
-    """The packages that aren't installed here, with their versions."""
-    try:
-        ran = subprocess.run(["dpkg-query", "-W", "-f", "${Package} ${Version}\n", *PACKAGES], stdout=subprocess.PIPE,
-                             stderr=subprocess.DEVNULL, text=True)
-        here = ran.stdout.split("\n")
-    except OSError:
-        here = []
+    query = ["dpkg-query", "-W", "-f", "${Package} ${Version}\n", *PACKAGES]
+    here = ran(*query).stdout.split("\n") if shutil.which(query[0]) else []
     return [it for it in map(" ".join, PACKAGES.items()) if it not in here]
 
 
 def run(words, **how):
-    """Runs a command, which says nothing of use unless it fails."""
-    ran = subprocess.run(words, stdin=subprocess.DEVNULL, stdout=subprocess.PIPE, stderr=subprocess.STDOUT, text=True,
-                         errors="replace", check=False, **how)
-    if ran.returncode:
-        raise NotBuilt(ran.stdout)
+    came = ran(*words, **how)
+    if came.returncode:
+        raise NotBuilt(came.stdout)
 
 
 def clang():
@@ -52,7 +46,6 @@ def clang():
 
 
 def compiled(source, to, *words):
-    """Compiles a C file for aarch64."""
     words = [*words, "-nostdinc", *(f"-isystem{folder}/include" for folder in (COMPILER, LIBRARY))]
     run([clang(), f"--target={TARGET}", "-O2", "-fPIC", "-ffunction-sections", "-fno-builtin", *words, "-c", source, "-o", to])
 
@@ -69,11 +62,9 @@ def linked(files, to):
 
 
 def program_of(made, folder):
-    """The bytes of a program without its symbols, of what the toolchain compiled."""
     called, program = f"{folder}/called.o", f"{folder}/program"
     compiled(CALLED, called)
     linked([made, called], program)
     # (this machine's `strip` may not know the other machine)
     run(["llvm-strip", program], executable=clang())
-    with open(program, "rb") as file:
-        return file.read()
+    return read_bytes(program)

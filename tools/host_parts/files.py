@@ -20,7 +20,6 @@ def tells(path, why):
 
 
 def paths(folder):
-    """Paths with a name of so many bytes, and one of over 4,000 in all."""
     deep = folder
     while len(deep) < 3700:
         deep = f"{deep}/{'d' * 200}"
@@ -30,7 +29,6 @@ def paths(folder):
 
 
 def cases(folder, program):
-    """Words, what the file is, and whether what came is right."""
     os.chmod(folder, 0o755)
     for path in paths(folder):
         shutil.copy(program, f"{path}.tick")

@@ -6,20 +6,16 @@ import signal
 import subprocess
 import tempfile
 import time
+from collections import namedtuple
 
 # How long a run may take, and how many bytes a reader takes that leaves.
 PATIENCE, TAKEN = 60, 10
 
-
-class Came:
-    """What came of a run: its status, negative where a signal ended it, and what was read of both outputs."""
-
-    def __init__(self, status, out, told):
-        self.status, self.out, self.told = status, out, told
+# What came of a run: its status, negative where a signal ended it, and what was read of both outputs.
+Came = namedtuple("Came", "status out told")
 
 
 def unread():
-    """An output that nobody reads any more."""
     reads, writes = os.pipe()
     os.close(reads)
     return os.fdopen(writes, "wb")
@@ -65,7 +61,6 @@ def held(file, kind):
 
 
 def run_to_one_who_leaves(path, words):
-    """Its reader takes some bytes and leaves."""
     with subprocess.Popen([path, *words], stdout=subprocess.PIPE, stderr=subprocess.PIPE) as running:
         taken = os.read(running.stdout.fileno(), TAKEN)
         running.stdout.close()

@@ -54,7 +54,6 @@ REST = """    local -a left=($arguments) given=()
 
 
 def case(command):
-    """What a command takes."""
     names = [name for option in command.options for name in option.names]
     values = [
         f"[{name}]={shlex.quote(' '.join(option.values))}"
@@ -68,7 +67,6 @@ def case(command):
 
 
 def completion(program):
-    """The text of the completion."""
     own = " ".join(name for option in program.options for name in option.names)
     front = FRONT.format(
         name=program.name, commands=shlex.quote(" ".join(it.name for it in program.commands)),

@@ -1,17 +1,17 @@
-"""How editors colour a program: by the TextMate grammar, by Vim, and by a tokeniser that was written from the documents.
-
-Each tells a line as a text of its length, with a letter for each character: what it belongs to. A letter is large where
-a token begins. The keywords and signs are those that stand in quotes in the grammar of docs/LANGUAGE.md.
-"""
+"""How editors colour a program: by the TextMate grammar, by Vim, and by the grammar of docs/LANGUAGE.md. Each tells a
+line as a text of its length, with a letter for what each character belongs to, a large one where a token begins."""
 import json
 import os
 import re
 import shutil
-import subprocess
 import tempfile
+
+from install_parts.pages import grammar_of
+from parts.tool import TOP, ran, read, write
 
 TEXTMATE = "share/ticketc/tick.tmLanguage.json"
 VIM = "share/vim/vimfiles"
+SYNTAX = f"{VIM}/syntax/tick.vim"
 
 LETTERS = {"k": "a keyword", "n": "a name", "d": "a number", "s": "a sign", "c": "a comment", "p": "a directive",
            "x": "no token", " ": "a blank"}
@@ -24,48 +24,24 @@ GROUPS = {"tickSection": "k", "tickStatement": "k", "tickConditional": "k", "tic
           "tickDirective": "p", "tickError": "x", "": " "}
 
 
-class BadGrammar(Exception):
-    """The TextMate grammar has something that the reader here doesn't know."""
-
-
 def quoted_in(grammar):
-    """The keywords and the signs of a grammar."""
     quoted = set(re.findall(r'"([^"]+)"', grammar))
     keywords = {it for it in quoted if it[0].isalpha()}
     return keywords, quoted - keywords
 
 
-def token_at(line, at, keywords, signs):
-    """The letter and the end of the token at a place of a line."""
-    if line[at] in " \t\r":
-        return " ", at + 1
-    if line[at] == "#":
-        return ("p" if line.startswith("#!") and at == 0 else "c"), len(line)
-    end = at
-    while end < len(line) and line[end].isascii() and (line[end].isalnum() or line[end] == "_"):
-        end += 1
-        if line[at].isdigit() and not line[end : end + 1].isdigit():
-            return "d", end
-    if end > at:
-        return ("k" if line[at:end] in keywords else "n"), end
-    for length in (2, 1):
-        if line[at : at + length] in signs and len(line) >= at + length:
-            return "s", at + length
-    return "x", at + 1
-
-
 def by_documents(line, keywords, signs):
-    letters, at = "", 0
-    while at < len(line):
-        letter, end = token_at(line, at, keywords, signs)
-        letters += letter.upper() + letter * (end - at - 1)
-        at = end
+    signs = "|".join(map(re.escape, sorted(signs, key=len, reverse=True)))
+    kinds = rf"(?P<p>^#!.*)|(?P<c>#.*)|(?P<d>\d+)|(?P<n>\w+)|(?P<s>{signs})|(?P<_>[ \t\r])|(?P<x>.)"
+    form = re.compile(kinds, re.ASCII | re.DOTALL)
+    letters = ""
+    for token in form.finditer(line):
+        kind = "k" if token[0] in keywords else token.lastgroup.replace("_", " ")
+        letters += kind.upper() + kind * (len(token[0]) - 1)
     return letters
 
 
 class TextMate:
-    """A TextMate grammar of rules `match`, which may include others."""
-
     def __init__(self, text):
         self.grammar = json.loads(text)
         self.known(self.grammar, "name", "scopeName", "fileTypes", "patterns", "repository")
@@ -74,10 +50,9 @@ class TextMate:
     @staticmethod
     def known(rule, *keys):
         if set(rule) - set(keys):
-            raise BadGrammar(f"{TEXTMATE}: a key that isn't read here: {', '.join(sorted(set(rule) - set(keys)))}")
+            raise ValueError(f"{TEXTMATE}: a key that isn't read here: {', '.join(sorted(set(rule) - set(keys)))}")
 
     def flat(self, patterns):
-        """Each rule's letter and its pattern, in the order in which they are tried."""
         for rule in patterns:
             self.known(rule, "include", "patterns", "match", "name", "captures")
             if "include" in rule:
@@ -87,7 +62,7 @@ class TextMate:
             else:
                 letter = next((SCOPES[it] for it in SCOPES if rule["name"].startswith(it)), None)
                 if letter is None:
-                    raise BadGrammar(f"{TEXTMATE}: a name that isn't read here: {rule['name']}")
+                    raise ValueError(f"{TEXTMATE}: a name that isn't read here: {rule['name']}")
                 yield letter, re.compile(rule["match"])
 
     def letters(self, line):
@@ -119,29 +94,25 @@ quitall!
 
 
 def has_vim():
-    """Whether there is a Vim that colours."""
-    vim = shutil.which("vim")
-    return bool(vim) and b"+syntax" in subprocess.run([vim, "--version"], stdout=subprocess.PIPE).stdout
+    return bool(shutil.which("vim")) and "+syntax" in ran("vim", "--version").stdout
 
 
-def by_vim(folder, lines):
-    """The letters of these lines by Vim, in which no token has a large one."""
+def by_vim(syntax, lines):
+    """The letters of these lines by Vim with such a text of its syntax, in which no token has a large one."""
     with tempfile.TemporaryDirectory() as own:
-        for name, text in (("text.tick", "\n".join(lines) + "\n"), ("script.vim", SCRIPT)):
-            with open(f"{own}/{name}", "w", encoding="latin-1") as file:
-                file.write(text)
-        environment = {**os.environ, "FOLDER": folder, "TEXT": f"{own}/text.tick", "TOLD": f"{own}/told", "TERM": "dumb"}
-        subprocess.run(["vim", "-u", "NONE", "-i", "NONE", "-n", "-es", "-S", f"{own}/script.vim"], env=environment,
-                       stdin=subprocess.DEVNULL, stdout=subprocess.PIPE, stderr=subprocess.STDOUT, timeout=600)
-        with open(f"{own}/told", encoding="latin-1") as file:
-            told = file.read().split("\n")
+        shutil.copytree(f"{TOP}/{VIM}", f"{own}/vim")
+        write(f"{own}/vim/syntax/tick.vim", syntax)
+        write(f"{own}/text.tick", ("\n".join(lines) + "\n").encode("latin-1"))
+        write(f"{own}/script.vim", SCRIPT)
+        named = {"FOLDER": f"{own}/vim", "TEXT": f"{own}/text.tick", "TOLD": f"{own}/told", "TERM": "dumb"}
+        ran("vim", "-u", "NONE", "-i", "NONE", "-n", "-es", "-S", f"{own}/script.vim", env={**os.environ, **named}, timeout=600)
+        told = read(f"{own}/told", "latin-1").split("\n")
     if told[0] != "tick":
         return ["the file is not detected" for _ in lines]
     return ["".join(GROUPS.get(it, "?") for it in line.split(",")) if line else "" for line in told[1 : len(lines) + 1]]
 
 
 def samples(keywords, signs):
-    """Lines of each keyword and each sign, alone and beside others."""
     for word in sorted(keywords):
         yield f"{word} {word}x x{word} {word}_ {word}0 0{word} _{word} {word.upper()} ({word}) # {word}"
     for sign in sorted(signs):
@@ -151,7 +122,6 @@ def samples(keywords, signs):
 
 
 def wrong_colours(name, lines, wanted, found):
-    """What is told of the first line that is coloured otherwise."""
     for line, one, other in zip(lines, wanted, found):
         if one != other:
             at = next((at for at, (a, b) in enumerate(zip(one, other)) if a != b), min(len(one), len(other)))
@@ -162,16 +132,14 @@ def wrong_colours(name, lines, wanted, found):
     return []
 
 
-def differences(grammar, textmate, vim, lines):
-    """What is told of both files for editors, over these lines and the samples; `vim` is None where there is no Vim."""
-    keywords, signs = quoted_in(grammar)
+def differences(texts, lines=(), is_by_vim=False):
+    keywords, signs = quoted_in(grammar_of(texts))
     lines = [*lines, *samples(keywords, signs)]
     wanted = [by_documents(line, keywords, signs) for line in lines]
+    if is_by_vim:
+        return wrong_colours(VIM, lines, [it.lower() for it in wanted], by_vim(texts[SYNTAX], lines))
     try:
-        reader = TextMate(textmate)
-    except (BadGrammar, ValueError, KeyError) as fault:
+        reader = TextMate(texts[TEXTMATE])
+    except (ValueError, KeyError) as fault:
         return [str(fault)]
-    wrong = wrong_colours(TEXTMATE, lines, wanted, list(map(reader.letters, lines)))
-    if vim:
-        wrong += wrong_colours(VIM, lines, [it.lower() for it in wanted], by_vim(vim, lines))
-    return wrong
+    return wrong_colours(TEXTMATE, lines, wanted, list(map(reader.letters, lines)))

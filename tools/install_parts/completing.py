@@ -1,20 +1,37 @@
-"""Asks the completions of bash, and of zsh and fish where they are installed, and says what they have to answer.
-
-What has to come is reckoned of the help by itself: a row is the words of a command line, the last of which is to be
-completed, and what that may become. It is asked in a folder with the files FILES.
-"""
+"""Makes the completions for each shell; asks those of bash, and of zsh and fish where they are installed, in a folder
+with the files FILES. A row is the words of a command line, the last of which is to be completed, and what that may become
+by the help."""
 import os
 import shlex
-import subprocess
 import tempfile
 
-from install_parts.shells import PLACES
+from install_parts import bash, fish, help, zsh
+from parts.asking import NAMES, program_of_sources
+from parts.tool import TOP, ran, read, write
 
+# Where each completion stands, and what makes it.
+PLACES = {
+    "share/bash-completion/completions/{}": bash.completion,
+    "share/zsh/site-functions/_{}": zsh.completion,
+    "share/fish/vendor_completions.d/{}.fish": fish.completion,
+}
 FILES = ("there.tick", "two.tick")
 
 
+def programs():
+    return [help.program(name, program_of_sources(name)) for name in NAMES]
+
+
+def made(programs):
+    return {place.format(it.name): text(it) for it in programs for place, text in PLACES.items()}
+
+
+def stale(texts, made):
+    wrong = [path for path, text in made.items() if texts[path] != text]
+    return [f"{path}: not what is made of --help: run tools/completions" for path in wrong]
+
+
 def completed(name, word, commands):
-    """What a word may become that stands for something of this name."""
     if name in ("FILE", "PATH"):
         return [it for it in FILES if it.startswith(word)]
     if name == "SCHEDULE" and word.startswith("@"):
@@ -23,7 +40,6 @@ def completed(name, word, commands):
 
 
 def rows_of_command(program, command):
-    """Rows of each option and each argument of a command."""
     commands = [it.name for it in program.commands]
     names = [name for option in command.options for name in option.names]
     head = [program.name, command.name]
@@ -69,7 +85,6 @@ printf '\\036'
 
 
 def in_bash(path, name, asked):
-    """The command that asks bash."""
     def of_row(words):
         return BASH.format(words=shlex.join(words), last=len(words) - 1, word=shlex.quote(words[-1]), name=name)
 
@@ -77,7 +92,6 @@ def in_bash(path, name, asked):
 
 
 def in_fish(path, _name, asked):
-    """The command that asks fish."""
     lines = [FISH.format(line=shlex.quote(" ".join(words))) for words in asked]
     return ["fish", "--no-config", "-c", f"source {shlex.quote(path)}\n{''.join(lines)}"]
 
@@ -88,36 +102,32 @@ READ = {"bash": "-n", "zsh": "-n", "fish": "--no-execute"}
 
 
 def answers(command):
-    """The words that a shell answers to each row, in a folder with the files."""
     with tempfile.TemporaryDirectory() as own:
         for name in FILES:
-            with open(f"{own}/{name}", "wb"):
-                pass
-        ran = subprocess.run(command, cwd=own, stdin=subprocess.DEVNULL, stdout=subprocess.PIPE,
-                             stderr=subprocess.STDOUT, timeout=600, env={**os.environ, "HOME": own})
-    return [it.split() for it in ran.stdout.decode(errors="replace").split("\x1e")]
+            write(f"{own}/{name}", "")
+        came = ran(*command, cwd=own, timeout=600, env={**os.environ, "HOME": own})
+    return [it.split() for it in came.stdout.split("\x1e")]
 
 
 def place(shell, program):
-    """Where the completion of a program for a shell stands."""
     return next(it for it in PLACES if it.startswith(f"share/{shell}")).format(program.name)
 
 
-def wrong_in(shell, top, program):
-    """How many rows a shell is asked, and what is told of those that it answers otherwise. (fish doesn't count the words
-    before, so it may offer files too often.)
-    """
+def wrong_in(shell, program, text=None):
+    """How many rows a shell is asked, and what is told of those that it answers otherwise, perhaps by another text.
+    (fish doesn't count the words before, so it may offer files too often.)"""
     path, asked, wrong = place(shell, program), list(rows(program)), []
-    told = answers(ASKED[shell](f"{top}/{path}", program.name, [words for words, _ in asked]))
+    with tempfile.NamedTemporaryFile() as file:
+        file.write((text or read(path)).encode())
+        file.flush()
+        told = answers(ASKED[shell](file.name, program.name, [words for words, _ in asked]))
     for (words, wanted), found in zip(asked, [*told, *[[]] * len(asked)]):
         if sorted(set(found) & set(wanted) if shell == "fish" else found) != sorted(wanted):
             wrong.append(f"{path}: `{' '.join(words)}` becomes {found}, and has to become {wanted}")
     return len(asked), wrong
 
 
-def unread(shell, top, program):
-    """What a shell says against the form of its file."""
+def unread(shell, program):
     path = place(shell, program)
-    ran = subprocess.run([shell, READ[shell], f"{top}/{path}"], stdin=subprocess.DEVNULL, stdout=subprocess.PIPE,
-                         stderr=subprocess.STDOUT, text=True)
-    return [f"{path}: {ran.stdout.strip()}"] if ran.returncode or ran.stdout else []
+    came = ran(shell, READ[shell], f"{TOP}/{path}")
+    return [f"{path}: {came.stdout.strip()}"] if came.returncode or came.stdout else []

@@ -22,7 +22,6 @@ FIRST = "'test (count (commandline -opc)) -eq 1'"
 
 
 def within(command):
-    """The condition that the command line is one of this command."""
     return quoted(f"contains -- {command.name} (commandline -opc)[2]")
 
 
@@ -35,7 +34,6 @@ def option_words(option):
 
 
 def lines_of(program, command):
-    """What completes the words of a command."""
     head = f"complete -c {program.name} -n {within(command)}"
     for option in command.options:
         yield f"{head} {option_words(option)}"
@@ -49,7 +47,6 @@ def lines_of(program, command):
 
 
 def completion(program):
-    """The text of the completion."""
     head = f"complete -c {program.name} -n {FIRST}"
     lines = [f"{head} {option_words(option)}" for option in program.options]
     for command in program.commands:

@@ -6,7 +6,11 @@ import os
 import re
 import shutil
 import subprocess
+import sys
 import tempfile
+from collections import namedtuple
+
+from parts.tool import ran
 
 USAGE = re.compile(r"usage: (\S+) (.*)\n")
 COMMAND = re.compile(r"  (\S+)  +(\S.*)")
@@ -15,54 +19,24 @@ ARGUMENT = re.compile(r"  ([<\[])([^>\]]+)[>\]](\.\.\.)?(?:  +(\S.*))?")
 OPTION = re.compile(r"  (?:(-\w)(?:, )?|    )(--[\w-]+)?((?: \[?<[^>]+>\]?)*)(?:  +(\S.*))?")
 STATUS = re.compile(r"(?:: |; )(\d+) ")
 
-
 # (below the help of a command, and among those below the whole help)
 EXAMPLE = re.compile(r"^(?:Example: |  )(?=ticklab )(.*)$", re.MULTILINE)
 
-
-class BadHelp(Exception):
-    """A line of a help that is none of these."""
-
-
-class Argument:
-    """A word that a command takes, by the name that stands for it."""
-
-    def __init__(self, name, about="", is_optional=False, is_repeated=False):
-        self.name, self.about, self.is_optional, self.is_repeated = name, about, is_optional, is_repeated
-
-
-class Option:
-    """An option by its names, `--limit` or both `-h` and `--help`, with the names of its values."""
-
-    def __init__(self, names, values, about):
-        self.names, self.values, self.about = names, values, about
-
-
-class Command:
-    """A command with its arguments in their order and its options."""
-
-    def __init__(self, name, about="", arguments=(), options=()):
-        self.name, self.about, self.arguments, self.options = name, about, list(arguments), list(options)
-
-
-class Program:
-    """A program with its commands in the order of the help, its own options, and its statuses where the help has them."""
-
-    def __init__(self, name, commands, options, statuses):
-        self.name, self.commands, self.options, self.statuses = name, commands, options, statuses
-
-    def command(self, name):
-        return next((it for it in self.commands if it.name == name), None)
+# A word that a command takes, by the name that stands for it.
+Argument = namedtuple("Argument", "name about is_optional is_repeated", defaults=("", False, False))
+# An option by its names, `--limit` or both `-h` and `--help`, with the names of its values.
+Option = namedtuple("Option", "names values about")
+# A command with its arguments in their order and its options.
+Command = namedtuple("Command", "name about arguments options")
+# A program with its commands in the order of the help, its own options, and its statuses where the help has them.
+Program = namedtuple("Program", "name commands options statuses")
 
 
 def said(path, *words):
-    """What a program says on both outputs."""
-    ran = subprocess.run([path, *words], stdin=subprocess.DEVNULL, stdout=subprocess.PIPE, stderr=subprocess.STDOUT)
-    return ran.stdout.decode(errors="replace")
+    return ran(path, *words).stdout
 
 
 def sections(text):
-    """The lines below each heading of a help, as `Options:`."""
     found, lines = {}, []
     for line in text.split("\n"):
         if line.endswith(":") and not line.startswith(" "):
@@ -77,11 +51,10 @@ def sections(text):
 
 
 def matched(form, lines):
-    """What a form finds in each of these lines."""
     for line in lines:
         found = form.fullmatch(line)
         if not found:
-            raise BadHelp(f"a line of --help that tools/install_parts/help.py doesn't know: {line.strip()}")
+            sys.exit(f"a line of --help that tools/install_parts/help.py doesn't know: {line.strip()}")
         yield found
 
 
@@ -100,11 +73,10 @@ def arguments_of(found):
 
 
 def of_usage(name, line):
-    """The program whose help is one line."""
     commands = []
     for form in line.split(" | "):
         words = form.split()
-        commands.append(Command(words[0], "", map(Argument, words[1:])))
+        commands.append(Command(words[0], "", list(map(Argument, words[1:])), []))
     return Program(name, commands, [], [])
 
 
@@ -118,7 +90,6 @@ def of_sections(name, text, of_command):
 
 
 def program(name, path):
-    """What the program at this path says of itself."""
     text = said(path, "--help")
     usage = USAGE.fullmatch(text)
     if usage:
@@ -127,7 +98,6 @@ def program(name, path):
 
 
 def helps(path):
-    """The whole help of ticklab, and that of each command by its name."""
     whole = said(path, "--help")
     names = [it[1] for it in matched(COMMAND, sections(whole).get("Commands", [])) if it[1] != "help"]
     return whole, {name: said(path, name, "--help") for name in names}
@@ -156,9 +126,8 @@ def run_in(folder, path, line):
     """The status of a command of ticklab in a folder, and how many bytes it writes there or shows."""
     before = size_of(folder)
     environment = {**os.environ, "PATH": f"{os.path.dirname(path)}:{os.environ['PATH']}"}
-    ran = subprocess.run(["bash", "-c", line], cwd=folder, env=environment, stdin=subprocess.DEVNULL,
-                         stdout=subprocess.PIPE, stderr=subprocess.DEVNULL)
-    return ran.returncode, len(ran.stdout) + size_of(folder) - before
+    came = ran("bash", "-c", line, cwd=folder, env=environment, stderr=subprocess.DEVNULL)
+    return came.returncode, len(came.stdout) + size_of(folder) - before
 
 
 def size_of(folder):

@@ -5,7 +5,10 @@ Both are lists of short texts, so that what one lacks can be told: `SYNOPSIS: ex
 import os
 import re
 import shlex
-import subprocess
+from collections import namedtuple
+
+from parts import documents
+from parts.tool import ran
 
 ESCAPES = {"\\-": "-", "\\(aq": "'", "\\(ga": "`", "\\(ti": "~", "\\(ha": "^", "\\e": "\\", "\\&": ""}
 ESCAPE = re.compile("|".join(map(re.escape, ESCAPES)))
@@ -13,15 +16,11 @@ REFUSAL = re.compile(r"(\d+) ([A-Z][A-Za-z]+)")
 
 
 def plain(text):
-    """A text without its escapes."""
     return ESCAPE.sub(lambda it: ESCAPES[it[0]], text)
 
 
-class Line:
-    """A line of a page: its section, its subsection, its macro or "", and its words or its text."""
-
-    def __init__(self, section, part, macro, words, text):
-        self.section, self.part, self.macro, self.words, self.text = section, part, macro, words, text
+# A line of a page: its section, its subsection, its macro or "", and its words or its text.
+Line = namedtuple("Line", "section part macro words text")
 
 
 def words_of(text):
@@ -29,7 +28,6 @@ def words_of(text):
 
 
 def lines_of(text):
-    """The lines of a page."""
     section = part = ""
     for line in text.split("\n"):
         macro, _, rest = line[1:].partition(" ") if line.startswith(".") else ("", "", "")
@@ -52,12 +50,10 @@ def marked(words, mark):
 
 
 def options_in(words):
-    """An option's names and values, as they are typed."""
     return " ".join([*(f"-{it}" for it in marked(words, "Fl")), *marked(words, "Ar")])
 
 
 def synopsis(lines):
-    """What a synopsis says: each command with its arguments, and each of its options."""
     command, arguments = None, {}
     for line in lines:
         words = [line.macro, *line.words]
@@ -74,7 +70,6 @@ def synopsis(lines):
 
 
 def page_says(text):
-    """What a page says of commands, options and statuses."""
     lines = list(lines_of(text))
     said = set(synopsis(it for it in lines if it.section == "SYNOPSIS"))
     for line in lines:
@@ -113,14 +108,12 @@ def help_says(program):
 
 
 def names_of(program):
-    """The commands and options that a page may name anywhere."""
     options = [option for command in program.commands for option in command.options]
     names = {f"an option {name}" for option in options for name in option.names}
     return names | {f"a command {command.name}" for command in program.commands}
 
 
 def section(text, heading):
-    """What stands below a heading of a document."""
     return text.partition(f"\n## {heading}\n")[2].partition("\n## ")[0]
 
 
@@ -128,12 +121,9 @@ def first_cells(text):
     return [line.split("|")[1] for line in text.split("\n") if line.startswith("| ")]
 
 
-def documents_say(top):
-    """The statuses and refusals of ticketc, which has no help on them, by the documents."""
-    with open(f"{top}/docs/LANGUAGE.md", encoding="utf-8") as text:
-        statuses = first_cells(section(text.read(), "Statuses"))
-    with open(f"{top}/docs/FORMATS.md", encoding="utf-8") as text:
-        refusals = first_cells(section(text.read(), "Refusals"))
+def documents_say(texts):
+    statuses = first_cells(section(texts["docs/LANGUAGE.md"], "Statuses"))
+    refusals = first_cells(section(texts["docs/FORMATS.md"], "Refusals"))
     said = {f"EXIT STATUS: {it.strip()}" for it in statuses if it.strip().isdigit()}
     return said | {f"REFUSALS: {number} {name}" for cell in refusals for number, name in REFUSAL.findall(cell)}
 
@@ -144,44 +134,32 @@ GRAMMARS = {"docs/LANGUAGE.md": "Grammar", "docs/EXPLORING.md": "Grammar of the 
 WORDS = [f"crates/language_questions/specs/{name}.antt" for name in ("Lines", "Directives", "Words", "Signs")]
 
 
-def grammar_of(top, path="docs/LANGUAGE.md"):
-    """The grammar that a document has; of the language, or of the lines that ask."""
-    with open(f"{top}/{path}", encoding="utf-8") as text:
-        return section(text.read(), GRAMMARS[path]).split("```")[1]
+def grammar_of(texts, path="docs/LANGUAGE.md"):
+    return section(texts[path], GRAMMARS[path]).split("```")[1]
 
 
-def defined_words(top):
-    """The words and signs of the lines that ask, by their definitions."""
-    found = set()
-    for path in WORDS:
-        with open(f"{top}/{path}", encoding="utf-8") as text:
-            found |= set(re.findall(r'codes "([^"]+)"', text.read()))
-    return found
+def words_unlike(texts):
+    """What is told of the grammar of the lines that ask, where it has others than the defined words."""
+    defined = {word for path in WORDS for word in re.findall(r'codes "([^"]+)"', texts[path])}
+    found = set(re.findall(r'"([^"]+)"', grammar_of(texts, "docs/EXPLORING.md")))
+    return [f"docs/EXPLORING.md: grammar: {it} is there or in the definitions alone" for it in sorted(found ^ defined)]
 
 
 def blocks(text):
-    """The literal blocks of a page."""
     block = None
-    for line in text.split("\n"):
+    for number, line in enumerate(text.split("\n"), 1):
         if line.startswith(".Bd -literal"):
             block = []
         elif line == ".Ed" and block is not None:
             yield block
             block = None
         elif block is not None:
-            block.append(plain(line))
+            block.append((number, plain(line)))
 
 
-def lacking_grammars(text, top):
-    """The documents whose grammar no block of a page has, but for blanks."""
-    shown = [" ".join(block).split() for block in blocks(text)]
-    return [path for path in GRAMMARS if grammar_of(top, path).split() not in shown]
-
-
-def words_unlike(grammar, defined):
-    """What is told of a grammar of the lines that ask, where it has others than the defined words."""
-    return [f"docs/EXPLORING.md: grammar: {it} is there or in the definitions alone" for it in
-            sorted(set(re.findall(r'"([^"]+)"', grammar)) ^ defined)]
+def lacking_grammars(texts):
+    shown = [" ".join(line for _, line in block).split() for block in blocks(texts[path_of("tick")])]
+    return [path for path in GRAMMARS if grammar_of(texts, path).split() not in shown]
 
 
 def open_quotes(text):
@@ -194,49 +172,28 @@ def open_quotes(text):
 
 
 def path_of(name):
-    return f"share/man/man{5 if name == 'tick' else 1}/{name}.{5 if name == 'tick' else 1}"
+    number = 5 if name == "tick" else 1
+    return f"share/man/man{number}/{name}.{number}"
 
 
-def differences(top, texts, programs):
-    """What is told of pages, given by their names, that say more or less than help and documents do."""
+PAGES = tuple(map(path_of, ("ticketc", "ticklab", "tick")))
+
+
+def differences(texts, programs):
     wrong = []
     for program in programs:
         wanted, path = help_says(program), path_of(program.name)
-        wanted |= set() if program.statuses else documents_say(top)
-        said = page_says(texts[program.name])
+        wanted |= set() if program.statuses else documents_say(texts)
+        said = page_says(texts[path])
         wrong += [f"{path}: lacks {it}" for it in sorted(wanted - said)]
         wrong += [f"{path}: has {it}, which {program.name} has not" for it in sorted(said - wanted - names_of(program))]
-    wrong += [f"{path_of('tick')}: no grammar as in {it}" for it in lacking_grammars(texts["tick"], top)]
-    wrong += words_unlike(grammar_of(top, "docs/EXPLORING.md"), defined_words(top))
-    wrong += [f"{path_of(name)}: a quote closes too late: {it}" for name, text in texts.items() for it in open_quotes(text)]
-    return wrong
+    wrong += [f"{path_of('tick')}: no grammar as in {it}" for it in lacking_grammars(texts)]
+    wrong += words_unlike(texts)
+    return wrong + [f"{path}: a quote closes too late: {it}" for path in PAGES for it in open_quotes(texts[path])]
 
 
-def examples(text):
-    """The commands that a page shows, with the answers that it prints."""
-    found = []
-    for block in blocks(text):
-        session = []
-        for line in block:
-            if line.startswith("$ "):
-                session.append([line[2:], ""])
-            elif session:
-                session[-1][1] += f"{line}\n"
-        found += session
-    return found
-
-
-def run_examples(text, path, folder, programs):
-    """How many commands a page shows, and what is told of those that answer otherwise, over the installed files."""
-    shown, wrong = examples(text), []
-    environment = {**os.environ, "PATH": f"{programs}:{os.environ['PATH']}"}
-    for command, printed in shown:
-        ran = subprocess.run(["bash", "-c", command], cwd=folder, env=environment, stdin=subprocess.DEVNULL,
-                             stdout=subprocess.PIPE, stderr=subprocess.STDOUT, timeout=600)
-        answered = ran.stdout.decode(errors="replace")
-        if answered != printed:
-            wrong.append(f"{path}: {command}\nprinted:\n{printed}answered:\n{answered}")
-    return len(shown), wrong
+def wrong_examples(texts, path, prefix):
+    return documents.wrong_in(path, blocks(texts[path]), f"{prefix}/share/doc/ticketc/examples", PATH=f"{prefix}/bin:{os.environ['PATH']}")
 
 
 # What judges the form of a page.
@@ -247,8 +204,6 @@ JUDGES = {
 
 
 def bad_form(judge, path):
-    """What a judge tells of the form of a page."""
-    ran = subprocess.run(["sh", "-c", JUDGES[judge].format(shlex.quote(path))], stdin=subprocess.DEVNULL,
-                         stdout=subprocess.PIPE, stderr=subprocess.STDOUT, text=True)
-    told = ran.stdout.splitlines() or ([f"status {ran.returncode}"] if ran.returncode else [])
+    came = ran("sh", "-c", JUDGES[judge].format(shlex.quote(path)))
+    told = came.stdout.splitlines() or ([f"status {came.returncode}"] if came.returncode else [])
     return [f"{path}: {judge}: {line}" for line in told]

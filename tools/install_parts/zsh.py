@@ -30,7 +30,6 @@ def quoted(text):
 
 
 def escaped(text):
-    """A text within brackets, or between colons."""
     return "".join(f"\\{sign}" if sign in "[]:\\" else sign for sign in text)
 
 
@@ -54,13 +53,11 @@ def argument_specs(arguments):
 
 
 def arguments_line(indent, specs):
-    """A call that completes by these specifications."""
     lines = " \\\n".join(f"{indent}    {quoted(spec)}" for spec in specs)
     return f"{indent}_arguments -S \\\n{lines}\n"
 
 
 def first_word(options):
-    """What completes the word after the program's name."""
     describe = "_describe -t commands command commands\n"
     if not options:
         return f"    {describe}"
@@ -76,7 +73,6 @@ def case(command):
 
 
 def completion(program):
-    """The text of the completion."""
     rows = [f"{it.name}:{it.about}" if it.about else it.name for it in program.commands]
     return FRONT.format(
         name=program.name, commands="\n".join(f"    {quoted(row)}" for row in rows),

@@ -1,5 +1,4 @@
 """A browser without a window, asked over a pipe (the protocol of Chromium's developer tools)."""
-import base64
 import json
 import os
 import shutil
@@ -12,16 +11,7 @@ PATIENCE = 60
 
 
 def found():
-    """The path of a browser that is here, or None."""
     return next(filter(None, map(shutil.which, NAMES)), None)
-
-
-class Gone(Exception):
-    """The browser ended, or does not answer."""
-
-
-class Failed(Exception):
-    """What was evaluated threw an error."""
 
 
 class Browser:
@@ -31,7 +21,7 @@ class Browser:
         self.folder = tempfile.TemporaryDirectory(ignore_cleanup_errors=True)
         words = [path, "--headless=new", "--disable-gpu", "--hide-scrollbars", "--no-first-run", "--remote-debugging-pipe"]
         words += ["--no-sandbox"] if os.geteuid() == 0 else []
-        words += [f"--user-data-dir={self.folder.name}", "about:blank"]
+        words += ["--window-size=1300,1000", f"--user-data-dir={self.folder.name}", "about:blank"]
         # (it reads from 3 and writes to 4)
         self.running = subprocess.Popen(
             ["sh", "-c", f'exec "$@" 3<&{asks} 4>&{answering}', "sh", *words],
@@ -48,14 +38,14 @@ class Browser:
         while (answer := self.next()).get("id") != self.number:
             self.events.append(answer.get("method"))
         if "error" in answer:
-            raise Failed(answer["error"]["message"])
+            raise RuntimeError(answer["error"]["message"])
         return answer["result"]
 
     def next(self):
         while b"\0" not in self.told:
             more = os.read(self.answers, 1 << 20)
             if not more:
-                raise Gone
+                raise EOFError("the browser ended, or does not answer")
             self.told += more
         one, self.told = self.told.split(b"\0", 1)
         return json.loads(one)
@@ -71,7 +61,7 @@ class Browser:
     def close(self):
         try:
             self.call("Browser.close")
-        except (Gone, BrokenPipeError):
+        except (EOFError, BrokenPipeError):
             pass
         self.running.wait(PATIENCE)
         os.close(self.asking)
@@ -80,8 +70,6 @@ class Browser:
 
 
 class Page:
-    """One page, which opens one file after the other."""
-
     def __init__(self, browser, session):
         self.browser, self.session = browser, session
         self.call("Page.enable")
@@ -91,7 +79,6 @@ class Page:
         return self.browser.call(method, self.session, **given)
 
     def open(self, url):
-        """Opens it, with all that stands before its first picture."""
         self.browser.events.clear()
         self.call("Page.navigate", url=url)
         self.browser.wait_for("Page.loadEventFired")
@@ -103,22 +90,11 @@ class Page:
         return next(it["value"] for it in metrics if it["name"] == "TaskDuration")
 
     def ask(self, expression):
-        """The value of an expression of the page."""
         answer = self.call("Runtime.evaluate", expression=expression, awaitPromise=True, returnByValue=True)
         if "exceptionDetails" in answer:
-            raise Failed(answer["exceptionDetails"]["exception"].get("description", "an error"))
+            raise RuntimeError(answer["exceptionDetails"]["exception"].get("description", "an error"))
         return answer["result"].get("value")
 
     def press(self, key):
         for kind in ("keyDown", "keyUp"):
             self.call("Input.dispatchKeyEvent", type=kind, key=key, code=key)
-
-    def look(self, width, height, is_dark):
-        """How large the page is seen, and in which colours."""
-        self.call("Emulation.setDeviceMetricsOverride", width=width, height=height, deviceScaleFactor=1, mobile=False)
-        scheme = {"name": "prefers-color-scheme", "value": "dark" if is_dark else "light"}
-        self.call("Emulation.setEmulatedMedia", features=[scheme])
-
-    def picture(self):
-        """As PNG."""
-        return base64.b64decode(self.call("Page.captureScreenshot", format="png")["data"])

@@ -14,8 +14,6 @@ def names(text, word):
 
 
 class Run:
-    """Of a program's text and the lines of a trace."""
-
     def __init__(self, text, trace, is_code):
         self.is_code, self.rows = is_code, names(text, "reg")
         self.variables = [] if is_code else names(text, "var")
@@ -30,7 +28,6 @@ class Run:
                 self.broken = len(self.lines)
 
     def opened(self):
-        """The step where the page has to open."""
         return min([it for it in (self.broken, self.trapped) if it is not None], default=0)
 
     def said(self, step):

@@ -1,9 +1,13 @@
 """Runs the programs, one after the other, over files in memory; many at once by several of these."""
 import os
 import platform
+import shlex
 import signal
+import subprocess
+import sys
 
-TOP = os.path.dirname(os.path.dirname(os.path.dirname(os.path.abspath(__file__))))
+from parts.tool import TOP, ran
+
 NAMES = ("ticketc", "ticklab")
 READY = f"{TOP}/dist/{platform.machine()}-linux"
 
@@ -28,6 +32,34 @@ def used(process):
     except OSError:
         return 0
     return (int(fields[11]) + int(fields[12])) / os.sysconf("SC_CLK_TCK")
+
+
+def shell(script, *words):
+    line = f'top={shlex.quote(TOP)}; . "$top/tools/program.sh"; {script}'
+    return ran("sh", "-c", line, "sh", *words, stderr=subprocess.PIPE)
+
+
+def program_of_sources(name):
+    """The path of the program in dist/ where that is of the sources that stand here, else of the one that was built."""
+    found = shell('is_ready "$1" && program=$ready/$1 || find_program "$1" && echo "$program"', name)
+    if found.returncode:
+        neither = f"{name}: neither was it built here, nor is the one in dist/ of these sources"
+        sys.exit(found.stderr.strip() or neither)
+    return found.stdout.strip()
+
+
+def asking(name, *words):
+    """What asks a program, with these words in front, and answers the status and both outputs."""
+    asker, path = Asker(), program(name)
+
+    def ask(more, given):
+        try:
+            status, output, told = asker.answer(path, (name, *words, *more), given)
+        except TookTooLong:
+            return "none in its time", b""
+        return status, output + told
+
+    return ask
 
 
 class Asker:

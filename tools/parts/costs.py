@@ -1,17 +1,8 @@
-"""Finds what may take memory or time out of nothing. Contracts leave both aside, so a body that does so meets every clause.
-
-- What grows in a loop or a closure was given to the function, stands in what it answers, or is made in the same turn.
-  Nothing that stands before the loop is copied in it.
-- Nothing grows to just a size: `reserve` and `push` at least double the room, `reserve_exact` copies all each time.
-- How often a loop runs follows from an argument: its head has no product, and no number above MOST is in it. A `for` may
-  also run over such a number. Other loops stand in TURNS.
-- A function that calls itself, or leads back to itself, stands in RECURSIONS with what bounds the depth.
-
-It reads one function after the other: what a function costs that a loop calls isn't seen.
-"""
+"""Finds what may take memory or time out of nothing, by the rules of docs/TESTING.md (Costs). It reads one function after the
+other: what a function costs that a loop calls isn't seen."""
 import re
 
-from parts.tokens import closing, functions, parts
+from parts.tokens import functions, parts
 
 GROWS = {"push", "push_str", "push_reserved", "extend", "extend_from_slice", "append", "insert", "resize", "reserve"}
 COPIES = {"clone", "try_clone", "from_slice", "from_str", "to_vec", "to_string", "to_owned", "into_owned", "concat"}
@@ -90,7 +81,6 @@ NO_NUMBER = {"alloc", "rt"}
 
 
 def named(words):
-    """The names of values among some words, each with what stands before it and behind."""
     for at, word in enumerate(words):
         before, behind = words[at - 1] if at else "", words[at + 1] if at + 1 < len(words) else ""
         if word.isidentifier() and not word[0].isupper() and word not in KEYWORDS | TYPES | NO_NUMBER:
@@ -103,7 +93,6 @@ def names(words):
 
 
 def number(word):
-    """What a number's text says; a greatest number is too large."""
     digits = re.fullmatch(r"(?:0x([\da-fA-F_]+)|(\d[\d_]*))(?:[iu](?:\d+|size))?", word)
     if word == "MAX" or not digits:
         return MOST + 1 if word == "MAX" else None
@@ -137,7 +126,6 @@ class Body:
         return at
 
     def sides(self, at):
-        """What stands before and behind the `=` at this place."""
         begin = at
         while self.words[begin - 1] not in (";", "{", "}", "=>", ","):
             begin -= 1
@@ -187,7 +175,6 @@ class Body:
         return {self.words[at]}
 
     def bound(self, at, opens, closes):
-        """The names that a turn of this loop binds."""
         lets = [self.words[place : self.words.index("=", place)] for place in range(at, closes) if self.words[place] == "let"]
         heads = {"for": parts(self.words[at + 1 : opens], ("in",))[0], "|": self.words[at:opens]}
         return names(sum(lets, heads.get(self.words[at], [])))
@@ -269,7 +256,6 @@ def recursive(bodies, own, others):
 
 
 def costs_in(tokens, path, constants):
-    """The lines of a source that may cost much out of nothing."""
     bodies = [Body(it, constants) for it in functions(tokens) if it.words]
     lines = [line for word, line in tokens if word in NEVER]
     for body in bodies:

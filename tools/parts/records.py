@@ -1,9 +1,4 @@
-"""The records of wrong bodies that were seen refused: a file crates/NAME/edits/REFUSED for each crate.
-
-A line has the sum of all that decides the verdict, the edit, and how it was refused: the file and the goal that was open.
-A record holds while its sum is that of what stands here. It is written by this tool alone; the gate tries one in ten of
-those that hold.
-"""
+"""The records of wrong bodies that were seen refused, crates/NAME/edits/REFUSED (docs/MAINTAINING.md)."""
 import os
 import re
 
@@ -17,8 +12,6 @@ DECIDES = os.path.join(os.path.dirname(os.path.abspath(__file__)), "trying.py")
 
 
 class Records:
-    """The records of all crates, and the sums of what stands here."""
-
     def __init__(self, top, crates):
         self.top, self.sums = top, Sums(top, crates, kit.version())
         self.tool = sum_of(*[sum_of_file(path) for path in files_of_tool(DECIDES)])
@@ -28,7 +21,6 @@ class Records:
         return f"{self.top}/crates/{name}/edits/REFUSED"
 
     def read(self, name):
-        """The records of a crate by their edits, and the lines that are none."""
         if name not in self.known:
             lines = []
             if os.path.exists(self.path(name)):
@@ -48,7 +40,6 @@ class Records:
         return self.read(name)[0].get(edit.name, ("", ""))[0] == self.sum(name, edit)
 
     def faults(self, tried):
-        """Lines that are no record, and records of what isn't there."""
         records, strange = self.read(tried.name)
         lost = sorted(set(records) - {edit.name for edit in tried.edits})
         return [f"no record: {line[:80]}" for line in strange] + [f"there is no {it}" for it in lost]
@@ -69,7 +60,6 @@ class Records:
 
 
 def how_refused(told):
-    """The file and the goal of what a check says of an open goal."""
     place, goals = PLACE.search(told), QUOTED.findall(told)
     goal = next((it for it in goals if it not in ("search", "omega", "grind")), "a goal is open")
     limit = " (by a limit of the search)" if "at one of its limits" in told else ""

@@ -1,8 +1,5 @@
-"""A room: a copy of some crates and of all below them, which `rt ci` proves there.
-
-Where the toolchain keeps what it proved on the machine, that serves here too. Where they stand built in the repository
-itself, as after its own `rt ci`, that is the room.
-"""
+"""A room: a copy of some crates and of all below them, which `rt ci` proves there, unless they stand built in the
+repository itself. What the toolchain keeps on the machine serves here too."""
 import contextlib
 import os
 import shutil
@@ -19,7 +16,6 @@ class NotProved(Exception):
 
 
 def laid(top, names, crates, room):
-    """Copies crates and those below them to a folder, with what else `rt ci` wants; answers their names."""
     kin = below_all(names, crates)
     os.makedirs(f"{room}/.git")
     with open(f"{room}/crates.txt", "w", encoding="utf-8") as text:
@@ -61,11 +57,9 @@ def built(top, names, crates):
 
 @contextlib.contextmanager
 def proved(top, names, crates, tell=None, first=()):
-    """A room with these crates and those below them proved and built; `tell` is told of each that is done.
-
-    Of those that are proved `first` each has one processor, which takes less of their time; then idle ones go to a
-    proof that starts.
-    """
+    """A room with these crates and those below them proved and built; `tell` is told of each that is done. Of those
+    that are proved `first` each has one processor, which takes less of their time; then idle ones go to a proof that
+    starts."""
     # (`rt` sweeps away folders of this name that a killed run left)
     with tempfile.TemporaryDirectory(prefix=f"rt-copy-{os.getpid()}-") as room:
         laid(top, names, crates, room)
@@ -76,7 +70,6 @@ def proved(top, names, crates, tell=None, first=()):
 
 
 def prove(room, tell, words, environment):
-    """Runs `rt ci` in a room."""
     command = subprocess.Popen(
         words, cwd=room, env=environment, stdin=subprocess.DEVNULL, stdout=subprocess.PIPE, stderr=subprocess.STDOUT,
         text=True, errors="replace",

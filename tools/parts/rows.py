@@ -1,33 +1,8 @@
-"""Rows of answers/: what a program is asked, and what it answers.
-
-A row is told by lines, each with a sign in front:
-
-    # TEXT      says to a reader what is asked
-    $ WORDS     a command line, cut into words as by a shell; several have the same input and the same answer
-    < TEXT      a line of the input, which has line feeds between its lines, and none at its end
-    > TEXT      a line of the output, with its line feed
-    ! TEXT      a line of what is told on standard error, with its line feed
-    = STATUS    the status; 0 where there is no such line
-    or          what follows it is another output that may come as well
-    / PATTERN   of the output only what this finds is compared: each of its groups, a line each
-
-An empty line ends it. All but the first two kinds of line may be missing: nothing is read, nothing is written.
-A block whose first line is `text NAME` is no row: its lines `| TEXT` are a text, with line feeds between them, which
-stands for \\<NAME> in what follows, until another text has that name.
-
-In each text, and in each word:
-
-    \\n \\t \\r \\\\ \\" \\xHH        one byte
-    \\ at the end of a line      no line feed there
-    \\9"TEXT"                   the text 9 times
-    \\9[FIRST,STEP]"TEXT"       the same, with a number for each @ in it: FIRST, and STEP more each time
-    \\<NAME>                    a named text, or a file where the name has a `/`, by its path from the top
-    \\... first in an output     the output ends with what follows; the same of what is told
-    \\... last in an output      the output begins with what comes before; with both it has what stands between
-"""
+"""Rows of answers/: what a program is asked, and what it answers (answers/README.md)."""
 import os
 import re
 import shlex
+from collections import namedtuple
 
 ESCAPE = re.compile(
     r"\\(?:(?P<byte>[ntr\\\"])|x(?P<hex>[0-9a-f]{2})|<(?P<name>[^>]+)>"
@@ -35,6 +10,8 @@ ESCAPE = re.compile(
 )
 BYTES = {"n": b"\n", "t": b"\t", "r": b"\r", "\\": b"\\", '"': b'"'}
 ANY = "\\..."
+# A command line with its input and what is to come of it, and where that stands.
+Row = namedtuple("Row", "where words given outputs told status pattern")
 
 
 class BadRow(Exception):
@@ -42,8 +19,6 @@ class BadRow(Exception):
 
 
 class Output:
-    """What is written, or how that begins or ends."""
-
     def __init__(self, text, is_end=False, is_beginning=False):
         self.text, self.is_end, self.is_beginning = text, is_end, is_beginning
 
@@ -55,29 +30,11 @@ class Output:
         return found.startswith(self.text) if self.is_beginning else found == self.text
 
 
-class Row:
-    """A command line with its input and what is to come of it, and where that stands."""
-
-    def __init__(self, where, words, given, outputs, told, status, pattern):
-        self.where, self.words, self.given = where, words, given
-        self.outputs, self.told, self.status, self.pattern = outputs, told, status, pattern
-
-    def compared(self, output):
-        """What of an output is compared."""
-        if self.pattern is None:
-            return output
-        groups = [group for match in self.pattern.finditer(output) for group in match.groups()]
-        return b"".join(group + b"\n" for group in groups if group is not None)
-
-
 class File:
-    """Reads a file of rows."""
-
     def __init__(self, top, path):
         self.top, self.path, self.texts = top, path, {}
 
     def rows(self, text):
-        """The rows of its text, in order."""
         found, block = [], []
         for number, line in enumerate([*text.split("\n"), ""], 1):
             if line.strip():
@@ -140,7 +97,6 @@ class File:
         return text
 
     def expanded(self, number, text):
-        """The bytes that a text with escapes is."""
         found, at = b"", 0
         for escape in ESCAPE.finditer(text):
             found += text[at : escape.start()].encode() + self.meant(number, escape)

@@ -56,7 +56,6 @@ class Sums:
         return [f"{name}/{path} {sum_of_file(f'{self.top}/crates/{name}/{path}')}" for path in paths]
 
     def named(self, name, lower):
-        """The pages of lemmas of a crate below that a crate names."""
         folder, page = f"{self.top}/crates/{name}", re.compile(rf"\b{lower}(?:\.|::)proofs(?:\.|::)(\w+)")
         found = set()
         for path in files_of(folder):

@@ -5,9 +5,7 @@ A token stands with its line. Comments, clauses and texts are left out.
 import re
 
 TEXT = r"b?\"(?:\\.|[^\"\\])*\"|'(?:\\.|[^'\\])'"
-TOKEN = re.compile(
-    rf"//[^\n]*|{TEXT}|[A-Za-z_]\w*|\d\w*(?:\.\d\w*)?|=>|->|::|\.\.=?|\S", re.S
-)
+TOKEN = re.compile(rf"//[^\n]*|{TEXT}|[A-Za-z_]\w*|\d\w*(?:\.\d\w*)?|=>|->|::|\.\.=?|\S", re.S)
 CLAUSE = re.compile(r"^[ \t]*(requires|ensures|ghost|measure)\b")
 
 
@@ -49,7 +47,6 @@ def closing(tokens, at):
 
 
 def to_brace(tokens, at):
-    """The place of the next brace or semicolon."""
     while at < len(tokens) and tokens[at][0] not in "{;":
         at += 1
     return at
@@ -118,5 +115,4 @@ class Function:
 
 
 def functions(tokens):
-    """The functions of a source."""
     return [Function(tokens, at) for at, (word, _) in enumerate(tokens[:-1]) if word == "fn" and tokens[at + 1][0].isidentifier()]

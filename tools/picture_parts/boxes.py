@@ -1,7 +1,7 @@
 """Reads a picture of a run: the boxes of its texts and signs, and the lines that go through lanes."""
 import re
 import xml.etree.ElementTree as trees
-from typing import NamedTuple
+from collections import namedtuple
 
 # How wide a letter is at most, and how far it reaches above and below its line, in parts of 11 of the height of letters.
 WIDE, HIGH, DEEP = 7, 9, 3
@@ -10,29 +10,15 @@ LARGE, AT_LEFT = {"title", "name"}, {"title", "name", "left"}
 # The elements that make up a sign.
 SIGNS = {"rect", "circle", "path"}
 
-
-class Box(NamedTuple):
-    """What it is of, the mark that it belongs to or none, and its sides."""
-
-    what: str
-    mark: str
-    left: float
-    top: float
-    right: float
-    foot: float
-
-    def meets(self, other):
-        """Whether both share more than a side."""
-        return self.left < other.right and other.left < self.right and self.top < other.foot and other.top < self.foot
+# What it is of, the mark that it belongs to or none, and its sides.
+Box = namedtuple("Box", "what mark left top right foot")
+# The page, and what stands on it; a line is the boxes of its parts, which have no area.
+Picture = namedtuple("Picture", "page texts signs lines")
 
 
-class Picture(NamedTuple):
-    """The page, and what stands on it; a line is the boxes of its parts, which have no area."""
-
-    page: Box
-    texts: list
-    signs: list
-    lines: list
+def meet(one, other):
+    """Whether both share more than a side."""
+    return one.left < other.right and other.left < one.right and one.top < other.foot and other.top < one.foot
 
 
 def named(element):
@@ -44,7 +30,6 @@ def number(element, name):
 
 
 def place(group):
-    """How far a group is moved."""
     moved = re.fullmatch(r"translate\((\d+) (\d+)\)", group.get("transform", ""))
     return tuple(map(float, moved.groups())) if moved else (0.0, 0.0)
 
@@ -132,12 +117,12 @@ def faults(svg):
         for other in texts[at + 1 :]:
             if text.foot <= other.top:
                 break
-            if text.meets(other):
+            if meet(text, other):
                 found.append(f"{text.what} stands over {other.what}")
         found += [
             f"{text.what} stands over {sign.what}"
             for sign in picture.signs
-            if text.meets(sign) and not (text.mark and text.mark == sign.mark)
+            if meet(text, sign) and not (text.mark and text.mark == sign.mark)
         ]
         found += [f"{part.what} goes through {text.what}" for parts in picture.lines for part in parts if crosses(part, text)]
     return found
@@ -151,4 +136,4 @@ def is_within(box, page):
 def crosses(part, text):
     """Whether part of a line goes through a text. That of a stamp stands on the line of its order."""
     is_own = part.what == "a line" and text.mark and part.left == part.right == (text.left + text.right) / 2
-    return part.meets(text) and not is_own
+    return meet(part, text) and not is_own

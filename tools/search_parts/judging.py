@@ -1,38 +1,23 @@
 """Whether ticklab answers what the second search finds."""
-from typing import NamedTuple
+from collections import namedtuple
 
 from . import steps, told, tree
 from .ending import Graph
-from .replay import replayed
-from .searching import search
+from .searching import replayed, search
 
-
-class Kind(NamedTuple):
-    """By which steps is searched, which words ask for that, and how an answer with a schedule begins."""
-
-    step: str
-    words: tuple
-    head: str
-
-    @property
-    def is_merged(self):
-        return self.step == "merged"
-
-
+# By which steps is searched, which words ask for that, how an answer with a schedule begins, and whether steps are merged.
+Kind = namedtuple("Kind", "step words head is_merged")
 # Of how many states it is asked whether processes can still end.
 MOST_STATES_OF_ENDS = 20000
 
-KINDS = (Kind("single", ("--single",), told.SHORTEST), Kind("merged", ("--merged",), told.TRAPS))
+KINDS = (Kind("single", ("--single",), told.SHORTEST, False), Kind("merged", ("--merged",), told.TRAPS, True))
 
 
 class Judge:
-    """Searches programs, and asks ticklab the same; `ask` gives the status and the output, of words and a text."""
-
     def __init__(self, ask):
         self.ask = ask
 
     def judged(self, text, limits):
-        """What is found by single steps and by merged ones, and what is answered otherwise."""
         program, found, wrong = tree.read(text), [], []
         for kind, limit in zip(KINDS, limits):
             step, asked = getattr(steps, kind.step), Asked(self.ask, text, kind, limit)
@@ -59,11 +44,9 @@ class Judge:
         return [f"merged steps first, limit {limit}: found {shown(status, output)}"]
 
     def ends(self, program, text, single, merged):
-        """What is answered otherwise of whether all processes can still end, and the first, and the last.
-
-        By merged steps, between which there are so many states, only that is asked; also where by single steps there are
-        more states than the limit.
-        """
+        """What is answered otherwise of whether all processes can still end, the first, and the last. By merged steps,
+        with so many states between them, only that is asked; also where single steps have more states than the
+        limit."""
         graph, every = Graph(program), range(program.processes)
         wrong = []
         for who, asked, words in (
@@ -137,8 +120,6 @@ def is_loop(graph, asked, found):
 
 
 class Asked:
-    """Asks what ticklab finds in a text, and compares."""
-
     def __init__(self, ask, text, kind, limit):
         self.ask, self.text, self.kind, self.limit = ask, text, kind, limit
 
@@ -156,7 +137,6 @@ class Asked:
         return told.more(limit, self.kind.is_merged)
 
     def first_wrong(self, *wanted):
-        """The first of some answers that is another, with their limits."""
         for limit, answer in wanted:
             found = self.answer(limit)
             if found != answer:
@@ -164,7 +144,6 @@ class Asked:
         return []
 
     def trap(self, found, shortest, replay):
-        """What is wrong where a process traps."""
         status, output = self.answer(self.limit)
         # (there may come to be too many states where the trap is)
         if found.states > self.limit and (status, output) == self.more(self.limit):
@@ -180,5 +159,4 @@ class Asked:
 
 
 def shown(status, output):
-    """The status and the first two lines."""
     return " / ".join([str(status), *output.splitlines()[:2]])

@@ -22,7 +22,6 @@ def read(path):
 
 
 def known():
-    """Each program of examples/, and each that a row explores, once."""
     rows = [row for row in File(TOP, ROWS).rows(read(ROWS).decode()) if row.words[:2] == [b"ticklab", b"explore"]]
     names, asked = {}, {}
     for path in sorted(glob.glob(f"{TOP}/examples/*.tick")):
@@ -38,7 +37,6 @@ def known():
 
 
 def greatest(words):
-    """How many states a row lets be."""
     return int(words[words.index(b"--limit") + 1])
 
 
@@ -51,8 +49,8 @@ def small():
     return numbered("small program", small_programs.TEXTS)
 
 
-def random(how_many=random_programs.HOW_MANY):
-    return numbered("random program", random_programs.texts(how_many))
+def random():
+    return numbered("random program", random_programs.texts())
 
 
 def numbered(name, texts):

@@ -1,9 +1,50 @@
-"""What each statement does to the own part of its process and to the shared part (docs/LANGUAGE.md).
-
-Each function takes both parts, the numbers of the names and the values of the expressions, as they stand in the text.
-"""
+"""The value of an expression, or the trap that it meets first; and what each statement does to the own part of its process
+and to the shared part (docs/LANGUAGE.md)."""
 from .states import replaced
-from .values import Trap, values_of
+
+GREATEST = 4294967295
+
+
+class Trap(Exception):
+    """What stops a process, by its name."""
+
+
+def unless(is_fault, trap, value):
+    """The value that this gives, or the trap."""
+    if is_fault:
+        raise Trap(trap)
+    return value()
+
+
+OPERATORS = {
+    "+": lambda left, right: unless(left + right > GREATEST, "Overflow", lambda: left + right),
+    "-": lambda left, right: unless(right > left, "Below", lambda: left - right),
+    "*": lambda left, right: unless(left * right > GREATEST, "Overflow", lambda: left * right),
+    "/": lambda left, right: unless(right == 0, "Zero", lambda: left // right),
+    "%": lambda left, right: unless(right == 0, "Zero", lambda: left % right),
+    "<": lambda left, right: int(left < right),
+    "<=": lambda left, right: int(left <= right),
+    "==": lambda left, right: int(left == right),
+    "!=": lambda left, right: int(left != right),
+}
+
+LEAVES = {
+    "number": lambda own, processes, number: number,
+    "variable": lambda own, processes, number: own.variables[number],
+    "me": lambda own, processes: own.me,
+    "n": lambda own, processes: processes,
+}
+
+
+def values_of(expressions, own, processes):
+    return [value_of(expression, own, processes) for expression in expressions]
+
+
+def value_of(expression, own, processes):
+    kind, *parts = expression
+    if kind in LEAVES:
+        return LEAVES[kind](own, processes, *parts)
+    return OPERATORS[kind](*values_of(parts, own, processes))
 
 
 def with_value(own, shared, variable, value):
@@ -14,77 +55,43 @@ def with_scan(own, shared, scan, tickets):
     return own._replace(scans=replaced(own.scans, scan, tickets)), shared
 
 
+def with_row(own, shared, row, written):
+    return own, shared._replace(rows=replaced(shared.rows, row, written))
+
+
 def with_ticket(own, shared, ticket):
     return own, shared._replace(tickets=replaced(shared.tickets, own.me, ticket))
 
 
 def at(values, process):
-    """What a process has of these."""
     if process >= len(values):
         raise Trap("Index")
     return values[process]
 
 
-def get(own, shared, variable, row, process):
-    return with_value(own, shared, variable, at(shared.rows[row], process))
-
-
-def put(own, shared, row, value):
-    written = replaced(shared.rows[row], own.me, value)
-    return own, shared._replace(rows=replaced(shared.rows, row, written))
-
-
-def stamp(own, shared):
-    return with_ticket(own, shared, max(shared.tickets) + 1)
-
-
-def clear(own, shared):
-    return with_ticket(own, shared, 0)
-
-
-def scan(own, shared, into):
-    return with_scan(own, shared, into, shared.tickets)
-
-
-def copy(own, shared, into, taken):
-    return with_scan(own, shared, into, own.scans[taken])
-
-
-def older(own, shared, variable, taken, first, second):
-    tickets = own.scans[taken]
-    return with_value(own, shared, variable, int(at(tickets, first) < at(tickets, second)))
-
-
-def held(own, shared, variable, taken, process):
-    return with_value(own, shared, variable, int(at(own.scans[taken], process) != 0))
-
-
-def out(own, shared, _value):
-    return own, shared
-
-
+# Each takes both parts, the numbers of the names and the values of the expressions, as they stand in the text.
 DOES = {
     "=": with_value,
-    "get": get,
-    "put": put,
-    "stamp": stamp,
-    "clear": clear,
-    "scan": scan,
-    "copy": copy,
-    "older": older,
-    "held": held,
-    "out": out,
+    "get": lambda own, shared, variable, row, process: with_value(own, shared, variable, at(shared.rows[row], process)),
+    "put": lambda own, shared, row, value: with_row(own, shared, row, replaced(shared.rows[row], own.me, value)),
+    "stamp": lambda own, shared: with_ticket(own, shared, max(shared.tickets) + 1),
+    "clear": lambda own, shared: with_ticket(own, shared, 0),
+    "scan": lambda own, shared, into: with_scan(own, shared, into, shared.tickets),
+    "copy": lambda own, shared, into, taken: with_scan(own, shared, into, own.scans[taken]),
+    "older": lambda own, shared, variable, taken, first, second: with_value(
+        own, shared, variable, int(at(own.scans[taken], first) < at(own.scans[taken], second))),
+    "held": lambda own, shared, variable, taken, process: with_value(
+        own, shared, variable, int(at(own.scans[taken], process) != 0)),
+    "out": lambda own, shared, _value: (own, shared),
 }
 
 
 def done(statement, own, shared):
-    """Both parts after a statement without blocks."""
     values = values_of(statement.expressions, own, len(shared.tickets))
     return DOES[statement.word](own, shared, *statement.names, *values)
 
 
 def block_after(statement, own, shared):
-    """Which block a process goes on with, or None where it goes on behind."""
     [test] = values_of(statement.expressions, own, len(shared.tickets))
     if test != 0:
         return 0

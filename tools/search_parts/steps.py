@@ -1,22 +1,16 @@
 """A single step of a process (docs/LANGUAGE.md), and a merged one (docs/EXPLORING.md, Merged steps)."""
-from typing import NamedTuple
+from collections import namedtuple
 
 from . import statements
-from .states import ENDED, NOTHING_LEFT, behind
-from .values import Trap, values_of
+from .statements import Trap, values_of
+from .states import ENDED, NOTHING_LEFT, behind, out_of
 
 # What no other process sees, besides the end; and how many such steps a merged one takes along.
 PRIVATE = {"=", "copy", "older", "held", "out", "if", "while"}
 MOST_PRIVATE = 1000
 
-
-class Step(NamedTuple):
-    """Both parts after a step, the trap that stopped it, if one did, and how many single steps it is."""
-
-    own: tuple
-    shared: tuple
-    trap: str
-    length: int
+# Both parts after a step, the trap that stopped it, if one did, and how many single steps it is.
+Step = namedtuple("Step", "own shared trap length")
 
 
 def single(program, own, shared, _others=()):
@@ -32,7 +26,6 @@ def single(program, own, shared, _others=()):
 
 
 def moved(program, own, shared):
-    """Both parts after the next statement."""
     statement, block = program.statements[own.way], None
     if statement.blocks:
         block = statements.block_after(statement, own, shared)
@@ -43,11 +36,9 @@ def moved(program, own, shared):
 
 
 def settled(program, way):
-    """Where a way leads: at the end of a block to its loop again, or behind the `if` that has it."""
+    """Where a way leads: at the end of a block out of it."""
     while way and way not in program.statements:
-        way = way[:-2]
-        if way and program.statements[way].word == "if":
-            way = behind(way)
+        way = out_of(program, way)
     return way
 
 
@@ -71,12 +62,10 @@ def is_private(program, own, shared, others):
 
 
 def any_of(others):
-    """What some other process may still do."""
     return frozenset().union(*others)
 
 
 def met_by(statement, own, others):
-    """What others may do that sees the step or changes what it does."""
     if statement.word == "get":
         return read_by(statement, own, others)
     if statement.word == "put":

@@ -18,7 +18,6 @@ LINE = re.compile(r" *([1-9][0-9]*)  P([0-5]) .*?(?:\| trap ([A-Z][a-z]+))?")
 
 
 def counted(states, is_merged):
-    """So many states, which between merged steps are told as merged."""
     return f"{states} {'merged ' * is_merged}state{'s' * (states != 1)}"
 
 
@@ -41,7 +40,6 @@ def can_end_text(who, states):
 
 
 def half(who, states, limit):
-    """What is told of merged steps, where there are more states by single ones than the limit."""
     more = f"there are more than {counted(limit, False)}\ntry a larger --limit, or fewer processes or rounds\n"
     return MORE, f"{can_end_text(who, states)}found out: {more}"
 
@@ -53,10 +51,8 @@ def more(limit, is_merged):
 
 
 def told_steps(lines):
-    """The schedule that is the first of some lines, and the trap of the last step that the others tell.
-
-    There is none where the steps that are told aren't those of the schedule, or one before the last is told to trap.
-    """
+    """The schedule that is the first of some lines, and the trap of the last step that the others tell; none where
+    these aren't the steps of the schedule, or one before the last is told to trap."""
     items, steps = [ITEM.fullmatch(item) for item in lines[0].split()], [LINE.fullmatch(line) for line in lines[1:]]
     if None in items or None in steps:
         return [], None
@@ -68,16 +64,13 @@ def told_steps(lines):
 
 
 def trapped(head, output):
-    """The schedule below such a head, and the trap of the last step that is told."""
     first, *lines = [*output.split("\n"), ""]
     return told_steps(lines[:-2]) if first == head else ([], None)
 
 
 def looped(head, output):
-    """The schedule below such a head, the steps that lead on, those that repeat, and whether nobody writes in these.
-
-    There is none where it isn't told so.
-    """
+    """The schedule below such a head, the steps that lead on, those that repeat, and whether nobody writes in these;
+    None where it isn't told so."""
     first, *lines = output.split("\n")[:-1] or [""]
     ends = [at for at, line in enumerate(lines) if CYCLE.fullmatch(line)]
     if first != head or len(ends) != 1:

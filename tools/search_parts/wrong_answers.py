@@ -5,7 +5,6 @@ from . import told
 
 
 def with_schedule(change):
-    """Tells another schedule, or another trap, in the form of an answer."""
     def changed(status, output):
         if status != told.TRAPPED:
             return status, output
@@ -18,7 +17,6 @@ def with_schedule(change):
 
 
 def with_way(change):
-    """Tells another schedule to where processes can't end any more, or other steps there."""
     def changed(status, output):
         head = output.split("\n")[0]
         if status != told.STUCK or (found := told.looped(head, output)) is None:
@@ -34,7 +32,6 @@ QUIET, WRITES = "nobody writes", "they write and never get on"
 
 
 def section(head, steps):
-    """Steps under a head, and a line for each."""
     lines = [f"{number:4}  P{process}     1:1    end" for number, process in enumerate(steps, 1)]
     return "".join(line + "\n" for line in [head, " ".join(map(str, steps)), *lines])
 
@@ -44,12 +41,10 @@ def with_output(pattern, new):
 
 
 def with_states(more):
-    """Tells that there are so many more states."""
     return with_output(r"\d+(?=(?: merged)? states\))", lambda it: str(int(it[0]) + more))
 
 
 def answered(status, answer):
-    """Answers this where another status was."""
     return lambda found, output: answer if found == status else (found, output)
 
 
