@@ -31,6 +31,7 @@ TURNS = {
     "crates/searches_parallel/src/on_processors.rt": {"first_fault"},  # the runs asked for: only the pieces are a constant
     "crates/ticketc_io/src/reading.rt": {"read_input"},  # the input; a clause says how often it is asked
     "crates/ticketc_io/src/writing.rt": {"write_text"},  # the text, or so many interruptions
+    "crates/ticklab_line/src/commands.rt": {"command_line"},  # the commands that there are
     "crates/tick_syntax/src/lexer.rt": {"read_tokens"},  # the text: each turn reads a token
     "crates/tick_syntax/src/parser.rt": {"statements", "names"},  # the tokens: each turn reads some
 }

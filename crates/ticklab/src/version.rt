@@ -3,5 +3,5 @@
 /// The version; the sum of the sources of `ticketc` and `ticklab`; the logic of the toolchain that proves them.
 pub const VERSION: &str = "\
 1.0\n\
-sources 60f7e225949ec0b20ff52ae983830289d8e2de4cdb8ee230075e3d8f2cf276ef\n\
+sources f4d86825d1d72f5a86a612bc93133e073b099520bbea9974c5428f42133389de\n\
 logic dac8208d650f15bf";

@@ -32,6 +32,23 @@ flag_rule name = record (new_rule name) { long = Some name; action = Some SetTru
 abbrev pub number_rule : Text → ValueParser → Rule
 number_rule name parser = record (new_rule name) { long = Some name; value_names = 1; parser = Some parser }
 
+-- a number that has to be there
+abbrev pub number_word_rule : Text → ValueParser → Rule
+number_word_rule name parser = record (word_rule name) { parser = Some parser }
+
+-- `--name`, and `--name NUMBER`
+abbrev pub perhaps_number_rule : Text → ValueParser → Rule
+perhaps_number_rule name parser = record (number_rule name parser) { range = Some (record { start_inclusive = 0; end_inclusive = 1 }) }
+
+-- `--name` with two numbers, for which so many words stand in the usage
+abbrev pub two_numbers_rule : Text → ℕ → ValueParser → Rule
+two_numbers_rule name count parser = record (new_rule name) {
+  long = Some name;
+  range = Some (record { start_inclusive = 2; end_inclusive = 2 });
+  value_names = count;
+  parser = Some parser;
+}
+
 -- `--name TEXT`
 abbrev pub text_rule : Text → Rule
 text_rule name = record (new_rule name) { long = Some name; value_names = 1 }
@@ -61,20 +78,15 @@ abbrev pub json_rule : Rule
 json_rule = flag_rule (codes "json")
 
 abbrev pub processes_rule : Rule
-processes_rule = record (word_rule (codes "processes")) { parser = Some (from_one_to 6) }
+processes_rule = number_word_rule (codes "processes") (from_one_to 6)
 
 -- `--ends`, and `--ends P`
 abbrev pub ends_rule : Rule
-ends_rule = record (number_rule (codes "ends") (up_to 5)) { range = Some (record { start_inclusive = 0; end_inclusive = 1 }) }
+ends_rule = perhaps_number_rule (codes "ends") (up_to 5)
 
 -- `--threads TIMES TURNS`
 abbrev pub threads_rule : Rule
-threads_rule = record (new_rule (codes "threads")) {
-  long = Some (codes "threads");
-  range = Some (record { start_inclusive = 2; end_inclusive = 2 });
-  value_names = 2;
-  parser = Some (Unsigned 0 1000000000);
-}
+threads_rule = two_numbers_rule (codes "threads") 2 (Unsigned 0 1000000000)
 
 abbrev pub with_file : Text → App
 with_file name = with_rule (new_app name) (word_rule (codes "file"))

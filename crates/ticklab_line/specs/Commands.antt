@@ -273,5 +273,13 @@ rows = (codes "explore" ∷ codes "a" ∷ codes "--limit" ∷ codes "7" ∷ [], 
     ∷ (codes "explain" ∷ codes "a" ∷ codes "0" ∷ [], Explain (codes "a") (Some (codes "0")))
     ∷ (codes "explain" ∷ codes "--json" ∷ codes "a" ∷ [], Explain (codes "a") None)
     ∷ (codes "explain" ∷ codes "a" ∷ codes "--json" ∷ codes "0" ∷ [], Explain (codes "a") (Some (codes "0")))
+    ∷ (codes "explore" ∷ codes "a" ∷ codes "--limit=0" ∷ codes "--memory=1" ∷ [], Explore (codes "a") [] 0 1 MergedFirst)
+    ∷ (codes "explore" ∷ codes "a" ∷ codes "--limit=4294967295" ∷ [], Explore (codes "a") [] 4294967295 1000 MergedFirst)
+    ∷ (codes "check" ∷ codes "a" ∷ codes "--jobs=1" ∷ [], Check (codes "a" ∷ []) 4294967295 1000 1)
+    ∷ (codes "check" ∷ codes "a" ∷ codes "--jobs=64" ∷ [], Check (codes "a" ∷ []) 4294967295 1000 64)
+    ∷ (codes "draw" ∷ codes "a" ∷ codes "0" ∷ codes "--from=10000000" ∷ codes "--to=1" ∷ codes "--width=20000" ∷ [], Draw (run_by (codes "a") (codes "0") [] Program) (record whole_run { from = 10000000; to = 1; width = 20000 }))
+    ∷ (codes "draw" ∷ codes "a" ∷ codes "0" ∷ codes "--from=1" ∷ codes "--to=10000000" ∷ [], Draw (run_by (codes "a") (codes "0") [] Program) whole_run)
+    ∷ (codes "labels" ∷ codes "1" ∷ codes "0" ∷ [], Labels 1 (codes "0"))
+    ∷ (codes "labels" ∷ codes "6" ∷ codes "5" ∷ [], Labels 6 (codes "5"))
     ∷ (codes "labels" ∷ codes "3" ∷ codes "0 c1" ∷ [], Labels 3 (codes "0 c1"))
     ∷ []

@@ -4,3 +4,4 @@ pub mod Commands
 pub mod Conflicts
 pub mod Lines
 pub mod Laws
+pub mod prover

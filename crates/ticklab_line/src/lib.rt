@@ -2,7 +2,7 @@
 //!
 //! `clap` parses the words by the command line that `specs/CommandLine.antt` describes. Only this crate and
 //! `ticketc_line` call `clap`. Checking a crate that calls it takes long, so nothing else stands here.
-//! `src/commands.rt` and `specs/Commands.antt` have each command. `specs/Lines.antt` says what `asked` answers.
+//! Each command has a file in `src/commands`, with its description, and a part of `specs/Commands.antt`. `specs/Lines.antt` says what `asked` answers.
 //! Start with `asked`.
 #![tactic(auto)]
 
@@ -10,10 +10,11 @@ mod arguments;
 mod asking;
 mod commands;
 mod conflicts;
-mod examples;
+mod described;
 mod laws;
 mod parts;
 mod values;
+mod words;
 
 pub use asking::{Line, Output, asked};
 pub use commands::{AskedRun, Drawing, Request, Side, Steps};

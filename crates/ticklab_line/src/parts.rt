@@ -1,11 +1,9 @@
 //! Parts of the command line, as they are described to `clap`: commands, and what is added to one.
 ghost use Rattle.std.specs.Prelude.{◌≡◌, IfOk, Ok};
 ghost use Rattle.clap.specs.Walk.{Rule};
-ghost use Rattle.clap.specs.Simple.{App, new_app, with_rule};
-ghost use Rattle.ticklab_line.specs.CommandLine.{IsCommand, IsLine, IsWord, with_app, with_file};
+ghost use Rattle.clap.specs.Simple.{App, with_rule};
+ghost use Rattle.ticklab_line.specs.CommandLine.{IsCommand, IsLine, IsWord, with_app};
 
-use crate::arguments::word;
-use crate::examples::example_of;
 use clap::{Arg, Command};
 use std::alloc::{AllocError, Global};
 
@@ -39,26 +37,4 @@ pub fn taking<'a>(
     ensures { (app : App) (rule : Rule) → IsCommand app command.entry → IsWord rule word.entry → IsCommand (with_rule app rule) result }
 {
     command?.arg(word)
-}
-
-pub fn named<'a>(alloc: Global, name: &'a str, about: &'a str) -> Result<Command<'a>, AllocError>
-    ensures { IsCommand (new_app name.entry.now) result }
-{
-    Ok(
-        Command::new(alloc, name)
-            .about(about)
-            .after_help(example_of(name)),
-    )
-}
-
-// A command that takes a file.
-pub fn filed<'a>(
-    alloc: Global,
-    name: &'a str,
-    about: &'a str,
-    file: &'a str,
-) -> Result<Command<'a>, AllocError>
-    ensures { IsCommand (with_file name.entry.now) result }
-{
-    taking(named(alloc, name, about), word(alloc, "file", "FILE", file))
 }

@@ -1,13 +1,20 @@
+use Rattle.std.proofs.Common.{◌∙◌, subst, sym}
+use Rattle.std.proofs.lemmas.List.{at_drop_all, at_drop_more}
+use Rattle.clap.specs.Simple.{App}
+use Rattle.ticklab_line.specs.CommandLine.{IsLine}
+use Rattle.ticklab_line.specs.prover.Described.{with_commands}
 use Rattle.ticklab_line.proofs.commands.command_line.Goals as goal
+
+pub loop-description-preserved : goal.loop-description-preserved
+loop-description-preserved c =
+    let held = c.loop-description.invariant in (
+      _,
+      c.with-line.ensures _ _ held.1 c.described.ensures,
+      sym (at_drop_more (with_commands held.0) _ _ _ c.loop-description-test.true) ∙ held.2,
+    )
 
 pub returns : goal.returns
 returns c =
-    let explore = c.with-line.ensures _ _ c.ticklab.ensures c.explore.ensures in
-    let check = c.with-line-2.ensures _ _ explore c.check.ensures in
-    let lasso = c.with-line-3.ensures _ _ check c.lasso.ensures in
-    let hunt = c.with-line-4.ensures _ _ lasso c.hunt.ensures in
-    let trace = c.with-line-5.ensures _ _ hunt c.trace.ensures in
-    let draw = c.with-line-6.ensures _ _ trace c.draw.ensures in
-    let page = c.with-line-7.ensures _ _ draw c.page.ensures in
-    let explain = c.with-line-8.ensures _ _ page c.explain.ensures in
-    c.with.ensures _ _ explain c.labels.ensures
+    let held = c.loop-description.invariant in
+    subst (λ (above : App). IsLine above c.loop-description.line)
+    (sym (at_drop_all (with_commands held.0) _ _ c.loop-description-test.false) ∙ held.2) held.1

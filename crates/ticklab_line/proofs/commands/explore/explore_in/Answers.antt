@@ -5,7 +5,7 @@ use Rattle.clap.specs.Matches.{found_of}
 use Rattle.clap.specs.Walk.{Row, Text, rows_of}
 use Rattle.ticklab_line.specs.Commands.{ends_in, schedules_in, schedules_of}
 use Rattle.ticklab_line.specs.Found.{list_of}
-use Rattle.ticklab_line.proofs.commands.explore_in.Goals as goal
+use Rattle.ticklab_line.proofs.commands.explore.explore_in.Goals as goal
 
 pub returns-in-None : goal.returns-in-None
 returns-in-None c =

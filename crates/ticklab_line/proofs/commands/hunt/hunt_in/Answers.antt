@@ -3,7 +3,7 @@ use Rattle.std.specs.Option.{option_map_or}
 use Rattle.clap.specs.Matches.{found_of}
 use Rattle.clap.specs.Walk.{Row, Text, rows_of}
 use Rattle.ticklab_line.specs.Commands.{plan_in, plan_of, runs_in}
-use Rattle.ticklab_line.proofs.commands.hunt_in.Goals as goal
+use Rattle.ticklab_line.proofs.commands.hunt.hunt_in.Goals as goal
 
 pub returns : goal.returns
 returns c =
