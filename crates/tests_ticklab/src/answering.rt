@@ -9,8 +9,8 @@ use tests_shared::is_same;
 use ticklab_answers::labelled;
 use ticklab_files::AnswerFault::NoMemory;
 use ticklab_files::LabFault::Answer;
-use ticklab_files::{Form, LabFault, Response};
-use ticklab_line::Steps;
+use ticklab_files::{LabFault, Response};
+use ticklab_line::{Output, Steps};
 use ticklab_verdicts::{Progress, explored};
 
 pub type Answered = Result<Response, LabFault>;
@@ -29,7 +29,7 @@ pub fn explored_by<W: Progress>(
         name: NAME,
         bytes: input,
     };
-    let text = Form::Text;
+    let text = Output::Text;
     match explored(alloc, &mut files, watch, NAME, &[], limits, steps, text) {
         Err(Answer(NoMemory)) => explored(alloc, &mut files, watch, NAME, &[], limits, steps, text),
         answered => answered,

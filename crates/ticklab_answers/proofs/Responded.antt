@@ -1,5 +1,5 @@
--- Why there is no answer to the request that the words make.
-use Rattle.std.proofs.Common.{◌≡◌, ℕ, List, Result, Ok, Err, IfErr, IsErrAnd, map, string_bytes, subst, sym}
+-- What holds of the line that the words make holds of the words.
+use Rattle.std.proofs.Common.{◌≡◌, ℕ, List, Result, Ok, Err, IfErr, IfOk, map, string_bytes, subst, sym}
 use Rattle.std.specs.Prelude.{String, Vec}
 use Rattle.std.specs.Global.{Global}
 use Rattle.std.specs.declared.io.Error.{Error}
@@ -33,21 +33,23 @@ module _ (version : List ℕ) (given : Result GivenWords Error) (words : Vec (St
   named_by U given gives (Unwritten cause) h = absurd h
   named_by U given gives (Answer fault) h = tt
 
-  pub failed : (U : Causes) (fault : LabFault) → IsOfFileThat U (NamesOfLine matched) fault → (r : Result Response LabFault) → IsErrAnd r (λ d. d ≡ fault)
-      → IfErr r (IsOfWordsOrFile U version given)
-  failed U fault of (Ok x) is = tt
-  failed U fault of (Err d) is = subst (IsOfWordsOrFile U version given) (sym is) (named_by U given gives fault of)
+  pub failed : (U : Causes) (r : Result Response LabFault) → IfErr r (IsOfFileThat U (NamesOfLine matched)) → IfErr r (IsOfWordsOrFile U version given)
+  failed U (Ok x) of = tt
+  failed U (Err fault) of = named_by U given gives fault of
 
   -- an answer to the line is one to the words
   module _ {F M W : Type 0} (Reads : ReadsOf F) (ReadsInput : ReadsInputOf F) (Lists : ListsOf F) (Ran : RunsOf M) (hears : HearsOf W) (before after : F) (rested ran : M)
-      (quiet heard : W) (x : Response) (held : RespondsTo Reads ReadsInput Lists Ran hears before after rested ran quiet heard matched x) where
-    answered_by : (given : Result GivenWords Error) → GivesWords given words → RespondsToWords Reads ReadsInput Lists Ran hears before after rested ran quiet heard version given x
-    answered_by (Ok given) gives = (
+      (quiet heard : W) where
+    answered_by : (given : Result GivenWords Error) → GivesWords given words → (x : Response) → RespondsTo Reads ReadsInput Lists Ran hears before after rested ran quiet heard matched x
+        → RespondsToWords Reads ReadsInput Lists Ran hears before after rested ran quiet heard version given x
+    answered_by (Ok given) gives x held = (
       l,
       subst (λ (ws : List (String Global)). Answers version (map string_bytes ws) l) gives (subst (λ (ws : List (String Global)). Answers version (map string_bytes ws) l) same answers),
       subst (λ (m : Line). RespondsTo Reads ReadsInput Lists Ran hears before after rested ran quiet heard m x) (sym is) held,
     )
-    answered_by (Err error) gives = absurd gives
+    answered_by (Err error) gives x held = absurd gives
 
-    pub responded : RespondsToWords Reads ReadsInput Lists Ran hears before after rested ran quiet heard version given x
-    responded = answered_by given gives
+    pub responded : (r : Result Response LabFault) → IfOk r (RespondsTo Reads ReadsInput Lists Ran hears before after rested ran quiet heard matched)
+        → IfOk r (RespondsToWords Reads ReadsInput Lists Ran hears before after rested ran quiet heard version given)
+    responded (Ok x) held = answered_by given gives x held
+    responded (Err fault) held = tt

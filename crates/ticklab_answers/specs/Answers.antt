@@ -23,7 +23,7 @@ use Rattle.ticklab_verdicts.specs.Hunting.{Hunts, plan_of}
 use Rattle.ticklab_answers.specs.Labels.{DrawsLabels}
 use Rattle.ticklab_verdicts.specs.Lasso.{IsOfThree, Lassoes}
 use Rattle.ticklab_files.specs.Reading.{ReadsOf, ReadsInputOf}
-use Rattle.ticklab_files.specs.Responses.{Gives, IsScheduleOf, Refuses}
+use Rattle.ticklab_files.specs.Responses.{Gives, Refuses}
 use Rattle.ticklab_runs.specs.Runs.{TellsRun}
 use Rattle.ticklab_verdicts.specs.Tallies.{RunsOf, Tallies}
 use Rattle.ticklab_runs.specs.declared.told_run.Telling.TheVariants as telling
@@ -45,45 +45,35 @@ GivesWords (Err error) words = ⊥
 abbrev pub limits_of : ℕ → ℕ → Limits
 limits_of states megabytes = record { states = states; bytes = megabytes * 1000000 }
 
--- the form that an answer is made in
+-- the form of an answer that has no schedule of its own
 abbrev pub form_of : Output → Form
 form_of output.Text = Text
 form_of output.ScheduleAlone = Text
 form_of output.Json = Json
-
--- what is printed of an answer
-abbrev pub IsPrinted : Output → Response → Response → Type 0
-IsPrinted output.Text whole response = response ≡ whole
-IsPrinted output.ScheduleAlone whole response = IsScheduleOf whole response
-IsPrinted output.Json whole response = response ≡ whole
 
 -- Files, a runner and a watch are as they are before and after. Nothing is read that the words don't name, or that isn't in
 -- a folder that they name. The runner makes the runs of `hunt --threads` and no other, and the watch hears of the searches
 -- of an `explore` and of nothing else.
 module _ {F M W : Type 0} (Reads : ReadsOf F) (ReadsInput : ReadsInputOf F) (Lists : ListsOf F) (Ran : RunsOf M) (hears : HearsOf W)
     (before after : F) (rested ran : M) (quiet heard : W) where
-  -- in this form, where the command has such answers
-  abbrev pub Responds : Form → Asked → Response → Type 0
-  Responds form (Explore file never limit memory steps) response =
-      (ran ≡ rested) × Explores Reads ReadsInput hears before after quiet heard file never (limits_of limit memory) steps form response
-  Responds form (Ends file never process limit memory steps) response =
-      (ran ≡ rested) × ExploresEnds Reads ReadsInput hears before after quiet heard file never process (limits_of limit memory) steps form response
-  Responds form (Check paths limit memory jobs) response =
-      (ran ≡ rested) × (heard ≡ quiet) × ChecksAll Reads ReadsInput Lists before after paths (limits_of limit memory) form response
-  Responds form (Lasso file prefix cycle) response =
+  -- what is printed of it, where the command has such answers
+  abbrev pub Responds : Output → Asked → Response → Type 0
+  Responds printed (Explore file never limit memory steps) response =
+      (ran ≡ rested) × Explores Reads ReadsInput hears before after quiet heard file never (limits_of limit memory) steps printed response
+  Responds printed (Ends file never process limit memory steps) response =
+      (ran ≡ rested) × ExploresEnds Reads ReadsInput hears before after quiet heard file never process (limits_of limit memory) steps printed response
+  Responds printed (Check paths limit memory jobs) response =
+      (ran ≡ rested) × (heard ≡ quiet) × ChecksAll Reads ReadsInput Lists before after paths (limits_of limit memory) (form_of printed) response
+  Responds printed (Lasso file prefix cycle) response =
       (ran ≡ rested) × (heard ≡ quiet) × Lassoes Reads ReadsInput before after file prefix cycle response
-  Responds form (Hunt file never seed runs from steps is_uniform jobs) response =
-      (ran ≡ rested) × (heard ≡ quiet) × Hunts Reads ReadsInput before after file never (plan_of seed runs steps is_uniform) from form response
-  Responds form (Runs file times turns) response = (heard ≡ quiet) × Tallies Reads ReadsInput Ran before after rested ran file times turns response
-  Responds form (Trace run) response = (ran ≡ rested) × (heard ≡ quiet) × TellsRun (telling.Trace form) Reads ReadsInput before after run response
-  Responds form (Draw run drawing) response = (ran ≡ rested) × (heard ≡ quiet) × TellsRun (telling.Picture drawing) Reads ReadsInput before after run response
-  Responds form (Page run title) response = (ran ≡ rested) × (heard ≡ quiet) × TellsRun (telling.Page title) Reads ReadsInput before after run response
-  Responds form (Explain file schedule) response = (ran ≡ rested) × (heard ≡ quiet) × Explains Reads ReadsInput before after file schedule form response
-  Responds form (Labels processes moves) response = (ran ≡ rested) × (heard ≡ quiet) × (after ≡ before) × DrawsLabels processes moves response
-
-  -- what is printed of the answer to a request
-  abbrev pub RespondsAs : Output → Asked → Response → Type 0
-  RespondsAs output request response = (whole : Response) × Responds (form_of output) request whole × IsPrinted output whole response
+  Responds printed (Hunt file never seed runs from steps is_uniform jobs) response =
+      (ran ≡ rested) × (heard ≡ quiet) × Hunts Reads ReadsInput before after file never (plan_of seed runs steps is_uniform) from printed response
+  Responds printed (Runs file times turns) response = (heard ≡ quiet) × Tallies Reads ReadsInput Ran before after rested ran file times turns response
+  Responds printed (Trace run) response = (ran ≡ rested) × (heard ≡ quiet) × TellsRun (telling.Trace (form_of printed)) Reads ReadsInput before after run response
+  Responds printed (Draw run drawing) response = (ran ≡ rested) × (heard ≡ quiet) × TellsRun (telling.Picture drawing) Reads ReadsInput before after run response
+  Responds printed (Page run title) response = (ran ≡ rested) × (heard ≡ quiet) × TellsRun (telling.Page title) Reads ReadsInput before after run response
+  Responds printed (Explain file schedule) response = (ran ≡ rested) × (heard ≡ quiet) × Explains Reads ReadsInput before after file schedule (form_of printed) response
+  Responds printed (Labels processes moves) response = (ran ≡ rested) × (heard ≡ quiet) × (after ≡ before) × DrawsLabels processes moves response
 
   -- where nothing is read, run or told of a search
   abbrev pub RespondsAtOnce : (Response → Type 0) → Response → Type 0
@@ -91,7 +81,7 @@ module _ {F M W : Type 0} (Reads : ReadsOf F) (ReadsInput : ReadsInputOf F) (Lis
 
   -- help goes out, so does the version, and a line that is refused is told
   abbrev pub RespondsTo : Line → Response → Type 0
-  RespondsTo (line.Request request output) = RespondsAs output (plain_request request)
+  RespondsTo (line.Request request printed) = Responds printed (plain_request request)
   RespondsTo (line.Help text) = RespondsAtOnce (Gives 0 (λ out. out ≡ string_bytes text))
   RespondsTo (line.Version text) = RespondsAtOnce (Gives 0 (λ out. out ≡ string_bytes text))
   RespondsTo (line.Refused text) = RespondsAtOnce (Refuses 2 (λ told. told ≡ string_bytes text))

@@ -1,7 +1,7 @@
 //! The answer to the words of a command line: each command reads its files and makes its answer.
 ghost use Rattle.std.specs.Prelude.{◌≡◌, IfErr, IfOk};
 ghost use Rattle.std.specs.Vec.Iter.{into_iter_items};
-ghost use Rattle.ticklab_answers.specs.Answers.{GivesWords, IsOfWordsOrFile, IsPrinted, RespondsToWords, form_of, limits_of};
+ghost use Rattle.ticklab_answers.specs.Answers.{GivesWords, IsOfWordsOrFile, RespondsToWords, form_of, limits_of};
 ghost use Rattle.ticklab_files.specs.Faults.{IsOfMemory, IsOfWords, IsUnread};
 ghost use Rattle.ticklab_verdicts.specs.Hearing.{hearing};
 
@@ -19,7 +19,7 @@ use std::env::Args;
 use std::io;
 use tick_merge::Runner;
 use ticklab_check::Checks;
-use ticklab_files::{Files, Form, LabFault, Response, help, no_command, schedule_alone};
+use ticklab_files::{Files, Form, LabFault, Response, help, no_command};
 use ticklab_line::{Line, Output, Request, asked};
 use ticklab_runs::{Telling, told};
 use ticklab_verdicts::{Progress, explored, explored_ends, hunted, lassoed, plan_of, tallied};
@@ -47,7 +47,8 @@ pub fn response_to<F: Files, M: Runner, T: Trials, C: Checks, W: Progress>(
         Line::Refused(text) => return Ok(no_command(alloc, text)),
     };
     let form = form_of(output);
-    let answered = match request {
+    // (one arm a command, and nothing else)
+    match request {
         Request::Explore {
             file,
             never,
@@ -56,7 +57,7 @@ pub fn response_to<F: Files, M: Runner, T: Trials, C: Checks, W: Progress>(
             steps,
         } => {
             let limits = limits_of(limit, memory);
-            explored(alloc, files, progress, file, &never, limits, steps, form)
+            explored(alloc, files, progress, file, &never, limits, steps, output)
         }
         Request::Ends {
             file,
@@ -69,7 +70,7 @@ pub fn response_to<F: Files, M: Runner, T: Trials, C: Checks, W: Progress>(
             let never = never.as_slice();
             let limits = limits_of(limit, memory);
             explored_ends(
-                alloc, files, progress, file, never, process, limits, steps, form,
+                alloc, files, progress, file, never, process, limits, steps, output,
             )
         }
         Request::Check {
@@ -99,7 +100,7 @@ pub fn response_to<F: Files, M: Runner, T: Trials, C: Checks, W: Progress>(
         } => {
             let plan = plan_of(seed, runs, steps, is_uniform);
             let trials = trials.with_jobs(jobs);
-            hunted(alloc, files, &trials, file, &never, plan, from, form)
+            hunted(alloc, files, &trials, file, &never, plan, from, output)
         }
         Request::Runs { file, times, turns } => tallied(alloc, files, runner, file, times, turns),
         Request::Trace(run) => told(alloc, files, &run, &Telling::Trace(form)),
@@ -107,8 +108,7 @@ pub fn response_to<F: Files, M: Runner, T: Trials, C: Checks, W: Progress>(
         Request::Page(run, title) => told(alloc, files, &run, &Telling::Page(title)),
         Request::Explain { file, schedule } => explained(alloc, files, file, schedule, form),
         Request::Labels { processes, moves } => labelled(alloc, processes, moves),
-    };
-    Ok(printed(alloc, output, answered?)?)
+    }
 }
 
 // So many states, in so many megabytes.
@@ -121,23 +121,13 @@ fn limits_of(states: u32, megabytes: u32) -> Limits
     }
 }
 
-// The form that the answer is made in.
+// The form of an answer that has no schedule of its own.
 fn form_of(output: Output) -> Form
     ensures { result ≡ form_of output }
 {
     match output {
         Output::Text | Output::ScheduleAlone => Form::Text,
         Output::Json => Form::Json,
-    }
-}
-
-// What is printed of the whole answer.
-fn printed(alloc: Global, output: Output, whole: Response) -> Result<Response, AllocError>
-    ensures { IfOk result (IsPrinted output whole) }
-{
-    match output {
-        Output::ScheduleAlone => schedule_alone(alloc, whole),
-        Output::Text | Output::Json => Ok(whole),
     }
 }
 

@@ -49,10 +49,6 @@ schedule_line text = line_behind (position is_newline text) text
 abbrev pub schedule_in : List ℕ → List ℕ
 schedule_in text = option_map_or (λ line. 10 ∷ line) (schedule_line text) text
 
--- the line of the schedule alone, and nothing where there is none
-abbrev pub schedule_alone : List ℕ → List ℕ
-schedule_alone text = option_map_or (λ line. line ++ 10 ∷ []) (schedule_line text) []
-
 -- what files are before one of a name is read, how many of its bytes are read at most, these, and what files are after
 abbrev pub ReadsOf : Type 0 → Type 1
 ReadsOf F = F → List ℕ → ℕ → List ℕ → F → Type 0

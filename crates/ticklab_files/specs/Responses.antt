@@ -1,6 +1,5 @@
 -- An answer goes to standard output, or something is told on standard error instead; never both.
 use Rattle.std.specs.Prelude.{◌≡◌, ℕ, List, []}
-use Rattle.ticklab_files.specs.Reading.{schedule_alone}
 use Rattle.ticklab_files.specs.declared.response.Response.{Response}
 
 -- nothing is told, and what goes out has P
@@ -14,9 +13,3 @@ pub record Refuses (number : ℕ) (P : List ℕ → Type 0) (response : Response
   pub status : response.status ≡ number
   pub nothing : response.out.items ≡ []
   pub told : P response.told.items
-
--- the schedule alone of what goes out; the status stays, and what is told
-pub record IsScheduleOf (whole response : Response) : Type 0 where
-  pub status : response.status ≡ whole.status
-  pub out : response.out.items ≡ schedule_alone whole.out.items
-  pub told : response.told ≡ whole.told

@@ -25,6 +25,6 @@ pub use reading::{
 };
 pub use response::{
     DONE, LIMIT, NO_LOOP, REFUSED, Response, STUCK, TRAPPED, answer, help, no_command, output,
-    schedule_alone, settled,
+    settled,
 };
 pub use stop::NoAnswer;

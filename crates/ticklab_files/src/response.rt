@@ -1,10 +1,8 @@
 ghost use Rattle.std.specs.Prelude.{◌≡◌, IfOk, MatchResult, [], string_bytes};
-ghost use Rattle.ticklab_files.specs.Responses.{Gives, IsScheduleOf, Refuses};
-ghost use Rattle.ticklab_files.specs.Reading.{schedule_alone};
+ghost use Rattle.ticklab_files.specs.Responses.{Gives, Refuses};
 ghost use Rattle.ticklab_files.specs.Stops.{IsRefusal};
 
 use crate::fault::AnswerFault;
-use crate::files::schedule_line;
 use crate::stop::NoAnswer;
 use std::alloc::{AllocError, Global};
 
@@ -67,30 +65,6 @@ pub fn refused(alloc: Global, status: u8, report: Vec<u8>) -> Response
         out: Vec::new(alloc),
         told: report,
     }
-}
-
-/// The same answer with its schedule alone on standard output, and nothing there where it has none.
-pub fn schedule_alone(alloc: Global, whole: Response) -> Result<Response, AllocError>
-    ensures { IfOk result (IsScheduleOf whole) }
-{
-    let out = schedule_in_line(alloc, whole.out.as_slice())?;
-    Ok(Response {
-        status: whole.status,
-        out,
-        told: whole.told,
-    })
-}
-
-// The line of the schedule, with its end.
-fn schedule_in_line(alloc: Global, text: &[u8]) -> Result<Vec<u8>, AllocError>
-    ensures { IfOk result (λ out. out.items ≡ schedule_alone text.now) }
-{
-    let Some(line) = schedule_line(text) else {
-        return Ok(Vec::new(alloc));
-    };
-    let mut out = Vec::from_slice(alloc, line)?;
-    out.push(b'\n')?;
-    Ok(out)
 }
 
 /// The help that was asked for, or the version.

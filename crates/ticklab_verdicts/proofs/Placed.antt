@@ -17,7 +17,7 @@ abbrev pub held_of : Search → List Property
 held_of q = q.lines.now.properties.items
 
 abbrev pub placed : Sought → List TextPlace → Sought
-placed s places = record { input = s.input; program = s.program; lines = s.lines; places = places; form = s.form }
+placed s places = record { input = s.input; program = s.program; lines = s.lines; places = places; output = s.output }
 
 -- a line that breaks has its place
 pub within_places : {E : Type 0} (q : Search) → IsSound q → (e : Verdict Fault E) → IfBroken e (λ schedule line v. line < length (held_of q))

@@ -18,7 +18,7 @@ use Rattle.ticklab_files.specs.Reading.{AfterFile, ReadsOf, ReadsInputOf}
 use Rattle.ticklab_files.specs.Responses.{Refuses}
 use Rattle.ticklab_verdicts.specs.Shown.{ShowsAllEnd, ShowsCanEnd, ShowsEndless, ShowsHalf, ShowsStuck}
 use Rattle.ticklab_verdicts.specs.Sought.{Sought, sought_of}
-use Rattle.ticklab_files.specs.declared.form.Form.{Form}
+use Rattle.ticklab_line.specs.declared.asking.Output.{Output}
 use Rattle.ticklab_files.specs.declared.response.Response.{Response}
 
 -- Who is asked for: the process that a command line names; where it names none, those that the line `#! ends` of the
@@ -110,13 +110,13 @@ module _ (s : Sought) (limits : Limits) (asked : MustStop) where
 
 -- The answer of `explore --ends` on an input, with these texts of a command line for what must never hold, and what a
 -- watch hears on the way: nothing of an input that is refused.
-pub data IsEndsExplored (steps : Steps) (name : List ℕ) (texts : List (List ℕ)) (process : Option ℕ) (limits : Limits) (form : Form) (input : List ℕ) (response : Response) (heard : List Heard) : Type 0 where
+pub data IsEndsExplored (steps : Steps) (name : List ℕ) (texts : List (List ℕ)) (process : Option ℕ) (limits : Limits) (output : Output) (input : List ℕ) (response : Response) (heard : List Heard) : Type 0 where
   explored : (asks : AsksNever texts input) → IsThere (resolved asks.file.program).processes process
-      → IsEndsFound (sought_of name texts form input asks) limits (asked_by asks.file.asked.ends process) steps response heard
-      → IsEndsExplored steps name texts process limits form input response heard
-  unexplored : Refuses 1 (IsEndsRefused name texts process input) response → heard ≡ [] → IsEndsExplored steps name texts process limits form input response heard
+      → IsEndsFound (sought_of name texts output input asks) limits (asked_by asks.file.asked.ends process) steps response heard
+      → IsEndsExplored steps name texts process limits output input response heard
+  unexplored : Refuses 1 (IsEndsRefused name texts process input) response → heard ≡ [] → IsEndsExplored steps name texts process limits output input response heard
 
 -- the file is read, and the watch hears of the searches
-abbrev pub ExploresEnds : {F W : Type 0} → ReadsOf F → ReadsInputOf F → HearsOf W → F → F → W → W → List ℕ → List (List ℕ) → Option ℕ → Limits → Steps → Form → Response → Type 0
-ExploresEnds Reads ReadsInput hears before after quiet heard file never process limits steps form response =
-    AfterFile Reads ReadsInput before after file (λ input. IsHeard hears quiet heard (IsEndsExplored steps file never process limits form input response))
+abbrev pub ExploresEnds : {F W : Type 0} → ReadsOf F → ReadsInputOf F → HearsOf W → F → F → W → W → List ℕ → List (List ℕ) → Option ℕ → Limits → Steps → Output → Response → Type 0
+ExploresEnds Reads ReadsInput hears before after quiet heard file never process limits steps output response =
+    AfterFile Reads ReadsInput before after file (λ input. IsHeard hears quiet heard (IsEndsExplored steps file never process limits output input response))

@@ -1,4 +1,4 @@
--- What `hunt` answers without `--threads`, as a text or as JSON.
+-- What `hunt` answers without `--threads`.
 use Rattle.std.specs.Prelude.{◌≤◌, ℕ, Bool, true, false, List, length}
 use Rattle.tick_kinds.specs.Resolution.{resolved}
 use Rattle.language_properties.specs.Values.{Valued}
@@ -14,7 +14,7 @@ use Rattle.ticklab_files.specs.Reading.{AfterFile, ReadsOf, ReadsInputOf}
 use Rattle.ticklab_files.specs.Responses.{Refuses}
 use Rattle.ticklab_verdicts.specs.Shown.{ShowsEmptyHunt, ShowsHuntBroken, ShowsHuntTrap}
 use Rattle.ticklab_verdicts.specs.Sought.{sought_of}
-use Rattle.ticklab_files.specs.declared.form.Form.{Form}
+use Rattle.ticklab_line.specs.declared.asking.Output.{Output}
 use Rattle.ticklab_files.specs.declared.response.Response.{Response}
 
 abbrev pub mode_of : Bool → Mode
@@ -27,22 +27,22 @@ plan_of seed runs steps is_uniform = record { seed = seed; runs = runs; steps = 
 -- The random schedules of a plan from a run on, with these texts of a command line for what must never hold. The schedule
 -- that is shown is a part of the first one under which a process traps or a line breaks. What isn't explored isn't
 -- hunted through, for the same reason.
-pub data IsHunted (name : List ℕ) (texts : List (List ℕ)) (plan : Plan) (from : ℕ) (form : Form) (input : List ℕ) (response : Response) : Type 0 where
+pub data IsHunted (name : List ℕ) (texts : List (List ℕ)) (plan : Plan) (from : ℕ) (output : Output) (input : List ℕ) (response : Response) : Type 0 where
   nothing : (asks : AsksNever texts input) → NoRunFaults (resolved asks.file.program) asks.lines plan from
-      → ShowsEmptyHunt form (length asks.lines) plan from response → IsHunted name texts plan from form input response
+      → ShowsEmptyHunt output (length asks.lines) plan from response → IsHunted name texts plan from output input response
   trapped : (asks : AsksNever texts input) (run : ℕ) (schedule : List ℕ)
       → IsFirstFault (resolved asks.file.program) asks.lines plan from run
       → IsPartOf schedule (random_schedule plan (resolved asks.file.program).processes run) → length schedule ≤ plan.steps
       → IsMinimalTrapped (resolved asks.file.program) asks.lines schedule
-      → ShowsHuntTrap plan from (sought_of name texts form input asks) schedule response → IsHunted name texts plan from form input response
+      → ShowsHuntTrap plan from (sought_of name texts output input asks) schedule response → IsHunted name texts plan from output input response
   broken : (asks : AsksNever texts input) (run : ℕ) (schedule : List ℕ) (line : ℕ) (v : Valued)
       → IsFirstFault (resolved asks.file.program) asks.lines plan from run
       → IsPartOf schedule (random_schedule plan (resolved asks.file.program).processes run) → length schedule ≤ plan.steps
       → IsMinimalBroken (resolved asks.file.program) asks.lines schedule line v
-      → ShowsHuntBroken plan from (sought_of name texts form input asks) schedule line v response
-      → IsHunted name texts plan from form input response
-  unhunted : Refuses 1 (IsUnexplored name texts input) response → IsHunted name texts plan from form input response
+      → ShowsHuntBroken plan from (sought_of name texts output input asks) schedule line v response
+      → IsHunted name texts plan from output input response
+  unhunted : Refuses 1 (IsUnexplored name texts input) response → IsHunted name texts plan from output input response
 
-abbrev pub Hunts : {F : Type 0} → ReadsOf F → ReadsInputOf F → F → F → List ℕ → List (List ℕ) → Plan → ℕ → Form → Response → Type 0
-Hunts Reads ReadsInput before after file never plan from form response =
-    AfterFile Reads ReadsInput before after file (λ input. IsHunted file never plan from form input response)
+abbrev pub Hunts : {F : Type 0} → ReadsOf F → ReadsInputOf F → F → F → List ℕ → List (List ℕ) → Plan → ℕ → Output → Response → Type 0
+Hunts Reads ReadsInput before after file never plan from output response =
+    AfterFile Reads ReadsInput before after file (λ input. IsHunted file never plan from output input response)

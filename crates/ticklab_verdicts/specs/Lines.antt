@@ -24,6 +24,10 @@ minimal_line = codes "a process traps under this schedule, and where any one ste
 abbrev pub trap_lines : List ℕ → List ℕ → List ℕ
 trap_lines found schedule = found ++ line_end ++ schedule_text schedule ++ line_end
 
+-- the schedule, in a line
+abbrev pub schedule_alone : List ℕ → List ℕ
+schedule_alone schedule = schedule_text schedule ++ line_end
+
 -- so many of them, as `1 run` and `2 runs`
 unfoldable pub many : ℕ → List ℕ → List ℕ → List ℕ
 many count one more = decimal count ++ codes " " ++ (if count == 1 then one else more)

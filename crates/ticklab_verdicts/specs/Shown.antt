@@ -1,4 +1,5 @@
--- What `explore` and `hunt` show of a program, in each form.
+-- What `explore` and `hunt` show of a program: a text, the schedule in it alone, or an object. Where there is no schedule the
+-- second is empty.
 use Rattle.std.specs.Prelude.{◌≡◌, ◌++◌, ℕ, Bool, true, false, if◌then◌else◌, List, [], ◌∷◌, codes, length, slice_get, Option, None, Some}
 use Rattle.base.specs.Lines.{line_end}
 use Rattle.base.specs.Plain.{Name, WholeProgram}
@@ -19,10 +20,10 @@ use Rattle.ticklab_json.specs.Hunts.{empty_hunt_data, plan_members}
 use Rattle.ticklab_json.specs.Members as J
 use Rattle.ticklab_files.specs.Asking.{TextPlace}
 use Rattle.ticklab_verdicts.specs.BySteps.{break_line_by, line_by}
-use Rattle.ticklab_files.specs.declared.form.Form.{Form}
-use Rattle.ticklab_files.specs.declared.form.Form.TheVariants.{Text, Json}
+use Rattle.ticklab_line.specs.declared.asking.Output.{Output}
+use Rattle.ticklab_line.specs.declared.asking.Output.TheVariants.{Text, ScheduleAlone, Json}
 use Rattle.ticklab_runs.specs.Lines.{broken_text}
-use Rattle.ticklab_verdicts.specs.Lines.{can_end_line, endless_line, ends_line, half_line, half_next, is_nobody, limit_line, minimal_break_line, minimal_line, next_line, nothing_line, safe_line, stuck_line, trap_lines}
+use Rattle.ticklab_verdicts.specs.Lines.{can_end_line, endless_line, ends_line, half_line, half_next, is_nobody, limit_line, minimal_break_line, minimal_line, next_line, nothing_line, safe_line, schedule_alone, stuck_line, trap_lines}
 use Rattle.ticklab_verdicts.specs.Loops.{IsLoopObject, IsLoopText}
 use Rattle.ticklab_files.specs.Responses.{Gives}
 use Rattle.ticklab_verdicts.specs.RunObjects.{IsBreakObject, IsRunObject}
@@ -44,24 +45,26 @@ pub record IsBrokenText (found input : List ℕ) (a : WholeProgram Name) (schedu
   pub is_pointed : IsPointed place.name place.text place.span (broken_text v) pointed
   pub whole : out ≡ traced ++ pointed
 
--- How it was found a text says in a line, and an object in members.
+-- How it was found a text says in a line, an object in members, and a schedule alone not at all.
 
-abbrev pub IsTrapAnswer : Form → List ℕ → Members → List ℕ → WholeProgram Name → List ℕ → List ℕ → Type 0
+abbrev pub IsTrapAnswer : Output → List ℕ → Members → List ℕ → WholeProgram Name → List ℕ → List ℕ → Type 0
 IsTrapAnswer Text found head input a schedule out = IsTrapText found input a schedule out
+IsTrapAnswer ScheduleAlone found head input a schedule out = out ≡ schedule_alone schedule
 IsTrapAnswer Json found head input a schedule out = IsRunObject head input a schedule None out
 
-abbrev pub IsBrokenAnswer : Form → List ℕ → Members → List ℕ → WholeProgram Name → List ℕ → TextPlace → Valued → List ℕ → Type 0
+abbrev pub IsBrokenAnswer : Output → List ℕ → Members → List ℕ → WholeProgram Name → List ℕ → TextPlace → Valued → List ℕ → Type 0
 IsBrokenAnswer Text found head input a schedule place v out = IsBrokenText found input a schedule place v out
+IsBrokenAnswer ScheduleAlone found head input a schedule place v out = out ≡ schedule_alone schedule
 IsBrokenAnswer Json found head input a schedule place v out = IsBreakObject head input a schedule place v out
 
 abbrev pub ShowsTrap : List ℕ → Members → Sought → List ℕ → Response → Type 0
-ShowsTrap found head s schedule = Gives 5 (IsTrapAnswer s.form found head s.input s.program schedule)
+ShowsTrap found head s schedule = Gives 5 (IsTrapAnswer s.output found head s.input s.program schedule)
 
 -- of the lines that must never hold the one of this number breaks
 pub record ShowsBroken (found : List ℕ) (head : Members) (s : Sought) (schedule : List ℕ) (line : ℕ) (v : Valued) (response : Response) : Type 0 where
   pub place : TextPlace
   pub there : slice_get s.places line ≡ Some place
-  pub shown : Gives 5 (IsBrokenAnswer s.form found head s.input s.program schedule place v) response
+  pub shown : Gives 5 (IsBrokenAnswer s.output found head s.input s.program schedule place v) response
 
 -- What `explore` finds it says in a line, in both forms.
 
@@ -72,17 +75,18 @@ abbrev pub SaysBroken : List ℕ → Sought → List ℕ → ℕ → Valued → 
 SaysBroken line = ShowsBroken line (says_members line)
 
 -- Without a schedule a text says something in a line, with more behind it; an object has so many states in place of that.
-abbrev pub IsStatesAnswer : Form → List ℕ → List ℕ → Bool → ℕ → List ℕ → List ℕ → Type 0
+abbrev pub IsStatesAnswer : Output → List ℕ → List ℕ → Bool → ℕ → List ℕ → List ℕ → Type 0
 IsStatesAnswer Text answer says is_merged states more out = out ≡ says ++ line_end ++ more
+IsStatesAnswer ScheduleAlone answer says is_merged states more out = out ≡ []
 IsStatesAnswer Json answer says is_merged states more out = out ≡ J.lines (states_data answer says is_merged states ∷ [])
 
 -- no process traps, and none of the lines breaks
 abbrev pub ShowsSafe : Sought → Bool → ℕ → Response → Type 0
-ShowsSafe s is_merged states = Gives 0 (IsStatesAnswer s.form (codes "safe") (safe_line is_merged (length s.places) states) is_merged states [])
+ShowsSafe s is_merged states = Gives 0 (IsStatesAnswer s.output (codes "safe") (safe_line is_merged (length s.places) states) is_merged states [])
 
 abbrev pub ShowsLimit : Sought → Bool → Limits → ℕ → Response → Type 0
 ShowsLimit s is_merged limits states =
-    Gives 6 (IsStatesAnswer s.form (codes "limit") (limit_line is_merged states) is_merged states (next_line is_merged limits states))
+    Gives 6 (IsStatesAnswer s.output (codes "limit") (limit_line is_merged states) is_merged states (next_line is_merged limits states))
 
 -- a fault: of a trap, and of a line that breaks, these lines say how it was found, and an object these members
 abbrev pub ShowsFault : List ℕ → List ℕ → Members → Sought → Fault → Response → Type 0
@@ -108,24 +112,26 @@ abbrev pub ShowsHuntBroken : Plan → ℕ → Sought → List ℕ → ℕ → Va
 ShowsHuntBroken plan from = ShowsBroken minimal_break_line (plan_members plan from)
 
 -- no process traps, and none of so many lines breaks, in the runs of this plan from this one on
-abbrev pub IsEmptyAnswer : Form → ℕ → Plan → ℕ → List ℕ → Type 0
+abbrev pub IsEmptyAnswer : Output → ℕ → Plan → ℕ → List ℕ → Type 0
 IsEmptyAnswer Text lines plan from out = out ≡ nothing_line lines plan from
+IsEmptyAnswer ScheduleAlone lines plan from out = out ≡ []
 IsEmptyAnswer Json lines plan from out = out ≡ J.lines (empty_hunt_data plan from ∷ [])
 
-abbrev pub ShowsEmptyHunt : Form → ℕ → Plan → ℕ → Response → Type 0
-ShowsEmptyHunt form lines plan from = Gives 0 (IsEmptyAnswer form lines plan from)
+abbrev pub ShowsEmptyHunt : Output → ℕ → Plan → ℕ → Response → Type 0
+ShowsEmptyHunt output lines plan from = Gives 0 (IsEmptyAnswer output lines plan from)
 
 abbrev pub ShowsHunt : Sought → Plan → ℕ → Option (ℕ × Fault) → Response → Type 0
 ShowsHunt s plan from (Some f) response = ShowsFault minimal_line minimal_break_line (plan_members plan from) s f.1 response
-ShowsHunt s plan from None response = ShowsEmptyHunt s.form (length s.places) plan from response
+ShowsHunt s plan from None response = ShowsEmptyHunt s.output (length s.places) plan from response
 
 -- Where nothing is wrong, ends are told: of steps that repeat for ever, and the schedule that leads there.
-abbrev pub IsLoopAnswer : Form → List ℕ → List ℕ → List ℕ → WholeProgram Name → List ℕ → List ℕ → List ℕ → List ℕ → Type 0
+abbrev pub IsLoopAnswer : Output → List ℕ → List ℕ → List ℕ → WholeProgram Name → List ℕ → List ℕ → List ℕ → List ℕ → Type 0
 IsLoopAnswer Text answer found input a schedule lead_in cycle out = IsLoopText found input a schedule lead_in cycle out
+IsLoopAnswer ScheduleAlone answer found input a schedule lead_in cycle out = out ≡ schedule_alone schedule
 IsLoopAnswer Json answer found input a schedule lead_in cycle out = IsLoopObject answer found input a schedule lead_in cycle out
 
 abbrev pub ShowsLoop : List ℕ → List ℕ → Sought → List ℕ → List ℕ → List ℕ → Response → Type 0
-ShowsLoop answer found s schedule lead_in cycle = Gives 7 (IsLoopAnswer s.form answer found s.input s.program schedule lead_in cycle)
+ShowsLoop answer found s schedule lead_in cycle = Gives 7 (IsLoopAnswer s.output answer found s.input s.program schedule lead_in cycle)
 
 abbrev pub ShowsStuck : Sought → Bool → MustStop → List ℕ → List ℕ → List ℕ → Response → Type 0
 ShowsStuck s is_merged asked = ShowsLoop (codes "stuck") (stuck_line is_merged (length s.places) asked) s
@@ -134,7 +140,7 @@ abbrev pub ShowsEndless : Sought → MustStop → List ℕ → List ℕ → Resp
 ShowsEndless s asked prefix cycle = ShowsLoop (codes "endless") (endless_line (length s.places) asked) s prefix [] cycle
 
 abbrev pub ShowsAllEnd : Sought → MustStop → ℕ → Response → Type 0
-ShowsAllEnd s asked states = Gives 0 (IsStatesAnswer s.form (codes "ends") (ends_line false (length s.places) asked states) false states [])
+ShowsAllEnd s asked states = Gives 0 (IsStatesAnswer s.output (codes "ends") (ends_line false (length s.places) asked states) false states [])
 
 -- where nobody is asked for, all of them end
 abbrev pub can_end_word : MustStop → List ℕ
@@ -142,12 +148,12 @@ can_end_word asked = if is_nobody asked then codes "ends" else codes "can-end"
 
 abbrev pub ShowsCanEnd : Sought → Bool → MustStop → ℕ → Response → Type 0
 ShowsCanEnd s is_merged asked states =
-    Gives 0 (IsStatesAnswer s.form (can_end_word asked) (can_end_line is_merged (length s.places) asked states) is_merged states [])
+    Gives 0 (IsStatesAnswer s.output (can_end_word asked) (can_end_line is_merged (length s.places) asked states) is_merged states [])
 
 -- by merged steps they can, and by single ones there are more states than this
 abbrev pub ShowsHalf : Sought → MustStop → ℕ → Limits → ℕ → Response → Type 0
 ShowsHalf s asked states limits others =
-    Gives 6 (IsStatesAnswer s.form (codes "limit") (half_line (length s.places) asked states others) true states (half_next limits others))
+    Gives 6 (IsStatesAnswer s.output (codes "limit") (half_line (length s.places) asked states others) true states (half_next limits others))
 
 -- where nothing is wrong in so many states
 abbrev pub ShowsKnown : Bool → MustStop → Sought → ℕ → Liveness → Response → Type 0

@@ -8,25 +8,25 @@ use Rattle.searches_explore.specs.Lines.{lines_of}
 use Rattle.ticketc_refusals.specs.Refusals.{SpelledIn}
 use Rattle.ticklab_json.specs.declared.found.Loop.{Loop}
 use Rattle.ticklab_files.specs.Asking.{AsksNever, TextPlace, place_of, places_by}
-use Rattle.ticklab_files.specs.declared.form.Form.{Form}
+use Rattle.ticklab_line.specs.declared.asking.Output.{Output}
 use Rattle.ticklab_verdicts.specs.declared.search.Search.{Search}
 
--- The program that an input is, the lines that must never hold of it, where each stands, and the form of the answer.
+-- The program that an input is, the lines that must never hold of it, where each stands, and what is printed of the answer.
 pub record Sought : Type 0 where
   pub input : List ℕ
   pub program : WholeProgram Name
   pub lines : List Formula
   pub places : List TextPlace
-  pub form : Form
+  pub output : Output
 
 -- of a file of this name, with these texts of a command line
-abbrev pub sought_of : (name : List ℕ) (texts : List (List ℕ)) (form : Form) (input : List ℕ) → AsksNever texts input → Sought
-sought_of name texts form input asks = record {
+abbrev pub sought_of : (name : List ℕ) (texts : List (List ℕ)) (output : Output) (input : List ℕ) → AsksNever texts input → Sought
+sought_of name texts output input asks = record {
   input = input;
   program = asks.file.program;
   lines = asks.lines;
   places = places_by name input asks.file.asked texts;
-  form = form;
+  output = output;
 }
 
 -- as the code holds it
@@ -36,7 +36,7 @@ sought_by s = record {
   program = s.spelled.now.program;
   lines = lines_of s.lines.now.properties.items;
   places = map place_of s.lines.now.places.items;
-  form = s.form;
+  output = s.output;
 }
 
 -- The input is this program, and each line has its place.

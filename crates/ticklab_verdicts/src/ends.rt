@@ -29,11 +29,11 @@ pub use loops::loop_text;
 use searches_explore::{Fault, Limits, Liveness, MustStop, Verdict, explore_ends};
 use std::alloc::Global;
 use ticklab_files::{
-    AnswerFault, DONE, Files, Form, LIMIT, LabFault, NoAnswer, Response, bytes_of, never_lines,
-    settled, spelled_program_of,
+    AnswerFault, DONE, Files, LIMIT, LabFault, NoAnswer, Response, bytes_of, never_lines, settled,
+    spelled_program_of,
 };
 use ticklab_json::Loop;
-use ticklab_line::Steps;
+use ticklab_line::{Output, Steps};
 pub use wording::push_processes;
 use wording::{
     can_end_line, endless_line, ends_line, half_line, half_next, is_nobody, no_process_line,
@@ -53,9 +53,9 @@ pub fn explored_ends<F: Files, W: Progress>(
     process: Option<u8>,
     limits: Limits,
     steps: Steps,
-    form: Form,
+    output: Output,
 ) -> Result<Response, LabFault>
-    ensures ok { IfOk result (ExploresEnds F.Reads F.ReadsInput (hearing W.begins W.hears) files.old files.new progress.old progress.new file.now (texts_of never.now) process limits steps form) }
+    ensures ok { IfOk result (ExploresEnds F.Reads F.ReadsInput (hearing W.begins W.hears) files.old files.new progress.old progress.new file.now (texts_of never.now) process limits steps output) }
     ensures err { IfErr result (IsOfFile (IsUnread F.Reads F.ReadsInput F.Lists F.Fails) file.now) }
 {
     let input = bytes_of(alloc, files, file)?;
@@ -67,7 +67,7 @@ pub fn explored_ends<F: Files, W: Progress>(
         process,
         limits,
         steps,
-        form,
+        output,
         progress,
     );
     Ok(concluded(alloc, progress, searched)?)
@@ -94,10 +94,10 @@ fn all_ends<W: Progress>(
     process: Option<u8>,
     limits: Limits,
     steps: Steps,
-    form: Form,
+    output: Output,
     progress: &mut W,
 ) -> Result<Response, NoAnswer>
-    ensures ok { IfOk result (λ response. IsHeard (hearing W.begins W.hears) progress.old progress.new (IsEndsExplored steps name.now (texts_of never.now) process limits form input.now response)) }
+    ensures ok { IfOk result (λ response. IsHeard (hearing W.begins W.hears) progress.old progress.new (IsEndsExplored steps name.now (texts_of never.now) process limits output input.now response)) }
     ensures refused { IfErr result (λ stop. IfRefused stop (λ report. IsEndsRefused name.now (texts_of never.now) process input.now report × (progress.old ≡ progress.new))) }
 {
     let (spelled, questions) = spelled_program_of(alloc, name, input)?;
@@ -108,7 +108,7 @@ fn all_ends<W: Progress>(
         spelled: &spelled,
         input,
         lines: &lines,
-        form,
+        output,
     };
     let task = Task {
         search,

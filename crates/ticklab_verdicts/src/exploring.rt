@@ -28,10 +28,10 @@ use searches_explore::{Fault, Limits, StepKind, Verdict, explore};
 use searches_hunt::shrink_fault;
 use std::alloc::{AllocError, Global};
 use ticklab_files::{
-    DONE, Files, Form, LIMIT, LabFault, Response, answer, asked_program, bytes_of, settled,
+    DONE, Files, LIMIT, LabFault, Response, answer, asked_program, bytes_of, settled,
 };
 use ticklab_json::{Head, found_states};
-use ticklab_line::Steps;
+use ticklab_line::{Output, Steps};
 
 /// How a trap is told that comes under no shorter schedule.
 const SHORTEST: &str = "a process traps under this schedule, and under no shorter one:";
@@ -57,9 +57,9 @@ pub fn explored<'a, F: Files, W: Progress>(
     never: &'a [&'a str],
     limits: Limits,
     steps: Steps,
-    form: Form,
+    output: Output,
 ) -> Result<Response, LabFault>
-    ensures ok { IfOk result (Explores F.Reads F.ReadsInput (hearing W.begins W.hears) files.old files.new progress.old progress.new file.now (texts_of never.now) limits steps form) }
+    ensures ok { IfOk result (Explores F.Reads F.ReadsInput (hearing W.begins W.hears) files.old files.new progress.old progress.new file.now (texts_of never.now) limits steps output) }
     ensures err { IfErr result (IsOfFile (IsUnread F.Reads F.ReadsInput F.Lists F.Fails) file.now) }
 {
     let input = bytes_of(alloc, files, file)?;
@@ -73,7 +73,7 @@ pub fn explored<'a, F: Files, W: Progress>(
         spelled: &asked.spelled,
         input: bytes,
         lines: &asked.lines,
-        form,
+        output,
     };
     let task = Task {
         search,
@@ -251,12 +251,13 @@ pub fn states_shown(
     says: &str,
     more: &str,
 ) -> Answered
-    ensures { IfOk result (Gives status (IsStatesAnswer search.now.form word.now says.now extent.is_merged extent.states more.now)) }
+    ensures { IfOk result (Gives status (IsStatesAnswer search.now.output word.now says.now extent.is_merged extent.states more.now)) }
 {
     let alloc = search.alloc;
-    let text = match search.form {
-        Form::Text => lines_of(alloc, says, more)?,
-        Form::Json => found_states(alloc, word, says, extent.is_merged, extent.states)?,
+    let text = match search.output {
+        Output::Text => lines_of(alloc, says, more)?,
+        Output::ScheduleAlone => String::new(alloc),
+        Output::Json => found_states(alloc, word, says, extent.is_merged, extent.states)?,
     };
     Ok(answer(alloc, status, text))
 }

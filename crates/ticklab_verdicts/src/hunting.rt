@@ -20,9 +20,10 @@ use searches_explore::Fault;
 use searches_hunt::{Mode, Plan, Trials, hunt};
 use std::alloc::{AllocError, Global};
 use ticklab_files::{
-    DONE, Files, Form, LabFault, NoAnswer, Response, answer, asked_program, bytes_of, settled,
+    DONE, Files, LabFault, NoAnswer, Response, answer, asked_program, bytes_of, settled,
 };
 use ticklab_json::{Head, empty_hunt};
+use ticklab_line::Output;
 
 /// How a trap is told whose schedule needs all its steps.
 pub const MINIMAL: &str =
@@ -59,14 +60,14 @@ pub fn hunted<F: Files, T: Trials>(
     never: &[&str],
     plan: Plan,
     from: u32,
-    form: Form,
+    output: Output,
 ) -> Result<Response, LabFault>
-    ensures ok { IfOk result (Hunts F.Reads F.ReadsInput files.old files.new file.now (texts_of never.now) plan from form) }
+    ensures ok { IfOk result (Hunts F.Reads F.ReadsInput files.old files.new file.now (texts_of never.now) plan from output) }
     ensures err { IfErr result (IsOfFile (IsUnread F.Reads F.ReadsInput F.Lists F.Fails) file.now) }
 {
     let input = bytes_of(alloc, files, file)?;
     let bytes = input.as_slice();
-    let hunted = random_schedules(alloc, trials, file, never, bytes, plan, from, form);
+    let hunted = random_schedules(alloc, trials, file, never, bytes, plan, from, output);
     Ok(settled(alloc, hunted)?)
 }
 
@@ -78,9 +79,9 @@ fn random_schedules<T: Trials>(
     input: &[u8],
     plan: Plan,
     from: u32,
-    form: Form,
+    output: Output,
 ) -> Result<Response, NoAnswer>
-    ensures ok { IfOk result (IsHunted name.now (texts_of never.now) plan from form input.now) }
+    ensures ok { IfOk result (IsHunted name.now (texts_of never.now) plan from output input.now) }
     ensures refused { IfErr result (λ stop. IfRefused stop (IsUnexplored name.now (texts_of never.now) input.now)) }
 {
     let asked = match asked_program(alloc, name, input, never) {
@@ -96,7 +97,7 @@ fn random_schedules<T: Trials>(
         spelled,
         input,
         lines,
-        form,
+        output,
     };
     Ok(shown(&search, plan, from, &hunted)?)
 }
@@ -138,12 +139,13 @@ fn fault_shown(search: &Search<'_, '_>, head: Head<'_>, fault: &Fault) -> Answer
 }
 
 fn empty_answer(search: &Search<'_, '_>, plan: Plan, from: u32) -> Result<String, AllocError>
-    ensures { IfOk result (λ text. IsEmptyAnswer search.now.form (length search.now.lines.now.places.items) plan from (string_bytes text)) }
+    ensures { IfOk result (λ text. IsEmptyAnswer search.now.output (length search.now.lines.now.places.items) plan from (string_bytes text)) }
 {
     let alloc = search.alloc;
-    match search.form {
-        Form::Text => nothing_line(alloc, search.lines.places.len(), plan, from),
-        Form::Json => empty_hunt(alloc, plan, from),
+    match search.output {
+        Output::Text => nothing_line(alloc, search.lines.places.len(), plan, from),
+        Output::ScheduleAlone => Ok(String::new(alloc)),
+        Output::Json => empty_hunt(alloc, plan, from),
     }
 }
 

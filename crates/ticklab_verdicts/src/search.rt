@@ -2,7 +2,8 @@ use base::NoMemory;
 use searches_explore::{Limits, MustStop};
 use std::alloc::Global;
 use ticketc_refusals::SpelledProgram;
-use ticklab_files::{Form, NeverLines, Response};
+use ticklab_files::{NeverLines, Response};
+use ticklab_line::Output;
 
 /// A program that is searched for faults.
 #[derive(Clone, Copy)]
@@ -13,8 +14,8 @@ pub struct Search<'a, 'b> {
     pub input: &'a [u8],
     /// What must never hold of it.
     pub lines: &'a NeverLines<'b>,
-    /// The form of the answer.
-    pub form: Form,
+    /// What is printed of the answer.
+    pub output: Output,
 }
 
 /// How a program is explored.

@@ -10,13 +10,15 @@ ghost use Rattle.ticklab_verdicts.specs.Shown.{ShowsLoop};
 ghost use Rattle.ticklab_verdicts.specs.Sought.{AreLawful, IsSound, sought_by};
 
 use crate::search::{Answered, Search};
+use crate::trapping::schedule_alone;
 use base::{Act, NoMemory};
 use language_schedules::write_schedule;
 use std::alloc::Global;
 use tick_kinds::Program;
 use ticketc_refusals::SpelledProgram;
-use ticklab_files::{Form, STUCK, answer};
+use ticklab_files::{STUCK, answer};
 use ticklab_json::{Loop, found_loop};
+use ticklab_line::Output;
 use ticklab_runs::spots_in;
 use ticklab_trace::{StatementPlace, StatementStep, source_steps, source_trace};
 
@@ -27,12 +29,16 @@ pub fn loop_shown(search: &Search<'_, '_>, word: &str, found: &str, looped: Loop
     ensures { IfOk result (ShowsLoop word.now found.now (sought_by search.now) looped.entry.schedule.now looped.entry.lead_in.now looped.entry.cycle.now) }
 {
     let alloc = search.alloc;
-    match search.form {
-        Form::Text => {
+    match search.output {
+        Output::Text => {
             let text = loop_text(alloc, search.spelled, search.input, found, looped)?;
             Ok(answer(alloc, STUCK, text))
         }
-        Form::Json => {
+        Output::ScheduleAlone => {
+            let text = schedule_alone(alloc, looped.schedule)?;
+            Ok(answer(alloc, STUCK, text))
+        }
+        Output::Json => {
             let text = loop_object(search, word, found, looped)?;
             Ok(answer(alloc, STUCK, text))
         }

@@ -51,10 +51,10 @@ returns-clause-ok g c =
     let held = c.in_ok-lines.lines in
     let there = subst (λ n. IsThere n c.args.process) c.processes.ensures.count c.in_ok-asked.ensures.there in
     ends_moved (hearing g.W.Progress.begins g.W.Watch.hears) _ _ c.args.steps
-    (record { input = input; program = p; lines = lines_of held.properties.items; places = []; form = c.args.form })
+    (record { input = input; program = p; lines = lines_of held.properties.items; places = []; output = c.args.output })
     (map place_of held.places.items) (places_by name input asked texts)
     c.in_ok-asked.asked (asked_by asked.ends c.args.process) c.args.limits c.in_ok-ends_found.field-0
-    (IsEndsExplored c.args.steps name texts c.args.process c.args.limits c.args.form input c.in_ok-ends_found.field-0)
+    (IsEndsExplored c.args.steps name texts c.args.process c.args.limits c.args.output input c.in_ok-ends_found.field-0)
     c.in_ok-lines.ensures.places c.in_ok-asked.ensures.asked
     (λ heard found. explored (record {
       file = record { program = p; is = c.in_ok-spelled.ensures.spelled.0; asked = asked; asks = c.in_ok-spelled.ensures.questions };

@@ -7,11 +7,11 @@ use Rattle.ticklab_verdicts.proofs.exploring.limit_shown.Goals as goal
 
 pub returns : goal.returns
 returns c =
-    let form = c.args.task.now.search.form in
+    let output = c.args.task.now.search.output in
     let merged = c.args.is_merged in
     let states = c.args.states in
     let more = next_line merged c.args.task.now.limits states in
-    subst (λ (says : List ℕ). IfOk c.states_shown.result (Gives 6 (IsStatesAnswer form (codes "limit") says merged states more)))
+    subst (λ (says : List ℕ). IfOk c.states_shown.result (Gives 6 (IsStatesAnswer output (codes "limit") says merged states more)))
     (c.deref.ensures ∙ c.in_ok-says.ensures)
-    (subst (λ (rest : List ℕ). IfOk c.states_shown.result (Gives 6 (IsStatesAnswer form (codes "limit") c.deref.result.now merged states rest)))
+    (subst (λ (rest : List ℕ). IfOk c.states_shown.result (Gives 6 (IsStatesAnswer output (codes "limit") c.deref.result.now merged states rest)))
     (c.deref-2.ensures ∙ c.in_ok-more.ensures) c.states_shown.ensures)

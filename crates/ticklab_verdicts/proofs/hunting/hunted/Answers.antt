@@ -9,7 +9,7 @@ returns-clause-ok g c =
     let hunted = c.random_schedules-hunted.ensures in (
       c.in_ok-input.input.items,
       c.in_ok-input.ensures.ok,
-      subst (λ (input : List ℕ). IsHunted c.args.file.now (texts_of c.args.never.now) c.args.plan c.args.from c.args.form input c.in_ok-settled.field-0) c.as_slice-bytes.ensures.value
+      subst (λ (input : List ℕ). IsHunted c.args.file.now (texts_of c.args.never.now) c.args.plan c.args.from c.args.output input c.in_ok-settled.field-0) c.as_slice-bytes.ensures.value
           (settled_with c.random_schedules-hunted.result c.in_ok-settled.field-0 (λ x h. h) (λ x h. unhunted h)
           hunted.ok hunted.refused c.in_ok-settled.ensures),
     )

@@ -30,7 +30,7 @@ returns-clause-ok g c =
     let plan = c.args.plan in
     let from = c.args.from in
     let value = c.as_slice-properties.ensures.value in
-    hunted_by c.args.name.now (texts_of c.args.never.now) c.args.form plan from c.args.input.now (asks_of known) (map place_of c.in-Ok.asked.lines.places.items)
+    hunted_by c.args.name.now (texts_of c.args.never.now) c.args.output plan from c.args.input.now (asks_of known) (map place_of c.in-Ok.asked.lines.places.items)
     known.stand known.many h c.in_ok-shown.field-0
     (subst (λ (lines : List Property). IfSome h (λ f. IsFirstFault (resolved p) (lines_of lines) plan from f.0)) value e.first)
     (subst (λ (lines : List Property). IfSome h (λ f. IfTraps f.1 (IsMinimalTrapped (resolved p) (lines_of lines)))) value e.trapped)
