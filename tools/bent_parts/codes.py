@@ -79,69 +79,50 @@ GO_ELSEWHERE = ("Jump", "Halt")
 
 
 class Place:
-    """A place of a code: its instruction, how many values stand there, and how many it leaves; with the places before it."""
+    """A place of a code: its instruction, how many values stand there and how many it leaves, where it jumps to, and the names
+    before and behind it."""
 
-    def __init__(self, instructions, sizes, before):
-        self.all, self.sizes, self.before, self.at = instructions, sizes, before, len(before)
-        self.instruction, self.height = instructions[self.at], height_behind(before)
-        self.left = self.height - self.instruction.form.takes + self.instruction.form.gives
-        self.target = self.instruction.numbers[0] if self.instruction.name in ("Jump", "JumpZero") else None
-        self.goes_on = self.instruction.name not in GO_ELSEWHERE
+    def __init__(self, at, instruction, height, names):
+        self.at, self.instruction, self.height, self.names = at, instruction, height, ["", *names, ""]
+        self.left = height - instruction.form.takes + instruction.form.gives
+        self.target = instruction.numbers[0] if instruction.name in ("Jump", "JumpZero") else None
+        self.goes_on = instruction.name not in GO_ELSEWHERE
 
     def name_at(self, place):
-        return self.all[place].name if 0 <= place < len(self.all) else None
+        return self.names[place + 1] if 0 <= place < len(self.names) - 2 else ""
 
-    def has_bad_slot(self):
+    def has_bad_slot(self, sizes):
         slots = zip(self.instruction.form.operands, self.instruction.numbers)
-        return any(number >= self.sizes[SLOTS[operand]] for operand, number in slots if operand in SLOTS)
+        return any(number >= sizes[SLOTS[operand]] for operand, number in slots if operand in SLOTS)
 
     def breaks_stamp(self):
-        last, following = self.name_at(self.at - 1), self.name_at(self.at + 1)
-        if self.instruction.name == "LoadWord":
-            return following != "Next"
-        if self.instruction.name == "Next":
-            return last != "LoadWord" or following != "Exchange"
-        if self.instruction.name == "Exchange":
-            return last != "Next" or self.instruction.numbers[0] != self.at - 2
-        return self.target is not None and self.name_at(self.target) in ("Next", "Exchange")
-
-    def jumps_to_other_height(self):
-        if self.target is None:
-            return False
-        known = [*self.before, self]
-        if self.target < len(known):
-            return known[self.target].height != self.left
-        return any(one.left != self.left for one in self.before if one.target == self.target)
-
-
-# What is looked at, in this order.
-TESTS = (
-    ("24 HeightsDiffer", lambda here: any(one.left != here.height for one in here.before if one.target == here.at)),
-    ("25 BadSlot", Place.has_bad_slot),
-    ("22 BadJump", lambda here: here.target is not None and here.target >= len(here.all)),
-    ("23 StackShort", lambda here: here.height < here.instruction.form.takes),
-    ("30 BadStamp", Place.breaks_stamp),
-    ("24 HeightsDiffer", Place.jumps_to_other_height),
-    ("26 FallsOff", lambda here: here.goes_on and here.at + 1 == len(here.all)),
-)
-
-
-def height_behind(before):
-    """The height of the place behind these."""
-    if not before:
-        return 0
-    if before[-1].goes_on:
-        return before[-1].left
-    return next((one.left for one in before if one.target == len(before)), 0)
+        last, name, following = self.names[self.at : self.at + 3]
+        return {
+            "LoadWord": following != "Next",
+            "Next": last != "LoadWord" or following != "Exchange",
+            "Exchange": last != "Next" or self.instruction.numbers[:1] != [self.at - 2],
+        }.get(name, self.target is not None and self.name_at(self.target) in ("Next", "Exchange"))
 
 
 def verify(instructions, sizes):
     if not instructions:
         raise Refusal("21 Empty")
-    before = []
-    for number in range(len(instructions)):
-        here = Place(instructions, sizes, before)
-        for name, is_fault in TESTS:
-            if is_fault(here):
-                raise Refusal(name, number)
-        before.append(here)
+    # How many values have to stand at a place: what stands there, or what an earlier jump to it leaves.
+    heights, names, before = {}, [it.name for it in instructions], None
+    for at, instruction in enumerate(instructions):
+        here = Place(at, instruction, before.left if before and before.goes_on else heights.get(at, 0), names)
+        is_met, target = heights.setdefault(at, here.height) == here.height, here.target
+        # What is looked at, in this order.
+        tests = (
+            ("24 HeightsDiffer", not is_met),
+            ("25 BadSlot", here.has_bad_slot(sizes)),
+            ("22 BadJump", target is not None and target >= len(names)),
+            ("23 StackShort", here.height < instruction.form.takes),
+            ("30 BadStamp", here.breaks_stamp()),
+            ("24 HeightsDiffer", target is not None and heights.setdefault(target, here.left) != here.left),
+            ("26 FallsOff", here.goes_on and at + 1 == len(names)),
+        )
+        for name, is_fault in tests:
+            if is_fault:
+                raise Refusal(name, at)
+        before = here

@@ -47,9 +47,9 @@ CASES = (
     ("`Out` takes nothing", "codes", "Out 1 0", "Out 0 0", RUNNABLE, b"tickcode 2 1 0 0 0\nOut\nHalt\n"),
     ("a code has at most two instructions", "codes", "MOST_INSTRUCTIONS = 65535", "MOST_INSTRUCTIONS = 2", RUNNABLE,
      b"tickcode 2 1 0 0 0\n" + b"Halt\n" * 3),
-    ("the tests of a place come in another order", "codes", 'len(here.all)),\n)\n', 'len(here.all)),\n)[::-1]\n', RUNNABLE,
+    ("the tests of a place come in another order", "codes", 'len(names)),\n        )\n', 'len(names)),\n        )[::-1]\n', RUNNABLE,
      b"tickcode 2 1 0 0 0\nStore 0\nHalt\n"),
-    ("a stamp may be jumped into", "codes", '    ("30 BadStamp", Place.breaks_stamp),\n', "", RUNNABLE,
+    ("a stamp may be jumped into", "codes", '            ("30 BadStamp", here.breaks_stamp()),\n', "", RUNNABLE,
      b"tickcode 2 1 0 0 0\nLoadWord\nNext\nExchange 0\nJump 1\n"),
     ("`Halt` goes on", "codes", '("Jump", "Halt")', '("Jump",)', RUNNABLE, b"tickcode 2 1 0 0 0\nHalt\n"),
 )

@@ -1,5 +1,7 @@
 """How editors colour a program: by the TextMate grammar, by Vim, and by the grammar of docs/LANGUAGE.md. Each tells a
 line as a text of its length, with a letter for what each character belongs to, a large one where a token begins."""
+import glob
+import itertools
 import json
 import os
 import re
@@ -24,58 +26,28 @@ GROUPS = {"tickSection": "k", "tickStatement": "k", "tickConditional": "k", "tic
           "tickDirective": "p", "tickError": "x", "": " "}
 
 
-def quoted_in(grammar):
-    quoted = set(re.findall(r'"([^"]+)"', grammar))
-    keywords = {it for it in quoted if it[0].isalpha()}
-    return keywords, quoted - keywords
+def letters_of(forms, line):
+    """A line by forms with their letters: the first match from each place on counts, of several the first form."""
+    told, at = "", 0
+    for it in re.finditer("|".join(f"(?P<_{number}>{form})" for number, (_, form) in enumerate(forms)), line, re.ASCII | re.DOTALL):
+        letter = forms[int(it.lastgroup[1:])][0]
+        told += " " * (it.start() - at) + letter.upper() + letter * (len(it[0]) - 1)
+        at = it.end()
+    return told + " " * (len(line) - at)
 
 
-def by_documents(line, keywords, signs):
-    signs = "|".join(map(re.escape, sorted(signs, key=len, reverse=True)))
-    kinds = rf"(?P<p>^#!.*)|(?P<c>#.*)|(?P<d>\d+)|(?P<n>\w+)|(?P<s>{signs})|(?P<_>[ \t\r])|(?P<x>.)"
-    form = re.compile(kinds, re.ASCII | re.DOTALL)
-    letters = ""
-    for token in form.finditer(line):
-        kind = "k" if token[0] in keywords else token.lastgroup.replace("_", " ")
-        letters += kind.upper() + kind * (len(token[0]) - 1)
-    return letters
+def of_documents(keywords, signs):
+    keywords, signs = ("|".join(map(re.escape, sorted(words, key=len, reverse=True))) for words in (keywords, signs))
+    return ("p", "^#!.*"), ("c", "#.*"), ("d", r"\d+"), ("k", rf"(?:{keywords})(?!\w)"), ("n", r"\w+"), ("s", signs), ("x", r"[^ \t\r]")
 
 
-class TextMate:
-    def __init__(self, text):
-        self.grammar = json.loads(text)
-        self.known(self.grammar, "name", "scopeName", "fileTypes", "patterns", "repository")
-        self.rules = list(self.flat(self.grammar["patterns"]))
-
-    @staticmethod
-    def known(rule, *keys):
-        if set(rule) - set(keys):
-            raise ValueError(f"{TEXTMATE}: a key that isn't read here: {', '.join(sorted(set(rule) - set(keys)))}")
-
-    def flat(self, patterns):
-        for rule in patterns:
-            self.known(rule, "include", "patterns", "match", "name", "captures")
-            if "include" in rule:
-                yield from self.flat([self.grammar["repository"][rule["include"][1:]]])
-            elif "patterns" in rule:
-                yield from self.flat(rule["patterns"])
-            else:
-                letter = next((SCOPES[it] for it in SCOPES if rule["name"].startswith(it)), None)
-                if letter is None:
-                    raise ValueError(f"{TEXTMATE}: a name that isn't read here: {rule['name']}")
-                yield letter, re.compile(rule["match"])
-
-    def letters(self, line):
-        """The first match from each place on counts, of several the first rule."""
-        letters, at = "", 0
-        while True:
-            searched = [(letter, form.search(line, at)) for letter, form in self.rules]
-            found = [(it.start(), letter, it.end()) for letter, it in searched if it]
-            if not found:
-                return letters + " " * (len(line) - at)
-            start, letter, end = min(found, key=lambda it: it[0])
-            letters += " " * (start - at) + letter.upper() + letter * (end - start - 1)
-            at = end
+def of_textmate(grammar, patterns):
+    for rule in patterns:
+        inner = [grammar["repository"][rule["include"][1:]]] if "include" in rule else rule.get("patterns")
+        if inner:
+            yield from of_textmate(grammar, inner)
+        else:
+            yield next(letter for scope, letter in SCOPES.items() if rule["name"].startswith(scope)), rule["match"]
 
 
 SCRIPT = """
@@ -119,27 +91,32 @@ def samples(keywords, signs):
         yield " ".join(f"{sign}{other} {other}{sign}1{sign}" for other in sorted(signs))
     yield from ("#! never a trap", "#!ends", "#! expect 5 # so", " #! no directive", "x = 1; #! nor this", "#", "#!",
                 "! & $ \xe9 \" ' . x! !x !== <== === <<= 007x 1_000", "\tx\t=\r", "")
+    for path in sorted(glob.glob(f"{TOP}/examples/*.tick")):
+        yield from read(path, "latin-1").split("\n")
 
 
-def wrong_colours(name, lines, wanted, found):
-    for line, one, other in zip(lines, wanted, found):
-        if one != other:
-            at = next((at for at, (a, b) in enumerate(zip(one, other)) if a != b), min(len(one), len(other)))
-            is_so = LETTERS.get(one[at : at + 1].lower(), "nothing")
-            told = LETTERS.get(other[at : at + 1].lower(), other)
-            more = ", which begins or ends elsewhere" if is_so == told else ""
-            return [f"{name}: {line!r}: from {line[at:]!r} on it has {told}{more}; by docs/LANGUAGE.md it is {is_so}"]
+def unlike(name, line, one, other):
+    for at, (right, told) in enumerate(itertools.zip_longest(one, other, fillvalue="")):
+        if right != told:
+            is_so, has = LETTERS.get(right.lower(), "nothing"), LETTERS.get(told.lower(), other)
+            more = ", which begins or ends elsewhere" if is_so == has else ""
+            return [f"{name}: {line!r}: from {line[at:]!r} on it has {has}{more}; by docs/LANGUAGE.md it is {is_so}"]
     return []
 
 
-def differences(texts, lines=(), is_by_vim=False):
-    keywords, signs = quoted_in(grammar_of(texts))
-    lines = [*lines, *samples(keywords, signs)]
-    wanted = [by_documents(line, keywords, signs) for line in lines]
+def differences(texts, is_by_vim=False):
+    """What is told of the first line that an editor colours otherwise than the grammar says."""
+    quoted = set(re.findall(r'"([^"]+)"', grammar_of(texts)))
+    keywords = {it for it in quoted if it[0].isalpha()}
+    name, lines = (VIM if is_by_vim else TEXTMATE), list(samples(keywords, quoted - keywords))
+    wanted = [letters_of(of_documents(keywords, quoted - keywords), line) for line in lines]
     if is_by_vim:
-        return wrong_colours(VIM, lines, [it.lower() for it in wanted], by_vim(texts[SYNTAX], lines))
-    try:
-        reader = TextMate(texts[TEXTMATE])
-    except (ValueError, KeyError) as fault:
-        return [str(fault)]
-    return wrong_colours(TEXTMATE, lines, wanted, list(map(reader.letters, lines)))
+        wanted, found = [it.lower() for it in wanted], by_vim(texts[SYNTAX], lines)
+    else:
+        try:
+            grammar = json.loads(texts[TEXTMATE])
+            forms = list(of_textmate(grammar, grammar["patterns"]))
+        except (ValueError, KeyError, StopIteration, RuntimeError) as fault:
+            return [f"{TEXTMATE}: a rule that isn't read here: {fault!r}"]
+        found = [letters_of(forms, line) for line in lines]
+    return next((it for it in map(unlike, itertools.repeat(name), lines, wanted, found) if it), [])

@@ -1,13 +1,12 @@
-"""Makes the completions for each shell; asks those of bash, and of zsh and fish where they are installed, in a folder
-with the files FILES. A row is the words of a command line, the last of which is to be completed, and what that may become
-by the help."""
+"""Makes the completions for each shell, and asks those of bash, in a folder with the files FILES. A row is the words of a
+command line, the last of which is to be completed, and what that may become by the help."""
+import itertools
 import os
 import shlex
 import tempfile
 
 from install_parts import bash, fish, help, zsh
-from parts.asking import NAMES, program_of_sources
-from parts.tool import TOP, ran, read, write
+from parts.tool import TOP, ran, write
 
 # Where each completion stands, and what makes it.
 PLACES = {
@@ -18,16 +17,12 @@ PLACES = {
 FILES = ("there.tick", "two.tick")
 
 
-def programs():
-    return [help.program(name, program_of_sources(name)) for name in NAMES]
+def made(texts):
+    return {place.format(it.name): text(it) for it in help.programs(texts) for place, text in PLACES.items()}
 
 
-def made(programs):
-    return {place.format(it.name): text(it) for it in programs for place, text in PLACES.items()}
-
-
-def stale(texts, made):
-    wrong = [path for path, text in made.items() if texts[path] != text]
+def stale(texts):
+    wrong = [path for path, text in made(texts).items() if texts[path] != text]
     return [f"{path}: not what is made of --help: run tools/completions" for path in wrong]
 
 
@@ -78,56 +73,29 @@ _{name} {name} {word} "${{COMP_WORDS[COMP_CWORD - 1]}}"
 printf '%s ' "${{COMPREPLY[@]}}"
 printf '\\036'
 """
-FISH = """
-complete -C {line} | string replace -r '\\t.*' ''
-printf '\\036'
-"""
-
-
-def in_bash(path, name, asked):
-    def of_row(words):
-        return BASH.format(words=shlex.join(words), last=len(words) - 1, word=shlex.quote(words[-1]), name=name)
-
-    return ["bash", "--norc", "-c", f". {shlex.quote(path)}\n{''.join(map(of_row, asked))}"]
-
-
-def in_fish(path, _name, asked):
-    lines = [FISH.format(line=shlex.quote(" ".join(words))) for words in asked]
-    return ["fish", "--no-config", "-c", f"source {shlex.quote(path)}\n{''.join(lines)}"]
-
-
-# The shells that are asked, and what is said to one that only reads its file.
-ASKED = {"bash": in_bash, "fish": in_fish}
-READ = {"bash": "-n", "zsh": "-n", "fish": "--no-execute"}
-
-
-def answers(command):
-    with tempfile.TemporaryDirectory() as own:
-        for name in FILES:
-            write(f"{own}/{name}", "")
-        came = ran(*command, cwd=own, timeout=600, env={**os.environ, "HOME": own})
-    return [it.split() for it in came.stdout.split("\x1e")]
+# The shells, and what is said to one that only reads its file.
+SHELLS = {"bash": "-n", "zsh": "-n", "fish": "--no-execute"}
 
 
 def place(shell, program):
     return next(it for it in PLACES if it.startswith(f"share/{shell}")).format(program.name)
 
 
-def wrong_in(shell, program, text=None):
-    """How many rows a shell is asked, and what is told of those that it answers otherwise, perhaps by another text.
-    (fish doesn't count the words before, so it may offer files too often.)"""
-    path, asked, wrong = place(shell, program), list(rows(program)), []
-    with tempfile.NamedTemporaryFile() as file:
-        file.write((text or read(path)).encode())
-        file.flush()
-        told = answers(ASKED[shell](file.name, program.name, [words for words, _ in asked]))
-    for (words, wanted), found in zip(asked, [*told, *[[]] * len(asked)]):
-        if sorted(set(found) & set(wanted) if shell == "fish" else found) != sorted(wanted):
-            wrong.append(f"{path}: `{' '.join(words)}` becomes {found}, and has to become {wanted}")
-    return len(asked), wrong
+def wrong_in_bash(texts, program):
+    """What is told of the rows that bash answers otherwise."""
+    path, asked = place("bash", program), list(rows(program))
+    script = "".join(BASH.format(words=shlex.join(words), last=len(words) - 1, word=shlex.quote(words[-1]), name=program.name)
+                     for words, _ in asked)
+    with tempfile.TemporaryDirectory() as own:
+        for name in FILES:
+            write(f"{own}/{name}", "")
+        came = ran("bash", "--norc", "-c", texts[path] + script, cwd=own, timeout=600, env={**os.environ, "HOME": own})
+    for (words, wanted), found in itertools.zip_longest(asked, map(str.split, came.stdout.split("\x1e")[: len(asked)]), fillvalue=[]):
+        if sorted(found) != sorted(wanted):
+            yield f"{path}: `{' '.join(words)}` becomes {found}, and has to become {wanted}"
 
 
 def unread(shell, program):
     path = place(shell, program)
-    came = ran(shell, READ[shell], f"{TOP}/{path}")
+    came = ran(shell, SHELLS[shell], f"{TOP}/{path}")
     return [f"{path}: {came.stdout.strip()}"] if came.returncode or came.stdout else []

@@ -1,6 +1,7 @@
 """What a program says of itself in its help: its commands, what each takes, and the statuses that it ends with.
 
-ticklab has a help of several sections, and one for each command. ticketc has a line: `usage: ticketc order N | check`.
+ticklab has a help of several sections, and one for each command. ticketc has a line: `usage: ticketc order N | check`. The
+texts stand under the words by which they are asked for, so that a fault may be planted in them.
 """
 import os
 import re
@@ -10,15 +11,14 @@ import sys
 import tempfile
 from collections import namedtuple
 
-from parts.tool import ran
+from parts.asking import NAMES, program_of_sources
+from parts.tool import TOP, ran
 
-USAGE = re.compile(r"usage: (\S+) (.*)\n")
 COMMAND = re.compile(r"  (\S+)  +(\S.*)")
 ARGUMENT = re.compile(r"  ([<\[])([^>\]]+)[>\]](\.\.\.)?(?:  +(\S.*))?")
 # (a value in `[` and `]` may be left out; a word behind the option that begins with no `-` is taken for it all the same)
 OPTION = re.compile(r"  (?:(-\w)(?:, )?|    )(--[\w-]+)?((?: \[?<[^>]+>\]?)*)(?:  +(\S.*))?")
 STATUS = re.compile(r"(?:: |; )(\d+) ")
-
 # (below the help of a command, and among those below the whole help)
 EXAMPLE = re.compile(r"^(?:Example: |  )(?=ticklab )(.*)$", re.MULTILINE)
 
@@ -32,8 +32,11 @@ Command = namedtuple("Command", "name about arguments options")
 Program = namedtuple("Program", "name commands options statuses")
 
 
-def said(path, *words):
-    return ran(path, *words).stdout
+def told():
+    texts = {f"{name} --help": ran(program_of_sources(name), "--help").stdout for name in NAMES}
+    for name, _ in rows(COMMAND, sections(texts["ticklab --help"]), "Commands"):
+        texts[f"ticklab help {name}"] = ran(program_of_sources("ticklab"), "help", name).stdout
+    return texts
 
 
 def sections(text):
@@ -50,85 +53,61 @@ def sections(text):
     return found
 
 
-def matched(form, lines):
-    for line in lines:
-        found = form.fullmatch(line)
-        if not found:
+def rows(form, found, heading):
+    for line in found.get(heading, []):
+        row = form.fullmatch(line)
+        if not row:
             sys.exit(f"a line of --help that tools/install_parts/help.py doesn't know: {line.strip()}")
-        yield found
+        yield [it or "" for it in row.groups()]
 
 
 def options_of(found):
-    return [
-        Option([it for it in (short, long) if it], re.findall(r"<([^>]+)>", values), about or "")
-        for short, long, values, about in (it.groups() for it in matched(OPTION, found.get("Options", [])))
-    ]
+    return [Option([it for it in (short, long) if it], re.findall(r"<([^>]+)>", values), about)
+            for short, long, values, about in rows(OPTION, found, "Options")]
 
 
 def arguments_of(found):
-    return [
-        Argument(name, about or "", bracket == "[", bool(dots))
-        for bracket, name, dots, about in (it.groups() for it in matched(ARGUMENT, found.get("Arguments", [])))
-    ]
+    return [Argument(name, about, bracket == "[", bool(dots)) for bracket, name, dots, about in rows(ARGUMENT, found, "Arguments")]
 
 
-def of_usage(name, line):
-    commands = []
-    for form in line.split(" | "):
-        words = form.split()
-        commands.append(Command(words[0], "", list(map(Argument, words[1:])), []))
-    return Program(name, commands, [], [])
-
-
-def of_sections(name, text, of_command):
-    """The program whose help has sections; `of_command` gives the help of a command."""
+def program(texts, name):
+    text = texts[f"{name} --help"]
+    if text.startswith("usage: "):
+        forms = [form.split() for form in text.removeprefix(f"usage: {name} ").split(" | ")]
+        return Program(name, [Command(form[0], "", list(map(Argument, form[1:])), []) for form in forms], [], [])
     found, commands = sections(text), []
-    for command, about in (it.groups() for it in matched(COMMAND, found.get("Commands", []))):
-        own = sections(of_command(command))
+    for command, about in rows(COMMAND, found, "Commands"):
+        own = sections(texts[f"{name} help {command}"])
         commands.append(Command(command, about, arguments_of(own), options_of(own)))
     return Program(name, commands, options_of(found), STATUS.findall(text.partition("Exit status")[2]))
 
 
-def program(name, path):
-    text = said(path, "--help")
-    usage = USAGE.fullmatch(text)
-    if usage:
-        return of_usage(name, usage[2])
-    return of_sections(name, text, lambda command: said(path, "help", command))
+def programs(texts):
+    return [program(texts, name) for name in NAMES]
 
 
-def helps(path):
-    whole = said(path, "--help")
-    names = [it[1] for it in matched(COMMAND, sections(whole).get("Commands", [])) if it[1] != "help"]
-    return whole, {name: said(path, name, "--help") for name in names}
-
-
-def wrong_examples(path, program, change=lambda text: text):
-    """How many commands ticklab has, and what is told of the examples in their help, which `change` may plant a fault in:
-    each shows one of its own, the whole help shows all of them, and each ends as it has to of this program."""
-    whole, own = helps(path)
-    of_each = {name: EXAMPLE.findall(change(text)) for name, text in own.items()}
+def wrong_examples(texts):
+    """What is told of the examples in the help of ticklab's commands: each shows one of its own, the whole help shows all of
+    them, and each ends as it has to."""
+    names = [it.name for it in program(texts, "ticklab").commands if it.name != "help"]
+    of_each = {name: EXAMPLE.findall(texts[f"ticklab help {name}"]) for name in names}
     wrong = [f"help of {name}: its example is none of it: {found}" for name, found in of_each.items()
              if [it.split()[1] for it in found] != [name]]
-    if EXAMPLE.findall(whole) != [it for found in of_each.values() for it in found]:
+    if EXAMPLE.findall(texts["ticklab --help"]) != [it for found in of_each.values() for it in found]:
         wrong.append("the whole help has other examples than those of the commands")
     with tempfile.TemporaryDirectory() as folder:
         os.mkdir(f"{folder}/programs")
         for name in ("lock.tick", "programs/lock.tick"):
-            shutil.copy(program, f"{folder}/{name}")
-        ran = [(it, *run_in(folder, path, it)) for found in of_each.values() for it in found]
-    # (after the steps of the example both processes run, and the cycle has steps of one)
-    return len(own), wrong + [f"help: {it}: status {status}, {bytes_written} bytes" for it, status, bytes_written in ran
-                              if status != (1 if " lasso " in it else 0) or not bytes_written]
+            shutil.copy(f"{TOP}/examples/flag_lock.tick", f"{folder}/{name}")
+        return wrong + [it for found in of_each.values() for line in found for it in wrong_run(folder, line)]
 
 
-def run_in(folder, path, line):
-    """The status of a command of ticklab in a folder, and how many bytes it writes there or shows."""
-    before = size_of(folder)
-    environment = {**os.environ, "PATH": f"{os.path.dirname(path)}:{os.environ['PATH']}"}
+def wrong_run(folder, line):
+    """What is told of a command of ticklab in a folder that ends otherwise, or writes nothing."""
+    environment = {**os.environ, "PATH": f"{os.path.dirname(program_of_sources('ticklab'))}:{os.environ['PATH']}"}
     came = ran("bash", "-c", line, cwd=folder, env=environment, stderr=subprocess.DEVNULL)
-    return came.returncode, len(came.stdout) + size_of(folder) - before
-
-
-def size_of(folder):
-    return sum(os.path.getsize(f"{folder}/{name}") for name in os.listdir(folder))
+    to = re.search(r"> (\S+)$", line)
+    written = os.path.getsize(f"{folder}/{to[1]}") if to else len(came.stdout)
+    # (after the steps of that example both processes run, and the cycle has steps of one)
+    if came.returncode != (1 if " lasso " in line else 0) or not written:
+        yield f"help: {line}: status {came.returncode}, {written} bytes"

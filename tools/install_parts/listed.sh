@@ -1,14 +1,15 @@
-# What tools/install and tools/uninstall have in common: their words, and the lists of what was put below PREFIX.
+# What tools/install and tools/uninstall have in common: their words, and the record of what was put below PREFIX.
 #
-# Each part has a list, its record, with a line `file SUM PATH` for each file and `folder PATH` for each folder that was made.
-# A file is ours if it is listed with the sum of what is in it. A file that isn't is neither replaced nor removed, and a
-# folder that isn't listed, or isn't empty, stays.
+# Each part has a record: the sums of its files as `sha256sum` writes them, and a line `folder PATH` for each folder that was
+# made for either part. A file is ours if it has the sum that stands there. One that isn't is neither replaced nor removed, and
+# a folder goes once nothing is in it.
 tool=${0##*/}
 umask 022
+export LC_ALL=C
 work=$(mktemp -d)
 trap 'rm -rf "$work"' EXIT
+: >"$work/removed"
 : >"$work/changed"
-removed=0
 
 # Sets `prefix` and `parts`.
 read_words() {
@@ -29,52 +30,33 @@ fail() {
     exit 1
 }
 
-record_of() {
-    case $1 in
-    programs) echo share/ticketc/installed ;;
-    library) echo share/ticket_word/installed ;;
-    esac
-}
-
-sum_of() {
-    sha256sum <"$1" | cut -c 1-64
-}
-
-# Refuses a record that isn't such a list, or that names a file elsewhere.
+# Reads the record of a part: what it lists, which of that are ours, and which folders were made.
 read_record() {
-    [ -f "$record" ] || return 0
-    bad=$(grep -Evm 1 '^(file [0-9a-f]{64}|folder) .' "$record" || grep -Em 1 '^file [0-9a-f]{64} (/|(.*/)?\.\.(/|$))' "$record" || true)
-    [ -z "$bad" ] || fail "$record: no list of what was installed: $bad"
+    case $1 in
+    programs) record=share/ticketc/installed ;;
+    library) record=share/ticket_word/installed ;;
+    esac
+    { [ ! -f "$prefix/$record" ] || cat "$prefix/$record"; } >"$work/record"
+    bad=$(grep -Evm 1 '^([0-9a-f]{64} |folder) [^/]' "$work/record" || grep -Em 1 ' (.*/)?\.\.(/|$)' "$work/record" || true)
+    [ -z "$bad" ] || fail "$prefix/$record: no list of what was installed: $bad"
+    cat "$prefix"/share/ticketc/installed "$prefix"/share/ticket_word/installed 2>/dev/null | grep '^folder ' | sort -ru >"$work/folders" || true
+    grep -v '^folder ' "$work/record" | cut -c 67- | sort -u >"$work/listed"
+    # (it says of each whether it has its sum)
+    { [ ! -s "$work/listed" ] || (cd "$prefix" && sha256sum -c "$work/record" 2>/dev/null); } | sed -n 's/: OK$//p' | sort -u >"$work/ours"
 }
 
-# The folders of a record, by their whole paths.
-folders_in() {
-    [ ! -f "$1" ] || sed -n 's/^folder //p' "$1" | while read -r path; do
-        realpath -ms "$prefix/$path"
-    done
-}
-
-# Removes those folders of a record that are empty, innermost first.
-remove_folders() {
-    folders_in "$1" | sort -r | while read -r path; do
-        rmdir "$path" 2>/dev/null || true
-    done
-}
-
-# Removes those files of a record that are ours, and notes those that stay, since they were changed.
-remove_files() {
-    sed -n 's/^file //p' "$1" >"$work/files"
-    while read -r sum path; do
-        if [ -f "$prefix/$path" ] && [ "$(sum_of "$prefix/$path")" = "$sum" ]; then
-            rm "$prefix/$path"
-            removed=$((removed + 1))
-        fi
-    done <"$work/files"
-    cut -d ' ' -f 2- "$work/files" | sort -u | while read -r path; do
-        [ ! -e "$prefix/$path" ] || echo "$path"
+# Removes those of these paths that are ours, and the folders that are empty then; notes those that were changed.
+remove() {
+    sort -u >"$work/going"
+    comm -12 "$work/going" "$work/ours" >"$work/gone"
+    (cd "$prefix" && xargs -rd '\n' rm -- <"$work/gone")
+    cat "$work/gone" >>"$work/removed"
+    cut -d ' ' -f 2- "$work/folders" | (cd "$prefix" && xargs -rd '\n' rmdir --ignore-fail-on-non-empty 2>/dev/null) || true
+    comm -23 "$work/going" "$work/ours" | while read -r path; do
+        [ ! -e "$prefix/$path" ] || echo "$prefix/$path: stays, since it was changed"
     done >>"$work/changed"
 }
 
 tell_changed() {
-    sed "s|.*|$tool: $prefix/&: stays, since it was changed|" "$work/changed" >&2
+    sed "s/^/$tool: /" "$work/changed" >&2
 }

@@ -1,91 +1,58 @@
 """Manual pages, written in mdoc: what they say of commands, options and statuses, beside what the help says.
 
-Both are lists of short texts, so that what one lacks can be told: `SYNOPSIS: explore [--limit STATES]`.
+Both are sets of short texts, so that what one lacks can be told: `SYNOPSIS: explore [--limit STATES]`.
 """
 import os
 import re
 import shlex
-from collections import namedtuple
 
+from install_parts import help
 from parts import documents
 from parts.tool import ran
 
 ESCAPES = {"\\-": "-", "\\(aq": "'", "\\(ga": "`", "\\(ti": "~", "\\(ha": "^", "\\e": "\\", "\\&": ""}
 ESCAPE = re.compile("|".join(map(re.escape, ESCAPES)))
 REFUSAL = re.compile(r"(\d+) ([A-Z][A-Za-z]+)")
+# (a quote closes where the line ends, so it would go on past these)
+OPEN_QUOTE = re.compile(r"^\.(?:.* )?Ql .* (?:No|Ql|Fl|Cm|Pq|,) .*$", re.MULTILINE)
+PAGES = ("share/man/man1/ticketc.1", "share/man/man1/ticklab.1", "share/man/man5/tick.5")
 
 
 def plain(text):
     return ESCAPE.sub(lambda it: ESCAPES[it[0]], text)
 
 
-# A line of a page: its section, its subsection, its macro or "", and its words or its text.
-Line = namedtuple("Line", "section part macro words text")
-
-
-def words_of(text):
-    return [plain(it[0] or it[1]) for it in re.findall(r'"([^"]*)"|(\S+)', text)]
-
-
-def lines_of(text):
-    section = part = ""
-    for line in text.split("\n"):
-        macro, _, rest = line[1:].partition(" ") if line.startswith(".") else ("", "", "")
-        if macro == "Sh":
-            section, part = rest, ""
-        elif macro == "Ss":
-            part = rest
-        yield Line(section, part, macro, words_of(rest), plain(line))
-
-
-def marked(words, mark):
-    """The words after each `Fl`, `Ar` or `Cm` of a line, up to the next macro."""
-    found, is_in = [], False
-    for word in words:
-        if word in ("Fl", "Ar", "Cm", "Ql", "Pq", "Op", ",", ".", ")", ";", ":"):
-            is_in = word == mark
-        elif is_in:
-            found.append(word)
-    return found
-
-
-def options_in(words):
-    return " ".join([*(f"-{it}" for it in marked(words, "Fl")), *marked(words, "Ar")])
-
-
-def synopsis(lines):
-    command, arguments = None, {}
-    for line in lines:
-        words = [line.macro, *line.words]
-        if line.macro == "Cm":
-            command = line.words[0]
-        if line.macro == "Op" and "Fl" in words:
-            yield f"SYNOPSIS: {command} [{options_in(words)}]"
-        elif line.macro in ("Cm", "Op", "Ar"):
-            given = marked(words, "Ar")
-            forms = [" ".join(given)] if given[1:] == ["..."] else given
-            arguments.setdefault(command, []).extend(f"[{it}]" if line.macro == "Op" else it for it in forms)
-    for name, words in arguments.items():
-        yield f"SYNOPSIS: {' '.join([name, *words])}"
+def shown(line):
+    """A line of a page as it is read: `Fl -limit Ar STATES` as `--limit STATES`."""
+    text = re.sub(r"\b(?:Ar|Cm|Ql|Op) ", "", plain(line).removeprefix(".It ").removeprefix("."))
+    return re.sub(r"\bFl ", "-", text)
 
 
 def page_says(text):
-    lines = list(lines_of(text))
-    said = set(synopsis(it for it in lines if it.section == "SYNOPSIS"))
-    for line in lines:
-        if line.macro == "Ss" and line.section == "COMMANDS":
-            said.add(f"COMMANDS: {line.part}")
-        if line.macro == "It" and line.section == "COMMANDS" and "Fl" in line.words:
-            said.add(f"COMMANDS: {line.part} {options_in(line.words)}")
-        if line.text.startswith("$ ") and line.section == "COMMANDS":
-            said |= {f"COMMANDS: an example of {word}" for word in line.text.split() if word == line.part}
-        if line.macro == "It" and line.section == "EXIT STATUS":
-            said.add(f"EXIT STATUS: {line.words[0]}")
-        if line.macro == "It" and line.words[:2] == ["Ql", "refused"]:
-            said.add(f"REFUSALS: {line.words[2]} {line.words[3]}")
-        said |= {f"a command {it}" for it in marked([line.macro, *line.words], "Cm")}
-        said |= {f"an option -{it}" for it in marked([line.macro, *line.words], "Fl")}
-    return said
+    said, section, part, synopsis = set(), "", "", {}
+    for line in text.split("\n"):
+        macro, _, rest = line.partition(" ")
+        section, part = (rest, "") if macro == ".Sh" else (section, rest if macro == ".Ss" else part)
+        if section == "SYNOPSIS" and macro == ".Cm":
+            part = rest.split()[0]
+            synopsis[part] = [shown(line)]
+        elif section == "SYNOPSIS" and line.startswith(".Op Fl"):
+            said.add(f"SYNOPSIS: {part} [{shown(line)}]")
+        elif section == "SYNOPSIS" and macro in (".Op", ".Ar"):
+            synopsis[part].append(f"[{shown(line)}]" if macro == ".Op" else shown(line))
+        elif section == "COMMANDS" and macro == ".Ss":
+            said.add(f"COMMANDS: {part}")
+        elif section == "COMMANDS" and line.startswith(".It Fl"):
+            said.add(f"COMMANDS: {part} {shown(line)}")
+        elif section == "COMMANDS" and part in line.split() and macro == "$":
+            said.add(f"COMMANDS: an example of {part}")
+        elif section == "EXIT STATUS" and macro == ".It":
+            said.add(f"EXIT STATUS: {rest}")
+        elif line.startswith(".It Ql refused"):
+            said.add(f"REFUSALS: {' '.join(line.split()[3:5])}")
+        said |= {f"a command {it}" for it in re.findall(r"\bCm (\w+)", line)}
+        said |= {f"an option -{it}" for it in re.findall(r"\bFl (\S+)", line)}
+    return said | {f"SYNOPSIS: {' '.join(words)}" for words in synopsis.values()}
 
 
 def argument(it):
@@ -118,13 +85,13 @@ def section(text, heading):
 
 
 def first_cells(text):
-    return [line.split("|")[1] for line in text.split("\n") if line.startswith("| ")]
+    return [line.split("|")[1].strip() for line in text.split("\n") if line.startswith("| ")]
 
 
 def documents_say(texts):
     statuses = first_cells(section(texts["docs/LANGUAGE.md"], "Statuses"))
     refusals = first_cells(section(texts["docs/FORMATS.md"], "Refusals"))
-    said = {f"EXIT STATUS: {it.strip()}" for it in statuses if it.strip().isdigit()}
+    said = {f"EXIT STATUS: {it}" for it in statuses if it.isdigit()}
     return said | {f"REFUSALS: {number} {name}" for cell in refusals for number, name in REFUSAL.findall(cell)}
 
 
@@ -146,6 +113,7 @@ def words_unlike(texts):
 
 
 def blocks(text):
+    """The lines of each literal block, with their numbers."""
     block = None
     for number, line in enumerate(text.split("\n"), 1):
         if line.startswith(".Bd -literal"):
@@ -158,42 +126,25 @@ def blocks(text):
 
 
 def lacking_grammars(texts):
-    shown = [" ".join(line for _, line in block).split() for block in blocks(texts[path_of("tick")])]
+    shown = [" ".join(line for _, line in block).split() for block in blocks(texts[PAGES[2]])]
     return [path for path in GRAMMARS if grammar_of(texts, path).split() not in shown]
 
 
-def open_quotes(text):
-    """The lines whose quote goes on past a macro or a comma: it closes where the line ends."""
-    for line in lines_of(text):
-        words = [line.macro, *line.words]
-        behind = words[words.index("Ql") + 1:-1] if "Ql" in words else []
-        if {"No", "Ql", "Fl", "Cm", "Pq", ","} & set(behind):
-            yield line.text
-
-
-def path_of(name):
-    number = 5 if name == "tick" else 1
-    return f"share/man/man{number}/{name}.{number}"
-
-
-PAGES = tuple(map(path_of, ("ticketc", "ticklab", "tick")))
-
-
-def differences(texts, programs):
+def differences(texts):
     wrong = []
-    for program in programs:
-        wanted, path = help_says(program), path_of(program.name)
+    for program, path in zip(help.programs(texts), PAGES):
+        wanted, said = help_says(program), page_says(texts[path])
         wanted |= set() if program.statuses else documents_say(texts)
-        said = page_says(texts[path])
         wrong += [f"{path}: lacks {it}" for it in sorted(wanted - said)]
         wrong += [f"{path}: has {it}, which {program.name} has not" for it in sorted(said - wanted - names_of(program))]
-    wrong += [f"{path_of('tick')}: no grammar as in {it}" for it in lacking_grammars(texts)]
+    wrong += [f"{PAGES[2]}: no grammar as in {it}" for it in lacking_grammars(texts)]
     wrong += words_unlike(texts)
-    return wrong + [f"{path}: a quote closes too late: {it}" for path in PAGES for it in open_quotes(texts[path])]
+    return wrong + [f"{path}: a quote closes too late: {it}" for path in PAGES for it in OPEN_QUOTE.findall(texts[path])]
 
 
 def wrong_examples(texts, path, prefix):
-    return documents.wrong_in(path, blocks(texts[path]), f"{prefix}/share/doc/ticketc/examples", PATH=f"{prefix}/bin:{os.environ['PATH']}")
+    path_of_programs = f"{prefix}/bin:{os.environ['PATH']}"
+    return documents.wrong_in(path, blocks(texts[path]), f"{prefix}/share/doc/ticketc/examples", PATH=path_of_programs)[1]
 
 
 # What judges the form of a page.

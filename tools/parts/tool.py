@@ -69,13 +69,13 @@ class Texts(dict):
         return Texts(self, **{path: self[path].replace(old, new)})
 
 
-def not_told(plants, faults):
-    """The plants that a judge of texts doesn't tell. Each is a path, what stands there, what is put in its place, and words of
-    what has to be told then; None where nothing may be."""
-    for path, old, new, wanted in plants:
-        told = list(faults(Texts().planted(path, old, new)))
+def told_otherwise(cases):
+    """Of cases those that are told otherwise. Each is what is planted, all that is told of it, and words of what has to be told;
+    None where nothing may be."""
+    for what, told, wanted in cases:
+        told = list(told)
         if told if wanted is None else not any(wanted in it for it in told):
-            yield f"{path}: planted is {new!r}, {wanted or 'nothing'} is wanted, and told is {told[:3]}"
+            yield f"{what}: {wanted or 'nothing'} is wanted, and told is {told[:3]}"
 
 
 @contextlib.contextmanager
@@ -103,10 +103,16 @@ def tell(wrong, figures, missing=()):
     return 1 if wrong else 0
 
 
+def tell_cases(name, cases):
+    """The same of cases: how many there are, and which are told otherwise."""
+    cases = list(cases)
+    missed = list(told_otherwise(cases))
+    return tell(missed, f"{name}: {len(cases)} cases, {len(missed)} are told otherwise")
+
+
 def tell_plants(name, plants, faults):
-    """The same of plants that a judge of texts has to tell."""
-    missed = list(not_told(plants, faults))
-    return tell(missed, f"{name}: {len(plants)} faults planted, {len(missed)} told otherwise")
+    """The same of texts with plants, each a path, what stands there, what is put in its place, and words of what has to be told."""
+    return tell_cases(name, ((f"{path}: {new!r}", faults(Texts().planted(path, old, new)), wanted) for path, old, new, wanted in plants))
 
 
 def start(document, does, **options):

@@ -38,26 +38,17 @@ operator: 1 + | 1 - | 1 * | 1 / | 1 %
 """
 
 
-class Writer:
-    def __init__(self, random):
-        self.random, self.parts = random, {}
-        for part, _, lines in (line.partition(": ") for line in TABLE.strip().split("\n")):
-            for times, *symbols in map(str.split, lines.split(" | ")):
-                self.parts.setdefault(part, []).extend([symbols] * int(times))
-
-    def drawn(self, symbol):
-        if symbol not in self.parts:
-            return [symbol]
-        lines = self.parts[symbol]
-        # (of all that draws, this alone draws the same in each version of Python)
-        line = lines[int(self.random.random() * len(lines))]
-        return [word for inner in line for word in self.drawn(inner)]
-
-    def text(self):
-        """A program, with a line feed behind each statement and bracket."""
-        return re.sub("(?<=[;{}]) |(?<=begin) ", "\n", " ".join(self.drawn("program"))).encode() + b"\n"
-
-
 def texts():
-    writer = Writer(Random(SEED))
-    return [writer.text() for _ in range(HOW_MANY)]
+    """Each with a line feed behind each statement and bracket."""
+    random, parts = Random(SEED), {}
+    for part, _, lines in (line.partition(": ") for line in TABLE.strip().split("\n")):
+        for times, *symbols in map(str.split, lines.split(" | ")):
+            parts.setdefault(part, []).extend([symbols] * int(times))
+
+    def drawn(symbol):
+        if symbol not in parts:
+            return [symbol]
+        # (of all that draws, this alone draws the same in each version of Python)
+        return [word for inner in parts[symbol][int(random.random() * len(parts[symbol]))] for word in drawn(inner)]
+
+    return [re.sub("(?<=[;{}]) |(?<=begin) ", "\n", " ".join(drawn("program"))).encode() + b"\n" for _ in range(HOW_MANY)]
