@@ -1,8 +1,7 @@
-pub mod Conditions
 pub mod Weakening
 pub mod Begun
 pub mod Fitting
 pub mod Utf8
 pub mod Backwards
 pub mod Tails
-pub mod Helps
+pub mod Rows

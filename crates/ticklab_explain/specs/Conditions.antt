@@ -1,17 +1,31 @@
--- What the rules of hints ask about a place.
-use Rattle.std.specs.Prelude.{ℕ, ◌==◌, nat_eq, Bool, true, not, ◌&&◌, ◌||◌, List, [], ◌∷◌, Option, Some, None, if◌then◌else◌}
-use Rattle.std.specs.Borrow.{Bor}
-use Rattle.std.specs.List.{list_any, starts_with, ends_with}
-use Rattle.ticklab_explain.specs.Facts.{is_so}
-use Rattle.ticklab_explain.specs.Following.{is_one_of_now}
-use Rattle.ticklab_explain.specs.Helps.{Help, help_of}
+-- What the rows of hints ask about a place, and which of them is the first that fits.
+use Rattle.std.specs.Prelude.{ℕ, ◌==◌, nat_eq, Bool, not, ◌&&◌, List, [], ◌∷◌, Option, Some, None, is_none, is_some, length, slice_index, if◌then◌else◌}
+use Rattle.std.specs.List.{list_all, list_any, starts_with, ends_with}
+use Rattle.std.specs.Str.{bytes_eq}
+use Rattle.ticklab_explain.specs.Following.{sample}
+use Rattle.ticklab_explain.specs.Hints.{first_declaration}
 use Rattle.ticklab_explain.specs.Parts.{has}
-use Rattle.ticklab_explain.specs.Rules.{is, is_name_after, is_name_before, wants}
-use Rattle.ticklab_explain.specs.Settings.{Setting, about, after, before, here, shortened}
-use Rattle.ticklab_explain.specs.declared.condition.Condition.{Condition}
-use Rattle.ticklab_explain.specs.declared.condition.Condition.TheVariants as C
-use Rattle.ticklab_explain.specs.declared.hint.Hint.{Hint}
+use Rattle.ticklab_explain.specs.Pieces.{is_one_of}
+use Rattle.ticklab_explain.specs.Rows.{Help, Row}
+use Rattle.ticklab_explain.specs.Settings.{Setting, about, after, before, has_begun, here, is_keyword_here, is_name_after, is_name_at, is_name_before, open_brace, shortened, sort_here, touches}
+use Rattle.ticklab_explain.specs.declared.condition.Ask.{Ask}
+use Rattle.ticklab_explain.specs.declared.condition.Ask.TheVariants as A
+use Rattle.ticklab_explain.specs.declared.condition.Fact.{Fact}
+use Rattle.ticklab_explain.specs.declared.condition.Fact.TheVariants as F
 use Rattle.ticklab_explain.specs.declared.wanted.Wanted.{Wanted}
+
+abbrev pub is_so : Setting → Fact → Bool
+is_so s F.Empty = length s.tokens == 0
+is_so s F.AtStart = s.at == 0
+is_so s F.AtEnd = is_none (sort_here s)
+is_so s F.Name = is_name_at s s.at
+is_so s F.Keyword = is_keyword_here s
+is_so s F.Begun = has_begun s
+is_so s F.InBraces = is_some (open_brace s)
+is_so s F.Touches = touches s
+is_so s F.Doubled = bytes_eq (after s 1) (here s)
+is_so s F.BeforeEquals = slice_index s.text s.span.end == 61
+is_so s F.Declared = is_some (first_declaration s)
 
 -- the item of a schedule that the refusal is about
 unfoldable pub item : Setting → List ℕ
@@ -20,37 +34,36 @@ item s = shortened (about s)
 abbrev pub contains : List ℕ → ℕ → Bool
 contains item byte = list_any (λ one. one == byte) item
 
-abbrev pub has_one_of : List ℕ → List ℕ → Bool
-has_one_of item bytes = list_any (λ byte. contains item byte) bytes
+-- the text begins with these two bytes
+unfoldable pub begins_with : Setting → ℕ → ℕ → Bool
+begins_with s first second = (slice_index s.text 0 == first) && (slice_index s.text 1 == second)
 
-abbrev pub holds : Setting → List Wanted → Condition → Bool
-holds s wanted (C.Here word) = is (here s) word.now
-holds s wanted (C.HereOneOf words) = is_one_of_now (here s) words.now
-holds s wanted (C.Before count word) = is (before s count) word.now
-holds s wanted (C.BeforeOneOf count words) = is_one_of_now (before s count) words.now
-holds s wanted (C.NotBefore count word) = not (is (before s count) word.now)
-holds s wanted (C.After count word) = is (after s count) word.now
-holds s wanted (C.NotAfter count word) = not (is (after s count) word.now)
-holds s wanted (C.NameBefore count) = is_name_before s count
-holds s wanted (C.NameAfter count) = is_name_after s count
-holds s wanted (C.About word) = is (about s) word.now
-holds s wanted (C.AboutOneOf words) = is_one_of_now (about s) words.now
-holds s wanted (C.ItemHas bytes) = has_one_of (item s) bytes.now
-holds s wanted (C.ItemBegins word) = starts_with nat_eq (item s) word.now
-holds s wanted (C.ItemEnds word) = ends_with nat_eq (item s) word.now
-holds s wanted (C.Wants sample) = wants wanted sample.now
-holds s wanted (C.WantsEither one other) = wants wanted one.now || wants wanted other.now
-holds s wanted (C.Has part) = has s part
-holds s wanted (C.Is fact) = is_so s fact
-holds s wanted (C.Not fact) = not (is_so s fact)
+-- a token is wanted that is told by one of these samples
+abbrev pub wants : List Wanted → List (List ℕ) → Bool
+wants wanted samples = list_any (λ one. is_one_of (sample one) samples) wanted
 
--- what is said of those before, and all of these
-abbrev pub fit : Setting → List Wanted → Bool → List Condition → Bool
-fit s wanted so_far [] = so_far
-fit s wanted so_far (condition ∷ conditions) = so_far && fit s wanted (holds s wanted condition) conditions
+-- what is asked, with the words that it speaks of
+abbrev pub holds : Setting → List Wanted → Ask → List (List ℕ) → Bool
+holds s wanted A.Here words = is_one_of (here s) words
+holds s wanted (A.Before count) words = is_one_of (before s count) words
+holds s wanted (A.After count) words = is_one_of (after s count) words
+holds s wanted (A.NotBefore count) words = not (is_one_of (before s count) words)
+holds s wanted (A.NotAfter count) words = not (is_one_of (after s count) words)
+holds s wanted (A.NameBefore count) words = is_name_before s count
+holds s wanted (A.NameAfter count) words = is_name_after s count
+holds s wanted A.About words = is_one_of (about s) words
+holds s wanted (A.ItemHas byte) words = contains (item s) byte
+holds s wanted (A.ItemBegins byte) words = starts_with nat_eq (item s) (byte ∷ [])
+holds s wanted (A.ItemEnds byte) words = ends_with nat_eq (item s) (byte ∷ [])
+holds s wanted (A.ItemEndsWith first last) words = ends_with nat_eq (item s) (first ∷ last ∷ [])
+holds s wanted (A.TextBegins first second) words = begins_with s first second
+holds s wanted A.Wants words = wants wanted words
+holds s wanted (A.Has part) words = has s part
+holds s wanted (A.Is fact) words = is_so s fact
+holds s wanted (A.Not fact) words = not (is_so s fact)
 
--- of rules, which are conditions and a hint, the hint of the first whose conditions all hold
-abbrev pub first_fitting : Setting → List Wanted → List (Bor (List Condition) × Hint) → Option Help
+-- of rows, which are conditions and a hint, the hint of the first whose conditions all hold
+abbrev pub first_fitting : Setting → List Wanted → List Row → Option Help
 first_fitting s wanted [] = None
-first_fitting s wanted (rule ∷ rules) =
-    if fit s wanted true rule.0.now then Some (help_of rule.1) else first_fitting s wanted rules
+first_fitting s wanted (row ∷ rows) =
+    if list_all (λ one. holds s wanted one.0 one.1) row.0 then Some row.1 else first_fitting s wanted rows

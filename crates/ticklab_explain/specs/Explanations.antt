@@ -5,10 +5,10 @@ use Rattle.language_questions.specs.declared.fault.QuestionFault.{QuestionFault}
 use Rattle.ticketc_refusals.specs.RefusalLine.{number_and_name}
 use Rattle.ticketc_refusals.specs.declared.refusal.Refusal.{Refusal}
 use Rattle.ticklab_explain.specs.Choosing.{hint_of}
-use Rattle.ticklab_explain.specs.Helps.{Help}
 use Rattle.ticklab_explain.specs.Hints.{hint_text}
 use Rattle.ticklab_explain.specs.Messages.{message_of}
 use Rattle.ticklab_explain.specs.Places.{IsPlace}
+use Rattle.ticklab_explain.specs.Rows.{Help}
 use Rattle.ticklab_explain.specs.Questions.{IsQuestionReport, question_hint, question_message, question_span}
 use Rattle.ticklab_explain.specs.Reports.{AreWanted, IsReport}
 use Rattle.ticklab_explain.specs.Settings.{IsSetting, Setting}

@@ -1,22 +1,19 @@
 -- What may stand next in a program.
-use Rattle.std.specs.Prelude.{◌≡◌, ◌⊎◌, ℕ, ◌+◌, ◌==◌, Bool, true, false, List, [], ◌∷◌, ◌++◌, codes, length, Option, Some, None, if◌then◌else◌}
-use Rattle.std.specs.Borrow.{Bor}
-use Rattle.std.specs.List.{list_any}
-use Rattle.std.specs.Str.{IsUtf8, bytes_eq}
+use Rattle.std.specs.Prelude.{◌≡◌, ◌⊎◌, ℕ, ◌+◌, ◌==◌, Bool, true, false, List, [], ◌∷◌, ◌++◌, codes, length, map, Option, Some, None, if◌then◌else◌}
+use Rattle.std.specs.Str.{IsUtf8}
 use Rattle.base.specs.Plain.{Name, WholeProgram}
 use Rattle.base.specs.declared.span.Span.{Span}
 use Rattle.tick_syntax.specs.Decided.{IsWithinLimits}
 use Rattle.tick_syntax.specs.Refusal.{IsTextRefused}
 use Rattle.tick_syntax.specs.Terminals.{spelling}
 use Rattle.tick_syntax.specs.declared.fault.TextFault.{TextFault}
-use Rattle.tick_syntax.specs.declared.fault.TextFault.TheVariants.{TextTooLong, BadCharacter, NumberTooBig, NameTooLong, Unexpected, TooDeep, NoMemory}
-use Rattle.tick_syntax.specs.declared.terminals.Terminal.TheVariants as T
+use Rattle.tick_syntax.specs.declared.fault.TextFault.TheVariants.{Unexpected}
 use Rattle.tick_syntax.specs.declared.token.Sort.{Sort}
 use Rattle.tick_syntax.specs.declared.token.Sort.TheVariants as K
-use Rattle.ticklab_explain.specs.Pieces.{joined}
+use Rattle.ticklab_explain.specs.Pieces.{is_one_of, joined}
 use Rattle.ticklab_explain.specs.Settings.{Setting, here, sort_here}
 use Rattle.ticklab_explain.specs.declared.expectation.TheConstants.{EXPECTED, FOUND, NO_PROGRAM_GOES_ON, OR, THE_KEYWORD, THE_NAME, THE_NUMBER}
-use Rattle.ticklab_explain.specs.declared.wanted.TheConstants.{AN_EXPRESSION, AN_OPERATOR, A_NAME, A_NUMBER, A_STATEMENT, A_VALUE, END_OF_TEXT}
+use Rattle.ticklab_explain.specs.declared.wanted.TheConstants.{AFTER_OPERAND, AN_EXPRESSION, AN_OPERATOR, A_NAME, A_NUMBER, A_STATEMENT, A_VALUE, CHOICES, END_OF_TEXT}
 use Rattle.ticklab_explain.specs.declared.wanted.Wanted.{Wanted}
 use Rattle.ticklab_explain.specs.declared.wanted.Wanted.TheVariants.{Statement, Value, Expression, Operator, Name as AName, Number, TextEnd, Word}
 
@@ -38,13 +35,8 @@ BeginsProgram text = IsWhole text ⊎ IsBegun text
 
 -- of a text's fault: no program goes on from the text's end
 abbrev pub is_at_end : TextFault → ℕ → Bool
-is_at_end TextTooLong length = false
-is_at_end (BadCharacter place) length = false
-is_at_end (NumberTooBig span) length = false
-is_at_end (NameTooLong span) length = false
 is_at_end (Unexpected span) length = span.start == length
-is_at_end (TooDeep span) length = false
-is_at_end NoMemory length = false
+is_at_end _ length = false
 
 -- a token of what is wanted, where it is of a kind the first of them that comes to mind; and how it is told
 abbrev pub words : Wanted → List ℕ × List ℕ
@@ -69,14 +61,8 @@ MayFollow front one = IsUtf8 front × BeginsProgram (front ++ (10 ∷ []) ++ sam
 
 -- it may stand after this text: a token there, and the end where the text is whole
 abbrev pub Fits : List ℕ → Wanted → Type 0
-Fits front Statement = MayFollow front Statement
-Fits front Value = MayFollow front Value
-Fits front Expression = MayFollow front Expression
-Fits front Operator = MayFollow front Operator
-Fits front AName = MayFollow front AName
-Fits front Number = MayFollow front Number
 Fits front TextEnd = IsUtf8 front × IsWhole front
-Fits front (Word terminal) = MayFollow front (Word terminal)
+Fits front one = MayFollow front one
 
 -- of these, in their order, those that fit are all of the wanted
 abbrev pub AreFitting : List ℕ → List Wanted → List Wanted → Type 0
@@ -85,46 +71,14 @@ AreFitting front (one ∷ more) wanted =
     ((rest : List Wanted) × Fits front one × AreFitting front more rest × (wanted ≡ one ∷ rest))
     ⊎ ((Fits front one → ⊥) × AreFitting front more wanted)
 
--- the word is one of these
-abbrev pub is_one_of : List ℕ → List (List ℕ) → Bool
-is_one_of word words = list_any (λ one. bytes_eq one word) words
-
-abbrev pub is_one_of_now : List ℕ → List (Bor (List ℕ)) → Bool
-is_one_of_now word words = list_any (λ one. bytes_eq one.now word) words
-
-abbrev pub before_name : List (List ℕ)
-before_name =
-    codes "var" ∷ codes "reg" ∷ codes "," ∷ codes "get" ∷ codes "put" ∷ codes "copy" ∷ codes "older" ∷ codes "held" ∷ []
-
-abbrev pub before_expression : List (List ℕ)
-before_expression =
-    codes "out" ∷ codes "if" ∷ codes "while" ∷ codes "(" ∷ codes "+" ∷ codes "-" ∷ codes "*" ∷ codes "/" ∷ codes "%" ∷
-    codes "<" ∷ codes "<=" ∷ codes "==" ∷ codes "!=" ∷ []
-
-unfoldable pub repeated_choices : List ℕ → List Wanted
-repeated_choices word =
-    if is_one_of word (codes ";" ∷ codes "begin" ∷ codes "{" ∷ codes "}" ∷ [])
-    then Word T.Var ∷ Word T.Scan ∷ Word T.Reg ∷ Word T.Begin ∷ Word T.Else ∷ Statement ∷ Word T.CloseBrace ∷ Word T.End ∷ []
-    else Word T.Comma ∷ Operator ∷ Word T.Close ∷ Word T.Semicolon ∷ Word T.OpenBrace ∷ Word T.Becomes ∷ Expression ∷ []
-
-unfoldable pub other_choices : List ℕ → List Wanted
-other_choices word =
-    if bytes_eq word [] then Word T.Processes ∷ []
-    else if bytes_eq word (codes "processes") then Number ∷ []
-    else if bytes_eq word (codes "=") then Value ∷ []
-    else if bytes_eq word (codes "stamp") then Word T.Semicolon ∷ []
-    else if bytes_eq word (codes "clear") then Word T.Semicolon ∷ []
-    else if bytes_eq word (codes "else") then Word T.OpenBrace ∷ []
-    else if bytes_eq word (codes "end") then TextEnd ∷ []
-    else if bytes_eq word (codes "scan") then AName ∷ Word T.Semicolon ∷ []
-    else repeated_choices word
+-- of rows, which are words and what may be wanted after them, that of the first that has the word; else others
+abbrev pub choices_in : List (List (List ℕ) × List Wanted) → List ℕ → List Wanted → List Wanted
+choices_in [] word other = other
+choices_in (row ∷ rows) word other = if is_one_of word row.0 then row.1 else choices_in rows word other
 
 -- What a place may want by the word before it, of which the parser says what fits.
 unfoldable pub choices : List ℕ → List Wanted
-choices word =
-    if is_one_of word before_name then AName ∷ []
-    else if is_one_of word before_expression then Expression ∷ []
-    else other_choices word
+choices word = choices_in (map (λ row. (map (λ one. one.now) row.0.now, row.1.now)) CHOICES.now) word AFTER_OPERAND.now
 
 -- what stands before the word at this index of so many
 abbrev pub joint : ℕ → ℕ → List ℕ

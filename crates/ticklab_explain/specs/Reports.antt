@@ -3,21 +3,20 @@ use Rattle.std.specs.Prelude.{◌≡◌, ℕ, List, [], ◌++◌, codes, length,
 use Rattle.std.specs.Fmt.{decimal}
 use Rattle.base.specs.Lines.{line_end}
 use Rattle.base.specs.declared.span.Span.{Span}
-use Rattle.tick_syntax.specs.declared.fault.TextFault.{TextFault}
 use Rattle.tick_syntax.specs.declared.fault.TextFault.TheVariants as T
 use Rattle.ticklab_explain.specs.Choosing.{hint_of}
 use Rattle.ticklab_explain.specs.Following.{AreFitting, choices}
-use Rattle.ticklab_explain.specs.Helps.{Help}
 use Rattle.ticklab_explain.specs.Hints.{hint_span, hint_text}
 use Rattle.ticklab_explain.specs.Messages.{message_of}
 use Rattle.ticklab_explain.specs.Pictures.{IsPicture}
 use Rattle.ticklab_explain.specs.Places.{IsPlace}
+use Rattle.ticklab_explain.specs.Rows.{Help}
 use Rattle.ticketc_refusals.specs.RefusalLine.{refusal_line}
 use Rattle.ticklab_explain.specs.Settings.{IsSetting, Setting, before}
 use Rattle.ticklab_explain.specs.Spots.{IsSpanAt, spot_of}
 use Rattle.ticklab_explain.specs.declared.place.Place.{Place}
 use Rattle.ticketc_refusals.specs.declared.refusal.Refusal.{Refusal}
-use Rattle.ticketc_refusals.specs.declared.refusal.Refusal.TheVariants.{Text, Kinds, Code, Schedule}
+use Rattle.ticketc_refusals.specs.declared.refusal.Refusal.TheVariants.{Text}
 use Rattle.ticklab_explain.specs.declared.report.TheConstants.{ARROW, ERROR, HINT, TICKETC}
 use Rattle.ticklab_explain.specs.declared.wanted.Wanted.{Wanted}
 
@@ -54,22 +53,14 @@ pub data AreHintLines (name text : List ℕ) (s : Setting) (hint : Option Help) 
       → lines ≡ HINT.now ++ hint_text s it ++ line_end ++ seen → AreHintLines name text s hint lines
   unhinted : hint ≡ None → lines ≡ [] → AreHintLines name text s hint lines
 
--- where no program goes on, those of the choices that fit are wanted
-abbrev pub TextWanted : Setting → TextFault → List Wanted → Type 0
-TextWanted s T.TextTooLong wanted = wanted ≡ []
-TextWanted s (T.BadCharacter place) wanted = wanted ≡ []
-TextWanted s (T.NumberTooBig span) wanted = wanted ≡ []
-TextWanted s (T.NameTooLong span) wanted = wanted ≡ []
-TextWanted s (T.Unexpected span) wanted =
-    AreFitting (take (min s.span.start (length s.text)) s.text) (choices (before s 1)) wanted
-TextWanted s (T.TooDeep span) wanted = wanted ≡ []
-TextWanted s T.NoMemory wanted = wanted ≡ []
+-- what may be wanted: where no program goes on the choices after the word before, and else nothing
+abbrev pub choices_at : Setting → Refusal → List Wanted
+choices_at s (Text (T.Unexpected span)) = choices (before s 1)
+choices_at s _ = []
 
+-- those of the choices that fit are wanted
 abbrev pub AreWanted : Setting → Refusal → List Wanted → Type 0
-AreWanted s (Text fault) wanted = TextWanted s fault wanted
-AreWanted s (Kinds fault) wanted = wanted ≡ []
-AreWanted s (Code fault) wanted = wanted ≡ []
-AreWanted s (Schedule fault) wanted = wanted ≡ []
+AreWanted s refusal wanted = AreFitting (take (min s.span.start (length s.text)) s.text) (choices_at s refusal) wanted
 
 -- the place and the message of the refusal with its line, the hint, and the line of `ticketc`
 pub record IsWritten (name : List ℕ) (s : Setting) (wanted : List Wanted) (refusal : Refusal) (report : List ℕ) : Type 0 where

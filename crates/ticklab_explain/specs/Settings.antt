@@ -7,16 +7,15 @@ use Rattle.std.specs.Char.{is_ascii_alphabetic, is_ascii_digit}
 use Rattle.base.specs.declared.span.Span.{Span}
 use Rattle.base.specs.Plain.{nowhere}
 use Rattle.tick_syntax.specs.Spelling.{Spells}
-use Rattle.tick_syntax.specs.declared.fault.TextFault.{TextFault}
-use Rattle.tick_syntax.specs.declared.fault.TextFault.TheVariants as T
 use Rattle.tick_syntax.specs.declared.token.Sort.{Sort}
 use Rattle.tick_syntax.specs.declared.token.Sort.TheVariants as K
 use Rattle.tick_syntax.specs.declared.token.Token.{Token}
 use Rattle.ticketc_refusals.specs.Refusals.{IsText}
 use Rattle.ticklab_explain.specs.Spots.{IsSpanAt, spot_of}
 use Rattle.ticketc_refusals.specs.declared.refusal.Refusal.{Refusal}
-use Rattle.ticketc_refusals.specs.declared.refusal.Refusal.TheVariants.{Text, Kinds, Code, Schedule}
 use Rattle.ticklab_explain.specs.declared.scene.Scene.{Scene}
+use Rattle.ticklab_explain.specs.declared.spot.Spot.{Spot}
+use Rattle.ticklab_explain.specs.declared.spot.Spot.TheVariants.{Character}
 
 -- bytes that are a text; for others nothing
 unfoldable pub as_text : List ℕ → List ℕ
@@ -98,20 +97,12 @@ behind text span =
     if is_compared (text_at text span) && is_doubled (slice_index text span.end) then span.end + 1 else span.end
 
 -- What tokens are sought in: where a character begins no token, what stands before it.
-abbrev pub text_part : List ℕ → TextFault → List ℕ
-text_part text T.TextTooLong = text
-text_part text (T.BadCharacter place) = take (min place (length text)) text
-text_part text (T.NumberTooBig span) = text
-text_part text (T.NameTooLong span) = text
-text_part text (T.Unexpected span) = text
-text_part text (T.TooDeep span) = text
-text_part text T.NoMemory = text
+abbrev pub part_before : List ℕ → Spot → List ℕ
+part_before text (Character place) = take (min place (length text)) text
+part_before text _ = text
 
 abbrev pub read_part : List ℕ → Refusal → List ℕ
-read_part text (Text fault) = text_part text fault
-read_part text (Kinds fault) = text
-read_part text (Code fault) = text
-read_part text (Schedule fault) = text
+read_part text refusal = part_before text (spot_of refusal)
 
 -- a refusal's place in a text, and what stands about it
 pub record Setting : Type 0 where
@@ -164,19 +155,33 @@ after s count = word s (s.at + count)
 
 abbrev pub is_name : Sort → Bool
 is_name K.Name = true
-is_name (K.Num value) = false
-is_name K.Keyword = false
-is_name K.Sign = false
+is_name _ = false
 
 abbrev pub is_keyword : Sort → Bool
-is_keyword K.Name = false
-is_keyword (K.Num value) = false
 is_keyword K.Keyword = true
-is_keyword K.Sign = false
+is_keyword _ = false
 
 -- nothing at the text's end
 unfoldable pub sort_here : Setting → Option Sort
 sort_here s = option_map (λ token. token.sort) (slice_get s.tokens s.at)
+
+unfoldable pub is_keyword_here : Setting → Bool
+is_keyword_here s = option_map_or is_keyword (sort_here s) false
+
+abbrev pub is_name_token : Option Token → Bool
+is_name_token None = false
+is_name_token (Some token) = is_name token.sort
+
+unfoldable pub is_name_at : Setting → ℕ → Bool
+is_name_at s index = is_name_token (slice_get s.tokens index)
+
+-- a name stands so many tokens before
+unfoldable pub is_name_before : Setting → ℕ → Bool
+is_name_before s count = if nat_lt s.at count then false else is_name_at s (s.at - count)
+
+-- a name stands so many tokens after
+unfoldable pub is_name_after : Setting → ℕ → Bool
+is_name_after s count = is_name_at s (s.at + count)
 
 -- where the token before ends
 abbrev pub end_of : List ℕ → Option Token → ℕ

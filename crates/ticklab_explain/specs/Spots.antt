@@ -2,13 +2,9 @@
 use Rattle.std.specs.Prelude.{◌≡◌, ◌⊎◌, ◌<◌, ◌≤◌, ◌+◌, ℕ, List, length, take, slice_index, min, Option, Some, None, true, false}
 use Rattle.std.specs.List.{count_by}
 use Rattle.base.specs.Blanks.{is_blank}
-use Rattle.code_core.specs.declared.fault.CodeFault.{CodeFault}
 use Rattle.code_core.specs.declared.fault.CodeFault.TheVariants as C
-use Rattle.tick_kinds.specs.declared.fault.KindFault.{KindFault}
 use Rattle.tick_kinds.specs.declared.fault.KindFault.TheVariants as N
-use Rattle.language_schedules.specs.declared.schedule.ScheduleFault.{ScheduleFault}
 use Rattle.language_schedules.specs.declared.schedule.ScheduleFault.TheVariants as S
-use Rattle.tick_syntax.specs.declared.fault.TextFault.{TextFault}
 use Rattle.tick_syntax.specs.declared.fault.TextFault.TheVariants as T
 use Rattle.base.specs.declared.span.Span.{Span}
 use Rattle.ticklab_explain.specs.Places.{IsLineStart, IsLineEnd, is_line_feed, begins_character}
@@ -17,47 +13,29 @@ use Rattle.ticketc_refusals.specs.declared.refusal.Refusal.TheVariants.{Text, Ki
 use Rattle.ticklab_explain.specs.declared.spot.Spot.{Spot}
 use Rattle.ticklab_explain.specs.declared.spot.Spot.TheVariants.{Nowhere, Stretch, Character, Line, Item}
 
-abbrev pub text_spot : TextFault → Spot
-text_spot T.TextTooLong = Nowhere
-text_spot (T.BadCharacter place) = Character place
-text_spot (T.NumberTooBig span) = Stretch span
-text_spot (T.NameTooLong span) = Stretch span
-text_spot (T.Unexpected span) = Stretch span
-text_spot (T.TooDeep span) = Stretch span
-text_spot T.NoMemory = Nowhere
-
-abbrev pub kinds_spot : KindFault → Spot
-kinds_spot (N.Processes span) = Stretch span
-kinds_spot (N.Twice span) = Stretch span
-kinds_spot (N.Unknown span) = Stretch span
-kinds_spot (N.WrongKind span wanted found) = Stretch span
-kinds_spot (N.TooMany span) = Stretch span
-kinds_spot N.NoMemory = Nowhere
-
--- the line of the instruction at a place, which is counted from 0, after the first line
-abbrev pub code_spot : CodeFault → Spot
-code_spot C.Empty = Line 1
-code_spot (C.BadJump place) = Line (place + 2)
-code_spot (C.StackShort place) = Line (place + 2)
-code_spot (C.HeightsDiffer place) = Line (place + 2)
-code_spot (C.BadSlot place) = Line (place + 2)
-code_spot (C.FallsOff place) = Line (place + 2)
-code_spot C.TooLong = Nowhere
-code_spot (C.BadLine line) = Line line
-code_spot (C.BadStamp place) = Line (place + 2)
-code_spot C.NoMemory = Nowhere
-
-abbrev pub schedule_spot : ScheduleFault → Spot
-schedule_spot (S.BadItem place) = Item place
-schedule_spot (S.NoSuchProcess place) = Item place
-schedule_spot S.TooLong = Nowhere
-schedule_spot S.NoMemory = Nowhere
-
+-- An instruction by its place, which is counted from 0, has its line after the first line.
 abbrev pub spot_of : Refusal → Spot
-spot_of (Text fault) = text_spot fault
-spot_of (Kinds fault) = kinds_spot fault
-spot_of (Code fault) = code_spot fault
-spot_of (Schedule fault) = schedule_spot fault
+spot_of (Text (T.BadCharacter place)) = Character place
+spot_of (Text (T.NumberTooBig span)) = Stretch span
+spot_of (Text (T.NameTooLong span)) = Stretch span
+spot_of (Text (T.Unexpected span)) = Stretch span
+spot_of (Text (T.TooDeep span)) = Stretch span
+spot_of (Kinds (N.Processes span)) = Stretch span
+spot_of (Kinds (N.Twice span)) = Stretch span
+spot_of (Kinds (N.Unknown span)) = Stretch span
+spot_of (Kinds (N.WrongKind span wanted found)) = Stretch span
+spot_of (Kinds (N.TooMany span)) = Stretch span
+spot_of (Code C.Empty) = Line 1
+spot_of (Code (C.BadJump place)) = Line (place + 2)
+spot_of (Code (C.StackShort place)) = Line (place + 2)
+spot_of (Code (C.HeightsDiffer place)) = Line (place + 2)
+spot_of (Code (C.BadSlot place)) = Line (place + 2)
+spot_of (Code (C.FallsOff place)) = Line (place + 2)
+spot_of (Code (C.BadLine line)) = Line line
+spot_of (Code (C.BadStamp place)) = Line (place + 2)
+spot_of (Schedule (S.BadItem place)) = Item place
+spot_of (Schedule (S.NoSuchProcess place)) = Item place
+spot_of _ = Nowhere
 
 -- the character that stands at a byte ends here: the text does, or another begins, and none between
 pub record IsCharacterEnd (text : List ℕ) (at stop : ℕ) : Type 0 where

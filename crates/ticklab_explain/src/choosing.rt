@@ -1,20 +1,23 @@
 // Which hint is told.
 ghost use Rattle.std.specs.Prelude.{◌≡◌, option_map};
-ghost use Rattle.ticklab_explain.specs.Choosing.{assigned_slip, code_hint, hint_of, item_slip, kind_slip, kinds_hint, schedule_hint, text_hint, twice_slip, unknown_slip, variable_slip};
-ghost use Rattle.ticklab_explain.specs.Helps.{help_of};
+ghost use Rattle.ticklab_explain.specs.Choosing.{call_slips, character_slips, code_rules, hint_of, item_slips, kind_rules, kinds_rules, schedule_rules, section_slips, sign_slips, statement_slips, text_hint, text_rules, token_hint, whole_slips};
+ghost use Rattle.ticklab_explain.specs.Rows.{help_of, rows_of};
 ghost use Rattle.ticklab_explain.specs.Settings.{setting};
 
-use crate::advice;
-use crate::character_slips::character_slip;
-use crate::condition::Condition::{About, After, Before, Has, Is, ItemBegins, ItemEnds, ItemHas};
-use crate::fact::Fact::Declared;
-use crate::grammar_slips::slip;
-use crate::hint::Hint::{DeclaredNames, Fixed, ProcessCount, Quoting, Rewriting};
-use crate::hint::{Hint, first_rule};
-use crate::part::Part::OperandAfter;
-use crate::quote::Quote;
-use crate::rewrite::Rewrite;
+use crate::character_slips::CHARACTER_SLIPS;
+use crate::hint::Hint;
+use crate::item_slips::ITEM_SLIPS;
+use crate::limits::{
+    BAD_FIRST_LINE, BAD_LINE, NAME_TOO_LONG, NO_SUCH_PROCESS, NUMBER_TOO_BIG, PROCESSES,
+    SCHEDULE_TOO_LONG, TOO_DEEP, TOO_MANY_NAMES,
+};
+use crate::name_slips::{
+    ANY_FOR_SCAN, OTHER_FOR_REGISTER, REGISTER_FOR_VARIABLE, SCAN_FOR_VARIABLE, TWICE, UNKNOWN,
+    VARIABLE_FOR_REGISTER, VARIABLE_FOR_VARIABLE,
+};
+use crate::rule::{Rule, first_that_fits};
 use crate::scene::Scene;
+use crate::token_slips::{CALL_SLIPS, SECTION_SLIPS, SIGN_SLIPS, STATEMENT_SLIPS, WHOLE_SLIPS};
 use crate::wanted::Wanted;
 use code_core::CodeFault;
 use language_schedules::ScheduleFault;
@@ -22,15 +25,15 @@ use tick_kinds::{Kind, KindFault};
 use tick_syntax::TextFault;
 use ticketc_refusals::Refusal;
 
-/// What may help.
+/// What may help: the first hint that fits, of those for the refusal.
 pub fn hint_of(scene: &Scene, wanted: &[Wanted], refusal: Refusal) -> Option<Hint>
     ensures { option_map help_of result ≡ hint_of (setting scene.now) wanted.now refusal }
 {
     match refusal {
         Refusal::Text(fault) => text_hint(scene, wanted, fault),
-        Refusal::Kinds(fault) => kinds_hint(scene, fault),
-        Refusal::Code(fault) => code_hint(fault),
-        Refusal::Schedule(fault) => schedule_hint(scene, fault),
+        Refusal::Kinds(fault) => first_that_fits(scene, wanted, kinds_rules(fault)),
+        Refusal::Code(fault) => first_that_fits(scene, wanted, code_rules(fault)),
+        Refusal::Schedule(fault) => first_that_fits(scene, wanted, schedule_rules(fault)),
     }
 }
 
@@ -38,129 +41,132 @@ fn text_hint(scene: &Scene, wanted: &[Wanted], fault: TextFault) -> Option<Hint>
     ensures { option_map help_of result ≡ text_hint (setting scene.now) wanted.now fault }
 {
     match fault {
-        TextFault::BadCharacter(_) => character_slip(scene),
-        TextFault::NumberTooBig(_) => Some(Fixed(advice::GREATEST_NUMBER)),
-        TextFault::NameTooLong(_) => Some(Fixed(advice::LONGEST_NAME)),
-        TextFault::Unexpected(_) => slip(scene, wanted),
-        TextFault::TooDeep(_) => Some(Fixed(advice::DEEPEST_BRACKET)),
-        TextFault::TextTooLong | TextFault::NoMemory => None,
+        TextFault::Unexpected(_) => token_hint(scene, wanted),
+        TextFault::TextTooLong
+        | TextFault::BadCharacter(_)
+        | TextFault::NumberTooBig(_)
+        | TextFault::NameTooLong(_)
+        | TextFault::TooDeep(_)
+        | TextFault::NoMemory => first_that_fits(scene, wanted, text_rules(fault)),
     }
 }
 
-fn kinds_hint(scene: &Scene, fault: KindFault) -> Option<Hint>
-    ensures { option_map help_of result ≡ kinds_hint (setting scene.now) fault }
+// Where no program goes on.
+#[tactic(auto, using(crate::proofs::Rows::first_help), unfolding(crate::specs::Choosing::token_hint))]
+fn token_hint(scene: &Scene, wanted: &[Wanted]) -> Option<Hint>
+    ensures { option_map help_of result ≡ token_hint (setting scene.now) wanted.now }
+{
+    let at_statement = first_that_fits(scene, wanted, statement_slips());
+    let at_sign = first_that_fits(scene, wanted, sign_slips()).or(at_statement);
+    let in_section = first_that_fits(scene, wanted, section_slips()).or(at_sign);
+    let in_call = first_that_fits(scene, wanted, call_slips()).or(in_section);
+    first_that_fits(scene, wanted, whole_slips()).or(in_call)
+}
+
+fn text_rules(fault: TextFault) -> &'static [Rule]
+    ensures { rows_of result.now ≡ text_rules fault }
 {
     match fault {
-        KindFault::Processes(_) => Some(Fixed(advice::PROCESS_RANGE)),
-        KindFault::Twice(_) => twice_slip(scene),
-        KindFault::Unknown(_) => unknown_slip(scene),
-        KindFault::WrongKind { wanted, found, .. } => kind_slip(scene, wanted, found),
-        KindFault::TooMany(_) => Some(Fixed(advice::MOST_NAMES)),
-        KindFault::NoMemory => None,
+        TextFault::BadCharacter(_) => character_slips(),
+        TextFault::NumberTooBig(_) => NUMBER_TOO_BIG,
+        TextFault::NameTooLong(_) => NAME_TOO_LONG,
+        TextFault::TooDeep(_) => TOO_DEEP,
+        TextFault::Unexpected(_) | TextFault::TextTooLong | TextFault::NoMemory => &[],
     }
 }
 
-#[tactic(auto, unfolding(crate::specs::Choosing::twice_slip))]
-fn twice_slip(scene: &Scene) -> Option<Hint>
-    ensures { option_map help_of result ≡ twice_slip (setting scene.now) }
+fn kinds_rules(fault: KindFault) -> &'static [Rule]
+    ensures { rows_of result.now ≡ kinds_rules fault }
 {
-    first_rule!(scene, &[];
-        Is(Declared) => Quoting(Quote::DeclaredFirst);
-    )
+    match fault {
+        KindFault::Processes(_) => PROCESSES,
+        KindFault::Twice(_) => TWICE,
+        KindFault::Unknown(_) => UNKNOWN,
+        KindFault::WrongKind { wanted, found, .. } => kind_rules(wanted, found),
+        KindFault::TooMany(_) => TOO_MANY_NAMES,
+        KindFault::NoMemory => &[],
+    }
 }
 
-#[tactic(auto, unfolding(crate::specs::Choosing::unknown_slip))]
-fn unknown_slip(scene: &Scene) -> Option<Hint>
-    ensures { option_map help_of result ≡ unknown_slip (setting scene.now) }
-{
-    first_rule!(scene, &[];
-        About("true") => Fixed(advice::TRUE_IS_ONE);
-        About("false") => Fixed(advice::FALSE_IS_ZERO);
-        => DeclaredNames;
-    )
-}
-
-fn kind_slip(scene: &Scene, wanted: Kind, found: Kind) -> Option<Hint>
-    ensures { option_map help_of result ≡ kind_slip (setting scene.now) wanted found }
+fn kind_rules(wanted: Kind, found: Kind) -> &'static [Rule]
+    ensures { rows_of result.now ≡ kind_rules wanted found }
 {
     match (wanted, found) {
-        (Kind::Variable, Kind::Register) => assigned_slip(
-            scene,
-            Quoting(Quote::WrittenByPut),
-            Quoting(Quote::ReadByGet),
-        ),
-        (Kind::Variable, Kind::Scan) => assigned_slip(
-            scene,
-            Rewriting(Rewrite::ScanTarget),
-            Fixed(advice::LOOK_AT_SCAN),
-        ),
-        (Kind::Variable, Kind::Variable) => Some(Fixed(advice::LOOK_AT_SCAN)),
-        (Kind::Scan, _) => {
-            assigned_slip(scene, Fixed(advice::INTO_SCAN), Fixed(advice::SCAN_FIRST))
-        }
-        (Kind::Register, Kind::Variable) => variable_slip(scene),
-        (Kind::Register, Kind::Scan | Kind::Register) => Some(Fixed(advice::GET_AND_PUT)),
+        (Kind::Variable, Kind::Register) => REGISTER_FOR_VARIABLE,
+        (Kind::Variable, Kind::Scan) => SCAN_FOR_VARIABLE,
+        (Kind::Variable, Kind::Variable) => VARIABLE_FOR_VARIABLE,
+        (Kind::Scan, _) => ANY_FOR_SCAN,
+        (Kind::Register, Kind::Variable) => VARIABLE_FOR_REGISTER,
+        (Kind::Register, Kind::Scan | Kind::Register) => OTHER_FOR_REGISTER,
     }
 }
 
-// Of a name in the place of another: one hint where it is assigned, else another.
-#[tactic(auto, unfolding(crate::specs::Choosing::assigned_slip))]
-fn assigned_slip(scene: &Scene, assigned: Hint, read: Hint) -> Option<Hint>
-    ensures { option_map help_of result ≡ assigned_slip (setting scene.now) (help_of assigned) (help_of read) }
-{
-    first_rule!(scene, &[];
-        After(1, "=") => assigned;
-        => read;
-    )
-}
-
-// Of a variable in the place of a register.
-#[tactic(auto, unfolding(crate::specs::Choosing::variable_slip))]
-fn variable_slip(scene: &Scene) -> Option<Hint>
-    ensures { option_map help_of result ≡ variable_slip (setting scene.now) }
-{
-    first_rule!(scene, &[];
-        Before(1, "put"), Has(OperandAfter(1)) => Rewriting(Rewrite::AssignedVariable);
-        Before(1, "get"), Before(2, "=") => Rewriting(Rewrite::ReadVariable);
-        => Fixed(advice::GET_AND_PUT);
-    )
-}
-
-fn code_hint(fault: CodeFault) -> Option<Hint>
-    ensures { option_map help_of result ≡ code_hint fault }
+fn code_rules(fault: CodeFault) -> &'static [Rule]
+    ensures { rows_of result.now ≡ code_rules fault }
 {
     match fault {
-        CodeFault::BadLine(1) => Some(Fixed(advice::FIRST_LINE)),
-        CodeFault::BadLine(_) => Some(Fixed(advice::INSTRUCTION_LINE)),
-        _ => None,
+        CodeFault::BadLine(1) => BAD_FIRST_LINE,
+        CodeFault::BadLine(_) => BAD_LINE,
+        _ => &[],
     }
 }
 
-fn schedule_hint(scene: &Scene, fault: ScheduleFault) -> Option<Hint>
-    ensures { option_map help_of result ≡ schedule_hint (setting scene.now) fault }
+fn schedule_rules(fault: ScheduleFault) -> &'static [Rule]
+    ensures { rows_of result.now ≡ schedule_rules fault }
 {
     match fault {
-        ScheduleFault::BadItem(_) => item_slip(scene),
-        ScheduleFault::NoSuchProcess(_) => Some(ProcessCount),
-        ScheduleFault::TooLong => Some(Fixed(advice::LONGEST_SCHEDULE)),
-        ScheduleFault::NoMemory => None,
+        ScheduleFault::BadItem(_) => item_slips(),
+        ScheduleFault::NoSuchProcess(_) => NO_SUCH_PROCESS,
+        ScheduleFault::TooLong => SCHEDULE_TOO_LONG,
+        ScheduleFault::NoMemory => &[],
     }
 }
 
-#[tactic(auto, unfolding(crate::specs::Choosing::item_slip))]
-fn item_slip(scene: &Scene) -> Option<Hint>
-    ensures { option_map help_of result ≡ item_slip (setting scene.now) }
+#[tactic(auto, unfolding(crate::specs::Choosing::whole_slips))]
+fn whole_slips() -> &'static [Rule]
+    ensures { rows_of result.now ≡ whole_slips }
 {
-    first_rule!(scene, &[];
-        ItemHas(b"()") => Fixed(advice::NO_GROUPS);
-        ItemHas(b",;") => Fixed(advice::BLANKS);
-        ItemBegins("#") => Fixed(advice::NO_COMMENTS);
-        ItemBegins("-") => Fixed(advice::COUNTED_FROM_ZERO);
-        ItemBegins("c") => Fixed(advice::NO_CLEARS);
-        ItemBegins("*") => Fixed(advice::NO_BLANK_AT_STAR);
-        ItemEnds("*") => Fixed(advice::NO_BLANK_AT_STAR);
-        ItemEnds("*0") => Fixed(advice::ONE_STEP_AT_LEAST);
-        ItemHas(b"x") => Fixed(advice::STAR_REPEATS);
-        => Fixed(advice::ONLY_DIGITS);
-    )
+    WHOLE_SLIPS
+}
+
+#[tactic(auto, unfolding(crate::specs::Choosing::call_slips))]
+fn call_slips() -> &'static [Rule]
+    ensures { rows_of result.now ≡ call_slips }
+{
+    CALL_SLIPS
+}
+
+#[tactic(auto, unfolding(crate::specs::Choosing::section_slips))]
+fn section_slips() -> &'static [Rule]
+    ensures { rows_of result.now ≡ section_slips }
+{
+    SECTION_SLIPS
+}
+
+#[tactic(auto, unfolding(crate::specs::Choosing::sign_slips))]
+fn sign_slips() -> &'static [Rule]
+    ensures { rows_of result.now ≡ sign_slips }
+{
+    SIGN_SLIPS
+}
+
+#[tactic(auto, unfolding(crate::specs::Choosing::statement_slips))]
+fn statement_slips() -> &'static [Rule]
+    ensures { rows_of result.now ≡ statement_slips }
+{
+    STATEMENT_SLIPS
+}
+
+#[tactic(auto, unfolding(crate::specs::Choosing::character_slips))]
+fn character_slips() -> &'static [Rule]
+    ensures { rows_of result.now ≡ character_slips }
+{
+    CHARACTER_SLIPS
+}
+
+#[tactic(auto, unfolding(crate::specs::Choosing::item_slips))]
+fn item_slips() -> &'static [Rule]
+    ensures { rows_of result.now ≡ item_slips }
+{
+    ITEM_SLIPS
 }

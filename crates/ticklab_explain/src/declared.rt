@@ -1,42 +1,31 @@
 // The names that a program declares.
 ghost use Rattle.std.specs.Prelude.{◌≡◌, ◌++◌, OnOk, codes, false, if◌then◌else◌, string_bytes, true};
-ghost use Rattle.ticklab_explain.specs.Hints.{declared_in, declared_names, is_section, no_names, section_name};
-ghost use Rattle.ticklab_explain.specs.Settings.{setting};
+ghost use Rattle.ticklab_explain.specs.Hints.{declared_in, is_section, no_names, section_name};
 
-use crate::scene::{Scene, is_name, text_at};
+use crate::scene::{is_name, text_at};
 use crate::words::beside;
 use crate::writing::Added;
 use tick_syntax::token::Token;
 
-// What is told before the names, without any, and of each section.
-const DECLARED_ARE: &str = "declared are";
-
+// What is told where no names are declared, and of each section.
 const NO_NAMES: &str = " no names: `var x;` after the number of processes declares one";
 
-const VARIABLES: &str = "variables";
+const SECTIONS: &[(&str, &str)] = &[
+    ("var", "variables"),
+    ("scan", "scans"),
+    ("reg", "registers"),
+];
 
-const SCANS: &str = "scans";
-
-const REGISTERS: &str = "registers";
-
-/// Whether a word begins a section.
+// Whether a word begins a section.
 #[tactic(auto, unfolding(crate::specs::Hints::is_section))]
-pub fn is_section(word: &str) -> bool
+fn is_section(word: &str) -> bool
     ensures { result ≡ is_section word.now }
 {
     (word == "var") | (word == "scan") | (word == "reg")
 }
 
 /// Adds the names that are declared, by sections.
-#[tactic(auto, unfolding(crate::specs::Hints::declared_names))]
-pub fn push_declared_names(text: &mut String, scene: &Scene) -> Added
-    ensures { OnOk result (string_bytes text.new ≡ string_bytes text.old ++ declared_names (setting scene.now)) }
-{
-    text.push_str(DECLARED_ARE)?;
-    push_declared(text, scene.text, scene.tokens)
-}
-
-fn push_declared(text: &mut String, bytes: &[u8], tokens: &[Token]) -> Added
+pub fn push_declared(text: &mut String, bytes: &[u8], tokens: &[Token]) -> Added
     ensures { OnOk result (string_bytes text.new ≡ string_bytes text.old ++ declared_in bytes.now true false tokens.now) }
 {
     let mut is_first = true;
@@ -86,6 +75,5 @@ fn push_name(text: &mut String, is_next: bool, name: &str) -> Added
 fn section_name(keyword: &str) -> &'static str
     ensures { result.now ≡ section_name keyword.now }
 {
-    let rows = [("var", VARIABLES), ("scan", SCANS)];
-    beside(&rows, keyword, REGISTERS)
+    beside(SECTIONS, keyword, "")
 }

@@ -1,11 +1,10 @@
 // The words for a token at which no program goes on.
 ghost use Rattle.std.specs.Prelude.{◌≡◌, ◌<◌, ◌++◌, OnOk, length, string_bytes};
-ghost use Rattle.std.specs.List.{flat_map};
-ghost use Rattle.ticklab_explain.specs.Hints.{piece_text};
+ghost use Rattle.ticklab_explain.specs.Hints.{text_of};
 ghost use Rattle.ticklab_explain.specs.Following.{expectation, found, joint, listed, opening};
+ghost use Rattle.ticklab_explain.specs.Rows.{pieces_of};
 ghost use Rattle.ticklab_explain.specs.Settings.{Setting, here, setting, sort_here};
 
-use crate::piece::Piece::Here;
 use crate::piece::{Piece, pieces, push_pieces};
 use crate::scene::Scene;
 use crate::wanted::{END_OF_TEXT, Wanted};
@@ -77,7 +76,7 @@ fn push_found(text: &mut String, scene: &Scene) -> Added
 }
 
 fn found(sort: Option<Sort>) -> &'static [Piece]
-    ensures { (s : Setting) → flat_map (piece_text s) result.now ≡ found sort (here s) }
+    ensures { (s : Setting) → text_of s (pieces_of result.now) ≡ found sort (here s) }
 {
     match sort {
         None => pieces!(END_OF_TEXT),

@@ -1,12 +1,13 @@
 // What is wrong with an input, for people and in parts.
 ghost use Rattle.std.specs.Prelude.{◌≡◌, IfOk, option_map, string_bytes};
 ghost use Rattle.ticklab_explain.specs.Explanations.{ArePartsIn, AreQuestionParts, AreRefusalParts, IsExplanation, IsFaultReport, IsPlaceOf, hint_words, refusal_words};
-ghost use Rattle.ticklab_explain.specs.Helps.{help_of};
+ghost use Rattle.ticklab_explain.specs.Rows.{help_of};
 ghost use Rattle.ticklab_explain.specs.Settings.{setting};
 
 use crate::choosing::hint_of;
 use crate::finding::{tokens_of, wanted_at};
 use crate::hint::Hint;
+use crate::piece::push_pieces;
 use crate::place::{Place, place_of};
 use crate::questions::{explain_question, told};
 use crate::report::{message, report};
@@ -122,13 +123,13 @@ fn hint_words(
     scene: &Scene,
     hint: Option<Hint>,
 ) -> Result<Option<String>, AllocError>
-    ensures { IfOk result (λ words. option_map string_bytes words ≡ hint_words (setting scene.now) (option_map help_of hint)) }
+    ensures { IfOk result (λ words. option_map string_bytes words ≡ hint_words (setting scene.now) (option_map help_of hint.entry)) }
 {
     let Some(hint) = hint else {
         return Ok(None);
     };
     let mut words = String::new(alloc);
-    hint.push(&mut words, scene)?;
+    push_pieces(&mut words, scene, hint.0)?;
     Ok(Some(words))
 }
 

@@ -1,6 +1,6 @@
 // What a report rests on: the tokens of its text, and what is wanted at its place.
-ghost use Rattle.std.specs.Prelude.{IfOk};
-ghost use Rattle.ticklab_explain.specs.Reports.{AreWanted, TextWanted};
+ghost use Rattle.std.specs.Prelude.{◌≡◌, IfOk};
+ghost use Rattle.ticklab_explain.specs.Reports.{AreWanted, choices_at};
 ghost use Rattle.ticklab_explain.specs.Settings.{AreTokens, setting};
 
 use crate::expected::fitting_at;
@@ -31,27 +31,29 @@ pub fn tokens_of(alloc: Global, input: &[u8]) -> Result<Vec<Token>, NoMemory>
 pub fn wanted_at(alloc: Global, scene: &Scene, refusal: Refusal) -> Result<Vec<Wanted>, NoMemory>
     ensures { IfOk result (λ wanted. AreWanted (setting scene.now) refusal wanted.items) }
 {
-    match refusal {
-        Refusal::Text(fault) => text_wanted(alloc, scene, fault),
-        Refusal::Kinds(_) | Refusal::Code(_) | Refusal::Schedule(_) => Ok(Vec::new(alloc)),
-    }
+    fitting_at(
+        alloc,
+        scene.text,
+        scene.span.start,
+        choices_at(scene, refusal),
+    )
 }
 
-fn text_wanted(alloc: Global, scene: &Scene, fault: TextFault) -> Result<Vec<Wanted>, NoMemory>
-    ensures { IfOk result (λ wanted. TextWanted (setting scene.now) fault wanted.items) }
+fn choices_at(scene: &Scene, refusal: Refusal) -> &'static [Wanted]
+    ensures { result.now ≡ choices_at (setting scene.now) refusal }
 {
-    match fault {
-        TextFault::Unexpected(_) => fitting_at(
-            alloc,
-            scene.text,
-            scene.span.start,
-            choices(scene.before(1)),
-        ),
-        TextFault::TextTooLong
-        | TextFault::BadCharacter(_)
-        | TextFault::NumberTooBig(_)
-        | TextFault::NameTooLong(_)
-        | TextFault::TooDeep(_)
-        | TextFault::NoMemory => Ok(Vec::new(alloc)),
+    match refusal {
+        Refusal::Text(TextFault::Unexpected(_)) => choices(scene.before(1)),
+        Refusal::Text(
+            TextFault::TextTooLong
+            | TextFault::BadCharacter(_)
+            | TextFault::NumberTooBig(_)
+            | TextFault::NameTooLong(_)
+            | TextFault::TooDeep(_),
+        )
+        | Refusal::Text(TextFault::NoMemory)
+        | Refusal::Kinds(_)
+        | Refusal::Code(_)
+        | Refusal::Schedule(_) => &[],
     }
 }

@@ -1,82 +1,52 @@
-// A hint of any kind.
-ghost use Rattle.std.specs.Prelude.{◌≡◌, ◌++◌, OnOk, option_map, string_bytes};
-ghost use Rattle.ticklab_explain.specs.Conditions.{first_fitting};
-ghost use Rattle.ticklab_explain.specs.Helps.{help_of};
-ghost use Rattle.ticklab_explain.specs.Hints.{hint_span, hint_text};
+// What may help.
+ghost use Rattle.std.specs.Prelude.{◌≡◌};
+ghost use Rattle.ticklab_explain.specs.Hints.{place_span};
 ghost use Rattle.ticklab_explain.specs.Settings.{setting};
 
-use crate::condition::{Condition, fit};
-use crate::declared::push_declared_names;
-use crate::piece::push_pieces;
-use crate::quote::Quote;
-use crate::rewrite::Rewrite;
+use crate::piece::Piece;
 use crate::scene::Scene;
-use crate::wanted::Wanted;
-use crate::writing::{Added, push_number};
 use base::span::Span;
 
-const THERE_ARE: &str = "processes are counted from 0, and there are ";
+/// What may help: its words, and the other place that it speaks of.
+pub type Hint = (&'static [Piece], OtherPlace);
 
-/// What may help.
+/// Another place than that of the refusal.
 #[derive(Clone, Copy)]
-pub enum Hint {
-    /// In words that are always the same.
-    Fixed(&'static str),
-    /// How many processes there are.
-    ProcessCount,
-    /// Which names are declared.
-    DeclaredNames,
-    /// In words that quote the text about the place.
-    Quoting(Quote),
-    /// In words that say what to write in its place.
-    Rewriting(Rewrite),
+pub enum OtherPlace {
+    Nowhere,
+    /// Where the name is declared first that the refusal is about.
+    FirstDeclaration,
+    /// The innermost `{` before that is still open.
+    OpenBrace,
+    /// Where the token before ends.
+    EndBefore,
 }
 
-impl Hint {
-    /// Adds its words.
-    pub fn push(self, text: &mut String, scene: &Scene) -> Added
-        ensures { OnOk result (string_bytes text.new ≡ string_bytes text.old ++ hint_text (setting scene.now) (help_of self)) }
-    {
-        match self {
-            Hint::Fixed(words) => text.push_str(words),
-            Hint::ProcessCount => push_number(text, THERE_ARE, usize::from(scene.processes), ""),
-            Hint::DeclaredNames => push_declared_names(text, scene),
-            Hint::Quoting(quote) => push_pieces(text, scene, quote.pieces()),
-            Hint::Rewriting(rewrite) => push_pieces(text, scene, rewrite.pieces()),
-        }
-    }
-
-    /// The other place that it speaks of.
+impl OtherPlace {
     pub fn span(self, scene: &Scene) -> Option<Span>
-        ensures { result ≡ hint_span (setting scene.now) (help_of self) }
+        ensures { result ≡ place_span (setting scene.now) self }
     {
         match self {
-            Hint::Fixed(_) | Hint::ProcessCount | Hint::DeclaredNames | Hint::Rewriting(_) => None,
-            Hint::Quoting(quote) => quote.span(scene),
+            OtherPlace::Nowhere => None,
+            OtherPlace::FirstDeclaration => scene.first_declaration(),
+            OtherPlace::OpenBrace => scene.open_brace(),
+            OtherPlace::EndBefore => {
+                let end = scene.front_end();
+                Some(Span { start: end, end })
+            }
         }
     }
 }
 
-/// Conditions, and the hint where all of them hold.
-pub type Rule<'a> = (&'a [Condition<'a>], Hint);
-
-/// Of rules in their order the first whose conditions hold.
-pub fn first_that_fits(scene: &Scene, wanted: &[Wanted], rules: &[Rule]) -> Option<Hint>
-    ensures { option_map help_of result ≡ first_fitting (setting scene.now) wanted.now rules.now }
-{
-    for (conditions, hint) in rules {
-        if fit(conditions, scene, wanted) {
-            return Some(*hint);
-        }
-    }
-    None
-}
-
-// Of rules, each of which is conditions and a hint, the hint of the first whose conditions all hold.
-macro_rules! first_rule {
-    ($scene:expr, $wanted:expr; $($($condition:expr),* => $hint:expr;)*) => {
-        $crate::hint::first_that_fits($scene, $wanted, &[$((&[$($condition),*], $hint)),*])
+// Makes a hint of its words, with what they quote in brackets between them. The other place that it speaks of
+// stands last, behind a comma.
+macro_rules! one_hint {
+    (($first:tt $([$($quoted:tt)+] $words:tt)*)) => {
+        ($crate::piece::pieces!($first $([$($quoted)+] $words)*), $crate::hint::OtherPlace::Nowhere)
+    };
+    (($first:tt $([$($quoted:tt)+] $words:tt)*, $place:ident)) => {
+        ($crate::piece::pieces!($first $([$($quoted)+] $words)*), $crate::hint::OtherPlace::$place)
     };
 }
 
-pub(crate) use first_rule;
+pub(crate) use one_hint;

@@ -3,14 +3,13 @@
 //! The report says where the fault is, what was expected and what stands there. It shows the line with a
 //! caret under it, a hint if the slip is a common one, and the line that `ticketc` tells. `ticketc_refusals`
 //! finds the refusal of an input, and `spot` its place.
-//! `report` writes the report, and `explanation` gives its parts to programs. `messages` has the words, `expected` finds what may stand there, and
-//! `choosing` picks the hint.
+//! `report` writes the report, and `explanation` gives its parts to programs. `messages` has the words, and
+//! `expected` finds what may stand there. Hints are rows of tables, in `limits` and in the files that end in
+//! `_slips`. `choosing` picks the table, and `rule` the first row that fits.
 //! Start with `explain`.
 #![tactic(auto)]
 
 mod advice;
-mod block_slips;
-mod call_slips;
 mod character_slips;
 mod choosing;
 mod condition;
@@ -19,24 +18,23 @@ mod expectation;
 mod expected;
 mod explaining;
 mod explanation;
-mod fact;
 mod finding;
-mod grammar_slips;
 mod hint;
+mod item_slips;
+mod limits;
 mod messages;
-mod operand_slips;
+mod name_slips;
 mod part;
 mod picture;
 mod piece;
 pub mod place;
 mod questions;
-mod quote;
 mod report;
-mod rewrite;
+mod rule;
 mod scene;
 mod setting;
 mod spot;
-mod statement_slips;
+mod token_slips;
 mod wanted;
 mod words;
 mod writing;

@@ -4,7 +4,6 @@ ghost use Rattle.ticklab_explain.specs.Messages.{character_message, code_message
 ghost use Rattle.ticklab_explain.specs.Settings.{about, setting};
 
 use crate::expectation::push_expectation;
-use crate::piece::Piece::About;
 use crate::piece::{pieces, push_pieces};
 use crate::scene::{Scene, is_text, shortened};
 use crate::wanted::Wanted;

@@ -1,12 +1,12 @@
 // The report of a refusal.
 ghost use Rattle.std.specs.Prelude.{◌≡◌, ◌++◌, ℕ, List, IfOk, OnOk, length, min, option_map, string_bytes};
 ghost use Rattle.base.specs.Lines.{line_end};
-ghost use Rattle.ticklab_explain.specs.Helps.{help_of};
 ghost use Rattle.ticklab_explain.specs.Hints.{hint_text};
 ghost use Rattle.ticklab_explain.specs.Messages.{message_of};
 ghost use Rattle.ticklab_explain.specs.Pictures.{IsPicture};
 ghost use Rattle.ticklab_explain.specs.Places.{IsPlace};
 ghost use Rattle.ticklab_explain.specs.Reports.{AreHintLines, IsHead, IsReport, IsSeen, IsWritten, error_text, last_line, place_text};
+ghost use Rattle.ticklab_explain.specs.Rows.{help_of};
 ghost use Rattle.ticklab_explain.specs.Settings.{setting};
 ghost use Rattle.ticklab_explain.specs.declared.place.Place.{Place};
 
@@ -15,6 +15,7 @@ use crate::finding::{tokens_of, wanted_at};
 use crate::hint::Hint;
 use crate::messages::push_message;
 use crate::picture::push_picture;
+use crate::piece::push_pieces;
 use crate::place::{Place, place_of};
 use crate::scene::Scene;
 use crate::setting::{read_part, scene_of};
@@ -151,12 +152,12 @@ fn push_hint(
     scene: &Scene,
     hint: Option<Hint>,
 ) -> Added
-    ensures { OnOk result ((lines : List ℕ) × AreHintLines name.now scene.now.text.now (setting scene.now) (option_map help_of hint) lines × (out.new.items ≡ out.old.items ++ lines)) }
+    ensures { OnOk result ((lines : List ℕ) × AreHintLines name.now scene.now.text.now (setting scene.now) (option_map help_of hint.entry) lines × (out.new.items ≡ out.old.items ++ lines)) }
 {
     match hint {
         Some(hint) => {
             push_words(alloc, out, scene, hint)?;
-            push_seen(alloc, out, name, scene.text, hint.span(scene))?;
+            push_seen(alloc, out, name, scene.text, hint.1.span(scene))?;
         }
         None => {}
     }
@@ -164,10 +165,10 @@ fn push_hint(
 }
 
 fn push_words(alloc: Global, out: &mut Vec<u8>, scene: &Scene, hint: Hint) -> Added
-    ensures { OnOk result (out.new.items ≡ out.old.items ++ (HINT.now ++ hint_text (setting scene.now) (help_of hint) ++ line_end)) }
+    ensures { OnOk result (out.new.items ≡ out.old.items ++ (HINT.now ++ hint_text (setting scene.now) (help_of hint.entry) ++ line_end)) }
 {
     let mut words = String::new(alloc);
-    hint.push(&mut words, scene)?;
+    push_pieces(&mut words, scene, hint.0)?;
     push(out, HINT)?;
     push(out, &words)?;
     push(out, "\n")

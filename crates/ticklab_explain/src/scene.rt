@@ -1,9 +1,8 @@
 // A place of a text, and what stands around it.
-ghost use Rattle.std.specs.Prelude.{◌≡◌, ◌+◌, ◌<◌, ◌≤◌, ◌^◌, IfSome, is_none, reverse, slice_index};
-ghost use Rattle.std.specs.Str.{bytes_eq, is_utf8};
+ghost use Rattle.std.specs.Prelude.{◌≡◌, ◌+◌, ◌<◌, ◌≤◌, ◌^◌, IfSome, reverse, slice_index};
+ghost use Rattle.std.specs.Str.{is_utf8};
 ghost use Rattle.ticklab_explain.specs.Hints.{first_declaration, first_written};
-ghost use Rattle.ticklab_explain.specs.Rules.{is_keyword_here, is_name_after, is_name_at, is_name_before, is_name_here};
-ghost use Rattle.ticklab_explain.specs.Settings.{about, after, as_text, before, counted, front, front_end, has_begun, here, is_name, open_brace, setting, shortened, sort_here, text_at, touches, unclosed, word};
+ghost use Rattle.ticklab_explain.specs.Settings.{about, after, as_text, before, counted, front, front_end, has_begun, here, is_keyword_here, is_name, is_name_after, is_name_at, is_name_before, open_brace, setting, shortened, sort_here, text_at, touches, unclosed, word};
 
 use base::span::Span;
 use std::str;
@@ -149,34 +148,6 @@ impl<'a> Scene<'a> {
         self.word(self.at + count)
     }
 
-    /// Whether this stands here.
-    pub fn is_here(&self, word: &str) -> bool
-        ensures { result ≡ bytes_eq (here (setting self.now)) word.now }
-    {
-        self.here() == word
-    }
-
-    /// Whether this stands so many tokens before.
-    pub fn is_before(&self, count: usize, word: &str) -> bool
-        ensures { result ≡ bytes_eq (before (setting self.now) count) word.now }
-    {
-        self.before(count) == word
-    }
-
-    /// Whether this stands so many tokens after.
-    pub fn is_after(&self, count: usize, word: &str) -> bool
-        ensures { result ≡ bytes_eq (after (setting self.now) count) word.now }
-    {
-        self.after(count) == word
-    }
-
-    /// Whether the refusal is about this.
-    pub fn is_about(&self, word: &str) -> bool
-        ensures { result ≡ bytes_eq (about (setting self.now)) word.now }
-    {
-        self.about() == word
-    }
-
     /// The sort of what stands here; none at the text's end.
     #[tactic(auto, unfolding(crate::specs::Settings::sort_here))]
     pub fn sort(&self) -> Option<Sort>
@@ -188,29 +159,8 @@ impl<'a> Scene<'a> {
         }
     }
 
-    /// Whether the text ends here.
-    pub fn is_at_end(&self) -> bool
-        ensures { result ≡ is_none (sort_here (setting self.now)) }
-    {
-        match self.sort() {
-            Some(_) => false,
-            None => true,
-        }
-    }
-
-    /// Whether a name stands here.
-    #[tactic(auto, unfolding(crate::specs::Rules::is_name_here))]
-    pub fn is_name(&self) -> bool
-        ensures { result ≡ is_name_here (setting self.now) }
-    {
-        match self.sort() {
-            Some(sort) => is_name(sort),
-            None => false,
-        }
-    }
-
     /// Whether a keyword stands here.
-    #[tactic(auto, unfolding(crate::specs::Rules::is_keyword_here))]
+    #[tactic(auto, unfolding(crate::specs::Settings::is_keyword_here))]
     pub fn is_keyword(&self) -> bool
         ensures { result ≡ is_keyword_here (setting self.now) }
     {
@@ -220,8 +170,9 @@ impl<'a> Scene<'a> {
         }
     }
 
-    #[tactic(auto, unfolding(crate::specs::Rules::is_name_at))]
-    fn is_name_at(&self, index: usize) -> bool
+    /// Whether a name stands at an index.
+    #[tactic(auto, unfolding(crate::specs::Settings::is_name_at))]
+    pub fn is_name_at(&self, index: usize) -> bool
         ensures { result ≡ is_name_at (setting self.now) index }
     {
         match self.tokens.get(index) {
@@ -231,7 +182,7 @@ impl<'a> Scene<'a> {
     }
 
     /// Whether a name stands so many tokens before.
-    #[tactic(auto, unfolding(crate::specs::Rules::is_name_before))]
+    #[tactic(auto, unfolding(crate::specs::Settings::is_name_before))]
     pub fn is_name_before(&self, count: usize) -> bool
         ensures { result ≡ is_name_before (setting self.now) count }
     {
@@ -242,7 +193,7 @@ impl<'a> Scene<'a> {
     }
 
     /// Whether a name stands so many tokens after.
-    #[tactic(auto, using(std::proofs::lemmas::Option::slice_get_past), unfolding(crate::specs::Rules::is_name_after, crate::specs::Rules::is_name_at))]
+    #[tactic(auto, using(std::proofs::lemmas::Option::slice_get_past), unfolding(crate::specs::Settings::is_name_after, crate::specs::Settings::is_name_at))]
     pub fn is_name_after(&self, count: usize) -> bool
         ensures { result ≡ is_name_after (setting self.now) count }
     {

@@ -1,11 +1,10 @@
 // The place of a refusal in its text.
 ghost use Rattle.std.specs.Prelude.{◌≡◌, ◌≤◌, length};
-ghost use Rattle.ticklab_explain.specs.Settings.{AreBlanksAfter, AreBlanksBefore, AreTokens, IsSetting, IsWordEnd, IsWordStart, behind, index_from, is_doubled, is_compared, is_word_byte, read_part, setting, text_part};
+ghost use Rattle.ticklab_explain.specs.Settings.{AreBlanksAfter, AreBlanksBefore, AreTokens, IsSetting, IsWordEnd, IsWordStart, behind, index_from, is_doubled, is_compared, is_word_byte, part_before, read_part, setting};
 
 use crate::scene::{Scene, as_text, byte_at, text_at};
-use crate::spot::{span_at, spot_of};
+use crate::spot::{Spot, span_at, spot_of};
 use base::span::Span;
-use tick_syntax::TextFault;
 use tick_syntax::token::Token;
 use ticketc_refusals::Refusal;
 
@@ -37,23 +36,15 @@ pub fn scene_of<'a>(
 pub fn read_part(text: &[u8], refusal: Refusal) -> &[u8]
     ensures { result.now ≡ read_part text.now refusal }
 {
-    match refusal {
-        Refusal::Text(fault) => text_part(text, fault),
-        Refusal::Kinds(_) | Refusal::Code(_) | Refusal::Schedule(_) => text,
-    }
+    part_before(text, spot_of(refusal))
 }
 
-fn text_part(text: &[u8], fault: TextFault) -> &[u8]
-    ensures { result.now ≡ text_part text.now fault }
+fn part_before(text: &[u8], spot: Spot) -> &[u8]
+    ensures { result.now ≡ part_before text.now spot }
 {
-    match fault {
-        TextFault::BadCharacter(place) => &text[..place.min(text.len())],
-        TextFault::TextTooLong
-        | TextFault::NumberTooBig(_)
-        | TextFault::NameTooLong(_)
-        | TextFault::Unexpected(_)
-        | TextFault::TooDeep(_)
-        | TextFault::NoMemory => text,
+    match spot {
+        Spot::Character(place) => &text[..place.min(text.len())],
+        Spot::Nowhere | Spot::Stretch(_) | Spot::Line(_) | Spot::Item(_) => text,
     }
 }
 

@@ -1,6 +1,6 @@
 // Where a refusal is.
 ghost use Rattle.std.specs.Prelude.{◌≡◌, ◌≤◌, length};
-ghost use Rattle.ticklab_explain.specs.Spots.{IsCharacterEnd, IsItemEnd, IsNumberedLine, IsSpanAt, code_spot, kinds_spot, schedule_spot, spot_of, text_spot};
+ghost use Rattle.ticklab_explain.specs.Spots.{IsCharacterEnd, IsItemEnd, IsNumberedLine, IsSpanAt, spot_of};
 
 use crate::place::line_end;
 use base::is_blank;
@@ -29,61 +29,36 @@ pub fn spot_of(refusal: Refusal) -> Spot
     ensures { result ≡ spot_of refusal }
 {
     match refusal {
-        Refusal::Text(fault) => text_spot(fault),
-        Refusal::Kinds(fault) => kinds_spot(fault),
-        Refusal::Code(fault) => code_spot(fault),
-        Refusal::Schedule(fault) => schedule_spot(fault),
-    }
-}
-
-fn text_spot(fault: TextFault) -> Spot
-    ensures { result ≡ text_spot fault }
-{
-    match fault {
-        TextFault::TextTooLong | TextFault::NoMemory => Spot::Nowhere,
-        TextFault::BadCharacter(place) => Spot::Character(place),
-        TextFault::NumberTooBig(span)
-        | TextFault::NameTooLong(span)
-        | TextFault::Unexpected(span)
-        | TextFault::TooDeep(span) => Spot::Stretch(span),
-    }
-}
-
-fn kinds_spot(fault: KindFault) -> Spot
-    ensures { result ≡ kinds_spot fault }
-{
-    match fault {
-        KindFault::Processes(span)
-        | KindFault::Twice(span)
-        | KindFault::Unknown(span)
-        | KindFault::WrongKind { span, .. }
-        | KindFault::TooMany(span) => Spot::Stretch(span),
-        KindFault::NoMemory => Spot::Nowhere,
-    }
-}
-
-fn code_spot(fault: CodeFault) -> Spot
-    ensures { result ≡ code_spot fault }
-{
-    match fault {
-        CodeFault::Empty => Spot::Line(1),
-        CodeFault::BadJump(place)
-        | CodeFault::StackShort(place)
-        | CodeFault::HeightsDiffer(place)
-        | CodeFault::BadSlot(place)
-        | CodeFault::FallsOff(place)
-        | CodeFault::BadStamp(place) => Spot::Line(usize::from(place) + 2),
-        CodeFault::BadLine(line) => Spot::Line(line),
-        CodeFault::TooLong | CodeFault::NoMemory => Spot::Nowhere,
-    }
-}
-
-fn schedule_spot(fault: ScheduleFault) -> Spot
-    ensures { result ≡ schedule_spot fault }
-{
-    match fault {
-        ScheduleFault::BadItem(place) | ScheduleFault::NoSuchProcess(place) => Spot::Item(place),
-        ScheduleFault::TooLong | ScheduleFault::NoMemory => Spot::Nowhere,
+        Refusal::Text(TextFault::BadCharacter(place)) => Spot::Character(place),
+        Refusal::Text(
+            TextFault::NumberTooBig(span)
+            | TextFault::NameTooLong(span)
+            | TextFault::Unexpected(span)
+            | TextFault::TooDeep(span),
+        )
+        | Refusal::Kinds(
+            KindFault::Processes(span)
+            | KindFault::Twice(span)
+            | KindFault::Unknown(span)
+            | KindFault::WrongKind { span, .. }
+            | KindFault::TooMany(span),
+        ) => Spot::Stretch(span),
+        Refusal::Code(CodeFault::Empty) => Spot::Line(1),
+        Refusal::Code(
+            CodeFault::BadJump(place)
+            | CodeFault::StackShort(place)
+            | CodeFault::HeightsDiffer(place)
+            | CodeFault::BadSlot(place)
+            | CodeFault::FallsOff(place)
+            | CodeFault::BadStamp(place),
+        ) => Spot::Line(usize::from(place) + 2),
+        Refusal::Code(CodeFault::BadLine(line)) => Spot::Line(line),
+        Refusal::Schedule(ScheduleFault::BadItem(place) | ScheduleFault::NoSuchProcess(place)) =>
+            Spot::Item(place),
+        Refusal::Text(TextFault::TextTooLong | TextFault::NoMemory)
+        | Refusal::Kinds(KindFault::NoMemory)
+        | Refusal::Code(CodeFault::TooLong | CodeFault::NoMemory)
+        | Refusal::Schedule(ScheduleFault::TooLong | ScheduleFault::NoMemory) => Spot::Nowhere,
     }
 }
 

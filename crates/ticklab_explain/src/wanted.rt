@@ -1,8 +1,10 @@
 // What may be expected at a place, by what stands before it. The parser decides whether it is.
-ghost use Rattle.std.specs.Prelude.{◌≡◌, ◌∷◌, ◌++◌, [], OnOk, string_bytes};
-ghost use Rattle.ticklab_explain.specs.Following.{before_expression, before_name, choices, is_one_of, is_one_of_now, other_choices, repeated_choices, sample, told};
+ghost use Rattle.std.specs.Prelude.{◌≡◌, ◌∷◌, ◌++◌, [], OnOk, map, string_bytes};
+ghost use Rattle.ticklab_explain.specs.Following.{choices, choices_in, sample, told};
 ghost use Rattle.ticklab_explain.specs.Pieces.{joined};
+ghost use Rattle.ticklab_explain.specs.Rows.{words_of};
 
+use crate::words::is_one_of;
 use crate::writing::{Added, push_all};
 use tick_syntax::terminals::Terminal;
 
@@ -69,36 +71,45 @@ impl Wanted {
     }
 }
 
-static PROCESSES: [Wanted; 1] = [Wanted::Word(Terminal::Processes)];
-
-static NUMBER: [Wanted; 1] = [Wanted::Number];
-
-static NAME: [Wanted; 1] = [Wanted::Name];
-
-static VALUE: [Wanted; 1] = [Wanted::Value];
-
-static EXPRESSION: [Wanted; 1] = [Wanted::Expression];
-
-static SEMICOLON: [Wanted; 1] = [Wanted::Word(Terminal::Semicolon)];
-
-static OPEN_BRACE: [Wanted; 1] = [Wanted::Word(Terminal::OpenBrace)];
-
-static TEXT_END: [Wanted; 1] = [Wanted::TextEnd];
-
-static AFTER_SCAN: [Wanted; 2] = [Wanted::Name, Wanted::Word(Terminal::Semicolon)];
-
-static SECTIONS_AND_STATEMENTS: [Wanted; 8] = [
-    Wanted::Word(Terminal::Var),
-    Wanted::Word(Terminal::Scan),
-    Wanted::Word(Terminal::Reg),
-    Wanted::Word(Terminal::Begin),
-    Wanted::Word(Terminal::Else),
-    Wanted::Statement,
-    Wanted::Word(Terminal::CloseBrace),
-    Wanted::Word(Terminal::End),
+// What may be wanted after one of these words.
+const CHOICES: &[(&[&str], &[Wanted])] = &[
+    (
+        &["var", "reg", ",", "get", "put", "copy", "older", "held"],
+        &[Wanted::Name],
+    ),
+    (
+        &[
+            "out", "if", "while", "(", "+", "-", "*", "/", "%", "<", "<=", "==", "!=",
+        ],
+        &[Wanted::Expression],
+    ),
+    (&[""], &[Wanted::Word(Terminal::Processes)]),
+    (&["processes"], &[Wanted::Number]),
+    (&["="], &[Wanted::Value]),
+    (&["stamp", "clear"], &[Wanted::Word(Terminal::Semicolon)]),
+    (&["else"], &[Wanted::Word(Terminal::OpenBrace)]),
+    (&["end"], &[Wanted::TextEnd]),
+    (
+        &["scan"],
+        &[Wanted::Name, Wanted::Word(Terminal::Semicolon)],
+    ),
+    (
+        &[";", "begin", "{", "}"],
+        &[
+            Wanted::Word(Terminal::Var),
+            Wanted::Word(Terminal::Scan),
+            Wanted::Word(Terminal::Reg),
+            Wanted::Word(Terminal::Begin),
+            Wanted::Word(Terminal::Else),
+            Wanted::Statement,
+            Wanted::Word(Terminal::CloseBrace),
+            Wanted::Word(Terminal::End),
+        ],
+    ),
 ];
 
-static AFTER_OPERAND: [Wanted; 7] = [
+// What may be wanted after all other words.
+const AFTER_OPERAND: &[Wanted] = &[
     Wanted::Word(Terminal::Comma),
     Wanted::Operator,
     Wanted::Word(Terminal::Close),
@@ -108,71 +119,21 @@ static AFTER_OPERAND: [Wanted; 7] = [
     Wanted::Expression,
 ];
 
-/// Whether a word is one of these.
-pub fn is_one_of(word: &str, words: &[&str]) -> bool
-    ensures { result ≡ is_one_of_now word.now words.now }
-{
-    words.iter().any(|one| *one == word)
-}
-
-fn stands_before_name(word: &str) -> bool
-    ensures { result ≡ is_one_of word.now before_name }
-{
-    is_one_of(
-        word,
-        &["var", "reg", ",", "get", "put", "copy", "older", "held"],
-    )
-}
-
-fn stands_before_expression(word: &str) -> bool
-    ensures { result ≡ is_one_of word.now before_expression }
-{
-    is_one_of(
-        word,
-        &[
-            "out", "if", "while", "(", "+", "-", "*", "/", "%", "<", "<=", "==", "!=",
-        ],
-    )
-}
-
 /// What may be wanted after a word. Whether it is, the parser says.
 #[tactic(auto, unfolding(crate::specs::Following::choices))]
 pub fn choices(word: &str) -> &'static [Wanted]
     ensures { result.now ≡ choices word.now }
 {
-    if stands_before_name(word) {
-        return &NAME;
-    }
-    if stands_before_expression(word) {
-        return &EXPRESSION;
-    }
-    other_choices(word)
+    choices_in(CHOICES, word, AFTER_OPERAND)
 }
 
-#[tactic(auto, unfolding(crate::specs::Following::other_choices))]
-fn other_choices(word: &str) -> &'static [Wanted]
-    ensures { result.now ≡ other_choices word.now }
+fn choices_in<'a>(rows: &[(&[&str], &'a [Wanted])], word: &str, other: &'a [Wanted]) -> &'a [Wanted]
+    ensures { result.now ≡ choices_in (map (λ row. (words_of row.0.now, row.1.now)) rows.now) word.now other.now }
 {
-    match word {
-        "" => &PROCESSES,
-        "processes" => &NUMBER,
-        "=" => &VALUE,
-        "stamp" => &SEMICOLON,
-        "clear" => &SEMICOLON,
-        "else" => &OPEN_BRACE,
-        "end" => &TEXT_END,
-        "scan" => &AFTER_SCAN,
-        _ => repeated_choices(word),
+    for (words, wanted) in rows {
+        if is_one_of(word, words) {
+            return wanted;
+        }
     }
-}
-
-#[tactic(auto, unfolding(crate::specs::Following::repeated_choices))]
-fn repeated_choices(word: &str) -> &'static [Wanted]
-    ensures { result.now ≡ repeated_choices word.now }
-{
-    if is_one_of(word, &[";", "begin", "{", "}"]) {
-        &SECTIONS_AND_STATEMENTS
-    } else {
-        &AFTER_OPERAND
-    }
+    other
 }

@@ -1,6 +1,6 @@
 use Rattle.std.proofs.Common.{◌∙◌, ◌++◌, ℕ, List, Option, ap, subst}
-use Rattle.ticklab_explain.specs.Helps.{Help}
 use Rattle.ticklab_explain.specs.Reports.{AreHintLines, IsHead, last_line}
+use Rattle.ticklab_explain.specs.Rows.{Help}
 use Rattle.ticklab_explain.specs.Settings.{setting}
 use Rattle.ticklab_explain.proofs.report.told.Goals as goal
 
