@@ -2,7 +2,7 @@
 //!
 //! Whole objects are rows of `answers/`.
 
-use crate::tracing::given::{acts_of_code, acts_of_source, code_for, program_for};
+use crate::tracing::given::{acts_of_code, acts_of_source, code_for, code_steps, program_for};
 use crate::tracing::programs::RUNS;
 use base::Act;
 use serde_json::Value;
@@ -16,7 +16,7 @@ use ticklab_explain::place::Place;
 use ticklab_json::{
     code_objects, explanation_object, findings_object, fine_object, source_objects,
 };
-use ticklab_trace::{code_steps, places, source_steps};
+use ticklab_trace::{places, source_steps};
 
 // Quotes, backslashes, controls, and letters that a line of JSON may not split at.
 static NAMES: [&str; 5] = [

@@ -3,5 +3,5 @@
 /// The version; the sum of the sources of `ticketc` and `ticklab`; the logic of the toolchain that proves them.
 pub const VERSION: &str = "\
 1.0\n\
-sources a2d66b66ea0fc620594c978062d65aaae76be41dbd7ec3351970d76a3f10644f\n\
+sources 14061fa2ae64b26022625104b8701286380b416eff0f18088bf7413e95c8b8f6\n\
 logic dac8208d650f15bf";

@@ -1,4 +1,3 @@
-pub mod Steps
+pub mod Offered
 pub mod Tabled
-pub mod Runs
 pub mod Markup

@@ -20,16 +20,18 @@ last_put_more at last r i (mark ∷ marks) m =
     ∙ ap (λ k. if is_put r i m then Some k else last_put_from (at + 1) (if is_put r i mark then Some at else last) r i marks) e
 
 -- the mark of an event is a put where the event is
-mark_writes : (r i number : ℕ) (held : Holdings) (marks : List Mark) (p : ℕ) (act : Act)
+mark_writes : (r i number : ℕ) (held : Option Holdings) (marks : List Mark) (p : ℕ) (act : Act)
     → is_put r i (mark_of number held marks (record { process = p; act = act })) ≡ writes r i (record { process = p; act = act })
 mark_writes r i number held marks p (A.Get row j v) = refl
-mark_writes r i number held marks p A.Stamp = refl
-mark_writes r i number held marks p A.Clear = refl
+mark_writes r i number None marks p A.Stamp = refl
+mark_writes r i number (Some held) marks p A.Stamp = refl
+mark_writes r i number None marks p A.Clear = refl
+mark_writes r i number (Some held) marks p A.Clear = refl
 mark_writes r i number held marks p _ = refl
 
 -- what is noted of an event makes it the table of the marks with that of the event
-pub noted : (number : ℕ) (held : Holdings) (event : Event) (old new : BTreeMap ℕ ℕ) (marks more : List Mark)
-    → IsTable old marks → Notes (length marks) event old new → more ≡ with_event number held (Some event) marks → IsTable new more
+pub noted : (number : ℕ) (held : Option Holdings) (event : Event) (old new : BTreeMap ℕ ℕ) (marks more : List Mark)
+    → IsTable old marks → Notes (length marks) event old new → more ≡ with_event number held event marks → IsTable new more
 noted number held event old new marks more table notes is r i low =
     let zeroed : 0 + length marks ≡ length marks = omega arith in
     notes r i low

@@ -1,15 +1,12 @@
 -- The marks of a run: one for each event, in order, at the number of its step.
-use Rattle.std.specs.Prelude.{ℕ, ◌+◌, ◌==◌, ◌&&◌, Bool, false, if◌then◌else◌, List, [], ◌∷◌, ◌++◌, length, slice_get, Option, Some, None, option_and_then}
+use Rattle.std.specs.Prelude.{ℕ, ◌+◌, ◌==◌, ◌&&◌, Bool, false, if◌then◌else◌, List, [], ◌∷◌, ◌++◌, Option, Some, None, option_and_then, option_map}
 use Rattle.base.specs.Rows.{padded}
 use Rattle.base.specs.declared.event.Act.{Act}
 use Rattle.base.specs.declared.event.Act.TheVariants as A
 use Rattle.base.specs.declared.event.Event.{Event}
-use Rattle.base.specs.Plain.{WholeProgram}
-use Rattle.tick_source.specs.Source.{SourceState, source_step, source_start}
-use Rattle.code_core.specs.declared.instr.Instr.{Instr}
-use Rattle.code_core.specs.declared.instr.Instr.TheVariants as I
-use Rattle.code_core.specs.Instructions.{StepCode}
-use Rattle.code_machine.specs.Machine.{CodeState, code_step, code_start, next_instruction}
+use Rattle.word_core.specs.Stamps.{Labels}
+use Rattle.ticklab_trace.specs.declared.steps.InstructionStep.{InstructionStep}
+use Rattle.ticklab_trace.specs.declared.steps.StatementStep.{StatementStep}
 use Rattle.ticklab_draw.specs.declared.mark.Mark.{Mark}
 use Rattle.ticklab_draw.specs.declared.mark.Sight.{Sight}
 use Rattle.ticklab_draw.specs.declared.mark.Sight.TheVariants as S
@@ -44,57 +41,52 @@ last_put_from at last r i (m ∷ marks) = last_put_from (at + 1) (if is_put r i 
 abbrev pub last_put : ℕ → ℕ → List Mark → Option ℕ
 last_put r i marks = last_put_from 0 None r i marks
 
--- what is shown of an act, where this is held after it, and these marks are before it
-abbrev pub sight_of : Holdings → List Mark → Act → Sight
-sight_of held marks (A.Get r i v) = S.Get r i v (last_put r i marks)
-sight_of held marks A.Stamp = S.Stamp held
-sight_of held marks A.Clear = S.Clear held
-sight_of held marks act = S.Act act
+-- what is shown of an act, where these marks are before it; of a stamp and a clear what is held after it
+abbrev pub sight_of : List Mark → Act → Option Holdings → Sight
+sight_of marks (A.Get r i v) held = S.Get r i v (last_put r i marks)
+sight_of marks A.Stamp (Some held) = S.Stamp held
+sight_of marks A.Clear (Some held) = S.Clear held
+sight_of marks act held = S.Act act
 
-abbrev pub mark_of : ℕ → Holdings → List Mark → Event → Mark
-mark_of number held marks event = record { step = number; process = event.process; sight = sight_of held marks event.act }
+abbrev pub mark_of : ℕ → Option Holdings → List Mark → Event → Mark
+mark_of number held marks event = record { step = number; process = event.process; sight = sight_of marks event.act held }
 
--- the marks with that of an event, where the step of this number has one
-abbrev pub with_event : ℕ → Holdings → Option Event → List Mark → List Mark
-with_event number held None marks = marks
-with_event number held (Some event) marks = marks ++ mark_of number held marks event ∷ []
+-- the marks with that of an event of the step of this number
+abbrev pub with_event : ℕ → Option Holdings → Event → List Mark → List Mark
+with_event number held event marks = marks ++ mark_of number held marks event ∷ []
+
+-- the marks with that of what others see of process `p`, where they see something
+abbrev pub with_act : ℕ → ℕ → Option Holdings → Option Act → List Mark → List Mark
+with_act number p held None marks = marks
+with_act number p held (Some act) marks = with_event number held (record { process = p; act = act }) marks
 
 -- the marks with that of an exchange that process `p` lost to what is held
 abbrev pub with_lost : ℕ → ℕ → Holdings → List Mark → List Mark
 with_lost number p held marks = marks ++ record { step = number; process = p; sight = S.Lost held } ∷ []
 
--- the event that a run has told after so many others
-abbrev pub told_after : ℕ → List Event → Option Event
-told_after many events = slice_get events many
-
 abbrev pub tickets_held : List ℕ → Holdings
 tickets_held tickets = H.Tickets (padded 6 0 tickets)
 
--- The marks of a program of `n` processes with those of a schedule, from a state and the step of a number on.
-abbrev pub marks_on : ℕ → ℕ → SourceState → List Mark → List ℕ → List Mark
-marks_on n number s marks [] = marks
-marks_on n number s marks (p ∷ schedule) =
-    let t = source_step n p s in
-    marks_on n (number + 1) t (with_event number (tickets_held t.tickets) (told_after (length s.events) t.events) marks) schedule
+-- the marks with that of a step of a program, where it has one
+abbrev pub with_statement : ℕ → StatementStep → List Mark → List Mark
+with_statement number step marks = with_act number step.process (option_map tickets_held step.tickets) step.act marks
 
--- the marks of the program under this schedule
-abbrev pub program_marks : WholeProgram ℕ → List ℕ → List Mark
-program_marks a schedule = marks_on a.processes 1 (source_start a) [] schedule
+-- the same of a code: of what others see, or of an exchange that nobody saw
+abbrev pub with_found : ℕ → InstructionStep → Option Labels → List Mark → List Mark
+with_found number step None marks = with_act number step.process (option_map H.Labels step.labels) step.act marks
+with_found number step (Some labels) marks = with_lost number step.process (H.Labels labels) marks
 
--- the marks with that of a step of a code: of its event, or of an exchange that nobody saw
-abbrev pub with_made : ℕ → ℕ → Holdings → Option Instr → Option Event → List Mark → List Mark
-with_made number p held made (Some event) marks = with_event number held (Some event) marks
-with_made number p held (Some (I.Exchange l)) None marks = with_lost number p held marks
-with_made number p held _ None marks = marks
+abbrev pub with_instruction : ℕ → InstructionStep → List Mark → List Mark
+with_instruction number step marks = with_found number step step.lost marks
 
--- The marks of a code of `n` processes, in the same way.
-abbrev pub code_marks_on : ℕ → List Instr → ℕ → CodeState → List Mark → List ℕ → List Mark
-code_marks_on n code number s marks [] = marks
-code_marks_on n code number s marks (p ∷ schedule) =
-    let t = code_step n code p s in
-    code_marks_on n code (number + 1) t
-    (with_made number p (H.Labels t.labels) (next_instruction code p s) (told_after (length s.events) t.events) marks) schedule
+-- The marks with those of these steps, the first of which has this number.
+abbrev pub marks_on : {X : Type 0} → (ℕ → X → List Mark → List Mark) → ℕ → List Mark → List X → List Mark
+marks_on add number marks [] = marks
+marks_on add number marks (step ∷ steps) = marks_on add (number + 1) (add number step marks) steps
 
--- the marks of the code under this schedule
-abbrev pub marks_of_code : StepCode → List ℕ → List Mark
-marks_of_code c schedule = code_marks_on c.sizes.processes c.instructions 1 (code_start c.sizes) [] schedule
+-- the marks of a run of a program, and of a code, that makes these steps
+abbrev pub statement_marks : List StatementStep → List Mark
+statement_marks steps = marks_on with_statement 1 [] steps
+
+abbrev pub instruction_marks : List InstructionStep → List Mark
+instruction_marks steps = marks_on with_instruction 1 [] steps

@@ -1,9 +1,8 @@
 //! `ticklab_draw` draws a run as a picture in SVG.
 //!
-//! `marks` runs a program under a schedule, and `code_marks` runs a code; both give a list of marks.
-//! `picture` draws a list of marks.
+//! A `Marking` makes the marks of a run from its steps, and `picture` draws a list of marks.
 //! `labels` draws the labels after each move: `frames` and `write_frames`.
-//! Start with `marks`.
+//! Start with `picture`.
 #![tactic(auto)]
 
 mod arrows;
@@ -11,7 +10,6 @@ mod beside;
 mod colours;
 mod columns;
 mod feet;
-mod holding;
 mod labels;
 mod lanes;
 pub mod laws;
@@ -24,7 +22,6 @@ mod never;
 mod orders;
 mod page;
 mod pieces;
-mod run;
 mod shapes;
 mod style;
 mod words;
@@ -34,6 +31,6 @@ pub use base::{NoMemory, Trap};
 pub use labels::{Frame, MOST_MOVES, frames, write_frames};
 pub use look::Look;
 pub use mark::{Holdings, Mark, Sight};
+pub use marking::Marking;
 pub use never::NeverMark;
 pub use page::{file_name, picture};
-pub use run::{code_marks, marks};

@@ -29,6 +29,7 @@ use Rattle.ticklab_check.specs.declared.checked.Checked.{Checked}
 use Rattle.ticklab_check.specs.declared.checked.Checked.TheVariants as C
 use Rattle.ticklab_check.specs.declared.reporting.Findings.{Findings}
 use Rattle.ticklab_check.specs.declared.source.Source.{Source}
+use Rattle.word_core.specs.Stamps.{Labels}
 use Rattle.ticklab_trace.specs.Places.{Standing}
 use Rattle.ticklab_trace.specs.TraceText.{label_rank, ticket_rank}
 use Rattle.ticklab_trace.specs.declared.steps.StatementStep.{StatementStep}
@@ -237,9 +238,9 @@ loop_told answer says a spots schedule lead_in cycle steps trace v same told =
     ap has_float (told ∙ ap (λ t. loop_data answer says (record { schedule = schedule; lead_in = lead_in; cycle = cycle; trace = t })) same)
     ∙ loop_exact answer says a spots schedule lead_in cycle steps
 
-lost_exact : (is : Bool) → IsExact (if_lost is)
-lost_exact true = refl
-lost_exact false = tt
+lost_exact : (found : Option Labels) → IsExact (if_lost found)
+lost_exact None = tt
+lost_exact (Some found) = refl
 
 made_exact : (a : WholeProgram Name) (k : ℕ) (step : InstructionStep) (i : Option Instr) → members_have_float (instruction_members a k step i) ≡ false
 made_exact a k step None = refl

@@ -1,5 +1,5 @@
 -- The steps of a trace as objects, one in a line.
-use Rattle.std.specs.Prelude.{ℕ, zero, suc, ◌+◌, ◌==◌, if◌then◌else◌, Bool, true, false, List, [], ◌∷◌, ◌++◌, codes, length, slice_get, slice_index, Option, Some, None, Ok, Err, option_and_then, option_map}
+use Rattle.std.specs.Prelude.{ℕ, zero, suc, ◌+◌, ◌==◌, if◌then◌else◌, true, List, [], ◌∷◌, ◌++◌, codes, length, slice_get, slice_index, Option, Some, None, Ok, Err, option_and_then, option_map}
 use Rattle.base.specs.Plain.{Name, WholeProgram}
 use Rattle.base.specs.declared.event.Act.{Act}
 use Rattle.base.specs.declared.event.Act.TheVariants as A
@@ -123,9 +123,9 @@ statement_objects a spots broken steps = lines (start_list (broken_at 0 broken))
 
 -- The same of a code.
 
-abbrev pub if_lost : Bool → Option Data
-if_lost true = Some (boolean true)
-if_lost false = None
+abbrev pub if_lost : Option Labels → Option Data
+if_lost None = None
+if_lost (Some found) = Some (boolean true)
 
 -- the place of an instruction, how it reads, and what it did
 abbrev pub with_instruction : WholeProgram Name → InstructionStep → Instr → Members → Members

@@ -15,6 +15,7 @@ use serde_json::{Value, put};
 use std::alloc::{AllocError, Global};
 use tick_kinds::Program;
 use ticklab_trace::InstructionStep;
+use word_core::LabelWord;
 
 /// An object in a line for each step: its number, the process, the place of its instruction and how it reads,
 /// and what it did. `program` is the program that the code was lowered from.
@@ -80,12 +81,12 @@ fn words(alloc: Global, instruction: Instr) -> Result<Value, AllocError>
     Ok(Value::String(text))
 }
 
-fn if_lost(is_lost: bool) -> Option<Value>
-    ensures { option_map view result ≡ if_lost is_lost }
+// Whether an exchange was lost: then it found labels.
+fn if_lost(found: Option<LabelWord>) -> Option<Value>
+    ensures { option_map view result ≡ if_lost found }
 {
-    if is_lost {
-        Some(Value::from(true))
-    } else {
-        None
+    match found {
+        Some(_) => Some(Value::from(true)),
+        None => None,
     }
 }

@@ -1,19 +1,20 @@
--- A run that is followed step by step until a line first is broken, and the lines of a state one by one until one is.
-use Rattle.std.proofs.Common.{◌≡◌, ◌∙◌, ◌<◌, ◌≤◌, ◌+◌, ℕ, Bool, false, List, [], ◌∷◌, ◌++◌, length, get_or, map, take, refl, ap, sym, subst, arith, inl, inr, Option, Some, MatchOption, true≢false}
-use Rattle.std.specs.Prelude.{◌||◌, is_some, slice_get, unwrap_or}
+-- A run of which each state is asked until a line first is broken, and the lines of a state one by one until one is.
+use Rattle.std.proofs.Common.{◌≡◌, ◌∙◌, ◌<◌, ◌≤◌, ◌+◌, ℕ, Bool, false, List, length, get_or, map, option_map, take, ap, sym, subst, arith, inl, inr, Option, None, Some, MatchOption, true≢false}
+use Rattle.std.specs.Prelude.{◌||◌, IfNone, IfSome, is_some, slice_get, unwrap_or}
 use Rattle.std.specs.List.{list_any}
 use Rattle.std.proofs.lemmas.Bool.{cases_lt}
-use Rattle.std.proofs.lemmas.List.{get_or-map, length-map, take_more}
+use Rattle.std.proofs.lemmas.List.{get_or-map, length-map}
 use Rattle.std.proofs.lemmas.List.Folds.{list_any_more}
 use Rattle.std.proofs.lemmas.Option.{get_or_from_slice_get, slice_get-get_or, slice_get_within}
 use Rattle.base.specs.Plain.{WholeProgram}
 use Rattle.language_properties.specs.declared.property.Property.{Property}
 use Rattle.language_properties.specs.Properties.{Formula, formula_of}
 use Rattle.searches_explore.specs.Lines.{IsFirstBroken, breaks, lines_of}
-use Rattle.tick_source.specs.Source.{SourceState, source, source_run, source_start, source_step}
+use Rattle.tick_source.specs.Source.{SourceState, source}
 use Rattle.ticklab_files.specs.Asking.{TextPlace}
-use Rattle.ticklab_runs.specs.Breaking.{BrokenAt, IsFirstAt, IsFirstBreak, NeverBreaks, breaking, unbroken}
+use Rattle.ticklab_runs.specs.Breaking.{BrokenAt, IsFirstAt, IsFirstBreak, NeverBreaks, breaking, broken_at, unbroken}
 use Rattle.ticklab_runs.specs.declared.breaking.Break.{Break}
+use Rattle.ticklab_runs.specs.declared.breaking.BrokenLine.{BrokenLine}
 
 -- what is held at an index, in whatever form the definitions have it
 pub held_there : {X Y : Type 0} (form : X → Y) (xs : List X) (at : ℕ) (x : X) → at < length xs → x ≡ get_or xs at x
@@ -37,15 +38,26 @@ placed a lines places schedule b first as_many =
 
 -- what was found has a place, and comes after no more steps than there are
 module _ (a : WholeProgram ℕ) (lines : List Formula) (places : List TextPlace) (schedule : List ℕ) where
-  pub line_within : (found : BrokenAt) → IsFirstAt a lines places schedule (Some found) → found.broken.line < length places
+  line_within : (found : BrokenAt) → IsFirstAt a lines places schedule (Some found) → found.broken.line < length places
   line_within found (unbroken never none) = absurd (true≢false (ap is_some none))
   line_within found (breaking b first place there same) =
       subst (λ (f : BrokenAt). f.broken.line < length places) (sym (ap (λ o. unwrap_or o found) same)) (slice_get_within places b.line place there)
 
-  pub steps_within : (found : BrokenAt) → IsFirstAt a lines places schedule (Some found) → found.broken.steps ≤ length schedule
+  steps_within : (found : BrokenAt) → IsFirstAt a lines places schedule (Some found) → found.broken.steps ≤ length schedule
   steps_within found (unbroken never none) = absurd (true≢false (ap is_some none))
   steps_within found (breaking b first place there same) =
       subst (λ (f : BrokenAt). f.broken.steps ≤ length schedule) (sym (ap (λ o. unwrap_or o found) same)) first.within
+
+  -- as the code has it
+  pub line_found : (found : Option BrokenLine) (count : ℕ) → count ≡ length places → IsFirstAt a lines places schedule (option_map broken_at found)
+      → IfSome found (λ line. line.broken.line < count)
+  line_found None count all first = tt
+  line_found (Some line) count all first = subst (λ n. line.broken.line < n) (sym all) (line_within (broken_at line) first)
+
+  pub steps_found : (found : Option BrokenLine) (count : ℕ) → count ≡ length schedule → IsFirstAt a lines places schedule (option_map broken_at found)
+      → IfSome found (λ line. line.broken.steps ≤ count)
+  steps_found None count all first = tt
+  steps_found (Some line) count all first = subst (λ n. line.broken.steps ≤ n) (sym all) (steps_within (broken_at line) first)
 
 -- one more that doesn't pass the test
 pub none_more : {X : Type 0} (test : X → Bool) (xs : List X) (at : ℕ) (x : X) → slice_get xs at ≡ Some x
@@ -61,27 +73,38 @@ more_so_far P i before here k below = elim (cases_lt k i) as (λ _. P k) [
   | inr past ↦ subst P (omega (arith, below, past)) here
 ]
 
-source_more : (n p : ℕ) (xs : List ℕ) (s : SourceState) → source_run n (xs ++ p ∷ []) s ≡ source_step n p (source_run n xs s)
-source_more n p [] s = refl
-source_more n p (x ∷ xs) s = source_more n p xs (source_step n x s)
-
--- one item more of the schedule
-pub source_on : (a : WholeProgram ℕ) (schedule : List ℕ) (i : ℕ) → i < length schedule
-    → source a (take (i + 1) schedule) ≡ source_step a.processes (get_or schedule i 0) (source a (take i schedule))
-source_on a schedule i inside =
-    ap (source a) (take_more schedule i 0 inside) ∙ source_more a.processes (get_or schedule i 0) (take i schedule) (source_start a)
-
 module _ (a : WholeProgram ℕ) (lines : List Formula) (schedule : List ℕ) (i : ℕ) (s : SourceState)
     (at : s ≡ source a (take i schedule)) (before : (k : ℕ) → k < i → breaks lines (source a (take k schedule)) ≡ false) where
-  pub unbroken_on : breaks lines s ≡ false → (k : ℕ) → k < i + 1 → breaks lines (source a (take k schedule)) ≡ false
+  unbroken_on : breaks lines s ≡ false → (k : ℕ) → k < i + 1 → breaks lines (source a (take k schedule)) ≡ false
   unbroken_on none = more_so_far (λ k. breaks lines (source a (take k schedule)) ≡ false) i before (ap (breaks lines) (sym at) ∙ none)
 
-  pub broken_here : (b : Break) → b.steps ≡ i → i ≤ length schedule → IsFirstBroken lines s b.line b.value → IsFirstBreak a lines schedule b
+  broken_here : (b : Break) → b.steps ≡ i → i ≤ length schedule → IsFirstBroken lines s b.line b.value → IsFirstBreak a lines schedule b
   broken_here b steps within first = record {
     within = subst (λ k. k ≤ length schedule) (sym steps) within;
     broken = subst (λ (t : SourceState). IsFirstBroken lines t b.line b.value) (at ∙ ap (λ k. source a (take k schedule)) (sym steps)) first;
     none_before = λ k below. before k (subst (λ j. k < j) steps below);
   }
 
-  pub never_broken : length schedule ≤ i → breaks lines s ≡ false → NeverBreaks a lines schedule
-  never_broken all none k within = unbroken_on none k (omega (arith, all, within))
+module _ (a : WholeProgram ℕ) (lines : List Formula) (schedule : List ℕ) (i : ℕ) where
+  -- no line is broken after fewer steps
+  abbrev pub UnbrokenBefore : Type 0
+  UnbrokenBefore = (k : ℕ) → k < i → breaks lines (source a (take k schedule)) ≡ false
+
+  -- what is found so far
+  abbrev pub FoundBefore : Option Break → Type 0
+  FoundBefore found = MatchOption found UnbrokenBefore (IsFirstBreak a lines schedule)
+
+-- One state more is asked, unless a break was found before.
+pub watched : (a : WholeProgram ℕ) (lines : List Formula) (schedule : List ℕ) (i : ℕ) (s : SourceState) (old new : Option Break)
+    → i ≤ length schedule → s ≡ source a (take i schedule) → FoundBefore a lines schedule i old → IfSome old (λ b. new ≡ Some b)
+    → IfNone old (IfSome new (λ b. (b.steps ≡ i) × IsFirstBroken lines s b.line b.value)) → IfNone old (IfNone new (breaks lines s ≡ false))
+    → FoundBefore a lines schedule (i + 1) new
+watched a lines schedule i s (Some b) new within at first same broken none = subst (FoundBefore a lines schedule (i + 1)) (sym same) first
+watched a lines schedule i s None (Some b) within at before same broken none = broken_here a lines schedule i s at before b broken.0 within broken.1
+watched a lines schedule i s None None within at before same broken none = unbroken_on a lines schedule i s at before none
+
+-- all were asked
+pub all_watched : (a : WholeProgram ℕ) (lines : List Formula) (schedule : List ℕ) (found : Option Break) → FoundBefore a lines schedule (length schedule + 1) found
+    → MatchOption found (NeverBreaks a lines schedule) (IsFirstBreak a lines schedule)
+all_watched a lines schedule None before = λ k within. before k (omega (arith, within))
+all_watched a lines schedule (Some b) first = first

@@ -1,5 +1,5 @@
 -- Where a run of a program first breaks a line that must never hold.
-use Rattle.std.specs.Prelude.{◌≡◌, ◌≤◌, ◌<◌, ◌+◌, ◌-◌, ◌==◌, if◌then◌else◌, ℕ, Bool, true, false, List, drop, length, option_map, slice_get, take, Option, Some, None}
+use Rattle.std.specs.Prelude.{◌≡◌, ◌≤◌, ◌<◌, ◌+◌, ◌-◌, ◌==◌, if◌then◌else◌, ℕ, false, List, drop, length, slice_get, take, Option, Some, None}
 use Rattle.base.specs.Plain.{WholeProgram}
 use Rattle.language_properties.specs.Properties.{Formula}
 use Rattle.searches_explore.specs.Lines.{IsFirstBroken, breaks}
@@ -48,14 +48,3 @@ mark_of count found = record {
   text = text_at found.place;
   value = found.broken.value;
 }
-
--- A picture has this mark: that of the first of these lines to be broken, which stand here, where one is.
-pub record IsMarked (a : WholeProgram ℕ) (lines : List Formula) (places : List TextPlace) (schedule : List ℕ) (mark : Option Broken) : Type 0 where
-  pub found : Option BrokenAt
-  pub first : IsFirstAt a lines places schedule found
-  pub is : mark ≡ option_map (mark_of (length places)) found
-
--- of a code no line is asked
-abbrev pub IsMarkedFor : Bool → WholeProgram ℕ → List Formula → List TextPlace → List ℕ → Option Broken → Type 0
-IsMarkedFor true a lines places schedule mark = mark ≡ None
-IsMarkedFor false a lines places schedule mark = IsMarked a lines places schedule mark

@@ -5,3 +5,5 @@ pub mod Pages
 pub mod Pictures
 pub mod Runs
 pub mod Steps
+pub mod Traces
+pub mod prover

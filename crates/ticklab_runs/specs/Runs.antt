@@ -1,39 +1,35 @@
 -- What `trace`, `draw` and `page` answer: a trace as text or as JSON, a picture or a page of the run of a program, or of its
 -- code, under a schedule.
-use Rattle.std.specs.Prelude.{◌≡◌, ◌≤◌, ◌<◌, ◌++◌, ⊤, ℕ, Bool, true, false, List, drop, length, option_map, take, Option, Some, None, Ok}
+use Rattle.std.specs.Prelude.{◌≡◌, ◌≤◌, ◌<◌, ⊤, ℕ, Bool, true, false, List, length, option_map, take, Option, None, Ok}
 use Rattle.std.specs.Borrow.{Bor}
 use Rattle.base.specs.Plain.{Name, WholeProgram}
-use Rattle.tick_kinds.specs.Resolution.{resolved}
 use Rattle.language_properties.specs.Properties.{Formula}
 use Rattle.language_schedules.specs.Schedule.{schedule_of}
 use Rattle.ticketc_refusals.specs.Refusals.{IsScheduleRefused}
-use Rattle.ticklab_explain.specs.Questions.{IsPointed}
 use Rattle.ticklab_explain.specs.Reports.{TellsFor}
-use Rattle.ticklab_json.specs.Steps.{instruction_objects, statement_objects}
-use Rattle.ticklab_trace.specs.declared.steps.InstructionStep.{InstructionStep}
-use Rattle.ticklab_trace.specs.declared.steps.StatementStep.{StatementStep}
-use Rattle.ticklab_trace.specs.Places.{Standing}
-use Rattle.ticklab_trace.specs.TraceText.{instruction_lines, statement_lines}
 use Rattle.tick_sim.specs.Maps.{lifted}
 use Rattle.ticklab_line.specs.Commands.{plain_drawing}
 use Rattle.ticklab_line.specs.declared.commands.AskedRun.{AskedRun}
 use Rattle.ticklab_line.specs.declared.commands.Side.{Side}
 use Rattle.ticklab_line.specs.declared.commands.Side.TheVariants.{Program, Code, Lifted}
 use Rattle.ticklab_files.specs.Asking.{AsksNever, IsFileRefused, IsProgramFile, TellsOption, TextPlace, lines_in, places_by}
-use Rattle.ticklab_runs.specs.Breaking.{BrokenAt, IsFirstAt}
 use Rattle.ticklab_files.specs.Codes.{IsCodeless, program_code}
-use Rattle.ticklab_runs.specs.Lines.{broken_text, long_run_line}
-use Rattle.ticklab_runs.specs.Objects.{AreBrokenObjects}
-use Rattle.ticklab_runs.specs.Pages.{IsPage}
-use Rattle.ticklab_runs.specs.Pictures.{IsPictureFor, title_of}
 use Rattle.ticklab_files.specs.Reading.{AfterBoth, ReadsOf, ReadsInputOf}
 use Rattle.ticklab_files.specs.Responses.{Gives, Refuses}
-use Rattle.ticklab_runs.specs.Steps.{IsOfInstructions, IsOfStatements}
+use Rattle.ticklab_files.specs.declared.response.Response.{Response}
+use Rattle.ticklab_draw.specs.Marks.{instruction_marks, statement_marks}
+use Rattle.ticklab_page.specs.Pages.{code_page}
+use Rattle.ticklab_trace.specs.declared.steps.InstructionStep.{InstructionStep}
+use Rattle.ticklab_trace.specs.declared.steps.StatementStep.{StatementStep}
+use Rattle.ticklab_runs.specs.Breaking.{BrokenAt, mark_of}
+use Rattle.ticklab_runs.specs.Lines.{long_run_line}
+use Rattle.ticklab_runs.specs.Pages.{IsPageOf, whole_look}
+use Rattle.ticklab_runs.specs.Pictures.{look_of, picture_of, title_of}
+use Rattle.ticklab_runs.specs.Steps.{CodeRun, ProgramRun}
+use Rattle.ticklab_runs.specs.Traces.{IsTraceOf, instructions_told}
+pub use Rattle.ticklab_runs.specs.Traces.{IsStatementTrace}
 use Rattle.ticklab_runs.specs.declared.told_run.Telling.{Telling}
 use Rattle.ticklab_runs.specs.declared.told_run.Telling.TheVariants.{Trace, Picture, Page}
-use Rattle.ticklab_files.specs.declared.form.Form.{Form}
-use Rattle.ticklab_files.specs.declared.form.Form.TheVariants.{Text, Json}
-use Rattle.ticklab_files.specs.declared.response.Response.{Response}
 
 -- the schedule under which it runs, where this one is given
 abbrev pub schedule_on : Side → WholeProgram Name → List ℕ → List ℕ
@@ -82,62 +78,42 @@ pub data AnswersRun {texts : List (List ℕ)} {input : List ℕ} (telling : Tell
   run : Gives 0 (IsRun side P text) response → AnswersRun telling side P name from text response
   unrun : Refuses 1 (IsUnrun telling name texts input from text side) response → AnswersRun telling side P name from text response
 
--- the lines of the steps of the program that the input is
-abbrev pub IsStatementTrace : List ℕ → WholeProgram Name → List ℕ → List ℕ → Type 0
-IsStatementTrace input a schedule out = IsOfStatements input a schedule (λ spots steps. out ≡ statement_lines a spots 0 steps)
-
--- The lines of these steps of a program, whose statements stand there, and after the step after which a line is broken, that
--- line, and what it comes to.
-pub record AreBrokenLines (found : BrokenAt) (a : WholeProgram Name) (spots : List Standing) (steps : List StatementStep) (out : List ℕ) : Type 0 where
-  pub pointed : List ℕ
-  pub is_pointed : IsPointed found.place.name found.place.text found.place.span (broken_text found.broken.value) pointed
-  pub lines : out ≡ statement_lines a spots 0 (take found.broken.steps steps) ++ pointed
-      ++ statement_lines a spots found.broken.steps (drop found.broken.steps steps)
-
--- in each form
-abbrev pub AreToldWith : Form → BrokenAt → WholeProgram Name → List Standing → List StatementStep → List ℕ → Type 0
-AreToldWith Text = AreBrokenLines
-AreToldWith Json = AreBrokenObjects
-
-abbrev pub steps_told : Form → WholeProgram Name → List Standing → List StatementStep → List ℕ
-steps_told Text a spots steps = statement_lines a spots 0 steps
-steps_told Json a spots steps = statement_objects a spots None steps
-
--- with the line that is broken first, where one is
-abbrev pub AreTold : Form → Option BrokenAt → WholeProgram Name → List Standing → List StatementStep → List ℕ → Type 0
-AreTold form None a spots steps out = out ≡ steps_told form a spots steps
-AreTold form (Some found) a spots steps out = AreToldWith form found a spots steps out
-
--- What is told of the steps of the program that the input is, with the first of these lines to be broken, which stand here.
-abbrev pub IsProgramTrace : Form → List Formula → List TextPlace → List ℕ → WholeProgram Name → List ℕ → List ℕ → Type 0
-IsProgramTrace form lines places input a schedule out =
-    (broken : Option BrokenAt) × IsFirstAt (resolved a) lines places schedule broken
-    × IsOfStatements input a schedule (λ spots steps. AreTold form broken a spots steps out)
-
--- The same of its code, of which no line is asked.
-
-abbrev pub code_told : Form → WholeProgram Name → List InstructionStep → List ℕ
-code_told Text a steps = instruction_lines a 0 steps
-code_told Json a steps = instruction_objects a steps
-
-abbrev pub IsCodeTrace : Form → WholeProgram Name → List ℕ → List ℕ → Type 0
-IsCodeTrace form a schedule out = IsOfInstructions a schedule (λ steps. out ≡ code_told form a steps)
-
-abbrev pub IsTrace : Form → Bool → List Formula → List TextPlace → List ℕ → WholeProgram Name → List ℕ → List ℕ → Type 0
-IsTrace form true lines places input a schedule out = IsCodeTrace form a schedule out
-IsTrace form false lines places input a schedule out = IsProgramTrace form lines places input a schedule out
-
 -- texts that are lent, as the texts themselves
 abbrev pub plain_telling : Telling (Bor (List ℕ)) → Telling (List ℕ)
 plain_telling (Trace form) = Trace form
 plain_telling (Picture drawing) = Picture (plain_drawing drawing)
 plain_telling (Page title) = Page (option_map (λ text. text.now) title)
 
--- a run is told as a trace, as a picture or as a page
+-- What is told of a run of the program that the input is, whose lines stand here.
+abbrev pub IsToldOf : Telling (List ℕ) → List ℕ → List TextPlace → List ℕ → WholeProgram Name → List StatementStep → Option BrokenAt → List ℕ → Type 0
+IsToldOf (Trace form) name places input a steps broken out = IsTraceOf form input a steps broken out
+IsToldOf (Picture drawing) name places input a steps broken out =
+    out ≡ picture_of a (title_of drawing.title name) (look_of drawing) (statement_marks steps) (option_map (mark_of (length places)) broken)
+IsToldOf (Page title) name places input a steps broken out =
+    IsPageOf (title_of title name) input a steps (statement_marks steps) (option_map (mark_of (length places)) broken) out
+
+abbrev pub IsProgramTold : Telling (List ℕ) → List ℕ → List Formula → List TextPlace → List ℕ → WholeProgram Name → List ℕ → List ℕ → Type 0
+IsProgramTold telling name lines places input a schedule out =
+    (run : ProgramRun a lines places schedule) × IsToldOf telling name places input a run.steps run.broken out
+
+-- The same of its code.
+abbrev pub code_text : Telling (List ℕ) → List ℕ → WholeProgram Name → List InstructionStep → List ℕ
+code_text (Trace form) name a steps = instructions_told form a steps
+code_text (Picture drawing) name a steps = picture_of a (title_of drawing.title name) (look_of drawing) (instruction_marks steps) None
+code_text (Page title) name a steps =
+    code_page (title_of title name) a (program_code a) steps (picture_of a (title_of title name) whole_look (instruction_marks steps) None)
+
+abbrev pub IsCodeTold : Telling (List ℕ) → List ℕ → WholeProgram Name → List ℕ → List ℕ → Type 0
+IsCodeTold telling name a schedule out = (run : CodeRun a schedule) × (out ≡ code_text telling name a run.steps)
+
+-- a picture is of the steps up to the last that it shows
+abbrev pub steps_told : Telling (List ℕ) → List ℕ → List ℕ
+steps_told (Picture drawing) schedule = take drawing.to schedule
+steps_told telling schedule = schedule
+
 abbrev pub IsToldWith : Telling (List ℕ) → Bool → List ℕ → List Formula → List TextPlace → List ℕ → WholeProgram Name → List ℕ → List ℕ → Type 0
-IsToldWith (Trace form) is_code name lines places input = IsTrace form is_code lines places input
-IsToldWith (Picture drawing) is_code name lines places input = IsPictureFor drawing is_code name lines places
-IsToldWith (Page title) is_code name lines places input = IsPage (title_of title name) is_code lines places input
+IsToldWith telling true name lines places input a schedule out = IsCodeTold telling name a (steps_told telling schedule) out
+IsToldWith telling false name lines places input a schedule out = IsProgramTold telling name lines places input a (steps_told telling schedule) out
 
 abbrev pub IsTold : Telling (List ℕ) → Side → (name : List ℕ) (texts : List (List ℕ)) (input : List ℕ) → Told texts input
 IsTold telling side name texts input asks =

@@ -1,18 +1,14 @@
-//! Where a run of a program first breaks a line that must never hold.
-ghost use Rattle.std.specs.Prelude.{◌≡◌, ◌<◌, All, IfNone, IfOk, IfSome, IsNone, MatchOption, Some, false, length, map, option_map};
-ghost use Rattle.tick_kinds.specs.Resolution.{resolved};
+//! Which line that must never hold is broken in a state of a program's run.
+ghost use Rattle.std.specs.Prelude.{◌≡◌, IfNone, IfSome, Some, false, length};
 ghost use Rattle.language_properties.specs.Properties.{formula_of};
 ghost use Rattle.searches_explore.specs.Lines.{IsFirstBroken, breaks, is_broken, line_value, lines_of};
-ghost use Rattle.ticklab_files.specs.Asking.{place_of};
-ghost use Rattle.ticklab_runs.specs.Breaking.{IsFirstAt, IsFirstBreak, NeverBreaks, broken_at};
 
 use crate::seen::VisibleState;
-use base::{NoMemory, Trap};
+use base::Trap;
 use language_questions::Property;
-use std::alloc::Global;
 use tick_kinds::Program;
 use tick_source::SourceMachine;
-use ticklab_files::{NeverLines, PropertyPlace};
+use ticklab_files::PropertyPlace;
 
 /// A line that is broken after so many steps of a run, by its number from 0, and what it comes to.
 #[derive(Clone, Copy)]
@@ -29,62 +25,36 @@ pub struct BrokenLine<'l> {
     pub broken: Break,
 }
 
-/// The first line that is broken where one first is, in the run of the program under a schedule.
-pub fn first_broken_line<'l>(
-    alloc: Global,
-    program: &Program,
-    lines: &NeverLines<'l>,
-    schedule: &[u8],
-) -> Result<Option<BrokenLine<'l>>, NoMemory>
-    requires lines { length lines.now.properties.items ≡ length lines.now.places.items }
-    requires schedule { All (λ p. p < (resolved program.now).processes) schedule.now }
-    ensures { IfOk result (λ found. IsFirstAt (resolved program.now) (lines_of lines.now.properties.items) (map place_of lines.now.places.items) schedule.now (option_map broken_at found)) }
-{
-    match first_break(alloc, program, lines.properties.as_slice(), schedule)? {
-        None => Ok(None),
-        Some(broken) => {
-            let place = lines.places[broken.line];
-            Ok(Some(BrokenLine { place, broken }))
-        }
-    }
-}
-
-fn first_break(
-    alloc: Global,
-    program: &Program,
-    lines: &[Property],
-    schedule: &[u8],
-) -> Result<Option<Break>, NoMemory>
-    requires { All (λ p. p < (resolved program.now).processes) schedule.now }
-    ensures { IfOk result (λ found. MatchOption found (NeverBreaks (resolved program.now) (lines_of lines.now) schedule.now) (IsFirstBreak (resolved program.now) (lines_of lines.now) schedule.now)) }
-{
-    let mut machine = SourceMachine::new(alloc, program)?;
-    for (steps, &p) in schedule.iter().enumerate() {
-        match first_broken(program, &machine, lines) {
-            Some((line, value)) => return Ok(Some(Break { steps, line, value })),
-            None => machine.step(p)?,
-        }
-    }
-    Ok(break_after(schedule.len(), first_broken(program, &machine, lines)))
-}
-
-fn break_after(steps: usize, broken: Option<(usize, Result<u32, Trap>)>) -> Option<Break>
-    ensures none { IfNone broken (IsNone result) }
-    ensures some { IfSome broken (λ found. result ≡ Some (record { steps = steps; line = found.0; value = found.1 })) }
-{
-    let (line, value) = broken?;
-    Some(Break { steps, line, value })
-}
-
-// The first line that is broken in the state of a machine of the program, and what it comes to.
-fn first_broken(
+/// The break that was found before, or else that of the first line that is broken in this state, after so many steps.
+pub fn broken_by(
+    broken: Option<Break>,
+    steps: usize,
     program: &Program,
     machine: &SourceMachine<'_>,
     lines: &[Property],
-) -> Option<(usize, Result<u32, Trap>)>
+) -> Option<Break>
     requires processes { length machine.now.processes ≡ program.now.processes }
     requires rows { length machine.now.rows ≡ length program.now.registers }
-    ensures broken { IfSome result (λ found. IsFirstBroken (lines_of lines.now) machine.now found.0 found.1) }
+    ensures found { IfSome broken (λ b. result ≡ Some b) }
+    ensures broken { IfNone broken (IfSome result (λ b. (b.steps ≡ steps) × IsFirstBroken (lines_of lines.now) machine.now b.line b.value)) }
+    ensures none { IfNone broken (IfNone result (breaks (lines_of lines.now) machine.now ≡ false)) }
+{
+    match broken {
+        Some(found) => Some(found),
+        None => first_broken(steps, program, machine, lines),
+    }
+}
+
+// That of the first line that is broken in the state of a machine of the program.
+fn first_broken(
+    steps: usize,
+    program: &Program,
+    machine: &SourceMachine<'_>,
+    lines: &[Property],
+) -> Option<Break>
+    requires processes { length machine.now.processes ≡ program.now.processes }
+    requires rows { length machine.now.rows ≡ length program.now.registers }
+    ensures broken { IfSome result (λ b. (b.steps ≡ steps) × IsFirstBroken (lines_of lines.now) machine.now b.line b.value) }
     ensures none { IfNone result (breaks (lines_of lines.now) machine.now ≡ false) }
 {
     let seen = VisibleState {
@@ -92,10 +62,10 @@ fn first_broken(
         processes: program.processes(),
         rows: program.registers(),
     };
-    for at in 0..lines.len() {
-        let value = value_in(&seen, &lines[at]);
+    for line in 0..lines.len() {
+        let value = value_in(&seen, &lines[line]);
         if is_broken(value) {
-            return Some((at, value));
+            return Some(Break { steps, line, value });
         }
     }
     None

@@ -1,12 +1,13 @@
 //! `ticklab_runs` tells of one run of a program or of its code: as a trace, as a picture, or as a page.
 //!
-//! `told` reads the program and the schedule, follows the run to the first line that breaks, and tells it as asked.
+//! `told` reads the program and the schedule, follows the run once, step by step, and tells it as asked.
 //! Start with `told`.
 #![tactic(auto)]
 
 mod breaking;
 mod broken_line;
 mod drawing;
+mod following;
 mod objects;
 mod paging;
 mod seen;

@@ -1,26 +1,26 @@
 //! `ticklab page`.
-ghost use Rattle.std.specs.Prelude.{◌≡◌, ◌<◌, All, IfErr, IfOk, OnOk, length, map, string_bytes};
-ghost use Rattle.tick_kinds.specs.Resolution.{resolved};
+ghost use Rattle.std.specs.Prelude.{◌≡◌, IfErr, IfOk, OnOk, option_map, string_bytes};
 ghost use Rattle.ticketc_refusals.specs.Refusals.{SpelledIn};
-ghost use Rattle.ticklab_runs.specs.Pages.{IsCodePage, IsPage, IsProgramPage, whole_look};
+ghost use Rattle.ticklab_draw.specs.Never.{broken_of};
+ghost use Rattle.ticklab_page.specs.Pages.{code_page};
+ghost use Rattle.ticklab_runs.specs.Pages.{IsPageOf, whole_look};
+ghost use Rattle.ticklab_runs.specs.Pictures.{picture_of};
 ghost use Rattle.ticklab_runs.specs.Runs.{IsTooLong, IsWithin, plain_telling};
-ghost use Rattle.searches_explore.specs.Lines.{lines_of};
-ghost use Rattle.ticklab_files.specs.Asking.{place_of};
-ghost use Rattle.ticklab_files.specs.Codes.{HasNoCode, IsCodeless};
 ghost use Rattle.ticklab_runs.specs.Lines.{long_run_line};
 ghost use Rattle.ticklab_files.specs.Stops.{IfRefused};
 
-use crate::drawing::{never_mark, picture_of};
-use crate::told_run::{Subject, Telling};
-use crate::tracing::spots_in;
+use crate::drawing::picture_of;
+use crate::following::{CodeRun, ProgramRun};
+use crate::told_run::Telling;
 use base::{NoMemory, push_number};
+use code_core::Code;
 use std::alloc::{AllocError, Global};
-use std::str;
 use tick_kinds::Program;
-use ticklab_draw::Look;
-use ticklab_files::{AskedProgram, NoAnswer, code_of};
+use ticketc_refusals::SpelledProgram;
+use ticklab_draw::{Look, NeverMark};
+use ticklab_files::NoAnswer;
 use ticklab_page::{MOST_STEPS, code_page, source_page};
-use ticklab_trace::{code_steps, source_steps};
+use ticklab_trace::places;
 
 /// A page has at most so many steps; `from` says where the schedule is from.
 pub fn within_a_page(
@@ -55,27 +55,41 @@ fn long_run_line(alloc: Global, from: &str, count: usize) -> Result<String, Allo
     Ok(line)
 }
 
-/// The page with this title. It opens where what must never hold does first, or a process traps.
-pub fn page_of(
+/// The page of a run of the program that this text is, with this title and this mark of what must never hold. It opens
+/// there, or where a process traps.
+pub fn program_page(
     alloc: Global,
-    subject: &Subject<'_, '_>,
-    schedule: &[u8],
     title: &[u8],
-) -> Result<Vec<u8>, NoAnswer>
-    requires lines { length subject.now.asked.now.lines.properties.items ≡ length subject.now.asked.now.lines.places.items }
-    requires schedule { All (λ p. p < (resolved subject.now.asked.now.spelled.program).processes) schedule.now }
-    requires program { SpelledIn subject.now.input.now subject.now.asked.now.spelled }
-    ensures ok { IfOk result (λ out. IsPage title.now subject.now.is_code (lines_of subject.now.asked.now.lines.properties.items) (map place_of subject.now.asked.now.lines.places.items) subject.now.input.now subject.now.asked.now.spelled.program schedule.now out.items) }
-    ensures refused { IfErr result (λ stop. IfRefused stop (IsCodeless subject.now.is_code subject.now.name.now subject.now.asked.now.spelled.program)) }
+    text: &str,
+    spelled: &SpelledProgram,
+    run: &ProgramRun<'_>,
+    never: Option<NeverMark<'_>>,
+) -> Result<Vec<u8>, NoMemory>
+    requires { SpelledIn text.now spelled.now }
+    ensures { IfOk result (λ out. IsPageOf title.now text.now spelled.now.program run.now.steps.items run.now.marks.items (option_map broken_of never.entry) out.items) }
 {
-    let drawn = picture_of(alloc, subject, schedule, title, whole_look())?;
+    let (program, marks) = (&spelled.program, run.marks.as_slice());
+    let drawn = picture_of(alloc, program, title, whole_look(), marks, never)?;
+    let spots = places(alloc, program, text, spelled.tokens.as_slice())?;
+    let (spots, steps) = (spots.as_slice(), run.steps.as_slice());
     let drawn = drawn.as_slice();
-    if subject.is_code {
-        let program = &subject.asked.spelled.program;
-        return code_page_of(alloc, subject.name, title, drawn, program, schedule);
-    }
-    let input = subject.input;
-    Ok(source_page_of(alloc, subject.asked, input, schedule, title, drawn)?)
+    source_page(alloc, title, text, program, spots, steps, drawn, never)
+}
+
+/// That of a run of its code.
+pub fn code_page_of(
+    alloc: Global,
+    title: &[u8],
+    program: &Program,
+    code: &Code,
+    run: &CodeRun,
+) -> Result<Vec<u8>, NoMemory>
+    ensures { IfOk result (λ out. out.items ≡ code_page title.now program.now code.now run.now.steps.items (picture_of program.now title.now whole_look run.now.marks.items None)) }
+{
+    let marks = run.marks.as_slice();
+    let drawn = picture_of(alloc, program, title, whole_look(), marks, None)?;
+    let steps = run.steps.as_slice();
+    code_page(alloc, title, program, code, steps, drawn.as_slice())
 }
 
 // The picture of a page is that of `draw` without options.
@@ -87,46 +101,4 @@ fn whole_look() -> Look
         is_shared: false,
         width: 1000,
     }
-}
-
-fn source_page_of(
-    alloc: Global,
-    asked: &AskedProgram<'_>,
-    input: &[u8],
-    schedule: &[u8],
-    title: &[u8],
-    drawn: &[u8],
-) -> Result<Vec<u8>, NoMemory>
-    requires lines { length asked.now.lines.properties.items ≡ length asked.now.lines.places.items }
-    requires schedule { All (λ p. p < (resolved asked.now.spelled.program).processes) schedule.now }
-    requires program { SpelledIn input.now asked.now.spelled }
-    ensures { IfOk result (λ out. IsProgramPage title.now drawn.now (lines_of asked.now.lines.properties.items) (map place_of asked.now.lines.places.items) input.now asked.now.spelled.program schedule.now out.items) }
-{
-    let spelled = &asked.spelled;
-    let program = &spelled.program;
-    let never = never_mark(alloc, program, &asked.lines, schedule, false)?;
-    let spots = spots_in(alloc, spelled, input)?;
-    let steps = source_steps(alloc, program, schedule)?;
-    let Ok(text) = str::from_utf8(input) else {
-        unreachable!()
-    };
-    let (spots, steps) = (spots.as_slice(), steps.as_slice());
-    source_page(alloc, title, text, program, spots, steps, drawn, never)
-}
-
-fn code_page_of(
-    alloc: Global,
-    name: &str,
-    title: &[u8],
-    drawn: &[u8],
-    program: &Program,
-    schedule: &[u8],
-) -> Result<Vec<u8>, NoAnswer>
-    requires { All (λ p. p < (resolved program.now).processes) schedule.now }
-    ensures ok { IfOk result (λ out. IsCodePage title.now drawn.now program.now schedule.now out.items) }
-    ensures refused { IfErr result (λ stop. IfRefused stop (HasNoCode name.now program.now)) }
-{
-    let code = code_of(alloc, name, program)?;
-    let steps = code_steps(alloc, &code, schedule)?;
-    Ok(code_page(alloc, title, program, &code, steps.as_slice(), drawn)?)
 }

@@ -1,20 +1,25 @@
 //! What `ticklab trace`, `ticklab draw` and `ticklab page` share: they read a program and a schedule, and tell of the run.
-ghost use Rattle.std.specs.Prelude.{◌≡◌, ◌<◌, All, IfErr, IfOk, length, map};
+ghost use Rattle.std.specs.Prelude.{◌≡◌, ◌<◌, All, IfErr, IfOk, IfSome, length, map};
+ghost use Rattle.std.specs.Str.{IsUtf8};
 ghost use Rattle.tick_kinds.specs.Resolution.{resolved};
 ghost use Rattle.ticklab_line.specs.Commands.{plain_run};
-ghost use Rattle.ticklab_runs.specs.Runs.{IsRun, IsTold, IsToldWith, IsUnrun, TellsRun, is_of_code, plain_telling, schedule_on};
+ghost use Rattle.ticklab_runs.specs.Runs.{IsCodeTold, IsProgramTold, IsRun, IsTold, IsToldWith, IsUnrun, TellsRun, is_of_code, plain_telling, schedule_on, steps_told};
 ghost use Rattle.ticketc_refusals.specs.Refusals.{SpelledIn};
 ghost use Rattle.searches_explore.specs.Lines.{lines_of};
 ghost use Rattle.ticklab_files.specs.Asking.{place_of, texts_of};
-ghost use Rattle.ticklab_files.specs.Codes.{IsCodeless};
+ghost use Rattle.ticklab_files.specs.Codes.{HasCode, HasNoCode, IsCodeless, program_code};
 ghost use Rattle.ticklab_files.specs.Faults.{IsEither, IsOfFileThat, IsUnread};
 ghost use Rattle.ticklab_files.specs.Responses.{Gives};
 ghost use Rattle.ticklab_files.specs.Stops.{IfRefused};
 
-use crate::drawing::{look_of, picture_of, steps_to, title_of};
-use crate::paging::{page_of, within_a_page};
-use crate::tracing::trace_of;
+use crate::drawing::{look_of, never_mark, picture_of, title_of};
+use crate::following::{code_run, program_run};
+use crate::paging::{code_page_of, program_page, within_a_page};
+use crate::tracing::{instructions_told, program_trace};
+use base::NoMemory;
+use code_core::Code;
 use std::alloc::Global;
+use std::str;
 use tick_kinds::Program;
 use tick_sim::lift;
 use ticklab_files::{
@@ -39,7 +44,7 @@ pub enum Telling<T> {
 pub struct Subject<'s, 'a> {
     /// The name of the program's file.
     pub name: &'s str,
-    pub input: &'s [u8],
+    pub text: &'s str,
     pub asked: &'s AskedProgram<'a>,
     pub is_code: bool,
 }
@@ -83,40 +88,53 @@ fn run_told(
         Ok(asked) => asked,
         Err(stop) => return Err(stop),
     };
+    let text = text_in(input);
     let program = &asked.spelled.program;
     let given = schedule_of(alloc, from, schedule, program.processes())?;
-    let steps = schedule_on(alloc, name, side, program, given)?;
+    let (steps, lowered) = schedule_on(alloc, name, side, program, given)?;
     let steps = steps.as_slice();
     within_a_page(alloc, telling, from, steps.len())?;
     let subject = Subject {
         name,
-        input,
+        text,
         asked: &asked,
         is_code: is_of_code(side),
     };
-    let out = telling_of(alloc, &subject, steps, telling)?;
+    let out = telling_of(alloc, &subject, lowered, steps, telling)?;
     Ok(output(alloc, DONE, out))
 }
 
-// The schedule under which this side runs, where this one is given.
+fn text_in(input: &[u8]) -> &str
+    requires { IsUtf8 input.now }
+    ensures { result.now ≡ input.now }
+{
+    let Ok(text) = str::from_utf8(input) else {
+        unreachable!()
+    };
+    text
+}
+
+// The schedule under which this side runs, where this one is given; and the code, where that was made for it.
 fn schedule_on(
     alloc: Global,
     name: &str,
     side: Side,
     program: &Program,
     given: Vec<u8>,
-) -> Result<Vec<u8>, NoAnswer>
+) -> Result<(Vec<u8>, Option<Code>), NoAnswer>
     requires { All (λ p. p < (resolved program.now).processes) given.items }
-    ensures ok { IfOk result (λ steps. steps.items ≡ schedule_on side program.now given.items) }
-    ensures in_range { IfOk result (λ steps. All (λ p. p < (resolved program.now).processes) steps.items) }
+    ensures ok { IfOk result (λ on. on.0.items ≡ schedule_on side program.now given.items) }
+    ensures in_range { IfOk result (λ on. All (λ p. p < (resolved program.now).processes) on.0.items) }
+    ensures code { IfOk result (λ on. IfSome on.1 (λ code. code ≡ program_code program.now)) }
+    ensures has_code { IfOk result (λ on. IfSome on.1 (λ code. HasCode program.now)) }
     ensures refused { IfErr result (λ stop. IfRefused stop (IsCodeless (is_of_code side) name.now program.now)) }
 {
     match side {
-        Side::Program | Side::Code => Ok(given),
+        Side::Program | Side::Code => Ok((given, None)),
         Side::Lifted => {
             let code = code_of(alloc, name, program)?;
             let lifted = lift(alloc, program, &code, given.as_slice())?;
-            Ok(lifted)
+            Ok((lifted, Some(code)))
         }
     }
 }
@@ -130,28 +148,109 @@ fn is_of_code(side: Side) -> bool
     }
 }
 
+// `lowered` is the code, where it was made before.
 fn telling_of(
     alloc: Global,
     subject: &Subject<'_, '_>,
+    lowered: Option<Code>,
     schedule: &[u8],
     telling: &Telling<&str>,
 ) -> Result<Vec<u8>, NoAnswer>
     requires lines { length subject.now.asked.now.lines.properties.items ≡ length subject.now.asked.now.lines.places.items }
     requires schedule { All (λ p. p < (resolved subject.now.asked.now.spelled.program).processes) schedule.now }
-    requires program { SpelledIn subject.now.input.now subject.now.asked.now.spelled }
-    ensures ok { IfOk result (λ out. IsToldWith (plain_telling telling.now) subject.now.is_code subject.now.name.now (lines_of subject.now.asked.now.lines.properties.items) (map place_of subject.now.asked.now.lines.places.items) subject.now.input.now subject.now.asked.now.spelled.program schedule.now out.items) }
+    requires program { SpelledIn subject.now.text.now subject.now.asked.now.spelled }
+    requires code { IfSome lowered (λ code. code ≡ program_code subject.now.asked.now.spelled.program) }
+    requires has_code { IfSome lowered (λ code. HasCode subject.now.asked.now.spelled.program) }
+    ensures ok { IfOk result (λ out. IsToldWith (plain_telling telling.now) subject.now.is_code subject.now.name.now (lines_of subject.now.asked.now.lines.properties.items) (map place_of subject.now.asked.now.lines.places.items) subject.now.text.now subject.now.asked.now.spelled.program schedule.now out.items) }
     ensures refused { IfErr result (λ stop. IfRefused stop (IsCodeless subject.now.is_code subject.now.name.now subject.now.asked.now.spelled.program)) }
 {
+    let schedule = steps_told(telling, schedule);
+    if subject.is_code {
+        let (name, program) = (subject.name, &subject.asked.spelled.program);
+        let code = code_asked(alloc, name, program, lowered)?;
+        return Ok(code_told(alloc, name, program, &code, schedule, telling)?);
+    }
+    Ok(program_told(alloc, subject, schedule, telling)?)
+}
+
+// The code of a program. It is lowered where that wasn't done before.
+fn code_asked(
+    alloc: Global,
+    name: &str,
+    program: &Program,
+    lowered: Option<Code>,
+) -> Result<Code, NoAnswer>
+    requires code { IfSome lowered (λ code. code ≡ program_code program.now) }
+    requires has_code { IfSome lowered (λ code. HasCode program.now) }
+    ensures code { IfOk result (λ code. code ≡ program_code program.now) }
+    ensures has_code { IfOk result (λ code. HasCode program.now) }
+    ensures refused { IfErr result (λ stop. IfRefused stop (HasNoCode name.now program.now)) }
+{
+    match lowered {
+        Some(code) => Ok(code),
+        None => code_of(alloc, name, program),
+    }
+}
+
+fn program_told(
+    alloc: Global,
+    subject: &Subject<'_, '_>,
+    schedule: &[u8],
+    telling: &Telling<&str>,
+) -> Result<Vec<u8>, NoMemory>
+    requires lines { length subject.now.asked.now.lines.properties.items ≡ length subject.now.asked.now.lines.places.items }
+    requires schedule { All (λ p. p < (resolved subject.now.asked.now.spelled.program).processes) schedule.now }
+    requires program { SpelledIn subject.now.text.now subject.now.asked.now.spelled }
+    ensures { IfOk result (λ out. IsProgramTold (plain_telling telling.now) subject.now.name.now (lines_of subject.now.asked.now.lines.properties.items) (map place_of subject.now.asked.now.lines.places.items) subject.now.text.now subject.now.asked.now.spelled.program schedule.now out.items) }
+{
+    let Subject { name, text, .. } = *subject;
+    let (spelled, lines) = (&subject.asked.spelled, &subject.asked.lines);
+    let program = &spelled.program;
+    let run = program_run(alloc, program, lines, schedule, telling)?;
+    let never = never_mark(lines.places.len(), run.broken);
     match telling {
-        Telling::Trace(form) => trace_of(alloc, subject, schedule, *form),
+        Telling::Trace(form) => program_trace(alloc, text, spelled, &run, *form),
         Telling::Page(title) => {
-            let title = title_of(*title, subject.name);
-            page_of(alloc, subject, schedule, title)
+            let title = title_of(*title, name);
+            program_page(alloc, title, text, spelled, &run, never)
         }
         Telling::Picture(drawing) => {
-            let title = title_of(drawing.title, subject.name);
-            let schedule = steps_to(drawing.to, schedule);
-            picture_of(alloc, subject, schedule, title, look_of(drawing))
+            let (title, marks) = (title_of(drawing.title, name), run.marks.as_slice());
+            picture_of(alloc, program, title, look_of(drawing), marks, never)
         }
+    }
+}
+
+fn code_told(
+    alloc: Global,
+    name: &str,
+    program: &Program,
+    code: &Code,
+    schedule: &[u8],
+    telling: &Telling<&str>,
+) -> Result<Vec<u8>, NoMemory>
+    requires code { code.now ≡ program_code program.now }
+    requires has_code { HasCode program.now }
+    requires schedule { All (λ p. p < (resolved program.now).processes) schedule.now }
+    ensures { IfOk result (λ out. IsCodeTold (plain_telling telling.now) name.now program.now schedule.now out.items) }
+{
+    let run = code_run(alloc, code, schedule, telling)?;
+    match telling {
+        Telling::Trace(form) => instructions_told(alloc, program, run.steps.as_slice(), *form),
+        Telling::Page(title) => code_page_of(alloc, title_of(*title, name), program, code, &run),
+        Telling::Picture(drawing) => {
+            let (title, marks) = (title_of(drawing.title, name), run.marks.as_slice());
+            picture_of(alloc, program, title, look_of(drawing), marks, None)
+        }
+    }
+}
+
+// The steps that are told: in a picture those up to the last that is shown.
+fn steps_told<'s>(telling: &Telling<&str>, schedule: &'s [u8]) -> &'s [u8]
+    ensures { result.now ≡ steps_told (plain_telling telling.now) schedule.now }
+{
+    match telling {
+        Telling::Picture(drawing) => &schedule[..schedule.len().min(drawing.to as usize)],
+        Telling::Trace(_) | Telling::Page(_) => schedule,
     }
 }

@@ -5,4 +5,4 @@ pub mod Passing
 pub mod Linked
 pub mod Followed
 pub mod Running
-pub mod Growing
+pub mod Offered

@@ -1,7 +1,6 @@
 -- What each step of a code does.
-use Rattle.std.specs.Prelude.{◌≡◌, ℕ, Bool, true, false, List, [], ◌∷◌, length, take, slice_get, slice_index, Option, Some, None}
+use Rattle.std.specs.Prelude.{◌≡◌, ℕ, List, length, take, slice_get, slice_index, Option, Some, None}
 use Rattle.base.specs.declared.event.Act.{Act}
-use Rattle.base.specs.declared.event.Event.{Event}
 use Rattle.base.specs.Observables.{told}
 use Rattle.code_core.specs.declared.instr.Instr.{Instr}
 use Rattle.code_core.specs.declared.instr.Instr.TheVariants as I
@@ -10,10 +9,10 @@ use Rattle.code_machine.specs.Machine.{CodeState, places_of, next_instruction, c
 use Rattle.ticklab_trace.specs.declared.steps.InstructionStep.{InstructionStep}
 use Rattle.ticklab_trace.specs.Shown.{shown}
 
--- an exchange of which others see no stamp was lost
-abbrev pub is_lost : Option Instr → Option Act → Bool
-is_lost (Some (I.Exchange l)) None = true
-is_lost _ _ = false
+-- an exchange of which others see no stamp was lost to these labels
+abbrev pub lost_to : {X : Type 0} → Option Instr → Option Act → X → Option X
+lost_to (Some (I.Exchange l)) None labels = Some labels
+lost_to _ _ labels = None
 
 -- What the step of process `p` from one state to the next is told as. A process that had stopped makes no
 -- instruction; its place is that of its last.
@@ -23,7 +22,7 @@ pub record IsInstructionStep (code : List Instr) (p : ℕ) (before after : CodeS
   pub instruction : step.instruction ≡ next_instruction code p before
   -- what others see of it, where they see something
   pub act : after.events ≡ told p step.act before.events
-  pub lost : step.lost ≡ is_lost step.instruction step.act
+  pub lost : step.lost ≡ lost_to step.instruction step.act after.labels
   -- the labels that it leaves, where it is a stamp or a clear
   pub labels : step.labels ≡ shown step.act after.labels
 
@@ -33,8 +32,3 @@ pub record AreInstructionSteps (c : StepCode) (schedule : List ℕ) (steps : Lis
   pub each : (k : ℕ) (step : InstructionStep) → slice_get steps k ≡ Some step
       → IsInstructionStep c.instructions (slice_index schedule k) (run_of c.sizes c.instructions (take k schedule))
       (code_step c.sizes.processes c.instructions (slice_index schedule k) (run_of c.sizes c.instructions (take k schedule))) step
-
--- what others see of the steps, after these events
-abbrev pub events_after : List Event → List InstructionStep → List Event
-events_after events [] = events
-events_after events (step ∷ steps) = events_after (told step.process step.act events) steps

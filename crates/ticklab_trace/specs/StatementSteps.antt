@@ -41,6 +41,11 @@ abbrev pub wrote : Option ℕ → Option SourceProcess → Option Written
 wrote (Some x) (Some q) = Some (record { variable = x; value = slice_index q.variables x })
 wrote _ _ = None
 
+-- a run of a program with this body, in the state that it has come to
+pub record RunState : Type 0 where
+  pub body : Block ℕ
+  pub state : SourceState
+
 -- What the step of process `p` from one state to the next is told as. A process that had stopped, and one
 -- that has nothing left, does no statement; the first lets others see nothing, the second that it ends.
 pub record IsStatementStep (body : Block ℕ) (p : ℕ) (before after : SourceState) (step : StatementStep) : Type 0 where

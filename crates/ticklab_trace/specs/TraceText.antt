@@ -1,5 +1,5 @@
 -- What a trace says: a line for each step.
-use Rattle.std.specs.Prelude.{ℕ, zero, suc, ◌+◌, ◌-◌, List, [], ◌∷◌, ◌++◌, codes, length, map, replicate, slice_get, slice_index, take, Option, Some, None, if◌then◌else◌, Bool, true, false}
+use Rattle.std.specs.Prelude.{ℕ, zero, suc, ◌+◌, ◌-◌, List, [], ◌∷◌, ◌++◌, codes, length, map, replicate, slice_get, slice_index, take, Option, Some, None, if◌then◌else◌}
 use Rattle.std.specs.Fmt.{decimal}
 use Rattle.base.specs.Lines.{line_end}
 use Rattle.ticket_core.specs.Tickets.{ticket_ranks, holds_ticket}
@@ -132,10 +132,10 @@ statement_lines a spots number [] = []
 statement_lines a spots number (step ∷ steps) = statement_line a spots number step ++ statement_lines a spots (number + 1) steps
 
 -- The same of a code.
-abbrev pub made_text : WholeProgram Name → List ℕ → InstructionStep → Bool → Option Act → List ℕ
-made_text a words step true act = words_text words ++ codes "lost"
-made_text a words step false None = words
-made_text a words step false (Some act) = words_text words ++ act_text a step.process act ++ label_order_text step.labels
+abbrev pub made_text : WholeProgram Name → List ℕ → InstructionStep → Option Labels → Option Act → List ℕ
+made_text a words step (Some found) act = words_text words ++ codes "lost"
+made_text a words step None None = words
+made_text a words step None (Some act) = words_text words ++ act_text a step.process act ++ label_order_text step.labels
 
 abbrev pub instruction_text : WholeProgram Name → InstructionStep → Option Instr → List ℕ
 instruction_text a step None = codes "stopped"

@@ -1,3 +1,4 @@
 pub mod Heads
 pub mod Links
 pub mod SoFar
+pub mod Runs

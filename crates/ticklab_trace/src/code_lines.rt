@@ -69,12 +69,12 @@ fn push_made(
     ensures { OnOk result (string_bytes text.new ≡ string_bytes text.old ++ made_text program.now (instr_text instruction) step step.lost step.act) }
 {
     match (step.lost, step.act) {
-        (true, _) => {
+        (Some(_), _) => {
             push_words(text, instruction)?;
             text.push_str("lost")
         }
-        (false, None) => push_instruction(text, instruction),
-        (false, Some(act)) => {
+        (None, None) => push_instruction(text, instruction),
+        (None, Some(act)) => {
             push_words(text, instruction)?;
             push_act(text, program, step.process, act)?;
             push_order(text, step.labels)

@@ -1,44 +1,19 @@
-ghost use Rattle.std.specs.Prelude.{◌≡◌, ◌<◌, [], ◌∷◌, ◌++◌, IfOk, OnOk, All, length, map, option_map};
-ghost use Rattle.code_machine.specs.Machine.{code_step, run_of};
-ghost use Rattle.ticklab_trace.specs.declared.steps.InstructionStep.{InstructionStep};
-ghost use Rattle.ticklab_trace.specs.InstructionSteps.{AreInstructionSteps, IsInstructionStep, events_after, is_lost};
+ghost use Rattle.std.specs.Prelude.{◌≡◌, ◌<◌, IfOk, OnOk, length, option_map};
+ghost use Rattle.code_machine.specs.Machine.{code_step};
+ghost use Rattle.ticklab_trace.specs.InstructionSteps.{IsInstructionStep, lost_to};
 
 use crate::shown::{act_after, shown};
 use crate::steps::InstructionStep;
 use base::{Act, NoMemory};
-use code_core::{Code, Instr};
+use code_core::Instr;
 use code_machine::{CodeMachine, Made};
-use std::alloc::Global;
+use word_core::LabelWord;
 
-/// Each step of the code under the schedule. Each number in the schedule is below the number of
-/// processes.
-pub fn code_steps(
-    alloc: Global,
-    code: &Code,
-    schedule: &[u8],
-) -> Result<Vec<InstructionStep>, NoMemory>
-    requires { All (λ p. p < code.now.sizes.processes) schedule.now }
-    ensures steps { IfOk result (λ steps. AreInstructionSteps code.now schedule.now steps.items) }
-    ensures processes { IfOk result (λ steps. map (λ step. step.process) steps.items ≡ schedule.now) }
-    ensures events { IfOk result (λ steps. events_after [] steps.items ≡ (run_of code.now.sizes code.now.instructions schedule.now).events) }
-{
-    let mut machine = CodeMachine::new(alloc, code)?;
-    let mut steps = Vec::with_capacity(alloc, schedule.len())?;
-    for &p in schedule {
-        push_step(&mut steps, &mut machine, p)?;
-    }
-    Ok(steps)
-}
-
-// Makes and adds the next step of process `p`.
-fn push_step(
-    steps: &mut Vec<InstructionStep>,
-    machine: &mut CodeMachine<'_>,
-    p: u8,
-) -> Result<(), NoMemory>
+/// Makes the next step of process `p`, which is below the number of processes, and tells it.
+pub fn instruction_step(machine: &mut CodeMachine<'_>, p: u8) -> Result<InstructionStep, NoMemory>
     requires { p < length machine.old.state.processes }
     ensures ok { OnOk result (machine.new.state ≡ code_step machine.old.code.sizes.processes machine.old.code.instructions p machine.old.state) }
-    ensures step { OnOk result ((step : InstructionStep) × (steps.new.items ≡ steps.old.items ++ step ∷ []) × IsInstructionStep machine.old.code.instructions p machine.old.state machine.new.state step) }
+    ensures step { IfOk result (IsInstructionStep machine.old.code.instructions p machine.old.state machine.new.state) }
     ensures code { machine.new.code ≡ machine.old.code }
     ensures processes { length machine.new.state.processes ≡ length machine.old.state.processes }
 {
@@ -46,17 +21,17 @@ fn push_step(
     let told = machine.events().len();
     let instruction = instruction_of(machine.make_step(p)?);
     let act = act_after(machine.events(), told);
-    let lost = is_lost(instruction, act);
-    let labels = shown(act, machine.word());
-    steps.push(InstructionStep {
+    let word = machine.word();
+    let lost = lost_to(instruction, act, word);
+    let labels = shown(act, word);
+    Ok(InstructionStep {
         process: p,
         place,
         instruction,
         act,
         lost,
         labels,
-    })?;
-    Ok(())
+    })
 }
 
 fn instruction_of(made: Option<Made>) -> Option<Instr>
@@ -68,12 +43,12 @@ fn instruction_of(made: Option<Made>) -> Option<Instr>
     }
 }
 
-// Whether an exchange was lost, of which others see this.
-fn is_lost(instruction: Option<Instr>, act: Option<Act>) -> bool
-    ensures { result ≡ is_lost instruction act }
+// The labels that an exchange found which was lost, of which others see this.
+fn lost_to(instruction: Option<Instr>, act: Option<Act>, labels: LabelWord) -> Option<LabelWord>
+    ensures { result ≡ lost_to instruction act labels }
 {
     match (instruction, act) {
-        (Some(Instr::Exchange(_)), None) => true,
-        _ => false,
+        (Some(Instr::Exchange(_)), None) => Some(labels),
+        _ => None,
     }
 }

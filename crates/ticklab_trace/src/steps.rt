@@ -38,8 +38,8 @@ pub struct InstructionStep {
     pub instruction: Option<Instr>,
     /// What others see of it.
     pub act: Option<Act>,
-    /// Whether it is an exchange that was lost.
-    pub lost: bool,
+    /// The labels of all processes that an exchange found which was lost.
+    pub lost: Option<LabelWord>,
     /// The labels of all processes after a stamp or a clear.
     pub labels: Option<LabelWord>,
 }

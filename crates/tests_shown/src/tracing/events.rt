@@ -1,12 +1,12 @@
 //! The steps against the machines: the same events, for the same processes, in the same order.
 
-use crate::tracing::given::{acts_of_code, acts_of_source, code_for, program_for};
+use crate::tracing::given::{acts_of_code, acts_of_source, code_for, code_steps, program_for};
 use crate::tracing::programs::RUNS;
 use base::{Act, Event};
 use std::alloc::Global;
 use std::test::Fail;
 use tests_shared::{Checked, is_same};
-use ticklab_trace::{code_steps, source_steps};
+use ticklab_trace::source_steps;
 
 // That the steps of a program are of these processes, and that what they do is these events.
 fn same_acts(

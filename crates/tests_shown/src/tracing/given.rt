@@ -2,14 +2,33 @@
 ghost use Rattle.std.specs.Prelude.{◌<◌, All, IfOk};
 ghost use Rattle.tick_kinds.specs.Resolution.{resolved};
 
-use base::Act;
+use base::{Act, NoMemory};
 use code_core::Code;
+use code_machine::CodeMachine;
 use std::alloc::{AllocError, Global};
 use std::test::Fail;
 use tests_shared::Checked;
 use tick_kinds::Program;
 use tick_lower::lower;
-use ticklab_trace::{InstructionStep, StatementStep};
+use ticklab_trace::{InstructionStep, StatementStep, instruction_step};
+
+/// The steps of a code under a schedule.
+pub fn code_steps(
+    alloc: Global,
+    code: &Code,
+    schedule: &[u8],
+) -> Result<Vec<InstructionStep>, NoMemory>
+    requires { All (λ p. p < code.now.sizes.processes) schedule.now }
+{
+    let mut machine = CodeMachine::new(alloc, code)?;
+    let mut steps = Vec::new(alloc);
+    for &p in schedule {
+        let step = instruction_step(&mut machine, p)?;
+        let act = step.act;
+        steps.push(InstructionStep { act, ..step })?;
+    }
+    Ok(steps)
+}
 
 /// Of each step its process, and what it lets others see.
 pub type Acts = Vec<(u8, Option<Act>)>;

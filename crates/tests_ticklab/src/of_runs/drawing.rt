@@ -1,6 +1,8 @@
 //! The calls, made once more where memory was refused.
+ghost use Rattle.std.specs.Prelude.{◌<◌, All};
+ghost use Rattle.tick_kinds.specs.Resolution.{resolved};
 
-use code_machine::Code;
+use code_machine::{Code, CodeMachine};
 use language_schedules::read_schedule;
 use std::alloc::Global;
 use std::str;
@@ -8,7 +10,8 @@ use std::test::Fail;
 use tests_shared::accepted;
 use tick_kinds::Program;
 use tick_lower::lower;
-use ticklab_draw::{Look, Mark, NeverMark, NoMemory, code_marks, marks, picture};
+use ticklab_draw::{Look, Mark, Marking, NeverMark, NoMemory, picture};
+use ticklab_trace::{InstructionStep, instruction_step, source_steps};
 
 // All of a run.
 const WHOLE: Look = Look {
@@ -16,6 +19,30 @@ const WHOLE: Look = Look {
     is_shared: false,
     width: 1000,
 };
+
+fn marks(alloc: Global, program: &Program, schedule: &[u8]) -> Result<Vec<Mark>, NoMemory>
+    requires { All (λ p. p < (resolved program.now).processes) schedule.now }
+{
+    let steps = source_steps(alloc, program, schedule)?;
+    let mut marking = Marking::new(alloc);
+    for (at, step) in steps.iter().enumerate() {
+        marking.add_statement(at + 1, *step)?;
+    }
+    Ok(marking.marks)
+}
+
+fn code_marks(alloc: Global, code: &Code, schedule: &[u8]) -> Result<Vec<Mark>, NoMemory>
+    requires { All (λ p. p < code.now.sizes.processes) schedule.now }
+{
+    let mut machine = CodeMachine::new(alloc, code)?;
+    let mut marking = Marking::new(alloc);
+    for (at, &p) in schedule.iter().enumerate() {
+        let step = instruction_step(&mut machine, p)?;
+        let act = step.act;
+        marking.add_instruction(at + 1, InstructionStep { act, ..step })?;
+    }
+    Ok(marking.marks)
+}
 
 /// The marks of a program's run.
 pub fn marked(alloc: Global, program: &Program, schedule: &str) -> Result<Vec<Mark>, Fail> {

@@ -21,5 +21,3 @@ pub record Instructions (c : StepCode) (schedule : List ℕ) (i : ℕ) (steps : 
   pub each : (k : ℕ) (step : InstructionStep) → slice_get steps k ≡ Some step
       → I.IsInstructionStep c.instructions (slice_index schedule k) (run_of c.sizes c.instructions (take k schedule))
       (code_step c.sizes.processes c.instructions (slice_index schedule k) (run_of c.sizes c.instructions (take k schedule))) step
-  pub processes : map (λ step. step.process) steps ≡ take i schedule
-  pub events : I.events_after [] steps ≡ (run_of c.sizes c.instructions (take i schedule)).events

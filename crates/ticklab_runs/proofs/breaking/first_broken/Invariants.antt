@@ -3,5 +3,5 @@ use Rattle.searches_explore.specs.Lines.{breaks, lines_of}
 use Rattle.ticklab_runs.proofs.breaking.first_broken.Given as goal
 
 -- no line before it is broken
-abbrev pub invariant-loop-at : goal.invariant-loop-at
-invariant-loop-at l = breaks (take l.at (lines_of l.lines)) l.machine ≡ false
+abbrev pub invariant-loop-line : goal.invariant-loop-line
+invariant-loop-line l = breaks (take l.line (lines_of l.lines)) l.machine ≡ false

@@ -1,4 +1,5 @@
-use Rattle.std.proofs.Common.{◌∙◌, Bool, List, ap, length, map, refl, subst}
+use Rattle.std.proofs.Common.{◌∙◌, ℕ, Bool, List, ap, length, map, refl, subst, sym}
+use Rattle.ticketc_refusals.specs.Refusals.{SpelledIn}
 use Rattle.searches_explore.specs.Lines.{lines_of}
 use Rattle.ticklab_files.specs.Asking.{TextPlace, place_of, texts_of}
 use Rattle.ticklab_files.specs.Asking.{IsUnexplored}
@@ -36,6 +37,13 @@ returns-in_err-out-clause-refused c =
     c.from_residual-in_err-out.result _ c.from_residual-in_err-out.ensures.1 c.is_of_code.result c.is_of_code.ensures
     c.in_ok-given.given.items c.in_ok-given.ensures.ok c.in_err-out.ensures.refused
 
+pub text_in-text-requires : goal.text_in-text-requires
+text_in-text-requires c = c.in-Ok.ensures.spelled.0.0.text.utf8
+
+pub telling_of-requires-clause-program : goal.telling_of-requires-clause-program
+telling_of-requires-clause-program c =
+    subst (λ (text : List ℕ). SpelledIn text c.in-Ok.asked.spelled) (sym c.text_in-text.ensures) c.in-Ok.ensures.spelled
+
 pub returns-clause-ok : goal.returns-clause-ok
 returns-clause-ok c =
     let known = c.in-Ok.ensures.asks in
@@ -57,6 +65,7 @@ returns-clause-ok c =
           (c.as_slice-steps.ensures.value ∙ c.in_ok-steps.ensures.ok) out _ (ap (λ out. out.items) c.output.ensures.out) (
             c.in_ok-within_a_page.ensures.ok,
             subst (λ (places : List TextPlace). IsToldWith telling (is_of_code side) name lines places input p steps out) known.stand
-                (subst (λ (is_code : Bool). IsToldWith telling is_code name lines places input p steps out) c.is_of_code.ensures c.in_ok-out.ensures.ok),
+                (subst (λ (is_code : Bool). IsToldWith telling is_code name lines places input p steps out) c.is_of_code.ensures
+                (subst (λ (text : List ℕ). IsToldWith telling c.is_of_code.result name lines places text p steps out) c.text_in-text.ensures c.in_ok-out.ensures.ok)),
           );
     }
