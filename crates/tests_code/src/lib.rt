@@ -1,15 +1,12 @@
 //! `tests_code` tests what no command shows of codes: codes as values, and the machine that runs them.
 //!
-//! `text` reads, writes and verifies codes. `stepping` runs them, one instruction after the other. `lowering`
-//! tests the height of the longest code that the compiler makes. What commands answer on codes, and on the
-//! codes and schedules of programs, stands in `answers/`.
-//! Start with `text`.
+//! `text` has the longest codes, and what `{:?}` makes of instructions. `stepping` runs codes, one instruction after the
+//! other. What commands answer on codes, and on the codes and schedules of programs, stands in `answers/`.
+//! Start with `stepping`.
 #![tactic(auto)]
 
 #[cfg(test)]
 mod codes;
-#[cfg(test)]
-mod lowering;
 #[cfg(test)]
 mod stepping;
 #[cfg(test)]

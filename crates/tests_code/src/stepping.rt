@@ -1,12 +1,8 @@
-//! Tests of the machine of step code and of one process by itself.
+//! Tests of the machine of step code, where growths are refused, and on the longest code.
 //!
-//! Start with `machine` and `process`; `runs` has the rows of `machine`; `turns`, `codes` and
-//! `answers` have what they share.
+//! Start with `machine`; `turns` and `answers` have what it shares with `large`.
 
 mod answers;
-mod codes;
 mod large;
 mod machine;
-mod process;
-mod runs;
 mod turns;

@@ -1,11 +1,4 @@
-//! Tests of verified codes and of their texts.
-//!
-//! Start with the file that is named by what you look for; `answers` has what they share.
+//! Tests of instructions as people who debug see them, and of the longest codes and texts of codes.
 
-mod answers;
 mod debug;
 mod large;
-mod reading;
-mod round_trip;
-mod verifying;
-mod words;

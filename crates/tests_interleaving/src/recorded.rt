@@ -1,6 +1,6 @@
-//! The steps of runs on threads are noted, and merged to a schedule of the code. Under this schedule the code
-//! has the same outcome. Its report is that of the program under the schedule that `drop`
-//! makes.
+//! Threads are made to keep an order of their steps on what is shared. The outcome is the one that the machine has in that
+//! order. The steps are noted, and merged to a schedule of the code. Under this schedule the code has the same outcome. Its
+//! report is that of the program under the schedule that `drop` makes.
 
 ghost use Rattle.std.specs.Prelude.{◌≡◌, ◌<◌, All};
 ghost use Rattle.tick_kinds.specs.Resolution.{resolved};
@@ -25,7 +25,7 @@ use tick_sim::drop;
 
 const SEED: u64 = 20_261_123;
 
-const ORDERS: u64 = 20;
+const ORDERS: u64 = 100;
 
 // The schedule of the code, as a text.
 fn merged(alloc: Global, code: &Code, history: &[Shared], turns: &[u64]) -> Result<String, Fail> {
@@ -45,6 +45,10 @@ fn recorded_run<R: AllocGlobal + Threads + Wait>(
 ) -> Result<(RunOutcome, String), Fail> {
     let ordered = any_order(rt.alloc(), code, small, seed)?;
     let (outcome, history) = run_in_order(rt, code, small, &ordered.order)?;
+    is_same(
+        &(small.0, seed, &outcome),
+        &(small.0, seed, &ordered.outcome),
+    )?;
     let schedule = merged(rt.alloc(), code, &history, &ordered.turns)?;
     Ok((outcome, schedule))
 }

@@ -1,12 +1,11 @@
-//! `tests_labels` tests labels, the word that packs them, and the tables and calls that threads stamp with.
+//! `tests_labels` tests labels, the word that packs them, and the calls that threads stamp with.
 //!
-//! `word` compares labels, words and tickets with a second implementation. In `table` threads try to stamp.
-//! In `calls` threads stamp, wait in a queue or share a lock.
+//! `word` compares labels, words and tickets with a second implementation. In `calls` threads share a lock, and a ticket
+//! is given up.
 //! Start with `word`.
 #![tactic(auto)]
 
 #[cfg(test)]
 mod calls;
-pub mod table;
 #[cfg(test)]
 mod word;

@@ -1,9 +1,4 @@
-//! Tests of what stands on programs and schedules: acceptance, registers, and the machine on tickets,
-//! step by step.
-//!
-//! Start with the file that is named by what you look for; `answers` has what they share.
+//! Tests of the machine on tickets, step by step, where growths are refused; `answers` has its calls.
 
 mod answers;
-mod kinds;
-mod observables;
 mod source;

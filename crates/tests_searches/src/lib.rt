@@ -1,29 +1,20 @@
-//! `tests_searches` tests the searches through states and programs, and the hunt through random schedules.
+//! `tests_searches` tests what no contract says of the searches through states and programs, and worked answers.
 //!
-//! `collapsed` tests how states are kept. `searching` has small machines whose answers are known. `exploring` tests what a watch is told of an
-//! exploration. `ending` compares what `explore_ends` answers on drawn programs with a slow search, and has known
-//! programs. `fairness` does the same with drawn machines. `hunting` tests hunts through programs. `examples` has texts
-//! of programs. What `explore` answers on programs stands in `answers/states.txt`.
-//! Start with `searching`.
+//! `jugs` is a puzzle of which the shortest answer is known. `fairness` has small machines of which it is plain whether
+//! their processes stop. `memory` tests limits of memory, and `collapsed` a growth that is refused. `side_by_side`
+//! hunts on threads. What commands answer on programs stands in `answers/`.
+//! Start with `jugs`.
 #![tactic(auto)]
 
 #[cfg(test)]
 mod collapsed;
 #[cfg(test)]
-mod ending;
-#[cfg(test)]
-mod examples;
-#[cfg(test)]
-mod exploring;
-#[cfg(test)]
 mod fairness;
 #[cfg(test)]
-mod hunting;
+mod jugs;
 #[cfg(test)]
-mod lawful;
+mod memory;
 #[cfg(test)]
 mod moves;
 #[cfg(test)]
-mod random;
-#[cfg(test)]
-mod searching;
+mod side_by_side;

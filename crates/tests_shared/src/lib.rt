@@ -12,7 +12,7 @@ mod texts;
 mod threads;
 
 pub use polls::Polls;
-pub use programs::{Checked, Refused, accepted};
+pub use programs::Checked;
 pub use rows::{holds, is_same};
 pub use texts::{counting, repeated};
 pub use threads::on_threads;

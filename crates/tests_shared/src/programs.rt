@@ -1,11 +1,10 @@
-use base::tree::Tree;
 use std::alloc::Global;
 use std::test::Fail;
-use tick_kinds::{KindFault, Program, check};
+use tick_kinds::{Program, check};
 use tick_syntax::parse;
 
-/// The program that a text is.
-pub fn accepted(alloc: Global, text: &str) -> Result<Program, Fail> {
+// The program that a text is.
+fn accepted(alloc: Global, text: &str) -> Result<Program, Fail> {
     match check(alloc, parse(alloc, text)?) {
         Ok(program) => Ok(program),
         Err((_tree, fault)) => Err(fault)?,
@@ -30,27 +29,5 @@ impl Drop for Checked {
     fn drop(self) {
         let Self { program } = self;
         drop(program);
-    }
-}
-
-/// A tree that is no program, and its fault.
-pub struct Refused {
-    pub tree: Tree,
-    pub fault: KindFault,
-}
-
-impl Refused {
-    pub fn new(alloc: Global, text: &str) -> Result<Refused, Fail> {
-        match check(alloc, parse(alloc, text)?) {
-            Ok(_program) => Err(Fail::new("accepted")),
-            Err((tree, fault)) => Ok(Refused { tree, fault }),
-        }
-    }
-}
-
-impl Drop for Refused {
-    fn drop(self) {
-        let Self { tree, fault: _ } = self;
-        drop(tree);
     }
 }

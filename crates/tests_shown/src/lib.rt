@@ -1,15 +1,11 @@
-//! `tests_shown` tests what `ticklab` shows people, beside the rows of `answers/`: explanations, traces and labels.
+//! `tests_shown` tests what `ticklab` shows people, beside the rows of `answers/`: explanations, and where statements stand.
 //!
-//! `explaining` tests which tokens a refusal says may stand next, `tracing` each step of both machines, `objects` what is
-//! told as JSON, and `of_labels` pictures of labels. A call whose memory was refused is made once more.
-//! Start with `tracing`.
+//! `explaining` tests which tokens a refusal says may stand next, and `spots` has places that were counted by hand. A call
+//! whose memory was refused is made once more.
+//! Start with `explaining`.
 #![tactic(auto)]
 
 #[cfg(test)]
 mod explaining;
 #[cfg(test)]
-mod objects;
-#[cfg(test)]
-mod of_labels;
-#[cfg(test)]
-mod tracing;
+mod spots;

@@ -1,4 +1,4 @@
-//! `tests_threads` tests runs of codes on threads, tallies of many runs, and merged histories.
+//! `tests_threads` tests runs of codes on threads, a tally of many runs, and merged histories.
 //!
 //! `runs` runs codes on threads. `tallying` counts the outcomes of runs. `merging` has histories written by
 //! hand, which are merged to a schedule.

@@ -1,7 +1,5 @@
-//! Tests of merged histories: rows, a history with every kind of step, all its beginnings, changes of each of
-//! its steps, and a long history.
+//! Tests of merged histories: rows, and a long history.
 
-mod bent;
 mod long;
 mod merged;
 mod rows;

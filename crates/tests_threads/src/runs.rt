@@ -1,7 +1,6 @@
-//! Tests of runs on threads: what each process gives out and how it ends, that workers run at the same time,
-//! and that a run with a refused thread says so.
+//! Tests of runs on threads: that workers run at the same time, each in its way, when gates are called, and that a run with
+//! a refused thread says so.
 
-mod alone;
 mod before_steps;
 mod coming_back;
 mod gates;
@@ -9,5 +8,4 @@ mod held;
 mod overlap;
 mod refused;
 mod running;
-mod sizes;
 mod together;

@@ -7,6 +7,5 @@
 mod answering;
 mod disturbed;
 mod each_call;
-mod handed_on;
 mod in_memory;
 mod long_words;

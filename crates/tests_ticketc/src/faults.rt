@@ -1,13 +1,14 @@
 //! Tests of the texts of faults: no clause says them, and callers of a library show them to people.
 //!
-//! First stand the faults of texts, kinds and schedules, then those of codes and histories, then those of reading,
-//! writing, threads and memory.
+//! First stand the faults of texts, kinds, questions and schedules, then those of codes and histories, then those of
+//! reading, writing, threads and memory. Of some faults `{:?}` makes the same words.
 use base::NoMemory;
 use base::span::Span;
 use code_core::CodeFault;
+use language_questions::QuestionFault;
 use stamp_table::OpenFault;
 use std::alloc::Global;
-use std::fmt::Display;
+use std::fmt::{Debug, Display};
 use std::test::Fail;
 use tests_shared::holds;
 use tick_kinds::{Kind, KindFault};
@@ -23,6 +24,20 @@ use ticketc_io::EndFault;
 fn tell<F: Display>(alloc: Global, kind: &str, faults: &[(F, &str)]) -> Result<(), Fail> {
     for (fault, text) in faults {
         let told = format!(in alloc; "{fault}")?;
+        holds(told.as_str() == *text, (kind, *text))?;
+    }
+    Ok(())
+}
+
+// The same, and `{:?}` makes them too.
+fn say<F: Display + Debug + Copy>(
+    alloc: Global,
+    kind: &str,
+    faults: &[(F, &str)],
+) -> Result<(), Fail> {
+    tell(alloc, kind, faults)?;
+    for (fault, text) in faults {
+        let told = format!(in alloc; "{fault:?}")?;
         holds(told.as_str() == *text, (kind, *text))?;
     }
     Ok(())
@@ -99,6 +114,62 @@ static KIND_FAULTS: [(KindFault, &str); 8] = [
     (KindFault::NoMemory, "out of memory"),
 ];
 
+static QUESTION_FAULTS: [(QuestionFault, &str); 14] = [
+    (
+        QuestionFault::BadCharacter(SPAN),
+        "no token begins with the character at bytes 7..12",
+    ),
+    (
+        QuestionFault::NumberTooBig(SPAN),
+        "the number at bytes 7..12 is above 4294967295",
+    ),
+    (
+        QuestionFault::Unexpected(SPAN),
+        "no question goes on with bytes 7..12",
+    ),
+    (
+        QuestionFault::TooDeep(SPAN),
+        "the question is nested too deeply at bytes 7..12",
+    ),
+    (
+        QuestionFault::Unknown(SPAN),
+        "nothing has the name at bytes 7..12",
+    ),
+    (
+        QuestionFault::NotShared(SPAN),
+        "no other process sees what the name at bytes 7..12 names",
+    ),
+    (
+        QuestionFault::Twice(SPAN),
+        "the name at bytes 7..12 is in use",
+    ),
+    (
+        QuestionFault::TwoMeanings(SPAN),
+        "the word at bytes 7..12 names a register row too",
+    ),
+    (
+        QuestionFault::NoSuchProcess(SPAN),
+        "there is no process of the number at bytes 7..12",
+    ),
+    (
+        QuestionFault::NoSuchWord(SPAN),
+        "no question begins with the word at bytes 7..12",
+    ),
+    (
+        QuestionFault::EndsTwice(SPAN),
+        "a line before bytes 7..12 says what has to end",
+    ),
+    (
+        QuestionFault::NotExpected(SPAN),
+        "nothing is expected by the word at bytes 7..12",
+    ),
+    (
+        QuestionFault::ExpectTwice(SPAN),
+        "a line before bytes 7..12 says what is expected",
+    ),
+    (QuestionFault::NoMemory, "out of memory"),
+];
+
 static SCHEDULE_FAULTS: [(ScheduleFault, &str); 4] = [
     (ScheduleFault::BadItem(5), "bad item at 5"),
     (ScheduleFault::NoSuchProcess(6), "no such process at 6"),
@@ -168,10 +239,11 @@ static OPEN_FAULTS: [(OpenFault, &str); 1] = [(OpenFault::NoMemory, "out of memo
 #[test]
 fn each_fault(rt: HostRuntime) -> Result<(), Fail> {
     let alloc = rt.alloc();
-    tell(alloc, "TextFault", &TEXT_FAULTS)?;
-    tell(alloc, "KindFault", &KIND_FAULTS)?;
+    say(alloc, "TextFault", &TEXT_FAULTS)?;
+    say(alloc, "KindFault", &KIND_FAULTS)?;
+    say(alloc, "QuestionFault", &QUESTION_FAULTS)?;
     tell(alloc, "ScheduleFault", &SCHEDULE_FAULTS)?;
-    tell(alloc, "CodeFault", &CODE_FAULTS)?;
+    say(alloc, "CodeFault", &CODE_FAULTS)?;
     tell(alloc, "LowerFault", &LOWER_FAULTS)?;
     tell(alloc, "MergeFault", &MERGE_FAULTS)?;
     tell(alloc, "EndFault", &END_FAULTS)?;

@@ -1,12 +1,10 @@
-//! The calls on an input whose file has a fixed name, made once more where memory was refused; and whole
-//! answers.
+//! `explored` on an input, made once more where memory was refused; and whole answers.
 use crate::reading::OneFile;
 use searches_explore::Limits;
 use std::alloc::Global;
 use std::str;
 use std::test::Fail;
 use tests_shared::is_same;
-use ticklab_answers::labelled;
 use ticklab_files::AnswerFault::NoMemory;
 use ticklab_files::LabFault::Answer;
 use ticklab_files::{LabFault, Response};
@@ -32,13 +30,6 @@ pub fn explored_by<W: Progress>(
     let text = Output::Text;
     match explored(alloc, &mut files, watch, NAME, &[], limits, steps, text) {
         Err(Answer(NoMemory)) => explored(alloc, &mut files, watch, NAME, &[], limits, steps, text),
-        answered => answered,
-    }
-}
-
-pub fn labelled_of(alloc: Global, n: u8, moves: &str) -> Answered {
-    match labelled(alloc, n, moves) {
-        Err(Answer(NoMemory)) => labelled(alloc, n, moves),
         answered => answered,
     }
 }

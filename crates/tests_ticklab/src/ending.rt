@@ -1,4 +1,4 @@
-//! How the program ends, over files, outputs and runs that are scripted: a row for each status.
+//! The fault that ends the program, over files, outputs and runs that are scripted.
 use crate::reading::first_of;
 use base::RunOutcome;
 use code_core::Code;
@@ -17,34 +17,16 @@ use ticklab_check::Stopwatch;
 use ticklab_files::Files;
 use ticklab_verdicts::Progress;
 
-static FILES: [(&str, &[u8]); 8] = [
+static FILES: [(&str, &[u8]); 3] = [
     ("out", b"processes 1; begin out 7; end"),
     ("trap", b"processes 1; var x; begin x = (1 / 0); end"),
-    ("none", b"x"),
-    ("twice", b"0*2"),
-    ("once", b"0"),
     ("bytes", b"\xff"),
-    ("folder/a.tick", b"processes 1; begin end"),
-    (
-        "folder/b.tick",
-        b"processes 1; var x; begin x = (1 / 0); end\n#! expect trap",
-    ),
 ];
 
-// What is in a folder, and what in another.
-static FOLDERS: [(&str, &[&str]); 3] = [
-    ("folder", &["b.tick", "c.tick.old", "a.tick", "tick"]),
-    ("folder/", &["b.tick", "a.tick"]),
-    ("empty", &["c.tick.old"]),
-];
-
-const INPUT: &[u8] = b"processes 1; begin out 8; end";
-
-/// The files, and how often one of them and how often standard input was read.
+/// The files, and how often one of them was read. There is no standard input, and the one folder has no program.
 #[derive(Drop)]
 struct Shelf {
     files: u32,
-    inputs: u32,
 }
 
 impl Files for Shelf {
@@ -66,30 +48,21 @@ impl Files for Shelf {
         Err(Error::from(ErrorKind::NotFound))
     }
 
-    fn input(&mut self, alloc: Global, most: u64) -> io::Result<Vec<u8>> {
-        self.inputs = self.inputs.saturating_add(1);
-        first_of(alloc, INPUT, most)
+    fn input(&mut self, _alloc: Global, _most: u64) -> io::Result<Vec<u8>> {
+        Err(Error::from(ErrorKind::NotFound))
     }
 
     fn folder(&mut self, alloc: Global, name: &str) -> io::Result<Option<Vec<String>>> {
-        if name == "away" {
-            return Err(Error::from(ErrorKind::NotFound));
-        }
-        for (folder, entries) in &FOLDERS {
-            if *folder == name {
-                return Ok(Some(names_of(alloc, entries)?));
+        match name {
+            "away" => Err(Error::from(ErrorKind::NotFound)),
+            "empty" => {
+                let mut names = Vec::new(alloc);
+                names.push(String::from_str(alloc, "c.tick.old")?)?;
+                Ok(Some(names))
             }
+            _ => Ok(None),
         }
-        Ok(None)
     }
-}
-
-fn names_of(alloc: Global, entries: &[&str]) -> Result<Vec<String>, AllocError> {
-    let mut names = Vec::new(alloc);
-    for entry in entries {
-        names.push(String::from_str(alloc, entry)?)?;
-    }
-    Ok(names)
 }
 
 /// A clock that stands.
@@ -167,10 +140,7 @@ type TestHost = Host<Shelf, Paper, Paper>;
 fn host(alloc: Global, is_torn: bool) -> TestHost {
     Host {
         version: "7.1",
-        files: Shelf {
-            files: 0,
-            inputs: 0,
-        },
+        files: Shelf { files: 0 },
         out: Paper::new(alloc, is_torn),
         err: Paper::new(alloc, false),
         colours: Colours {
@@ -180,124 +150,34 @@ fn host(alloc: Global, is_torn: bool) -> TestHost {
     }
 }
 
-// What is written to standard output, or to standard error. Nothing is written to the other one.
-type Said<'a> = Result<&'a str, &'a str>;
+// The words after the program's name with a blank between them, whether standard output fails, the status, what is
+// told behind the program's name, and how often a file is read.
+type Row = (&'static str, bool, u8, &'static str, u32);
 
-fn has_said(host: &TestHost, said: Said<'_>) -> bool {
-    let (out, err) = match said {
-        Ok(text) => (text, ""),
-        Err(text) => ("", text),
-    };
-    host.out.bytes.as_slice() == out.as_bytes() && host.err.bytes.as_slice() == err.as_bytes()
-}
-
-// The words after the program's name with a blank between them, whether standard output fails, the status,
-// what is written, and how often a file and standard input are read.
-type Row<'a> = (&'a str, bool, u8, Said<'a>, (u32, u32));
-
-const NO_TRAP: &str = "no process traps under any schedule (2 merged states)\n";
-
-const OUT_7: &str = "   1  P0     1:20   out 7;                           | out 7\n";
-
-const OUT_8: &str = "   1  P0     1:20   out 8;                           | out 8\n";
-
-const NOTHING_WRONG: &str = "out: nothing is wrong, nor with the schedule\n";
-
-const NO_PROGRAM: &str = "\
-none:1:1: error: expected `processes`, found the name `x`
-  |
-1 | x
-  | ^
-hint: a program begins with `processes 2;`
-ticketc: refused 5 Unexpected 0 1
-";
-
-const NO_COMMAND: &str = "\
-error: unrecognized subcommand 'nothing'
-
-Usage: ticklab <COMMAND>
-
-For more information, try '--help'.
-";
-
-const NO_THREAD: &str = "ticklab: no thread\n";
-
-const TRAPS: &str = "\
-a process traps under this schedule, and under no shorter one:
-0
-   1  P0     1:27   x = (1 / 0);                     | trap Zero
-";
-
-const TOO_MANY: &str = "\
-there are more than 1 merged state: nothing is said of all schedules
-try a larger --limit, hunt, or fewer processes or rounds
-";
-
-const FOLDER: &str = "\
-folder/a.tick: safe, 2 merged states, 0.00 s
-folder/b.tick: trap, as expected, 0.00 s
-2 as expected, 0 not, 0 at the limit
-";
-
-const SEVERAL: &str = "\
-out: safe, 2 merged states, 0.00 s
-folder/a.tick: safe, 2 merged states, 0.00 s
-folder/b.tick: trap, as expected, 0.00 s
--: safe, 2 merged states, 0.00 s
-4 as expected, 0 not, 0 at the limit
-";
-
-const NOT_SAFE: &str = "\
-trap: trap, but safe was expected, 0.00 s
-0 as expected, 1 not, 0 at the limit
-";
-
-const MORE: &str = "\
-out: limit, more than 1 merged state, 0.00 s
-0 as expected, 0 not, 1 at the limit
-";
-
-static ROWS: [Row<'static>; 15] = [
-    ("--version", false, 0, Ok("ticklab 7.1\n"), (0, 0)),
-    ("explore out", false, 0, Ok(NO_TRAP), (1, 0)),
-    ("trace out 0", false, 0, Ok(OUT_7), (1, 0)),
-    ("trace out @once", false, 0, Ok(OUT_7), (2, 0)),
-    ("trace - @once", false, 0, Ok(OUT_8), (1, 1)),
-    ("explain out @twice", false, 0, Ok(NOTHING_WRONG), (2, 0)),
-    ("explore none", false, 1, Err(NO_PROGRAM), (1, 0)),
-    ("nothing", false, 2, Err(NO_COMMAND), (0, 0)),
-    ("hunt out --threads 1 5", false, 4, Err(NO_THREAD), (1, 0)),
-    ("explore trap", false, 5, Ok(TRAPS), (1, 0)),
-    ("explore out --limit 1", false, 6, Ok(TOO_MANY), (1, 0)),
-    ("check folder", false, 0, Ok(FOLDER), (2, 0)),
-    ("check out folder/ -", false, 0, Ok(SEVERAL), (3, 1)),
-    ("check trap --jobs 2", false, 5, Ok(NOT_SAFE), (1, 0)),
-    ("check --limit=1 out", false, 6, Ok(MORE), (1, 0)),
-];
-
-// Of rows that end with 3: the words, whether standard output fails, what is told behind the program's name,
-// and how often a file is read.
-static FAILING: [(&str, bool, &str, u32); 9] = [
-    ("explore away", false, "away: entity not found", 1),
+static FAILING: [Row; 10] = [
+    ("explore away", false, 3, "away: entity not found", 1),
     // an empty word
-    ("explore ", false, ": entity not found", 1),
-    ("trace out @away", false, "away: entity not found", 2),
-    ("trace out @bytes", false, "bytes: no UTF-8", 2),
-    ("trace out 0", true, "broken pipe", 1),
-    ("check out away", false, "away: entity not found", 0),
+    ("explore ", false, 3, ": entity not found", 1),
+    ("trace out @away", false, 3, "away: entity not found", 2),
+    ("trace out @bytes", false, 3, "bytes: no UTF-8", 2),
+    ("trace out 0", true, 3, "broken pipe", 1),
+    ("check out away", false, 3, "away: entity not found", 0),
     (
         "check empty",
         false,
+        3,
         "empty: there is no .tick file in this folder",
         0,
     ),
     (
         "check trap folder/c.tick",
         false,
+        3,
         "folder/c.tick: entity not found",
         2,
     ),
-    ("--help", true, "broken pipe", 0),
+    ("--help", true, 3, "broken pipe", 0),
+    ("hunt out --threads 1 5", false, 4, "no thread", 1),
 ];
 
 fn line(alloc: Global, words: &str) -> Result<Args, AllocError> {
@@ -323,38 +203,41 @@ fn end(alloc: Global, host: &mut TestHost, words: io::Result<Args>) -> ExitCode 
     )
 }
 
-fn ends_so(alloc: Global, row: &Row<'_>) -> Result<(), Fail> {
-    let (words, is_torn, status, said, reads) = *row;
-    let given = line(alloc, words)?;
-    let mut host = host(alloc, is_torn);
-    let found = end(alloc, &mut host, Ok(given));
+// That it ends with this status, tells this, and has read so many files.
+fn ends_so(
+    alloc: Global,
+    host: &mut TestHost,
+    words: io::Result<Args>,
+    wanted: (u8, &str, u32),
+) -> Result<(), Fail> {
+    let (status, told, files) = wanted;
+    let found = end(alloc, host, words);
+    let said = format!(in alloc; "ticklab: {told}\n")?;
     let is_so = found == ExitCode::from(status)
-        && has_said(&host, said)
-        && (host.files.files, host.files.inputs) == reads;
-    holds(is_so, (words, is_torn, status))
+        && host.out.bytes.is_empty()
+        && host.err.bytes.as_slice() == said.as_bytes()
+        && host.files.files == files;
+    holds(is_so, told)
 }
 
 #[test]
-fn each_status(rt: HostRuntime) -> Result<(), Fail> {
-    for row in &ROWS {
-        ends_so(rt.alloc(), row)?;
-    }
-    for &(words, is_torn, told, files) in &FAILING {
-        let told = format!(in rt.alloc(); "ticklab: {told}\n")?;
-        let said = Err(told.as_str());
-        ends_so(rt.alloc(), &(words, is_torn, 3, said, (files, 0)))?;
+fn each_fault(rt: HostRuntime) -> Result<(), Fail> {
+    let alloc = rt.alloc();
+    for &(words, is_torn, status, told, files) in &FAILING {
+        let words = line(alloc, words)?;
+        ends_so(
+            alloc,
+            &mut host(alloc, is_torn),
+            Ok(words),
+            (status, told, files),
+        )?;
     }
     Ok(())
 }
 
 #[test]
 fn no_words(rt: HostRuntime) -> Result<(), Fail> {
-    let mut host = host(rt.alloc(), false);
     let none = Err(Error::from(ErrorKind::InvalidData));
-    let found = end(rt.alloc(), &mut host, none);
-    let said = Err("ticklab: the command line: invalid data\n");
-    holds(
-        found == ExitCode::from(2) && has_said(&host, said),
-        "no words",
-    )
+    let told = (2, "the command line: invalid data", 0);
+    ends_so(rt.alloc(), &mut host(rt.alloc(), false), none, told)
 }

@@ -1,28 +1,75 @@
 use crate::codes::code_of;
 use crate::stepping::answers::outcome_of;
-use crate::stepping::codes::{GIVES_SEVEN, STAMPS_AND_COMPARES};
-use crate::stepping::runs::{BOTH, EXCHANGES, MADE, ONE_AFTER_THE_OTHER, SEVEN};
-use crate::stepping::turns::{MadeTurn, Run, comes_along};
-use code_machine::{Outcome, Status};
+use crate::stepping::turns::{Run, comes_along};
+use code_machine::{Act, Event, Instr, Outcome, Status};
 use std::test::Fail;
 use tests_shared::holds;
 
-static STEPS: Run<'static> = Run {
-    numbers: (1, 0, 0, 0),
-    turns: &[
-        (0, MadeTurn::Steps(1), (0, 1, Status::Running)),
-        (0, MadeTurn::Steps(1), (1, 2, Status::Running)),
-        (0, MadeTurn::Steps(1), (2, 2, Status::Ended)),
-        (0, MadeTurn::Steps(1), (2, 2, Status::Ended)),
-    ],
-    events: &SEVEN,
-    word: 0,
-};
+const STAMPS_AND_COMPARES: [Instr; 10] = [
+    Instr::LoadWord,
+    Instr::Next,
+    Instr::Exchange(0),
+    Instr::Scan(0),
+    Instr::Push(0),
+    Instr::Push(1),
+    Instr::Older(0, 0),
+    Instr::Load(0),
+    Instr::Out,
+    Instr::Halt,
+];
 
-#[test]
-fn steps_one_by_one(rt: HostRuntime) -> Result<(), Fail> {
-    comes_along(rt.alloc(), &GIVES_SEVEN, &STEPS)
-}
+const ONE_AFTER_THE_OTHER: [Event; 10] = [
+    Event {
+        process: 0,
+        act: Act::Stamp,
+    },
+    Event {
+        process: 0,
+        act: Act::Scan([1, 0, 0, 0, 0, 0]),
+    },
+    Event {
+        process: 0,
+        act: Act::Older(0, 1, 0),
+    },
+    Event {
+        process: 0,
+        act: Act::Out(0),
+    },
+    Event {
+        process: 0,
+        act: Act::End,
+    },
+    Event {
+        process: 1,
+        act: Act::Stamp,
+    },
+    Event {
+        process: 1,
+        act: Act::Scan([0, 1, 0, 0, 0, 0]),
+    },
+    Event {
+        process: 1,
+        act: Act::Older(0, 1, 1),
+    },
+    Event {
+        process: 1,
+        act: Act::Out(1),
+    },
+    Event {
+        process: 1,
+        act: Act::End,
+    },
+];
+
+static BOTH: Run<'static> = Run {
+    numbers: (2, 1, 1, 0),
+    turns: &[
+        (0, 10, (5, 9, Status::Ended)),
+        (1, 10, (10, 9, Status::Ended)),
+    ],
+    events: &ONE_AFTER_THE_OTHER,
+    word: 844_424_930_132_224,
+};
 
 fn is_one_after_the_other(outcome: &Outcome) -> bool {
     outcome.events.as_slice() == ONE_AFTER_THE_OTHER.as_slice()
@@ -46,14 +93,4 @@ fn runs_one_after_the_other(rt: HostRuntime) -> Result<(), Fail> {
 #[test]
 fn steps_one_after_the_other(rt: HostRuntime) -> Result<(), Fail> {
     comes_along(rt.alloc(), &STAMPS_AND_COMPARES, &BOTH)
-}
-
-#[test]
-fn tells_what_it_made(rt: HostRuntime) -> Result<(), Fail> {
-    comes_along(rt.alloc(), &GIVES_SEVEN, &MADE)
-}
-
-#[test]
-fn tells_the_exchange_that_is_won(rt: HostRuntime) -> Result<(), Fail> {
-    comes_along(rt.alloc(), &STAMPS_AND_COMPARES, &EXCHANGES)
 }

@@ -1,9 +1,9 @@
 use base::Op;
+use code_core::Instr;
 use code_core::Instr::{
     Bin, Clear, Copy, Count, Exchange, Get, Halt, Held, Jump, JumpZero, Load, LoadWord, Me, Next,
     Older, Out, Push, Put, Scan, Store,
 };
-use code_core::{CodeFault, Instr};
 use std::test::Fail;
 use tests_shared::holds;
 
@@ -44,42 +44,6 @@ fn instructions_with_their_numbers(rt: HostRuntime) -> Result<(), Fail> {
     for (instruction, shown) in &SHOWN {
         let text = format!(in rt.alloc(); "{instruction:?}")?;
         holds(text.as_str() == *shown, shown)?;
-    }
-    Ok(())
-}
-
-// Each fault with its words, which `{:?}` and `{}` make of it.
-static FAULTS: [(CodeFault, &str); 10] = [
-    (CodeFault::Empty, "the code is empty"),
-    (CodeFault::TooLong, "the code is too long"),
-    (CodeFault::BadJump(7), "instruction 7 jumps past the end"),
-    (
-        CodeFault::StackShort(0),
-        "instruction 0 takes more values than there are",
-    ),
-    (
-        CodeFault::HeightsDiffer(12),
-        "instruction 12 is reached, or jumps, with another height of the stack",
-    ),
-    (
-        CodeFault::BadSlot(3),
-        "instruction 3 names a slot that there is not",
-    ),
-    (
-        CodeFault::FallsOff(65_534),
-        "the code goes on past instruction 65534, its last",
-    ),
-    (CodeFault::BadStamp(5), "instruction 5 breaks a stamp"),
-    (CodeFault::BadLine(2), "line 2 is no line of a code"),
-    (CodeFault::NoMemory, "out of memory"),
-];
-
-#[test]
-fn faults_in_words(rt: HostRuntime) -> Result<(), Fail> {
-    for (fault, words) in &FAULTS {
-        let text = format!(in rt.alloc(); "{fault:?}; {fault}")?;
-        let twice = format!(in rt.alloc(); "{words}; {words}")?;
-        holds(text.as_str() == twice.as_str(), words)?;
     }
     Ok(())
 }

@@ -1,22 +1,18 @@
+//! The longest codes, as lists of instructions and as texts.
 use crate::codes::{sizes_of, verified};
-use crate::text::answers::read_and_written;
-use code_core::CodeFault::{BadJump, BadLine, FallsOff, TooLong};
-use code_core::Instr::{Halt, Jump, Push};
+use code_core::CodeFault::{FallsOff, TooLong};
+use code_core::Instr::{Halt, Push};
 use code_core::{CodeFault, Instr, Sizes};
 use std::alloc::{AllocError, Global};
 use std::test::Fail;
-use tests_shared::{holds, is_same, repeated};
-
-const SIZES: &str = "tickcode 2 1 0 0 0\n";
+use step_code::{read_code, write_code};
+use tests_shared::{holds, repeated};
 
 // So many of an instruction, and what is answered of them: the greatest height, or a fault.
-static REPEATED: [(Instr, usize, Result<u16, CodeFault>); 6] = [
+static REPEATED: [(Instr, usize, Result<u16, CodeFault>); 3] = [
     (Halt, 65535, Ok(0)),
     (Halt, 65536, Err(TooLong)),
     (Push(1), 65535, Err(FallsOff(65534))),
-    (Push(1), 65536, Err(TooLong)),
-    (Jump(65534), 65535, Ok(0)),
-    (Jump(65535), 65535, Err(BadJump(0))),
 ];
 
 // What is answered of so many of an instruction, and how many of them are in the code or come back.
@@ -43,22 +39,12 @@ fn longest_codes(rt: HostRuntime) -> Result<(), Fail> {
     Ok(())
 }
 
-// A line, how often it stands in the text, and what follows. Then the length of the code, which is written as
-// this text, or its fault.
-static TEXTS: [(&str, usize, &str, Result<(usize, bool), CodeFault>); 6] = [
-    ("Push 4294967295\n", 62000, "Halt\n", Ok((62001, true))),
-    ("Push 4294967295\n", 62000, "Halt", Err(BadLine(62002))),
-    ("Push 4294967295\n", 62000, "", Err(FallsOff(61999))),
-    ("Halt\n", 65534, "Halt\n", Ok((65535, true))),
-    ("Halt\n", 65535, "Halt\n", Err(TooLong)),
-    ("Halt\n", 65536, "halt\n", Err(BadLine(65538))),
-];
-
+// 992,024 bytes, which are read and written.
 #[test]
-fn longest_texts(rt: HostRuntime) -> Result<(), Fail> {
-    for &(line, count, back, answer) in &TEXTS {
-        let text = repeated(rt.alloc(), SIZES, line, count, back)?;
-        is_same(&read_and_written(rt.alloc(), text.as_str()), &answer)?;
-    }
-    Ok(())
+fn longest_text(rt: HostRuntime) -> Result<(), Fail> {
+    let head = "tickcode 2 1 0 0 0\n";
+    let text = repeated(rt.alloc(), head, "Push 4294967295\n", 62000, "Halt\n")?;
+    let code = read_code(rt.alloc(), &text)?;
+    let back = write_code(rt.alloc(), &code)?;
+    holds(code.len() == 62001 && back == text, code.len())
 }

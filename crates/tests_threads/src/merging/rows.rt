@@ -1,8 +1,19 @@
-//! Two processes that stamp at the same time.
+//! Histories of two processes, one with every kind of step.
 
-use crate::merging::merged::{BOTH_STAMPED, Row, STAMPED, STAMPS, Step, are_merged};
+use crate::merging::merged::{Step, comes_to};
 use std::test::Fail;
+use tests_shared::holds;
 use tick_merge::{MergeFault, SharedAct};
+
+// The word of two processes of which process 0 has stamped.
+const STAMPED: u64 = 281_474_976_710_656;
+
+// The same once process 1 has stamped after it.
+const BOTH_STAMPED: u64 = 844_424_930_132_224;
+
+// Two processes that stamp, scan, and tell who is older.
+const STAMPS: &str =
+    "tickcode 1 2 1 1 0\nLoadWord\nNext\nExchange 0\nScan 0\nPush 0\nPush 1\nOlder 0 0\nLoad 0\nOut\nHalt\n";
 
 const BOTH_STAMP: &[Step] = &[
     (0, SharedAct::Load(0)),
@@ -27,56 +38,66 @@ const UNLOADED: &[Step] = &[
     (0, SharedAct::Won(STAMPED, STAMPED)),
 ];
 
-// What it found is no other than what it looked for.
-const NOT_LOST: &[Step] = &[(0, SharedAct::Load(0)), (0, SharedAct::Lost(0, 0))];
+// Each process writes 5, stamps, scans, reads what process 0 wrote, and clears.
+const ALL_KINDS: &str =
+    "tickcode 2 2 1 1 1\nPush 5\nPut 0\nLoadWord\nNext\nExchange 2\nScan 0\nPush 0\nGet 0 0\nClear\nHalt\n";
 
-const ONE_LOAD: &[Step] = &[(1, SharedAct::Load(0))];
+const OF_ALL_KINDS: &[Step] = &[
+    (0, SharedAct::Write(0, 5)),
+    (0, SharedAct::Load(0)),
+    (1, SharedAct::Write(0, 5)),
+    (1, SharedAct::Load(0)),
+    (0, SharedAct::Won(0, STAMPED)),
+    (1, SharedAct::Lost(0, STAMPED)),
+    (1, SharedAct::Load(STAMPED)),
+    (1, SharedAct::Won(STAMPED, BOTH_STAMPED)),
+    (0, SharedAct::Load(BOTH_STAMPED)),
+    (1, SharedAct::Load(BOTH_STAMPED)),
+    (1, SharedAct::Read(0, 0, 5)),
+    (0, SharedAct::Read(0, 0, 5)),
+    (1, SharedAct::Clear(BOTH_STAMPED)),
+    (0, SharedAct::Clear(STAMPED)),
+];
 
-const NO_PROCESS: &[Step] = &[(2, SharedAct::Load(0))];
+// A code, a history of it, how many instructions each process makes, and what they are merged to.
+type Row = (
+    &'static str,
+    &'static [Step],
+    &'static [u64],
+    Result<&'static [u8], MergeFault>,
+);
 
-const NO_ROW: &[Step] = &[(0, SharedAct::Read(0, 0, 0))];
-
-static ROWS: [Row; 13] = [
-    (BOTH_STAMP, &[3, 3], Ok(&[0, 1, 0, 0, 1, 1])),
-    (BOTH_STAMP, &[10, 3], Err(MergeFault::NotThisCode(0, 4))),
-    (UNLOADED, &[3, 0], Err(MergeFault::NotLegal(1))),
-    (ONE_LOAD, &[0, 0], Err(MergeFault::NotThisCode(1, 0))),
-    (&[], &[0, 0], Ok(&[])),
+static ROWS: [Row; 5] = [
+    (
+        ALL_KINDS,
+        OF_ALL_KINDS,
+        &[10, 13],
+        Ok(&[
+            0, 0, 0, 1, 1, 1, 0, 0, 1, 1, 1, 1, 1, 0, 1, 1, 1, 0, 0, 1, 0, 0, 1,
+        ]),
+    ),
+    (STAMPS, BOTH_STAMP, &[3, 3], Ok(&[0, 1, 0, 0, 1, 1])),
     // The run of docs/THREADS.md.
     (
+        STAMPS,
         BOTH_SCAN,
         &[10, 10],
         Ok(&[0, 0, 0, 1, 0, 1, 1, 1, 0, 0, 0, 0, 0, 0, 1, 1, 1, 1, 1, 1]),
     ),
-    // Of two that don't come to their ends the smaller is told.
-    (BOTH_STAMP, &[10, 10], Err(MergeFault::NotThisCode(0, 4))),
-    (BOTH_STAMP, &[3, 10], Err(MergeFault::NotThisCode(1, 4))),
-    // A step that can't come next is told before one that its process doesn't make.
-    (UNLOADED, &[1, 0], Err(MergeFault::NotLegal(1))),
-    (NOT_LOST, &[3, 0], Err(MergeFault::NotLegal(1))),
-    (NO_PROCESS, &[0, 0], Err(MergeFault::NotLegal(0))),
-    (NO_ROW, &[3, 3], Err(MergeFault::NotLegal(0))),
-    // The rests are in order of process.
-    (&[], &[0, 1], Err(MergeFault::NotThisCode(1, 0))),
+    (
+        STAMPS,
+        BOTH_STAMP,
+        &[10, 3],
+        Err(MergeFault::NotThisCode(0, 4)),
+    ),
+    (STAMPS, UNLOADED, &[3, 0], Err(MergeFault::NotLegal(1))),
 ];
 
 #[test]
 fn histories_are_merged(rt: HostRuntime) -> Result<(), Fail> {
-    are_merged(rt.alloc(), STAMPS, &ROWS)
-}
-
-// Two processes that make nothing that others see.
-const ALONE: &str = "tickcode 1 2 0 0 0\nPush 1\nOut\nHalt\n";
-
-static RESTS: [Row; 4] = [
-    (&[], &[3, 3], Ok(&[0, 0, 0, 1, 1, 1])),
-    (&[], &[1, 2], Ok(&[0, 1, 1])),
-    // A process that has stopped makes no instruction more.
-    (&[], &[3, 4], Err(MergeFault::NotThisCode(1, 0))),
-    (&[], &[4, 4], Err(MergeFault::NotThisCode(0, 0))),
-];
-
-#[test]
-fn rests_are_in_order(rt: HostRuntime) -> Result<(), Fail> {
-    are_merged(rt.alloc(), ALONE, &RESTS)
+    for row in &ROWS {
+        let (text, steps, turns, wanted) = *row;
+        holds(comes_to(rt.alloc(), text, steps, turns, wanted)?, turns)?;
+    }
+    Ok(())
 }

@@ -1,49 +1,17 @@
 //! Workers run at the same time: gates hold them until others have gone on, and no gate waits up to its
 //! limit. If workers ran one after the other, or two at a time, a gate would reach its limit.
 
-use crate::runs::held::calls_of;
 use crate::runs::running::{Wanted, comes_to_one_of};
 use code_machine::Ask;
 use std::sync::atomic::AtomicU64;
 use std::sync::atomic::Ordering::SeqCst;
 use std::test::Fail;
-use tests_shared::{Polls, holds, is_same};
+use tests_shared::{Polls, is_same};
 use tick_run::{Gate, RunEnd};
-
-// stamp; s = scan; x = older s 0 1; out x;
-const COMPARES: &str =
-    "tickcode 1 2 1 1 0\nLoadWord\nNext\nExchange 0\nScan 0\nPush 0\nPush 1\nOlder 0 0\nLoad 0\nOut\nHalt\n";
 
 // put r (me + 7); x = get r ((me + 1) % n); out x;
 const PASSES_ON: &str =
     "tickcode 1 6 1 0 1\nMe\nPush 7\nBin +\nPut 0\nMe\nPush 1\nBin +\nCount\nBin %\nGet 0 0\nLoad 0\nOut\nHalt\n";
-
-// Each gives out 0 or 1: it isn't so that process 0 sees 1 and process 1 sees 0.
-static CROSSED: [Wanted<'static>; 3] = [
-    Wanted {
-        outputs: &[&[0], &[0]],
-        ends: &[RunEnd::Ended; 2],
-        registers: &[],
-    },
-    Wanted {
-        outputs: &[&[0], &[1]],
-        ends: &[RunEnd::Ended; 2],
-        registers: &[],
-    },
-    Wanted {
-        outputs: &[&[1], &[1]],
-        ends: &[RunEnd::Ended; 2],
-        registers: &[],
-    },
-];
-
-// Process 0 waits before its first step for the first of process 1, which waits before its second for
-// the first of process 0. So both load the same word, and one of them has to stamp again.
-#[test]
-fn two_workers_cross(rt: HostRuntime) -> Result<(), Fail> {
-    let calls = calls_of(&rt, COMPARES, (0, 2), (1, 2), &CROSSED)?;
-    holds(calls == [3, 5] || calls == [5, 3], calls)
-}
 
 // How often each of six gates was called.
 #[derive(Drop)]

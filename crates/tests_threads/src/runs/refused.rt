@@ -115,37 +115,11 @@ fn is_refused<R: AllocGlobal + Threads + Wait>(rt: &R, n: u8, room: usize) -> Re
     )
 }
 
+// The only thread, the second one, one amid others, and the last one.
 #[test]
 fn a_start_is_refused(rt: HostRuntime) -> Result<(), Fail> {
-    is_refused(&rt, 6, 2)
-}
-
-#[test]
-fn the_only_start_is_refused(rt: HostRuntime) -> Result<(), Fail> {
-    is_refused(&rt, 1, 0)
-}
-
-#[test]
-fn the_second_start_is_refused(rt: HostRuntime) -> Result<(), Fail> {
-    is_refused(&rt, 2, 1)
-}
-
-#[test]
-fn the_third_start_is_refused(rt: HostRuntime) -> Result<(), Fail> {
-    is_refused(&rt, 3, 2)
-}
-
-#[test]
-fn the_fourth_start_is_refused(rt: HostRuntime) -> Result<(), Fail> {
-    is_refused(&rt, 4, 3)
-}
-
-#[test]
-fn the_fifth_start_is_refused(rt: HostRuntime) -> Result<(), Fail> {
-    is_refused(&rt, 5, 4)
-}
-
-#[test]
-fn the_sixth_start_is_refused(rt: HostRuntime) -> Result<(), Fail> {
-    is_refused(&rt, 6, 5)
+    for (n, room) in [(1, 0), (2, 1), (6, 2), (6, 5)] {
+        is_refused(&rt, n, room)?;
+    }
+    Ok(())
 }

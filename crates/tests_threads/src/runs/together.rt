@@ -1,43 +1,16 @@
 //! If some processes stop early, the others go on.
 
-use crate::runs::running::{Row, Wanted, come_to, comes_to_one_of, open_gates};
-use code_machine::Trap;
+use crate::runs::running::{Wanted, comes_to_one_of};
+use code_machine::{Ask, Trap};
 use std::test::Fail;
-use tick_run::RunEnd;
+use tick_run::{Gate, RunEnd};
 
-static STOPPED: [Row; 3] = [
-    // if (me == 1) { x = (0 - 1); } else { out 5; }
-    (
-        "tickcode 1 2 1 0 0\nMe\nPush 1\nBin ==\nJumpZero 9\nPush 0\nPush 1\nBin -\nStore 0\nJump 11\nPush 5\nOut\nHalt\n",
-        2,
-        1_000,
-        4,
-        &[&[5], &[]],
-        &[RunEnd::Ended, RunEnd::Trapped(Trap::Below)],
-    ),
-    // if me { while 1 { stamp; } } else { out 1; } Two spend their turns on stamps.
-    (
-        "tickcode 1 3 0 0 0\nMe\nJumpZero 9\nPush 1\nJumpZero 8\nLoadWord\nNext\nExchange 4\nJump 2\nJump 11\nPush 1\nOut\nHalt\n",
-        3,
-        100_000,
-        4,
-        &[&[1], &[], &[]],
-        &[RunEnd::Ended, RunEnd::TurnsSpent, RunEnd::TurnsSpent],
-    ),
-    // if me { while 1 { out me; } } else { } One fills its outputs.
-    (
-        "tickcode 1 2 0 0 0\nMe\nJumpZero 8\nPush 1\nJumpZero 7\nMe\nOut\nJump 2\nJump 8\nHalt\n",
-        2,
-        1_000,
-        4,
-        &[&[], &[1, 1, 1, 1]],
-        &[RunEnd::Ended, RunEnd::OutputsFull],
-    ),
-];
+/// A gate that does nothing.
+#[derive(Clone, Copy)]
+struct Open;
 
-#[test]
-fn the_others_go_on(rt: HostRuntime) -> Result<(), Fail> {
-    come_to(&rt, &STOPPED)
+impl Gate for Open {
+    fn before(&mut self, _p: u8, _ask: Ask) {}
 }
 
 // put r (me + 1); if (me == 1) { x = (0 - 1); } else { if (me == 2) { while 1 { stamp; } } else {
@@ -59,6 +32,6 @@ static ITS_WAY: [Wanted<'static>; 1] = [Wanted {
 // Whoever stops gives back what it has seen, so that the run has an outcome, with all registers.
 #[test]
 fn each_stops_in_its_way(rt: HostRuntime) -> Result<(), Fail> {
-    let gates = open_gates(rt.alloc(), 4)?;
+    let gates = Vec::from_array(rt.alloc(), [Open; 4])?;
     comes_to_one_of(&rt, EACH_ITS_WAY, gates, &ITS_WAY)
 }

@@ -24,7 +24,7 @@ const COUNTING: &[u8] = b"processes 1; var x; begin while (x < 2) { x = (x + 1);
 const ROUNDS: &[u8] =
     b"processes 3; scan s; begin if (me == 0) { stamp; stamp; s = scan; } else { stamp; stamp; stamp; stamp; stamp; } end";
 
-static ROWS: [Row; 12] = [
+static ROWS: [Row; 13] = [
     (
         &["ticketc", "order", "3"],
         Some(b"0 1 2"),
@@ -91,6 +91,8 @@ static ROWS: [Row; 12] = [
         "refused 11 Processes\n",
     ),
     (&["ticketc", "run", "+3"], None, 2, USAGE),
+    // (no host gives a line without a word)
+    (&[], None, 2, USAGE),
 ];
 
 // What is done to one call of an end.

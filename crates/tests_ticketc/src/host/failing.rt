@@ -5,49 +5,11 @@ use std::test::Fail;
 use std::thread::Threads;
 use tests_shared::holds;
 
-// Every kind but an interruption.
-static KINDS: [ErrorKind; 41] = [
-    ErrorKind::NotFound,
-    ErrorKind::PermissionDenied,
-    ErrorKind::ConnectionRefused,
-    ErrorKind::ConnectionReset,
-    ErrorKind::HostUnreachable,
-    ErrorKind::NetworkUnreachable,
-    ErrorKind::ConnectionAborted,
-    ErrorKind::NotConnected,
-    ErrorKind::AddrInUse,
-    ErrorKind::AddrNotAvailable,
-    ErrorKind::NetworkDown,
+// Kinds that are no interruption.
+static KINDS: [ErrorKind; 3] = [
     ErrorKind::BrokenPipe,
-    ErrorKind::AlreadyExists,
-    ErrorKind::WouldBlock,
-    ErrorKind::NotADirectory,
-    ErrorKind::IsADirectory,
-    ErrorKind::DirectoryNotEmpty,
-    ErrorKind::ReadOnlyFilesystem,
-    ErrorKind::FilesystemLoop,
-    ErrorKind::StaleNetworkFileHandle,
-    ErrorKind::InvalidInput,
-    ErrorKind::InvalidData,
-    ErrorKind::TimedOut,
-    ErrorKind::WriteZero,
-    ErrorKind::StorageFull,
-    ErrorKind::NotSeekable,
-    ErrorKind::QuotaExceeded,
-    ErrorKind::FileTooLarge,
-    ErrorKind::ResourceBusy,
-    ErrorKind::ExecutableFileBusy,
-    ErrorKind::Deadlock,
-    ErrorKind::CrossesDevices,
-    ErrorKind::TooManyLinks,
-    ErrorKind::InvalidFilename,
-    ErrorKind::ArgumentListTooLong,
-    ErrorKind::Unsupported,
     ErrorKind::UnexpectedEof,
-    ErrorKind::OutOfMemory,
-    ErrorKind::InProgress,
-    ErrorKind::Other,
-    ErrorKind::Uncategorized,
+    ErrorKind::WouldBlock,
 ];
 
 // At which call each end fails, how many bytes a write takes, and what that comes to.

@@ -1,6 +1,5 @@
-use crate::host::ends::{Failing, Given, NEVER, Taken, served};
+use crate::host::ends::{Given, NEVER, Taken, served};
 use std::alloc::{AllocError, Global};
-use std::io::ErrorKind;
 use std::test::Fail;
 use tests_shared::{holds, repeated};
 
@@ -32,24 +31,6 @@ fn large(rt: HostRuntime) -> Result<(), Fail> {
         let ending = served(&rt, &ORDER, given, output)?;
         let is_so = ending.is(0, answer.as_str()) && ending.has_calls(*reads, *writes);
         holds(is_so, *step)?;
-    }
-    Ok(())
-}
-
-// An interrupted call is made again, once.
-#[test]
-fn each_call_interrupted(rt: HostRuntime) -> Result<(), Fail> {
-    let (input, answer) = (input(rt.alloc())?, answer(rt.alloc())?);
-    for call in 1..19 {
-        let kind = ErrorKind::Interrupted;
-        let output = Taken::new(rt.alloc(), 16_384, Failing { call, kind });
-        let given = Given::new(input.as_bytes(), 16_384, Failing { call, kind });
-        let ending = served(&rt, &ORDER, given, output)?;
-        let reads = if call <= 3 { 4 } else { 3 };
-        holds(
-            ending.is(0, answer.as_str()) && ending.has_calls(reads, 19),
-            call,
-        )?;
     }
     Ok(())
 }

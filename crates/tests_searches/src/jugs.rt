@@ -83,46 +83,38 @@ impl Machine for Jugs {
     }
 }
 
-// Where a growth was refused, it is asked once more.
-fn searched(alloc: Global, jugs: &Jugs, limit: u32) -> Result<Verdict<Vec<u8>, ()>, NoMemory> {
-    let limits = Limits::of_states(limit);
-    match search(alloc, jugs, &[0, 0], limits, &mut Unwatched) {
-        Err(NoMemory) => search(alloc, jugs, &[0, 0], limits, &mut Unwatched),
-        found => found,
-    }
-}
-
-// So much is measured by jugs that hold so much.
-fn measuring(measured: u32, left: u32, right: u32) -> Jugs {
-    Jugs {
+// What is found of jugs that hold so much, of which one is to have so much.
+fn measured(
+    alloc: Global,
+    measured: u32,
+    left: u32,
+    right: u32,
+) -> Result<Verdict<Vec<u8>, ()>, NoMemory> {
+    let jugs = Jugs {
         left,
         right,
         measured,
-    }
-}
-
-fn tells(alloc: Global, jugs: Jugs, limit: u32, wanted: Verdict<Vec<u8>, ()>) -> Result<(), Fail> {
-    is_same(&searched(alloc, &jugs, limit)?, &wanted)
+    };
+    search(
+        alloc,
+        &jugs,
+        &[0, 0],
+        Limits::of_states(100),
+        &mut Unwatched,
+    )
 }
 
 #[test]
 fn four_of_three_and_five(rt: HostRuntime) -> Result<(), Fail> {
     let schedule = Vec::from_slice(rt.alloc(), &[1, 5, 2, 5, 1, 5])?;
-    tells(
-        rt.alloc(),
-        measuring(4, 3, 5),
-        100,
-        Verdict::Found(schedule),
-    )
+    is_same(&measured(rt.alloc(), 4, 3, 5)?, &Verdict::Found(schedule))
 }
 
 #[test]
 fn five_of_four_and_six(rt: HostRuntime) -> Result<(), Fail> {
-    let jugs = measuring(5, 4, 6);
     let nowhere = Verdict::Nowhere {
         states: 10,
         known: (),
     };
-    tells(rt.alloc(), jugs, 100, nowhere)?;
-    tells(rt.alloc(), jugs, 9, Verdict::Limit { states: 9 })
+    is_same(&measured(rt.alloc(), 5, 4, 6)?, &nowhere)
 }

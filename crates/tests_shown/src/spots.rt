@@ -78,17 +78,5 @@ fn stand(alloc: Global, text: &str, wanted: &[(usize, usize, &str)]) -> Result<(
 #[test]
 fn spots(rt: HostRuntime) -> Result<(), Fail> {
     stand(rt.alloc(), TEXT, &SPOTS)?;
-    stand(rt.alloc(), COMMENTED, &COMMENTED_SPOTS)?;
-    stand(rt.alloc(), "processes 1; var stamp_; begin end", &[])
-}
-
-// Of a text that is another's the statements stand where their tokens would; past its end, at its
-// beginning, without words.
-#[test]
-fn another_text(rt: HostRuntime) -> Result<(), Fail> {
-    let checked = Checked::new(rt.alloc(), "processes 1; begin stamp; clear; end")?;
-    let text = "a b c\n d stamp";
-    let tokens = tokens(rt.alloc(), text)?;
-    let spots = places(rt.alloc(), &checked.program, text, &tokens)?;
-    are(&spots, &[(2, 4, "stamp"), (1, 1, "")])
+    stand(rt.alloc(), COMMENTED, &COMMENTED_SPOTS)
 }

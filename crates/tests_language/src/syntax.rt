@@ -1,6 +1,0 @@
-//! Tests of `tick_syntax`: what no command shows.
-//!
-//! Start with `tokens`.
-
-mod print;
-mod tokens;

@@ -1,9 +1,0 @@
-use Rattle.std.proofs.Common.{◌∙◌, ap, length}
-use Rattle.std.proofs.lemmas.List.{length-replicate}
-use Rattle.code_machine.specs.Machine.{start_process}
-use Rattle.tests_ticklab.proofs.of_runs.drawing.code_marks.Goals as goal
-
-pub loop-at-init : goal.loop-at-init
-loop-at-init c =
-    let sizes = c.args.code.now.sizes in
-    ap (λ s. length s.processes) c.in_ok-machine.ensures.start ∙ length-replicate sizes.processes (start_process sizes)
