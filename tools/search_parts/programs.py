@@ -1,4 +1,4 @@
-"""The programs that are searched, each with its name and the limits of its states, by single and by merged steps."""
+"""The programs that are searched, each with its name and its text."""
 import glob
 import os
 
@@ -8,11 +8,6 @@ from parts.rows import File
 from . import random_programs, small_programs
 
 ROWS = "answers/states.txt"
-# Each number that the rows tell is within the first; where they tell that there are more states, the second is enough.
-LIMIT, LIMIT_OF_MANY, LIMIT_OF_SMALL = 1000000, 50000, 2000
-# The status by which `explore` tells that.
-MORE = 6
-STEPS = {b"--single", b"--merged"}
 
 
 def read(path):
@@ -22,27 +17,15 @@ def read(path):
 
 
 def known():
-    rows = [row for row in File(TOP, ROWS).rows(read(ROWS).decode()) if row.words[:2] == [b"ticklab", b"explore"]]
-    names, asked = {}, {}
+    """Those of examples/, and those that the rows ask of; each text once."""
+    names = {}
     for path in sorted(glob.glob(f"{TOP}/examples/*.tick")):
         name = os.path.relpath(path, TOP)
         names[read(name)] = name
-    for row in rows:
-        text = row.given if row.words[2] == b"-" else read(row.words[2].decode())
-        names.setdefault(text, row.where)
-        for steps in STEPS & set(row.words):
-            asked.setdefault((text, steps), []).append((greatest(row.words), row.status))
-    limits = {text: [limit(asked.get((text, steps))) for steps in (b"--single", b"--merged")] for text in names}
-    return [(name, text, limits[text]) for text, name in names.items()]
-
-
-def greatest(words):
-    return int(words[words.index(b"--limit") + 1])
-
-
-def limit(asked):
-    """The limit of a search, by the status of the row that lets most states be."""
-    return LIMIT_OF_MANY if asked and max(asked)[1] == MORE else LIMIT
+    for row in File(TOP, ROWS).rows(read(ROWS).decode()):
+        if row.words[:2] == [b"ticklab", b"explore"]:
+            names.setdefault(row.given if row.words[2] == b"-" else read(row.words[2].decode()), row.where)
+    return [(name, text) for text, name in names.items()]
 
 
 def small():
@@ -55,4 +38,4 @@ def random():
 
 def numbered(name, texts):
     """These with their texts before their names, since they stand in no file."""
-    return [(f"{text.decode()}\n{name} {number}", text, [LIMIT_OF_SMALL] * 2) for number, text in enumerate(texts, 1)]
+    return [(f"{text.decode()}\n{name} {number}", text) for number, text in enumerate(texts, 1)]
