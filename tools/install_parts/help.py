@@ -3,24 +3,19 @@
 ticklab has a help of several sections, and one for each command. ticketc has a line: `usage: ticketc order N | check`. The
 texts stand under the words by which they are asked for, so that a fault may be planted in them.
 """
-import os
 import re
-import shutil
-import subprocess
 import sys
-import tempfile
 from collections import namedtuple
 
 from parts.asking import NAMES, program_of_sources
-from parts.tool import TOP, ran
+from parts.tool import ran
 
 COMMAND = re.compile(r"  (\S+)  +(\S.*)")
 ARGUMENT = re.compile(r"  ([<\[])([^>\]]+)[>\]](\.\.\.)?(?:  +(\S.*))?")
 # (a value in `[` and `]` may be left out; a word behind the option that begins with no `-` is taken for it all the same)
 OPTION = re.compile(r"  (?:(-\w)(?:, )?|    )(--[\w-]+)?((?: \[?<[^>]+>\]?)*)(?:  +(\S.*))?")
 STATUS = re.compile(r"(?:: |; )(\d+) ")
-# (below the help of a command, and among those below the whole help)
-EXAMPLE = re.compile(r"^(?:Example: |  )(?=ticklab )(.*)$", re.MULTILINE)
+EXAMPLE = re.compile(r"^Example: (ticklab .*)$", re.MULTILINE)
 
 # A word that a command takes, by the name that stands for it.
 Argument = namedtuple("Argument", "name about is_optional is_repeated", defaults=("", False, False))
@@ -86,28 +81,7 @@ def programs(texts):
     return [program(texts, name) for name in NAMES]
 
 
-def wrong_examples(texts):
-    """What is told of the examples in the help of ticklab's commands: each shows one of its own, the whole help shows all of
-    them, and each ends as it has to."""
+def examples(texts):
+    """The examples of ticklab's help, each behind the name of its command."""
     names = [it.name for it in program(texts, "ticklab").commands if it.name != "help"]
-    of_each = {name: EXAMPLE.findall(texts[f"ticklab help {name}"]) for name in names}
-    wrong = [f"help of {name}: its example is none of it: {found}" for name, found in of_each.items()
-             if [it.split()[1] for it in found] != [name]]
-    if EXAMPLE.findall(texts["ticklab --help"]) != [it for found in of_each.values() for it in found]:
-        wrong.append("the whole help has other examples than those of the commands")
-    with tempfile.TemporaryDirectory() as folder:
-        os.mkdir(f"{folder}/programs")
-        for name in ("lock.tick", "programs/lock.tick"):
-            shutil.copy(f"{TOP}/examples/flag_lock.tick", f"{folder}/{name}")
-        return wrong + [it for found in of_each.values() for line in found for it in wrong_run(folder, line)]
-
-
-def wrong_run(folder, line):
-    """What is told of a command of ticklab in a folder that ends otherwise, or writes nothing."""
-    environment = {**os.environ, "PATH": f"{os.path.dirname(program_of_sources('ticklab'))}:{os.environ['PATH']}"}
-    came = ran("bash", "-c", line, cwd=folder, env=environment, stderr=subprocess.DEVNULL)
-    to = re.search(r"> (\S+)$", line)
-    written = os.path.getsize(f"{folder}/{to[1]}") if to else len(came.stdout)
-    # (after the steps of that example both processes run, and the cycle has steps of one)
-    if came.returncode != (1 if " lasso " in line else 0) or not written:
-        yield f"help: {line}: status {came.returncode}, {written} bytes"
+    return [(name, line) for name in names for line in EXAMPLE.findall(texts[f"ticklab help {name}"])]

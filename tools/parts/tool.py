@@ -73,9 +73,14 @@ def told_otherwise(cases):
     """Of cases those that are told otherwise. Each is what is planted, all that is told of it, and words of what has to be told;
     None where nothing may be."""
     for what, told, wanted in cases:
-        told = list(told)
-        if told if wanted is None else not any(wanted in it for it in told):
-            yield f"{what}: {wanted or 'nothing'} is wanted, and told is {told[:3]}"
+        seen = []
+        for it in told:
+            seen.append(it)
+            if wanted is not None and wanted in it:
+                break
+        else:
+            if wanted is not None or seen:
+                yield f"{what}: {wanted or 'nothing'} is wanted, and told is {seen[:3]}"
 
 
 @contextlib.contextmanager
