@@ -99,7 +99,7 @@ class Judge:
             if not is_ending(graph, asked, *found) or self.ask((option, "--single"), text) != found:
                 yield f"{option}: found {shown(*found)}"
             found = self.ask((option, "--merged"), text)
-            if not is_merged_ending(graph, asked, (SAFE, "can-end"), *found):
+            if not is_merged_ending(graph, asked, (MORE, "can-end"), *found):
                 yield f"{option} by merged steps: found {shown(*found)}"
             found = self.ask((option, "--limit", str(len(graph.depth) - 1)), text) if is_fewer else None
             if found and not is_merged_ending(graph, asked, (MORE, "limit"), *found):

@@ -22,4 +22,6 @@ pub const LOOK_AT_SCAN: &str = "a scan is looked at by `x = older s 0 1;` and `x
 
 pub const GET_AND_PUT: &str = "`get` reads a register, and `put` writes one";
 
+pub const NO_LABELS: &str = "there are no labels: `while` and `if` say where a process goes on";
+
 pub const COUNTED_FROM_ZERO: &str = "processes are counted from 0";

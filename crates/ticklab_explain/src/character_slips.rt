@@ -1,6 +1,6 @@
 // Common slips with characters that begin no token.
 
-use crate::advice::{ASSIGNS, BLOCK_IN_BRACES, NOTHING_FOLLOWS, PROGRAM_BEGINS};
+use crate::advice::{ASSIGNS, BLOCK_IN_BRACES, NO_LABELS, NOTHING_FOLLOWS, PROGRAM_BEGINS};
 use crate::condition::Fact::{BeforeEquals, Begun};
 use crate::rule::{Rule, rules};
 
@@ -25,6 +25,7 @@ pub static CHARACTER_SLIPS: &[Rule] = rules![
     [About("[")] => ("a register is read by a statement of its own: `x = get " [Left("r")] " " [Right("me")] ";`");
     [About(":"), Is(BeforeEquals)] => (ASSIGNS);
     [About(":"), Before(1, "processes")] => (PROGRAM_BEGINS);
+    [About(":"), Is(Begun), Before(2, ";", "begin", "{", "}"), NameBefore(1)] => (NO_LABELS);
     [About(":"), Not(Begun)] => ("names have no types");
     [About(":")] => (BLOCK_IN_BRACES);
     [About("."), Before(1, "end")] => (NOTHING_FOLLOWS);
@@ -32,7 +33,10 @@ pub static CHARACTER_SLIPS: &[Rule] = rules![
         => ("there is no `for`: write `" [Before(3)] " = 0; while (" [Before(3)] " < n) { " [Before(3)] " = (" [Before(3)] " + 1); }`");
     [About(".")] => ("there are neither fractions nor ranges: `.` stands in comments alone");
     // other signs, and the begin of other texts
-    [About("\"", "'")] => ("there are no strings: `out` gives a number out");
+    [About("\"", "'", "“", "”", "‘", "’")] => ("there are no strings: `out` gives a number out");
+    [About("?")] => ("there is no `? :`: write `if x { y = 1; } else { y = 2; }`");
+    [About("^")] => ("there is no `^`: of values that are 0 or 1 write `(" [Left("x")] " != " [Right("y")] ")`");
+    [About("\u{a0}")] => ("this is a no-break space: write a blank");
     [About("≤")] => ("write `<=`");
     [About("×", "·")] => ("write `*`");
     [About("÷")] => ("write `/`");

@@ -12,6 +12,8 @@ pub static TWICE: &[Rule] = rules![
 pub static UNKNOWN: &[Rule] = rules![
     [About("true")] => ("there is no `true`: write 1");
     [About("false")] => ("there is no `false`: write 0");
+    [About("self", "pid", "tid", "id", "Me", "ME", "this")] => ("the number of the process that steps is `me`");
+    [About("N")] => ("the number of processes is `n`");
     [] => ("declared are" [DeclaredNames] "");
 ];
 

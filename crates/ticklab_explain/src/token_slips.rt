@@ -3,7 +3,7 @@
 
 use crate::advice::{
     ASSIGNS, BLOCK_IN_BRACES, CHOOSE_ANOTHER, COMMENT_SIGN, DECLARE_BEFORE, IS_A_KEYWORD,
-    NOTHING_FOLLOWS, PROGRAM_BEGINS, SCAN_FIRST,
+    NO_LABELS, NOTHING_FOLLOWS, PROGRAM_BEGINS, SCAN_FIRST,
 };
 use crate::condition::Fact::{
     AtEnd, AtStart, Begun, Doubled, Empty, InBraces, Keyword, Name, Touches,
@@ -17,6 +17,12 @@ const OPERATORS: &[&str] = &["+", "-", "*", "/", "%", "<", "<=", "==", "!="];
 const PRINTING: &[&str] = &["print", "println", "printf", "write", "output"];
 
 const DECLARING: &[&str] = &["let", "int", "bool", "local", "auto"];
+
+// Keywords in capital letters.
+const CAPITALS: &[&str] = &[
+    "If", "IF", "Else", "ELSE", "While", "WHILE", "Put", "PUT", "Stamp", "STAMP", "Clear", "CLEAR",
+    "Out", "OUT", "End", "END",
+];
 
 // Slips that show in the text as a whole, in blocks, and in words.
 pub static WHOLE_SLIPS: &[Rule] = rules![
@@ -40,8 +46,13 @@ pub static WHOLE_SLIPS: &[Rule] = rules![
     [Wants("else")] => ("every `if` has an `else`: write `else { }`");
     // words that other languages have
     [Before(1, "not")] => ("there is no `not`: write `(" [Here] " == 0)`");
-    [Before(1, "await")]
+    [Before(1, "await"), Here("("), Has(OperandAfter(0))]
+        => ("there is no `await`: wait in a loop, `while (" [Tokens(OperandAfter(0))] " == 0) { x = get r e; }`");
+    [Before(1, "await"), Is(Name), After(1, "=="), After(3, ";")]
+        => ("there is no `await`: wait in a loop, `while (" [Here] " != " [After(2)] ") { " [Here] " = get r e; }`");
+    [Before(1, "await"), Is(Name)]
         => ("there is no `await`: wait in a loop, `while (" [Here] " == 0) { " [Here] " = get r e; }`");
+    [Before(1, "await")] => ("there is no `await`: wait in a loop, `while (x == 0) { x = get r e; }`");
     [Before(1, "and")] [Here("and")] => ("there is no `and`: of values that are 0 or 1 write `(x * y)`");
     [Here("const")] => ("there are no constants: write the number where it is used");
     [Here("or")] => ("there is no `or`: of values that are 0 or 1 write `((x + y) != 0)`");
@@ -52,6 +63,7 @@ pub static WHOLE_SLIPS: &[Rule] = rules![
     [Wants("{"), Here("put", "stamp", "clear", "out"), Has(ToSemicolon)]
         => ("a block stands in braces: `{ " [Tokens(ToSemicolon)] " }`");
     [Wants("{"), Is(Name)] [Wants("{"), Is(Keyword)] => (BLOCK_IN_BRACES);
+    [Wants("{"), Here(";")] => ("a block stands after the test: write `{ }` in place of `;`");
 ];
 
 // Slips in calls, and operands that lack.
@@ -69,6 +81,8 @@ pub static CALL_SLIPS: &[Rule] = rules![
     [Here("("), Before(1, "get", "held", "older", "copy", "put")]
         => ("operands stand without brackets and commas: `" [StatementBefore] "`");
     // an operand that lacks
+    [Here(";"), Wants("me"), Before(1, "="), NameBefore(2)]
+        => ("a value is missing: write `" [Before(2)] " = 0;`");
     [Here(";"), Wants("me"), Before(2, "held")]
         => ("`held " [Before(1)] "` wants the process that is asked about: `held " [Before(1)] " me`");
     [Here(";"), Wants("me"), Before(2, "older")]
@@ -90,6 +104,18 @@ pub static CALL_SLIPS: &[Rule] = rules![
 
 // Slips with keywords, names and sections.
 pub static SECTION_SLIPS: &[Rule] = rules![
+    // words that are no keywords
+    [Before(1, in CAPITALS), Wants("=")] => ("keywords are written in small letters");
+    [Before(1, "process", "thread"), Wants("=")]
+        => ("all processes run the same statements: write `if (me == 0) { .. } else { .. }`");
+    [Before(1, "skip", "pass", "nop"), Wants("=")] => ("there is no `" [Before(1)] "`: leave it out");
+    [Before(1, "until", "repeat", "loop", "do"), Wants("=")]
+        => ("there is no `" [Before(1)] "`: a loop is `while (x == 0) { .. }`");
+    [Before(1, "goto"), Wants("=")] => (NO_LABELS);
+    [Before(1, "fn", "def", "function", "void"), Wants("=")]
+        => ("there are no functions: write the statements where they are wanted");
+    [Here(";"), Wants("="), NameBefore(1)]
+        => ("`" [Before(1)] "` is no statement: those of one word are `stamp;` and `clear;`");
     // keywords at places of names and values
     [Is(Keyword), Wants("x")] => ("`" [Here] IS_A_KEYWORD [Meaning] CHOOSE_ANOTHER);
     [Here("stamp", "clear"), Wants("me", "get")] => ("`" [Here] "` gives no value: write `" [Here] ";`");
@@ -114,6 +140,8 @@ pub static SECTION_SLIPS: &[Rule] = rules![
 
 // Slips in operands and signs.
 pub static SIGN_SLIPS: &[Rule] = rules![
+    [Here("<"), Before(1, "<"), Is(Touches)] [Here("<"), After(1, "<")]
+        => ("there is no `<<`: multiply, as in `(x * 4)`");
     // equals signs and operators
     [Here("/"), After(1, "/")] [Here("/"), After(1, "*")] [Here("/", "*"), Before(1, "/"), Is(Touches)]
         => (COMMENT_SIGN);

@@ -40,29 +40,29 @@ found_answers app version words matches l is_line faultless has_matches found =
     let Q : App → Type 0 = λ a. HasMatchesOf a words matches in
     let none : fault_of ticklab words ≡ [] = subst P is_line faultless ticklab_is_free in
     let rows : subcommand_rows_of matches ≡ subcommand_of ticklab words = (subst Q is_line has_matches ticklab_is_simple).1 in
-    subst (λ (kinds : Kinds). AnswersBy version kinds (subcommand_of ticklab words) l) (sym none)
+    subst (λ (kinds : Kinds). AnswersBy version words kinds (subcommand_of ticklab words) l) (sym none)
     (subst (λ (rows : Option (Text × List Row)). IsFound rows l) rows found)
 
-one_told : (version : Text) (kinds : Kinds) (k : ErrorKind) (found : Option (Text × List Row)) (l : Line)
-    → IsAmong k kinds → IsToldBy version k l → AnswersBy version kinds found l
-one_told version [] k found l among told = absurd among
-one_told version (first ∷ kinds) k found (line.Help text) among told =
+one_told : (version : Text) (words : List Text) (kinds : Kinds) (k : ErrorKind) (found : Option (Text × List Row)) (l : Line)
+    → IsAmong k kinds → IsToldBy version words k l → AnswersBy version words kinds found l
+one_told version words [] k found l among told = absurd among
+one_told version words (first ∷ kinds) k found (line.Help text) among told =
     subst (λ (a : ErrorKind). IsAmong a (first ∷ kinds)) told among
-one_told version (first ∷ kinds) k found (line.Version text) among told =
+one_told version words (first ∷ kinds) k found (line.Version text) among told =
     (subst (λ (a : ErrorKind). IsAmong a (first ∷ kinds)) told.0 among, told.1)
-one_told version (first ∷ kinds) k found (line.Refused text) among told = (k, told.0, told.1, among)
-one_told version (first ∷ kinds) k found (line.Request request output) among told = absurd told
+one_told version words (first ∷ kinds) k found (line.Refused text) among told = ((k, told.0, told.1, among), told.2)
+one_told version words (first ∷ kinds) k found (line.Request request output) among told = absurd told
 
 pub told_answers : (app : App) (version : Text) (words : List Text) (error : Error) (l : Line)
     → app ≡ ticklab
     → (is_simple_and_free app ≡ true → HasKind (fault_of app words) error)
     → kind_of error ≢ kind.OutOfMemory
-    → IsToldBy version (kind_of error) l
+    → IsToldBy version words (kind_of error) l
     → Answers version words l
 unfolding faults
 told_answers app version words error l is_line fails has_memory told =
     let P : App → Type 0 = λ a. is_simple_and_free a ≡ true → HasKind (fault_of a words) error in
     elim (subst P is_line fails ticklab_is_free) [
       | inl memory ↦ absurd (has_memory memory)
-      | inr among ↦ one_told version (fault_of ticklab words) (kind_of error) (command_in words) l among told
+      | inr among ↦ one_told version words (fault_of ticklab words) (kind_of error) (command_in words) l among told
     ]

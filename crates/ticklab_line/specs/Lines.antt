@@ -9,6 +9,7 @@ use Rattle.clap.specs.declared.error.kind.ErrorKind.TheVariants as kind
 use Rattle.ticklab_line.specs.Conflicts.{conflict_in, conflict_text}
 use Rattle.ticklab_line.specs.Commands.{plain_request, request_in, ticklab}
 use Rattle.ticklab_line.specs.Found.{is_set}
+use Rattle.ticklab_line.specs.Slips.{hint_for, hint_line}
 use Rattle.ticklab_line.specs.declared.asking.Line.{Line}
 use Rattle.ticklab_line.specs.declared.asking.Line.TheVariants as line
 use Rattle.ticklab_line.specs.declared.asking.Output.{Output}
@@ -57,25 +58,30 @@ IsRefused wanted _ = ⊥
 abbrev pub IsFound : Option (Text × List Row) → Line → Type 0
 IsFound found l = MatchOption (conflict_in found) (IsMeant found l) (λ options. IsRefused (conflict_text options) l)
 
--- What is answered where it does not, by a program of this version: help only where help is one of the kinds, its version
--- only where that is, a refusal only where another is.
-abbrev pub IsTold : Text → Kinds → Line → Type 0
-IsTold version kinds (line.Help text) = IsAmong kind.DisplayHelp kinds
-IsTold version kinds (line.Version text) = IsAmong kind.DisplayVersion kinds × (string_bytes text ≡ version_text version)
-IsTold version kinds (line.Refused text) = (k : ErrorKind) × (k ≢ kind.DisplayHelp) × (k ≢ kind.DisplayVersion) × IsAmong k kinds
-IsTold version kinds _ = ⊥
+-- the hint for the words stands behind whatever `clap` tells of them
+abbrev pub IsHinted : List Text → Text → Type 0
+IsHinted words text = (told : Text) × (text ≡ told ++ hint_line (hint_for words))
 
-abbrev pub AnswersBy : Text → Kinds → Option (Text × List Row) → Line → Type 0
-AnswersBy version [] found = IsFound found
-AnswersBy version (k ∷ ks) found = IsTold version (k ∷ ks)
+-- What is answered where it does not, by a program of this version: help only where help is one of the kinds, its version
+-- only where that is, a refusal only where another is, and that with its hint.
+abbrev pub IsTold : Text → List Text → Kinds → Line → Type 0
+IsTold version words kinds (line.Help text) = IsAmong kind.DisplayHelp kinds
+IsTold version words kinds (line.Version text) = IsAmong kind.DisplayVersion kinds × (string_bytes text ≡ version_text version)
+IsTold version words kinds (line.Refused text) =
+    ((k : ErrorKind) × (k ≢ kind.DisplayHelp) × (k ≢ kind.DisplayVersion) × IsAmong k kinds) × IsHinted words (string_bytes text)
+IsTold version words kinds _ = ⊥
+
+abbrev pub AnswersBy : Text → List Text → Kinds → Option (Text × List Row) → Line → Type 0
+AnswersBy version words [] found = IsFound found
+AnswersBy version words (k ∷ ks) found = IsTold version words (k ∷ ks)
 
 -- the words ask for this, or this is told of them by a program of this version
 abbrev pub Answers : Text → List Text → Line → Type 0
-Answers version words = AnswersBy version (faults words) (command_in words)
+Answers version words = AnswersBy version words (faults words) (command_in words)
 
 -- the same by the one kind that is told
-abbrev pub IsToldBy : Text → ErrorKind → Line → Type 0
-IsToldBy version k (line.Help text) = k ≡ kind.DisplayHelp
-IsToldBy version k (line.Version text) = (k ≡ kind.DisplayVersion) × (string_bytes text ≡ version_text version)
-IsToldBy version k (line.Refused text) = (k ≢ kind.DisplayHelp) × (k ≢ kind.DisplayVersion)
-IsToldBy version k _ = ⊥
+abbrev pub IsToldBy : Text → List Text → ErrorKind → Line → Type 0
+IsToldBy version words k (line.Help text) = k ≡ kind.DisplayHelp
+IsToldBy version words k (line.Version text) = (k ≡ kind.DisplayVersion) × (string_bytes text ≡ version_text version)
+IsToldBy version words k (line.Refused text) = (k ≢ kind.DisplayHelp) × (k ≢ kind.DisplayVersion) × IsHinted words (string_bytes text)
+IsToldBy version words k _ = ⊥

@@ -1,12 +1,14 @@
-ghost use Rattle.std.specs.Prelude.{◌≡◌, ◌≢◌, IfOk, map, string_bytes};
+ghost use Rattle.std.specs.Prelude.{◌≡◌, ◌≢◌, ◌++◌, IfOk, map, string_bytes};
 ghost use Rattle.clap.specs.Matches.{found_of};
 ghost use Rattle.clap.specs.Simple.{subcommand_rows_of};
 ghost use Rattle.clap.specs.Values.{kind_of};
 ghost use Rattle.clap.specs.Walk.{rows_of};
+ghost use Rattle.ticklab_line.specs.Slips.{hint_for, hint_line};
 ghost use Rattle.ticklab_line.specs.Lines.{Answers, IsFound, IsMeant, IsToldBy, number_text, output_in, output_of, version_text};
 
 use crate::commands::{Lent, command_line, request_in};
 use crate::conflicts::{conflict_in, conflict_text};
+use crate::slips::push_hint;
 use crate::values::is_set;
 use clap::error::ErrorKind;
 use clap::{ArgMatches, Error};
@@ -43,7 +45,7 @@ pub fn asked<'a>(alloc: Global, words: &'a [String], version: &str) -> Result<Li
 {
     match command_line(alloc)?.try_get_matches_from(words) {
         Ok(matches) => found(alloc, &matches),
-        Err(error) => told(alloc, error, version),
+        Err(error) => told(alloc, error, words, version),
     }
 }
 
@@ -91,12 +93,17 @@ fn number_refused(alloc: Global) -> Result<String, AllocError>
     String::from_str(alloc, "error: a number is out of its range\n")
 }
 
-fn told<'a>(alloc: Global, error: Error, version: &str) -> Result<Line<'a>, AllocError>
-    ensures { IfOk result (λ line. IsToldBy version.now (kind_of error) line × (kind_of error ≢ ErrorKind.OutOfMemory)) }
+fn told<'a>(
+    alloc: Global,
+    error: Error,
+    words: &[String],
+    version: &str,
+) -> Result<Line<'a>, AllocError>
+    ensures { IfOk result (λ line. IsToldBy version.now (map string_bytes words.now) (kind_of error) line × (kind_of error ≢ ErrorKind.OutOfMemory)) }
 {
     match error.kind() {
         ErrorKind::OutOfMemory => Err(AllocError),
-        kind => line_told(alloc, kind, format!(in alloc; "{error}")?, version),
+        kind => line_told(alloc, kind, format!(in alloc; "{error}")?, words, version),
     }
 }
 
@@ -104,15 +111,25 @@ fn line_told<'a>(
     alloc: Global,
     kind: ErrorKind,
     text: String,
+    words: &[String],
     version: &str,
 ) -> Result<Line<'a>, AllocError>
-    ensures { IfOk result (IsToldBy version.now kind) }
+    ensures { IfOk result (IsToldBy version.now (map string_bytes words.now) kind) }
 {
     match kind {
         ErrorKind::DisplayHelp => Ok(Line::Help(text)),
         ErrorKind::DisplayVersion => Ok(Line::Version(version_text(alloc, version)?)),
-        _ => Ok(Line::Refused(text)),
+        _ => Ok(Line::Refused(with_hint(text, words)?)),
     }
+}
+
+// What is told of words that are refused, and behind it what may help.
+fn with_hint(text: String, words: &[String]) -> Result<String, AllocError>
+    ensures { IfOk result (λ told. string_bytes told ≡ string_bytes text ++ hint_line (hint_for (map string_bytes words.now))) }
+{
+    let mut told = text;
+    push_hint(&mut told, words)?;
+    Ok(told)
 }
 
 // (Of the text that `clap` has no clause speaks.)

@@ -171,7 +171,7 @@ Exit status: \
 3 a file could not be read, or the answer not be written; \
 4 memory or a thread was refused; \
 5 explore or hunt found a schedule under which a process traps or a #! never line breaks, or check what was not expected; \
-6 explore or check met its limit; \
+6 explore or check met its limit, or left a question open; \
 7 explore found a schedule after which what was asked for can't end or never does, or lasso says that it never does. \
 All but the answer is told on standard error.";
 

@@ -13,6 +13,7 @@ mod conflicts;
 mod described;
 mod laws;
 mod parts;
+mod slips;
 mod values;
 mod words;
 

@@ -144,20 +144,20 @@ ends_text asked =
 abbrev pub ends_line : Bool → ℕ → MustStop → ℕ → List ℕ
 ends_line is_merged lines asked states = quiet_text lines ++ ends_text asked ++ counted_text is_merged states
 
--- they can always end, and it isn't known whether they do
+-- they can always end, and it is open whether they do
 abbrev pub can_end_text : Bool → ℕ → MustStop → ℕ → List ℕ
 can_end_text is_merged lines asked states =
     quiet_text lines ++ asked_text asked ++ codes " can still end after every schedule" ++ counted_text is_merged states
-    ++ codes "; of those in which each that runs steps again and again nothing was "
+    ++ codes "; whether the end comes, if each that runs steps again and again, is open"
 
--- why it isn't: endless schedules are asked for by single steps alone
-abbrev pub unknown_text : Bool → List ℕ
-unknown_text is_merged = if is_merged then codes "asked" else codes "found out"
+-- what settles it: endless schedules are asked for by single steps alone
+abbrev pub settling_text : Bool → List ℕ
+settling_text is_merged = if is_merged then codes ": explore without --merged asks that" else []
 
 abbrev pub can_end_line : Bool → ℕ → MustStop → ℕ → List ℕ
 can_end_line is_merged lines asked states =
     if is_nobody asked then ends_line is_merged lines asked states
-    else (can_end_text is_merged lines asked states ++ unknown_text is_merged)
+    else (can_end_text is_merged lines asked states ++ settling_text is_merged)
 
 -- what may help where single steps met a limit
 abbrev pub half_next : Limits → ℕ → List ℕ
@@ -165,7 +165,7 @@ half_next limits others = codes "try " ++ larger_text limits others ++ codes ", 
 
 -- the same of merged steps, where by single ones there are more states than this
 abbrev pub half_line : ℕ → MustStop → ℕ → ℕ → List ℕ
-half_line lines asked states others = can_end_text true lines asked states ++ codes "found out: " ++ more_text false others
+half_line lines asked states others = can_end_text true lines asked states ++ codes ": " ++ more_text false others
 
 -- they can always end, and under an endless schedule they don't
 abbrev pub endless_line : ℕ → MustStop → List ℕ

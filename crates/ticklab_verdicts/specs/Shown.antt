@@ -146,9 +146,13 @@ ShowsAllEnd s asked states = Gives 0 (IsStatesAnswer s.output (codes "ends") (en
 abbrev pub can_end_word : MustStop → List ℕ
 can_end_word asked = if is_nobody asked then codes "ends" else codes "can-end"
 
+-- whether they do is open, where somebody is asked for
+abbrev pub can_end_status : MustStop → ℕ
+can_end_status asked = if is_nobody asked then 0 else 6
+
 abbrev pub ShowsCanEnd : Sought → Bool → MustStop → ℕ → Response → Type 0
 ShowsCanEnd s is_merged asked states =
-    Gives 0 (IsStatesAnswer s.output (can_end_word asked) (can_end_line is_merged (length s.places) asked states) is_merged states [])
+    Gives (can_end_status asked) (IsStatesAnswer s.output (can_end_word asked) (can_end_line is_merged (length s.places) asked states) is_merged states [])
 
 -- by merged steps they can, and by single ones there are more states than this
 abbrev pub ShowsHalf : Sought → MustStop → ℕ → Limits → ℕ → Response → Type 0

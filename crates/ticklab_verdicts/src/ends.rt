@@ -8,7 +8,7 @@ ghost use Rattle.ticklab_files.specs.Asking.{texts_of};
 ghost use Rattle.ticklab_verdicts.specs.Ends.{ExploresEnds, IsEndsExplored, IsEndsFound, IsEndsFoundBy, IsEndsFoundFirst, IsEndsRefused, IsPast, IsThere, TellsMore, asked_by, asks_ends};
 ghost use Rattle.ticklab_files.specs.Faults.{IsOfFile, IsUnread};
 ghost use Rattle.ticklab_verdicts.specs.Hearing.{IsHeard, hearing};
-ghost use Rattle.ticklab_verdicts.specs.Shown.{ShowsAllEnd, ShowsCanEnd, ShowsEndless, ShowsEnds, ShowsHalf, ShowsHalved, ShowsKnown, ShowsStuck, can_end_word};
+ghost use Rattle.ticklab_verdicts.specs.Shown.{ShowsAllEnd, ShowsCanEnd, ShowsEndless, ShowsEnds, ShowsHalf, ShowsHalved, ShowsKnown, ShowsStuck, can_end_status, can_end_word};
 ghost use Rattle.ticklab_verdicts.specs.Sought.{AreLawful, IsLawful, IsSound, sought_by};
 ghost use Rattle.ticklab_files.specs.Stops.{IfRefused, IsRefusal};
 ghost use Rattle.ticklab_verdicts.specs.prover.Searches.{AreEndsKnownBy, AreEndsSearchedBy, IsShowable};
@@ -345,14 +345,27 @@ fn ends_shown(task: &Task<'_, '_>, states: u32) -> Answered
     states_shown(search, DONE, "ends", extent, &says, "")
 }
 
-// They always can.
+// They always can; whether they do is open.
 fn can_end_shown(task: &Task<'_, '_>, is_merged: bool, states: u32) -> Answered
     ensures { IfOk result (ShowsCanEnd (sought_by task.now.search) is_merged task.now.asked states) }
 {
     let word = can_end_word(task.asked);
     let extent = extent_of(&task.search, is_merged, states);
     let says = can_end_line(task.search.alloc, task.asked, extent)?;
-    states_shown(&task.search, DONE, word, extent, &says, "")
+    states_shown(
+        &task.search,
+        can_end_status(task.asked),
+        word,
+        extent,
+        &says,
+        "",
+    )
+}
+
+fn can_end_status(asked: MustStop) -> u8
+    ensures { result ≡ can_end_status asked }
+{
+    if is_nobody(asked) { DONE } else { LIMIT }
 }
 
 // By merged steps they always can; by single ones there are more states than these.

@@ -122,7 +122,7 @@ fn push_ends(alloc: Global, text: &mut String, asked: MustStop) -> Result<(), Al
     )
 }
 
-// They can always end, and it isn't known whether they do.
+// They can always end, and it is open whether they do.
 fn can_end_text(alloc: Global, asked: MustStop, extent: SearchExtent) -> Result<String, AllocError>
     ensures { IfOk result (λ text. string_bytes text ≡ can_end_text extent.is_merged extent.lines asked extent.states) }
 {
@@ -130,11 +130,11 @@ fn can_end_text(alloc: Global, asked: MustStop, extent: SearchExtent) -> Result<
     push_asked(alloc, &mut text, asked)?;
     text.push_str(" can still end after every schedule")?;
     push_counted(&mut text, extent)?;
-    text.push_str("; of those in which each that runs steps again and again nothing was ")?;
+    text.push_str("; whether the end comes, if each that runs steps again and again, is open")?;
     Ok(text)
 }
 
-/// They can always end; whether they do isn't known.
+/// They can always end; whether they do is open, and this settles it.
 pub fn can_end_line(
     alloc: Global,
     asked: MustStop,
@@ -146,7 +146,9 @@ pub fn can_end_line(
         return ends_line(alloc, asked, extent);
     }
     let mut line = can_end_text(alloc, asked, extent)?;
-    line.push_str(either(extent.is_merged, "asked", "found out"))?;
+    if extent.is_merged {
+        line.push_str(": explore without --merged asks that")?;
+    }
     Ok(line)
 }
 
@@ -166,7 +168,7 @@ pub fn half_line(
         states,
     };
     let mut line = can_end_text(alloc, asked, extent)?;
-    line.push_str("found out: ")?;
+    line.push_str(": ")?;
     push_more(&mut line, false, others)?;
     Ok(line)
 }
