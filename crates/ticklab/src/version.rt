@@ -3,5 +3,5 @@
 /// The version; the sum of the sources of `ticketc` and `ticklab`; the logic of the toolchain that proves them.
 pub const VERSION: &str = "\
 1.0\n\
-sources 1650ebfd8c5aea248c17ab9c8de6cc8ef07d526250ce948e1d1cb94c0867254b\n\
+sources 1fa63325b981972a9de1d3e6b537c460cd3027cc97895d6694b0f6b6b3f4834c\n\
 logic dac8208d650f15bf";

@@ -1,5 +1,5 @@
 -- The answer to the words of a command line: each command, with what it reads, runs and tells.
-use Rattle.std.specs.Prelude.{◌≡◌, ◌*◌, ⊤, ℕ, List, Result, Ok, Err, String, Vec, map, string_bytes}
+use Rattle.std.specs.Prelude.{◌≡◌, ◌*◌, ◌||◌, ⊤, ℕ, Bool, true, false, List, Result, Ok, Err, String, Vec, map, string_bytes}
 use Rattle.std.specs.Global.{Global}
 use Rattle.std.specs.Vec.Iter.{into_iter_items}
 use Rattle.std.specs.declared.io.Error.{Error}
@@ -51,6 +51,24 @@ form_of output.Text = Text
 form_of output.ScheduleAlone = Text
 form_of output.Json = Json
 
+-- a picture or a page is asked for
+abbrev pub is_drawn : Asked → Bool
+is_drawn (Draw run drawing) = true
+is_drawn (Page run title) = true
+is_drawn (Labels processes moves) = true
+is_drawn other = false
+
+abbrev pub is_json : Output → Bool
+is_json output.Json = true
+is_json other = false
+
+-- the answer is JSON, SVG or HTML
+abbrev pub is_data : Line → Bool
+is_data (line.Request request printed) = is_drawn (plain_request request) || is_json printed
+is_data (line.Help text) = false
+is_data (line.Version text) = false
+is_data (line.Refused text) = false
+
 -- Files, a runner and a watch are as they are before and after. Nothing is read that the words don't name, or that isn't in
 -- a folder that they name. The runner makes the runs of `hunt --threads` and no other, and the watch hears of the searches
 -- of an `explore` and of nothing else.
@@ -86,11 +104,6 @@ module _ {F M W : Type 0} (Reads : ReadsOf F) (ReadsInput : ReadsInputOf F) (Lis
   RespondsTo (line.Version text) = RespondsAtOnce (Gives 0 (λ out. out ≡ string_bytes text))
   RespondsTo (line.Refused text) = RespondsAtOnce (Refuses 2 (λ told. told ≡ string_bytes text))
 
-  -- the words ask a program of this version for something, and this is its answer
-  abbrev pub RespondsToWords : List ℕ → Result GivenWords Error → Response → Type 0
-  RespondsToWords version (Ok given) response = (l : Line) × Answers version (map string_bytes (into_iter_items given)) l × RespondsTo l response
-  RespondsToWords version (Err error) response = ⊥
-
 -- the names of files that a request has
 abbrev pub NamesOf : Asked → List ℕ → Type 0
 NamesOf (Explore file never limit memory steps) name = name ≡ file
@@ -111,10 +124,14 @@ NamesOfLine (line.Help text) name = ⊥
 NamesOfLine (line.Version text) name = ⊥
 NamesOfLine (line.Refused text) name = ⊥
 
--- the words ask a program of this version for something that has this file
+-- the words ask a program of this version for a line of which P holds
+abbrev pub AsksLine : List ℕ → Result GivenWords Error → (Line → Type 0) → Type 0
+AsksLine version (Ok given) P = (l : Line) × Answers version (map string_bytes (into_iter_items given)) l × P l
+AsksLine version (Err error) P = ⊥
+
+-- they ask for something that has this file
 abbrev pub IsNamed : List ℕ → Result GivenWords Error → List ℕ → Type 0
-IsNamed version (Ok given) name = (l : Line) × Answers version (map string_bytes (into_iter_items given)) l × NamesOfLine l name
-IsNamed version (Err error) name = ⊥
+IsNamed version given name = AsksLine version given (λ l. NamesOfLine l name)
 
 -- Memory or a thread was refused, the host says why the words can't be had, or a file can't be read that they name. The
 -- causes say why.

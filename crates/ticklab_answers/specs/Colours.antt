@@ -1,16 +1,13 @@
 -- How a text is shown where there are colours.
-use Rattle.std.specs.Prelude.{ℕ, zero, suc, Bool, true, false, List, [], ◌∷◌, ◌++◌, ◌||◌, ◌&&◌, codes, drop, eqb, length, slice_index, take, if◌then◌else◌}
+use Rattle.std.specs.Prelude.{ℕ, zero, suc, Bool, true, false, List, [], ◌∷◌, ◌++◌, ◌||◌, ◌&&◌, not, codes, drop, eqb, length, slice_index, take, if◌then◌else◌}
 use Rattle.std.specs.List.{starts_with, ends_with}
+use Rattle.ticklab_answers.specs.declared.colours.Colours.{Colours}
 
 abbrev pub begins : List ℕ → List ℕ → Bool
 begins text start = starts_with eqb text start
 
 abbrev pub ends : List ℕ → List ℕ → Bool
 ends text end = ends_with eqb text end
-
--- JSON, and SVG and HTML
-abbrev pub is_data : List ℕ → Bool
-is_data text = begins text (codes "{") || begins text (codes "<")
 
 -- bold and red, bold and cyan, and neither
 abbrev pub red : List ℕ
@@ -45,7 +42,11 @@ coloured_to text zero = []
 coloured_to text (suc at) = coloured_to text at ++ (style_at text at ++ slice_index text at ∷ [])
 
 abbrev pub coloured : List ℕ → List ℕ
-coloured text = if is_data text then text else coloured_to text (length text)
+coloured text = coloured_to text (length text)
+
+-- the colours of an answer: JSON, SVG and HTML have none
+abbrev pub colours_for : Colours → Bool → Colours
+colours_for colours is_data = record { out = colours.out && not is_data; err = colours.err }
 
 -- with colours, or as it is
 abbrev pub shown_as : Bool → List ℕ → List ℕ

@@ -2,9 +2,9 @@
 use Rattle.std.specs.Prelude.{◌≡◌, ◌++◌, ◌⊎◌, ℕ, IfErr, IfOk, List, [], Option, Result, Ok, Err}
 use Rattle.std.specs.Io.KnownBytes.{Appends}
 use Rattle.std.specs.declared.io.Error.{Error}
-use Rattle.ticklab_answers.specs.Answers.{GivenWords, IsOfWordsOrFile, RespondsToWords}
+use Rattle.ticklab_answers.specs.Answers.{AsksLine, GivenWords, IsOfWordsOrFile, RespondsTo, is_data}
 use Rattle.ticklab_files.specs.Reading.{ListsOf}
-use Rattle.ticklab_answers.specs.Colours.{shown_as}
+use Rattle.ticklab_answers.specs.Colours.{colours_for, shown_as}
 use Rattle.ticklab_verdicts.specs.Hearing.{HearsOf}
 use Rattle.ticklab_files.specs.Faults.{Causes, IsOfOutput, status_of}
 use Rattle.ticklab_files.specs.Reading.{ReadsOf, ReadsInputOf}
@@ -28,31 +28,30 @@ pub record Grows (old new : Known) (bytes : List ℕ) : Type 0 where
   pub untouched : bytes ≡ [] → new ≡ old
 
 -- the status is that of a response, of which all is written, with these colours
-pub record IsShown (colours : Colours) (old new : Outputs) (P : Response → Type 0) (status : ℕ) : Type 0 where
-  pub response : Response
-  pub answer : P response
+pub record IsWritten (colours : Colours) (old new : Outputs) (response : Response) (status : ℕ) : Type 0 where
   pub same : status ≡ response.status
   pub out : Grows old.out new.out (shown_as colours.out response.out.items)
   pub err : Grows old.err new.err (shown_as colours.err response.told.items)
 
--- What the words come to in a program of this version, over files, a runner, a watch and outputs as they are before and
--- after, with these colours.
-abbrev pub Ends : {F M W : Type 0} → ReadsOf F → ReadsInputOf F → ListsOf F → RunsOf M → HearsOf W → F → F → M → M → W → W → Outputs → Outputs
-    → List ℕ → Colours → Result GivenWords Error → ℕ → Type 0
-Ends Reads ReadsInput Lists Ran hears files read rested ran quiet heard old new version colours given status =
-    IsShown colours old new (RespondsToWords Reads ReadsInput Lists Ran hears files read rested ran quiet heard version given) status
+-- The words ask for a line, and this is the response to it; JSON, SVG and HTML have no colours.
+module _ {F M W : Type 0} (Reads : ReadsOf F) (ReadsInput : ReadsInputOf F) (Lists : ListsOf F) (Ran : RunsOf M) (hears : HearsOf W)
+    (files read : F) (rested ran : M) (quiet heard : W) where
+  abbrev pub Shows : List ℕ → Colours → Result GivenWords Error → (Colours → Response → Type 0) → Type 0
+  Shows version colours given P = AsksLine version given (λ l. (response : Response)
+      × RespondsTo Reads ReadsInput Lists Ran hears files read rested ran quiet heard l response
+      × P (colours_for colours (is_data l)) response)
 
--- There is no answer, for a reason of which Q holds; or there is one, of which not all can be written.
-abbrev pub IsUnshown : Colours → (Response → Type 0) → (LabFault → Type 0) → LabFault → Type 0
-IsUnshown colours P Q fault =
-    Q fault
-    ⊎ ((response : Response) × P response × IsOfOutput (shown_as colours.out response.out.items ++ shown_as colours.err response.told.items) fault)
+  -- What the words come to in a program of this version, over files, a runner, a watch and outputs as they are before and
+  -- after, with these colours.
+  abbrev pub Ends : Outputs → Outputs → List ℕ → Colours → Result GivenWords Error → ℕ → Type 0
+  Ends old new version colours given status = Shows version colours given (λ shown response. IsWritten shown old new response status)
 
--- Why the words come to no end: there is no answer, or not all of it can be written. The causes say why a file can't be read.
-abbrev pub Fails : {F M W : Type 0} → ReadsOf F → ReadsInputOf F → ListsOf F → RunsOf M → HearsOf W → F → F → M → M → W → W → Causes
-    → List ℕ → Colours → Result GivenWords Error → LabFault → Type 0
-Fails Reads ReadsInput Lists Ran hears files read rested ran quiet heard U version colours given =
-    IsUnshown colours (RespondsToWords Reads ReadsInput Lists Ran hears files read rested ran quiet heard version given) (IsOfWordsOrFile U version given)
+  -- Why the words come to no end: there is no answer, or not all of it can be written. The causes say why a file can't be read.
+  abbrev pub Fails : Causes → List ℕ → Colours → Result GivenWords Error → LabFault → Type 0
+  Fails U version colours given fault =
+      IsOfWordsOrFile U version given fault
+      ⊎ Shows version colours given
+      (λ shown response. IsOfOutput (shown_as shown.out response.out.items ++ shown_as shown.err response.told.items) fault)
 
 abbrev pub exit_of : Result ℕ LabFault → ℕ
 exit_of (Ok status) = status

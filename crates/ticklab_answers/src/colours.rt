@@ -1,6 +1,6 @@
 //! Colours, for a terminal: the words `error:` and `hint:` of a report and its carets stand out.
 ghost use Rattle.std.specs.Prelude.{◌≡◌, ◌<◌, ◌++◌, ◌∷◌, [], IfOk, OnOk, length, slice_index};
-ghost use Rattle.ticklab_answers.specs.Colours.{coloured, coloured_to, is_data, caret_style, style_at, style_between};
+ghost use Rattle.ticklab_answers.specs.Colours.{coloured, colours_for, caret_style, style_at, style_between};
 
 use std::alloc::{AllocError, Global};
 
@@ -17,25 +17,20 @@ const CYAN: &str = "\x1b[1;36m";
 
 const PLAIN: &str = "\x1b[0m";
 
-/// The text with its colours. JSON, SVG and HTML have none.
+/// The colours of an answer. JSON, SVG and HTML have none.
+pub fn colours_for(colours: Colours, is_data: bool) -> Colours
+    ensures { result ≡ colours_for colours is_data }
+{
+    Colours {
+        out: colours.out && !is_data,
+        err: colours.err,
+    }
+}
+
+/// The text with its colours.
+#[tactic(auto, using(crate::proofs::Painting::next))]
 pub fn coloured(alloc: Global, text: &[u8]) -> Result<Vec<u8>, AllocError>
     ensures { IfOk result (λ shown. shown.items ≡ coloured text.now) }
-{
-    if is_data(text) {
-        return Vec::from_slice(alloc, text);
-    }
-    with_styles(alloc, text)
-}
-
-fn is_data(text: &[u8]) -> bool
-    ensures { result ≡ is_data text.now }
-{
-    text.starts_with(b"{") || text.starts_with(b"<")
-}
-
-#[tactic(auto, using(crate::proofs::Painting::next))]
-fn with_styles(alloc: Global, text: &[u8]) -> Result<Vec<u8>, AllocError>
-    ensures { IfOk result (λ shown. shown.items ≡ coloured_to text.now (length text.now)) }
 {
     let mut shown = Vec::new(alloc);
     for at in 0..text.len() {

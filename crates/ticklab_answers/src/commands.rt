@@ -1,8 +1,8 @@
-//! The answer to the words of a command line: each command reads its files and makes its answer.
+//! The answer to a command line: each command reads its files and makes its answer.
 ghost use Rattle.std.specs.Prelude.{◌≡◌, IfErr, IfOk};
-ghost use Rattle.std.specs.Vec.Iter.{into_iter_items};
-ghost use Rattle.ticklab_answers.specs.Answers.{GivesWords, IsOfWordsOrFile, RespondsToWords, form_of, limits_of};
-ghost use Rattle.ticklab_files.specs.Faults.{IsOfMemory, IsOfWords, IsUnread};
+ghost use Rattle.ticklab_line.specs.Commands.{plain_request};
+ghost use Rattle.ticklab_answers.specs.Answers.{NamesOfLine, RespondsTo, form_of, is_data, is_drawn, limits_of};
+ghost use Rattle.ticklab_files.specs.Faults.{IsOfFileThat, IsUnread};
 ghost use Rattle.ticklab_verdicts.specs.Hearing.{hearing};
 
 mod checking;
@@ -14,33 +14,29 @@ pub use explaining::explained;
 pub use labels::labelled;
 use searches_explore::Limits;
 use searches_hunt::Trials;
-use std::alloc::{AllocError, Global};
-use std::env::Args;
-use std::io;
+use std::alloc::Global;
 use tick_merge::Runner;
 use ticklab_check::Checks;
 use ticklab_files::{Files, Form, LabFault, Response, help, no_command};
-use ticklab_line::{Line, Output, Request, asked};
+use ticklab_line::{Line, Output, Request};
 use ticklab_runs::{Telling, told};
 use ticklab_verdicts::{Progress, explored, explored_ends, hunted, lassoed, plan_of, tallied};
 
-/// The answer to the words of the command line. Runs of a code are made by the runner alone, random ones of a program
-/// are tried by `trials`, and files are checked by `checks`. `version` is that of the program.
+/// The answer to a command line. Runs of a code are made by the runner alone, random ones of a program are tried by
+/// `trials`, and files are checked by `checks`.
 pub fn response_to<F: Files, M: Runner, T: Trials, C: Checks, W: Progress>(
     alloc: Global,
-    version: &str,
     files: &mut F,
     runner: &mut M,
     trials: &T,
     checks: &C,
     progress: &mut W,
-    given: io::Result<Args>,
+    line: Line<'_>,
 ) -> Result<Response, LabFault>
-    ensures ok { IfOk result (RespondsToWords F.Reads F.ReadsInput F.Lists M.Ran (hearing W.begins W.hears) files.old files.new runner.old runner.new progress.old progress.new version.now given) }
-    ensures err { IfErr result (IsOfWordsOrFile (IsUnread F.Reads F.ReadsInput F.Lists F.Fails) version.now given) }
+    ensures ok { IfOk result (RespondsTo F.Reads F.ReadsInput F.Lists M.Ran (hearing W.begins W.hears) files.old files.new runner.old runner.new progress.old progress.new line.entry) }
+    ensures err { IfErr result (IsOfFileThat (IsUnread F.Reads F.ReadsInput F.Lists F.Fails) (NamesOfLine line.entry)) }
 {
-    let words = words_of(alloc, given)?;
-    let (request, output) = match asked(alloc, words.as_slice(), version)? {
+    let (request, output) = match line {
         Line::Request(request, output) => (request, output),
         Line::Help(text) => return Ok(help(alloc, text)),
         Line::Version(text) => return Ok(help(alloc, text)),
@@ -131,24 +127,22 @@ fn form_of(output: Output) -> Form
     }
 }
 
-fn words_of(alloc: Global, given: io::Result<Args>) -> Result<Vec<String>, LabFault>
-    ensures ok { IfOk result (GivesWords given) }
-    ensures err { IfErr result (IsOfWords given) }
+/// Whether the answer is for programs, and no text for people: JSON, SVG or HTML.
+pub fn is_data(line: &Line<'_>) -> bool
+    ensures { result ≡ is_data line.now }
 {
-    match given {
-        Ok(given) => words_in(alloc, given),
-        Err(error) => Err(LabFault::of_words(error)),
+    match line {
+        Line::Request(request, output) => is_drawn(request) || matches!(output, Output::Json),
+        Line::Help(_) | Line::Version(_) | Line::Refused(_) => false,
     }
 }
 
-fn words_in(alloc: Global, given: Args) -> Result<Vec<String>, LabFault>
-    ensures ok { IfOk result (λ words. words.items ≡ into_iter_items given) }
-    ensures err { IfErr result IsOfMemory }
+// Whether a picture or a page is asked for.
+fn is_drawn(request: &Request<&str, Vec<&str>>) -> bool
+    ensures { result ≡ is_drawn (plain_request request.now) }
 {
-    let mut words = Vec::new(alloc);
-    for word in given {
-        words.reserve(1)?;
-        words.push_reserved(word);
-    }
-    Ok(words)
+    matches!(
+        request,
+        Request::Draw(..) | Request::Page(..) | Request::Labels { .. }
+    )
 }

@@ -5,7 +5,7 @@ use Rattle.std.specs.List.{filter}
 use Rattle.std.specs.Str.{IsUtf8}
 use Rattle.std.specs.declared.io.Error.{Error}
 use Rattle.ticklab_files.specs.Reading.{ListsOf, is_tick}
-use Rattle.ticklab_files.specs.Reading.{IsRead, IsReadOnce, ReadsOf, ReadsInputOf, is_input, schedule_file, schedule_in}
+use Rattle.ticklab_files.specs.Reading.{IsRead, IsReadOnce, ReadsOf, ReadsInputOf, is_input, schedule_file}
 use Rattle.ticklab_files.specs.declared.fault.LabFault.{LabFault}
 use Rattle.ticklab_files.specs.declared.fault.LabFault.TheVariants.{Words, Unread, Unwritten, Answer}
 use Rattle.ticklab_files.specs.declared.fault.ReadFault.{ReadFault}
@@ -37,7 +37,7 @@ module _ {F : Type 0} (Reads : ReadsOf F) (ReadsInput : ReadsInputOf F) (Lists :
   IsUnread name (Host error) = (before after : F) × Fails before name error after
   IsUnread name TooLong =
       (before after : F) × (bytes : List ℕ) × IsReadOnce Reads ReadsInput (bytes_eq name (codes "-")) before name bytes after × (67108864 ≤ length bytes)
-  IsUnread name NoText = (before after : F) × (bytes : List ℕ) × IsRead Reads ReadsInput before name bytes after × (IsUtf8 (schedule_in bytes) → ⊥)
+  IsUnread name NoText = (before after : F) × (bytes : List ℕ) × IsRead Reads ReadsInput before name bytes after × (IsUtf8 bytes → ⊥)
   IsUnread name ReadAlready = is_input name ≡ true
   IsUnread name NoTicks = (before after : F) × (entries : List (String Global)) × Lists before name (Some entries) after × HasNoTicks entries
 

@@ -6,3 +6,4 @@ pub mod Reading
 pub mod Responses
 pub mod Stops
 pub mod prover
+pub mod Ways

@@ -1,8 +1,8 @@
--- What is read: the bytes of a file or of standard input, and the schedule that a command line gives.
-use Rattle.std.specs.Prelude.{◌≡◌, ◌<◌, ◌+◌, ◌==◌, ◌&&◌, ◌++◌, ℕ, Bool, true, false, List, [], ◌∷◌, Option, Some, None, codes, bytes_eq, drop, eqb, length, take, if◌then◌else◌, String}
-use Rattle.std.specs.List.{ends_with, position}
-use Rattle.std.specs.Option.{option_map_or}
+-- What is read: the bytes of a file or of standard input, and the way that a command line gives.
+use Rattle.std.specs.Prelude.{◌≡◌, ◌<◌, ◌&&◌, ℕ, Bool, true, false, List, [], ◌∷◌, Option, Some, None, codes, bytes_eq, eqb, length, if◌then◌else◌, String}
+use Rattle.std.specs.List.{ends_with}
 use Rattle.std.specs.Global.{Global}
+use Rattle.ticklab_files.specs.Ways.{Texts, alone, texts_in}
 
 -- the name that follows an @
 abbrev pub after_at : List ℕ → Option (List ℕ)
@@ -25,30 +25,6 @@ is_input_or_none (Some name) = is_input name
 abbrev pub reads_input : List ℕ → Bool
 reads_input given = is_input_or_none (schedule_file given)
 
-abbrev pub is_newline : ℕ → Bool
-is_newline byte = byte == 10
-
-abbrev pub line_before : Option ℕ → List ℕ → List ℕ
-line_before None text = text
-line_before (Some at) text = take at text
-
--- a text up to its first newline
-abbrev pub first_line : List ℕ → List ℕ
-first_line text = line_before (position is_newline text) text
-
-abbrev pub line_behind : Option ℕ → List ℕ → Option (List ℕ)
-line_behind None text = None
-line_behind (Some at) text = if ends_with eqb (take at text) (codes ":") then Some (first_line (drop (at + 1) text)) else None
-
--- The line of an answer that has its schedule: the second, where the first ends in a colon.
-abbrev pub schedule_line : List ℕ → Option (List ℕ)
-schedule_line text = line_behind (position is_newline text) text
-
--- The schedule in a text: that line with the newline before it, so that places in it are those of the text; or else all of
--- the text.
-abbrev pub schedule_in : List ℕ → List ℕ
-schedule_in text = option_map_or (λ line. 10 ∷ line) (schedule_line text) text
-
 -- what files are before one of a name is read, how many of its bytes are read at most, these, and what files are after
 abbrev pub ReadsOf : Type 0 → Type 1
 ReadsOf F = F → List ℕ → ℕ → List ℕ → F → Type 0
@@ -68,12 +44,18 @@ module _ {F : Type 0} (Reads : ReadsOf F) (ReadsInput : ReadsInputOf F) where
   abbrev pub IsRead : F → List ℕ → List ℕ → F → Type 0
   IsRead before name bytes after = (length bytes < 67108864) × IsReadOnce (bytes_eq name (codes "-")) before name bytes after
 
-  -- What is given is the schedule itself, or says which file has it. Standard input is not read where it was read before.
-  -- A refusal names where the schedule is from.
-  pub data IsSchedule (is_input_read : Bool) (before after : F) (given from text : List ℕ) : Type 0 where
-    itself : schedule_file given ≡ None → after ≡ before → from ≡ codes "SCHEDULE" → text ≡ given → IsSchedule is_input_read before after given from text
+  -- What is given is a schedule itself, or says which file has the texts of a way. Standard input is not read where it was
+  -- read before. A refusal names where they are from.
+  pub data AreTexts (is_input_read : Bool) (before after : F) (given from : List ℕ) (texts : Texts) : Type 0 where
+    itself : schedule_file given ≡ None → after ≡ before → from ≡ codes "SCHEDULE" → texts ≡ alone given
+        → AreTexts is_input_read before after given from texts
     in_file : (bytes : List ℕ) → schedule_file given ≡ Some from → (is_input_read && is_input from) ≡ false → IsRead before from bytes after
-        → text ≡ schedule_in bytes → IsSchedule is_input_read before after given from text
+        → texts ≡ texts_in bytes → AreTexts is_input_read before after given from texts
+
+  -- the schedule alone
+  abbrev pub IsSchedule : Bool → F → F → List ℕ → List ℕ → List ℕ → Type 0
+  IsSchedule is_input_read before after given from text =
+      (texts : Texts) × AreTexts is_input_read before after given from texts × (text ≡ texts.schedule)
 
   -- the bytes of a file have P, and nothing else is read
   abbrev pub AfterFile : F → F → List ℕ → (List ℕ → Type 0) → Type 0
@@ -84,6 +66,12 @@ module _ {F : Type 0} (Reads : ReadsOf F) (ReadsInput : ReadsInputOf F) where
   AfterBoth before after file schedule P =
       (input : List ℕ) × (between : F) × IsRead before file input between
       × (from : List ℕ) × (text : List ℕ) × IsSchedule (is_input file) between after schedule from text × P input from text
+
+  -- the bytes of a file, and after it the texts of a way
+  abbrev pub AfterTexts : F → F → List ℕ → List ℕ → (List ℕ → List ℕ → Texts → Type 0) → Type 0
+  AfterTexts before after file schedule P =
+      (input : List ℕ) × (between : F) × IsRead before file input between
+      × (from : List ℕ) × (texts : Texts) × AreTexts (is_input file) between after schedule from texts × P input from texts
 
 -- What files are before a folder of a name is listed, the names of what is in it, unless it is no folder, and what files
 -- are after.

@@ -86,7 +86,7 @@ ends_rule = perhaps_number_rule (codes "ends") (up_to 5)
 
 -- `--threads TIMES TURNS`
 abbrev pub threads_rule : Rule
-threads_rule = two_numbers_rule (codes "threads") 2 (Unsigned 0 1000000000)
+threads_rule = two_numbers_rule (codes "threads") 2 (Unsigned 1 1000000000)
 
 abbrev pub with_file : Text → App
 with_file name = with_rule (new_app name) (word_rule (codes "file"))

@@ -36,13 +36,13 @@ check_app = with_rule (with_rule (with_rule (with_rule (with_rule (new_app (code
     limit_rule) memory_rule) jobs_rule) json_rule
 
 abbrev pub lasso_app : App
-lasso_app = with_rule (with_rule (with_file (codes "lasso")) (word_rule (codes "prefix"))) (word_rule (codes "cycle"))
+lasso_app = with_rule (with_rule (with_file (codes "lasso")) (word_rule (codes "prefix"))) (further_rule (codes "cycle"))
 
 abbrev pub hunt_app : App
 hunt_app = with_rule (with_rule (with_rule (with_rule (with_rule (with_rule (with_rule (with_rule (with_rule (with_rule (with_file (codes "hunt"))
     (number_rule (codes "seed") (Unsigned 0 18446744073709551615)))
-    (number_rule (codes "runs") (up_to 4294967295)))
-    (number_rule (codes "from") (up_to 4294967295)))
+    (number_rule (codes "runs") (from_one_to 4294967295)))
+    (number_rule (codes "from") (up_to 4294967294)))
     (number_rule (codes "steps") (up_to 10000000)))
     jobs_rule)
     (flag_rule (codes "uniform")))
@@ -132,8 +132,8 @@ abbrev pub check_in : List Row → Option Asked
 check_in rows = check_of (list_of (codes "path") rows) rows
 
 abbrev pub lasso_in : List Row → Option Asked
-lasso_in rows = for_file rows (λ file. option_and_then (λ prefix.
-    option_map (Lasso file prefix) (first_of (codes "cycle") rows)) (first_of (codes "prefix") rows))
+lasso_in rows = for_file rows (λ file.
+    option_map (λ prefix. Lasso file prefix (first_of (codes "cycle") rows)) (first_of (codes "prefix") rows))
 
 -- random schedules, with the texts of what must never hold
 abbrev pub plan_of : List Text → List Row → Option Asked
@@ -214,7 +214,7 @@ abbrev pub plain_request : Request (Bor Text) (Vec (Bor Text) Global) → Asked
 plain_request (Explore file never limit memory steps) = Explore file.now (map (λ text. text.now) never.items) limit memory steps
 plain_request (Ends file never process limit memory steps) = Ends file.now (map (λ text. text.now) never.items) process limit memory steps
 plain_request (Check paths limit memory jobs) = Check (map (λ text. text.now) paths.items) limit memory jobs
-plain_request (Lasso file prefix cycle) = Lasso file.now prefix.now cycle.now
+plain_request (Lasso file prefix cycle) = Lasso file.now prefix.now (option_map (λ text. text.now) cycle)
 plain_request (Hunt file never seed runs from steps is_uniform jobs) = Hunt file.now (map (λ text. text.now) never.items) seed runs from steps is_uniform jobs
 plain_request (Runs file times turns) = Runs file.now times turns
 plain_request (Trace run) = Trace (plain_run run)
@@ -251,7 +251,8 @@ rows = (codes "explore" ∷ codes "a" ∷ codes "--limit" ∷ codes "7" ∷ [], 
       codes "check" ∷ codes "--jobs" ∷ codes "2" ∷ codes "a" ∷ codes "b" ∷ codes "--memory=7" ∷ codes "a" ∷ [],
       Check (codes "a" ∷ codes "b" ∷ codes "a" ∷ []) 4294967295 7 2,
     )
-    ∷ (codes "lasso" ∷ codes "a" ∷ codes "0 1" ∷ codes "@b" ∷ [], Lasso (codes "a") (codes "0 1") (codes "@b"))
+    ∷ (codes "lasso" ∷ codes "a" ∷ codes "0 1" ∷ codes "@b" ∷ [], Lasso (codes "a") (codes "0 1") (Some (codes "@b")))
+    ∷ (codes "lasso" ∷ codes "a" ∷ codes "@b" ∷ [], Lasso (codes "a") (codes "@b") None)
     ∷ (codes "trace" ∷ codes "a" ∷ codes "0 1*3" ∷ [], Trace (run_by (codes "a") (codes "0 1*3") [] Program))
     ∷ (
       codes "trace" ∷ codes "--never" ∷ codes "n" ∷ codes "a" ∷ codes "0" ∷ codes "--never=1" ∷ [],

@@ -104,11 +104,12 @@ pub enum Request<T, L> {
         memory: u32,
         jobs: u32,
     },
-    /// A schedule that repeats a part of itself for ever, and who runs on there.
+    /// A schedule that repeats a part of itself for ever, and who runs on there. Where no cycle is given, that is a part of
+    /// what the prefix is given by.
     Lasso {
         file: T,
         prefix: T,
-        cycle: T,
+        cycle: Option<T>,
     },
     /// Random schedules of a program, from one of them on, and what must never hold; so many runs are tried side by
     /// side.

@@ -1,12 +1,9 @@
 -- What `trace`, `draw` and `page` answer: a trace as text or as JSON, a picture or a page of the run of a program, or of its
 -- code, under a schedule.
-use Rattle.std.specs.Prelude.{◌≡◌, ◌≤◌, ◌<◌, ⊤, ℕ, Bool, true, false, List, length, option_map, take, Option, None, Ok}
+use Rattle.std.specs.Prelude.{◌≡◌, ◌≤◌, ◌<◌, ◌++◌, ⊤, ℕ, Bool, true, false, List, length, option_map, take, Option, None, Ok}
 use Rattle.std.specs.Borrow.{Bor}
 use Rattle.base.specs.Plain.{Name, WholeProgram}
 use Rattle.language_properties.specs.Properties.{Formula}
-use Rattle.language_schedules.specs.Schedule.{schedule_of}
-use Rattle.ticketc_refusals.specs.Refusals.{IsScheduleRefused}
-use Rattle.ticklab_explain.specs.Reports.{TellsFor}
 use Rattle.tick_sim.specs.Maps.{lifted}
 use Rattle.ticklab_line.specs.Commands.{plain_drawing}
 use Rattle.ticklab_line.specs.declared.commands.AskedRun.{AskedRun}
@@ -14,8 +11,9 @@ use Rattle.ticklab_line.specs.declared.commands.Side.{Side}
 use Rattle.ticklab_line.specs.declared.commands.Side.TheVariants.{Program, Code, Lifted}
 use Rattle.ticklab_files.specs.Asking.{AsksNever, IsFileRefused, IsProgramFile, TellsOption, TextPlace, lines_in, places_by}
 use Rattle.ticklab_files.specs.Codes.{IsCodeless, program_code}
-use Rattle.ticklab_files.specs.Reading.{AfterBoth, ReadsOf, ReadsInputOf}
+use Rattle.ticklab_files.specs.Reading.{AfterTexts, ReadsOf, ReadsInputOf}
 use Rattle.ticklab_files.specs.Responses.{Gives, Refuses}
+use Rattle.ticklab_files.specs.Ways.{AreMisspelled, AreSpelled, AreSteps, Texts}
 use Rattle.ticklab_files.specs.declared.response.Response.{Response}
 use Rattle.ticklab_draw.specs.Marks.{instruction_marks, statement_marks}
 use Rattle.ticklab_page.specs.Pages.{code_page}
@@ -51,32 +49,34 @@ abbrev pub IsTooLong : Telling (List ℕ) → List ℕ → ℕ → List ℕ → 
 IsTooLong (Page title) from count report = (20000 < count) × (report ≡ long_run_line from count)
 IsTooLong telling from count report = ⊥
 
--- The report of a run of which nothing is told: of the file, these texts of a command line, the schedule, the code, or how
--- long the run is.
-pub data IsUnrun (telling : Telling (List ℕ)) (name : List ℕ) (texts : List (List ℕ)) (input from text : List ℕ) (side : Side) (report : List ℕ) : Type 0 where
-  file_refused : IsFileRefused name input report → IsUnrun telling name texts input from text side report
-  option_refused : (is : IsProgramFile input) → TellsOption is.program (lines_in is.asked) texts report → IsUnrun telling name texts input from text side report
-  schedule_refused : (is : IsProgramFile input) → TellsFor is.program.processes (IsScheduleRefused is.program.processes text) from text report
-      → IsUnrun telling name texts input from text side report
-  code_refused : (is : IsProgramFile input) (schedule : List ℕ) → schedule_of is.program.processes text ≡ Ok schedule
-      → IsCodeless (is_of_code side) name is.program report → IsUnrun telling name texts input from text side report
-  too_long : (is : IsProgramFile input) (schedule : List ℕ) → schedule_of is.program.processes text ≡ Ok schedule
-      → IsTooLong telling from (length (schedule_on side is.program schedule)) report → IsUnrun telling name texts input from text side report
+-- The report of a run of which nothing is told: of the file, these texts of a command line, the way, the code, or how long
+-- the run is.
+pub data IsUnrun (telling : Telling (List ℕ)) (name : List ℕ) (texts : List (List ℕ)) (input from : List ℕ) (given : Texts) (side : Side) (report : List ℕ) : Type 0 where
+  file_refused : IsFileRefused name input report → IsUnrun telling name texts input from given side report
+  option_refused : (is : IsProgramFile input) → TellsOption is.program (lines_in is.asked) texts report → IsUnrun telling name texts input from given side report
+  way_refused : (is : IsProgramFile input) → AreMisspelled is.program.processes from given report
+      → IsUnrun telling name texts input from given side report
+  code_refused : (is : IsProgramFile input) (steps : List ℕ) → AreSteps is.program.processes given steps
+      → IsCodeless (is_of_code side) name is.program report → IsUnrun telling name texts input from given side report
+  too_long : (is : IsProgramFile input) (steps : List ℕ) → AreSteps is.program.processes given steps
+      → IsTooLong telling from (length (schedule_on side is.program steps)) report → IsUnrun telling name texts input from given side report
 
 -- what is told of a run of the program of an input, with what must never hold of it
 abbrev pub Told : List (List ℕ) → List ℕ → Type 1
 Told texts input = AsksNever texts input → List ℕ → List ℕ → Type 0
 
--- Of the run of the program that the input is, or of its code, under the schedule that the text spells, this is told.
-pub record IsRun {texts : List (List ℕ)} {input : List ℕ} (side : Side) (P : Told texts input) (text out : List ℕ) : Type 0 where
+-- Of the run of the program that the input is, or of its code, under all steps that these texts spell, this is told.
+pub record IsRun {texts : List (List ℕ)} {input : List ℕ} (side : Side) (P : Told texts input) (given : Texts) (out : List ℕ) : Type 0 where
   pub asks : AsksNever texts input
   pub schedule : List ℕ
-  pub spelled : schedule_of asks.file.program.processes text ≡ Ok schedule
-  pub told : P asks (schedule_on side asks.file.program schedule) out
+  pub lead_in : List ℕ
+  pub cycle : List ℕ
+  pub spelled : AreSpelled asks.file.program.processes given schedule lead_in cycle
+  pub told : P asks (schedule_on side asks.file.program (schedule ++ lead_in ++ cycle)) out
 
-pub data AnswersRun {texts : List (List ℕ)} {input : List ℕ} (telling : Telling (List ℕ)) (side : Side) (P : Told texts input) (name from text : List ℕ) (response : Response) : Type 0 where
-  run : Gives 0 (IsRun side P text) response → AnswersRun telling side P name from text response
-  unrun : Refuses 1 (IsUnrun telling name texts input from text side) response → AnswersRun telling side P name from text response
+pub data AnswersRun {texts : List (List ℕ)} {input : List ℕ} (telling : Telling (List ℕ)) (side : Side) (P : Told texts input) (name from : List ℕ) (given : Texts) (response : Response) : Type 0 where
+  run : Gives 0 (IsRun side P given) response → AnswersRun telling side P name from given response
+  unrun : Refuses 1 (IsUnrun telling name texts input from given side) response → AnswersRun telling side P name from given response
 
 -- texts that are lent, as the texts themselves
 abbrev pub plain_telling : Telling (Bor (List ℕ)) → Telling (List ℕ)
@@ -122,5 +122,5 @@ IsTold telling side name texts input asks =
 
 abbrev pub TellsRun : {F : Type 0} → Telling (List ℕ) → ReadsOf F → ReadsInputOf F → F → F → AskedRun (List ℕ) (List (List ℕ)) → Response → Type 0
 TellsRun telling Reads ReadsInput before after asked response =
-    AfterBoth Reads ReadsInput before after asked.file asked.schedule
-    (λ input from text. AnswersRun telling asked.side (IsTold telling asked.side asked.file asked.never input) asked.file from text response)
+    AfterTexts Reads ReadsInput before after asked.file asked.schedule
+    (λ input from given. AnswersRun telling asked.side (IsTold telling asked.side asked.file asked.never input) asked.file from given response)

@@ -11,6 +11,7 @@ ghost use Rattle.ticklab_files.specs.Codes.{HasCode, HasNoCode, IsCodeless, prog
 ghost use Rattle.ticklab_files.specs.Faults.{IsEither, IsOfFileThat, IsUnread};
 ghost use Rattle.ticklab_files.specs.Responses.{Gives};
 ghost use Rattle.ticklab_files.specs.Stops.{IfRefused};
+ghost use Rattle.ticklab_files.specs.Ways.{held};
 
 use crate::drawing::{look_of, never_mark, picture_of, title_of};
 use crate::following::{code_run, program_run};
@@ -23,8 +24,8 @@ use std::str;
 use tick_kinds::Program;
 use tick_sim::lift;
 use ticklab_files::{
-    AskedProgram, DONE, Files, Form, LabFault, NoAnswer, Response, asked_program, bytes_of,
-    code_of, is_input, output, schedule_of, settled, text_of,
+    AskedProgram, DONE, Files, Form, LabFault, NoAnswer, Response, ScheduleTexts, asked_program,
+    bytes_of, code_of, is_input, output, settled, texts_of, way_of,
 };
 use ticklab_line::{AskedRun, Drawing, Side};
 
@@ -49,7 +50,8 @@ pub struct Subject<'s, 'a> {
     pub is_code: bool,
 }
 
-/// The run of the program under a schedule, or of its code, told so. Of a program is told too where what must never
+/// The run of the program under a schedule, or of its code, told so. Where an answer is given that goes on for ever, the run
+/// goes on with the steps that lead on and one round of those that repeat. Of a program is told too where what must never
 /// hold does first: a line `#! never` of the file, or one of these texts that are the same. A page opens there, or where a
 /// process traps.
 pub fn told<F: Files>(
@@ -63,26 +65,26 @@ pub fn told<F: Files>(
 {
     let file = run.file;
     let input = bytes_of(alloc, files, file)?;
-    let (from, text) = text_of(alloc, files, run.schedule, is_input(file))?;
+    let (from, given) = texts_of(alloc, files, run.schedule, is_input(file))?;
     let input = input.as_slice();
     let never = run.never.as_slice();
-    let answered = run_told(alloc, file, input, from, &text, never, run.side, telling);
+    let answered = run_told(alloc, file, input, from, &given, never, run.side, telling);
     Ok(settled(alloc, answered)?)
 }
 
-// `name` is that of the program's file, `from` says where the schedule is from.
+// `name` is that of the program's file, `from` says where the texts of the way are from.
 fn run_told(
     alloc: Global,
     name: &str,
     input: &[u8],
     from: &str,
-    schedule: &str,
+    given: &ScheduleTexts,
     never: &[&str],
     side: Side,
     telling: &Telling<&str>,
 ) -> Result<Response, NoAnswer>
-    ensures ok { IfOk result (Gives 0 (IsRun side (IsTold (plain_telling telling.now) side name.now (texts_of never.now) input.now) schedule.now)) }
-    ensures refused { IfErr result (λ stop. IfRefused stop (IsUnrun (plain_telling telling.now) name.now (texts_of never.now) input.now from.now schedule.now side)) }
+    ensures ok { IfOk result (Gives 0 (IsRun side (IsTold (plain_telling telling.now) side name.now (texts_of never.now) input.now) (held given.now))) }
+    ensures refused { IfErr result (λ stop. IfRefused stop (IsUnrun (plain_telling telling.now) name.now (texts_of never.now) input.now from.now (held given.now) side)) }
 {
     let asked = match asked_program(alloc, name, input, never) {
         Ok(asked) => asked,
@@ -90,8 +92,9 @@ fn run_told(
     };
     let text = text_in(input);
     let program = &asked.spelled.program;
-    let given = schedule_of(alloc, from, schedule, program.processes())?;
-    let (steps, lowered) = schedule_on(alloc, name, side, program, given)?;
+    let way = way_of(alloc, from, given, program.processes())?;
+    let whole = way.steps()?;
+    let (steps, lowered) = schedule_on(alloc, name, side, program, whole)?;
     let steps = steps.as_slice();
     within_a_page(alloc, telling, from, steps.len())?;
     let subject = Subject {

@@ -1,5 +1,7 @@
 -- What `lasso` answers, from what was found and what the answer shows of it.
-use Rattle.std.proofs.Common.{◌≡◌, ◌<◌, ℕ, List, Result, Ok, IfErr, IsErrAnd, Option, Some, None, IfNone, IfSome, subst}
+use Rattle.std.proofs.Common.{◌≡◌, ◌<◌, ◌++◌, ℕ, List, Result, Ok, IfErr, IsErrAnd, Option, Some, None, IfNone, IfSome, subst, sym}
+use Rattle.std.specs.List.{All}
+use Rattle.std.proofs.lemmas.List.Elements.{All-append}
 use Rattle.base.specs.Plain.{Name, WholeProgram}
 use Rattle.tick_kinds.specs.Resolution.{resolved}
 use Rattle.tick_source.specs.Source.{source}
@@ -17,8 +19,9 @@ use Rattle.ticketc_refusals.specs.Refusals.{IsScheduleRefused}
 use Rattle.ticklab_explain.specs.Reports.{TellsFor}
 use Rattle.ticklab_files.specs.Asking.{IsProgramFile}
 use Rattle.ticklab_verdicts.specs.Ends.{asked_by}
-use Rattle.ticklab_verdicts.specs.Lasso.{IsChecked, IsLassoFound, IsUnchecked, ShowsLasso, all_stopped, cycle_refused, leads_on, left_out, loop, prefix_refused, too_long}
+use Rattle.ticklab_verdicts.specs.Lasso.{IsChecked, IsLassoFound, IsUnchecked, IsWayChecked, IsWayUnchecked, ShowsLasso, all_stopped, cycle_refused, leads_on, left_out, loop, of_way, prefix_refused, too_long}
 use Rattle.ticklab_files.specs.Stops.{IfRefused}
+use Rattle.ticklab_files.specs.Ways.{AreMisspelled, AreSpelled, Texts}
 use Rattle.ticklab_files.specs.declared.stop.NoAnswer.{NoAnswer}
 use Rattle.ticklab_files.proofs.Responding.{refused_as, stopped_by}
 use Rattle.ticklab_files.specs.declared.response.Response.{Response}
@@ -68,3 +71,32 @@ module _ (name input first_from first second_from second : List ℕ) (file : IsP
       stopped_by (IsUnchecked name input first_from first second_from second) stop r handed
       (refused_as stop (λ report told. cycle_refused file prefix (subst (λ (m : ℕ). schedule_of m first ≡ Ok prefix) count spelled)
       (subst (λ (m : ℕ). TellsFor m (IsScheduleRefused m second) second_from second report) count told)) unread)
+
+-- The same of the way that the texts spell.
+pub way_checked_by : (input : List ℕ) (given : Texts) (file : IsProgramFile input) (n : ℕ) → n ≡ file.program.processes
+    → (schedule lead_in cycle given_prefix given_cycle : List ℕ) → AreSpelled n given schedule lead_in cycle
+    → given_prefix ≡ schedule ++ lead_in → given_cycle ≡ cycle → (asked : MustStop) → asked ≡ asked_by file.asked.ends None → (x : Response)
+    → IsLassoFound input file.program asked given_prefix given_cycle x → IsWayChecked input given x
+way_checked_by input given file n count schedule lead_in cycle given_prefix given_cycle spelled same likewise asked is x found = record {
+  is = file;
+  schedule = schedule;
+  lead_in = lead_in;
+  cycle = cycle;
+  spelled = subst (λ (m : ℕ). AreSpelled m given schedule lead_in cycle) count spelled;
+  found =
+      subst (λ (to : MustStop). IsLassoFound input file.program to (schedule ++ lead_in) cycle x) is
+      (subst (λ (steps : List ℕ). IsLassoFound input file.program asked (schedule ++ lead_in) steps x) likewise
+      (subst (λ (steps : List ℕ). IsLassoFound input file.program asked steps given_cycle x) same found));
+}
+
+pub way_unread : (name input from : List ℕ) (given : Texts) (file : IsProgramFile input) (n : ℕ) → n ≡ file.program.processes
+    → {T : Type 0} (r : Result T NoAnswer) (stop : NoAnswer) → IsErrAnd r (λ d. d ≡ stop) → IfRefused stop (AreMisspelled n from given)
+    → IfErr r (λ d. IfRefused d (IsWayUnchecked name input from given))
+way_unread name input from given file n count r stop handed unread =
+    stopped_by (IsWayUnchecked name input from given) stop r handed
+    (refused_as stop (λ report told. of_way file (subst (λ (m : ℕ). AreMisspelled m from given report) count told)) unread)
+
+pub both_in_range : (n m : ℕ) → n ≡ m → (first second both : List ℕ) → All (λ p. p < n) first → All (λ p. p < n) second → both ≡ first ++ second
+    → All (λ p. p < m) both
+both_in_range n m count first second both one two same =
+    subst (λ (k : ℕ). All (λ p. p < k) both) count (subst (All (λ p. p < n)) (sym same) (All-append (λ p. p < n) first second one two))

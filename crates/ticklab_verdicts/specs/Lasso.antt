@@ -1,5 +1,5 @@
 -- What `lasso` answers: whether a cycle after a prefix, both schedules of a program, can be gone round for ever.
-use Rattle.std.specs.Prelude.{◌≡◌, ◌<◌, ◌⊎◌, ◌||◌, ℕ, List, [], Option, Some, None, Ok}
+use Rattle.std.specs.Prelude.{◌≡◌, ◌<◌, ◌⊎◌, ◌||◌, ◌++◌, ℕ, List, [], Option, Some, None, Ok}
 use Rattle.base.specs.Plain.{Name, WholeProgram}
 use Rattle.tick_kinds.specs.Resolution.{resolved}
 use Rattle.tick_source.specs.Source.{source}
@@ -19,8 +19,9 @@ use Rattle.ticklab_verdicts.specs.Ends.{asked_by}
 use Rattle.ticklab_files.specs.Faults.{IsEither}
 use Rattle.ticklab_verdicts.specs.Lines.{left_out_line, long_line, loop_line, open_line, stopped_line}
 use Rattle.ticklab_verdicts.specs.Loops.{IsLoopText}
-use Rattle.ticklab_files.specs.Reading.{IsRead, IsSchedule, ReadsOf, ReadsInputOf, is_input, reads_input, schedule_file}
+use Rattle.ticklab_files.specs.Reading.{AfterTexts, IsRead, IsSchedule, ReadsOf, ReadsInputOf, is_input, reads_input, schedule_file}
 use Rattle.ticklab_files.specs.Responses.{Gives, Refuses}
+use Rattle.ticklab_files.specs.Ways.{AreMisspelled, AreSpelled, Texts}
 use Rattle.ticklab_files.specs.declared.response.Response.{Response}
 
 -- What is shown of the answer, where there is one. A loop is an endless run, which is told as that of `explore`; that
@@ -72,14 +73,41 @@ pub data ChecksLasso (name input first_from first second_from second : List ℕ)
   unchecked : Refuses 1 (IsUnchecked name input first_from first second_from second) response
       → ChecksLasso name input first_from first second_from second response
 
+-- The same of the way that these texts spell: its cycle comes after all its other steps.
+pub record IsWayChecked (input : List ℕ) (given : Texts) (response : Response) : Type 0 where
+  pub is : IsProgramFile input
+  pub schedule : List ℕ
+  pub lead_in : List ℕ
+  pub cycle : List ℕ
+  pub spelled : AreSpelled is.program.processes given schedule lead_in cycle
+  pub found : IsLassoFound input is.program (asked_by is.asked.ends None) (schedule ++ lead_in) cycle response
+
+pub data IsWayUnchecked (name input from : List ℕ) (given : Texts) (report : List ℕ) : Type 0 where
+  of_file : IsFileRefused name input report → IsWayUnchecked name input from given report
+  of_way : (is : IsProgramFile input) → AreMisspelled is.program.processes from given report → IsWayUnchecked name input from given report
+
+pub data ChecksWay (name input from : List ℕ) (given : Texts) (response : Response) : Type 0 where
+  way_checked : IsWayChecked input given response → ChecksWay name input from given response
+  way_unchecked : Refuses 1 (IsWayUnchecked name input from given) response → ChecksWay name input from given response
+
+abbrev pub LassoesWay : {F : Type 0} → ReadsOf F → ReadsInputOf F → F → F → List ℕ → List ℕ → Response → Type 0
+LassoesWay Reads ReadsInput before after file way response =
+    AfterTexts Reads ReadsInput before after file way (λ input from given. ChecksWay file input from given response)
+
 -- the file is read, and then the two schedules
-abbrev pub Lassoes : {F : Type 0} → ReadsOf F → ReadsInputOf F → F → F → List ℕ → List ℕ → List ℕ → Response → Type 0
-Lassoes {F} Reads ReadsInput before after file prefix cycle response =
+abbrev pub LassoesBoth : {F : Type 0} → ReadsOf F → ReadsInputOf F → F → F → List ℕ → List ℕ → List ℕ → Response → Type 0
+LassoesBoth {F} Reads ReadsInput before after file prefix cycle response =
     (input : List ℕ) × (opened : F) × IsRead Reads ReadsInput before file input opened
     × (first_from : List ℕ) × (first : List ℕ) × (between : F) × IsSchedule Reads ReadsInput (is_input file) opened between prefix first_from first
     × (second_from : List ℕ) × (second : List ℕ) × IsSchedule Reads ReadsInput (is_input file || reads_input prefix) between after cycle second_from second
     × ChecksLasso file input first_from first second_from second response
 
+-- where there is no cycle, it is in the way that is given for the prefix
+abbrev pub Lassoes : {F : Type 0} → ReadsOf F → ReadsInputOf F → F → F → List ℕ → List ℕ → Option (List ℕ) → Response → Type 0
+Lassoes Reads ReadsInput before after file prefix None = LassoesWay Reads ReadsInput before after file prefix
+Lassoes Reads ReadsInput before after file prefix (Some cycle) = LassoesBoth Reads ReadsInput before after file prefix cycle
+
 -- a file, or one that the prefix or the cycle is in
-abbrev pub IsOfThree : List ℕ → List ℕ → List ℕ → List ℕ → Type 0
-IsOfThree file prefix cycle name = IsEither file prefix name ⊎ (schedule_file cycle ≡ Some name)
+abbrev pub IsOfThree : List ℕ → List ℕ → Option (List ℕ) → List ℕ → Type 0
+IsOfThree file prefix None name = IsEither file prefix name
+IsOfThree file prefix (Some cycle) name = IsEither file prefix name ⊎ (schedule_file cycle ≡ Some name)

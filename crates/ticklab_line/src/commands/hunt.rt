@@ -31,13 +31,13 @@ pub const HUNT: Description = Description {
         Number(
             "runs",
             "N",
-            ValueParser::Signed(0, 4_294_967_295),
+            ValueParser::Signed(1, 4_294_967_295),
             "How many schedules there are at most [default: 10000]",
         ),
         Number(
             "from",
             "RUN",
-            ValueParser::Signed(0, 4_294_967_295),
+            ValueParser::Signed(0, 4_294_967_294),
             "The run that is made first, so that a hunt can be divided [default: 0]",
         ),
         Number(
@@ -62,7 +62,7 @@ pub const HUNT: Description = Description {
         TwoNumbers(
             "threads",
             &["TIMES", "TURNS"],
-            ValueParser::Unsigned(0, 1_000_000_000),
+            ValueParser::Unsigned(1, 1_000_000_000),
             "Runs the code on threads instead, so many times, each process for at most so many turns; and prints how often each outcome came",
         ),
     ],

@@ -6,7 +6,7 @@ ghost use Rattle.ticklab_line.specs.Commands.{lasso_in, plain_request};
 
 use crate::commands::{Lent, Request};
 use crate::described::Description;
-use crate::described::Word::One;
+use crate::described::Word::{Further, One};
 use crate::values::text_in;
 use crate::words::PROGRAM;
 use clap::ArgMatches;
@@ -21,12 +21,12 @@ pub const LASSO: Description = Description {
         One(
             "prefix",
             "PREFIX",
-            "The steps before the cycle, as \"0 1*3 0\", or @ and the file that has them",
+            "The steps before the cycle, as \"0 1*3 0\", or @ and the file that has them, or an answer with both",
         ),
-        One(
+        Further(
             "cycle",
             "CYCLE",
-            "The steps of the cycle, or @ and the file that has them",
+            "The steps of the cycle, or @ and the file that has them; left out: those of the answer",
         ),
     ],
 };
@@ -38,6 +38,6 @@ pub fn lasso_in<'a>(given: &ArgMatches<'a>) -> Option<Lent<'a>>
     Some(Request::Lasso {
         file: text_in(given, "file")?,
         prefix: text_in(given, "prefix")?,
-        cycle: text_in(given, "cycle")?,
+        cycle: text_in(given, "cycle"),
     })
 }

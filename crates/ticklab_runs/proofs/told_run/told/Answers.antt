@@ -1,7 +1,8 @@
-use Rattle.std.proofs.Common.{ℕ, Bor, List, string_bytes, subst}
+use Rattle.std.proofs.Common.{ℕ, Bor, List, subst}
+use Rattle.ticklab_files.specs.Ways.{Texts, held}
 use Rattle.ticklab_files.specs.Asking.{texts_of}
 use Rattle.ticklab_runs.specs.Runs.{AnswersRun, IsTold, plain_telling, run, unrun}
-use Rattle.ticklab_runs.proofs.Ran.{read_both}
+use Rattle.ticklab_runs.proofs.Ran.{read_texts}
 use Rattle.ticklab_files.proofs.Responding.{settled_with}
 use Rattle.ticklab_runs.proofs.told_run.told.Goals as goal
 
@@ -14,11 +15,11 @@ returns-clause-ok g c =
     let from = c.in_ok-from.from.now in
     let response = c.in_ok-settled.field-0 in
     let telling = plain_telling c.args.telling.now in
-    let P : List (Bor (List ℕ)) → List ℕ → List ℕ → Type 0 =
-    λ never input text. AnswersRun telling asked.side (IsTold telling asked.side file (texts_of never) input) file from text response in
-    read_both g.F.Files.Reads g.F.Files.ReadsInput c.args.files.now c.bytes_of.new.files _ file asked.schedule.now input from
-    (string_bytes c.in_ok-from.text) _ c.in_ok-input.ensures.ok c.is_input.result c.is_input.ensures c.in_ok-from.ensures.ok
-    (subst (P asked.never.items input) c.deref.ensures
-    (subst (λ (bytes : List ℕ). P asked.never.items bytes c.deref.result.now) c.as_slice-input.ensures.value
-    (subst (λ (never : List (Bor (List ℕ))). P never c.as_slice-input.result.now c.deref.result.now) c.as_slice-never.ensures.value
-    (settled_with c.run_told-answered.result response (λ x h. run h) (λ x h. unrun h) answered.ok answered.refused c.in_ok-settled.ensures))))
+    let given : Texts = held c.in_ok-from.given in
+    let P : List (Bor (List ℕ)) → List ℕ → Type 0 =
+    λ never input. AnswersRun telling asked.side (IsTold telling asked.side file (texts_of never) input) file from given response in
+    read_texts g.F.Files.Reads g.F.Files.ReadsInput c.args.files.now c.bytes_of.new.files _ file asked.schedule.now input from
+    given _ c.in_ok-input.ensures.ok c.is_input.result c.is_input.ensures c.in_ok-from.ensures.ok
+    (subst (λ (bytes : List ℕ). P asked.never.items bytes) c.as_slice-input.ensures.value
+    (subst (λ (never : List (Bor (List ℕ))). P never c.as_slice-input.result.now) c.as_slice-never.ensures.value
+    (settled_with c.run_told-answered.result response (λ x h. run h) (λ x h. unrun h) answered.ok answered.refused c.in_ok-settled.ensures)))

@@ -1,6 +1,6 @@
 use Rattle.language_questions.specs.Lines.{asked_of}
 use Rattle.ticklab_verdicts.specs.Lasso.{IsUnchecked, file_refused}
-use Rattle.ticklab_verdicts.proofs.Looped.{checked_by, cycle_unread, lasso_told, prefix_unread}
+use Rattle.ticklab_verdicts.proofs.Looped.{checked_by, cycle_unread, prefix_unread}
 use Rattle.ticklab_files.proofs.ProgramFiles.{file_of}
 use Rattle.ticklab_files.proofs.Responding.{refused_as, stopped_by}
 use Rattle.ticklab_verdicts.proofs.lasso.checked.Goals as goal
@@ -27,10 +27,8 @@ returns-clause-ok c =
     let asked = asked_of c.in_ok-spelled.questions in
     let a = c.in_ok-spelled.spelled.program in
     let file = file_of c.args.input.now a asked c.in_ok-spelled.ensures.spelled.0 c.in_ok-spelled.ensures.questions in
-    let found = c.in_ok-found.ensures in
     checked_by c.args.input.now c.args.first.now c.args.second.now file c.processes-n.result c.processes-n.ensures.count
     c.in_ok-prefix.prefix.items c.in_ok-cycle.cycle.items c.as_slice-prefix.result.now c.as_slice-cycle.result.now
     c.in_ok-prefix.ensures.ok c.in_ok-cycle.ensures.ok c.as_slice-prefix.ensures.value c.as_slice-cycle.ensures.value
-    c.asked_in-asked.result c.asked_in-asked.ensures c.in_ok-shown.field-0
-    (lasso_told c.args.input.now a c.asked_in-asked.result c.as_slice-prefix.result.now c.as_slice-cycle.result.now c.in_ok-found.found c.in_ok-shown.field-0
-    found.running found.lasso found.for_ever found.all_stopped found.left_out found.open found.too_long c.in_ok-shown.ensures)
+    c.asked_in-asked.result c.asked_in-asked.ensures c.in_ok-lasso_found.field-0
+    c.in_ok-lasso_found.ensures

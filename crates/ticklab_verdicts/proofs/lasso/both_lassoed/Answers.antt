@@ -2,7 +2,7 @@ use Rattle.std.proofs.Common.{ℕ, Bool, List, string_bytes, subst}
 use Rattle.ticklab_verdicts.specs.Lasso.{ChecksLasso, IsChecked, IsUnchecked, checked, unchecked}
 use Rattle.ticklab_files.specs.Reading.{IsSchedule}
 use Rattle.ticklab_files.proofs.Responding.{settled_with}
-use Rattle.ticklab_verdicts.proofs.lasso.lassoed.Goals as goal
+use Rattle.ticklab_verdicts.proofs.lasso.both_lassoed.Goals as goal
 
 pub returns-clause-ok : goal.returns-clause-ok
 returns-clause-ok g c =
