@@ -8,18 +8,13 @@ FORM, SAME, PLAYED = "form", "same", "played"
 PROGRAM, RUNNABLE, MOVES = "program", "runnable", "moves"
 PROCESSES = 3
 
-# Under one turn each process ends in one way.
-OF_PROGRAMS = (
-    (("check",), FORM),
-    (("emit",), SAME),
-    (("source", b"0*9 1*9"), PLAYED),
-    (("code", b"0*9 1*9"), PLAYED),
-    (("lift", b"0*9 1*9"), PLAYED),
-    (("drop", b"0*9 1*9"), PLAYED),
-    (("run", b"1"), SAME),
-)
-OF_CODES = ((("code", b"0*20 1*20"), PLAYED), (("run", b"1"), SAME))
+# Those that play a schedule.
+PLAYERS = ("source", "code", "lift", "drop")
 CHECK = ((("check",), FORM),)
+# Under one turn each process ends in one way.
+RUN = (("run", b"1"), SAME)
+OF_PROGRAMS = (*CHECK, (("emit",), SAME), *(((player, b"0*9 1*9"), PLAYED) for player in PLAYERS), RUN)
+OF_CODES = ((("code", b"0*20 1*20"), PLAYED), RUN)
 ORDER = ((("order", b"%d" % PROCESSES), SAME),)
 
 INPUTS = (
@@ -49,23 +44,19 @@ INPUTS = (
     (MOVES, ORDER, b" 0 1*2\r\nc1 02\t0*012 c02*3 "),
 )
 
-# What a schedule is a word for, and schedules of two processes. The longest has ten million steps.
+# A program, and schedules of its processes. The longest has ten million steps.
 TWO = b"processes 2; begin out 7; end"
-PLAYERS = ("source", "code", "lift", "drop")
 SCHEDULES = (b" 0 1*3\r\n00*02\t1 ", b"1*999999 0*9 1")
 
-# How many of the bytes that stand at the place are kept, what follows them, and how many of those bytes are left out
-# then; None leaves out all.
-CUT = (0, b"", None)
+# How many of the bytes that stand at the place are kept, what follows them, and how many of those bytes are left out then.
+ALL = 1_000_000
 BENDS = (
     # cut off, dropped, doubled
-    CUT,
+    (0, b"", ALL),
     (0, b"", 1),
     (1, b"", 0),
     # replaced
-    *((0, byte, 1) for byte in (
-        b"\0", b"\n", b" ", b"#", b"*", b"0", b"1", b"9", b"(", b"}", b"=", b"c", b"n", b"s", b"x", b"\xff"
-    )),
+    *((0, byte.encode("latin-1"), 1) for byte in "\0\n #*019(}=cnsx\xff"),
     # before it, a comma, a vertical tab, a carriage return, and a character that stands in comments alone
     *((0, put, 0) for put in (b",", b"\x0b", b"\r", b"\xc3\xa9")),
     # a mark of the order of bytes
@@ -76,14 +67,10 @@ BENDS = (
 )
 
 
-def bent(text, place, bend):
-    kept, put, left_out = bend
-    return text[: place + kept] + put + (b"" if left_out is None else text[place + left_out :])
-
-
 def all_bent(text):
+    """Each text that comes of it, and whether that is only cut off."""
     found = {}
     for place in range(len(text) + 1):
-        for bend in BENDS:
-            found.setdefault(bent(text, place, bend), bend is CUT)
+        for kept, put, left_out in BENDS:
+            found.setdefault(text[: place + kept] + put + text[place + left_out :], left_out == ALL)
     return found

@@ -4,7 +4,7 @@ import re
 KEYWORDS = set("processes var scan reg begin end get put stamp clear copy older held out if else while me n".split())
 # No two kinds of words begin with the same character, so the longest of one kind is the longest of all.
 WORDS = r"(?P<gap>[ \t\r\n]+|#[^\n]*)|(?P<NUMBER>[0-9]+)|(?P<NAME>[A-Za-z_][A-Za-z_0-9]*)|<=|==|!=|[;,(){}=+*/%<-]"
-WORD = re.compile(WORDS)
+WORD = re.compile(WORDS + "|(?P<bad>(?s:.))")
 GREATEST, LONGEST_NAME, LONGEST_TEXT = 4294967295, 64, 1000000
 
 
@@ -18,8 +18,14 @@ class Token:
     """A word of a text, the bytes where that starts and ends, and what the grammar has it stand for."""
 
     def __init__(self, found):
-        self.word, self.start, self.end = found[0], found.start(), found.end()
+        self.word, self.start, self.end = found[0], *found.span()
         self.symbol = self.word if self.word in KEYWORDS else found.lastgroup or self.word
+        if self.symbol == "bad":
+            raise Refusal("2 BadCharacter", self.start)
+        if self.symbol == "NUMBER" and int(self.word) > GREATEST:
+            raise self.refused("3 NumberTooBig")
+        if self.symbol == "NAME" and len(self.word) > LONGEST_NAME:
+            raise self.refused("4 NameTooLong")
 
     def refused(self, name, *fields):
         return Refusal(name, self.start, self.end, *fields)
@@ -37,20 +43,4 @@ def text_of(given):
 
 
 def tokens_of(text):
-    tokens, place = [], 0
-    while place < len(text):
-        found = WORD.match(text, place)
-        if not found:
-            raise Refusal("2 BadCharacter", place)
-        if found.lastgroup != "gap":
-            tokens.append(within(Token(found)))
-        place = found.end()
-    return tokens
-
-
-def within(token):
-    if token.symbol == "NUMBER" and int(token.word) > GREATEST:
-        raise token.refused("3 NumberTooBig")
-    if token.symbol == "NAME" and len(token.word) > LONGEST_NAME:
-        raise token.refused("4 NameTooLong")
-    return token
+    return [Token(found) for found in WORD.finditer(text) if found.lastgroup != "gap"]

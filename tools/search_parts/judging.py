@@ -1,17 +1,15 @@
 """Whether `ticklab explore --json` answers what the second search finds (docs/FORMATS.md, Answers as JSON)."""
 import json
-from collections import namedtuple
 
 from . import machine
-from .searching import Graph, replayed, search
+from .searching import Search
 
 SAFE, TRAPPED, MORE, STUCK = 0, 5, 6, 7
-# By which steps is searched, which words ask for that, what is said of a schedule, and whether steps are merged.
-Kind = namedtuple("Kind", "step words said is_merged")
-KINDS = (
-    Kind("single", ("--single",), "a process traps under this schedule, and under no shorter one:", False),
-    Kind("merged", ("--merged",), "a process traps under this schedule:", True),
-)
+# By which steps is searched, and what is said of a schedule that is found.
+SAID = {
+    "single": "a process traps under this schedule, and under no shorter one:",
+    "merged": "a process traps under this schedule:",
+}
 MINIMAL = "a process traps under this schedule, and where any one step is left out none does:"
 # Of how many states it is asked whether processes can still end.
 MOST_STATES_OF_ENDS = 20000
@@ -23,16 +21,16 @@ def steps_of(text):
     return [process for process, count in items for _ in range(count)]
 
 
-def trap_of(trace):
-    """The trap of the last step that is told; None where there is none, or an earlier one traps."""
-    traps = [step.get("event", {}).get("trap") for step in trace]
-    return traps[-1] if traps and not any(traps[:-1]) else None
+def are_told(steps, answer):
+    return [(step["step"], step["process"]) for step in answer["trace"]] == list(enumerate(steps, 1))
 
 
-def told(schedule, trace):
-    """A schedule with its trap, where the steps that are told are those of the schedule."""
-    steps, listed = steps_of(schedule), [(step["step"], step["process"]) for step in trace]
-    return (steps, trap_of(trace)) if listed == list(enumerate(steps, 1)) else ([], None)
+def told(status, answer, said):
+    """The schedule and its trap, where this is said of it: its steps are told, and the last of them alone traps."""
+    if (status, answer["answer"], answer.get("says")) != (TRAPPED, "trap", said):
+        return [], None
+    steps, traps = steps_of(answer["schedule"]), [step.get("event", {}).get("trap") for step in answer["trace"]]
+    return (steps, traps[-1]) if are_told(steps, answer) and traps and not any(traps[:-1]) else ([], None)
 
 
 def shown(status, answer):
@@ -42,109 +40,91 @@ def shown(status, answer):
 class Judge:
     """`ask` gives the status, and the answer as Python has it, to some words and the text of a program."""
 
-    def __init__(self, ask):
-        self.ask = ask
+    def __init__(self, ask, text, limit):
+        self.limit, program = limit, machine.Program(text)
+        self.ask = lambda *words: ask(words, text)
+        self.found = {steps: Search(program, getattr(machine, steps), limit) for steps in SAID}
 
-    def judged(self, text, limit):
-        program, wrong = machine.read(text), []
-        found = [search(program, getattr(machine, kind.step), limit) for kind in KINDS]
-        for kind, of_kind in zip(KINDS, found):
-            words = (*kind.words, "--limit", str(limit))
-            if of_kind.traps:
-                wrong += self.trap(program, text, words, kind, of_kind, limit, found[0].steps)
-            else:
-                wrong += self.no_trap(text, kind, limit, of_kind.states)
-        wrong += self.first(program, text, found[1], limit)
-        if not found[0].traps and found[0].states <= min(limit, MOST_STATES_OF_ENDS):
-            wrong += self.ends(program, text, found[1].states < found[0].states)
-        return found, wrong
+    def wrong(self):
+        for steps, found in self.found.items():
+            yield from self.trap(steps, found) if found.traps else self.no_trap(steps, len(found.depth))
+        yield from self.first()
+        single, merged = self.found.values()
+        if not single.traps and len(single.depth) <= min(self.limit, MOST_STATES_OF_ENDS):
+            yield from self.ends(single, len(merged.depth) < len(single.depth))
 
-    def no_trap(self, text, kind, limit, states):
+    def no_trap(self, steps, states):
         """What is wrong where no process traps in so many states; with one less for a limit there have to be more."""
-        limits = [limit] if states > limit else [limit, states, states - 1]
-        for most in limits:
-            status, answer = self.ask((*kind.words, "--limit", str(most)), text)
-            is_safe = states <= most
-            wanted = {"answer": "safe" if is_safe else "limit", "merged": kind.is_merged, "states": min(states, most)}
+        for limit in [self.limit] if states > self.limit else [self.limit, states, states - 1]:
+            status, answer = self.ask(f"--{steps}", "--limit", str(limit))
+            is_safe = states <= limit
+            wanted = {"answer": "safe" if is_safe else "limit", "merged": steps == "merged", "states": min(states, limit)}
             if (status, {**answer, "says": ""}) != (SAFE if is_safe else MORE, {**wanted, "says": ""}):
-                yield f"{kind.step} steps, limit {most}: found {shown(status, answer)}, wanted {wanted}"
+                yield f"{steps} steps, limit {limit}: found {shown(status, answer)}, wanted {wanted}"
 
-    def trap(self, program, text, words, kind, found, limit, shortest):
-        status, answer = self.ask(words, text)
+    def trap(self, steps, found):
+        status, answer = self.ask(f"--{steps}", "--limit", str(self.limit))
         # (there may come to be too many states where the trap is)
-        if found.states > limit and status == MORE:
+        if len(found.depth) > self.limit and status == MORE:
             return
-        is_told = status == TRAPPED and answer["answer"] == "trap" and answer["says"] == kind.said
-        schedule, trap = told(answer["schedule"], answer["trace"]) if is_told else ([], None)
-        length, last = replayed(program, schedule, getattr(machine, kind.step))
-        if not (length == found.steps and len(schedule) >= shortest and last == trap and trap in found.traps):
+        schedule, trap = told(status, answer, SAID[steps])
+        length, last = found.moves.replayed(schedule)
+        is_long = len(schedule) >= self.found["single"].steps
+        if not (length == found.steps and is_long and last == trap and trap in found.traps):
             wanted = f"{found.steps} steps to one of {found.traps}"
-            yield f"{kind.step} steps: found {shown(status, answer)}, in {length} steps to {last}, wanted {wanted}"
+            yield f"{steps} steps: found {shown(status, answer)}, in {length} steps to {last}, wanted {wanted}"
 
-    def first(self, program, text, merged, limit):
+    def first(self):
         """What is answered otherwise by merged steps first, and by single ones where these find a trap."""
-        words = ("--limit", str(limit))
-        found, by_merged = self.ask(words, text), self.ask(("--merged", *words), text)
-        is_single = merged.traps and by_merged[0] == TRAPPED
-        wanted = self.ask(("--single", *words), text) if is_single else by_merged
-        if found != wanted and not (is_single and is_minimal(program, *found)):
-            yield f"merged steps first, limit {limit}: found {shown(*found)}"
+        limit = ("--limit", str(self.limit))
+        found, by_merged = self.ask(*limit), self.ask("--merged", *limit)
+        is_single = self.found["merged"].traps and by_merged[0] == TRAPPED
+        wanted = self.ask("--single", *limit) if is_single else by_merged
+        if found != wanted and not (is_single and self.is_minimal(*told(*found, MINIMAL))):
+            yield f"merged steps first, limit {self.limit}: found {shown(*found)}"
 
-    def ends(self, program, text, is_fewer):
+    def is_minimal(self, schedule, trap):
+        """That a schedule needs all its steps, as is told where there are too many states."""
+        without = [schedule[:at] + schedule[at + 1 :] for at in range(len(schedule))]
+        wanted = [(len(schedule), trap), *((len(steps), None) for steps in without)]
+        return trap is not None and wanted == [self.found["single"].moves.replayed(it) for it in (schedule, *without)]
+
+    def ends(self, single, is_fewer):
         """What is answered otherwise of whether all processes can still end, the first, and the last. By merged steps only that
         is asked, and not whether they do under a fair schedule."""
-        graph, every = Graph(program), range(program.processes)
+        every, fewer = single.every, ("--limit", str(len(single.depth) - 1))
         for asked, option in ((every, "--ends"), (every[:1], "--ends=0"), (every[-1:], f"--ends={every[-1]}")):
-            found = self.ask((option,), text)
-            if not is_ending(graph, asked, *found) or self.ask((option, "--single"), text) != found:
+            stuck, found = single.stuck(asked), self.ask(option)
+            if not is_ending(single, asked, stuck, *found) or self.ask(option, "--single") != found:
                 yield f"{option}: found {shown(*found)}"
-            found = self.ask((option, "--merged"), text)
-            if not is_merged_ending(graph, asked, (MORE, "can-end"), *found):
-                yield f"{option} by merged steps: found {shown(*found)}"
-            found = self.ask((option, "--limit", str(len(graph.depth) - 1)), text) if is_fewer else None
-            if found and not is_merged_ending(graph, asked, (MORE, "limit"), *found):
-                yield f"{option}, of too few states: found {shown(*found)}"
+            for words, right in ((("--merged",), "can-end"), *([(fewer, "limit")] if is_fewer else [])):
+                found = self.ask(option, *words)
+                if not is_merged_ending(single, asked, stuck, right, *found):
+                    yield f"{option} {words[0]}: found {shown(*found)}"
 
 
-def is_ending(graph, asked, status, answer):
+def is_ending(search, asked, stuck, status, answer):
     """That an answer is right: nobody is stuck anywhere or goes on under a fair schedule, or what is told of it fits."""
-    stuck = graph.stuck(asked)
-    if not stuck and not graph.goes_on(asked):
-        return (status, answer["answer"], answer.get("states")) == (SAFE, "ends", len(graph.depth))
-    if (status, answer["answer"]) != (STUCK, "stuck" if stuck else "endless") or not is_loop(graph, asked, answer):
+    if not stuck and not search.goes_on(asked):
+        return (status, answer["answer"], answer.get("states")) == (SAFE, "ends", len(search.depth))
+    if (status, answer["answer"]) != (STUCK, "stuck" if stuck else "endless") or not is_loop(search, asked, answer):
         return False
     schedule = steps_of(answer["schedule"])
-    if not stuck:
-        # (no way to the loop is shorter)
-        return not answer.get("lead_in") and len(schedule) == graph.depth[graph.led(schedule)]
-    return graph.led(schedule) in stuck and len(schedule) == min(graph.depth[state] for state in stuck)
+    end = search.led(schedule)
+    # (no way to a loop is shorter, nor to where somebody is stuck)
+    shortest = min(search.depth[state] for state in stuck or [end])
+    return len(schedule) == shortest and (end in stuck if stuck else not answer.get("lead_in"))
 
 
-def is_merged_ending(graph, asked, right, status, answer):
+def is_merged_ending(search, asked, stuck, right, status, answer):
     """That an answer by merged steps is right: nobody is stuck anywhere, or what is told of it fits."""
-    stuck = graph.stuck(asked)
     if not stuck:
-        return (status, answer["answer"]) == right and "can still end after every schedule" in answer["says"]
+        return (status, answer["answer"]) == (MORE, right) and "can still end after every schedule" in answer["says"]
     is_told = (status, answer["answer"]) == (STUCK, "stuck")
-    return is_told and is_loop(graph, asked, answer) and graph.led(steps_of(answer["schedule"])) in stuck
+    return is_told and is_loop(search, asked, answer) and search.led(steps_of(answer["schedule"])) in stuck
 
 
-def is_loop(graph, asked, answer):
+def is_loop(search, asked, answer):
     """That what repeats can follow the schedule and the steps that lead on, and is a loop; all these steps are told."""
-    lead_in, cycle = (steps_of(answer.get(part, "")) for part in ("lead_in", "cycle"))
-    schedule = steps_of(answer["schedule"])
-    steps = schedule + lead_in + cycle
-    is_told = [(step["step"], step["process"]) for step in answer["trace"]] == list(enumerate(steps, 1))
-    return is_told and graph.can_follow(steps) and graph.is_loop(schedule + lead_in, cycle, asked)
-
-
-def is_minimal(program, status, answer):
-    """That a schedule is told as one which needs all its steps, and does: where there are too many states."""
-    is_told = status == TRAPPED and answer["says"] == MINIMAL
-    schedule, trap = told(answer["schedule"], answer["trace"]) if is_told else ([], None)
-    without = [schedule[:at] + schedule[at + 1 :] for at in range(len(schedule))]
-    return (
-        trap is not None
-        and replayed(program, schedule, machine.single) == (len(schedule), trap)
-        and all(replayed(program, other, machine.single) == (len(other), None) for other in without)
-    )
+    schedule, lead_in, cycle = (steps_of(answer.get(part, "")) for part in ("schedule", "lead_in", "cycle"))
+    return are_told(schedule + lead_in + cycle, answer) and search.is_loop(schedule + lead_in, cycle, asked)

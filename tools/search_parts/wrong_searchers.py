@@ -1,7 +1,8 @@
 """Searches that are wrong in one part: what is wrong, what stands in a module, and what is put in its place."""
 
 OLDER = "at(own.scans[taken], first) < at(own.scans[taken], second)"
-STAMP, HELD = "max(shared.tickets) + 1", "at(own.scans[taken], process) != 0"
+STAMP, HELD, METS = "max(shared.tickets) + 1", "at(own.scans[taken], process) != 0", "MET_BY = {"
+VALUES, PUT = "for expression in expressions]", "replaced(shared.rows[row], own.me, value)"
 PRIVATE = ("=", "copy", "held", "if", "older", "out", "while")
 
 # By module.
@@ -12,24 +13,21 @@ WRONG = {
     "search_parts/machine": (
         ("who was never scanned holds a ticket", "(none,) * self.scans",
          "(tuple(range(1, self.processes + 1)),) * self.scans"),
-        ("who is in a loop doesn't come to what stands before", "if it not in places]", "if it not in places and it < at]"),
+        ("who is in a loop doesn't come to what stands before", "if it not in places and", "if it not in places and it < at and"),
         ("tickets aren't renumbered",
          "return tuple(sum(0 < other <= ticket for other in tickets) for ticket in tickets)", "return tickets"),
         ("the greatest number is one greater", "GREATEST = 4294967295", "GREATEST = 4294967296"),
-        ("a difference below 0 is 0", 'unless(right > left, "Below", lambda: left - right)', "max(0, left - right)"),
-        ("a product wraps", 'unless(left * right > GREATEST, "Overflow", lambda: left * right)',
-         "left * right % 4294967296"),
-        ("a remainder by 0 is 0", 'unless(right == 0, "Zero", lambda: left % right)', "left % (right or 1)"),
-        ("`<` is `<=`", "int(left < right)", "int(left <= right)"),
+        ("a difference below 0 is 0", "operator.sub", "lambda left, right: max(0, left - right)"),
+        ("a product wraps", "operator.mul", "lambda left, right: left * right % 4294967296"),
+        ("a remainder by 0 is 0", 'if kind in "/%" and right == 0:',
+         'if (kind, right) == ("%", 0):\n        return 0\n    if (kind, right) == ("/", 0):'),
+        ("`<` is `<=`", "operator.lt", "operator.le"),
         ("`me` counts from 1", "processes: own.me,", "processes: own.me + 1,"),
-        ("the right operand comes first", "for expression in expressions]",
-         "for expression in expressions[::-1]][::-1]"),
-        ("a number that is no process is the last one", 'return unless(process >= len(values), "Index", lambda: values[process])',
-         "return values[min(process, len(values) - 1)]"),
-        ("`put` writes nothing", "with_row(own, shared, row, replaced(shared.rows[row], own.me, value))",
-         "(own, shared)"),
+        ("the right operand comes first", VALUES, f"{VALUES[:-1]}[::-1]][::-1]"),
+        ("a number that is no process is the last one", 'raise Trap("Index")', "return values[-1]"),
+        ("`put` writes nothing", PUT, "shared.rows[row]"),
         ("a stamp takes the greatest ticket", STAMP, "max(1, *shared.tickets)"),
-        ("`clear` gives nothing up", "with_ticket(own, shared, 0)", "(own, shared)"),
+        ("`clear` gives nothing up", '("tickets", own.me, 0)', '("tickets", own.me, shared.tickets[own.me])'),
         ("a scan leaves the own ticket out", "into, shared.tickets)", "into, replaced(shared.tickets, own.me, 0))"),
         ("a copy goes back", "into, own.scans[taken])", "taken, own.scans[into])"),
         ("`older` is so of the same ticket", OLDER, OLDER.replace("<", "<=")),
@@ -41,17 +39,17 @@ WRONG = {
         ("who traps has ended", "Step(own, shared, str(trap), 1)", "Step(own._replace(place=ENDED), shared, None, 1)"),
         ("a merged step takes 1,001 along", "MOST_PRIVATE = 1000", "MOST_PRIVATE = 1001"),
         ("no end is taken along", "return own.place == NOTHING_LEFT", "return False"),
-        ("`get` is private", "PRIVATE = {", 'PRIVATE = {"get", '),
-        ("`scan` is private", "PRIVATE = {", 'PRIVATE = {"scan", '),
+        ("`get` is private", '"get": ("put",)', '"get": ()'),
+        ("`scan` is private", '"scan": ("stamp", "clear")', '"scan": ()'),
         ("nobody else does anything any more", "frozenset().union(*others)", "{None}"),
-        ("`put` is met by `put`", '{("get", *statement.names)}', '{("put", 0), ("put", 1)}'),
-        ("`stamp` isn't met by `scan`", 'else {"change", "scan"}', 'else {"change", "scan" * (statement.word != "stamp")}'),
-        ("`get` of what nobody has is met", 'return may & {("put"', 'return {("put"'),
-        *((f"`{word}` is shared", '"while"}', f'"while"}} - {{"{word}"}}') for word in PRIVATE),
+        ("`put` is met by `put`", '"put": ("get",)', '"put": ("put",)'),
+        ("`stamp` isn't met by `scan`", '"stamp": ("stamp", "clear", "scan")', '"stamp": ("stamp", "clear")'),
+        ("`get` of what nobody has is met", "others = [at(others, ", "_ = [at(others, "),
+        *((f"`{word}` is shared", METS, f'{METS}"{word}": ("stamp", "clear", "scan"), ') for word in PRIVATE),
     ),
     "search_parts/searching": (
-        ("the search goes on from the state that it saw last", "here, traps = further(moves, here, seen)",
-         "here[len(here):], traps = further(moves, [here.pop()], seen)"),
+        ("the search goes on from the state that it saw last",
+         "here = [after for state in here for after in self.further(state)]", "here += self.further(here.pop())"),
         ("all have ended where one has", "return all(self.moves.parts", "return any(self.moves.parts"),
     ),
 }

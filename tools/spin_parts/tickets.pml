@@ -21,10 +21,7 @@ inline stamp() {
     d_step {
       give_up();
       for (q : 0 .. N - 1) {
-        if
-        :: 0 < tickets[q] -> count++
-        :: else
-        fi
+        count = count + (0 < tickets[q])
       }
       tickets[_pid] = count
     }
@@ -35,21 +32,21 @@ inline clear() {
   atomic { count = 0; d_step { give_up() } }
 }
 
-inline scan() {
-  d_step {
-    for (q : 0 .. N - 1) {
-      line[q] = tickets[q]
-    }
-  }
-}
-
-/* at most one process is inside */
-inline none_twice() {
+/* What has to hold: so many processes are inside at most, and who passes a round finds that all have reached it. */
+inline at_most(most) {
   d_step {
     count = 0;
     for (q : 0 .. N - 1) {
       count = count + inside[q]
     }
-    assert(count <= 1)
+    assert(count <= most)
+  }
+}
+
+inline all_reached() {
+  d_step {
+    for (q : 0 .. N - 1) {
+      assert(round <= reached[q])
+    }
   }
 }
