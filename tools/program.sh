@@ -20,18 +20,17 @@ start() {
 
 # Sets `program` to the path of a program. Where it fails, the program has to be built there first.
 find_program() {
-    [ -n "${TICKET_PROGRAMS:-}" ] || has_sources "$1" || exit 4
-    program=$top/crates/$1/out/$1
-    [ -n "${TICKET_PROGRAMS:-}" ] || [ ! -x "$program" ] || return 0
+    if [ -z "${TICKET_PROGRAMS:-}" ]; then
+        if [ ! -d "$top/crates" ]; then
+            echo "$1: this copy has no crates/, so it can't tell what dist/ is made of, nor build: take the whole repository, or \
+start ${ready#"$top/"}/$1 itself" >&2
+            exit 4
+        fi
+        program=$top/crates/$1/out/$1
+        [ ! -x "$program" ] || return 0
+    fi
     is_ready "$1" || return 1
     program=$ready/$1
-}
-
-has_sources() {
-    [ ! -d "$top/crates" ] || return 0
-    echo "$1: this copy has no crates/, so it can't tell what dist/ is made of, nor build: take the whole repository, or \
-start ${ready#"$top/"}/$1 itself" >&2
-    return 1
 }
 
 # Whether the program in dist/ can stand for the one that would be built here. What was found is noted in a file, and
@@ -40,30 +39,20 @@ is_ready() {
     [ -z "${TICKET_PROGRAMS:-}" ] || return 0
     [ -x "$ready/$1" ] || return 1
     noted=$top/dist/.checked-${ready##*/}
-    if [ -f "$noted" ] && [ -z "$(newer_than "$noted")" ]; then
+    if [ -f "$noted" ] && [ -z "$(find "$top/crates" "$top/crates.txt" "$top/HANDLES" "$top/dist/SOURCES" "$ready" \
+        -name out -prune -o -newer "$noted" -print -quit)" ]; then
         return 0
     fi
     : 2>/dev/null >"$noted.new" || true
-    is_of_these_sources || return 1
+    of_dist=$(sed '/^toolchain /d' "$top/dist/SOURCES" | sha256sum)
+    [ "$("$top/tools/sources" "$top" | sha256sum)" = "$of_dist" ] || return 1
     starts_here "$1" || return 1
     mv -f "$noted.new" "$noted" 2>/dev/null || true
 }
 
-newer_than() {
-    find "$top/crates" "$top/crates.txt" "$top/HANDLES" "$top/dist/SOURCES" "$ready" \
-        -name out -prune -o -newer "$1" -print -quit
-}
-
-is_of_these_sources() {
-    of_dist=$(sed '/^toolchain /d' "$top/dist/SOURCES" | sha256sum)
-    [ "$("$top/tools/sources" "$top" | sha256sum)" = "$of_dist" ]
-}
-
 starts_here() {
-    case $1 in
-    ticketc) words='order 1' ;;
-    *) words='labels 1 0' ;;
-    esac
+    words='order 1'
+    [ "$1" = ticketc ] || words='labels 1 0'
     case $(uname -sm) in
     'Linux x86_64' | 'Linux aarch64') "$ready/$1" $words </dev/null >/dev/null 2>&1 && return 0 ;;
     esac

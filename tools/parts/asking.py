@@ -1,7 +1,8 @@
-"""Runs the programs, one after the other, over files in memory; many at once by several of these."""
+"""Where the programs are, and what asks them."""
+import math
 import os
 import platform
-import shlex
+import resource
 import signal
 import subprocess
 import sys
@@ -34,17 +35,12 @@ def used(process):
     return (int(fields[11]) + int(fields[12])) / os.sysconf("SC_CLK_TCK")
 
 
-def shell(script, *words):
-    line = f'top={shlex.quote(TOP)}; . "$top/tools/program.sh"; {script}'
-    return ran("sh", "-c", line, "sh", *words, stderr=subprocess.PIPE)
-
-
 def program_of_sources(name):
     """The path of the program in dist/ where that is of the sources that stand here, else of the one that was built."""
-    found = shell('is_ready "$1" && program=$ready/$1 || find_program "$1" && echo "$program"', name)
+    script = 'top=$1; . "$top/tools/program.sh"; is_ready "$2" && program=$ready/$2 || find_program "$2" && echo "$program"'
+    found = ran("sh", "-c", script, "sh", TOP, name, stderr=subprocess.PIPE)
     if found.returncode:
-        neither = f"{name}: neither was it built here, nor is the one in dist/ of these sources"
-        sys.exit(found.stderr.strip() or neither)
+        sys.exit(found.stderr.strip() or f"{name}: neither was it built here, nor is the one in dist/ of these sources")
     return found.stdout.strip()
 
 
@@ -63,39 +59,23 @@ def asking(name, *words):
 
 
 class Asker:
-    """Asks a program; its input and both outputs are files in memory, which serve one call after the other. A program may use
-    so many seconds of a processor, and on a busy machine take ten times as long."""
+    """Asks a program, which may use so many seconds of a processor, and on a busy machine take ten times as long."""
 
     def __init__(self, patience=60):
-        self.patience, self.running, self.rings = patience, 0, 0
-        self.files = [os.memfd_create(name) for name in ("input", "output", "told")]
-        self.actions = [(os.POSIX_SPAWN_DUP2, file, number) for number, file in enumerate(self.files)]
-        signal.signal(signal.SIGALRM, self.stop)
-
-    def stop(self, _number, _frame):
-        self.rings += 1
-        if self.rings == 10 or used(self.running) >= 0.9 * self.patience:
-            raise TookTooLong
+        self.patience = patience
+        # (the kernel ends by the same signal what has used its seconds of a processor)
+        signal.signal(signal.SIGALRM, lambda _number, _frame: self.running.send_signal(signal.SIGXCPU))
 
     def answer(self, path, words, given):
         """The status, the output, and what is told on standard error."""
-        for file in self.files:
-            os.ftruncate(file, 0)
-            os.lseek(file, 0, os.SEEK_SET)
-        # (a write to a file in memory takes all)
-        os.pwrite(self.files[0], given, 0)
-        self.running, self.rings = os.posix_spawn(path, words, {}, file_actions=self.actions), 0
-        signal.setitimer(signal.ITIMER_REAL, self.patience, self.patience)
-        try:
-            status = os.waitpid(self.running, 0)[1]
-        except TookTooLong:
-            os.kill(self.running, signal.SIGKILL)
-            os.waitpid(self.running, 0)
-            raise
-        finally:
-            signal.setitimer(signal.ITIMER_REAL, 0)
-        return os.waitstatus_to_exitcode(status), *(self.read(file) for file in self.files[1:])
-
-    @staticmethod
-    def read(file):
-        return os.pread(file, os.fstat(file).st_size, 0)
+        ends = {"stdin": subprocess.PIPE, "stdout": subprocess.PIPE, "stderr": subprocess.PIPE}
+        _, most = resource.getrlimit(resource.RLIMIT_CPU)
+        with subprocess.Popen(words, executable=path, env={}, **ends) as self.running:
+            resource.prlimit(self.running.pid, resource.RLIMIT_CPU, (math.ceil(self.patience), most))
+            # (a limit of `communicate` would have it look again and again)
+            signal.alarm(math.ceil(10 * self.patience))
+            output, told = self.running.communicate(given)
+            signal.alarm(0)
+        if self.running.returncode == -signal.SIGXCPU:
+            raise TookTooLong
+        return self.running.returncode, output, told

@@ -2,7 +2,7 @@
 other: what a function costs that a loop calls isn't seen."""
 import re
 
-from parts.tokens import functions, parts
+from parts.tokens import Function, closing, functions, parts, past
 
 GROWS = {"push", "push_str", "push_reserved", "extend", "extend_from_slice", "append", "insert", "resize", "reserve"}
 COPIES = {"clone", "try_clone", "from_slice", "from_str", "to_vec", "to_string", "to_owned", "into_owned", "concat"}
@@ -13,6 +13,7 @@ NEVER |= {"repeat_with", "repeat_n", "from_fn", "successors"}
 # What makes a number of turns far larger than what it is given.
 TURNED = re.compile("_mul|pow|wrapping_|rotate_|swap_bytes|reverse_bits|to_bits")
 MOST = 255
+RANGES = ("..", "..=")
 
 # What grows in a loop though it isn't answered: why it stays small.
 HELD = {
@@ -35,7 +36,8 @@ TURNS = {
     "crates/tick_syntax/src/lexer.rt": {"read_tokens"},  # the text: each turn reads a token
     "crates/tick_syntax/src/parser.rt": {"statements", "names"},  # the tokens: each turn reads some
 }
-# What bounds how deep a call goes, the functions that call themselves, and those that lead back by others.
+# What bounds how deep a call goes, the functions that call themselves, and those that call each other, which are marked by
+# `#[cycle(NAME)]`: the toolchain refuses a cycle without that.
 BRACKETS = "the brackets open at once: at most 64 of a text"
 LEVELS = "the levels of a property: at most 64, with 8 quantifiers"
 PROCESSES = "the processes: at most 6"
@@ -51,7 +53,7 @@ RECURSIONS = {
     ),
     "crates/searches_explore/src/machine.rt": (OTHERS, "has_stopped", ""),
     "crates/searches_explore/src/places.rt": (BRACKETS, "", "add_block add_statement"),
-    "crates/searches_explore/src/private_steps.rt": (OTHERS, "advance has_stopped", "is_private is_unseen is_alone"),
+    "crates/searches_explore/src/private_steps.rt": (OTHERS, "advance has_stopped", ""),
     "crates/searches_explore/src/still.rt": (BRACKETS, "", "is_in_block is_in is_inside rows_in rows_of"),
     "crates/searches_parallel/src/sharing.rt": (THREADS, "side_by_side", ""),
     "crates/tick_kinds/src/names.rt": (BRACKETS, "expression", "statement block"),
@@ -74,15 +76,14 @@ RECURSIONS = {
 }
 
 KEYWORDS = set("as break continue else false for if in let loop match move mut ref return true while".split())
-TYPES = set("bool char i8 i16 i32 i64 str u8 u16 u32 u64 u128 usize".split())
-# They say where memory and threads come from, and no number.
-NO_NUMBER = {"alloc", "rt"}
+# (`alloc` and `rt` say where memory and threads come from)
+NO_NUMBER = KEYWORDS | set("alloc rt bool char i8 i16 i32 i64 str u8 u16 u32 u64 u128 usize".split())
 
 
 def named(words):
-    for at, word in enumerate(words):
-        before, behind = words[at - 1] if at else "", words[at + 1] if at + 1 < len(words) else ""
-        if word.isidentifier() and not word[0].isupper() and word not in KEYWORDS | TYPES | NO_NUMBER:
+    """The names of numbers among these words, each with the word before it and the one behind it."""
+    for before, word, behind in zip(["", *words], words, [*words[1:], ""]):
+        if word.isidentifier() and not word[0].isupper() and word not in NO_NUMBER:
             if before not in (".", "::", "'") and behind not in ("(", "!", "::"):
                 yield word, before, behind
 
@@ -98,39 +99,33 @@ def number(word):
     return int(digits[1], 16) if digits[1] else int(digits[2])
 
 
-class Body:
+class Body(Function):
     """What a function does: its names with all that is given to them, and its loops."""
 
-    def __init__(self, function, constants):
-        self.function, self.words, self.constants, self.loops = function, function.words, constants, list(function.loops())
-        self.values = {}
+    def __init__(self, tokens, at):
+        super().__init__(tokens, at)
+        self.loops, self.values = [*self.each_loop()], {}
         for at, word in enumerate(self.words):
             if word == "=" and self.words[at - 1] not in tuple("=!<>") and self.words[at + 1] != "=":
                 self.note(*self.sides(at))
         for at, opens, _ in self.loops:
             if self.words[at] == "for":
                 self.note(*parts(self.words[at + 1 : opens], ("in",)))
-        changed = {self.words[at + 2] for at in range(len(self.words) - 2) if self.words[at : at + 2] == ["&", "mut"]}
+        changed = {name for both, name in zip(zip(self.words, self.words[1:]), self.words[2:]) if both == ("&", "mut")}
         changed |= {self.words[at - 2] for at, word in enumerate(self.words) if word in GROWS}
         # The names that follow from no argument.
-        self.fixed, before = set(self.values) - function.given - changed, None
+        self.fixed, before = set(self.values) - self.given - changed, None
         while before != self.fixed:
             before = self.fixed
             self.fixed = {name for name in before if not any(names(value) - before for value in self.values[name])}
-
-    def past(self, at, signs):
-        """The place of the next of these signs, outside of all brackets that open on the way."""
-        while self.words[at] not in signs:
-            at = (self.function.close(at) if self.words[at] in "([{" else at) + 1
-        return at
 
     def sides(self, at):
         begin = at
         while self.words[begin - 1] not in (";", "{", "}", "=>", ","):
             begin -= 1
         left = self.words[begin:at]
-        end = ";)]}{" if left[:1] in (["if"], ["while"], ["else"]) else ";)]}"
-        return parts(left[left.index("let") :], (":",))[0] if "let" in left else left, self.words[at + 1 : self.past(at + 1, end)]
+        end = past(self.words, at + 1, ";)]}{" if left[:1] in (["if"], ["while"], ["else"]) else ";)]}")
+        return parts(left[left.index("let") :], (":",))[0] if "let" in left else left, self.words[at + 1 : end]
 
     def note(self, left, right):
         for name in names(left):
@@ -141,39 +136,31 @@ class Body:
         values = [value for name in sorted(names(words) & known) for value in self.values[name]] if depth else []
         return sum((self.expanded(value, known, depth - 1) for value in values), list(words))
 
-    def has_large(self, words):
-        return any((number(self.constants.get(word, word)) or 0) > MOST for word in words)
-
-    def is_number(self, words):
-        return len(words) == 1 and number(self.constants.get(words[0], words[0])) is not None
-
     def answered(self):
-        """The names that stand in what is answered, as they are: behind a `return`, and in the last expression outside of loops."""
-        spans = [self.words[at : self.past(at, ";,}")] for at, word in enumerate(self.words) if word == "return"]
+        """The names that stand in what is answered, as they are: behind a `return`, and in the last expression that is in no
+        loop."""
+        words = self.words
+        spans = [words[at : past(words, at, ";,}")] for at, word in enumerate(words) if word == "return"]
         at = begin = 1
-        while at < len(self.words) - 1:
-            is_block = self.words[at] == "{" and self.words[begin] in ("for", "while", "loop", "'", "if", "match")
-            at = (self.function.close(at) if self.words[at] in "([{" else at) + 1
-            if self.words[at - 1] == ";" or is_block and self.words[at] not in ("else", "}", ".", "?"):
+        while at < len(words) - 1:
+            is_block = words[at] == "{" and words[begin] in ("for", "while", "loop", "'", "if", "match")
+            at = (closing(words, at) if words[at] in "([{" else at) + 1
+            if words[at - 1] == ";" or is_block and words[at] not in ("else", "}", ".", "?"):
                 begin = at
         inside = {place for at, _, closes in self.loops for place in range(at, closes)}
-        spans.append([word for at, word in enumerate(self.words) if begin <= at and at not in inside])
+        spans.append([word for at, word in enumerate(words) if begin <= at and at not in inside])
         return {name for span in spans for name, before, behind in named(span) if before not in ("&", "mut") and behind != "."}
 
     def root(self, at):
-        """The name at which the place begins whose call stands here, as `a` of `a.b[c].push`; none of a type's call."""
-        if self.words[at - 1] != ".":
-            return set()
-        at -= 2
-        while self.words[at] in ("?", ")", "]") or self.words[at - 1] == ".":
-            depth = self.words[at] in ")]"
-            while depth:
-                at -= 1
-                depth += (self.words[at] in ")]}") - (self.words[at] in "([{")
-            at -= 2 if self.words[at - 1] == "." and self.words[at].isidentifier() else 1
-        return {self.words[at]}
+        """The name at which the place begins whose call stands here, as `a` of `a.b.push`; none of a type's call. Where a bracket
+        stands on the way, that is no name which may grow."""
+        first = at
+        while self.words[first - 1] == ".":
+            first -= 2
+        return {self.words[first]} if first < at else set()
 
     def bound(self, at, opens, closes):
+        """The names that belong to one turn of a loop."""
         lets = [self.words[place : self.words.index("=", place)] for place in range(at, closes) if self.words[place] == "let"]
         heads = {"for": parts(self.words[at + 1 : opens], ("in",))[0], "|": self.words[at:opens]}
         return names(sum(lets, heads.get(self.words[at], [])))
@@ -181,11 +168,11 @@ class Body:
 
 def grown_in_loops(body, held):
     """The places in loops at which something grows, or is copied, that mustn't."""
-    words, kept = body.words, None
+    words, kept = body.words, body.answered() | held | body.given if body.loops else held
     for at, opens, closes in body.loops:
-        own, within = body.bound(at, opens, closes), {place for it in body.loops if at < it[0] < closes for place in range(it[1], it[2])}
-        for place in sorted(set(range(opens, closes)) - within):
-            call = words[place + 1 : body.function.close(place + 1)] if words[place + 1] == "(" else []
+        own, inner = body.bound(at, opens, closes), [range(*it[1:]) for it in body.loops if at < it[0] < closes]
+        for place in sorted(set(range(opens, closes)).difference(*inner)):
+            call = words[place + 1 : closing(words, place + 1)] if words[place + 1] == "(" else []
             grown, copied = set(), set()
             if words[place] in GROWS and words[place - 1] == "." and call:
                 grown = body.root(place)
@@ -194,72 +181,55 @@ def grown_in_loops(body, held):
                 grown = {words[place + 2]}
             elif words[place] in COPIES and call:
                 copied = names(call) | body.root(place)
-            if grown - own and kept is None:
-                kept = body.answered() | held | body.function.given
-            if copied - own or grown - own - (kept or set()):
+            if copied - own or grown - own - kept:
                 yield place
 
 
 def endless(body):
     """The places of loops and ranges of which no argument says how often they run."""
-    words, known = body.words, set(body.values)
-    heads = [(at, parts(words[at + 1 : opens], ("in",))[-1], words[at:closes]) for at, opens, closes in body.loops if words[at] != "|"]
+    words = body.words
+    loops = [it for it in body.loops if words[it[0]] != "|"]
+    heads = [(at, parts(words[at + 1 : opens], ("in",))[-1], words[at:closes]) for at, opens, closes in loops]
     for at, word in enumerate(words):
-        if word == "(" and words[body.function.close(at) :][:2] == [")", "."]:
-            inside = words[at + 1 : body.function.close(at)]
-            heads += [(at, inside, [])] if len(parts(inside, ("..", "..="))) == 2 else []
+        inside = words[at + 1 : closing(words, at)] if word == "(" else []
+        if len(parts(inside, RANGES)) == 2 and words[at + len(inside) + 2] == ".":
+            heads.append((at, inside, []))
     for at, head, whole in heads:
-        expanded, ends = body.expanded(head, known), parts(head, ("..", "..="))
-        is_given = names(head) - body.fixed or len(ends) == 2 and all(map(body.is_number, ends))
-        pairs = list(zip(["", *expanded], expanded))
-        has_product = any(TURNED.search(word) or pair == ("<", "<") or is_product(*pair) for pair in pairs for word in pair)
-        has_product |= words[at] != "while" and "!" in expanded
-        if not is_given or has_product or body.has_large(expanded + body.expanded(whole, body.fixed)):
+        expanded, ends = body.expanded(head, set(body.values)), parts(head, RANGES)
+        is_given = names(head) - body.fixed or len(ends) == 2 and all(len(it) == 1 and number(it[0]) is not None for it in ends)
+        has_product = any(is_turned(*pair) for pair in zip(["", *expanded], expanded)) or words[at] != "while" and "!" in expanded
+        numbers = [number(word) or 0 for word in expanded + body.expanded(whole, body.fixed)]
+        if not is_given or has_product or max(numbers) > MOST:
             yield at
 
 
-def is_product(before, word):
-    return word == "*" and before not in KEYWORDS and (before[:1].isalnum() or before in (")", "]"))
+def is_turned(before, word):
+    """Whether a word makes a number that is far larger than what it is given: a call, a shift or a product does."""
+    is_factor = before not in KEYWORDS and (before[:1].isalnum() or before in (")", "]"))
+    return TURNED.search(word) or (before, word) == ("<", "<") or word == "*" and is_factor
 
 
-def calls_of(body, own_names):
-    """The functions of this file that a function calls, and what else it calls that has its own name."""
-    words, own, is_method = body.words, body.function.name, "self" in body.function.given
+def calls_itself(body):
+    """Whether a function calls itself, or what else has its name."""
+    words, is_method = body.words, "self" in body.given
     for at, word in enumerate(words[:-1]):
-        if word in own_names and words[at + 1] in ("(", "::"):
+        if word == body.name and words[at + 1] in ("(", "::"):
             first, before = words[max(at - 2, 0)], words[at - 1]
-            if before == "::":
-                is_called = first == "Self" or first.islower()
-            elif before == ".":
-                is_called = first == "self" or is_method and word == own and first.isidentifier() and words[at - 3] != "."
-            else:
-                is_called = not (is_method and word == own)
-            if is_called:
-                yield word
+            is_path = before == "::" and (first == "Self" or first.islower())
+            is_asked = before == "." and (first == "self" or is_method and first.isidentifier() and words[at - 3] != ".")
+            if is_path or is_asked or before not in ("::", ".") and not is_method:
+                return True
+    return False
 
 
-def recursive(bodies, own, others):
-    """The functions that call themselves and aren't `own`, or lead back to themselves and aren't among these and `others`."""
-    calls = {}
-    for body in bodies:
-        calls.setdefault(body.function.name, set()).update(calls_of(body, {it.function.name for it in bodies}))
-    for body in bodies:
-        name, reached = body.function.name, set()
-        left = set(calls[name])
-        while left:
-            reached |= left
-            left = set().union(*(calls[it] for it in left)) - reached
-        calls_itself = name in calls_of(body, {name})
-        if calls_itself and name not in own or (name in reached or body.function.is_cycle()) and name not in own | others:
-            yield body.function.line
-
-
-def costs_in(tokens, path, constants):
-    bodies = [Body(it, constants) for it in functions(tokens) if it.words]
-    lines = [line for word, line in tokens if word in NEVER]
+def costs_in(tokens, path):
+    bodies = [it for it in functions(tokens, Body) if it.words]
+    lines, (_, own, others) = [word.line for word in tokens if word in NEVER], RECURSIONS.get(path, ("", "", ""))
     for body in bodies:
         turns = sorted(set(endless(body)))
-        told = turns[1:] if body.function.name in TURNS.get(path, ()) else turns
-        lines += [body.function.line_of(at) for at in [*told, *grown_in_loops(body, HELD.get(path, set()))]]
-    _, own, others = RECURSIONS.get(path, ("", "", ""))
-    return lines + list(recursive(bodies, set(own.split()), set(others.split())))
+        told = turns[1:] if body.name in TURNS.get(path, ()) else turns
+        lines += [body.words[at].line for at in [*told, *grown_in_loops(body, HELD.get(path, set()))]]
+        is_known = body.name in own.split()
+        if not is_known and (calls_itself(body) or body.is_in_cycle and body.name not in others.split()):
+            lines.append(body.line)
+    return lines

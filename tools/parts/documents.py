@@ -10,26 +10,23 @@ LINK = re.compile(r"\]\(([^)\s]+)\)")
 MARK = "\x1eanswered"
 
 
-def commands(blocks):
-    """Each command of some blocks of numbered lines: its line, its words, and the answer that is printed."""
+def commands(block):
+    """Each command of a block of numbered lines: its line, its words, and the answer that is printed."""
     found = []
-    for block in blocks:
-        session = []
-        for number, line in block:
-            if line.startswith("$ "):
-                session.append([number, line[2:], ""])
-            elif session and line.startswith("> ") and not session[-1][2]:
-                session[-1][1] += "\n" + line[2:]
-            elif session:
-                session[-1][2] += line + "\n"
-        found += session
+    for number, line in block:
+        if line.startswith("$ "):
+            found.append([number, line[2:], ""])
+        elif found and line.startswith("> ") and not found[-1][2]:
+            found[-1][1] += "\n" + line[2:]
+        elif found:
+            found[-1][2] += line + "\n"
     return found
 
 
 def wrong_in(path, blocks, folder, **environment):
     """How many commands a page has, and what is told of those that answer otherwise. One shell runs them in a folder, in their
     order, so that a name or a file of an earlier one is there."""
-    listed, wrong = commands(blocks), []
+    listed, wrong = [it for block in blocks for it in commands(block)], []
     script = "".join(f"{command}\nprintf '{MARK}'\n" for _, command, _ in listed)
     came = ran("bash", "-c", script, cwd=folder, env={**os.environ, **environment}, timeout=600)
     for (number, command, printed), answered in zip(listed, came.stdout.split(MARK)):

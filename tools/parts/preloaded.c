@@ -49,20 +49,15 @@ static int is_refused(void) {
 }
 
 void *malloc(size_t size) { return is_refused() ? NULL : __libc_malloc(size); }
-
 void *calloc(size_t count, size_t size) { return is_refused() ? NULL : __libc_calloc(count, size); }
-
 void *realloc(void *block, size_t size) { return is_refused() ? NULL : __libc_realloc(block, size); }
-
 void *memalign(size_t align, size_t size) { return is_refused() ? NULL : __libc_memalign(align, size); }
-
 void *aligned_alloc(size_t align, size_t size) { return memalign(align, size); }
 
 int posix_memalign(void **block, size_t align, size_t size) {
     void *found = memalign(align, size);
-    if (!found) return ENOMEM;
-    *block = found;
-    return 0;
+    if (found) *block = found;
+    return found ? 0 : ENOMEM;
 }
 
 ssize_t read(int file, void *to, size_t count) {

@@ -1,39 +1,75 @@
-"""The records of wrong bodies that were seen refused, crates/NAME/edits/REFUSED (docs/MAINTAINING.md)."""
+"""The records of wrong bodies that were seen refused, crates/NAME/edits/REFUSED (docs/MAINTAINING.md), and the sums of all that
+decides whether they are."""
+import functools
+import hashlib
 import os
 import re
 
 from parts import kit
-from parts.sums import Sums, files_of_tool, sum_of, sum_of_file
+from parts.crates import below, files_of
+from parts.functions import Source
+from parts.tool import read, read_bytes, write
 
+PARTS = os.path.dirname(os.path.abspath(__file__))
 LINE = re.compile(r"([0-9a-f]{32}) (\S+\.edit): (.+)")
 PLACE = re.compile(r"(?:\./)?((?:src|proofs)/[^:\s]+)")
 QUOTED = re.compile(r"`([^`]+)`")
-DECIDES = os.path.join(os.path.dirname(os.path.abspath(__file__)), "trying.py")
+IMPORTED = re.compile(r"^from parts(?: import ([\w, ]+)|\.(\w+) import)", re.MULTILINE)
+
+
+def sum_of(*parts):
+    return hashlib.sha256("\0".join(parts).encode()).hexdigest()
+
+
+def sum_of_file(path):
+    return hashlib.sha256(read_bytes(path)).hexdigest()
+
+
+def files_of_tool(path):
+    """The file of a tool, with the parts that it imports and those that these import."""
+    found, left = [], [path]
+    while left:
+        found.append(left.pop())
+        named = IMPORTED.findall(read(found[-1]))
+        files = {f"{PARTS}/{name}.py" for one, other in named for name in re.split(r", *", one or other)}
+        left += sorted(files.difference(found, left))
+    return sorted(found)
+
+
+def contracts(source):
+    """The files of a crate's src/ without the bodies of those functions that belong to no trait and make no constant."""
+    for file in sorted(source.texts):
+        lines = source.texts[file].split("\n")
+        for function in source.functions(file):
+            body = function.body()
+            if body and function.may_stand_twice(source.types):
+                opens, ends = (function.first - 1 + at for at in body)
+                lines[opens + 1 : ends] = [""] * (ends - opens - 1)
+        yield f"{file}\n" + "\n".join(lines)
 
 
 class Records:
+    """The records of crates, each with a sum of the edit and of what decides a check of its crate: the crate's own files; what
+    it uses of the crates below, which are their contracts, their definitions and the lemmas that it names; their lines of
+    crates.txt, HANDLES, the toolchain and the parts of the tool."""
+
     def __init__(self, top, crates):
-        self.top, self.sums = top, Sums(top, crates, kit.version())
-        self.tool = sum_of(*[sum_of_file(path) for path in files_of_tool(DECIDES)])
-        self.crates, self.known = {}, {}
+        self.top, self.crates = top, crates
+        self.base = sum_of(kit.version(), sum_of_file(f"{top}/HANDLES"))
+        self.tool = sum_of(*map(sum_of_file, files_of_tool(f"{PARTS}/trying.py")))
 
     def path(self, name):
         return f"{self.top}/crates/{name}/edits/REFUSED"
 
+    @functools.cache
     def read(self, name):
-        if name not in self.known:
-            lines = []
-            if os.path.exists(self.path(name)):
-                with open(self.path(name), encoding="utf-8") as text:
-                    lines = text.read().splitlines()
-            found = [(LINE.fullmatch(line), line) for line in lines]
-            self.known[name] = {it[2]: (it[1], it[3]) for it, _ in found if it}, [line for it, line in found if not it]
-        return self.known[name]
+        """The sum and the goal of each edit of a crate that has a record, and the lines that are none."""
+        lines = read(self.path(name)).splitlines() if os.path.exists(self.path(name)) else []
+        found = [(LINE.fullmatch(line), line) for line in lines]
+        return {it[2]: (it[1], it[3]) for it, _ in found if it}, [line for it, line in found if not it]
 
     def sum(self, name, edit):
-        if name not in self.crates:
-            self.crates[name] = sum_of(self.tool, self.sums.of(name))
-        return sum_of(self.crates[name], edit.name, edit.text)[:32]
+        return sum_of(self.of_crate(name), edit.name, edit.text)[:32]
 
     def holds(self, name, edit):
         """Whether the edit was seen refused as all stands here."""
@@ -47,16 +83,33 @@ class Records:
     def write(self, tried, found):
         """Writes the records of a crate: of the edits that were tried what is told of those that were refused, of the others
         the records that hold."""
-        lines = []
-        for edit in tried.edits:
-            told = found.get(edit.name)
-            if told:
-                lines.append(f"{self.sum(tried.name, edit)} {edit.name}: {how_refused(told)}\n")
-            elif edit.name not in found and self.holds(tried.name, edit):
-                lines.append(f"{self.sum(tried.name, edit)} {edit.name}: {self.read(tried.name)[0][edit.name][1]}\n")
-        with open(f"{self.path(tried.name)}.new", "w", encoding="utf-8") as text:
-            text.writelines(lines)
+        goals = {edit.name: self.read(tried.name)[0][edit.name][1] for edit in tried.edits if self.holds(tried.name, edit)}
+        goals.update({name: told and how_refused(told) for name, told in found.items()})
+        lines = [f"{self.sum(tried.name, it)} {it.name}: {goals[it.name]}\n" for it in tried.edits if goals.get(it.name)]
+        write(f"{self.path(tried.name)}.new", "".join(lines))
         os.replace(f"{self.path(tried.name)}.new", self.path(tried.name))
+
+    @functools.cache
+    def of_crate(self, name):
+        own, below_it = files_of(f"{self.top}/crates/{name}"), below(name, self.crates)[:-1]
+        lemmas = [it for lower in below_it for it in self.files(lower, self.named(name, own, lower))]
+        all_read = sum_of(self.base, self.crates[name].line, *self.files(name, own), *lemmas, *map(self.used, below_it))
+        return sum_of(self.tool, all_read)
+
+    @functools.cache
+    def used(self, name):
+        """What a crate has for all above it: definitions, and sources without the bodies of functions."""
+        folder = f"{self.top}/crates/{name}"
+        definitions = self.files(name, [path for path in files_of(folder) if path.startswith("specs/")])
+        return sum_of(self.crates[name].line, *definitions, *contracts(Source(folder)))
+
+    def files(self, name, paths):
+        return [f"{name}/{path} {sum_of_file(f'{self.top}/crates/{name}/{path}')}" for path in paths]
+
+    def named(self, name, paths, lower):
+        """The pages of lemmas of a crate below that these files name."""
+        page, texts = re.compile(rf"\b{lower}(?:\.|::)proofs(?:\.|::)(\w+)"), [f"{self.top}/crates/{name}/{it}" for it in paths]
+        return sorted({f"proofs/{found}.antt" for text in texts for found in page.findall(read(text))})
 
 
 def how_refused(told):

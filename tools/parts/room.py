@@ -7,6 +7,7 @@ import subprocess
 import tempfile
 
 from parts.crates import below_all, files_of
+from parts.tool import AS_ONE, write
 
 LEFT_OUT = shutil.ignore_patterns("out", "must-fail", "edits")
 
@@ -18,12 +19,10 @@ class NotProved(Exception):
 def laid(top, names, crates, room):
     kin = below_all(names, crates)
     os.makedirs(f"{room}/.git")
-    with open(f"{room}/crates.txt", "w", encoding="utf-8") as text:
-        text.writelines(crates[name].line for name in kin)
+    write(f"{room}/crates.txt", "".join(crates[name].line for name in kin))
     shutil.copy(f"{top}/HANDLES", room)
     for name in kin:
         shutil.copytree(f"{top}/crates/{name}", f"{room}/crates/{name}", ignore=LEFT_OUT)
-    return kin
 
 
 def stand(top, names, crates):
@@ -32,31 +31,26 @@ def stand(top, names, crates):
     built = {}
     for name in below_all(names, crates):
         folder = f"{top}/crates/{name}"
-        files = [f"{top}/crates.txt", f"{top}/HANDLES", *(f"{folder}/{path}" for path in files_of(folder))]
-        below = [built[it] for it in crates[name].libraries if it in crates]
         is_program = os.path.isfile(f"{folder}/src/main.rt")
         # A library is a folder, and each has this file.
         made = f"{folder}/out/{name}" if is_program else f"{folder}/out/rlib/{name}.rlib/format"
         if not os.path.isfile(made):
             return False
         built[name] = os.stat(made).st_mtime_ns
+        files = [f"{top}/crates.txt", f"{top}/HANDLES", *(f"{folder}/{path}" for path in files_of(folder))]
+        below = [built[it] for it in crates[name].libraries if it in crates]
         if built[name] <= max([*below, *(os.stat(path).st_mtime_ns for path in files)]):
             return False
     return True
 
 
-@contextlib.contextmanager
 def built(top, names, crates):
     """Where these crates and those below them stand proved and built: in the repository itself, or in a room."""
-    if stand(top, names, crates):
-        yield top
-    else:
-        with proved(top, names, crates) as room:
-            yield room
+    return contextlib.nullcontext(top) if stand(top, names, crates) else proved(top, names, crates)
 
 
 @contextlib.contextmanager
-def proved(top, names, crates, tell=None, first=()):
+def proved(top, names, crates, tell=lambda name: None, first=()):
     """A room with these crates and those below them proved and built; `tell` is told of each that is done. Of those
     that are proved `first` each has one processor, which takes less of their time; then idle ones go to a proof that
     starts."""
@@ -65,26 +59,21 @@ def proved(top, names, crates, tell=None, first=()):
         laid(top, names, crates, room)
         if first:
             prove(room, tell, ["rt", "ci", *first], {**os.environ, "RT_JOBS": str(len(os.sched_getaffinity(0)))})
-        prove(room, tell or (lambda name: None), ["rt", "ci"], os.environ)
+        prove(room, tell, ["rt", "ci"], os.environ)
         yield room
 
 
 def prove(room, tell, words, environment):
-    command = subprocess.Popen(
-        words, cwd=room, env=environment, stdin=subprocess.DEVNULL, stdout=subprocess.PIPE, stderr=subprocess.STDOUT,
-        text=True, errors="replace",
-    )
     said = []
-    try:
-        for line in command.stdout:
-            said.append(line)
-            told = line.split()
-            if told[:1] == ["rt:"] and (told[2:] == ["proved"] or told[2:4] == ["is", "kept:"]):
-                tell(told[1])
-    except BaseException:
-        command.terminate()
-        raise
-    finally:
-        command.wait()
+    with subprocess.Popen(words, cwd=room, env=environment, **AS_ONE) as command:
+        try:
+            for line in command.stdout:
+                said.append(line)
+                told = line.split()
+                if told[:1] == ["rt:"] and (told[2:] == ["proved"] or told[2:4] == ["is", "kept:"]):
+                    tell(told[1])
+        except BaseException:
+            command.terminate()
+            raise
     if command.returncode:
         raise NotProved("".join(said))

@@ -1,15 +1,21 @@
 """Rows of answers/: what a program is asked, and what it answers (answers/README.md)."""
-import os
+import itertools
 import re
 import shlex
 from collections import namedtuple
 
+from parts.tool import read_bytes
+
 ESCAPE = re.compile(
-    r"\\(?:(?P<byte>[ntr\\\"])|x(?P<hex>[0-9a-f]{2})|<(?P<name>[^>]+)>"
-    r"|(?P<count>\d+)(?:\[(?P<first>-?\d+),(?P<step>-?\d+)\])?\"(?P<piece>(?:\\.|[^\"\\])*)\"|(?P<end>$)|(?P<bad>.?))"
+    rb"\\(?:(?P<byte>[ntr\\\"])|x(?P<hex>[0-9a-f]{2})|<(?P<name>[^>]+)>"
+    rb"|(?P<count>\d+)(?:\[(?P<first>-?\d+),(?P<step>-?\d+)\])?\"(?P<piece>(?:\\.|[^\"\\])*)\"|(?P<end>$)|(?P<bad>.?))"
 )
-BYTES = {"n": b"\n", "t": b"\t", "r": b"\r", "\\": b"\\", '"': b'"'}
+BYTES = {b"n": b"\n", b"t": b"\t", b"r": b"\r", b"\\": b"\\", b'"': b'"'}
+# A line goes on behind a backslash that isn't escaped itself.
+GOES_ON = re.compile(r"(?<!\\)(?:\\\\)*\\$")
 ANY = "\\..."
+# What an output may have to do with a text.
+DOES = {"be": bytes.__eq__, "begin with": bytes.startswith, "end with": bytes.endswith, "have": bytes.__contains__}
 # A command line with its input and what is to come of it, and where that stands.
 Row = namedtuple("Row", "where words given outputs told status pattern")
 
@@ -18,116 +24,83 @@ class BadRow(Exception):
     """A line that is none of these."""
 
 
-class Output:
-    def __init__(self, text, is_end=False, is_beginning=False):
-        self.text, self.is_end, self.is_beginning = text, is_end, is_beginning
-
+class Output(namedtuple("Output", "text does")):
     def has(self, found):
-        if self.is_end and self.is_beginning:
-            return self.text in found
-        if self.is_end:
-            return found.endswith(self.text)
-        return found.startswith(self.text) if self.is_beginning else found == self.text
+        return DOES[self.does](found, self.text)
 
 
 class File:
+    """The rows of a file, and its named texts. Each line of it goes with where it stands."""
+
     def __init__(self, top, path):
         self.top, self.path, self.texts = top, path, {}
 
     def rows(self, text):
-        found, block = [], []
-        for number, line in enumerate([*text.split("\n"), ""], 1):
-            if line.strip():
-                block.append((number, line))
-            elif block:
-                found += self.of_block(block)
-                block = []
-        return found
+        lines = [(f"{self.path}:{number}", line) for number, line in enumerate(text.split("\n"), 1) if not line.startswith("#")]
+        blocks = [list(block) for is_text, block in itertools.groupby(lines, lambda it: bool(it[1].strip())) if is_text]
+        return [row for block in blocks for row in self.of_block(block)]
 
-    def of_block(self, block):
-        lines = [(number, line) for number, line in block if not line.startswith("#")]
-        if lines and lines[0][1].startswith("text "):
-            self.texts[lines[0][1][5:].strip()] = self.joined(lines[1:], "|", b"")
+    def of_block(self, lines):
+        where, head = lines[0]
+        if head.startswith("text "):
+            self.texts[head[5:].strip()] = self.joined(lines[1:], "|", b"")
             return []
-        asked = [(number, line) for number, line in lines if line.startswith("$ ")]
-        if lines and not asked:
-            raise BadRow(f"{self.path}:{lines[0][0]}: no command line stands here")
-        rest = lines[len(asked) :]
-        if lines[: len(asked)] != asked:
-            raise BadRow(f"{self.path}:{lines[0][0]}: the command lines stand first")
-        return [Row(f"{self.path}:{number}", self.words(number, line), *self.answer(rest)) for number, line in asked]
+        asked = [it for it in lines if it[1].startswith("$ ")]
+        if not asked or lines[: len(asked)] != asked:
+            raise BadRow(f"{where}: {'the command lines stand first' if asked else 'no command line stands here'}")
+        answer = self.answer(lines[len(asked) :])
+        return [Row(where, self.words(where, line), *answer) for where, line in asked]
 
-    def words(self, number, line):
-        return [self.expanded(number, word) for word in shlex.split(line[2:])]
+    def words(self, where, line):
+        return [self.expanded(where, word.encode()) for word in shlex.split(line[2:])]
 
     def answer(self, lines):
         """The input, the outputs of which one has to come, what is told, the status, and what finds the output."""
-        of = {sign: [it for it in lines if it[1][0] == sign] for sign in "<!=/"}
-        outputs = [[]]
-        for number, line in lines:
+        of, outputs = {sign: [] for sign in "<!=/"}, [[]]
+        for where, line in lines:
             if line == "or":
                 outputs.append([])
-            elif line[0] == ">":
-                outputs[-1].append((number, line))
-            elif line[0] not in of:
-                raise BadRow(f"{self.path}:{number}: no line of a row: {line}")
-        status = int(of["="][0][1][1:]) if of["="] else 0
-        given, pattern = self.joined(of["<"], "<", b""), self.joined(of["/"], "/", b"")
+            elif line[0] != ">" and line[0] not in of:
+                raise BadRow(f"{where}: no line of a row: {line}")
+            else:
+                of.get(line[0], outputs[-1]).append((where, line))
+        status, pattern = int(of["="][0][1][1:]) if of["="] else 0, self.joined(of["/"], "/", b"")
         outputs, told = [self.output(it, ">") for it in outputs], self.output(of["!"], "!")
-        return given, outputs, told, status, re.compile(pattern) if pattern else None
+        return self.joined(of["<"], "<", b""), outputs, told, status, re.compile(pattern) if pattern else None
 
     def output(self, lines, sign):
-        is_end = bool(lines) and lines[0][1].startswith(f"{sign} {ANY}")
-        if is_end:
-            lines = [(lines[0][0], f"{sign} " + lines[0][1][2 + len(ANY) :]), *lines[1:]]
-        is_beginning = bool(lines) and lines[-1][1].endswith(ANY)
-        if is_beginning:
-            lines = [*lines[:-1], (lines[-1][0], lines[-1][1][: -len(ANY)] + "\\")]
-        return Output(self.joined(lines, sign, b"\n"), is_end, is_beginning)
+        does = 0
+        if lines and lines[0][1].startswith(f"{sign} {ANY}"):
+            lines[0], does = (lines[0][0], lines[0][1].replace(ANY, "", 1)), 2
+        if lines and lines[-1][1].endswith(ANY):
+            lines[-1], does = (lines[-1][0], lines[-1][1].removesuffix(ANY) + "\\"), does + 1
+        return Output(self.joined(lines, sign, b"\n"), [*DOES][does])
 
     def joined(self, lines, sign, last):
         """The lines as one text: a line feed between two, unless the first ends in a backslash, and `last` at the end."""
         text = b""
-        for at, (number, line) in enumerate(lines):
+        for (where, line), feed in zip(lines, [b"\n"] * (len(lines) - 1) + [last]):
             if line[0] != sign or line[1:2] not in ("", " "):
-                raise BadRow(f"{self.path}:{number}: `{sign} ` stands before each of these lines: {line}")
-            goes_on = re.search(r"(?<!\\)(?:\\\\)*\\$", line)
-            feed = b"" if goes_on else b"\n" if at + 1 < len(lines) else last
-            text += self.expanded(number, line[2:]) + feed
+                raise BadRow(f"{where}: `{sign} ` stands before each of these lines: {line}")
+            text += self.expanded(where, line[2:].encode()) + (b"" if GOES_ON.search(line) else feed)
         return text
 
-    def expanded(self, number, text):
-        found, at = b"", 0
-        for escape in ESCAPE.finditer(text):
-            found += text[at : escape.start()].encode() + self.meant(number, escape)
-            at = escape.end()
-        return found + text[at:].encode()
+    def expanded(self, where, text):
+        return ESCAPE.sub(lambda escape: self.meant(where, escape), text)
 
-    def meant(self, number, escape):
+    def meant(self, where, escape):
         if escape["byte"]:
             return BYTES[escape["byte"]]
         if escape["hex"]:
-            return bytes.fromhex(escape["hex"])
-        if escape["name"]:
-            return self.named(number, escape["name"])
-        if escape["count"]:
-            return self.repeated(number, escape)
+            return bytes.fromhex(escape["hex"].decode())
+        if name := (escape["name"] or b"").decode():
+            if "/" not in name and name not in self.texts:
+                raise BadRow(f"{where}: no text above has this name: {name}")
+            return read_bytes(f"{self.top}/{name}") if "/" in name else self.texts[name]
         if escape["bad"] is not None:
-            raise BadRow(f"{self.path}:{number}: no such escape: {escape[0]}")
-        return b""
-
-    def named(self, number, name):
-        if "/" not in name:
-            if name not in self.texts:
-                raise BadRow(f"{self.path}:{number}: no text above has this name: {name}")
-            return self.texts[name]
-        with open(os.path.join(self.top, name), "rb") as file:
-            return file.read()
-
-    def repeated(self, number, escape):
-        count, piece = int(escape["count"]), escape["piece"]
+            raise BadRow(f"{where}: no such escape: {escape[0].decode()}")
+        piece, count = self.expanded(where, escape["piece"] or b""), int(escape["count"] or 0)
         if not escape["first"]:
-            return self.expanded(number, piece) * count
+            return piece * count
         first, step = int(escape["first"]), int(escape["step"])
-        parts = self.expanded(number, piece).split(b"@")
-        return b"".join(str(first + step * time).encode().join(parts) for time in range(count))
+        return b"".join(piece.replace(b"@", b"%d" % (first + step * time)) for time in range(count))

@@ -1,54 +1,56 @@
-"""The tokens of a source, its functions and their loops, as tools/refusals reads them.
-
-A token stands with its line. Comments, clauses and texts are left out.
-"""
+"""The tokens of a source, its functions and their loops, as tools/refusals reads them. Comments, clauses and texts are left
+out."""
 import re
 
 TEXT = r"b?\"(?:\\.|[^\"\\])*\"|'(?:\\.|[^'\\])'"
-TOKEN = re.compile(rf"//[^\n]*|{TEXT}|[A-Za-z_]\w*|\d\w*(?:\.\d\w*)?|=>|->|::|\.\.=?|\S", re.S)
+LEFT_OUT = re.compile(rf"//[^\n]*|{TEXT}", re.S)
+TOKEN = re.compile(r"[A-Za-z_]\w*|\d\w*(?:\.\d\w*)?|=>|->|::|\.\.=?|\S")
 CLAUSE = re.compile(r"^[ \t]*(requires|ensures|ghost|measure)\b")
+
+
+class Token(str):
+    """A word or a sign, which knows its line."""
+
+    def __new__(cls, text, line):
+        token = super().__new__(cls, text)
+        token.line = line
+        return token
 
 
 def without_clauses(text):
     """A text whose clauses are empty lines, each to where its last bracket closes."""
     kept, depth = [], 0
     for line in text.split("\n"):
-        depth = max(depth, 0)
-        if depth or CLAUSE.match(line):
-            bare = re.sub(TEXT, "", line)
-            depth += sum(bare.count(sign) for sign in "([{") - sum(bare.count(sign) for sign in ")]}")
+        if depth > 0 or CLAUSE.match(line):
+            signs = re.findall(r"[][(){}]", re.sub(TEXT, "", line))
+            depth = max(depth, 0) + sum(1 if sign in "([{" else -1 for sign in signs)
             # (it ends a declaration, too)
             line = ";" if line.endswith(";") else ""
         kept.append(line)
     return "\n".join(kept)
 
 
-def tokens_of(text):
-    tokens, line, end = [], 1, 0
-    text = without_clauses(text)
-    for match in TOKEN.finditer(text):
-        token = match.group(0)
-        line += text.count("\n", end, match.start())
-        end = match.start()
-        if not token.startswith(("//", '"', 'b"', "'")) or token == "'":
-            tokens.append((token, line))
-    return tokens
+def tokens_of(text, values):
+    """The tokens of a text; for a word that has a value here that stands."""
+    bare = LEFT_OUT.sub(lambda found: " " + "\n" * found[0].count("\n"), without_clauses(text))
+    found = [(number, word) for number, line in enumerate(bare.split("\n"), 1) for word in TOKEN.findall(line)]
+    return [Token(values.get(word, word), number) for number, word in found]
 
 
-def closing(tokens, at):
+def closing(words, at):
     """The place of the bracket that closes the one at this place."""
     depth = 0
-    for place in range(at, len(tokens)):
-        depth += tokens[place][0] in "([{"
-        depth -= tokens[place][0] in ")]}"
+    for place in range(at, len(words)):
+        depth += (words[place] in "([{") - (words[place] in ")]}")
         if depth == 0:
             return place
-    return len(tokens) - 1
+    return len(words) - 1
 
 
-def to_brace(tokens, at):
-    while at < len(tokens) and tokens[at][0] not in "{;":
-        at += 1
+def past(words, at, signs):
+    """The place of the next of these signs, outside of all brackets that open on the way."""
+    while at < len(words) and words[at] not in signs:
+        at = (closing(words, at) if words[at] in "([{" else at) + 1
     return at
 
 
@@ -65,54 +67,32 @@ def parts(words, signs):
 
 
 class Function:
-    """A function: its name, whether it is a method, the names of its parameters, and where its body is among the tokens."""
+    """A function: its name, its line, the names of its parameters, whether it is marked as one of those that call each other,
+    and the words of its body."""
 
     def __init__(self, tokens, at):
-        self.tokens, self.at, self.name, self.line = tokens, at, tokens[at + 1][0], tokens[at][1]
-        opens = self.past_generics(at + 2)
+        self.name, self.line = tokens[at + 1], tokens[at].line
+        self.is_in_cycle = "[ cycle (" in re.split("[;{}]", " ".join(tokens[max(at - 60, 0) : at]))[-1]
+        depth, opens = 0, at + 2
+        while tokens[opens] != "(" or depth:
+            depth += (tokens[opens] == "<") - (tokens[opens] == ">")
+            opens += 1
         closes = closing(tokens, opens)
-        given = [parts(it, (":",))[0] for it in parts([word for word, _ in tokens[opens + 1 : closes]], (",",))]
+        given = [parts(it, (":",))[0] for it in parts(tokens[opens + 1 : closes], (",",))]
         self.given = {word for names in given for word in names if word.isidentifier()} - {"mut"}
-        self.start = closes
-        while self.start < len(tokens) and tokens[self.start][0] not in "{;":
-            self.start = (closing(tokens, self.start) if tokens[self.start][0] in "([" else self.start) + 1
-        has_body = self.start < len(tokens) and tokens[self.start][0] == "{"
-        self.end = closing(tokens, self.start) if has_body else self.start
-        self.words = [word for word, _ in tokens[self.start : self.end + 1]]
+        start = past(tokens, closes + 1, "{;")
+        self.words = tokens[start : closing(tokens, start) + 1]
 
-    def past_generics(self, at):
-        depth = 0
-        while self.tokens[at][0] != "(" or depth:
-            depth += (self.tokens[at][0] == "<") - (self.tokens[at][0] == ">")
-            at += 1
-        return at
-
-    def is_cycle(self):
-        """Whether it is marked as one of those that call each other."""
-        words = [word for word, _ in self.tokens[max(self.at - 60, 0) : self.at]]
-        since = max((at for at, word in enumerate(words) if word in (";", "{", "}")), default=0)
-        return ["[", "cycle"] in [words[at : at + 2] for at in range(since, len(words))]
-
-    def line_of(self, at):
-        return self.tokens[self.start + at][1]
-
-    def close(self, at):
-        return closing(self.tokens, self.start + at) - self.start
-
-    def loops(self):
+    def each_loop(self):
         """Each loop and closure: the places of its first word, of what follows its head, and of its end."""
         for at, word in enumerate(self.words):
             if word in ("for", "while", "loop") and self.words[at + 1] != "<":
-                opens = at + 1
-                while self.words[opens] != "{":
-                    opens = (self.close(opens) if self.words[opens] in "([" else opens) + 1
-                yield at, opens, self.close(opens)
+                opens = past(self.words, at + 1, "{")
+                yield at, opens, closing(self.words, opens)
             elif word == "|" and self.words[at - 1] in ("(", ",", "=", "move"):
-                opens = end = self.words.index("|", at + 1) + 1
-                while self.words[end] not in ",;)]}":
-                    end = (self.close(end) if self.words[end] in "([{" else end) + 1
-                yield at, opens, end
+                opens = self.words.index("|", at + 1) + 1
+                yield at, opens, past(self.words, opens, ",;)]}")
 
 
-def functions(tokens):
-    return [Function(tokens, at) for at, (word, _) in enumerate(tokens[:-1]) if word == "fn" and tokens[at + 1][0].isidentifier()]
+def functions(tokens, kind=Function):
+    return [kind(tokens, at) for at, word in enumerate(tokens[:-1]) if word == "fn" and tokens[at + 1].isidentifier()]

@@ -3,6 +3,7 @@
 A tool ends with 0 where all is as it has to be, with 1 where something isn't, and with 2 for other words.
 """
 import contextlib
+import glob
 import importlib
 import os
 import shutil
@@ -13,17 +14,25 @@ import tempfile
 # The packages in whose modules faults are planted.
 PACKAGES = ("bent_parts", "search_parts")
 TOP = os.path.dirname(os.path.dirname(os.path.dirname(os.path.abspath(__file__))))
+# How a command is run that reads nothing, and whose outputs are told as one.
+AS_ONE = {"stdin": subprocess.DEVNULL, "stdout": subprocess.PIPE, "stderr": subprocess.STDOUT, "text": True, "errors": "replace"}
 
 
-def read(path, encoding="utf-8"):
+def read(path):
     """The text of a file; its path begins at the top of the repository, unless it is a whole one."""
-    with open(os.path.join(TOP, path), encoding=encoding) as file:
+    with open(os.path.join(TOP, path), encoding="utf-8") as file:
         return file.read()
 
 
 def read_bytes(path):
     with open(os.path.join(TOP, path), "rb") as file:
         return file.read()
+
+
+def sources(crate="*"):
+    """The files of a crate's src/, or of all but those of tests, each with the name of its crate."""
+    paths = sorted(glob.glob(f"crates/{crate}/src/**/*.rt", root_dir=TOP, recursive=True))
+    return {path: path.split("/")[1] for path in paths if not path.startswith("crates/tests_")}
 
 
 def write(path, content, mode=0o644):
@@ -44,8 +53,7 @@ def plant(path, old, new):
 
 def ran(*words, **how):
     """What came of a command. It reads nothing, and both its outputs are told as one."""
-    usual = {"stdin": subprocess.DEVNULL, "stdout": subprocess.PIPE, "stderr": subprocess.STDOUT, "text": True, "errors": "replace"}
-    return subprocess.run(words, **{**usual, **how})
+    return subprocess.run(words, **{**AS_ONE, **how})
 
 
 def stripped(program):
@@ -86,19 +94,15 @@ def told_otherwise(cases):
 @contextlib.contextmanager
 def planted_module(module, old, new):
     """Imports as if a text of a module of a package of tools/ were another."""
-    with tempfile.TemporaryDirectory() as folder:
+    # (it takes long to import this, and few tools need it)
+    from unittest import mock
+    others = {name: it for name, it in sys.modules.items() if not name.startswith(PACKAGES)}
+    with tempfile.TemporaryDirectory() as folder, mock.patch.dict(sys.modules, others, clear=True):
         for package in PACKAGES:
             shutil.copytree(f"{TOP}/tools/{package}", f"{folder}/{package}")
         plant(f"{folder}/{module}.py", old, new)
-        kept = {name: sys.modules.pop(name) for name in list(sys.modules) if name.startswith(PACKAGES)}
-        sys.path.insert(0, folder)
-        try:
+        with mock.patch.object(sys, "path", [folder, *sys.path]):
             yield importlib.import_module
-        finally:
-            sys.path.remove(folder)
-            for name in [name for name in sys.modules if name.startswith(PACKAGES)]:
-                del sys.modules[name]
-            sys.modules.update(kept)
 
 
 def tell(wrong, figures, missing=()):
@@ -116,8 +120,8 @@ def tell_cases(name, cases):
 
 
 def tell_plants(name, plants, faults):
-    """The same of texts with plants, each a path, what stands there, what is put in its place, and words of what has to be told."""
-    return tell_cases(name, ((f"{path}: {new!r}", faults(Texts().planted(path, old, new)), wanted) for path, old, new, wanted in plants))
+    """The same of texts with plants: a path, what stands there, what is put in its place, and words of what has to be told."""
+    return tell_cases(name, ((f"{it[0]}: {it[2]!r}", faults(Texts().planted(*it[:3])), it[3]) for it in plants))
 
 
 def start(document, does, **options):
