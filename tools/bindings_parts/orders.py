@@ -2,7 +2,6 @@
 x86_64 an exchange without an order is the same instruction, and on aarch64 one that acquires and releases is, so no run
 tells each weaker one."""
 import glob
-import os
 import re
 
 from parts.tool import TOP
@@ -19,20 +18,11 @@ FORBIDDEN = {
 ANY_ATOMIC = r"[Aa]tomic\w*|Ordering|SeqCst|\bfence\b"
 
 
-def without_comments(text):
-    return re.sub(r"/\*.*?\*/|//[^\n]*", "", text, flags=re.S)
-
-
-def faults(texts, _folder, _archives):
-    others = [os.path.relpath(path, TOP) for path in glob.glob(f"{TOP}/{PACKAGE}/*.rs")]
-    for path in [*FORBIDDEN, *sorted(set(others) - set(FORBIDDEN))]:
-        for found in re.finditer(FORBIDDEN.get(path, ANY_ATOMIC), without_comments(texts[path])):
+def faults(texts):
+    for path in sorted({*FORBIDDEN, *(f"{PACKAGE}/{it}" for it in glob.glob("*.rs", root_dir=f"{TOP}/{PACKAGE}"))}):
+        without_comments = re.sub(r"/\*.*?\*/|//[^\n]*", "", texts[path], flags=re.S)
+        for found in re.finditer(FORBIDDEN.get(path, ANY_ATOMIC), without_comments):
             yield f"{path}: {found[0]}: is no sequentially consistent access"
-
-
-EXCHANGE = "__atomic_compare_exchange_n(&table->word, &seen->word, next.word, false, __ATOMIC_SEQ_CST, __ATOMIC_SEQ_CST)"
-LOAD, CLEAR = "__atomic_load_n(&table->word, __ATOMIC_SEQ_CST)", "mask.word, __ATOMIC_SEQ_CST)"
-RUST_EXCHANGE = ".compare_exchange(seen.word, next, SeqCst, SeqCst)"
 
 
 def exchange(success, failure, weak="false"):
@@ -44,20 +34,23 @@ def weaker(access, order):
     return access.replace("SEQ_CST", order)
 
 
+EXCHANGE = exchange("SEQ_CST", "SEQ_CST")
+LOAD, CLEAR = "__atomic_load_n(&table->word, __ATOMIC_SEQ_CST)", "mask.word, __ATOMIC_SEQ_CST)"
+# Weaker accesses of the header, which the instructions of some machine tell, and which none does.
+TOLD = (
+    *((EXCHANGE, exchange(*it)) for it in (("RELAXED", "RELAXED"), ("RELEASE", "RELAXED"), ("ACQUIRE", "ACQUIRE"))),
+    *((CLEAR, weaker(CLEAR, it)) for it in ("RELAXED", "RELEASE")),
+    (LOAD, weaker(LOAD, "RELAXED")), (LOAD, "table->word"), (f"!{EXCHANGE}", "(table->word = next.word, false)"),
+)
+UNTOLD = (
+    *((EXCHANGE, exchange(*it)) for it in (("ACQ_REL", "ACQUIRE"), ("RELEASE", "SEQ_CST"), ("SEQ_CST", "RELAXED"))),
+    (EXCHANGE, exchange("SEQ_CST", "SEQ_CST", "true")), (LOAD, weaker(LOAD, "ACQUIRE")), (CLEAR, weaker(CLEAR, "ACQ_REL")),
+)
 PLANTED = (
-    (HEADER, EXCHANGE, exchange("ACQ_REL", "ACQUIRE")),
-    (HEADER, EXCHANGE, exchange("RELAXED", "RELAXED")),
-    (HEADER, EXCHANGE, exchange("RELEASE", "SEQ_CST")),
-    (HEADER, EXCHANGE, exchange("SEQ_CST", "RELAXED")),
-    (HEADER, EXCHANGE, exchange("SEQ_CST", "SEQ_CST", "true")),
-    (HEADER, LOAD, weaker(LOAD, "ACQUIRE")),
-    (HEADER, LOAD, weaker(LOAD, "RELAXED")),
-    (HEADER, LOAD, "table->word"),
-    (HEADER, CLEAR, weaker(CLEAR, "ACQ_REL")),
-    (HEADER, CLEAR, weaker(CLEAR, "RELEASE")),
-    (TABLE, RUST_EXCHANGE, RUST_EXCHANGE.replace("SeqCst, SeqCst", "AcqRel, Acquire")),
-    (TABLE, RUST_EXCHANGE, RUST_EXCHANGE.replace("SeqCst, SeqCst", "Relaxed, Relaxed")),
-    (TABLE, RUST_EXCHANGE, RUST_EXCHANGE.replace("exchange", "exchange_weak")),
+    *((HEADER, *it) for it in (*TOLD, *UNTOLD)),
+    (TABLE, "seen.word, next, SeqCst, SeqCst", "seen.word, next, AcqRel, Acquire"),
+    (TABLE, "seen.word, next, SeqCst, SeqCst", "seen.word, next, Relaxed, Relaxed"),
+    (TABLE, ".compare_exchange(seen.word", ".compare_exchange_weak(seen.word"),
     (TABLE, ".load(SeqCst)", ".load(Acquire)"),
     (TABLE, "fetch_and(keep, SeqCst)", "fetch_and(keep, Release)"),
     (TABLE, "atomic::Ordering::SeqCst;", "atomic::Ordering::Relaxed as SeqCst;"),

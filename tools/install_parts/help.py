@@ -29,52 +29,38 @@ Program = namedtuple("Program", "name commands options statuses")
 
 def told():
     texts = {f"{name} --help": ran(program_of_sources(name), "--help").stdout for name in NAMES}
-    for name, _ in rows(COMMAND, sections(texts["ticklab --help"]), "Commands"):
+    for name, _ in rows(COMMAND, texts["ticklab --help"], "Commands"):
         texts[f"ticklab help {name}"] = ran(program_of_sources("ticklab"), "help", name).stdout
     return texts
 
 
-def sections(text):
-    found, lines = {}, []
-    for line in text.split("\n"):
-        if line.endswith(":") and not line.startswith(" "):
-            lines = found.setdefault(line[:-1], [])
-        elif not line.startswith(" "):
-            lines = []
-        elif line.startswith(" " * 8) and lines:
-            lines[-1] += f"  {line.strip()}"
-        elif line.strip():
-            lines.append(line)
-    return found
-
-
-def rows(form, found, heading):
-    for line in found.get(heading, []):
+def rows(form, text, heading):
+    """What a form has of each line below a heading; a line that begins further to the right goes on with the one before."""
+    below = re.search(rf"^{heading}:\n((?: .*\n)*)", text, re.MULTILINE)
+    for line in re.sub(r"\n {8,}", "  ", below[1]).splitlines() if below else ():
         row = form.fullmatch(line)
         if not row:
             sys.exit(f"a line of --help that tools/install_parts/help.py doesn't know: {line.strip()}")
         yield [it or "" for it in row.groups()]
 
 
-def options_of(found):
+def options_of(text):
     return [Option([it for it in (short, long) if it], re.findall(r"<([^>]+)>", values), about)
-            for short, long, values, about in rows(OPTION, found, "Options")]
+            for short, long, values, about in rows(OPTION, text, "Options")]
 
 
-def arguments_of(found):
-    return [Argument(name, about, bracket == "[", bool(dots)) for bracket, name, dots, about in rows(ARGUMENT, found, "Arguments")]
+def arguments_of(text):
+    return [Argument(name, about, bracket == "[", bool(dots)) for bracket, name, dots, about in rows(ARGUMENT, text, "Arguments")]
 
 
 def program(texts, name):
     text = texts[f"{name} --help"]
     if text.startswith("usage: "):
         forms = [form.split() for form in text.removeprefix(f"usage: {name} ").split(" | ")]
-        return Program(name, [Command(form[0], "", list(map(Argument, form[1:])), []) for form in forms], [], [])
-    found, commands = sections(text), []
-    for command, about in rows(COMMAND, found, "Commands"):
-        own = sections(texts[f"{name} help {command}"])
-        commands.append(Command(command, about, arguments_of(own), options_of(own)))
-    return Program(name, commands, options_of(found), STATUS.findall(text.partition("Exit status")[2]))
+        return Program(name, [Command(form[0], "", [*map(Argument, form[1:])], []) for form in forms], [], [])
+    own = ((it, about, texts[f"{name} help {it}"]) for it, about in rows(COMMAND, text, "Commands"))
+    commands = [Command(it, about, arguments_of(help), options_of(help)) for it, about, help in own]
+    return Program(name, commands, options_of(text), STATUS.findall(text.partition("Exit status")[2]))
 
 
 def programs(texts):

@@ -11,19 +11,14 @@ EDITORS = ("share/ticketc/tick.tmLanguage.json", "share/vim/vimfiles/syntax/tick
 GRAMMARS = {"docs/LANGUAGE.md": "Grammar", "docs/EXPLORING.md": "Grammar of the lines"}
 
 
-def plain(text):
-    return ESCAPE.sub(lambda it: ESCAPES[it[0]], text)
+def plain(line):
+    return ESCAPE.sub(lambda it: ESCAPES[it[0]], line)
 
 
 def parts_of(page, macro):
     """The parts of a page by their headings, the words behind this macro."""
     heads = re.split(rf"^\.{macro} (.*)$", page, flags=re.MULTILINE)
     return dict(zip(heads[1::2], heads[2::2]))
-
-
-def option_words(option):
-    """The words of an option in a page: of `--ends [<P>]` these are `-ends Op Ar P`."""
-    return " ".join([option.names[-1][1:], *(["Ar", *option.values] if option.values else [])])
 
 
 def of_page(program, page):
@@ -39,12 +34,11 @@ def of_page(program, page):
         section = sections.get(command.name, "")
         if not re.search(rf"^\$ .*\b{command.name}\b", section, re.MULTILINE):
             yield f"lacks COMMANDS: an example of {command.name}"
-        options = [it for it in command.options if not own.issuperset(it.names)]
-        wanted = {option_words(it) for it in options}
-        listed, short = (set(re.findall(form, text, re.MULTILINE)) for form, text in (
-            (r"^\.It Fl (\S+(?: (?:Op )?Ar .*)?)$", section), (r"^\.Op Fl (\S+(?: (?:Op )?Ar .*)?)$", synopsis.get(head, ""))))
-        for where, said in (("COMMANDS", listed), ("SYNOPSIS", short)):
-            said = {it.replace("Op ", "") for it in said}
+        # (of `--ends [<P>]` a page has `-ends Op Ar P`)
+        options = (it for it in command.options if not own.issuperset(it.names))
+        wanted = {" ".join([it.names[-1][1:], *(["Ar", *it.values] if it.values else [])]) for it in options}
+        for where, macro, text in (("COMMANDS", "It", section), ("SYNOPSIS", "Op", synopsis.get(head, ""))):
+            said = set(re.findall(rf"^\.{macro} Fl (\S+(?: Ar .*)?)$", text.replace(" Op Ar ", " Ar "), re.MULTILINE))
             yield from (f"lacks {where}: {command.name} -{it}" for it in sorted(wanted - said))
             yield from (f"has {where}: {command.name} -{it}, which {program.name} has not" for it in sorted(said - wanted))
     statuses = re.findall(r"^\.It (\d+)$", parts["EXIT STATUS"], re.MULTILINE)
@@ -61,15 +55,8 @@ def grammar_of(texts, path="docs/LANGUAGE.md"):
 
 def blocks(text):
     """The lines of each literal block, with their numbers."""
-    block = None
-    for number, line in enumerate(text.split("\n"), 1):
-        if line.startswith(".Bd -literal"):
-            block = []
-        elif line == ".Ed" and block is not None:
-            yield block
-            block = None
-        elif block is not None:
-            block.append((number, plain(line)))
+    for block in re.finditer(r"^\.Bd -literal.*\n((?s:.*?))^\.Ed$", text, re.MULTILINE):
+        yield list(enumerate(map(plain, block[1].splitlines()), text.count("\n", 0, block.start(1)) + 1))
 
 
 def differences(texts):

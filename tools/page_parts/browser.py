@@ -1,87 +1,74 @@
-"""A browser without a window, asked over a pipe (the protocol of Chromium's developer tools)."""
+"""A page of a browser without a window, which is asked over a pipe (the protocol of Chromium's developer tools)."""
+import contextlib
 import json
 import os
-import shutil
 import subprocess
 import tempfile
 
 NAMES = ("chromium", "chromium-browser", "google-chrome", "chrome")
-# A call is answered in so many seconds, or the browser is given up.
+# So many seconds the browser has to end.
 PATIENCE = 60
 
 
-def found():
-    return next(filter(None, map(shutil.which, NAMES)), None)
-
-
-class Browser:
-    def __init__(self, path):
-        asks, self.asking = os.pipe()
-        self.answers, answering = os.pipe()
-        self.folder = tempfile.TemporaryDirectory(ignore_cleanup_errors=True)
+@contextlib.contextmanager
+def page_of(path):
+    asks, asking = os.pipe()
+    answers, answering = os.pipe()
+    with tempfile.TemporaryDirectory(ignore_cleanup_errors=True) as folder:
         words = [path, "--headless=new", "--disable-gpu", "--hide-scrollbars", "--no-first-run", "--remote-debugging-pipe"]
         words += ["--no-sandbox"] if os.geteuid() == 0 else []
-        words += ["--window-size=1300,1000", f"--user-data-dir={self.folder.name}", "about:blank"]
-        # (it reads from 3 and writes to 4)
-        self.running = subprocess.Popen(
+        words += ["--window-size=1300,1000", f"--user-data-dir={folder}", "about:blank"]
+        # (it reads from 3 and writes to 4, and ends where nobody writes any more)
+        running = subprocess.Popen(
             ["sh", "-c", f'exec "$@" 3<&{asks} 4>&{answering}', "sh", *words],
             pass_fds=(asks, answering), stdin=subprocess.DEVNULL, stdout=subprocess.DEVNULL, stderr=subprocess.DEVNULL,
         )
         os.close(asks)
         os.close(answering)
-        self.number, self.told, self.events = 0, b"", []
+        try:
+            yield Page(asking, answers)
+        finally:
+            os.close(asking)
+            running.wait(PATIENCE)
+            os.close(answers)
 
-    def call(self, method, session=None, **given):
+
+class Page:
+    def __init__(self, asking, answers):
+        self.asking, self.answers, self.told = asking, answers, b""
+        self.number, self.session, self.events = 0, {}, set()
+        target = self.call("Target.createTarget", url="about:blank")["targetId"]
+        self.session = {"sessionId": self.call("Target.attachToTarget", targetId=target, flatten=True)["sessionId"]}
+        self.call("Page.enable")
+        self.call("Performance.enable", timeDomain="threadTicks")
+
+    def call(self, method, **given):
         self.number += 1
-        asked = {"id": self.number, "method": method, "params": given, **({"sessionId": session} if session else {})}
+        asked = {"id": self.number, "method": method, "params": given, **self.session}
         os.write(self.asking, json.dumps(asked).encode() + b"\0")
         while (answer := self.next()).get("id") != self.number:
-            self.events.append(answer.get("method"))
+            pass
         if "error" in answer:
             raise RuntimeError(answer["error"]["message"])
         return answer["result"]
 
     def next(self):
+        """The next answer or event that is told; the kinds of events are kept."""
         while b"\0" not in self.told:
             more = os.read(self.answers, 1 << 20)
             if not more:
-                raise EOFError("the browser ended, or does not answer")
+                raise EOFError("the browser ended")
             self.told += more
-        one, self.told = self.told.split(b"\0", 1)
-        return json.loads(one)
-
-    def wait_for(self, event):
-        while event not in self.events:
-            self.events.append(self.next().get("method"))
-
-    def page(self):
-        target = self.call("Target.createTarget", url="about:blank")["targetId"]
-        return Page(self, self.call("Target.attachToTarget", targetId=target, flatten=True)["sessionId"])
-
-    def close(self):
-        try:
-            self.call("Browser.close")
-        except (EOFError, BrokenPipeError):
-            pass
-        self.running.wait(PATIENCE)
-        os.close(self.asking)
-        os.close(self.answers)
-        self.folder.cleanup()
-
-
-class Page:
-    def __init__(self, browser, session):
-        self.browser, self.session = browser, session
-        self.call("Page.enable")
-        self.call("Performance.enable", timeDomain="threadTicks")
-
-    def call(self, method, **given):
-        return self.browser.call(method, self.session, **given)
+        one, _, self.told = self.told.partition(b"\0")
+        told = json.loads(one)
+        self.events.add(told.get("method"))
+        return told
 
     def open(self, url):
-        self.browser.events.clear()
+        self.events.clear()
         self.call("Page.navigate", url=url)
-        self.browser.wait_for("Page.loadEventFired")
+        while "Page.loadEventFired" not in self.events:
+            self.next()
         self.ask("new Promise(done => requestAnimationFrame(() => requestAnimationFrame(() => done(0))))")
 
     def busy(self):
