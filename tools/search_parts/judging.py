@@ -58,7 +58,8 @@ class Judge:
         for limit in [self.limit] if states > self.limit else [self.limit, states, states - 1]:
             status, answer = self.ask(f"--{steps}", "--limit", str(limit))
             is_safe = states <= limit
-            wanted = {"answer": "safe" if is_safe else "limit", "merged": steps == "merged", "states": min(states, limit)}
+            answered = "safe" if is_safe else "limit"
+            wanted = {"answer": answered, "merged": steps == "merged", "never_lines": 0, "states": min(states, limit)}
             if (status, {**answer, "says": ""}) != (SAFE if is_safe else MORE, {**wanted, "says": ""}):
                 yield f"{steps} steps, limit {limit}: found {shown(status, answer)}, wanted {wanted}"
 

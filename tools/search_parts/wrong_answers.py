@@ -36,7 +36,7 @@ def turned(steps):
     return [process ^ 1 for process in steps]
 
 
-SAFE_ANSWER = {"answer": "safe", "merged": False, "says": "", "states": 9}
+SAFE_ANSWER = {"answer": "safe", "merged": False, "never_lines": 0, "says": "", "states": 9}
 MORE_ANSWER = {**SAFE_ANSWER, "answer": "limit"}
 OTHER_TRAP = {"Zero": "Below", "Below": "Index", "Index": "Overflow", "Overflow": "Zero"}
 # The form in which `with_steps` tells is taken.

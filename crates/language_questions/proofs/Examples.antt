@@ -10,8 +10,10 @@ use Rattle.language_properties.specs.declared.property.Question.TheVariants as A
 use Rattle.language_questions.specs.Reading.{asked_with, brackets_with, level, link_with, named_with, new_name_at, older_with, operand_with, over_with, process_by, process_with, property_with, question_of, rest_with, row_at, sign_at, whole_from}
 use Rattle.language_questions.specs.Spelled.{spelled}
 use Rattle.language_questions.specs.Tokens.{short_piece, sign_piece, token_at, token_from}
+use Rattle.language_questions.specs.declared.fault.Missing.TheVariants as I
 use Rattle.language_questions.specs.declared.fault.QuestionFault.{QuestionFault}
 use Rattle.language_questions.specs.declared.fault.QuestionFault.TheVariants as F
+use Rattle.language_questions.specs.declared.token.Sign.TheVariants as S
 
 abbrev pub name : List ℕ → Name
 name letters = record { letters = letters; span = nowhere }
@@ -49,9 +51,9 @@ trees = (refl, refl, refl, refl, refl, refl, refl)
 faults :
     Asks (codes "1 @ 2") (Err (F.BadCharacter (span 2 3)))
     × Asks (codes "4294967296") (Err (F.NumberTooBig (span 0 10)))
-    × Asks (codes "1 + 2 + 3") (Err (F.Unexpected (span 6 7)))
-    × Asks (codes "held[0") (Err (F.Unexpected (span 6 6)))
-    × Asks (codes "1 and 2 or 3") (Err (F.Unexpected (span 8 10)))
+    × Asks (codes "1 + 2 + 3") (Err (F.Unexpected I.End (span 6 7)))
+    × Asks (codes "held[0") (Err (F.Unexpected (I.Sign S.CloseIndex) (span 6 6)))
+    × Asks (codes "1 and 2 or 3") (Err (F.Unexpected I.End (span 8 10)))
     × Asks (codes "level[me]") (Err (F.Unknown (span 6 8)))
     × Asks (codes "x") (Err (F.NotShared (span 0 1)))
     × Asks (codes "some p: all p: p") (Err (F.Twice (span 12 13)))

@@ -2,10 +2,12 @@
 use Rattle.std.proofs.Common.{◌≡◌, ℕ, true, false, List, [], ◌∷◌, ◌++◌, Some, None, Result, Ok, Err, refl, codes}
 use Rattle.language_properties.specs.Properties.{count}
 use Rattle.language_questions.proofs.Examples.{program, span}
-use Rattle.language_questions.specs.Lines.{Asked, each_from, ended_at, ends_from, expected_from, listed_from, listed_with, questions_in, with_directive, with_ends, with_expected, with_line, with_never}
+use Rattle.language_questions.specs.Lines.{Asked, each_from, ended_at, ends_from, expected_from, listed_from, listed_with, no_questions, questions_in, with_comment, with_directive, with_ends, with_expected, with_never}
+use Rattle.language_questions.specs.Missed.{missed_from}
 use Rattle.language_questions.specs.Reading.{asked_with, brackets_with, level, link_with, named_with, new_name_at, older_with, operand_with, over_with, process_by, process_with, property_with, rest_with, row_at, sign_at, whole_from}
 use Rattle.language_questions.specs.Spelled.{spelled}
 use Rattle.language_questions.specs.Tokens.{short_piece, sign_piece, token_at, token_from}
+use Rattle.language_questions.specs.declared.fault.Missing.TheVariants as I
 use Rattle.language_questions.specs.declared.fault.QuestionFault.{QuestionFault}
 use Rattle.language_questions.specs.declared.fault.QuestionFault.TheVariants as F
 use Rattle.language_questions.specs.declared.questions.Ends.TheVariants as N
@@ -14,31 +16,41 @@ use Rattle.language_questions.specs.declared.questions.Expected.TheVariants as X
 abbrev AskInAll : List ℕ → Result Asked QuestionFault → Type 0
 AskInAll text answer = questions_in program text ≡ answer
 
--- a comment asks nothing, and a question ends at a `#`
-a_property : AskInAll (codes "end # n" ++ 10 ∷ codes " #! never n # so") (Ok (record { never = (count, span 18 19) ∷ []; ends = None; expected = None }))
-unfolding questions_in with_line with_directive with_never with_ends whole_from level property_with rest_with link_with operand_with named_with brackets_with older_with asked_with process_with process_by over_with new_name_at row_at sign_at token_at token_from sign_piece short_piece spelled
+-- a line asks behind code too, and a question ends at a `#`
+a_property : AskInAll (codes "end # n" ++ 10 ∷ codes " end #! never n # so") (Ok (record { never = (count, span 22 23) ∷ []; ends = None; expected = None }))
+unfolding questions_in with_comment missed_from with_directive with_never with_ends whole_from level property_with rest_with link_with operand_with named_with brackets_with older_with asked_with process_with process_by over_with new_name_at row_at sign_at token_at token_from sign_piece short_piece spelled
 a_property = refl
 
 of_processes :
     AskInAll (codes "#! ends 2 0") (Ok (record { never = []; ends = Some (N.Each (true ∷ false ∷ true ∷ false ∷ false ∷ false ∷ [])); expected = None }))
     × AskInAll (codes "#! ends all") (Ok (record { never = []; ends = Some N.All; expected = None }))
     × AskInAll (codes "#! ends none") (Ok (record { never = []; ends = Some N.Nobody; expected = None }))
-unfolding questions_in with_line with_directive with_never with_ends ends_from each_from listed_from listed_with ended_at token_at token_from sign_piece short_piece spelled
+unfolding questions_in with_comment missed_from with_directive with_never with_ends ends_from each_from listed_from listed_with ended_at token_at token_from sign_piece short_piece spelled
 of_processes = (refl, refl, refl)
 
 of_the_file :
     AskInAll (codes "#! expect stuck # so") (Ok (record { never = []; ends = None; expected = Some X.Stuck }))
     × AskInAll (codes "#! expect") (Err (F.NotExpected (span 9 9)))
-    × AskInAll (codes "#! expect safe trap") (Err (F.Unexpected (span 15 19)))
+    × AskInAll (codes "#! expect safe trap") (Err (F.Unexpected I.LineEnd (span 15 19)))
     × AskInAll (codes "#!expect safe" ++ 10 ∷ codes "#!expect safe") (Err (F.ExpectTwice (span 16 22)))
-unfolding questions_in with_line with_directive with_expected expected_from ended_at token_at token_from sign_piece short_piece spelled
+unfolding questions_in with_comment missed_from with_directive with_expected expected_from ended_at token_at token_from sign_piece short_piece spelled
 of_the_file = (refl, refl, refl, refl)
 
 faults :
     AskInAll (codes "#! nevr n") (Err (F.NoSuchWord (span 3 7)))
     × AskInAll (codes "#!") (Err (F.NoSuchWord (span 2 2)))
-    × AskInAll (codes "#! ends") (Err (F.Unexpected (span 7 7)))
+    × AskInAll (codes "#! ends") (Err (F.Unexpected I.Process (span 7 7)))
     × AskInAll (codes "#! ends 3") (Err (F.NoSuchProcess (span 8 9)))
     × AskInAll (codes "#! ends none" ++ 10 ∷ codes "#! ends ?") (Err (F.EndsTwice (span 16 20)))
-unfolding questions_in with_line with_directive with_never with_ends ends_from each_from listed_from listed_with ended_at token_at token_from sign_piece short_piece spelled
+unfolding questions_in with_comment missed_from with_directive with_never with_ends ends_from each_from listed_from listed_with ended_at token_at token_from sign_piece short_piece spelled
 faults = (refl, refl, refl, refl, refl)
+
+-- prose asks nothing, and what looks as if it asked something is refused
+comments :
+    AskInAll (codes "end # never are both" ++ 10 ∷ codes "# r[0]! never_said # neverland") (Ok no_questions)
+    × AskInAll (codes "end # see #! never n") (Err (F.NotAsked (span 13 18)))
+    × AskInAll (codes "##! never n") (Err (F.NotAsked (span 4 9)))
+    × AskInAll (codes "#! ends all # ! ends") (Err (F.NotAsked (span 16 20)))
+    × AskInAll (codes "end # " ++ 13 ∷ codes "#! expect safe") (Err (F.NotAsked (span 10 16)))
+unfolding questions_in with_comment missed_from with_directive with_never with_ends ends_from each_from listed_from listed_with ended_at token_at token_from sign_piece short_piece spelled
+comments = (refl, refl, refl, refl, refl)

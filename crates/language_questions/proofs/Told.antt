@@ -8,7 +8,7 @@ use Rattle.language_questions.specs.declared.fault.QuestionFault.TheVariants as 
 pub told : {V : Type 0} (e : QuestionFault) (r : Result V QuestionFault) → FailsBut is_memory e r → (e ≡ F.NoMemory → ⊥) → r ≡ Err e
 told (F.BadCharacter span) r fails other = fails
 told (F.NumberTooBig span) r fails other = fails
-told (F.Unexpected span) r fails other = fails
+told (F.Unexpected missing span) r fails other = fails
 told (F.TooDeep span) r fails other = fails
 told (F.Unknown span) r fails other = fails
 told (F.NotShared span) r fails other = fails
@@ -16,6 +16,7 @@ told (F.Twice span) r fails other = fails
 told (F.TwoMeanings span) r fails other = fails
 told (F.NoSuchProcess span) r fails other = fails
 told (F.NoSuchWord span) r fails other = fails
+told (F.NotAsked span) r fails other = fails
 told (F.EndsTwice span) r fails other = fails
 told (F.NotExpected span) r fails other = fails
 told (F.ExpectTwice span) r fails other = fails

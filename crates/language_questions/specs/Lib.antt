@@ -2,6 +2,7 @@ pub mod Characters
 pub mod Directives
 pub mod Extents
 pub mod Lines
+pub mod Missed
 pub mod Names
 pub mod Reading
 pub mod Signs

@@ -1,4 +1,4 @@
--- What the lines of a file ask. A line asks something if its first characters but for blanks are `#!`:
+-- What the lines of a file ask. A line asks something if its comment begins with `#!`:
 --
 --     line = "#!" "never" property | "#!" "ends" ( "all" | "none" | number { number } )
 --            | "#!" "expect" ( "safe" | "trap" | "never" | "stuck" )
@@ -11,12 +11,14 @@ use Rattle.base.specs.declared.span.Span.{Span}
 use Rattle.language_properties.specs.Properties.{Formula, formula_of}
 use Rattle.language_questions.specs.Directives.{directives, expectations}
 use Rattle.language_questions.specs.Extents.{end_of}
+use Rattle.language_questions.specs.Missed.{unless_missed}
 use Rattle.language_questions.specs.Reading.{whole_from}
 use Rattle.language_questions.specs.Spelled.{spelled}
-use Rattle.language_questions.specs.Tokens.{letters_at, token_at, wrong}
+use Rattle.language_questions.specs.Tokens.{letters_at, token_at, word_span, wrong}
 use Rattle.language_questions.specs.declared.spelled.Directive.{Directive}
 use Rattle.language_questions.specs.declared.spelled.Directive.TheVariants as D
 use Rattle.language_questions.specs.declared.extents.Extent.TheVariants as E
+use Rattle.language_questions.specs.declared.fault.Missing.TheVariants as I
 use Rattle.language_questions.specs.declared.fault.QuestionFault.{QuestionFault}
 use Rattle.language_questions.specs.declared.fault.QuestionFault.TheVariants as F
 use Rattle.language_questions.specs.declared.questions.Ends.{Ends}
@@ -40,15 +42,11 @@ asked_of q = record { never = map (λ line. (formula_of line.property, line.span
 abbrev pub no_questions : Asked
 no_questions = record { never = []; ends = None; expected = None }
 
--- the letters and digits at a place, after blanks
-abbrev pub word_span : List ℕ → ℕ → Span
-word_span text at = record { start = end_of E.Blanks text at; end = end_of E.Word text (end_of E.Blanks text at) }
-
 -- The text of a line ends where the line does.
 module _ (p : WholeProgram Name) (text : List ℕ) where
   abbrev pub ended_by : {T : Type 0} → T → Meaning → Span → Result T QuestionFault
   ended_by said M.End span = Ok said
-  ended_by said meaning span = Err (wrong meaning span)
+  ended_by said meaning span = Err (wrong I.LineEnd meaning span)
 
   -- the end of the question, after what says who is asked, or what is expected
   unfoldable pub ended_at : {T : Type 0} → T → ℕ → Result T QuestionFault
@@ -59,7 +57,7 @@ module _ (p : WholeProgram Name) (text : List ℕ) where
   listed_by more marks (M.Number v) span =
       if nat_lt v p.processes then more (slice_set marks v true) span.end else Err (F.NoSuchProcess span)
   listed_by more marks M.End span = Ok (N.Each marks)
-  listed_by more marks meaning span = Err (wrong meaning span)
+  listed_by more marks meaning span = Err (wrong I.Process meaning span)
 
   unfoldable pub listed_with : (List Bool → ℕ → Result Ends QuestionFault) → List Bool → ℕ → Result Ends QuestionFault
   listed_with more marks at = listed_by more marks (token_at p text at).meaning (token_at p text at).span
@@ -72,7 +70,7 @@ module _ (p : WholeProgram Name) (text : List ℕ) where
   -- one number of a process or more
   abbrev pub each_by : Meaning → Span → ℕ → Result Ends QuestionFault
   each_by (M.Number v) span at = listed_from 6 (replicate 6 false) at
-  each_by meaning span at = Err (wrong meaning span)
+  each_by meaning span at = Err (wrong I.Process meaning span)
 
   unfoldable pub each_from : ℕ → Result Ends QuestionFault
   each_from at = each_by (token_at p text at).meaning (token_at p text at).span at
@@ -120,11 +118,16 @@ module _ (p : WholeProgram Name) (text : List ℕ) where
   unfoldable pub with_directive : Asked → ℕ → Result Asked QuestionFault
   with_directive asked at = directed (spelled directives (letters_at text (word_span text at))) asked (word_span text at)
 
+  -- with what the comment asks that begins at a place, if it asks something; no other comment looks like one that asks
+  unfoldable pub with_comment : Asked → ℕ → Result Asked QuestionFault
+  with_comment asked at =
+      if starts_with nat_eq (drop at text) (codes "#!")
+      then (with_directive asked (at + 2) >>= λ more. unless_missed text (end_of E.Code text (at + 2)) more)
+      else unless_missed text at asked
+
   -- with what the line from a place on asks, if it asks something
-  unfoldable pub with_line : Asked → ℕ → Result Asked QuestionFault
-  with_line asked start =
-      if starts_with nat_eq (drop (end_of E.Blanks text start) text) (codes "#!")
-      then with_directive asked (end_of E.Blanks text start + 2) else Ok asked
+  abbrev pub with_line : Asked → ℕ → Result Asked QuestionFault
+  with_line asked start = with_comment asked (end_of E.Code text start)
 
 -- the places of the line feeds from a place on, and that of the text's end
 abbrev pub line_ends : ℕ → List ℕ → List ℕ

@@ -22,6 +22,7 @@ use Rattle.language_properties.specs.declared.property.Question.{Question}
 use Rattle.language_properties.specs.declared.property.Question.TheVariants as A
 use Rattle.language_questions.specs.Names.{bound_number, is_taken, row_by}
 use Rattle.language_questions.specs.Tokens.{letters_at, token_at, wrong}
+use Rattle.language_questions.specs.declared.fault.Missing.TheVariants as I
 use Rattle.language_questions.specs.declared.fault.QuestionFault.{QuestionFault}
 use Rattle.language_questions.specs.declared.fault.QuestionFault.TheVariants as F
 use Rattle.language_questions.specs.declared.token.Sign.{Sign}
@@ -50,7 +51,7 @@ sign_where S.OpenIndex (M.Sign S.OpenIndex) span = Ok span
 sign_where S.CloseIndex (M.Sign S.CloseIndex) span = Ok span
 sign_where S.Comma (M.Sign S.Comma) span = Ok span
 sign_where S.Colon (M.Sign S.Colon) span = Ok span
-sign_where _ meaning span = Err (wrong meaning span)
+sign_where wanted meaning span = Err (wrong (I.Sign wanted) meaning span)
 
 -- whether a token joins operands so
 abbrev pub joins : Junction → Meaning → Bool
@@ -76,7 +77,7 @@ module _ (p : WholeProgram Name) (text : List ℕ) where
   new_name_by names M.Name span =
       if is_taken names (slot_in (declarations p) (letters_at text span)) (letters_at text span) then Err (F.Twice span)
       else Ok (letters_at text span, span.end)
-  new_name_by names meaning span = Err (wrong meaning span)
+  new_name_by names meaning span = Err (wrong I.Name meaning span)
 
   -- a name that means nothing yet
   unfoldable pub new_name_at : Names → ℕ → Reading (List ℕ)
@@ -137,7 +138,7 @@ module _ (p : WholeProgram Name) (text : List ℕ) where
     operand_by names (M.Word W.Trapped) span = asked_with A.Trapped names span.end
     operand_by names (M.Word W.Older) span = older_with names span.end
     operand_by names (M.Sign S.Open) span = brackets_with span names span.end
-    operand_by names meaning span = Err (wrong meaning span)
+    operand_by names meaning span = Err (wrong I.Operand meaning span)
 
     unfoldable pub operand_with : Names → ℕ → Reading Formula
     operand_with names at = operand_by names (token_at p text at).meaning (token_at p text at).span
@@ -194,7 +195,7 @@ module _ (p : WholeProgram Name) (text : List ℕ) where
 
   abbrev pub whole_by : Formula → ℕ → Meaning → Span → Reading Formula
   whole_by e after M.End span = Ok (e, after)
-  whole_by e after meaning span = Err (wrong meaning span)
+  whole_by e after meaning span = Err (wrong I.End meaning span)
 
   -- a property from a place on, and then the end of the question
   unfoldable pub whole_from : ℕ → Reading Formula

@@ -12,6 +12,7 @@ use Rattle.language_questions.specs.Signs.{signs}
 use Rattle.language_questions.specs.Spelled.{spelled}
 use Rattle.language_questions.specs.Words.{words}
 use Rattle.language_questions.specs.declared.extents.Extent.TheVariants as E
+use Rattle.language_questions.specs.declared.fault.Missing.{Missing}
 use Rattle.language_questions.specs.declared.fault.QuestionFault.{QuestionFault}
 use Rattle.language_questions.specs.declared.fault.QuestionFault.TheVariants as F
 use Rattle.language_questions.specs.declared.token.Sign.{Sign}
@@ -20,12 +21,12 @@ use Rattle.language_questions.specs.declared.token.Meaning.TheVariants as M
 use Rattle.language_questions.specs.declared.token.Token.{Token}
 use Rattle.language_questions.specs.declared.token.Word.{Word}
 
--- why a token can't stand where another is wanted
-abbrev pub wrong : Meaning → Span → QuestionFault
-wrong M.NoToken span = F.BadCharacter span
-wrong M.TooBig span = F.NumberTooBig span
-wrong M.TwoMeanings span = F.TwoMeanings span
-wrong _ span = F.Unexpected span
+-- why a token can't stand where this is missing
+abbrev pub wrong : Missing → Meaning → Span → QuestionFault
+wrong missing M.NoToken span = F.BadCharacter span
+wrong missing M.TooBig span = F.NumberTooBig span
+wrong missing M.TwoMeanings span = F.TwoMeanings span
+wrong missing _ span = F.Unexpected missing span
 
 -- what a number says, as it is read
 abbrev pub number_meaning : Option ℕ → Meaning
@@ -91,3 +92,7 @@ token_at p text at = token_from p text (end_of E.Blanks text at)
 -- the letters of a name
 abbrev pub letters_at : List ℕ → Span → List ℕ
 letters_at text span = slice_range text span.start span.end
+
+-- the letters and digits at a place, after blanks
+abbrev pub word_span : List ℕ → ℕ → Span
+word_span text at = record { start = end_of E.Blanks text at; end = end_of E.Word text (end_of E.Blanks text at) }

@@ -2,12 +2,14 @@
 ghost use Rattle.std.specs.Prelude.{◌≡◌, ◌≤◌, length};
 ghost use Rattle.language_questions.specs.Extents.{end_of, takes};
 
-use crate::characters::{is_further, is_name_part};
+use crate::characters::{is_code, is_further, is_name_part};
 use base::is_blank;
 
 /// What a part of a text is made of.
 #[derive(Clone, Copy)]
 pub enum Extent {
+    /// What stands before a comment.
+    Code,
     Blanks,
     /// Letters and digits.
     Word,
@@ -22,6 +24,7 @@ impl Extent {
         ensures { result ≡ takes self byte }
     {
         match self {
+            Extent::Code => is_code(byte),
             Extent::Blanks => is_blank(byte),
             Extent::Word => is_name_part(byte),
             Extent::Digits => byte.is_ascii_digit(),

@@ -1,7 +1,24 @@
+use crate::token::Sign;
 use base::span::Span;
 use std::alloc::{AllocError, AllocFailed};
 use std::fmt;
 use thiserror::Error;
+
+/// What may stand where something else stands.
+#[derive(Clone, Copy, PartialEq, Eq)]
+pub enum Missing {
+    /// A value: a number, a name, a word that is asked of a process, or what is in brackets.
+    Operand,
+    /// The name of a quantifier.
+    Name,
+    Sign(Sign),
+    /// The end of a property.
+    End,
+    /// The number of a process.
+    Process,
+    /// The end of the line, behind a word that says all.
+    LineEnd,
+}
 
 /// Why a question can't be read. Spans are in bytes of the text that it stands in, a file or an option.
 #[derive(Clone, Copy, PartialEq, Eq, Error)]
@@ -12,9 +29,9 @@ pub enum QuestionFault {
     /// A number above 4294967295.
     #[error("the number at bytes {0} is above 4294967295")]
     NumberTooBig(Span),
-    /// A token that can't stand there, or the empty span at the end of a question that ends too early.
-    #[error("no question goes on with bytes {0}")]
-    Unexpected(Span),
+    /// What may stand there, and the token that can't, or the empty span at the end of a question that ends too early.
+    #[error("no question goes on with bytes {1}")]
+    Unexpected(Missing, Span),
     /// What opens the 65th level, a bracket, a colon, or an `and` or `or` of a chain; or the 9th quantifier
     /// within one another.
     #[error("the question is nested too deeply at bytes {0}")]
@@ -37,6 +54,9 @@ pub enum QuestionFault {
     /// What stands after `#!` is none of the words that begin a question. The span is empty where it is no word.
     #[error("no question begins with the word at bytes {0}")]
     NoSuchWord(Span),
+    /// The word of a question in a comment that asks nothing, behind a `#` or `!` other than the signs that begin it.
+    #[error("no question is asked by the comment with the word at bytes {0}")]
+    NotAsked(Span),
     /// A second `#! ends`.
     #[error("a line before bytes {0} says what has to end")]
     EndsTwice(Span),

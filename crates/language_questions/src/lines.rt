@@ -1,12 +1,13 @@
 // What the lines of a file ask.
 ghost use Rattle.std.specs.Prelude.{◌≡◌, ◌≢◌, ◌≤◌, IfErr, IfOk, Ok, Err, length, take};
 ghost use Rattle.base.specs.Refusing.{GivesBut};
-ghost use Rattle.language_questions.specs.Lines.{asked_of, each_from, ended_at, ends_from, expected_from, listed_from, listed_with, questions_in, with_directive, with_ends, with_expected, with_line, with_never, word_span};
+ghost use Rattle.language_questions.specs.Lines.{asked_of, each_from, ended_at, ends_from, expected_from, listed_from, listed_with, questions_in, with_comment, with_directive, with_ends, with_expected, with_line, with_never};
+ghost use Rattle.language_questions.specs.Missed.{unless_missed};
 ghost use Rattle.language_questions.specs.Reading.{is_memory};
 ghost use Rattle.language_questions.specs.declared.fault.QuestionFault.TheVariants.{NoMemory};
 
 use crate::extents::Extent;
-use crate::fault::QuestionFault;
+use crate::fault::{Missing, QuestionFault};
 use crate::questions::{Ends, Expected, NeverLine, Questions};
 use crate::reader::Reader;
 use crate::spelled::{Directive, directive_of, expected_of};
@@ -17,7 +18,7 @@ use std::alloc::Global;
 use tick_kinds::Program;
 
 /// What the lines of a file ask of its program, or the first fault. Spans are in bytes of the file. A line asks
-/// something if its first characters but for blanks are `#!`.
+/// something if its comment begins with `#!`. No other comment may look like one that asks.
 #[tactic(auto, unfolding(crate::specs::Lines::questions_in))]
 pub fn questions_of(
     alloc: Global,
@@ -64,17 +65,37 @@ fn read_line(
 }
 
 impl Reader<'_> {
-    #[tactic(auto, unfolding(crate::specs::Lines::with_line))]
     fn line(&self, start: usize, found: &mut Questions) -> Result<(), QuestionFault>
         requires { start ≤ length self.now.text.now }
         ensures { GivesBut is_memory (λ _. asked_of found.new) result (with_line self.now.program.now self.now.text.now (asked_of found.old) start) }
     {
-        let at = Extent::Blanks.end(self.text, start);
+        let at = Extent::Code.end(self.text, start);
+        self.comment(at, found)
+    }
+
+    // Adds what the comment asks that begins at a place, if it asks something.
+    #[tactic(auto, unfolding(crate::specs::Lines::with_comment))]
+    fn comment(&self, at: usize, found: &mut Questions) -> Result<(), QuestionFault>
+        requires { at ≤ length self.now.text.now }
+        ensures { GivesBut is_memory (λ _. asked_of found.new) result (with_comment self.now.program.now self.now.text.now (asked_of found.old) at) }
+    {
         let rest = &self.text[at..];
         if rest.starts_with(b"#!") {
-            return self.directive(at + 2, found);
+            self.directive(at + 2, found)?;
+            return self.nothing_missed(Extent::Code.end(self.text, at + 2));
         }
-        Ok(())
+        self.nothing_missed(at)
+    }
+
+    // A fault if the comment that begins at a place looks as if it asked something.
+    fn nothing_missed(&self, at: usize) -> Result<(), QuestionFault>
+        requires { at ≤ length self.now.text.now }
+        ensures { result ≡ unless_missed self.now.text.now at tt }
+    {
+        match self.missed(at + 1) {
+            Some(span) => Err(QuestionFault::NotAsked(span)),
+            None => Ok(()),
+        }
     }
 
     // Adds what stands after `#!`.
@@ -89,20 +110,6 @@ impl Reader<'_> {
             Some(Directive::Never) => self.never(span.end, found),
             Some(Directive::Ends) => self.ends(span, found),
             Some(Directive::Expect) => self.expect(span, found),
-        }
-    }
-
-    // The letters and digits at a place, after blanks.
-    fn word_span(&self, at: usize) -> Span
-        requires { at ≤ length self.now.text.now }
-        ensures span { result ≡ word_span self.now.text.now at }
-        ensures ordered { result.start ≤ result.end }
-        ensures within { result.end ≤ length self.now.text.now }
-    {
-        let start = Extent::Blanks.end(self.text, at);
-        Span {
-            start,
-            end: Extent::Word.end(self.text, start),
         }
     }
 
@@ -184,7 +191,7 @@ impl Reader<'_> {
         let token = self.token(at);
         match token.meaning {
             Meaning::End => Ok(said),
-            _ => Err(token.wrong()),
+            _ => Err(token.wrong(Missing::LineEnd)),
         }
     }
 
@@ -196,7 +203,7 @@ impl Reader<'_> {
         let token = self.token(at);
         match token.meaning {
             Meaning::Number(_) => self.listed(6, [false; 6], at),
-            _ => Err(token.wrong()),
+            _ => Err(token.wrong(Missing::Process)),
         }
     }
 
@@ -227,7 +234,7 @@ impl Reader<'_> {
             }
             Meaning::Number(_) => Err(QuestionFault::NoSuchProcess(token.span)),
             Meaning::End => Ok(Ends::Each(marks)),
-            _ => Err(token.wrong()),
+            _ => Err(token.wrong(Missing::Process)),
         }
     }
 }

@@ -7,7 +7,7 @@ ghost use Rattle.language_questions.specs.Reading.{Gives, GivesAlways, asked_wit
 ghost use Rattle.language_questions.specs.declared.fault.QuestionFault.TheVariants.{NoMemory};
 ghost use Rattle.language_questions.specs.prover.Letters.{IsLetters};
 
-use crate::fault::QuestionFault;
+use crate::fault::{Missing, QuestionFault};
 use crate::scope::{MOST_BOUND, Scope};
 use crate::token::{Meaning, Sign, Word};
 use base::span::Span;
@@ -45,7 +45,7 @@ impl<'a> Reader<'a> {
             | (Sign::CloseIndex, Meaning::Sign(Sign::CloseIndex))
             | (Sign::Comma, Meaning::Sign(Sign::Comma))
             | (Sign::Colon, Meaning::Sign(Sign::Colon)) => Ok(token.span),
-            _ => Err(token.wrong()),
+            _ => Err(token.wrong(Missing::Sign(wanted))),
         }
     }
 
@@ -76,7 +76,7 @@ impl<'a> Reader<'a> {
                 }
                 Ok((letters, token.span.end))
             }
-            _ => Err(token.wrong()),
+            _ => Err(token.wrong(Missing::Name)),
         }
     }
 
@@ -192,7 +192,7 @@ impl<'a> Reader<'a> {
             Meaning::Word(Word::Trapped) => self.asked(room, Question::Trapped, scope, end),
             Meaning::Word(Word::Older) => self.older(room, scope, end),
             Meaning::Sign(Sign::Open) => self.brackets(room, token.span, scope, end),
-            _ => Err(token.wrong()),
+            _ => Err(token.wrong(Missing::Operand)),
         }
     }
 
@@ -321,7 +321,7 @@ impl<'a> Reader<'a> {
         let token = self.token(at);
         match token.meaning {
             Meaning::End => Ok((property, at)),
-            _ => Err(token.wrong()),
+            _ => Err(token.wrong(Missing::End)),
         }
     }
 }

@@ -1,7 +1,7 @@
 ghost use Rattle.std.specs.Prelude.{◌≡◌};
 ghost use Rattle.language_questions.specs.Tokens.{wrong};
 
-use crate::fault::QuestionFault;
+use crate::fault::{Missing, QuestionFault};
 use base::span::Span;
 use language_properties::{Junction, Op, Quantifier};
 
@@ -20,7 +20,7 @@ pub enum Word {
 }
 
 /// A sign of questions.
-#[derive(Clone, Copy)]
+#[derive(Clone, Copy, PartialEq, Eq)]
 pub enum Sign {
     Open,
     Close,
@@ -57,15 +57,15 @@ pub struct Token {
 }
 
 impl Token {
-    /// Why it can't stand where another is wanted.
-    pub fn wrong(self) -> QuestionFault
-        ensures { result ≡ wrong self.meaning self.span }
+    /// Why it can't stand where this is missing.
+    pub fn wrong(self, missing: Missing) -> QuestionFault
+        ensures { result ≡ wrong missing self.meaning self.span }
     {
         match self.meaning {
             Meaning::NoToken => QuestionFault::BadCharacter(self.span),
             Meaning::TooBig => QuestionFault::NumberTooBig(self.span),
             Meaning::TwoMeanings => QuestionFault::TwoMeanings(self.span),
-            _ => QuestionFault::Unexpected(self.span),
+            _ => QuestionFault::Unexpected(missing, self.span),
         }
     }
 }

@@ -1,9 +1,9 @@
 // Which token a question has at a place.
-ghost use Rattle.std.specs.Prelude.{◌≡◌, ◌≢◌, ◌<◌, length, slice_get};
+ghost use Rattle.std.specs.Prelude.{◌≡◌, ◌≢◌, ◌<◌, ◌≤◌, length, slice_get};
 ghost use Rattle.std.specs.Str.{IsAscii};
 ghost use Rattle.tick_kinds.specs.Declarations.{declarations, slot_in};
 ghost use Rattle.language_questions.specs.Names.{is_row};
-ghost use Rattle.language_questions.specs.Tokens.{letters_at, number_piece, piece_by, short_piece, sign_piece, token_at, token_from, word_meaning, word_piece};
+ghost use Rattle.language_questions.specs.Tokens.{letters_at, number_piece, piece_by, short_piece, sign_piece, token_at, token_from, word_meaning, word_piece, word_span};
 ghost use Rattle.language_questions.specs.prover.Letters.{IsLetters};
 ghost use Rattle.language_questions.specs.declared.token.Meaning.TheVariants.{Name};
 
@@ -52,6 +52,20 @@ impl<'a> Reader<'a> {
             Some(byte) if is_letter(byte) => self.word(from),
             Some(byte) if byte.is_ascii_digit() => self.number(from),
             Some(_) => self.sign_piece(from),
+        }
+    }
+
+    /// The letters and digits at a place, after blanks.
+    pub fn word_span(&self, at: usize) -> Span
+        requires { at ≤ length self.now.text.now }
+        ensures span { result ≡ word_span self.now.text.now at }
+        ensures ordered { result.start ≤ result.end }
+        ensures within { result.end ≤ length self.now.text.now }
+    {
+        let start = Extent::Blanks.end(self.text, at);
+        Span {
+            start,
+            end: Extent::Word.end(self.text, start),
         }
     }
 

@@ -1,4 +1,4 @@
-//! Tests of `language_questions`: each kind of a question is read, and a long file.
+//! Tests of `language_questions`: each kind of a question is read, a long file, and a long comment.
 
 use base::span::Span;
 use language_properties::Property;
@@ -55,4 +55,15 @@ fn long_files_are_read(rt: HostRuntime) -> Result<(), Fail> {
         end: 1_000_000,
     };
     is_same(&asked, &Some((span, true)))
+}
+
+// A comment of a million bytes, of which every second might begin a question that isn't asked.
+#[test]
+fn long_comments_are_read(rt: HostRuntime) -> Result<(), Fail> {
+    let alloc = rt.alloc();
+    let checked = Checked::new(alloc, PROGRAM)?;
+    let file = repeated(alloc, "", "# ", 499_995, "neverland")?;
+    let questions = questions_of(alloc, &checked.program, file.as_str())?;
+    let asked = questions.never.as_slice().len();
+    is_same(&asked, &0)
 }

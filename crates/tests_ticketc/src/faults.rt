@@ -5,7 +5,7 @@
 use base::NoMemory;
 use base::span::Span;
 use code_core::CodeFault;
-use language_questions::QuestionFault;
+use language_questions::{Missing, QuestionFault};
 use stamp_table::OpenFault;
 use std::alloc::Global;
 use std::fmt::{Debug, Display};
@@ -114,7 +114,7 @@ static KIND_FAULTS: [(KindFault, &str); 8] = [
     (KindFault::NoMemory, "out of memory"),
 ];
 
-static QUESTION_FAULTS: [(QuestionFault, &str); 14] = [
+static QUESTION_FAULTS: [(QuestionFault, &str); 15] = [
     (
         QuestionFault::BadCharacter(SPAN),
         "no token begins with the character at bytes 7..12",
@@ -124,7 +124,7 @@ static QUESTION_FAULTS: [(QuestionFault, &str); 14] = [
         "the number at bytes 7..12 is above 4294967295",
     ),
     (
-        QuestionFault::Unexpected(SPAN),
+        QuestionFault::Unexpected(Missing::End, SPAN),
         "no question goes on with bytes 7..12",
     ),
     (
@@ -154,6 +154,10 @@ static QUESTION_FAULTS: [(QuestionFault, &str); 14] = [
     (
         QuestionFault::NoSuchWord(SPAN),
         "no question begins with the word at bytes 7..12",
+    ),
+    (
+        QuestionFault::NotAsked(SPAN),
+        "no question is asked by the comment with the word at bytes 7..12",
     ),
     (
         QuestionFault::EndsTwice(SPAN),

@@ -37,6 +37,7 @@ fn how_long_it_took(rt: HostRuntime) -> Result<(), Fail> {
     })?;
     let findings = check(alloc, &in_turn, &sources, Limits::of_states(4))?;
     let text = findings.text(alloc, &sources)?;
-    let told = "out: safe, 2 merged states, 12.34 s\n1 as expected, 0 not, 0 at the limit\n";
+    let told =
+        "out: safe, 2 merged states, no line asked, 12.34 s\n1 as expected, 0 not, 0 at the limit\n";
     is_same(&str::from_utf8(&text), &Ok(told))
 }

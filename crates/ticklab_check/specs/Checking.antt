@@ -1,5 +1,5 @@
 -- What a file comes to, by its bytes, within these limits.
-use Rattle.std.specs.Prelude.{◌≡◌, ℕ, List, Option, Some, None, Ok, Err, map, string_bytes}
+use Rattle.std.specs.Prelude.{◌≡◌, ◌+◌, ℕ, List, Option, Some, None, Ok, Err, if◌then◌else◌, is_some, length, map, string_bytes}
 use Rattle.base.specs.Plain.{Name, WholeProgram}
 use Rattle.language_properties.specs.Properties.{Formula}
 use Rattle.language_properties.specs.Values.{Valued}
@@ -37,6 +37,10 @@ abbrev pub expected_of : Option Expected → Expected
 expected_of None = X.Safe
 expected_of (Some expected) = expected
 
+-- how many lines `#! never` and `#! ends` ask this
+abbrev pub lines_asked : Asked → ℕ
+lines_asked asked = length asked.never + (if is_some asked.ends then 1 else 0)
+
 -- Of a program, where these lines must never hold. A fault has a schedule; where none is found there is none.
 module _ (a : WholeProgram ℕ) (lines : List Formula) (limits : Limits) where
   -- what is found where these processes are asked for
@@ -63,14 +67,15 @@ module _ (a : WholeProgram ℕ) (lines : List Formula) (limits : Limits) where
   IsFound None found = IsFoundOfAll found
   IsFound (Some asked) found = IsFoundOfAsked asked found
 
--- The input is a program, whose lines ask this; what is found of it, and what is expected.
-pub record IsSearched (limits : Limits) (input : List ℕ) (found : Found) (expected : Expected) : Type 0 where
+-- The input is a program, whose lines ask this; what is found of it, what is expected, and how many lines ask.
+pub record IsSearched (limits : Limits) (input : List ℕ) (found : Found) (expected : Expected) (lines : ℕ) : Type 0 where
   pub program : WholeProgram Name
   pub is : ProgramIn input program
   pub asked : Asked
   pub asks : questions_in program input ≡ Ok asked
   pub finds : IsFound (resolved program) (map (λ line. line.0) asked.never) limits (asked_for asked.ends) found
   pub expects : expected ≡ expected_of asked.expected
+  pub counts : lines ≡ lines_asked asked
 
 -- The report of an input that is refused: of the program first, then of what its lines ask.
 pub data IsRefused (name input report : List ℕ) : Type 0 where
@@ -81,7 +86,7 @@ pub data IsRefused (name input report : List ℕ) : Type 0 where
 -- what the file of this name comes to
 abbrev pub ComesTo : Limits → List ℕ → List ℕ → Checked → Type 0
 ComesTo limits name input (C.Refused report) = IsRefused name input report.items
-ComesTo limits name input (C.Searched found expected) = IsSearched limits input found expected
+ComesTo limits name input (C.Searched found expected lines) = IsSearched limits input found expected lines
 
 abbrev pub SourceComesTo : Limits → Source → Checked → Type 0
 SourceComesTo limits source checked = ComesTo limits (string_bytes source.name) source.bytes.items checked

@@ -23,4 +23,4 @@ compared found expected = V.Otherwise
 -- nothing else is expected of a refused file than to be a program
 abbrev pub comparison_of : Checked → Comparison
 comparison_of (C.Refused report) = V.Otherwise
-comparison_of (C.Searched found expected) = compared found expected
+comparison_of (C.Searched found expected lines) = compared found expected

@@ -56,19 +56,26 @@ abbrev pub states_text : Found → List ℕ
 states_text (F.Limit states) = codes ", more than " ++ merged_text states
 states_text found = behind_text (states_of found)
 
+-- how many lines of a file ask something, behind a comma
+abbrev pub lines_text : ℕ → List ℕ
+lines_text lines =
+    if lines == 0 then codes ", no line asked"
+    else (codes ", " ++ decimal lines ++ (if lines == 1 then codes " line" else codes " lines"))
+
 -- hundredths of a second, as seconds
 abbrev pub seconds_text : ℕ → List ℕ
 seconds_text hundredths =
     decimal (hundredths / 100) ++ codes "." ++ decimal (hundredths / 10 % 10) ++ decimal (hundredths % 10) ++ codes " s\n"
 
-abbrev pub searched_line : Found → Expected → ℕ → List ℕ
-searched_line found expected hundredths =
-    found_text found ++ verdict_text (compared found expected) expected ++ states_text found ++ codes ", " ++ seconds_text hundredths
+abbrev pub searched_line : Found → Expected → ℕ → ℕ → List ℕ
+searched_line found expected lines hundredths =
+    found_text found ++ verdict_text (compared found expected) expected ++ states_text found ++ lines_text lines ++ codes ", "
+    ++ seconds_text hundredths
 
 -- behind the name of a file; the report of a refused one stands below it
 abbrev pub checked_text : Checked → ℕ → List ℕ
 checked_text (C.Refused report) hundredths = codes ": refused\n" ++ report.items
-checked_text (C.Searched found expected) hundredths = codes ": " ++ searched_line found expected hundredths
+checked_text (C.Searched found expected lines) hundredths = codes ": " ++ searched_line found expected lines hundredths
 
 abbrev pub file_text : Source → Timed → List ℕ
 file_text source timed = string_bytes source.name ++ checked_text timed.checked timed.hundredths

@@ -6,8 +6,12 @@ use language_questions::Expected;
 pub enum Checked {
     /// It is no program, or a line `#!` of it can't be read: the report for people.
     Refused(Vec<u8>),
-    /// What is found, and what its line `#! expect` says.
-    Searched { found: Found, expected: Expected },
+    /// What is found, what its line `#! expect` says, and how many lines `#! never` and `#! ends` it has.
+    Searched {
+        found: Found,
+        expected: Expected,
+        lines: usize,
+    },
 }
 
 /// The same, and how long it took.

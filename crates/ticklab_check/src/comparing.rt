@@ -39,6 +39,10 @@ pub fn comparison_of(checked: &Checked) -> Comparison
 {
     match checked {
         Checked::Refused(_) => Comparison::Otherwise,
-        Checked::Searched { found, expected } => compared(*found, *expected),
+        Checked::Searched {
+            found,
+            expected,
+            ..
+        } => compared(*found, *expected),
     }
 }

@@ -4,7 +4,7 @@ ghost use Rattle.language_questions.specs.Lines.{asked_of, questions_in};
 ghost use Rattle.searches_explore.specs.Lines.{lines_of};
 ghost use Rattle.tick_kinds.specs.Resolution.{resolved};
 ghost use Rattle.ticketc_refusals.specs.Refusals.{ProgramIn};
-ghost use Rattle.ticklab_check.specs.Checking.{ComesTo, IsFound, IsFoundOfAsked, SourceComesTo, asked_for};
+ghost use Rattle.ticklab_check.specs.Checking.{ComesTo, IsFound, IsFoundOfAsked, SourceComesTo, asked_for, lines_asked};
 ghost use Rattle.ticklab_check.specs.prover.Answers.{fault_of, found_of, merged_found, merged_known, settled, single_known};
 
 use crate::checked::Checked;
@@ -73,9 +73,25 @@ fn searched(
 {
     let asked = asked_for(questions.ends);
     let expected = expected_of(questions.expected);
-    let lines = properties_of(alloc, questions.never)?;
-    let found = found_in(alloc, program, &lines, asked, limits)?;
-    Ok(Checked::Searched { found, expected })
+    let lines = lines_asked(&questions);
+    let properties = properties_of(alloc, questions.never)?;
+    let found = found_in(alloc, program, &properties, asked, limits)?;
+    Ok(Checked::Searched {
+        found,
+        expected,
+        lines,
+    })
+}
+
+// How many lines `#! never` and `#! ends` there are.
+fn lines_asked(questions: &Questions) -> usize
+    ensures { result ≡ lines_asked (asked_of questions.now) }
+{
+    let never = questions.never.as_slice().len();
+    match questions.ends {
+        Some(_) => never + 1,
+        None => never,
+    }
 }
 
 // Who is asked for, where a file says this of it.

@@ -1,7 +1,7 @@
 // Adds what is told of files to a text.
 ghost use Rattle.std.specs.Prelude.{◌≡◌, ◌++◌, ◌==◌, OnOk, length};
 ghost use Rattle.std.specs.Fmt.{decimal};
-ghost use Rattle.ticklab_check.specs.Wording.{behind_text, checked_text, count_text, expected_text, file_text, files_text, found_text, merged_text, searched_line, seconds_text, states_text, tally_text, verdict_text};
+ghost use Rattle.ticklab_check.specs.Wording.{behind_text, checked_text, count_text, expected_text, file_text, files_text, found_text, lines_text, merged_text, searched_line, seconds_text, states_text, tally_text, verdict_text};
 
 use crate::checked::{Checked, Comparison, Timed};
 use crate::comparing::compared;
@@ -40,19 +40,30 @@ fn push_checked(text: &mut Vec<u8>, checked: &Checked, hundredths: u64) -> Added
             push(text, ": refused\n")?;
             text.extend_from_slice(report.as_slice())
         }
-        Checked::Searched { found, expected } => {
+        Checked::Searched {
+            found,
+            expected,
+            lines,
+        } => {
             push(text, ": ")?;
-            push_searched(text, *found, *expected, hundredths)
+            push_searched(text, *found, *expected, *lines, hundredths)
         }
     }
 }
 
-fn push_searched(text: &mut Vec<u8>, found: Found, expected: Expected, hundredths: u64) -> Added
-    ensures { OnOk result (text.new.items ≡ text.old.items ++ searched_line found expected hundredths) }
+fn push_searched(
+    text: &mut Vec<u8>,
+    found: Found,
+    expected: Expected,
+    lines: usize,
+    hundredths: u64,
+) -> Added
+    ensures { OnOk result (text.new.items ≡ text.old.items ++ searched_line found expected lines hundredths) }
 {
     push(text, found_text(found))?;
     push_verdict(text, compared(found, expected), expected)?;
     push_states(text, found)?;
+    push_lines(text, lines)?;
     push(text, ", ")?;
     push_seconds(text, hundredths)
 }
@@ -139,6 +150,18 @@ fn push_merged(text: &mut Vec<u8>, states: u32) -> Added
             " merged states"
         },
     )
+}
+
+// How many lines ask something, behind a comma.
+fn push_lines(text: &mut Vec<u8>, lines: usize) -> Added
+    ensures { OnOk result (text.new.items ≡ text.old.items ++ lines_text lines) }
+{
+    if lines == 0 {
+        return push(text, ", no line asked");
+    }
+    push(text, ", ")?;
+    push_decimal(text, lines as u64)?;
+    push(text, if lines == 1 { " line" } else { " lines" })
 }
 
 fn push_seconds(text: &mut Vec<u8>, hundredths: u64) -> Added

@@ -60,7 +60,7 @@ pub record AreRefusalParts (processes : ℕ) (text : List ℕ) (refusal : Refusa
 pub record AreQuestionParts (text : List ℕ) (fault : QuestionFault) (e : Explanation) : Type 0 where
   pub is_place : IsPlaceOf text (Some (question_span fault)) e.place
   pub message : string_bytes e.message ≡ question_message fault
-  pub hint : option_map string_bytes e.hint ≡ Some (question_hint fault)
+  pub hint : option_map string_bytes e.hint ≡ Some (question_hint text fault)
   pub ticketc : option_map string_bytes e.ticketc ≡ None
 
 abbrev pub IsExplanation : ℕ → List ℕ → InputFault → Explanation → Type 0

@@ -11,5 +11,6 @@ pub mod Conditions
 pub mod Choosing
 pub mod Messages
 pub mod Reports
+pub mod Advising
 pub mod Questions
 pub mod Explanations

@@ -16,6 +16,10 @@ Help = List (Quote × List ℕ) × OtherPlace
 abbrev pub Row : Type 0
 Row = List Condition × Help
 
+-- of questions: letters, and the hint where they stand
+abbrev pub Slip : Type 0
+Slip = List (List ℕ) × List ℕ
+
 -- of what code has lent
 
 abbrev pub words_of : List (Bor (List ℕ)) → List (List ℕ)
@@ -33,6 +37,9 @@ help_of hint = (pieces_of hint.0.now, hint.1)
 abbrev pub rows_of : List (Bor (List (Ask × Bor (List (Bor (List ℕ))))) × (Bor (List (Quote × Bor (List ℕ))) × OtherPlace)) → List Row
 rows_of rows = map (λ row. (conditions_of row.0.now, help_of row.1)) rows
 
+abbrev pub slips_of : List (Bor (List (Bor (List ℕ))) × Bor (List ℕ)) → List Slip
+slips_of slips = map (λ slip. (words_of slip.0.now, slip.1.now)) slips
+
 -- the same of constants: what a reference in a constant is
 abbrev pub Kept : Type 0 → Type 0
 Kept A = record { now : A }
@@ -45,3 +52,6 @@ pieces_kept pieces = map (λ piece. (piece.0, piece.1.now)) pieces
 
 abbrev pub table : List (Kept (List (Ask × Kept (List (Kept (List ℕ))))) × (Kept (List (Quote × Kept (List ℕ))) × OtherPlace)) → List Row
 table rows = map (λ row. (conditions_kept row.0.now, (pieces_kept row.1.0.now, row.1.1))) rows
+
+abbrev pub slips_in : List (Kept (List (Kept (List ℕ))) × Kept (List ℕ)) → List Slip
+slips_in slips = map (λ slip. (map (λ word. word.now) slip.0.now, slip.1.now)) slips

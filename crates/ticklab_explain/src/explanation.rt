@@ -149,7 +149,7 @@ fn question_parts(
 ) -> Result<Explanation, AllocError>
     ensures { IfOk result (AreQuestionParts text.now fault) }
 {
-    let (span, message, hint) = told(fault);
+    let (span, message, hint) = told(text, fault);
     let message = String::from_str(alloc, message)?;
     let hint = String::from_str(alloc, hint)?;
     Ok(Explanation {

@@ -5,11 +5,12 @@
 //! finds the refusal of an input, and `spot` its place.
 //! `report` writes the report, and `explanation` gives its parts to programs. `messages` has the words, and
 //! `expected` finds what may stand there. Hints are rows of tables, in `limits` and in the files that end in
-//! `_slips`. `choosing` picks the table, and `rule` the first row that fits.
+//! `_slips`. `choosing` picks the table, and `rule` the first row that fits; of questions `advising` does both.
 //! Start with `explain`.
 #![tactic(auto)]
 
 mod advice;
+mod advising;
 mod character_slips;
 mod choosing;
 mod condition;
@@ -28,6 +29,7 @@ mod part;
 mod picture;
 mod piece;
 pub mod place;
+mod question_slips;
 mod questions;
 mod report;
 mod rule;

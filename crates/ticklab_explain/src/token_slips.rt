@@ -81,7 +81,7 @@ pub static CALL_SLIPS: &[Rule] = rules![
     [Here("("), Before(1, "get", "held", "older", "copy", "put")]
         => ("operands stand without brackets and commas: `" [StatementBefore] "`");
     // an operand that lacks
-    [Here(";"), Wants("me"), Before(1, "="), NameBefore(2)]
+    [Here(";"), Wants("get"), Before(1, "="), NameBefore(2)]
         => ("a value is missing: write `" [Before(2)] " = 0;`");
     [Here(";"), Wants("me"), Before(2, "held")]
         => ("`held " [Before(1)] "` wants the process that is asked about: `held " [Before(1)] " me`");
@@ -114,8 +114,6 @@ pub static SECTION_SLIPS: &[Rule] = rules![
     [Before(1, "goto"), Wants("=")] => (NO_LABELS);
     [Before(1, "fn", "def", "function", "void"), Wants("=")]
         => ("there are no functions: write the statements where they are wanted");
-    [Here(";"), Wants("="), NameBefore(1)]
-        => ("`" [Before(1)] "` is no statement: those of one word are `stamp;` and `clear;`");
     // keywords at places of names and values
     [Is(Keyword), Wants("x")] => ("`" [Here] IS_A_KEYWORD [Meaning] CHOOSE_ANOTHER);
     [Here("stamp", "clear"), Wants("me", "get")] => ("`" [Here] "` gives no value: write `" [Here] ";`");
@@ -159,6 +157,8 @@ pub static SIGN_SLIPS: &[Rule] = rules![
     [Here(in OPERATORS), Wants(";", "{"), Is(Begun), Has(OperandBefore)] => ("an operation has brackets of its own");
     [Here(";"), Wants(")"), Has(Bracket)] => ("a `)` is missing: `" [Tokens(Bracket)] ")`");
     // brackets without an operation
+    [Here(")"), Wants("me"), Before(1, "(")] [Here(")"), Wants("me"), Before(1, in OPERATORS)]
+        => ("brackets hold an operation of two values: `(x + 1)`");
     [Here(")"), Wants("+"), Before(2, "("), Before(3, "=")]
         => ("brackets hold an operation: write `" [Before(4)] " = " [Before(1)] "`");
     [Here(")"), Wants("+"), Before(2, "("), Before(3, "(", "+", "-", "*", "/", "%", "<", "<=", "==", "!=")]
@@ -222,6 +222,8 @@ pub static STATEMENT_SLIPS: &[Rule] = rules![
     [Wants(";"), Is(AtEnd)] [Wants(";"), Is(Name)] [Wants(";"), Is(Keyword)] [Wants(";"), Here("}")]
         => ("a `;` is missing after `" [Before(1)] "`", EndBefore);
     // any other word where a statement begins
+    [Here(";"), Wants("="), NameBefore(1)]
+        => ("`" [Before(1)] "` is no statement: those of one word are `stamp;` and `clear;`");
     [Wants("=")]
         => ("a statement begins with a name and `=`, or with `put`, `stamp`, `clear`, `out`, `if` or `while`");
 ];

@@ -264,9 +264,10 @@ states_exact (Some (merged, states)) ms h =
 
 checked_exact : (checked : Checked) (ms : Members) → members_have_float ms ≡ false → members_have_float (with_checked checked ms) ≡ false
 checked_exact (C.Refused report) ms h = put_exact (codes "report") (string (utf8_lossy report.items)) ms refl h
-checked_exact (C.Searched found expected) ms h =
-    states_exact (states_of found) (put (codes "expected") (string (expected_text expected)) ms)
-    (put_exact (codes "expected") (string (expected_text expected)) ms refl h)
+checked_exact (C.Searched found expected lines) ms h =
+    let told = put (codes "expected") (string (expected_text expected)) ms in
+    put_exact (codes "lines") (count lines) (with_states (states_of found) told) refl
+    (states_exact (states_of found) told (put_exact (codes "expected") (string (expected_text expected)) ms refl h))
 
 pub findings_exact : (sources : List Source) (f : Findings) → has_float (findings_data sources f) ≡ false
 findings_exact sources f =

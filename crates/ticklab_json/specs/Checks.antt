@@ -18,7 +18,7 @@ use Rattle.ticklab_json.specs.Members.{count}
 
 abbrev pub checked_word : Checked → List ℕ
 checked_word (C.Refused report) = codes "refused"
-checked_word (C.Searched found expected) = found_word found
+checked_word (C.Searched found expected lines) = found_word found
 
 abbrev pub verdict_word : Comparison → List ℕ
 verdict_word V.AsExpected = codes "as-expected"
@@ -29,11 +29,13 @@ abbrev pub with_states : Option (Bool × ℕ) → Members → Members
 with_states None members = members
 with_states (Some (merged, states)) members = put (codes "states") (count states) (put (codes "merged") (boolean merged) members)
 
--- the report of a file that is refused, whose bytes that are no UTF-8 are told as U+FFFD; of any other what was expected
+-- the report of a file that is refused, whose bytes that are no UTF-8 are told as U+FFFD; of any other what was expected,
+-- its states, and how many of its lines ask something
 abbrev pub with_checked : Checked → Members → Members
 with_checked (C.Refused report) members = put (codes "report") (string (utf8_lossy report.items)) members
-with_checked (C.Searched found expected) members =
-    with_states (states_of found) (put (codes "expected") (string (expected_text expected)) members)
+with_checked (C.Searched found expected lines) members =
+    put (codes "lines") (count lines)
+    (with_states (states_of found) (put (codes "expected") (string (expected_text expected)) members))
 
 -- what every file has
 abbrev pub file_members : Source → Timed → Members

@@ -39,11 +39,12 @@ with_run run members =
 abbrev pub run_data : Members → FoundRun → Data
 run_data head run = object (with_run run head)
 
--- No schedule is shown. There are so many states between steps of this kind, or more than so many.
-abbrev pub states_data : List ℕ → List ℕ → Bool → ℕ → Data
-states_data answer says is_merged states =
+-- No schedule is shown. There are so many states between steps of this kind, or more than so many; and so many lines must
+-- never hold.
+abbrev pub states_data : List ℕ → List ℕ → Bool → ℕ → ℕ → Data
+states_data answer says is_merged states lines =
     object (member (codes "answer") (string answer) (member (codes "merged") (boolean is_merged)
-    (member (codes "says") (string says) (member (codes "states") (count states) no_members))))
+    (member (codes "never_lines") (count lines) (member (codes "says") (string says) (member (codes "states") (count states) no_members)))))
 
 -- Steps that repeat for ever: the schedule that leads there, the steps that lead on, those that repeat, and what each of
 -- all these did.

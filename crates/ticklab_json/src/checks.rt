@@ -67,7 +67,7 @@ fn file_members(alloc: Global, source: &Source, timed: &Timed) -> Result<Members
     Ok(members)
 }
 
-// The report of a refused file; of any other what was expected, and its states.
+// The report of a refused file; of any other what was expected, its states, and how many of its lines ask something.
 fn put_checked(members: &mut Members, alloc: Global, checked: &Checked) -> Result<(), AllocError>
     ensures { OnOk result (members_view members.new.entries ≡ with_checked checked.now (members_view members.old.entries)) }
 {
@@ -76,10 +76,15 @@ fn put_checked(members: &mut Members, alloc: Global, checked: &Checked) -> Resul
             let report = String::from_utf8_lossy(alloc, report.as_slice())?;
             put(members, alloc, "report", Value::String(report))
         }
-        Checked::Searched { found, expected } => {
+        Checked::Searched {
+            found,
+            expected,
+            lines,
+        } => {
             let expected = Value::try_from_str(alloc, expected_text(*expected))?;
             put(members, alloc, "expected", expected)?;
-            put_states(members, alloc, states_of(*found))
+            put_states(members, alloc, states_of(*found))?;
+            put(members, alloc, "lines", Value::from(*lines))
         }
     }
 }

@@ -143,20 +143,23 @@ fn breaks_in(alloc: Global, broken: Option<Breaking<'_>>) -> Result<Option<Value
     }
 }
 
-/// What is said of so many states between merged steps or single ones, or of more than so many.
+/// What is said of so many states between merged steps or single ones, or of more than so many, where so many lines must
+/// never hold.
 pub fn found_states(
     alloc: Global,
     answer: &str,
     says: &str,
     is_merged: bool,
     states: u32,
+    never_lines: usize,
 ) -> Result<String, AllocError>
-    ensures { IfOk result (λ text. string_bytes text ≡ lines (states_data answer.now says.now is_merged states ∷ [])) }
+    ensures { IfOk result (λ text. string_bytes text ≡ lines (states_data answer.now says.now is_merged states never_lines ∷ [])) }
 {
     let mut members = says_members(alloc, says)?;
     put_text(&mut members, alloc, "answer", answer)?;
     put(&mut members, alloc, "merged", Value::from(is_merged))?;
     put(&mut members, alloc, "states", Value::from(states))?;
+    put(&mut members, alloc, "never_lines", Value::from(never_lines))?;
     one_line(alloc, &Value::Object(members))
 }
 

@@ -10,13 +10,23 @@ use searches_hunt::Plan;
 use serde_json::{Map, Value, put};
 use std::alloc::{AllocError, Global};
 
-/// That no run of the plan from this one on has a fault, as an object in a line.
-pub fn empty_hunt(alloc: Global, plan: Plan, from: u32) -> Result<String, AllocError>
-    ensures { IfOk result (λ text. string_bytes text ≡ lines (empty_hunt_data plan from ∷ [])) }
+/// That no run of the plan from this one on has a fault, where so many lines must never hold, and whether a line `#! ends`
+/// of the file isn't asked; as an object in a line.
+pub fn empty_hunt(
+    alloc: Global,
+    plan: Plan,
+    from: u32,
+    never_lines: usize,
+    ends_unasked: bool,
+) -> Result<String, AllocError>
+    ensures { IfOk result (λ text. string_bytes text ≡ lines (empty_hunt_data plan from never_lines ends_unasked ∷ [])) }
 {
     let mut members = plan_members(alloc, plan, from)?;
     let answer = Value::try_from_str(alloc, "none")?;
     put(&mut members, alloc, "answer", answer)?;
+    put(&mut members, alloc, "never_lines", Value::from(never_lines))?;
+    let unasked = Value::from(ends_unasked);
+    put(&mut members, alloc, "ends_unasked", unasked)?;
     one_line(alloc, &Value::Object(members))
 }
 

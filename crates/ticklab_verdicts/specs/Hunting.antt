@@ -12,6 +12,7 @@ use Rattle.ticklab_files.specs.Asking.{AsksNever}
 use Rattle.ticklab_files.specs.Asking.{IsUnexplored}
 use Rattle.ticklab_files.specs.Reading.{AfterFile, ReadsOf, ReadsInputOf}
 use Rattle.ticklab_files.specs.Responses.{Refuses}
+use Rattle.ticklab_verdicts.specs.Ends.{asks_ends}
 use Rattle.ticklab_verdicts.specs.Shown.{ShowsEmptyHunt, ShowsHuntBroken, ShowsHuntTrap}
 use Rattle.ticklab_verdicts.specs.Sought.{sought_of}
 use Rattle.ticklab_line.specs.declared.asking.Output.{Output}
@@ -25,11 +26,12 @@ abbrev pub plan_of : ℕ → ℕ → ℕ → Bool → Plan
 plan_of seed runs steps is_uniform = record { seed = seed; runs = runs; steps = steps; mode = mode_of is_uniform }
 
 -- The random schedules of a plan from a run on, with these texts of a command line for what must never hold. The schedule
--- that is shown is a part of the first one under which a process traps or a line breaks. What isn't explored isn't
--- hunted through, for the same reason.
+-- that is shown is a part of the first one under which a process traps or a line breaks. Where there is none, the answer
+-- says so of a line `#! ends` that names somebody: a hunt doesn't ask it. What isn't explored isn't hunted through, for the
+-- same reason.
 pub data IsHunted (name : List ℕ) (texts : List (List ℕ)) (plan : Plan) (from : ℕ) (output : Output) (input : List ℕ) (response : Response) : Type 0 where
   nothing : (asks : AsksNever texts input) → NoRunFaults (resolved asks.file.program) asks.lines plan from
-      → ShowsEmptyHunt output (length asks.lines) plan from response → IsHunted name texts plan from output input response
+      → ShowsEmptyHunt output (length asks.lines) plan from (asks_ends asks.file.asked.ends) response → IsHunted name texts plan from output input response
   trapped : (asks : AsksNever texts input) (run : ℕ) (schedule : List ℕ)
       → IsFirstFault (resolved asks.file.program) asks.lines plan from run
       → IsPartOf schedule (random_schedule plan (resolved asks.file.program).processes run) → length schedule ≤ plan.steps

@@ -59,7 +59,9 @@ minimal_break_line = codes "a #! never line breaks under this schedule, and wher
 
 -- no trap was found, and so many lines `#! never` don't break
 abbrev pub safe_text : ℕ → List ℕ
-safe_text lines = if lines == 0 then codes "no process traps" else codes "no process traps and no #! never line breaks"
+safe_text lines =
+    if lines == 0 then codes "no process traps"
+    else (codes "no process traps and no #! never line (of " ++ decimal lines ++ codes ") breaks")
 
 abbrev pub safe_line : Bool → ℕ → ℕ → List ℕ
 safe_line is_merged lines states = safe_text lines ++ codes " under any schedule" ++ counted_text is_merged states
@@ -91,8 +93,14 @@ from_text from = if from == 0 then [] else (codes ", from run " ++ decimal from)
 abbrev pub plan_text : Plan → ℕ → List ℕ
 plan_text plan from = codes " of at most " ++ steps_text plan.steps ++ codes " of seed " ++ decimal plan.seed ++ from_text from
 
-abbrev pub nothing_line : ℕ → Plan → ℕ → List ℕ
-nothing_line lines plan from = safe_text lines ++ codes " in " ++ runs_text (runs_from plan from) ++ plan_text plan from ++ codes "\n"
+-- whether a line `#! ends` of the file isn't asked
+abbrev pub unasked_text : Bool → List ℕ
+unasked_text false = []
+unasked_text true = codes "; #! ends is not asked"
+
+abbrev pub nothing_line : ℕ → Plan → ℕ → Bool → List ℕ
+nothing_line lines plan from ends_unasked =
+    safe_text lines ++ codes " in " ++ runs_text (runs_from plan from) ++ plan_text plan from ++ unasked_text ends_unasked ++ codes "\n"
 
 -- how many of so many runs came to an outcome, and the outcome
 abbrev pub count_text : ℕ → Counted → List ℕ

@@ -74,19 +74,22 @@ SaysTrap line = ShowsTrap line (says_members line)
 abbrev pub SaysBroken : List ℕ → Sought → List ℕ → ℕ → Valued → Response → Type 0
 SaysBroken line = ShowsBroken line (says_members line)
 
--- Without a schedule a text says something in a line, with more behind it; an object has so many states in place of that.
-abbrev pub IsStatesAnswer : Output → List ℕ → List ℕ → Bool → ℕ → List ℕ → List ℕ → Type 0
-IsStatesAnswer Text answer says is_merged states more out = out ≡ says ++ line_end ++ more
-IsStatesAnswer ScheduleAlone answer says is_merged states more out = out ≡ []
-IsStatesAnswer Json answer says is_merged states more out = out ≡ J.lines (states_data answer says is_merged states ∷ [])
+-- Without a schedule a text says something in a line, with more behind it; an object has so many states in place of that,
+-- and so many lines that must never hold.
+abbrev pub IsStatesAnswer : Output → List ℕ → List ℕ → Bool → ℕ → ℕ → List ℕ → List ℕ → Type 0
+IsStatesAnswer Text answer says is_merged states lines more out = out ≡ says ++ line_end ++ more
+IsStatesAnswer ScheduleAlone answer says is_merged states lines more out = out ≡ []
+IsStatesAnswer Json answer says is_merged states lines more out = out ≡ J.lines (states_data answer says is_merged states lines ∷ [])
 
 -- no process traps, and none of the lines breaks
 abbrev pub ShowsSafe : Sought → Bool → ℕ → Response → Type 0
-ShowsSafe s is_merged states = Gives 0 (IsStatesAnswer s.output (codes "safe") (safe_line is_merged (length s.places) states) is_merged states [])
+ShowsSafe s is_merged states =
+    Gives 0 (IsStatesAnswer s.output (codes "safe") (safe_line is_merged (length s.places) states) is_merged states (length s.places) [])
 
 abbrev pub ShowsLimit : Sought → Bool → Limits → ℕ → Response → Type 0
 ShowsLimit s is_merged limits states =
-    Gives 6 (IsStatesAnswer s.output (codes "limit") (limit_line is_merged states) is_merged states (next_line is_merged limits states))
+    Gives 6 (IsStatesAnswer s.output (codes "limit") (limit_line is_merged states) is_merged states (length s.places)
+    (next_line is_merged limits states))
 
 -- a fault: of a trap, and of a line that breaks, these lines say how it was found, and an object these members
 abbrev pub ShowsFault : List ℕ → List ℕ → Members → Sought → Fault → Response → Type 0
@@ -111,18 +114,19 @@ ShowsHuntTrap plan from = ShowsTrap minimal_line (plan_members plan from)
 abbrev pub ShowsHuntBroken : Plan → ℕ → Sought → List ℕ → ℕ → Valued → Response → Type 0
 ShowsHuntBroken plan from = ShowsBroken minimal_break_line (plan_members plan from)
 
--- no process traps, and none of so many lines breaks, in the runs of this plan from this one on
-abbrev pub IsEmptyAnswer : Output → ℕ → Plan → ℕ → List ℕ → Type 0
-IsEmptyAnswer Text lines plan from out = out ≡ nothing_line lines plan from
-IsEmptyAnswer ScheduleAlone lines plan from out = out ≡ []
-IsEmptyAnswer Json lines plan from out = out ≡ J.lines (empty_hunt_data plan from ∷ [])
+-- no process traps, and none of so many lines breaks, in the runs of this plan from this one on; and whether a line `#! ends`
+-- of the file isn't asked
+abbrev pub IsEmptyAnswer : Output → ℕ → Plan → ℕ → Bool → List ℕ → Type 0
+IsEmptyAnswer Text lines plan from ends_unasked out = out ≡ nothing_line lines plan from ends_unasked
+IsEmptyAnswer ScheduleAlone lines plan from ends_unasked out = out ≡ []
+IsEmptyAnswer Json lines plan from ends_unasked out = out ≡ J.lines (empty_hunt_data plan from lines ends_unasked ∷ [])
 
-abbrev pub ShowsEmptyHunt : Output → ℕ → Plan → ℕ → Response → Type 0
-ShowsEmptyHunt output lines plan from = Gives 0 (IsEmptyAnswer output lines plan from)
+abbrev pub ShowsEmptyHunt : Output → ℕ → Plan → ℕ → Bool → Response → Type 0
+ShowsEmptyHunt output lines plan from ends_unasked = Gives 0 (IsEmptyAnswer output lines plan from ends_unasked)
 
-abbrev pub ShowsHunt : Sought → Plan → ℕ → Option (ℕ × Fault) → Response → Type 0
-ShowsHunt s plan from (Some f) response = ShowsFault minimal_line minimal_break_line (plan_members plan from) s f.1 response
-ShowsHunt s plan from None response = ShowsEmptyHunt s.output (length s.places) plan from response
+abbrev pub ShowsHunt : Sought → Plan → ℕ → Bool → Option (ℕ × Fault) → Response → Type 0
+ShowsHunt s plan from ends_unasked (Some f) response = ShowsFault minimal_line minimal_break_line (plan_members plan from) s f.1 response
+ShowsHunt s plan from ends_unasked None response = ShowsEmptyHunt s.output (length s.places) plan from ends_unasked response
 
 -- Where nothing is wrong, ends are told: of steps that repeat for ever, and the schedule that leads there.
 abbrev pub IsLoopAnswer : Output → List ℕ → List ℕ → List ℕ → WholeProgram Name → List ℕ → List ℕ → List ℕ → List ℕ → Type 0
@@ -140,7 +144,8 @@ abbrev pub ShowsEndless : Sought → MustStop → List ℕ → List ℕ → Resp
 ShowsEndless s asked prefix cycle = ShowsLoop (codes "endless") (endless_line (length s.places) asked) s prefix [] cycle
 
 abbrev pub ShowsAllEnd : Sought → MustStop → ℕ → Response → Type 0
-ShowsAllEnd s asked states = Gives 0 (IsStatesAnswer s.output (codes "ends") (ends_line false (length s.places) asked states) false states [])
+ShowsAllEnd s asked states =
+    Gives 0 (IsStatesAnswer s.output (codes "ends") (ends_line false (length s.places) asked states) false states (length s.places) [])
 
 -- where nobody is asked for, all of them end
 abbrev pub can_end_word : MustStop → List ℕ
@@ -152,12 +157,14 @@ can_end_status asked = if is_nobody asked then 0 else 6
 
 abbrev pub ShowsCanEnd : Sought → Bool → MustStop → ℕ → Response → Type 0
 ShowsCanEnd s is_merged asked states =
-    Gives (can_end_status asked) (IsStatesAnswer s.output (can_end_word asked) (can_end_line is_merged (length s.places) asked states) is_merged states [])
+    Gives (can_end_status asked) (IsStatesAnswer s.output (can_end_word asked) (can_end_line is_merged (length s.places) asked states) is_merged states
+    (length s.places) [])
 
 -- by merged steps they can, and by single ones there are more states than this
 abbrev pub ShowsHalf : Sought → MustStop → ℕ → Limits → ℕ → Response → Type 0
 ShowsHalf s asked states limits others =
-    Gives 6 (IsStatesAnswer s.output (codes "limit") (half_line (length s.places) asked states others) true states (half_next limits others))
+    Gives 6 (IsStatesAnswer s.output (codes "limit") (half_line (length s.places) asked states others) true states (length s.places)
+    (half_next limits others))
 
 -- where nothing is wrong in so many states
 abbrev pub ShowsKnown : Bool → MustStop → Sought → ℕ → Liveness → Response → Type 0

@@ -23,7 +23,7 @@ use crate::hunting::{MINIMAL, MINIMAL_BREAK};
 use crate::progress::Progress;
 use crate::search::{Answered, Search, Task};
 use crate::trapping::{broken_shown, trap_shown};
-use base::Trap;
+use base::{Trap, push_number};
 use searches_explore::{Fault, Limits, StepKind, Verdict, explore};
 use searches_hunt::shrink_fault;
 use std::alloc::{AllocError, Global};
@@ -232,8 +232,9 @@ pub fn limit_shown(task: &Task<'_, '_>, is_merged: bool, states: u32) -> Answere
     ensures { IfOk result (ShowsLimit (sought_by task.now.search) is_merged task.now.limits states) }
 {
     let search = &task.search;
+    let places = search.lines.places.as_slice();
     let extent = SearchExtent {
-        lines: search.lines.places.len(),
+        lines: places.len(),
         is_merged,
         states,
     };
@@ -242,7 +243,8 @@ pub fn limit_shown(task: &Task<'_, '_>, is_merged: bool, states: u32) -> Answere
     states_shown(search, LIMIT, "limit", extent, &says, &more)
 }
 
-/// An answer without a schedule: what is said in a line, with more behind it; an object has the states in place of that.
+/// An answer without a schedule: what is said in a line, with more behind it; an object has the states in place of that,
+/// and the lines.
 pub fn states_shown(
     search: &Search<'_, '_>,
     status: u8,
@@ -251,13 +253,20 @@ pub fn states_shown(
     says: &str,
     more: &str,
 ) -> Answered
-    ensures { IfOk result (Gives status (IsStatesAnswer search.now.output word.now says.now extent.is_merged extent.states more.now)) }
+    ensures { IfOk result (Gives status (IsStatesAnswer search.now.output word.now says.now extent.is_merged extent.states extent.lines more.now)) }
 {
     let alloc = search.alloc;
     let text = match search.output {
         Output::Text => lines_of(alloc, says, more)?,
         Output::ScheduleAlone => String::new(alloc),
-        Output::Json => found_states(alloc, word, says, extent.is_merged, extent.states)?,
+        Output::Json => {
+            let SearchExtent {
+                lines,
+                is_merged,
+                states,
+            } = extent;
+            found_states(alloc, word, says, is_merged, states, lines)?
+        }
     };
     Ok(answer(alloc, status, text))
 }
@@ -304,7 +313,8 @@ fn push_states(text: &mut String, is_merged: bool, states: u32) -> Result<(), Al
 fn safe_line(alloc: Global, extent: SearchExtent) -> Result<String, AllocError>
     ensures { IfOk result (λ line. string_bytes line ≡ safe_line extent.is_merged extent.lines extent.states) }
 {
-    let mut line = String::from_str(alloc, safe_text(extent.lines))?;
+    let mut line = String::new(alloc);
+    push_safe(&mut line, extent.lines)?;
     line.push_str(" under any schedule")?;
     push_counted(&mut line, extent)?;
     Ok(line)
@@ -319,15 +329,16 @@ pub fn push_counted(text: &mut String, extent: SearchExtent) -> Result<(), Alloc
     text.push_str(")")
 }
 
-/// What holds, where so many lines `#! never` are asked.
-pub fn safe_text(lines: usize) -> &'static str
-    ensures { result.now ≡ safe_text lines }
+/// Adds what holds, where so many lines `#! never` are asked.
+pub fn push_safe(text: &mut String, lines: usize) -> Result<(), AllocError>
+    ensures { OnOk result (string_bytes text.new ≡ string_bytes text.old ++ safe_text lines) }
 {
     if lines == 0 {
-        "no process traps"
-    } else {
-        "no process traps and no #! never line breaks"
+        return text.push_str("no process traps");
     }
+    text.push_str("no process traps and no #! never line (of ")?;
+    push_number(text, lines as u64)?;
+    text.push_str(") breaks")
 }
 
 /// Adds that there are more states than these.

@@ -6,13 +6,14 @@ ghost use Rattle.ticklab_files.specs.Asking.{IsUnexplored};
 ghost use Rattle.ticklab_json.specs.Found.{head_members};
 ghost use Rattle.ticklab_files.specs.Faults.{IsOfFile, IsUnread};
 ghost use Rattle.ticklab_verdicts.specs.Hunting.{Hunts, IsHunted, plan_of};
-ghost use Rattle.ticklab_verdicts.specs.Lines.{from_text, minimal_break_line, minimal_line, nothing_line, plan_text, runs_from};
+ghost use Rattle.ticklab_verdicts.specs.Lines.{from_text, minimal_break_line, minimal_line, nothing_line, plan_text, runs_from, unasked_text};
 ghost use Rattle.ticklab_verdicts.specs.Shown.{IsEmptyAnswer, ShowsFault, ShowsHunt};
 ghost use Rattle.ticklab_verdicts.specs.Sought.{IsLawful, IsSound, sought_by};
 ghost use Rattle.ticklab_files.specs.Stops.{IfRefused};
 
 use crate::counts::push_many;
-use crate::exploring::safe_text;
+use crate::ends::asks_ends;
+use crate::exploring::push_safe;
 use crate::search::{Answered, Search};
 use crate::trapping::{broken_shown, trap_shown};
 use base::push_number;
@@ -51,7 +52,8 @@ pub fn plan_of(seed: u64, runs: u32, steps: u32, is_uniform: bool) -> Plan
 }
 
 /// Whether a process of the program traps under a schedule of the plan, from this run on, or a line `#! never` of the
-/// file breaks or one of these texts that are the same. `trials` tries the runs.
+/// file breaks or one of these texts that are the same. Where none does, the answer says whether a line `#! ends` of the
+/// file isn't asked. `trials` tries the runs.
 pub fn hunted<F: Files, T: Trials>(
     alloc: Global,
     files: &mut F,
@@ -99,20 +101,26 @@ fn random_schedules<T: Trials>(
         lines,
         output,
     };
-    Ok(shown(&search, plan, from, &hunted)?)
+    Ok(shown(&search, plan, from, asks_ends(asked.ends), &hunted)?)
 }
 
 // The answer that tells what the hunt came to.
-fn shown(search: &Search<'_, '_>, plan: Plan, from: u32, hunted: &Option<(u32, Fault)>) -> Answered
+fn shown(
+    search: &Search<'_, '_>,
+    plan: Plan,
+    from: u32,
+    ends_unasked: bool,
+    hunted: &Option<(u32, Fault)>,
+) -> Answered
     requires sound { IsSound search.now }
     requires schedule { IfSome hunted.now (λ f. IsLawful search.now (schedule_of f.1).items) }
     requires line { IfSome hunted.now (λ f. IfBreaks f.1 (λ schedule line v. line < length search.now.lines.now.places.items)) }
-    ensures { IfOk result (ShowsHunt (sought_by search.now) plan from hunted.now) }
+    ensures { IfOk result (ShowsHunt (sought_by search.now) plan from ends_unasked hunted.now) }
 {
     match hunted {
         Some((_run, fault)) => fault_shown(search, Head::Runs { plan, from }, fault),
         None => {
-            let text = empty_answer(search, plan, from)?;
+            let text = empty_answer(search, plan, from, ends_unasked)?;
             Ok(answer(search.alloc, DONE, text))
         }
     }
@@ -138,14 +146,21 @@ fn fault_shown(search: &Search<'_, '_>, head: Head<'_>, fault: &Fault) -> Answer
     }
 }
 
-fn empty_answer(search: &Search<'_, '_>, plan: Plan, from: u32) -> Result<String, AllocError>
-    ensures { IfOk result (λ text. IsEmptyAnswer search.now.output (length search.now.lines.now.places.items) plan from (string_bytes text)) }
+// No process traps and no line breaks, and this says whether a line `#! ends` isn't asked.
+fn empty_answer(
+    search: &Search<'_, '_>,
+    plan: Plan,
+    from: u32,
+    ends_unasked: bool,
+) -> Result<String, AllocError>
+    ensures { IfOk result (λ text. IsEmptyAnswer search.now.output (length search.now.lines.now.places.items) plan from ends_unasked (string_bytes text)) }
 {
     let alloc = search.alloc;
+    let lines = search.lines.places.len();
     match search.output {
-        Output::Text => nothing_line(alloc, search.lines.places.len(), plan, from),
+        Output::Text => nothing_line(alloc, lines, plan, from, ends_unasked),
         Output::ScheduleAlone => Ok(String::new(alloc)),
-        Output::Json => empty_hunt(alloc, plan, from),
+        Output::Json => empty_hunt(alloc, plan, from, lines, ends_unasked),
     }
 }
 
@@ -156,15 +171,34 @@ fn runs_from(plan: Plan, from: u32) -> u32
     u32::min(plan.runs, u32::MAX - from)
 }
 
-fn nothing_line(alloc: Global, lines: usize, plan: Plan, from: u32) -> Result<String, AllocError>
-    ensures { IfOk result (λ line. string_bytes line ≡ nothing_line lines plan from) }
+fn nothing_line(
+    alloc: Global,
+    lines: usize,
+    plan: Plan,
+    from: u32,
+    ends_unasked: bool,
+) -> Result<String, AllocError>
+    ensures { IfOk result (λ line. string_bytes line ≡ nothing_line lines plan from ends_unasked) }
 {
-    let mut line = String::from_str(alloc, safe_text(lines))?;
+    let mut line = String::new(alloc);
+    push_safe(&mut line, lines)?;
     line.push_str(" in ")?;
     push_many(&mut line, runs_from(plan, from), "run", "runs")?;
     push_plan(&mut line, plan, from)?;
+    line.push_str(unasked_text(ends_unasked))?;
     line.push_str("\n")?;
     Ok(line)
+}
+
+// Whether a line `#! ends` isn't asked.
+fn unasked_text(ends_unasked: bool) -> &'static str
+    ensures { result.now ≡ unasked_text ends_unasked }
+{
+    if ends_unasked {
+        "; #! ends is not asked"
+    } else {
+        ""
+    }
 }
 
 // How long the runs are, the seed, and which run is the first.

@@ -3,7 +3,7 @@ ghost use Rattle.std.specs.Prelude.{◌≡◌, ◌≤◌, ◌+◌, ◌++◌, IfO
 ghost use Rattle.std.specs.List.{list_any};
 ghost use Rattle.ticklab_verdicts.specs.Lines.{asked_text, can_end_line, can_end_text, endless_line, ends_line, ends_text, half_line, half_next, is_nobody, marked, no_process_line, numbers_text, processes_text, quiet_text, stuck_line};
 
-use crate::exploring::{either, larger, push_counted, push_more, safe_text};
+use crate::exploring::{either, larger, push_counted, push_more, push_safe};
 use crate::extent::SearchExtent;
 use base::push_number;
 use searches_explore::{Limits, MustStop};
@@ -95,7 +95,8 @@ fn has_mark(marks: &[bool]) -> bool
 fn quiet(alloc: Global, lines: usize) -> Result<String, AllocError>
     ensures { IfOk result (λ text. string_bytes text ≡ quiet_text lines) }
 {
-    let mut text = String::from_str(alloc, safe_text(lines))?;
+    let mut text = String::new(alloc);
+    push_safe(&mut text, lines)?;
     text.push_str(" under any schedule; ")?;
     Ok(text)
 }

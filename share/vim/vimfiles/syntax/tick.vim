@@ -19,7 +19,7 @@ syntax match tickNumber "\d\+"
 syntax match tickOperator "[-+*/%<=]\|<=\|==\|!="
 syntax match tickDelimiter "[;,(){}]"
 syntax match tickComment "#.*"
-syntax match tickDirective "^#!.*"
+syntax match tickDirective "#![^#]*"
 
 highlight default link tickSection Structure
 highlight default link tickStatement Statement

@@ -11,7 +11,7 @@ pub returns : goal.returns
 returns c =
     let asked = asked_of c.args.questions in
     let a = resolved c.args.program.now in
-    let lines = ap lines_of (c.deref.ensures.value ∙ c.in_ok-lines.ensures) ∙ lines_kept c.args.questions.never.items in
+    let lines = ap lines_of (c.deref.ensures.value ∙ c.in_ok-properties.ensures) ∙ lines_kept c.args.questions.never.items in
     let found = subst (λ (lines : List Formula). IsFound a lines c.args.limits c.asked_for-asked.result c.in_ok-found.found) lines c.in_ok-found.ensures in record {
       program = c.args.program.now;
       is = c.requires.program;
@@ -19,4 +19,5 @@ returns c =
       asks = c.requires.asks;
       finds = subst (λ who. IsFound a (map (λ line. line.0) asked.never) c.args.limits who c.in_ok-found.found) c.asked_for-asked.ensures found;
       expects = c.expected_of-expected.ensures;
+      counts = c.lines_asked-lines.ensures;
     }
