@@ -1,4 +1,4 @@
-# Completes the words of ticketc in fish. tools/completions makes this file of what `ticketc --help` says.
+# Completes the words of ticketc in fish. tools/install_test compares this file with what `ticketc --help` says.
 
 complete -c ticketc -f
 complete -c ticketc -n 'test (count (commandline -opc)) -eq 1' -a order

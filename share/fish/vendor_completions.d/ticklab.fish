@@ -1,4 +1,4 @@
-# Completes the words of ticklab in fish. tools/completions makes this file of what `ticklab --help` says.
+# Completes the words of ticklab in fish. tools/install_test compares this file with what `ticklab --help` says.
 
 complete -c ticklab -f
 complete -c ticklab -n 'test (count (commandline -opc)) -eq 1' -s h -l help -d 'Print help'
