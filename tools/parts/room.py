@@ -50,22 +50,18 @@ def built(top, names, crates):
 
 
 @contextlib.contextmanager
-def proved(top, names, crates, tell=lambda name: None, first=()):
-    """A room with these crates and those below them proved and built; `tell` is told of each that is done. Of those
-    that are proved `first` each has one processor, which takes less of their time; then idle ones go to a proof that
-    starts."""
+def proved(top, names, crates, tell=lambda name: None):
+    """A room with these crates and those below them proved and built; `tell` is told of each that is done."""
     # (`rt` sweeps away folders of this name that a killed run left)
     with tempfile.TemporaryDirectory(prefix=f"rt-copy-{os.getpid()}-") as room:
         laid(top, names, crates, room)
-        if first:
-            prove(room, tell, ["rt", "ci", *first], {**os.environ, "RT_JOBS": str(len(os.sched_getaffinity(0)))})
-        prove(room, tell, ["rt", "ci"], os.environ)
+        prove(room, tell)
         yield room
 
 
-def prove(room, tell, words, environment):
+def prove(room, tell):
     said = []
-    with subprocess.Popen(words, cwd=room, env=environment, **AS_ONE) as command:
+    with subprocess.Popen(["rt", "ci"], cwd=room, **AS_ONE) as command:
         try:
             for line in command.stdout:
                 said.append(line)
