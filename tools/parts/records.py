@@ -15,6 +15,8 @@ LINE = re.compile(r"([0-9a-f]{32}) (\S+\.edit): (.+)")
 PLACE = re.compile(r"(?:\./)?((?:src|proofs)/[^:\s]+)")
 QUOTED = re.compile(r"`([^`]+)`")
 IMPORTED = re.compile(r"^from parts(?: import ([\w, ]+)|\.(\w+) import)", re.MULTILINE)
+# The head of a file, by the end of its name: lines at the very beginning that say what the file is about.
+HEADS = {".antt": re.compile(r"(?:--[^\r\n]*\n)*"), ".rt": re.compile(r"(?://![^\r\n]*\n)*")}
 
 
 def sum_of(*parts):
@@ -23,6 +25,12 @@ def sum_of(*parts):
 
 def sum_of_file(path):
     return hashlib.sha256(read_bytes(path)).hexdigest()
+
+
+def without_head(path, text):
+    """The text of a file without its head, which decides no check."""
+    head = HEADS.get(os.path.splitext(path)[1])
+    return text[head.match(text).end() :] if head else text
 
 
 def files_of_tool(path):
@@ -37,7 +45,8 @@ def files_of_tool(path):
 
 
 def contracts(source):
-    """The files of a crate's src/ without the bodies of those functions that belong to no trait and make no constant."""
+    """The files of a crate's src/ without their heads, and without the bodies of those functions that belong to no trait and make
+    no constant."""
     for file in sorted(source.texts):
         lines = source.texts[file].split("\n")
         for function in source.functions(file):
@@ -45,13 +54,13 @@ def contracts(source):
             if body and function.may_stand_twice(source.types):
                 opens, ends = (function.first - 1 + at for at in body)
                 lines[opens + 1 : ends] = [""] * (ends - opens - 1)
-        yield f"{file}\n" + "\n".join(lines)
+        yield f"{file}\n" + without_head(file, "\n".join(lines))
 
 
 class Records:
     """The records of crates, each with a sum of the edit and of what decides a check of its crate: the crate's own files; what
     it uses of the crates below, which are their contracts, their definitions and the lemmas that it names; their lines of
-    crates.txt, HANDLES, the toolchain and the parts of the tool."""
+    crates.txt, HANDLES, the toolchain and the parts of the tool. Of each file of a crate it leaves the head out."""
 
     def __init__(self, top, crates):
         self.top, self.crates = top, crates
@@ -104,7 +113,8 @@ class Records:
         return sum_of(self.crates[name].line, *definitions, *contracts(Source(folder)))
 
     def files(self, name, paths):
-        return [f"{name}/{path} {sum_of_file(f'{self.top}/crates/{name}/{path}')}" for path in paths]
+        texts = {path: read_bytes(f"{self.top}/crates/{name}/{path}").decode() for path in paths}
+        return [f"{name}/{path} {sum_of(without_head(path, text))}" for path, text in texts.items()]
 
     def named(self, name, paths, lower):
         """The pages of lemmas of a crate below that these files name."""
