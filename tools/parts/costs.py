@@ -18,6 +18,7 @@ RANGES = ("..", "..=")
 # What grows in a loop though it isn't answered: why it stays small.
 HELD = {
     "crates/code_text/src/reading.rt": {"line"},  # of one line: it is cleared before each
+    "crates/searches_fairness/src/alone.rt": {"steps"},  # a step of one process for each place; all is answered
     "crates/searches_fairness/src/fixed_point.rt": {"steps"},  # a loop and what leads into it: all is answered
     "crates/searches_fairness/src/round_robin.rt": {"steps"},  # a round of the processes for each place; part is answered
     "crates/searches_hunt/src/vain.rt": {"all"},  # an entry for each process
@@ -30,6 +31,7 @@ TURNS = {
     "crates/searches_fairness/src/components.rt": {"component_ranks"},  # the steps of all states, of each one turn
     "crates/searches_hunt/src/shrinking.rt": {"in_pieces", "without_items"},  # sizes that are halved; the schedule
     "crates/searches_parallel/src/on_processors.rt": {"first_fault"},  # the runs asked for: only the pieces are a constant
+    "crates/searches_states/src/fewest.rt": {"ways_on"},  # the steps that the search kept, of each one turn
     "crates/ticketc_io/src/reading.rt": {"read_input"},  # the input; a clause says how often it is asked
     "crates/ticketc_io/src/writing.rt": {"write_text"},  # the text, or so many interruptions
     "crates/ticklab_line/src/commands.rt": {"command_line"},  # the commands that there are

@@ -1,3 +1,4 @@
+//! `Code`: instructions that have no fault, in words. `verify` accepts them, or tells their first fault.
 ghost use Rattle.std.specs.Prelude.{◌≡◌, ◌≢◌, ◌≤◌, ◌<◌, [], length, slice_get, IfOk, OnOk, IfErr};
 ghost use Rattle.code_core.specs.Heights.{greatest_height, placed};
 ghost use Rattle.code_core.specs.Verified.{code_fault, first_fault, IsVerified};

@@ -1,3 +1,4 @@
+//! The first fault of an instruction at its place (`fault_at`), and the tests that it is made of.
 ghost use Rattle.std.specs.Prelude.{◌≡◌, ◌≤◌, ◌<◌, ◌+◌, length, slice_get, Some};
 ghost use Rattle.code_core.specs.Verified.{is_load, is_next, is_exchange, before, bad_stamp, differs, is_past, fault_at};
 

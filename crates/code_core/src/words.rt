@@ -1,3 +1,4 @@
+//! Instructions as words, one each, and back. The values that are pushed are kept beside them.
 ghost use Rattle.std.specs.Prelude.{◌≡◌, ◌≤◌, ◌<◌, ◌+◌, ◌*◌, ◌/◌, ◌%◌, ◌++◌, length, slice_get, Some, IfOk, OnOk};
 ghost use Rattle.code_core.specs.Words.{kind, sign_number, operands, word_of, constant_in, sign_of, decoded, decoded_all};
 ghost use Rattle.code_core.specs.prover.Coding.{SlotsFit, AreCoded};

@@ -1,4 +1,8 @@
--- Small codes under small schedules, and what the definitions make of them.
+-- Small codes under small schedules, and what the definitions make of them. All of it is computed.
+-- A stamp, a scan and a comparison come first (`one_after_the_other`); then an exchange that is lost, a loop, two traps,
+-- and a register. In `same_labels_again` process 0 has loaded its labels, and six stamps of the others bring them back: its
+-- exchange is won.
+-- Read `one_after_the_other` first, then `same_labels_again`.
 use Rattle.std.proofs.Common.{◌≡◌, ℕ, List, [], ◌∷◌, ◌++◌, refl, map, replicate}
 use Rattle.base.specs.declared.operator.Op.TheVariants as O
 use Rattle.base.specs.declared.status.Status.TheVariants.{Running, Ended, Trapped}

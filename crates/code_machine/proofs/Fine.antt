@@ -1,4 +1,9 @@
--- What a process finds at the places of a verified code.
+-- What a process finds at the places of a verified code (`Places`).
+-- The idea. `IsFine` says of each place what the verifier tests there. Most fields of `Places` are parts of it. An exchange
+-- needs more: right before it stands a `Next` (`exchange_is`), and right before that the load to which it goes back
+-- (`load_before`). So its stamp stands at three places, one after the other, and the height is the same at the load and at
+-- the exchange (`back_height_is`).
+-- Read `Places` first, then `back_is`.
 use Rattle.std.proofs.Common.{◌≡◌, ℕ, zero, suc, ◌+◌, ◌-◌, ◌<◌, ◌≤◌, Bool, true, false, List, length, Option, Some, None, refl, ap, ◌∙◌, sym, subst, arith, add-one}
 use Rattle.std.specs.Prelude.{◌==◌, ◌&&◌, ◌||◌, slice_get}
 use Rattle.std.proofs.lemmas.Bool.{both_ways, not-false, eqb-true}

@@ -1,3 +1,4 @@
+//! `CodeMachine`: all processes of a code, which share labels and registers. One of them steps at a time.
 ghost use Rattle.std.specs.Prelude.{◌≡◌, false, ℕ, ◌<◌, ◌≤◌, List, length, map, slice_get, OnOk, OnErr, IfOk, IfSome, IsOk, IsTrue, Some, is_some, option_map, option_and_then, All};
 ghost use Rattle.base.specs.RegisterRows.{register_at};
 ghost use Rattle.base.specs.Observables.{observed};

@@ -1,3 +1,4 @@
+//! `Proc`: one process of a code by itself. It asks for what is shared, and goes on by the reply.
 ghost use Rattle.std.specs.Prelude.{◌≡◌, ◌≢◌, ◌<◌, slice_get, replicate, Some, IfOk, IfErr, IfSome, IfNone};
 ghost use Rattle.std.specs.Vec.{vec_items};
 ghost use Rattle.code_machine.specs.Machine.{start_process};

@@ -1,4 +1,9 @@
--- The instruction whose line begins a text is guessed.
+-- The instruction whose line begins a text is guessed, and so is the header.
+-- The idea. `guess` answers an instruction for every text. Where the line of an instruction begins the text, it is that one
+-- (`guess_line`, by cases of the instruction). So if the line of the guess does not begin the text, no line does
+-- (`no_line`). The version and the sizes of a header are guessed in the same way (`guess_version`, `guess_header`,
+-- `no_header`).
+-- Read `guess_line` first, then `no_line`.
 use Rattle.std.proofs.Common.{◌≡◌, ⊎_elim, ℕ, ◌+◌, ◌==◌, if◌then◌else◌, ◌%◌, ◌^◌, ◌<◌, List, ◌∷◌, ◌++◌, refl, ap, ◌∙◌, sym, subst, arith, codes, drop, append_assoc}
 use Rattle.std.specs.Fmt.{decimal}
 use Rattle.std.proofs.lemmas.Fmt.{decimal_digit}

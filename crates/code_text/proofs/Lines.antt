@@ -1,4 +1,9 @@
--- One line more.
+-- One line more, and the header before all lines.
+-- The idea. Lines are written and read one after another, and a further line stands at the end of those before it
+-- (`lines_more`, by induction over them). So a loop that writes goes on by `written_more`, and one that reads by
+-- `read_more`. What reads stops at a bad line (`bad_line`), or has read the whole text (`text_read`). `header_added` puts a
+-- header together from two pairs of sizes.
+-- Read `lines_more` first, then `read_more` and `text_read`.
 use Rattle.std.proofs.Common.{codes, Result, Ok, Err, MatchOption, OnOk, is_ok, if◌then◌else◌, ◌≡◌, ℕ, zero, suc, false, ◌+◌, ◌<◌, List, [], ◌∷◌, ◌++◌, length, take, refl, ap, ◌∙◌, sym, arith, append_assoc, length-append, subst, Option, Some, None}
 use Rattle.std.specs.Prelude.{◌==◌, slice_get}
 use Rattle.std.specs.Borrow.{Bor}

@@ -1,4 +1,9 @@
 -- A text is one code or has one fault.
+-- The idea. A text has one guess, so one line begins it (`line_unique`), and one header (`header_unique`). By induction
+-- over the lines, two lists of lines with one text are one (`lines_unique`), two bad lines stand at one place
+-- (`bad_unique`), and a text of good lines has no bad one (`good_or_bad`). `one_reading` puts them together, by cases of
+-- two readings.
+-- Read `line_unique` first, then `lines_unique` and `one_reading`.
 use Rattle.std.proofs.Common.{◌≡◌, ⊎_elim, inr, ℕ, suc, ◌+◌, ◌<◌, List, [], ◌∷◌, ◌++◌, length, refl, ap, ◌∙◌, sym, subst, arith, append_assoc, length-append, Ok, Err}
 use Rattle.std.proofs.lemmas.List.{append_cancel_left}
 use Rattle.std.proofs.lemmas.Option.{same_Some, none-some}

@@ -1,3 +1,4 @@
+//! Guesses which line begins a text, by a few of its letters. Whoever reads writes that line to compare.
 ghost use Rattle.std.specs.Prelude.{◌≡◌, ◌-◌, length, slice_index, IfSome, IsSome, ◌↔◌};
 ghost use Rattle.code_text.specs.CodeText.{InRange, IsVersion};
 ghost use Rattle.code_text.specs.prover.Guess.{guess, guessed_version, guessed_sizes, operator, named};

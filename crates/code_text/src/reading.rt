@@ -1,3 +1,4 @@
+//! From a text to the code that it spells. Each line is guessed, and then compared with the text.
 ghost use Rattle.std.specs.Prelude.{◌≡◌, ◌≢◌, ◌↔◌, ◌++◌, ◌+◌, ℕ, List, Ok, Err, IfOk, IfErr, IsTrue, MatchOption};
 ghost use Rattle.code_text.specs.CodeText.{code_lines, IsIn, AllMayStand, HasBadLine, ReadsAs};
 ghost use Rattle.code_text.specs.prover.Guess.{Follows, FollowsHeader};

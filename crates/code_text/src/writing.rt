@@ -1,3 +1,4 @@
+//! From a code to its text: a line with the sizes, and then one for each instruction.
 ghost use Rattle.std.specs.Prelude.{◌≡◌, ◌++◌, codes, IfOk, IfErr, OnOk, string_bytes};
 ghost use Rattle.std.specs.Fmt.{decimal};
 ghost use Rattle.code_text.specs.CodeText.{instr_text, instr_line, code_lines, header_line, code_text};

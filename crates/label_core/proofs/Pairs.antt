@@ -1,4 +1,10 @@
 -- Ranks of labels to which one more is added, by what each pair that it makes says.
+-- The idea. After i pairs, the first i labels have their new ranks and the others their old ones (`ranks_so_far`). The
+-- label that is added raises the rank of those that dominate it (`ranks_raised`) and of no other (`ranks_kept`). The code
+-- knows which from two tests: whether the added label dominates the other, and whether their numbers are equal
+-- (`ranks_step`). The same pairs give the rank of the label that is added (`rank_step`). `label_ranks-snoc` says what both
+-- make together.
+-- Read `ranks_so_far` first, then `ranks_step`.
 use Rattle.std.proofs.Common.{◌≡◌, ℕ, ◌+◌, ◌<◌, ◌≤◌, ◌++◌, Bool, true, false, not, ◌&&◌, cond, eqb, List, [], ◌∷◌, length, get_or, map, take, drop, set, refl, sym, ap, ◌∙◌, arith, append_assoc, length-take-le}
 use Rattle.std.specs.Prelude.{◌≢◌}
 use Rattle.std.proofs.lemmas.Bool.{both_ways, eqb-true, eq-eqb, false_from_ne_true}

@@ -1,4 +1,8 @@
 -- The labels that the choice looks at, after some digits of the greatest, are those that begin so.
+-- The idea. The choice goes from digit to digit, and keeps the labels that share it (`reach`). The code keeps none, and
+-- counts those that begin with the digits so far (`begins`). They are as many (`length-reach`, by induction over the
+-- digits). So the count decides whether a digit is turned (`step_turns`) or kept (`step_keeps`).
+-- Read `reach` and `begins` first, then `length-reach` and `step_keeps`.
 use Rattle.std.proofs.Common.{◌≡◌, ℕ, suc, ◌+◌, ◌-◌, ◌<◌, ◌≤◌, Bool, true, false, ◌&&◌, cond, eqb, leb, List, [], ◌∷◌, ◌++◌, length, refl, sym, ap, ◌∙◌, arith, take, drop, append_assoc, replicate, length-drop}
 use Rattle.std.proofs.Math.Seq.{drop-cons}
 use Rattle.std.proofs.lemmas.List.{take_more}

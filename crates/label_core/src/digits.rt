@@ -1,3 +1,4 @@
+//! `Label`: the digits of one label, kept as one number in base 3.
 ghost use Rattle.std.specs.Prelude.{◌≡◌, ◌↔◌, ◌+◌, ◌-◌, ◌^◌, ◌<◌, ◌≤◌, ◌∷◌, ◌++◌, length, take, replicate, slice_index, All, IsSome, IfSome, MatchOption, ◌==◌, [], slice_index_or};
 ghost use Rattle.label_core.specs.Labels.{AreDigits, IsNumbered, dominates, next_digit, zeros, label_number, digits_in};
 ghost use Rattle.label_core.specs.declared.table.TheConstants.{DOMINATED};

@@ -1,3 +1,4 @@
+//! Tables that are looked up: the digits of each number below 243, and which labels a label dominates.
 use crate::digits::MOST_DIGITS;
 
 /// How many labels there are of no digits, of one, up to those of five.

@@ -1,3 +1,4 @@
+//! The value of a property in a state, or the trap that it comes to.
 ghost use Rattle.std.specs.Prelude.{◌≡◌, ◌<◌, ◌==◌, if◌then◌else◌, length, map, replicate, slice_set, Ok};
 ghost use Rattle.std.specs.List.{range_with_len};
 ghost use Rattle.language_properties.specs.Properties.{formula_of};

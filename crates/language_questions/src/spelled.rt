@@ -1,3 +1,4 @@
+//! The words and signs of questions, and what each is read as.
 ghost use Rattle.std.specs.Prelude.{◌≡◌};
 ghost use Rattle.language_questions.specs.Directives.{directives, expectations};
 ghost use Rattle.language_questions.specs.Signs.{signs};

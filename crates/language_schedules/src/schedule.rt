@@ -1,3 +1,4 @@
+//! From a text to the steps of a schedule, or why it is none. Each item of the text is some steps of one process.
 ghost use Rattle.std.specs.Prelude.{◌≡◌, ◌≢◌, ◌+◌, ◌<◌, ◌≤◌, All, IfErr, IfOk, IfSome, OnOk, length, option_map};
 ghost use Rattle.std.specs.List.{position};
 ghost use Rattle.language_schedules.specs.Schedule.{capped_item, is_star, item_of as item_spelled, item_of_numbers, schedule_of, with_item, with_piece};

@@ -1,4 +1,8 @@
--- `dedup` of a list with one more element at its end: that one is compared with the last that was kept.
+-- `dedup` of a list with one more element at its end: that one is compared with the last that was kept (`one_more`).
+-- The idea. `dedup` goes from the front, and keeps its first element and what `kept_after` says (`first_kept`). So an element
+-- at the end meets the last of these (`from_push`, by induction over the list). The loop holds the last text only as an index:
+-- `nothing_added` and `one_time_more` say the same of `counts`, by their last place.
+-- Read `dedup_push` first, then `one_time_more`.
 use Rattle.std.proofs.Common.{◌≡◌, ◌-◌, ◌+◌, ◌&&◌, ℕ, Bool, true, false, List, String, [], ◌∷◌, ◌++◌, length, map, cond, get_or, set, nat_lt, string_eq, refl, sym, ap, ◌∙◌, arith}
 use Rattle.std.proofs.lemmas.List.{get_or-map, get_or_default, length-map}
 use Rattle.std.proofs.lemmas.List.Sums.{sum_by-set}

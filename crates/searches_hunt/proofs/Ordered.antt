@@ -92,7 +92,8 @@ module _ (texts : List (String Global)) (counts sorted : List Counted) (up : IsS
         let other : nat_cmp (rareness y) (rareness x) ≡ Equal = ap (nat_cmp (rareness y)) same ∙ tied_itself nat_cmp_total (rareness y) in
         let tie : ties (λ c e. is_lt (nat_cmp (rareness c) (rareness e))) x y ≡ true = λ i. not (is_lt (one i)) && not (is_lt (other i)) in
         let kept = ties_stay_sorted (λ c e. is_lt (string_cmp c.outcome e.outcome)) (λ c e. is_lt (nat_cmp (rareness c) (rareness e))) (ranks_by string_cmp_total (λ c. c.outcome))
-        (ranks_by nat_cmp_total rareness) counts sorted in_order stable k d (omega (arith, q)) (subst (λ n. ties (λ c e. is_lt (nat_cmp (rareness c) (rareness e))) x (get_or sorted n d) ≡ true) (sym (add-one k)) tie) in
+        (ranks_by nat_cmp_total rareness) counts sorted in_order stable k d (omega (arith, q))
+        (subst (λ n. ties (λ c e. is_lt (nat_cmp (rareness c) (rareness e))) x (get_or sorted n d) ≡ true) (sym (add-one k)) tie) in
         less_of (string_cmp x.outcome y.outcome)
         (sym (ap is_lt (string_cmp_total.antisymm y.outcome x.outcome)) ∙ subst (λ n. is_lt (string_cmp (get_or sorted n d).outcome x.outcome) ≡ false) (add-one k) kept)
         (texts_differ k (suc k) d (omega arith) q)

@@ -1,3 +1,4 @@
+//! `hunt`: the first run of a plan that comes to a fault, and what is left of its schedule.
 ghost use Rattle.std.specs.Prelude.{◌≡◌, ◌<◌, ◌≤◌, IfNone, IfOk, IfSome, length};
 ghost use Rattle.std.specs.List.{All};
 ghost use Rattle.tick_kinds.specs.Resolution.{resolved};

@@ -1,3 +1,4 @@
+//! What is left of a schedule without some of its steps.
 ghost use Rattle.std.specs.Prelude.{◌≡◌, ◌⊎◌, ◌<◌, ◌≤◌, ◌++◌, ◌∷◌, [], length, take, drop, IfOk};
 ghost use Rattle.searches_hunt.specs.prover.Parts.{IsLeft};
 

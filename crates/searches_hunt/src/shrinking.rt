@@ -1,3 +1,4 @@
+//! `shrink`: leaves items of a schedule out, first in large pieces, while there still is a fault.
 ghost use Rattle.std.specs.Prelude.{◌≡◌, ◌-◌, ◌<◌, length, slice_get, IfOk, true};
 ghost use Rattle.tick_kinds.specs.Resolution.{resolved};
 ghost use Rattle.searches_explore.specs.Lines.{lines_of};

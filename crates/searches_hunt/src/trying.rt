@@ -1,3 +1,4 @@
+//! One run of a plan or of a schedule, up to the first fault.
 ghost use Rattle.std.specs.Prelude.{◌≡◌, ◌⊎◌, ◌<◌, ◌++◌, ◌∷◌, [], false, IfOk, MatchOption};
 ghost use Rattle.std.specs.List.{All};
 ghost use Rattle.searches_hunt.specs.Draws.{next_drawing, random_schedule};

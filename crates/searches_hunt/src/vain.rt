@@ -1,3 +1,4 @@
+//! The steps of a schedule with which a process looked in vain (`vain_looks`).
 ghost use Rattle.std.specs.Prelude.{◌<◌, length, IfSome};
 ghost use Rattle.std.specs.List.{All};
 ghost use Rattle.tick_kinds.specs.Resolution.{resolved};

@@ -1,4 +1,9 @@
 -- What the calls make of their caller, from the steps of its pass.
+-- The idea. `Trying` says what `stamp` keeps while it tries: its caller went on by tries alone, and it has the order that
+-- it found last. It begins with the first look (`first_try`), and a try that is lost keeps it (`next_try`). With the try
+-- that is won it becomes `Stamps` (`last_try`), since that exchange found the labels that it was given (`won_found`).
+-- `own_of_stamps` tells the steps of the caller alone. By `written_stands` a register has what was written there.
+-- Read `Trying` first, then `last_try`.
 use Rattle.std.proofs.Common.{◌≡◌, ◌<◌, ◌≤◌, ℕ, List, [], ◌∷◌, ◌++◌, refl, sym, ap, ◌∙◌, subst, length, append_assoc, arith}
 use Rattle.std.specs.Prelude.{All, slice_index, slice_index_or, slice_set}
 use Rattle.std.proofs.lemmas.List.{get_or-set_same}

@@ -1,3 +1,4 @@
+//! What a caller may do with its ticket: look at the order, stamp, try to stamp once, and give the ticket up.
 ghost use Rattle.std.specs.Prelude.{◌≡◌, ◌<◌, [], ◌∷◌, ◌++◌, length};
 ghost use Rattle.word_core.specs.Packed.{word};
 ghost use Rattle.word_core.specs.Agreement.{StandsFor};

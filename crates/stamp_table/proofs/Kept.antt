@@ -1,4 +1,8 @@
 -- A step of the history keeps the rule, whatever step and whatever word it is.
+-- The idea. By the rule (`IsKept`) the words are what one history leaves, each view knows what its processes did, and no
+-- two views hold one process. After a step the view that made it has seen all (`knows_all`). The step is of no process that
+-- another view holds, so that one still knows what its own did (`knows_on`). No view holds more than before (`apart_set`).
+-- Read `kept_step` first, then `moves`.
 use Rattle.std.proofs.Common.{◌≡◌, ℕ, zero, suc, Bool, List, [], ◌∷◌, ◌++◌, set, refl, sym, ap, ◌∙◌, subst, inl, inr, ⊎_elim}
 use Rattle.std.specs.Prelude.{slice_index, slice_set}
 use mathlib.Core.Option.{some-injective, some-ne-none}

@@ -1,4 +1,8 @@
--- Lists of steps: beginnings of one list, and the steps of one process.
+-- Lists of steps: beginnings of one list (`StartsWith`), and the steps of one process (`mine`).
+-- The idea. Most of it is by lengths. The steps of a process are taken from each part of a list by itself (`mine-append`).
+-- So where a beginning has all of them, the rest has none (`mine-rest`). Of two beginnings of one list the shorter begins
+-- the longer (`starts_shorter`). So the longer of the two begins with both (`longer_first`, `longer_second`).
+-- Read `mine-append` and `starts_shorter` first, then `longer_whole`.
 use Rattle.std.proofs.Common.{◌≡◌, ◌≢◌, ◌⊎◌, ℕ, ◌+◌, ◌-◌, ◌≤◌, ◌==◌, cond, List, [], ◌∷◌, ◌++◌, length, take, sym, ap, ◌∙◌, subst, ⊎_elim, arith, append_assoc, length-append}
 use Rattle.std.proofs.lemmas.Bool.{eq-eqb, ne_eqb, cases_lt, lt-ltb, le-ltb}
 use Rattle.std.proofs.lemmas.List.{append-nil, nil_from_length}

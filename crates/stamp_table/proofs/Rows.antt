@@ -1,4 +1,9 @@
--- Register rows in an array, and the words with which a table opens.
+-- Register rows in an array, and the words with which a table opens and closes.
+-- The idea. A register of row r and process i stands at place r * n + i (`rows_in-at`), and an array that has the registers
+-- of some rows at these places has these rows (`rows_in-from`). Both are by induction over the rows. The words of a table
+-- are its labels as one word, and then its rows. So they open as `opening_words` says, and the memory that a history leaves
+-- can be read from them (`closed_memory`).
+-- Read `rows_in-from` first, then `closed_memory`.
 use Rattle.std.proofs.Common.{◌≡◌, ℕ, zero, suc, ◌+◌, ◌*◌, ◌^◌, ◌<◌, ◌≤◌, List, [], ◌∷◌, length, get_or, take, drop, refl, sym, ap, ◌∙◌, subst, arith, length-drop}
 use Rattle.std.specs.Prelude.{All, replicate, slice_index}
 use mathlib.Core.Option.{some, some-injective, some-ne-none}

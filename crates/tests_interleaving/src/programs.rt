@@ -1,3 +1,4 @@
+//! The programs that tests run, each with how many outcomes it has.
 use code_machine::Code;
 use std::alloc::Global;
 use std::ops::Range;

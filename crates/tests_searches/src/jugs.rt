@@ -107,7 +107,11 @@ fn measured(
 #[test]
 fn four_of_three_and_five(rt: HostRuntime) -> Result<(), Fail> {
     let schedule = Vec::from_slice(rt.alloc(), &[1, 5, 2, 5, 1, 5])?;
-    is_same(&measured(rt.alloc(), 4, 3, 5)?, &Verdict::Found(schedule))
+    let found = Verdict::Found {
+        states: 13,
+        found: schedule,
+    };
+    is_same(&measured(rt.alloc(), 4, 3, 5)?, &found)
 }
 
 #[test]

@@ -136,7 +136,9 @@ fn whole_after(alloc: Global, front: &str, wrong: &str) -> Result<(), Fail> {
 }
 
 static PROGRAM: &str =
-    "processes 3; var a, b; scan s, t; reg r; begin clear; a = (a + ((me * 2) - n)); b = get r me; put r (a / b); s = scan; t = copy s; a = older s 0 (a % 2); b = held t n; out a; if (a < b) { if 1 { while a { } stamp; } else { out (a == b); } } else { } while (a <= b) { a = 1; } stamp; end";
+    "processes 3; var a, b; scan s, t; reg r; begin clear; a = (a + ((me * 2) - n)); b = get r me; put r (a / b); \
+     s = scan; t = copy s; a = older s 0 (a % 2); b = held t n; out a; if (a < b) { if 1 { while a { } stamp; } \
+     else { out (a == b); } } else { } while (a <= b) { a = 1; } stamp; end";
 
 #[test]
 fn all_that_is_expected(rt: HostRuntime) -> Result<(), Fail> {

@@ -132,6 +132,10 @@ impl Progress for Nobody {
 
     fn begin(&mut self, _is_merged: bool) {}
 
+    ghost finds = { λ _ _ _. Unit {0} };
+
+    fn found(&mut self, _is_break: bool) {}
+
     fn end(&self) {}
 }
 

@@ -7,11 +7,14 @@ use tests_shared::{counting, is_same};
 use ticklab_line::Steps;
 use ticklab_verdicts::Progress;
 
-/// Which searches began, and of the last of them what was told last, how often, and whether more each time.
+/// Which searches began, which faults were found, and of the last search what was told last, how often, and whether more
+/// each time.
 #[derive(Drop)]
 struct Notes {
     merged: u32,
     single: u32,
+    traps: u32,
+    breaks: u32,
     times: u32,
     states: u32,
     gone: u32,
@@ -23,6 +26,8 @@ impl Notes {
         Notes {
             merged: 0,
             single: 0,
+            traps: 0,
+            breaks: 0,
             times: 0,
             states: 0,
             gone: 0,
@@ -63,6 +68,18 @@ impl Progress for Notes {
         self.gone = 0;
     }
 
+    ghost finds = { λ before is_break after. Unit {0} };
+
+    // Merged steps find it, and single ones don't search yet.
+    fn found(&mut self, is_break: bool) {
+        self.is_more = self.is_more && self.merged == 1 && self.single == 0;
+        if is_break {
+            self.breaks = self.breaks.saturating_add(1);
+        } else {
+            self.traps = self.traps.saturating_add(1);
+        }
+    }
+
     fn end(&self) {}
 }
 
@@ -72,6 +89,9 @@ const LIMITS: Limits = Limits {
     states: 1_000_000,
     bytes: 1_000_000_000,
 };
+
+const BOUNDED: &[u8] =
+    b"a process traps under this schedule, and where any one step is left out none does; --single looks for a shortest one:\n0*182\n";
 
 const NO_TRAP: &str = "no process traps under any schedule";
 
@@ -130,6 +150,7 @@ fn tells(alloc: Global, text: &str, steps: Steps, row: &Row) -> Result<(), Fail>
         "",
     )?;
     is_same(&(notes.merged, notes.single), &begun)?;
+    is_same(&(notes.traps, notes.breaks), &(0, 0))?;
     is_same(&notes.told(1_000_000), &(told.0, told.1, true))
 }
 
@@ -160,5 +181,36 @@ fn both_searches(rt: HostRuntime) -> Result<(), Fail> {
     )?;
     is_same(&answered.status, &5)?;
     is_same(&(notes.merged, notes.single), &(1, 1))?;
+    is_same(&(notes.traps, notes.breaks), &(1, 0))?;
     is_same(&(notes.gone > 0 && notes.is_more), &true)
+}
+
+#[test]
+fn a_line_that_breaks(rt: HostRuntime) -> Result<(), Fail> {
+    let mut notes = Notes::new();
+    let text = "processes 2;\nreg r;\nbegin put r 1; end\n#! never r[1]\n";
+    let steps = Steps::MergedFirst;
+    let answered = explored_by(rt.alloc(), text.as_bytes(), LIMITS, steps, &mut notes)?;
+    is_same(&answered.status, &5)?;
+    is_same(&(notes.merged, notes.single), &(1, 1))?;
+    is_same(&(notes.traps, notes.breaks), &(0, 1))?;
+    is_same(&notes.is_more, &true)
+}
+
+// Each process traps after 182 steps. Merged steps come to eight states, and single ones would come to more than 1,000,000
+// before they find the trap.
+#[test]
+fn a_million_states_and_no_more(rt: HostRuntime) -> Result<(), Fail> {
+    let alloc = rt.alloc();
+    let text = counting(alloc, 90, "", "  x = (1 / 0);\n")?;
+    let limits = Limits {
+        states: 10_000_000,
+        ..LIMITS
+    };
+    let mut notes = Notes::new();
+    let steps = Steps::MergedFirst;
+    let answered = explored_by(alloc, text.as_bytes(), limits, steps, &mut notes)?;
+    is_same(&answered.out.starts_with(BOUNDED), &true)?;
+    is_same(&(notes.merged, notes.single), &(1, 1))?;
+    is_same(&notes.states, &1_000_000)
 }

@@ -1,4 +1,9 @@
 -- One declaration after another.
+-- The idea. `declares` is for one declaration whose name is new. After it a section goes on (`declared_one`), and it fails
+-- where one declaration does (`declared_none`). A program has three sections of declarations, which are checked one after
+-- the other (`checked_declarations-append`). So there are four ends: one of the three fails, or all are declared
+-- (`sections_declared`).
+-- Read `declares` first, then `declared_one` and `sections_declared`.
 use Rattle.std.proofs.Common.{◌≡◌, ◌<◌, ◌≤◌, ℕ, suc, true, false, is_some, nat_lt, List, [], ◌∷◌, ◌++◌, ◌+◌, map, drop, drop-cons, get_or, length, add-one, Some, None, Ok, Err, refl, sym, ap, ◌∙◌}
 use Rattle.std.proofs.Math.ListN.{drop_of_length-le}
 use Rattle.std.proofs.lemmas.Bool.{lt-ltb}

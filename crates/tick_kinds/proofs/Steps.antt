@@ -1,4 +1,9 @@
 -- One step of checking after another.
+-- The idea. A statement that holds statements is checked part by part. The first part that fails is its fault
+-- (`first_fails`, `second_fails`, `body_fails`); where none fails, the statement is made of the checked parts
+-- (`branch_checked`, `repeat_checked`). A block is checked by a loop: `checked_after` is what has been checked, with the
+-- rest of the block behind it. `starts`, `goes_on`, `stops` and `ends` are the steps of that loop.
+-- Read `checked_after` first, then `goes_on`.
 use Rattle.std.proofs.Common.{◌≡◌, ℕ, List, [], ◌∷◌, ◌++◌, Option, Ok, Err, refl, sym, ap, ◌∙◌, Vec, Global}
 use Rattle.tick_kinds.specs.declared.fault.KindFault.{KindFault}
 use Rattle.tick_kinds.specs.declared.resolved.Expression as R

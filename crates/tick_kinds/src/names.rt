@@ -1,3 +1,4 @@
+//! `Names`: what the declared names of a program stand for, and its statements with numbers in their place.
 ghost use Rattle.base.specs.Plain.{tree_of, name_of, expression_of, statement_of, block_of};
 ghost use Rattle.tick_kinds.specs.Resolved.{resolved_expression, resolved_statement, resolved_block};
 ghost use Rattle.tick_kinds.specs.prover.Table.{slot_at};

@@ -1,3 +1,4 @@
+//! `Program`: an accepted program. `check` accepts a tree, or gives it back with its first fault.
 ghost use Rattle.std.specs.Prelude.{◌≡◌, ◌≢◌, ◌≤◌, Some, length, map, IfOk, OnOk, IfErr};
 ghost use Rattle.base.specs.Plain.{tree_of, name_of};
 ghost use Rattle.tick_kinds.specs.Accepted.{IsAccepted};

@@ -1,4 +1,9 @@
 -- What stands in the code once a statement was emitted.
+-- The idea. Code is only added at the end, and room is left for each jump whose target is not known yet. `long_expression`
+-- and its like say how long the code is then, so where each part begins. `patch_branch` and `patch_repeat` write the jumps:
+-- what stands in the code is then the code of the statement. Between two statements of a block the code, with that of the
+-- rest, is the code of the whole block (`Emitting`).
+-- Read `patch_repeat` first, then `Emitting` and `emitting_more`.
 use Rattle.std.proofs.Common.{◌≡◌, ℕ, zero, suc, ◌+◌, ◌<◌, ◌≤◌, List, [], ◌∷◌, ◌++◌, refl, ap, ◌∙◌, sym, length, get_or, drop, arith, append_assoc, add-one, drop_of_length-le}
 use Rattle.std.specs.Prelude.{slice_set}
 use Rattle.std.proofs.Math.Seq.{set-append_seam, drop-cons}

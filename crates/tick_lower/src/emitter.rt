@@ -1,3 +1,4 @@
+//! The instructions of statements, one statement after another. A jump is written once its target is known.
 ghost use Rattle.std.specs.Prelude.{◌≡◌, ◌≤◌, ◌<◌, ◌+◌, [], ◌∷◌, ◌++◌, length, slice_set, OnOk};
 ghost use Rattle.tick_kinds.specs.Resolved.{resolved_expression, resolved_statement, resolved_block};
 ghost use Rattle.base.specs.Plain.{stamp, branch, repeat};

@@ -1,4 +1,9 @@
 -- What was gone through, and what is refused.
+-- The idea. Step after step, the schedule is what the definition has for the history so far (`taken_more`). At a step that
+-- was come to there may be a fault: it is not legal (`not_legal`), or its process doesn't make it (`not_this_code`). Then
+-- the processes make the rest, one after another (`FirstSpent`, `one_spent`). Either all do, and the run is merged
+-- (`all_spent`), or one doesn't make its part of the history (`not_at_end`).
+-- Read `taken_more` first, then `one_spent` and `all_spent`.
 use Rattle.std.proofs.Common.{◌≡◌, inl, inr, ⊎_elim, true, ℕ, zero, suc, ◌+◌, ◌-◌, ◌<◌, ◌≤◌, List, [], ◌∷◌, ◌++◌, length, replicate, get_or, take, drop, refl, ap, sym, subst, ◌∙◌, add-one, arith}
 use Rattle.std.specs.Prelude.{slice_index, vec_items}
 use Rattle.std.proofs.lemmas.Bool.{cases_eq}

@@ -1,4 +1,8 @@
 -- What a process makes alone leads the run on.
+-- The idea. It makes as many instructions as it can alone, and at most `most` (`leads_alone`, by induction over `most`). It
+-- stays where it has stopped, or asks for what is shared (`stays`); else it makes one more (`one_more`). The other
+-- processes stand where they stood (`others_next`). `LedTo` has all that is known then.
+-- Read `LedTo` first, then `leads_alone`.
 use Rattle.std.proofs.Common.{◌≡◌, ◌≢◌, ℕ, zero, suc, ◌<◌, ◌≤◌, List, [], ◌∷◌, ◌++◌, replicate, refl, ap, sym, subst, ◌∙◌, arith}
 use Rattle.std.specs.Prelude.{slice_get, slice_set, Some}
 use Rattle.std.proofs.lemmas.List.{append-nil}

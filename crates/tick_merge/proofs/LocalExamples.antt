@@ -1,4 +1,8 @@
 -- Small codes of one process by itself, and what the definitions make of them.
+-- The idea. A process that makes its instructions alone is computed (`alone_after`), and what goes alone for so long is a
+-- run by itself (`alone_run`, by induction). `counts_to_two` comes to its end so, in 25 instructions. A stamp whose
+-- exchange is lost asks for what is shared, so its run is written step by step (`lost_its_exchange`).
+-- Read `alone_after` first, then `ran_to_its_end` and `lost_its_exchange`.
 use Rattle.std.proofs.Common.{◌≡◌, ℕ, zero, suc, Bool, true, false, [], ◌∷◌, refl, sym, arith}
 use Rattle.base.specs.declared.status.Status.{Status}
 use Rattle.base.specs.declared.status.Status.TheVariants.{Running, Ended, Trapped}

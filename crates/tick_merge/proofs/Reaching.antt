@@ -1,4 +1,9 @@
 -- The state of a history after its process was led on, and after its step.
+-- The idea. `Reached` says what the code keeps of a history: each process, the instructions that are left to each, the
+-- schedule, and the words. `Changed` says what is new where one process went on: its own place in these lists, and no
+-- other. So the state is that of the history again, or of a longer one (`reached_as`). `is_led` is the case in which it
+-- made alone what it could.
+-- Read `Changed` first, then `reached_as`.
 use Rattle.std.proofs.Common.{◌≡◌, ◌≢◌, ⊎_elim, ℕ, ◌+◌, ◌-◌, ◌<◌, List, ◌++◌, length, replicate, ap, sym, subst, ◌∙◌, arith}
 use Rattle.std.specs.Prelude.{slice_get, slice_set, slice_index, Some, vec_items}
 use Rattle.std.proofs.lemmas.Bool.{cases_eq}

@@ -1,4 +1,9 @@
 -- What a process may ask for, and what a history answers it.
+-- The idea. A safe process asks for an exchange only with what a stamp of it makes (`asks_own`). The other lemmas are by
+-- cases of what is asked for. What is shared replies with the act that becomes of it (`act_fits`), and both leave the same
+-- (`leaves`). The other way round, an act that comes next in a history and fits what is asked for is that act (`served`).
+-- Whether an exchange is won is known from the words (`found_same`, `found_other`).
+-- Read `act_fits` first, then `served`.
 use Rattle.std.proofs.Common.{◌≡◌, ℕ, ◌≤◌, Bool, true, false, if◌then◌else◌, List, refl, ap, sym, ◌∙◌, subst}
 use Rattle.std.specs.Prelude.{Option, Some, None, nat_lt, slice_get, slice_index}
 use Rattle.std.proofs.lemmas.Option.{same_Some}

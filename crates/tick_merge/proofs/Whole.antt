@@ -1,4 +1,9 @@
 -- A legal history that its processes make by themselves is the shared part of the merged run.
+-- The idea. The run is led through the history step by step (`goes_through`, by induction over its rest): the process of a
+-- step makes alone what comes before it, and then the step (`went_through`). Then each process makes what is left to it
+-- (`spends_all`, by induction over the processes). What stands then is the merged run (`is_merged`), since a process has
+-- one run by itself for the answers that it got.
+-- Read `went_through` and `goes_through` first, then `merge_law`.
 use Rattle.std.proofs.Common.{◌≡◌, ⊎_elim, ℕ, zero, suc, ◌<◌, ◌≤◌, List, [], ◌∷◌, ◌++◌, replicate, get_or, refl, ap, sym, subst, ◌∙◌, arith}
 use Rattle.std.specs.Prelude.{slice_get, slice_index, Some}
 use Rattle.std.proofs.lemmas.Bool.{cases_eq}

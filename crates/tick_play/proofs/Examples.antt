@@ -1,4 +1,8 @@
--- Small runs, and their texts.
+-- Small runs, and their texts. All of it is computed.
+-- Three runs are of programs (`in_turn`, `registers`, `trapped`), and two of a code (`code_in_turn`, `exchange_lost`). The
+-- program of `in_turn` and its code have one text. `each_kind` has an event of each kind, and `each_end` an end of each
+-- kind.
+-- Read `in_turn` first, then `each_kind`.
 use Rattle.std.proofs.Common.{◌≡◌, ℕ, List, [], ◌∷◌, ◌++◌, codes, refl, replicate}
 use Rattle.std.specs.Fmt.{digits}
 use Rattle.base.specs.Lines.{line_end}

@@ -1,4 +1,9 @@
 -- What the workers did stands together.
+-- The idea. Jobs are taken from the end of their list: `ready_job` says what the last one may do, `ready_rest` that the
+-- others stay ready. What the workers did is gathered in three lists, which grow together. Their values at a place are
+-- those of one worker (`Gathers`): at the last place those that were added (`late`), before it those of the shorter lists
+-- (`early`). Once all passes have met, each process ran as its worker says (`all_ran`).
+-- Read `gathers_next` first, then `all_ran`.
 use Rattle.std.proofs.Common.{◌≡◌, ◌≢◌, ⊎_elim, ℕ, ◌+◌, ◌<◌, List, [], ◌∷◌, ◌++◌, length, ap, sym, subst, ◌∙◌, arith}
 use Rattle.std.specs.Prelude.{Some, All, slice_get, slice_index_or, vec_items, vec_capacity}
 use Rattle.std.proofs.lemmas.Bool.{cases_eq}

@@ -1,4 +1,8 @@
--- Small programs, and what the definitions make of them.
+-- Small programs, and what the definitions make of them. All of it is computed.
+-- A stamp, a scan and a comparison come first (`in_turn`); then traps, and which one counts where there are two
+-- (`left_first`, `operands_first`); then tickets that are given up (`given_up`), a lock for two (`a_lock`), programs of no
+-- statement, registers, and a loop.
+-- Read `in_turn` first, then `a_lock`.
 use Rattle.std.proofs.Common.{◌≡◌, ℕ, List, [], ◌∷◌, ◌++◌, Err, refl, replicate}
 use Rattle.base.specs.declared.operator.Op.TheVariants as O
 use Rattle.base.specs.Plain.{Expression, number, named, me, binary, assign, get, put, stamp, clear, scan, older, held, out, branch, repeat, Block, nil, cons, WholeProgram}

@@ -1,4 +1,10 @@
 -- What joined blocks are after a change of the innermost one, which is the last.
+-- The idea. A process keeps the blocks that it is in. What it still does is all of them, joined, and the last is done first
+-- (`joined_more`). So the list is parted into the blocks before the last, and the last (`split`). Each change leaves of the
+-- joined blocks what follows their first statement (`after_first`). For that the last block is shortened (`joined_set`) or
+-- taken away (`joined_take`). Or another block is to be done first: it comes behind the shortened one (`joined_both`) or in
+-- its place (`joined_instead`).
+-- Read `joined_more` first, then `joined_set`.
 use Rattle.std.proofs.Common.{◌≡◌, ℕ, suc, ◌+◌, ◌-◌, ◌<◌, ◌≤◌, List, [], ◌∷◌, ◌++◌, refl, ap, ◌∙◌, sym, subst, length, take, drop, set, get_or, arith, Bor, Option, Some, None, slice_get, false}
 use Rattle.std.specs.Prelude.{◌==◌}
 use Rattle.std.specs.Option.{option_map, option_copied}

@@ -1,4 +1,9 @@
 -- What the definitions say of every step and run.
+-- The idea. `Fits` says what a step keeps: the count of tickets and of register rows, and that of the tickets of each scan.
+-- It is proved by cases of the statement (`does_fits`). `value_fits` and `index_fits` are for what may trap. So no step
+-- changes how many processes and rows there are (`step_as_large`). A loop over a schedule goes on by `run_more`, and ends
+-- by `run_done`.
+-- Read `Fits` first, then `does_fits`.
 use Rattle.std.proofs.Common.{◌≡◌, ℕ, zero, suc, ◌+◌, ◌<◌, List, [], ◌∷◌, refl, ap, ◌∙◌, sym, length, drop, get_or, arith, Result, Ok, Err, Option, None, Some}
 use Rattle.std.specs.Prelude.{nat_lt, slice_get}
 use Rattle.std.proofs.lemmas.List.{length-set, length-replicate}

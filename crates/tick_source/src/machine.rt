@@ -1,3 +1,4 @@
+//! `SourceMachine`: all processes of a program, which share tickets and registers. One of them steps at a time.
 ghost use Rattle.std.specs.Prelude.{◌≡◌, ◌<◌, length, OnOk, OnErr, IfOk, IsOk, Some, map, slice_get};
 ghost use Rattle.std.specs.List.{All};
 ghost use Rattle.tick_kinds.specs.Resolution.{resolved};

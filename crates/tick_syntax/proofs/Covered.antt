@@ -1,4 +1,8 @@
 -- Each text is spelled by tokens or has a first fault.
+-- The idea. A text that is not empty has a token or a fault at its front (`front`): by its first byte, which is a letter
+-- (`word_front`), a digit (`number_front`) or neither (`sign_front`). A token leaves a shorter text. So it goes on until
+-- nothing is left or there is a fault (`covers`, by induction over a number above the length).
+-- Read `Front` first, then `front` and `covers`.
 use Rattle.std.proofs.Common.{◌≡◌, ℕ, zero, suc, ◌+◌, ◌<◌, ◌⊎◌, inl, inr, Bool, true, false, List, [], ◌∷◌, ◌++◌, length, take, drop, refl, sym, ap, subst, arith}
 use Rattle.std.specs.Str.Parse.{digits_value}
 use Rattle.std.proofs.lemmas.Bool.Decides.{leb_tells}

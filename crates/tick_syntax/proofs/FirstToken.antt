@@ -1,4 +1,8 @@
 -- A text has at most one first token or one fault at its front: both are a function of the text.
+-- The idea. `outcome` is that function: it goes by the first byte, and takes as many bytes as the word, the number or the
+-- sign there has. A token at the front is what it answers (`token_outcome`), and so is a fault (`fault_outcome`). So there
+-- is one token (`same_token`), one fault (`same_fault`), and never both (`token_or_fault`).
+-- Read `outcome` first, then `token_front` and `same_token`.
 use Rattle.std.proofs.Common.{◌≡◌, ℕ, ◌≤◌, Bool, true, false, cond, leb, List, [], ◌∷◌, ◌++◌, length, take, drop, refl, sym, ap, ◌∙◌, arith, inl, inr, Ok, Err, Result, map}
 use Rattle.std.specs.Str.Parse.{digits_value}
 use Rattle.std.proofs.lemmas.Bool.{cond-true, cond-false, le-leb, lt-leb, leb-true, false≢true, and_parts, or_cases, or_parts, false_from_ne_true}

@@ -1,4 +1,9 @@
 -- How a text that is written token by token, each followed by a blank, is spelled.
+-- The idea. No gap stands before the bytes of a token (`token_no_gap`), and a blank before a text moves all its tokens on
+-- by one (`blank_before`). So a piece, a blank and the rest are spelled by the token of the piece and those of the rest
+-- (`spelled_piece`). A blank also ends the piece: `name_token`, `keyword_token`, `sign_token` and `number_token` say of the
+-- four sorts that the piece is a token there.
+-- Read `blank_before` first, then `spelled_piece` and `name_token`.
 use Rattle.std.proofs.Common.{◌≡◌, ℕ, suc, ◌<◌, ◌≤◌, Bool, true, false, List, [], ◌∷◌, ◌++◌, ◌+◌, ◌-◌, ◌&&◌, ◌==◌, not, leb, length, take, drop, refl, sym, ap, ◌∙◌, subst, arith, inl, inr, slice_range, add-zero, map}
 use Rattle.std.specs.Fmt.{decimal}
 use Rattle.std.specs.List.{list_all}

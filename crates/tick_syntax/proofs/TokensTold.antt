@@ -1,4 +1,9 @@
--- What is told of a whole text is told of no other.
+-- What is told of a whole text is right, and the only thing that could be told.
+-- The idea. What is told are tokens that spell the text, or its first refusal (`Tells`), unless memory is refused. A text
+-- has one first refusal (`first_once`): its length, or else its first fault (`refusal_of`, `fault_of`). So where tokens
+-- spell the text, they are told (`told_spelled`), and where it has a refusal, that is told (`told_refused`). At the end it
+-- is said of tokens with their values.
+-- Read `Tells` first, then `told_spelled`.
 use Rattle.std.proofs.Common.{◌<◌, ◌∙◌, ap, sym, subst, map, zero-add, ◌≡◌, ◌≢◌, ℕ, ◌≤◌, List, [], ◌∷◌, length, refl, arith, inl, inr, ◌⊎◌, ⊎_elim, Result, Ok, Err}
 use Rattle.std.specs.Prelude.{IfOk, IfErr, IsOkUnless, MatchResult}
 use Rattle.std.proofs.lemmas.Bool.Decides.{leb_tells}

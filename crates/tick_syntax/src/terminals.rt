@@ -1,3 +1,4 @@
+//! The keywords and signs of programs, and how each is spelled.
 ghost use Rattle.std.specs.Prelude.{◌≡◌};
 ghost use Rattle.tick_syntax.specs.Terminals.{spelling, signs, keywords, spelled_among};
 

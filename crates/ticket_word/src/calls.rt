@@ -1,3 +1,4 @@
+//! The calls of the library, for other languages: each answers something of a word, or what stands against it.
 ghost use Rattle.std.specs.Prelude.{◌≡◌, ◌↔◌, ◌<◌, ◌-◌, ◌∷◌, [], ◌++◌, ℕ, List, length, replicate, slice_index, bit_and, false, IsTrue};
 ghost use Rattle.ticket_core.specs.Tickets.{start_tickets, stamp_ticket, clear_ticket, holds_ticket, older_ticket, ticket_ranks};
 ghost use Rattle.ticket_core.specs.declared.moves.Move.TheVariants.{Stamp, Clear};

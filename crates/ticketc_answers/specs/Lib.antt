@@ -12,4 +12,5 @@ pub mod Serving
 pub mod Laws
 pub mod Exit
 pub mod Ended
+pub mod Advice
 pub mod prover

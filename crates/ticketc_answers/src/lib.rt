@@ -6,9 +6,11 @@
 //! `ended` is the whole program but for a run on threads: it takes the words that the host gave, and returns the
 //! exit status, or the turns of the run that they ask for. `run_ended` serves that run. It alone gets a `OneRun`,
 //! so no other command can start a thread. `law_whole` says that the two are the program.
+//! `advice` is what a terminal is told besides.
 //! Start with `engine`.
 #![tactic(auto)]
 
+mod advising;
 mod answer;
 mod codes;
 mod exit;
@@ -24,6 +26,7 @@ mod serving;
 mod stop;
 mod whole;
 
+pub use advising::advice;
 pub use exit::exit_code;
 pub use fault::EngineFault;
 pub use heard::Heard;

@@ -62,7 +62,8 @@ fn exits(outcome: Result<Heard<u8>, EngineFault>) -> Heard<ExitCode>
     }
 }
 
-fn words_of(alloc: Global, given: Args) -> Result<Vec<String>, EngineFault>
+/// The words that the host gave, as a list.
+pub fn words_of(alloc: Global, given: Args) -> Result<Vec<String>, EngineFault>
     ensures ok { IfOk result (λ words. words.items ≡ into_iter_items given) }
     ensures err { IfErr result (λ fault. fault ≡ EngineFault.Memory) }
 {

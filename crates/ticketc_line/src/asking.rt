@@ -1,3 +1,4 @@
+//! From the words of a command line to what they ask for, or why they are refused.
 ghost use Rattle.std.specs.Prelude.{◌≡◌, IfOk, Ok, map, option_map, string_bytes};
 ghost use Rattle.clap.specs.Simple.{App, Shape, app_of, subcommand_rows_of, with_subcommand};
 ghost use Rattle.ticketc_line.specs.Asked.{FitsRequest, named, named_with, plain_asked, plain_request};

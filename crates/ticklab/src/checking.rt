@@ -1,14 +1,15 @@
 //! Files that are searched side by side, on threads, and the clock that says how long each takes.
-ghost use Rattle.std.specs.Prelude.{IfOk};
-ghost use Rattle.std.specs.List.{AllZip};
-ghost use Rattle.ticklab_check.specs.Checking.{SourceComesTo};
+ghost use Rattle.std.specs.Prelude.{max};
 
+use crate::search::Ground;
+use crate::searching::side_by_side;
 use searches_explore::Limits;
 use searches_parallel::processors;
 use std::alloc::Global;
-use std::thread::{Threads, join};
+use std::sync::Wait;
+use std::thread::Threads;
 use std::time::Instant;
-use ticklab_check::{AllTimed, Checks, InTurn, Source, Stopwatch};
+use ticklab_check::{CheckFault, Checks, Listener, Source, Stopwatch, Timed};
 
 /// Hundredths of a second since it was made.
 #[derive(Drop)]
@@ -42,7 +43,7 @@ impl<'a> Stopwatch for HostStopwatch<'a> {
     }
 }
 
-/// Searches files on so many threads at once; 0 counts as 1. Each thread takes files that stand next to one another.
+/// Searches files on so many threads at once; 0 counts as 1. A file is begun when the one so many places before it has ended.
 #[derive(Drop)]
 pub struct SideBySide<'a, R> {
     rt: &'a R,
@@ -61,7 +62,9 @@ impl<'a, R: Threads> SideBySide<'a, R> {
     }
 }
 
-impl<'a, R: Threads> Checks for SideBySide<'a, R> {
+impl<'a, R: Threads + Wait> Checks for SideBySide<'a, R> {
+    ghost most = { λ checks. max 1 checks.jobs };
+
     fn with_jobs(&self, jobs: u32) -> SideBySide<'a, R> {
         SideBySide {
             rt: self.rt,
@@ -70,48 +73,22 @@ impl<'a, R: Threads> Checks for SideBySide<'a, R> {
         }
     }
 
-    fn checked(&self, alloc: Global, sources: &[Source], limits: Limits) -> AllTimed {
-        side_by_side(self.rt, self.clock, alloc, sources, limits, self.jobs)
+    fn at_once(&self) -> u32 {
+        u32::from(self.jobs).max(1)
     }
-}
 
-// What each file comes to. So many threads, of which this is one, share the files.
-#[cycle(sharing)]
-fn side_by_side<R: Threads>(
-    rt: &R,
-    clock: &HostRuntime,
-    alloc: Global,
-    sources: &[Source],
-    limits: Limits,
-    threads: u8,
-) -> AllTimed
-    ensures { IfOk result (λ files. AllZip (λ source timed. SourceComesTo limits source timed.checked) sources.now files.items) }
-{
-    if threads < 2 || sources.len() < 2 {
-        return in_turn(clock, alloc, sources, limits);
+    fn checked<L: Listener>(
+        &self,
+        alloc: Global,
+        sources: &[Source],
+        limits: Limits,
+        listener: &mut L,
+    ) -> Result<Vec<Timed>, CheckFault> {
+        let ground = Ground {
+            rt: self.rt,
+            clock: self.clock,
+        };
+        let most = usize::from(self.jobs);
+        side_by_side(&ground, alloc, most, sources, limits, listener)
     }
-    let others = threads - 1;
-    let (first, rest) = sources.split_at(sources.len().div_ceil(usize::from(threads)));
-    let earlier = move || -> AllTimed
-        ensures { IfOk result (λ files. AllZip (λ source timed. SourceComesTo limits source timed.checked) first.entry.now files.items) }
-    { in_turn(clock, alloc, first, limits) };
-    let later = move || -> AllTimed
-        ensures { IfOk result (λ files. AllZip (λ source timed. SourceComesTo limits source timed.checked) rest.entry.now files.items) }
-    { side_by_side(rt, clock, alloc, rest, limits, others) };
-    let (earlier, later) = join(rt, earlier, later);
-    let mut files = earlier?;
-    let mut more = later?;
-    files.append(&mut more)?;
-    Ok(files)
-}
-
-// The same on this thread alone.
-fn in_turn(clock: &HostRuntime, alloc: Global, sources: &[Source], limits: Limits) -> AllTimed
-    ensures { IfOk result (λ files. AllZip (λ source timed. SourceComesTo limits source timed.checked) sources.now files.items) }
-{
-    let stopwatch = HostStopwatch::new(clock);
-    let in_turn = InTurn {
-        stopwatch: &stopwatch,
-    };
-    in_turn.checked(alloc, sources, limits)
 }

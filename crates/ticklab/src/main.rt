@@ -5,10 +5,13 @@
 //! Start with `ended` of `ticklab_answers`.
 #![tactic(auto)]
 
+mod at_work;
 mod checking;
 mod colours;
 mod files;
 mod progress;
+mod search;
+mod searching;
 mod version;
 
 use crate::checking::SideBySide;

@@ -68,6 +68,22 @@ impl<'a> Progress for HostProgress<'a> {
         self.since = Instant::now(self.rt).ok();
     }
 
+    ghost finds = { λ before is_break after. Unit {0} };
+
+    // It has a line of its own too.
+    fn found(&mut self, is_break: bool) {
+        self.end();
+        self.is_told = self.rt.stderr().is_terminal();
+        if self.is_told {
+            let fault = if is_break {
+                "a line breaks"
+            } else {
+                "a process traps"
+            };
+            let _written = eprint!(self.rt; "ticklab: {fault}; looking for a shorter schedule");
+        }
+    }
+
     // Leaves the line, if there is one.
     fn end(&self) {
         if self.is_told {

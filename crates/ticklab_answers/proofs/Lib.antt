@@ -1,7 +1,11 @@
 pub mod Carried
 pub mod CarriedEnds
+pub mod CheckFaults
+pub mod FilesChecked
+pub mod Heard
 pub mod Listed
 pub mod Painting
 pub mod Responded
+pub mod Shown
 pub mod Threaded
 pub mod Written

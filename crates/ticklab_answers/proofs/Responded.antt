@@ -5,8 +5,8 @@ use Rattle.std.specs.Global.{Global}
 use Rattle.std.specs.declared.io.Error.{Error}
 use Rattle.ticklab_line.specs.Lines.{Answers}
 use Rattle.ticklab_line.specs.declared.asking.Line.{Line}
-use Rattle.ticklab_answers.specs.Answers.{AsksLine, GivenWords, GivesWords, IsOfWordsOrFile, NamesOfLine}
-use Rattle.ticklab_files.specs.Faults.{Causes, IsOfFileThat, IsOfMemory, IsOfWords}
+use Rattle.ticklab_answers.specs.Answers.{AsksLine, GivenWords, GivesWords, IsOfLine, IsOfWordsOrFile, NamesOfLine, WritesBefore}
+use Rattle.ticklab_files.specs.Faults.{Causes, IsOfWords}
 use Rattle.ticklab_files.specs.declared.fault.LabFault.{LabFault}
 use Rattle.ticklab_files.specs.declared.fault.LabFault.TheVariants.{Words, Unread, Unwritten, Answer}
 
@@ -21,12 +21,12 @@ module _ (version : List ℕ) (words : Vec (String Global) Global) (slice : List
   )
   asks_line P (Err error) gives held = absurd gives
 
-  -- a fault of a file of the line is one of a file of the words
+  -- a fault of the line is one of the words
   pub of_line : (U : Causes) (given : Result GivenWords Error) → GivesWords given words → (fault : LabFault)
-      → IsOfFileThat U (NamesOfLine l) fault → IsOfWordsOrFile U version given fault
+      → IsOfLine U l fault → IsOfWordsOrFile U version given fault
   of_line U given gives (Words cause) h = absurd h
   of_line U given gives (Unread name cause) h = (asks_line (λ m. NamesOfLine m (string_bytes name)) given gives h.0, h.1)
-  of_line U given gives (Unwritten cause) h = absurd h
+  of_line U given gives (Unwritten cause) h = asks_line WritesBefore given gives h
   of_line U given gives (Answer fault) h = tt
 
 -- the words can't be had

@@ -4,7 +4,8 @@ use Rattle.std.specs.Global.{Global}
 use Rattle.std.specs.List.{ends_with, filter}
 use Rattle.std.specs.List.Sorted.{IsPermutation, IsSorted}
 use Rattle.searches_states.specs.declared.limits.Limits.{Limits}
-use Rattle.ticklab_check.specs.Wording.{AreFindings, findings_text, status_of}
+use Rattle.ticklab_check.specs.Listening.{shared_limits}
+use Rattle.ticklab_check.specs.Wording.{AreFindings, files_lines, status_of, tally_text}
 use Rattle.ticklab_check.specs.declared.reporting.Findings.{Findings}
 use Rattle.ticklab_check.specs.declared.source.Source.{Source}
 use Rattle.ticklab_json.specs.Checks.{findings_data}
@@ -72,23 +73,29 @@ module _ {F : Type 0} (Reads : ReadsOf F) (ReadsInput : ReadsInputOf F) where
       (between : F) × IsRead Reads ReadsInput before name source.bytes.items between × (string_bytes source.name ≡ name)
       × AreRead between names sources after
 
--- for people, or as JSON
+-- for people the last line, or all of it as JSON
 abbrev pub findings_in : Form → List Source → Findings → List ℕ
-findings_in Text sources f = findings_text sources f
+findings_in Text sources f = tally_text f.tally
 findings_in Json sources f = lines (findings_data sources f ∷ [])
 
--- These files are checked, and what they come to is told.
-pub record TellsFindings (limits : Limits) (sources : List Source) (form : Form) (response : Response) : Type 0 where
+-- what is written before that: for people the lines of each file
+abbrev pub written_before : Form → List Source → Findings → List (List ℕ)
+written_before Text sources f = files_lines sources f.files.items
+written_before Json sources f = []
+
+-- These files are checked, at most so many at once, and what they come to is told.
+pub record TellsFindings (limits : Limits) (at_once : ℕ) (sources : List Source) (form : Form) (written : List (List ℕ)) (response : Response) : Type 0 where
   pub findings : Findings
-  pub are : AreFindings limits sources findings
+  pub are : AreFindings (shared_limits at_once (length sources) limits) sources findings
+  pub before : written ≡ written_before form sources findings
   pub gives : Gives (status_of findings.tally) (λ out. out ≡ findings_in form sources findings) response
 
--- All folders are listed, then all files are read, and then they are checked.
+-- All folders are listed, then all files are read, and then they are checked. Before the answer these texts are written.
 pub record ChecksAll {F : Type 0} (Reads : ReadsOf F) (ReadsInput : ReadsInputOf F) (Lists : ListsOf F) (before after : F) (paths : List (List ℕ)) (limits : Limits)
-    (form : Form) (response : Response) : Type 0 where
+    (at_once : ℕ) (form : Form) (written : List (List ℕ)) (response : Response) : Type 0 where
   pub names : List (List ℕ)
   pub listed : F
   pub named : AreNamed Lists before paths names listed
   pub sources : List Source
   pub read : AreRead Reads ReadsInput listed names sources after
-  pub told : TellsFindings limits sources form response
+  pub told : TellsFindings limits at_once sources form written response

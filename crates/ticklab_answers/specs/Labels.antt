@@ -6,7 +6,7 @@ use Rattle.language_schedules.specs.declared.schedule.ScheduleFault.{ScheduleFau
 use Rattle.ticklab_draw.specs.labels.Frames.{frames_of}
 use Rattle.ticklab_draw.specs.labels.Pictures.{picture}
 use Rattle.ticklab_answers.specs.Lines.{many_line, number_line}
-use Rattle.ticklab_files.specs.Lines.{spelling_line}
+use Rattle.ticklab_files.specs.Lines.{IsMisspelled}
 use Rattle.ticklab_files.specs.Responses.{Gives, Refuses}
 use Rattle.ticklab_files.specs.declared.response.Response.{Response}
 
@@ -22,7 +22,7 @@ pub record AreDrawn (n : ℕ) (text out : List ℕ) : Type 0 where
 -- The report of labels that aren't drawn: the number of processes, the text or the number of moves, in this order.
 pub data AreUndrawn (n : ℕ) (text report : List ℕ) : Type 0 where
   no_number : ((1 ≤ n) → (n ≤ 6) → ⊥) → report ≡ number_line → AreUndrawn n text report
-  misspelled : 1 ≤ n → n ≤ 6 → (fault : ScheduleFault) → moves_of n text ≡ Err fault → report ≡ spelling_line fault → AreUndrawn n text report
+  misspelled : 1 ≤ n → n ≤ 6 → (fault : ScheduleFault) → moves_of n text ≡ Err fault → IsMisspelled n text fault report → AreUndrawn n text report
   too_many : 1 ≤ n → n ≤ 6 → (moves : List Move) → moves_of n text ≡ Ok moves → 400 < length moves
       → report ≡ many_line (length moves) → AreUndrawn n text report
 

@@ -6,3 +6,4 @@ pub mod Labels
 pub mod Laws
 pub mod Lines
 pub mod Serving
+pub mod Hearing

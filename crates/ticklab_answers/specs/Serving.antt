@@ -1,5 +1,6 @@
 -- What the whole program does: what it reads, runs and writes, and its exit status.
-use Rattle.std.specs.Prelude.{◌≡◌, ◌++◌, ◌⊎◌, ℕ, IfErr, IfOk, List, [], Option, Result, Ok, Err}
+use Rattle.std.specs.Prelude.{◌≡◌, ◌++◌, ◌⊎◌, ℕ, Bool, IfErr, IfOk, List, [], Option, Result, Ok, Err}
+use Rattle.std.specs.List.{flat_map}
 use Rattle.std.specs.Io.KnownBytes.{Appends}
 use Rattle.std.specs.declared.io.Error.{Error}
 use Rattle.ticklab_answers.specs.Answers.{AsksLine, GivenWords, IsOfWordsOrFile, RespondsTo, is_data}
@@ -27,31 +28,35 @@ pub record Grows (old new : Known) (bytes : List ℕ) : Type 0 where
   pub appended : Appends old new bytes
   pub untouched : bytes ≡ [] → new ≡ old
 
--- the status is that of a response, of which all is written, with these colours
-pub record IsWritten (colours : Colours) (old new : Outputs) (response : Response) (status : ℕ) : Type 0 where
+-- these texts one behind the other, each shown by itself
+abbrev pub all_shown : Bool → List (List ℕ) → List ℕ
+all_shown has_colours texts = flat_map (shown_as has_colours) texts
+
+-- The status is that of a response. What is written before it is written, and then all of it, with these colours.
+pub record IsWritten (colours : Colours) (old new : Outputs) (written : List (List ℕ)) (response : Response) (status : ℕ) : Type 0 where
   pub same : status ≡ response.status
-  pub out : Grows old.out new.out (shown_as colours.out response.out.items)
+  pub out : Grows old.out new.out (all_shown colours.out written ++ shown_as colours.out response.out.items)
   pub err : Grows old.err new.err (shown_as colours.err response.told.items)
 
 -- The words ask for a line, and this is the response to it; JSON, SVG and HTML have no colours.
 module _ {F M W : Type 0} (Reads : ReadsOf F) (ReadsInput : ReadsInputOf F) (Lists : ListsOf F) (Ran : RunsOf M) (hears : HearsOf W)
     (files read : F) (rested ran : M) (quiet heard : W) where
-  abbrev pub Shows : List ℕ → Colours → Result GivenWords Error → (Colours → Response → Type 0) → Type 0
-  Shows version colours given P = AsksLine version given (λ l. (response : Response)
-      × RespondsTo Reads ReadsInput Lists Ran hears files read rested ran quiet heard l response
-      × P (colours_for colours (is_data l)) response)
+  abbrev pub Shows : List ℕ → Colours → Result GivenWords Error → (Colours → List (List ℕ) → Response → Type 0) → Type 0
+  Shows version colours given P = AsksLine version given (λ l. (written : List (List ℕ)) × (response : Response)
+      × RespondsTo Reads ReadsInput Lists Ran hears files read rested ran quiet heard l written response
+      × P (colours_for colours (is_data l)) written response)
 
   -- What the words come to in a program of this version, over files, a runner, a watch and outputs as they are before and
   -- after, with these colours.
   abbrev pub Ends : Outputs → Outputs → List ℕ → Colours → Result GivenWords Error → ℕ → Type 0
-  Ends old new version colours given status = Shows version colours given (λ shown response. IsWritten shown old new response status)
+  Ends old new version colours given status = Shows version colours given (λ shown written response. IsWritten shown old new written response status)
 
   -- Why the words come to no end: there is no answer, or not all of it can be written. The causes say why a file can't be read.
   abbrev pub Fails : Causes → List ℕ → Colours → Result GivenWords Error → LabFault → Type 0
   Fails U version colours given fault =
       IsOfWordsOrFile U version given fault
       ⊎ Shows version colours given
-      (λ shown response. IsOfOutput (shown_as shown.out response.out.items ++ shown_as shown.err response.told.items) fault)
+      (λ shown written response. IsOfOutput (shown_as shown.out response.out.items ++ shown_as shown.err response.told.items) fault)
 
 abbrev pub exit_of : Result ℕ LabFault → ℕ
 exit_of (Ok status) = status

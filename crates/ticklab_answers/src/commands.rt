@@ -1,40 +1,45 @@
 //! The answer to a command line: each command reads its files and makes its answer.
-ghost use Rattle.std.specs.Prelude.{◌≡◌, IfErr, IfOk};
+ghost use Rattle.std.specs.Prelude.{◌≡◌, ℕ, IfErr, IfOk, List};
 ghost use Rattle.ticklab_line.specs.Commands.{plain_request};
-ghost use Rattle.ticklab_answers.specs.Answers.{NamesOfLine, RespondsTo, form_of, is_data, is_drawn, limits_of};
-ghost use Rattle.ticklab_files.specs.Faults.{IsOfFileThat, IsUnread};
+ghost use Rattle.ticklab_answers.specs.Answers.{IsOfLine, RespondsTo, form_of, is_data, is_drawn, limits_of};
+ghost use Rattle.ticklab_answers.specs.Hearing.{WritesAll};
+ghost use Rattle.ticklab_files.specs.Faults.{IsUnread};
 ghost use Rattle.ticklab_verdicts.specs.Hearing.{hearing};
 
 mod checking;
 mod explaining;
 mod labels;
 
+use crate::host::Host;
 pub use checking::checked;
 pub use explaining::explained;
 pub use labels::labelled;
 use searches_explore::Limits;
 use searches_hunt::Trials;
 use std::alloc::Global;
+use std::io::Write;
 use tick_merge::Runner;
 use ticklab_check::Checks;
 use ticklab_files::{Files, Form, LabFault, Response, help, no_command};
 use ticklab_line::{Line, Output, Request};
-use ticklab_runs::{Telling, told};
+use ticklab_runs::{Telling, Tracing, told};
 use ticklab_verdicts::{Progress, explored, explored_ends, hunted, lassoed, plan_of, tallied};
 
 /// The answer to a command line. Runs of a code are made by the runner alone, random ones of a program are tried by
-/// `trials`, and files are checked by `checks`.
-pub fn response_to<F: Files, M: Runner, T: Trials, C: Checks, W: Progress>(
+/// `trials`, and files are checked by `checks`. What they come to is written before the answer is there; nothing else is.
+pub fn response_to<F: Files, O: Write, T, M: Runner, S: Trials, C: Checks, W: Progress>(
     alloc: Global,
-    files: &mut F,
+    host: &mut Host<F, O, T>,
     runner: &mut M,
-    trials: &T,
+    trials: &S,
     checks: &C,
     progress: &mut W,
     line: Line<'_>,
 ) -> Result<Response, LabFault>
-    ensures ok { IfOk result (RespondsTo F.Reads F.ReadsInput F.Lists M.Ran (hearing W.begins W.hears) files.old files.new runner.old runner.new progress.old progress.new line.entry) }
-    ensures err { IfErr result (IsOfFileThat (IsUnread F.Reads F.ReadsInput F.Lists F.Fails) (NamesOfLine line.entry)) }
+    ensures ok { IfOk result (λ response. (written : List (List ℕ))
+        × RespondsTo F.Reads F.ReadsInput F.Lists M.Ran (hearing W.begins W.finds W.hears) host.old.files host.new.files runner.old runner.new progress.old progress.new line.entry written response
+        × WritesAll O.contents host.old host.new written) }
+    ensures err { IfErr result (IsOfLine (IsUnread F.Reads F.ReadsInput F.Lists F.Fails) line.entry) }
 {
     let (request, output) = match line {
         Line::Request(request, output) => (request, output),
@@ -43,6 +48,7 @@ pub fn response_to<F: Files, M: Runner, T: Trials, C: Checks, W: Progress>(
         Line::Refused(text) => return Ok(no_command(alloc, text)),
     };
     let form = form_of(output);
+    let files = &mut host.files;
     // (one arm a command, and nothing else)
     match request {
         Request::Explore {
@@ -77,7 +83,7 @@ pub fn response_to<F: Files, M: Runner, T: Trials, C: Checks, W: Progress>(
         } => {
             let limits = limits_of(limit, memory);
             let checks = checks.with_jobs(jobs);
-            checked(alloc, files, &checks, &paths, limits, form)
+            checked(alloc, host, &checks, &paths, limits, form)
         }
         Request::Lasso {
             file,
@@ -99,9 +105,12 @@ pub fn response_to<F: Files, M: Runner, T: Trials, C: Checks, W: Progress>(
             hunted(alloc, files, &trials, file, &never, plan, from, output)
         }
         Request::Runs { file, times, turns } => tallied(alloc, files, runner, file, times, turns),
-        Request::Trace(run) => told(alloc, files, &run, &Telling::Trace(form)),
+        Request::Trace { run, is_shared } => {
+            let tracing = Tracing { form, is_shared };
+            told(alloc, files, &run, &Telling::Trace(tracing))
+        }
         Request::Draw(run, drawing) => told(alloc, files, &run, &Telling::Picture(drawing)),
-        Request::Page(run, title) => told(alloc, files, &run, &Telling::Page(title)),
+        Request::Page(run, paging) => told(alloc, files, &run, &Telling::Page(paging)),
         Request::Explain { file, schedule } => explained(alloc, files, file, schedule, form),
         Request::Labels { processes, moves } => labelled(alloc, processes, moves),
     }

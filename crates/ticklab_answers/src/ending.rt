@@ -36,7 +36,7 @@ pub fn ended<F: Files, O: Write, T: Write, M: Runner, S: Trials, C: Checks, W: P
     progress: &mut W,
     given: io::Result<Args>,
 ) -> ExitCode
-    ensures { Exits (Ends F.Reads F.ReadsInput F.Lists M.Ran (hearing W.begins W.hears) host.old.files host.new.files runner.old runner.new progress.old progress.new (record { out = O.contents host.old.out; err = T.contents host.old.err }) (record { out = O.contents host.new.out; err = T.contents host.new.err }) host.old.version.now host.old.colours given) (Fails F.Reads F.ReadsInput F.Lists M.Ran (hearing W.begins W.hears) host.old.files host.new.files runner.old runner.new progress.old progress.new (IsUnread F.Reads F.ReadsInput F.Lists F.Fails) host.old.version.now host.old.colours given) (exit_status result) }
+    ensures { Exits (Ends F.Reads F.ReadsInput F.Lists M.Ran (hearing W.begins W.finds W.hears) host.old.files host.new.files runner.old runner.new progress.old progress.new (record { out = O.contents host.old.out; err = T.contents host.old.err }) (record { out = O.contents host.new.out; err = T.contents host.new.err }) host.old.version.now host.old.colours given) (Fails F.Reads F.ReadsInput F.Lists M.Ran (hearing W.begins W.finds W.hears) host.old.files host.new.files runner.old runner.new progress.old progress.new (IsUnread F.Reads F.ReadsInput F.Lists F.Fails) host.old.version.now host.old.colours given) (exit_status result) }
 {
     let words = match words_of(alloc, given) {
         Ok(words) => words,
@@ -47,15 +47,7 @@ pub fn ended<F: Files, O: Write, T: Write, M: Runner, S: Trials, C: Checks, W: P
         Err(error) => return failed(&mut host.err, &LabFault::from(error)),
     };
     let colours = colours_for(host.colours, is_data(&line));
-    match response_to(
-        alloc,
-        &mut host.files,
-        runner,
-        trials,
-        checks,
-        progress,
-        line,
-    ) {
+    match response_to(alloc, host, runner, trials, checks, progress, line) {
         Ok(response) => {
             match told(alloc, &mut host.out, &mut host.err, colours, &response) {
                 Ok(status) => ExitCode::from(status),

@@ -12,6 +12,7 @@
 mod colours;
 mod commands;
 mod ending;
+mod hearing;
 mod host;
 pub mod laws;
 mod writing;

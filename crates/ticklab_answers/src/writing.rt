@@ -27,7 +27,8 @@ pub fn told<O: Write, T: Write>(
     Ok(response.status)
 }
 
-fn write_shown<W: Write>(
+/// Writes a text, with colours or without.
+pub fn write_shown<W: Write>(
     alloc: Global,
     writer: &mut W,
     has_colours: bool,

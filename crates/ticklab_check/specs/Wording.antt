@@ -1,6 +1,6 @@
 -- What is told of files, line by line, and the exit status.
-use Rattle.std.specs.Prelude.{◌≡◌, ◌+◌, ◌/◌, ◌%◌, ◌==◌, ◌++◌, ℕ, Bool, true, false, List, [], ◌∷◌, Option, Some, None, codes, if◌then◌else◌, string_bytes}
-use Rattle.std.specs.List.{AllZip, flat_map, zip}
+use Rattle.std.specs.Prelude.{◌≡◌, ◌+◌, ◌/◌, ◌%◌, ◌==◌, ◌++◌, ℕ, Bool, true, false, List, [], ◌∷◌, Option, Some, None, codes, if◌then◌else◌, map, string_bytes}
+use Rattle.std.specs.List.{AllZip, zip}
 use Rattle.std.specs.Fmt.{decimal}
 use Rattle.language_questions.specs.declared.questions.Expected.{Expected}
 use Rattle.language_questions.specs.declared.questions.Expected.TheVariants as X
@@ -80,9 +80,9 @@ checked_text (C.Searched found expected lines) hundredths = codes ": " ++ search
 abbrev pub file_text : Source → Timed → List ℕ
 file_text source timed = string_bytes source.name ++ checked_text timed.checked timed.hundredths
 
--- the lines of all files, in order
-abbrev pub files_text : List Source → List Timed → List ℕ
-files_text sources timed = flat_map (λ file. file_text file.0 file.1) (zip sources timed)
+-- those of all files, in order
+abbrev pub files_lines : List Source → List Timed → List (List ℕ)
+files_lines sources timed = map (λ file. file_text file.0 file.1) (zip sources timed)
 
 -- how many files there are of each verdict
 abbrev pub counted : Comparison → Tally → Tally
@@ -105,10 +105,6 @@ tally_text t =
 -- what isn't as expected counts more than the limit
 abbrev pub status_of : Tally → ℕ
 status_of t = if t.otherwise == 0 then (if t.limit == 0 then 0 else 6) else 5
-
--- what is told of these files
-abbrev pub findings_text : List Source → Findings → List ℕ
-findings_text sources f = files_text sources f.files.items ++ tally_text f.tally
 
 -- Each file comes to what is found, in the order of the files, after however long a time; and so many there are of each
 -- verdict.

@@ -2,7 +2,9 @@
 //!
 //! `checked_file` searches one program under every schedule, by merged steps, for what the lines `#!` of its file ask;
 //! `specs/Checking.antt` says what that comes to. `Checks` does so for many files, perhaps side by side; `InTurn` takes
-//! one after the other. `check` gives the `Findings` of all, which have a text and an exit status (`specs/Wording.antt`).
+//! one after the other. A `Listener` hears of each file as soon as it and all files before it are searched. `check` gives
+//! the `Findings` of all, and shares the limit of memory among those that are searched at once. `specs/Wording.antt` has the
+//! text of each file, the last line and the exit status.
 //! A `Stopwatch` says how long each took, of which nothing is proved.
 //! Start with `check`.
 #![tactic(auto)]
@@ -10,7 +12,9 @@
 mod checked;
 mod checks;
 mod comparing;
+mod fault;
 mod found;
+mod listening;
 mod reporting;
 mod searching;
 mod source;
@@ -19,12 +23,14 @@ mod wording;
 
 pub use base::NoMemory;
 pub use checked::{Checked, Comparison, Timed};
-pub use checks::{AllTimed, Checks, InTurn, Stopwatch, timed_file};
+pub use checks::{Checks, InTurn, Stopwatch, timed_file};
 pub use comparing::comparison_of;
+pub use fault::CheckFault;
 pub use found::{Found, found_word, states_of};
 pub use language_questions::Expected;
+pub use listening::{Listener, Unheard};
 pub use reporting::{Findings, check};
 pub use searching::checked_file;
 pub use source::Source;
 pub use tally::Tally;
-pub use wording::expected_text;
+pub use wording::{expected_text, file_lines};

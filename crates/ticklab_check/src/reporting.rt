@@ -1,12 +1,14 @@
-ghost use Rattle.std.specs.Prelude.{◌≡◌, IfOk, length};
-ghost use Rattle.ticklab_check.specs.Wording.{AreFindings, findings_text};
+ghost use Rattle.std.specs.Prelude.{◌≡◌, IfErr, IfOk, length};
+ghost use Rattle.ticklab_check.specs.Listening.{Hears, IsOfListener, shared_limits};
+ghost use Rattle.ticklab_check.specs.Wording.{AreFindings, tally_text};
 
 use crate::checked::Timed;
 use crate::checks::Checks;
+use crate::fault::CheckFault;
+use crate::listening::Listener;
 use crate::source::Source;
 use crate::tally::{Tally, tally_of};
-use crate::wording::{push_files, push_tally};
-use base::NoMemory;
+use crate::wording::push_tally;
 use searches_explore::Limits;
 use std::alloc::{AllocError, Global};
 
@@ -17,28 +19,41 @@ pub struct Findings {
     pub tally: Tally,
 }
 
-/// Checks files, each within these limits.
-pub fn check<C: Checks>(
+/// Checks files. Each is searched within these limits, but files that may be searched at once share the bytes.
+pub fn check<C: Checks, L: Listener>(
     alloc: Global,
     checks: &C,
     sources: &[Source],
     limits: Limits,
-) -> Result<Findings, NoMemory>
-    ensures { IfOk result (AreFindings limits sources.now) }
+    listener: &mut L,
+) -> Result<Findings, CheckFault>
+    ensures are { IfOk result (AreFindings (shared_limits (C.most checks.now) (length sources.now) limits) sources.now) }
+    ensures heard { IfOk result (λ findings. Hears L.hears listener.old sources.now findings.files.items listener.new) }
+    ensures err { IfErr result (IsOfListener L.refuses) }
 {
-    let files = checks.checked(alloc, sources, limits)?;
+    let each = shared_limits(checks.at_once(), sources.len(), limits);
+    let files = checks.checked(alloc, sources, each, listener)?;
     let tally = tally_of(&files);
     Ok(Findings { files, tally })
 }
 
+// The limits of each search, where at most so many of so many files are searched at once.
+fn shared_limits(at_once: u32, files: usize, limits: Limits) -> Limits
+    ensures { result ≡ shared_limits at_once files limits }
+{
+    let shares = u64::from(at_once).min(files as u64).max(1);
+    Limits {
+        bytes: limits.bytes / shares,
+        ..limits
+    }
+}
+
 impl Findings {
-    /// What is told of these files: a line for each, and how many are as expected.
-    pub fn text(&self, alloc: Global, sources: &[Source]) -> Result<Vec<u8>, AllocError>
-        requires { length sources.now ≡ length self.now.files.items }
-        ensures { IfOk result (λ text. text.items ≡ findings_text sources.now self.now) }
+    /// The last line that is told: how many files are as expected.
+    pub fn last_line(&self, alloc: Global) -> Result<Vec<u8>, AllocError>
+        ensures { IfOk result (λ text. text.items ≡ tally_text self.now.tally) }
     {
         let mut text = Vec::new(alloc);
-        push_files(&mut text, sources, &self.files)?;
         push_tally(&mut text, self.tally)?;
         Ok(text)
     }

@@ -139,7 +139,7 @@ fn found_of(explored: &Verdict<Fault, ()>) -> Found
     ensures { result ≡ found_of explored.now }
 {
     match explored {
-        Verdict::Found(fault) => fault_of(fault),
+        Verdict::Found { found, .. } => fault_of(found),
         Verdict::Nowhere { states, .. } => Found::Safe { states: *states },
         Verdict::Limit { states } => Found::Limit { states: *states },
     }
@@ -155,6 +155,7 @@ fn fault_of(fault: &Fault) -> Found
 }
 
 // By merged steps first; where those asked for can always end, whether they will is asked by single ones.
+#[tactic(auto, using(crate::proofs::Settling::merged_is))]
 fn found_of_asked(
     alloc: Global,
     program: &Program,
@@ -180,7 +181,7 @@ fn merged_found(explored: &Verdict<Fault, Liveness>) -> Found
     ensures { result ≡ merged_found explored.now }
 {
     match explored {
-        Verdict::Found(fault) => fault_of(fault),
+        Verdict::Found { found, .. } => fault_of(found),
         Verdict::Nowhere { states, known } => merged_known(known, *states),
         Verdict::Limit { states } => Found::Limit { states: *states },
     }
@@ -201,7 +202,7 @@ fn settled(explored: &Verdict<Fault, Liveness>, merged: u32) -> Found
     ensures { result ≡ settled explored.now merged }
 {
     match explored {
-        Verdict::Found(fault) => fault_of(fault),
+        Verdict::Found { found, .. } => fault_of(found),
         Verdict::Nowhere { states, known } => single_known(known, *states, merged),
         Verdict::Limit { .. } => Found::Unsettled { states: merged },
     }

@@ -1,7 +1,7 @@
 // Adds what is told of files to a text.
-ghost use Rattle.std.specs.Prelude.{◌≡◌, ◌++◌, ◌==◌, OnOk, length};
+ghost use Rattle.std.specs.Prelude.{◌≡◌, ◌++◌, ◌==◌, IfOk, OnOk};
 ghost use Rattle.std.specs.Fmt.{decimal};
-ghost use Rattle.ticklab_check.specs.Wording.{behind_text, checked_text, count_text, expected_text, file_text, files_text, found_text, lines_text, merged_text, searched_line, seconds_text, states_text, tally_text, verdict_text};
+ghost use Rattle.ticklab_check.specs.Wording.{behind_text, checked_text, count_text, expected_text, file_text, found_text, lines_text, merged_text, searched_line, seconds_text, states_text, tally_text, verdict_text};
 
 use crate::checked::{Checked, Comparison, Timed};
 use crate::comparing::compared;
@@ -10,19 +10,17 @@ use crate::source::Source;
 use crate::tally::Tally;
 use itoa::Buffer;
 use language_questions::Expected;
-use std::alloc::AllocError;
+use std::alloc::{AllocError, Global};
 
 type Added = Result<(), AllocError>;
 
-/// Adds the lines of files.
-pub fn push_files(text: &mut Vec<u8>, sources: &[Source], files: &[Timed]) -> Added
-    requires { length sources.now ≡ length files.now }
-    ensures { OnOk result (text.new.items ≡ text.old.items ++ files_text sources.now files.now) }
+/// The lines that are told of a file: one, and below it the report of a file that is refused.
+pub fn file_lines(alloc: Global, source: &Source, timed: &Timed) -> Result<Vec<u8>, AllocError>
+    ensures { IfOk result (λ text. text.items ≡ file_text source.now timed.now) }
 {
-    for (place, timed) in files.iter().enumerate() {
-        push_file(text, &sources[place], timed)?;
-    }
-    Ok(())
+    let mut text = Vec::new(alloc);
+    push_file(&mut text, source, timed)?;
+    Ok(text)
 }
 
 fn push_file(text: &mut Vec<u8>, source: &Source, timed: &Timed) -> Added

@@ -1,3 +1,5 @@
 pub mod Offered
 pub mod Tabled
 pub mod Markup
+pub mod Counted
+pub mod Shown

@@ -12,6 +12,7 @@ use Rattle.std.specs.Prelude.{◌==◌, ◌||◌, nat_lt, option_map, slice_get}
 use Rattle.std.specs.Fmt.{decimal}
 use Rattle.base.specs.declared.event.Act.{Act}
 use Rattle.base.specs.declared.event.Act.TheVariants as A
+use Rattle.ticklab_draw.specs.declared.bands.Lanes.{Lanes}
 use Rattle.ticklab_draw.specs.declared.columns.Column.{Column}
 use Rattle.ticklab_draw.specs.declared.look.Look.{Look}
 use Rattle.ticklab_draw.specs.declared.mark.Mark.{Mark}
@@ -25,14 +26,16 @@ use Rattle.ticklab_draw.specs.declared.shapes.TheConstants.{ABOVE, BELOW}
 use Rattle.ticklab_draw.specs.declared.style.TheConstants.{BACKDROP, SHEET}
 use Rattle.ticklab_draw.specs.declared.words.TheConstants.{BECOMES, GETS, HAS_VALUE, PROCESS, PUTS, STEP}
 use Rattle.ticklab_draw.specs.declared.writing.TheConstants.{AMPERSAND, APOSTROPHE, GREATER_THAN, LESS_THAN, QUOTE}
-use Rattle.ticklab_draw.specs.Chosen.{chosen_count, is_chosen, lane_of, lanes}
+use Rattle.ticklab_draw.specs.Bands.{bands}
+use Rattle.ticklab_draw.specs.Chosen.{chosen_count, is_chosen}
 use Rattle.ticklab_draw.specs.Columns.{columns}
 use Rattle.ticklab_draw.specs.Escapes.{escaped, escaped_byte}
+use Rattle.ticklab_draw.specs.Heads.{heads_text}
 use Rattle.ticklab_draw.specs.Laws.{MarkupLaw, RenamedLaw, openings, reworded}
 use Rattle.ticklab_draw.specs.Layout.{above_y, band_foot, band_top, behind_x, column_at, column_behind, last_column, page_height, page_width}
 use Rattle.ticklab_draw.specs.Legend.{legend_text}
 use Rattle.ticklab_draw.specs.Never.{Broken, dashed_line, marks_within, moment_text, never_behind, never_label, never_text, never_title, value_text}
-use Rattle.ticklab_draw.specs.Pictures.{group_head, group_text, groups_text, heading, page_head, page_size, picture, picture_in, titled, under_text}
+use Rattle.ticklab_draw.specs.Pictures.{group_head, group_text, groups_text, heading, page_head, page_size, picture, picture_in, picture_with, titled, under_text}
 use Rattle.ticklab_draw.specs.Shapes.{beside, drawn, drawn_as, label, outline, shape_of, words_text}
 use Rattle.ticklab_draw.specs.Words.{act_text, origin_text, read_text, row_as, row_text, sentence, sight_text, written_text}
 use Rattle.ticklab_draw.specs.Writing.{two_numbers}
@@ -167,18 +170,18 @@ module _ (n : ℕ) (rows renamed : List (List ℕ)) (e : length rows ≡ length 
   unfolding drawn
   drawn_alike m = sight_drawn m.process m.sight
 
-  group_alike : (look : Look) (count : ℕ) (c : Column) (at : ℕ) (m : Mark)
-      → Alike (group_text look count n rows c at m) (group_text look count n renamed c at m)
+  group_alike : (look : Look) (bands : List Lanes) (c : Column) (at : ℕ) (m : Mark)
+      → Alike (group_text look bands n rows c at m) (group_text look bands n renamed c at m)
   unfolding group_text
-  group_alike look count c at m =
+  group_alike look bands c at m =
       where_shown (is_chosen look m)
-      (joined (joined (joined (joined (both (group_head count c at m.process)) (sentence_alike m)) (both TITLE_END.now)) (drawn_alike m)) (both GROUP_END.now))
+      (joined (joined (joined (joined (both (group_head bands c at m.process)) (sentence_alike m)) (both TITLE_END.now)) (drawn_alike m)) (both GROUP_END.now))
 
-  groups_alike : (look : Look) (count : ℕ) (columns : List Column) (at : ℕ) (marks : List Mark)
-      → Alike (groups_text look count n rows columns at marks) (groups_text look count n renamed columns at marks)
-  groups_alike look count columns at [] = both []
-  groups_alike look count columns at (m ∷ marks) =
-      joined (group_alike look count (column_at columns at) at m) (groups_alike look count columns (at + 1) marks)
+  groups_alike : (look : Look) (bands : List Lanes) (columns : List Column) (at : ℕ) (marks : List Mark)
+      → Alike (groups_text look bands n rows columns at marks) (groups_text look bands n renamed columns at marks)
+  groups_alike look bands columns at [] = both []
+  groups_alike look bands columns at (m ∷ marks) =
+      joined (group_alike look bands (column_at columns at) at m) (groups_alike look bands columns (at + 1) marks)
 
 titled_alike : (before title other after : List ℕ) → Alike (titled before title after) (titled before other after)
 unfolding titled
@@ -200,31 +203,31 @@ unfolding never_title
 never_titled b text =
     joined (joined (joined (joined (both (NEVER_MARK.now ++ moment_text b.steps ++ codes ": ")) (texts b.text text)) (both MUST_NEVER_HOLD.now)) (both (value_text b.value))) (both TITLE_END.now)
 
-behind_alike : (n : ℕ) (c : Column) (b : Broken) (text : List ℕ) → Alike (never_behind n c b) (never_behind n c (reworded text b))
+behind_alike : (bands : List Lanes) (c : Column) (b : Broken) (text : List ℕ) → Alike (never_behind bands c b) (never_behind bands c (reworded text b))
 unfolding never_behind
-behind_alike n c b text =
-    joined (joined (never_titled b text) (both (dashed_line (behind_x c) (band_top n c.band) (band_foot n c.band)))) (both (never_label (behind_x c) (above_y n c.band) b.number))
+behind_alike bands c b text =
+    joined (joined (never_titled b text) (both (dashed_line (behind_x c) (band_top bands c.band) (band_foot bands c.band)))) (both (never_label (behind_x c) (above_y bands c.band) b.number))
 
-never_alike : (n : ℕ) (columns : List Column) (marks : List Mark) (broken : Option Broken) (text : List ℕ)
-    → Alike (never_text n columns marks broken) (never_text n columns marks (option_map (reworded text) broken))
-never_alike n columns marks None text = both []
-never_alike n columns marks (Some b) text = behind_alike n (column_behind columns (marks_within b.steps marks)) b text
+never_alike : (bands : List Lanes) (columns : List Column) (marks : List Mark) (broken : Option Broken) (text : List ℕ)
+    → Alike (never_text bands columns marks broken) (never_text bands columns marks (option_map (reworded text) broken))
+never_alike bands columns marks None text = both []
+never_alike bands columns marks (Some b) text = behind_alike bands (column_behind columns (marks_within b.steps marks)) b text
 
-picture_alike : (lanes : List Bool) (columns : List Column) (title other : List ℕ) (look : Look) (n : ℕ) (rows renamed : List (List ℕ)) (marks : List Mark) (broken : Option Broken) (text : List ℕ)
+picture_alike : (bands : List Lanes) (columns : List Column) (title other : List ℕ) (look : Look) (n : ℕ) (rows renamed : List (List ℕ)) (marks : List Mark) (broken : Option Broken) (text : List ℕ)
     → length rows ≡ length renamed
-    → Alike (picture_in lanes columns title look n rows marks broken) (picture_in lanes columns other look n renamed marks (option_map (reworded text) broken))
+    → Alike (picture_in bands columns title look n rows marks broken) (picture_in bands columns other look n renamed marks (option_map (reworded text) broken))
 unfolding picture_in
-picture_alike lanes columns title other look n rows renamed marks broken text e =
-    let count = lane_of lanes n in
+picture_alike bands columns title other look n rows renamed marks broken text e =
     let last = (last_column columns).band in
     let width = page_width look.width columns in
-    joined (joined (joined (joined (joined (head_alike title other width (page_height count last width) n (chosen_count look marks)) (heading_alike title other)) (never_alike count columns marks broken text)) (both (under_text look lanes n columns marks))) (groups_alike n rows renamed e look count columns 0 marks)) (both (legend_text count last width))
+    joined (joined (joined (joined (joined (joined (head_alike title other width (page_height bands last width) n (chosen_count look marks)) (heading_alike title other)) (both (heads_text width bands columns))) (never_alike bands columns marks broken text)) (both (under_text look bands n columns marks))) (groups_alike n rows renamed e look bands columns 0 marks)) (both (legend_text bands last width))
 
 pub markup_law : MarkupLaw
-markup_law lanes columns title other look n rows renamed marks broken text e = (picture_alike lanes columns title other look n rows renamed marks broken text e).same
+markup_law bands columns title other look n rows renamed marks broken text e = (picture_alike bands columns title other look n rows renamed marks broken text e).same
 
 pub renamed_law : RenamedLaw
 unfolding picture
-renamed_law title other look n rows renamed marks broken text e same =
-    ap (λ (cs : List Column). openings (picture_in (lanes look marks n) cs title look n rows marks broken)) same
-    ∙ markup_law (lanes look marks n) (columns look n renamed (lanes look marks n) marks) title other look n rows renamed marks broken text e
+renamed_law title other look n rows renamed parts marks broken text e same =
+    let like = columns look n renamed parts marks in
+    ap (λ (cs : List Column). openings (picture_with cs title look n rows marks broken)) same
+    ∙ markup_law (bands look n like marks) like title other look n rows renamed marks broken text e

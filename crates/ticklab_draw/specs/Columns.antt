@@ -1,5 +1,5 @@
 -- The columns of marks, each as wide as its sign and all its texts.
-use Rattle.std.specs.Prelude.{ℕ, Bool, ◌+◌, ◌-◌, ◌*◌, max, min, if◌then◌else◌, List, [], ◌∷◌, length, Option, Some, None}
+use Rattle.std.specs.Prelude.{ℕ, ◌+◌, ◌-◌, ◌*◌, max, min, if◌then◌else◌, List, [], ◌∷◌, length, Option, Some, None}
 use Rattle.std.specs.Fmt.{decimal}
 use Rattle.base.specs.declared.event.Act.TheVariants as A
 use Rattle.ticklab_draw.specs.declared.columns.Column.{Column}
@@ -9,7 +9,9 @@ use Rattle.ticklab_draw.specs.declared.mark.Sight.{Sight}
 use Rattle.ticklab_draw.specs.declared.mark.Sight.TheVariants as S
 use Rattle.ticklab_draw.specs.declared.shapes.Shape.{Shape}
 use Rattle.ticklab_draw.specs.declared.shapes.Shape.TheVariants.{Stamp, Out}
-use Rattle.ticklab_draw.specs.Chosen.{is_chosen, lane_of}
+use Rattle.ticklab_trace.specs.Parts.{part_at}
+use Rattle.ticklab_trace.specs.declared.parts.Parts.{Parts}
+use Rattle.ticklab_draw.specs.Chosen.{is_chosen}
 use Rattle.ticklab_draw.specs.Layout.{band_end, edge, field_half, flag_width, letters_half, next_column}
 use Rattle.ticklab_draw.specs.Shapes.{beside, shape_of}
 
@@ -47,16 +49,18 @@ unfoldable pub half_of : ℕ → List (List ℕ) → Mark → ℕ
 half_of n rows m = min 380 (max (sign_half n rows m) (letters_half (foot_letters n (length (decimal m.step)) m.sight)))
 
 -- the column of a mark that comes behind this one; one that isn't shown has none of its own
-abbrev pub column_of : Look → ℕ → List (List ℕ) → List Bool → Column → Mark → Column
-column_of look n rows lanes c m =
-    if is_chosen look m then next_column (band_end look.width) (lane_of lanes m.process) c (half_of n rows m) else c
+abbrev pub column_of : Look → ℕ → List (List ℕ) → Option Parts → Column → Mark → Column
+column_of look n rows parts c m =
+    if is_chosen look m
+    then next_column (band_end look.width) m.process (part_at parts (m.step - 1)) c (half_of n rows m)
+    else c
 
 -- those of these marks, behind this one
-abbrev pub columns_behind : Look → ℕ → List (List ℕ) → List Bool → Column → List Mark → List Column
-columns_behind look n rows lanes c [] = []
-columns_behind look n rows lanes c (m ∷ marks) =
-    column_of look n rows lanes c m ∷ columns_behind look n rows lanes (column_of look n rows lanes c m) marks
+abbrev pub columns_behind : Look → ℕ → List (List ℕ) → Option Parts → Column → List Mark → List Column
+columns_behind look n rows parts c [] = []
+columns_behind look n rows parts c (m ∷ marks) =
+    column_of look n rows parts c m ∷ columns_behind look n rows parts (column_of look n rows parts c m) marks
 
--- a column for each mark, where these processes have lanes
-abbrev pub columns : Look → ℕ → List (List ℕ) → List Bool → List Mark → List Column
-columns look n rows lanes marks = columns_behind look n rows lanes edge marks
+-- a column for each mark, where the run has these parts
+abbrev pub columns : Look → ℕ → List (List ℕ) → Option Parts → List Mark → List Column
+columns look n rows parts marks = columns_behind look n rows parts edge marks

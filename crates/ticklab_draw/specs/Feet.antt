@@ -1,6 +1,7 @@
 -- What stands below the lanes for each mark: the number of its step and, if the order of tickets changed, a
 -- line through all lanes and the new order. Arrows lead from puts to gets.
 use Rattle.std.specs.Prelude.{ℕ, ◌+◌, if◌then◌else◌, List, [], ◌∷◌, ◌++◌, codes}
+use Rattle.ticklab_draw.specs.declared.bands.Lanes.{Lanes}
 use Rattle.ticklab_draw.specs.declared.columns.Column.{Column}
 use Rattle.ticklab_draw.specs.declared.feet.TheConstants.{CHANGED, ORDER_AT}
 use Rattle.ticklab_draw.specs.declared.look.Look.{Look}
@@ -28,25 +29,25 @@ order_at x y p ps =
     two_numbers ORDER_AT.now x AND_Y.now y AND_COLOUR.now ++ colour p ++ codes "\">" ++ order_words ps ++ TEXT_END.now
 
 -- process `p` changed the order to this, in this column
-unfoldable pub order_text : ℕ → Column → ℕ → Holdings → List ℕ
-order_text n c p held =
-    when_line c.x (band_top n c.band) (band_foot n c.band) p ++ order_at c.x (order_y n c.band) p (holders held)
+unfoldable pub order_text : List Lanes → Column → ℕ → Holdings → List ℕ
+order_text bands c p held =
+    when_line c.x (band_top bands c.band) (band_foot bands c.band) p ++ order_at c.x (order_y bands c.band) p (holders held)
 
 -- a stamp and a clear change the order
-abbrev pub change_text : ℕ → Column → ℕ → Sight → List ℕ
-change_text n c p (S.Stamp held) = order_text n c p held
-change_text n c p (S.Clear held) = order_text n c p held
-change_text n c p sight = []
+abbrev pub change_text : List Lanes → Column → ℕ → Sight → List ℕ
+change_text bands c p (S.Stamp held) = order_text bands c p held
+change_text bands c p (S.Clear held) = order_text bands c p held
+change_text bands c p sight = []
 
 -- a mark in its column, one of these columns, where it is shown
-unfoldable pub foot_text : Look → ℕ → List Column → Column → Mark → List Mark → List ℕ
-foot_text look n columns c m marks =
+unfoldable pub foot_text : Look → List Lanes → List Column → Column → Mark → List Mark → List ℕ
+foot_text look bands columns c m marks =
     if is_chosen look m
-    then step_text c.x (step_y n c.band) [] m.step ++ change_text n c m.process m.sight ++ arrow_text look n columns c m marks
+    then step_text c.x (step_y bands c.band) [] m.step ++ change_text bands c m.process m.sight ++ arrow_text look bands columns c m marks
     else []
 
 -- those of these marks, the first of which has this place among all
-abbrev pub feet_text : Look → ℕ → List Column → List Mark → ℕ → List Mark → List ℕ
-feet_text look n columns marks at [] = []
-feet_text look n columns marks at (m ∷ rest) =
-    foot_text look n columns (column_at columns at) m marks ++ feet_text look n columns marks (at + 1) rest
+abbrev pub feet_text : Look → List Lanes → List Column → List Mark → ℕ → List Mark → List ℕ
+feet_text look bands columns marks at [] = []
+feet_text look bands columns marks at (m ∷ rest) =
+    foot_text look bands columns (column_at columns at) m marks ++ feet_text look bands columns marks (at + 1) rest

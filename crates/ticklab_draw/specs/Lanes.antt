@@ -1,19 +1,20 @@
--- The lanes of each band, as long as its columns need, with the names of the processes; and how each process ended,
--- beside its last lane. Of `n` processes these have lanes.
-use Rattle.std.specs.Prelude.{ℕ, Bool, zero, suc, ◌+◌, ◌==◌, if◌then◌else◌, List, [], ◌∷◌, ◌++◌, codes}
+-- The lanes of each band, as long as its columns need, with the names of the processes; and how each process ended, beside the
+-- last of its lanes. There are `n` processes, and these bands.
+use Rattle.std.specs.Prelude.{ℕ, zero, suc, ◌+◌, ◌==◌, if◌then◌else◌, List, [], ◌∷◌, ◌++◌, codes, Option, Some, None}
 use Rattle.base.specs.declared.event.Act.{Act}
 use Rattle.base.specs.declared.event.Act.TheVariants as A
 use Rattle.base.specs.declared.status.Status.{Status}
 use Rattle.base.specs.declared.status.Status.TheVariants as T
 use Rattle.tick_play.specs.Lines.{trap_text}
+use Rattle.ticklab_draw.specs.declared.bands.Lanes.{Lanes}
 use Rattle.ticklab_draw.specs.declared.columns.Column.{Column}
 use Rattle.ticklab_draw.specs.declared.lanes.TheConstants.{AT_X, CAPTION_AT, ENDED, FROM_EDGE, LANE, NAME_AT, ORDER, PROCESS, RUNNING, STATUS, STEP, TRAP, TRAP_STATUS}
 use Rattle.ticklab_draw.specs.declared.mark.Mark.{Mark}
 use Rattle.ticklab_draw.specs.declared.mark.Sight.{Sight}
 use Rattle.ticklab_draw.specs.declared.mark.Sight.TheVariants as S
 use Rattle.ticklab_draw.specs.declared.pieces.TheConstants.{AND_COLOUR, AND_Y, PATH_END, TEXT_END}
-use Rattle.ticklab_draw.specs.Chosen.{is_lane, lane_of}
 use Rattle.ticklab_draw.specs.Colours.{colour, stroke}
+use Rattle.ticklab_draw.specs.LaneSets.{is_lane, lane_of, lanes_at}
 use Rattle.ticklab_draw.specs.Layout.{beside_x, edge, end_x, lane_y, order_y, step_y}
 use Rattle.ticklab_draw.specs.Writing.{one_number, two_numbers}
 
@@ -28,30 +29,33 @@ lane_name y p = one_number NAME_AT.now y AND_COLOUR.now ++ colour p ++ one_numbe
 unfoldable pub lane_text : ℕ → ℕ → ℕ → List ℕ
 lane_text y end p = lane_line y end p ++ lane_name (y + 5) p
 
--- the lanes of the processes below `p` in the band that ends with this column
-abbrev pub lanes_text : List Bool → ℕ → Column → ℕ → List ℕ
-lanes_text lanes n c zero = []
-lanes_text lanes n c (suc p) =
-    lanes_text lanes n c p
-    ++ (if is_lane lanes p then lane_text (lane_y (lane_of lanes n) c.band (lane_of lanes p)) (end_x c) p else [])
+-- the lane of process `p` in the band that ends with this column, where it has one; and those of the processes below `p`
+unfoldable pub lane_of_process : List Lanes → Column → ℕ → List ℕ
+lane_of_process bands c p =
+    if is_lane (lanes_at bands c.band).has p
+    then lane_text (lane_y bands c.band (lane_of (lanes_at bands c.band).has p)) (end_x c) p
+    else []
+
+abbrev pub lanes_text : List Lanes → Column → ℕ → List ℕ
+lanes_text bands c zero = []
+lanes_text bands c (suc p) = lanes_text bands c p ++ lane_of_process bands c p
 
 -- words at the left edge
 unfoldable pub caption : ℕ → List ℕ → List ℕ
 caption y words = one_number CAPTION_AT.now y (codes "\">") ++ words ++ TEXT_END.now
 
 -- the band that ends with this column: its lanes, and what stands below them
-unfoldable pub band_text : List Bool → ℕ → Column → List ℕ
-band_text lanes n c =
-    lanes_text lanes n c n ++ caption (order_y (lane_of lanes n) c.band) ORDER.now
-    ++ caption (step_y (lane_of lanes n) c.band) STEP.now
+unfoldable pub band_text : List Lanes → ℕ → Column → List ℕ
+band_text bands n c =
+    lanes_text bands c n ++ caption (order_y bands c.band) ORDER.now ++ caption (step_y bands c.band) STEP.now
 
 -- the bands from that of this column on, behind which these stand
-abbrev pub bands_from : List Bool → ℕ → Column → List Column → List ℕ
-bands_from lanes n c [] = band_text lanes n c
-bands_from lanes n c (d ∷ columns) = (if c.band == d.band then [] else band_text lanes n c) ++ bands_from lanes n d columns
+abbrev pub bands_from : List Lanes → ℕ → Column → List Column → List ℕ
+bands_from bands n c [] = band_text bands n c
+bands_from bands n c (d ∷ columns) = (if c.band.number == d.band.number then [] else band_text bands n c) ++ bands_from bands n d columns
 
-abbrev pub bands_text : List Bool → ℕ → List Column → List ℕ
-bands_text lanes n columns = bands_from lanes n edge columns
+abbrev pub bands_text : List Lanes → ℕ → List Column → List ℕ
+bands_text bands n columns = bands_from bands n edge columns
 
 -- how a process stands after an act, and after what a mark shows
 abbrev pub ended_by : Status → Act → Status
@@ -85,9 +89,24 @@ unfoldable pub end_text : ℕ → ℕ → Status → List ℕ
 end_text x y status =
     end_style status ++ two_numbers AT_X.now x AND_Y.now y (codes "\">") ++ end_words status ++ TEXT_END.now
 
--- those of the processes below `p`, beside the lanes that end with this column
-abbrev pub ends_text : List Bool → ℕ → Column → List Mark → ℕ → List ℕ
-ends_text lanes n c marks zero = []
-ends_text lanes n c marks (suc p) =
-    ends_text lanes n c marks p
-    ++ (if is_lane lanes p then end_text (beside_x c) (lane_y (lane_of lanes n) c.band (lane_of lanes p) + 4) (end_of p marks) else [])
+-- the column with which the last lane of process `p` ends: this one, or that of the last of these whose band has such a lane
+abbrev pub lane_end : List Lanes → ℕ → Option Column → Column → Option Column
+lane_end bands p found c = if is_lane (lanes_at bands c.band).has p then Some c else found
+
+abbrev pub lane_end_from : List Lanes → ℕ → Option Column → List Column → Option Column
+lane_end_from bands p found [] = found
+lane_end_from bands p found (c ∷ columns) = lane_end_from bands p (lane_end bands p found c) columns
+
+unfoldable pub last_lane : List Lanes → ℕ → List Column → Option Column
+last_lane bands p columns = lane_end_from bands p (lane_end bands p None edge) columns
+
+-- that of process `p` after these marks, beside its lane that ends with this column
+unfoldable pub end_beside : List Lanes → ℕ → List Mark → Option Column → List ℕ
+end_beside bands p marks None = []
+end_beside bands p marks (Some c) =
+    end_text (beside_x c) (lane_y bands c.band (lane_of (lanes_at bands c.band).has p) + 4) (end_of p marks)
+
+-- those of the processes below `p`
+abbrev pub ends_text : List Lanes → List Column → List Mark → ℕ → List ℕ
+ends_text bands columns marks zero = []
+ends_text bands columns marks (suc p) = ends_text bands columns marks p ++ end_beside bands p marks (last_lane bands p columns)

@@ -1,5 +1,7 @@
 -- What the picture's signs mean, below all bands.
 use Rattle.std.specs.Prelude.{ℕ, zero, suc, ◌+◌, ◌-◌, ◌*◌, ◌==◌, if◌then◌else◌, List, [], ◌++◌}
+use Rattle.ticklab_draw.specs.declared.bands.Lanes.{Lanes}
+use Rattle.ticklab_draw.specs.declared.columns.Band.{Band}
 use Rattle.ticklab_draw.specs.declared.legend.TheConstants.{CLEAR_AND_SCAN, END_AND_LOST, FIRST_LEGEND, GET_AND_ARROW, ORDER_BELOW, OUT_AND_TRAP, PUT_AND_STAMP, SECOND_LEGEND, STEP_BELOW, THIRD_LEGEND, YES_AND_NO}
 use Rattle.ticklab_draw.specs.declared.pieces.TheConstants.{PICTURE_END}
 use Rattle.ticklab_draw.specs.Lanes.{caption}
@@ -27,6 +29,7 @@ narrow_lines top zero = []
 narrow_lines top (suc at) = narrow_lines top at ++ caption (top + 20 * at) (narrow_line at)
 
 -- all lines, at the foot of the page of this width with this last band, and the end of the picture
-unfoldable pub legend_text : ℕ → ℕ → ℕ → List ℕ
-legend_text n last width =
-    (if is_narrow width then narrow_lines (page_height n last width - 162) 8 else wide_legend (page_height n last width)) ++ PICTURE_END.now
+unfoldable pub legend_text : List Lanes → Band → ℕ → List ℕ
+legend_text bands last width =
+    (if is_narrow width then narrow_lines (page_height bands last width - 162) 8 else wide_legend (page_height bands last width))
+    ++ PICTURE_END.now

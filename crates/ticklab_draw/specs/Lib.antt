@@ -2,12 +2,16 @@ pub mod Marks
 pub mod Words
 pub mod Escapes
 pub mod Writing
+pub mod LaneSets
 pub mod Layout
 pub mod Colours
 pub mod Shapes
 pub mod Chosen
 pub mod Columns
+pub mod Bands
+pub mod LaneLaws
 pub mod Lanes
+pub mod Heads
 pub mod Orders
 pub mod Steps
 pub mod Arrows

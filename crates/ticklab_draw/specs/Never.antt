@@ -5,6 +5,7 @@ use Rattle.std.specs.Fmt.{decimal}
 use Rattle.std.specs.List.{count_by}
 use Rattle.base.specs.declared.status.Trap.{Trap}
 use Rattle.tick_play.specs.Lines.{trap_text}
+use Rattle.ticklab_draw.specs.declared.bands.Lanes.{Lanes}
 use Rattle.ticklab_draw.specs.declared.columns.Column.{Column}
 use Rattle.ticklab_draw.specs.declared.mark.Mark.{Mark}
 use Rattle.ticklab_draw.specs.declared.pieces.TheConstants.{AND_Y, PATH_END, PATH_FROM, STEP_AT, TITLE_END}
@@ -54,12 +55,12 @@ unfoldable pub never_label : ℕ → ℕ → Option ℕ → List ℕ
 never_label x y number = two_numbers STEP_AT.now x AND_Y.now y (codes "\">") ++ never_words number ++ NEVER_END.now
 
 -- the mark in the gutter behind a column
-unfoldable pub never_behind : ℕ → Column → Broken → List ℕ
-never_behind n c b =
-    never_title b ++ dashed_line (behind_x c) (band_top n c.band) (band_foot n c.band)
-    ++ never_label (behind_x c) (above_y n c.band) b.number
+unfoldable pub never_behind : List Lanes → Column → Broken → List ℕ
+never_behind bands c b =
+    never_title b ++ dashed_line (behind_x c) (band_top bands c.band) (band_foot bands c.band)
+    ++ never_label (behind_x c) (above_y bands c.band) b.number
 
 -- the mark among these, where there is one
-abbrev pub never_text : ℕ → List Column → List Mark → Option Broken → List ℕ
-never_text n columns marks None = []
-never_text n columns marks (Some b) = never_behind n (column_behind columns (marks_within b.steps marks)) b
+abbrev pub never_text : List Lanes → List Column → List Mark → Option Broken → List ℕ
+never_text bands columns marks None = []
+never_text bands columns marks (Some b) = never_behind bands (column_behind columns (marks_within b.steps marks)) b

@@ -1,44 +1,47 @@
--- A run as SVG, to the byte: a page with its title, its style, the mark of what must never hold, lanes with
--- what stands below them, a group for each mark in order, and the legend. The title, the names of rows and the text of what
+-- A run as SVG, to the byte: a page with its title, its style, the heads of parts, the mark of what must never hold, lanes
+-- with what stands below them, a group for each mark in order, and the legend. The title, the names of rows and the text of what
 -- must never hold are written as `Escapes` says.
-use Rattle.std.specs.Prelude.{ℕ, Bool, ◌+◌, ◌==◌, if◌then◌else◌, List, [], ◌∷◌, ◌++◌, codes, Option}
+use Rattle.std.specs.Prelude.{ℕ, ◌+◌, ◌==◌, if◌then◌else◌, List, [], ◌∷◌, ◌++◌, codes, Option}
+use Rattle.ticklab_draw.specs.declared.bands.Lanes.{Lanes}
 use Rattle.ticklab_draw.specs.declared.columns.Column.{Column}
 use Rattle.ticklab_draw.specs.declared.look.Look.{Look}
 use Rattle.ticklab_draw.specs.declared.mark.Mark.{Mark}
 use Rattle.ticklab_draw.specs.declared.pieces.TheConstants.{AND_COLOUR, GROUP_END, TEXT_END, TITLE_END}
 use Rattle.ticklab_draw.specs.declared.page.TheConstants.{ABOUT, ABOUT_END, AND_HEIGHT, MARK, MARKS_OF_PROCESSES, MARK_AT, MARK_TITLE, PAGE, PAGE_TITLE_END, SEEN_TITLE, TITLE, VIEW, VIEW_END}
 use Rattle.ticklab_draw.specs.declared.style.TheConstants.{BACKDROP, SHEET}
-use Rattle.ticklab_draw.specs.Chosen.{chosen_count, is_chosen, lane_of, lanes}
+use Rattle.ticklab_trace.specs.declared.parts.Parts.{Parts}
+use Rattle.ticklab_draw.specs.Bands.{bands}
+use Rattle.ticklab_draw.specs.Chosen.{chosen_count, is_chosen}
 use Rattle.ticklab_draw.specs.Colours.{colour}
 use Rattle.ticklab_draw.specs.Columns.{columns}
 use Rattle.ticklab_draw.specs.Escapes.{escaped}
 use Rattle.ticklab_draw.specs.Feet.{feet_text}
+use Rattle.ticklab_draw.specs.Heads.{heads_text}
 use Rattle.ticklab_draw.specs.Lanes.{bands_text, ends_text}
-use Rattle.ticklab_draw.specs.Layout.{column_at, lane_y, last_column, page_height, page_width}
+use Rattle.ticklab_draw.specs.Layout.{column_at, last_column, page_height, page_width, sign_y}
 use Rattle.ticklab_draw.specs.Legend.{legend_text}
 use Rattle.ticklab_draw.specs.Never.{Broken, never_text}
 use Rattle.ticklab_draw.specs.Shapes.{drawn}
 use Rattle.ticklab_draw.specs.Words.{sentence}
 use Rattle.ticklab_draw.specs.Writing.{one_number, two_numbers}
 
--- the head of the group of the mark of this place and column, which is of process `p`, where there are `n` lanes: its name, its
--- colour, and where it stands
-unfoldable pub group_head : ℕ → Column → ℕ → ℕ → List ℕ
-group_head n c at p =
-    one_number MARK.now (at + 1) AND_COLOUR.now ++ colour p ++ two_numbers MARK_AT.now c.x (codes " ") (lane_y n c.band c.lane) MARK_TITLE.now
+-- the head of the group of the mark of this place and column, which is of process `p`: its name, its colour, and where it stands
+unfoldable pub group_head : List Lanes → Column → ℕ → ℕ → List ℕ
+group_head bands c at p =
+    one_number MARK.now (at + 1) AND_COLOUR.now ++ colour p ++ two_numbers MARK_AT.now c.x (codes " ") (sign_y bands c) MARK_TITLE.now
 
 -- a mark that is shown: its place, what it shows in words, and what is drawn of it
-unfoldable pub group_text : Look → ℕ → ℕ → List (List ℕ) → Column → ℕ → Mark → List ℕ
-group_text look count n rows c at m =
+unfoldable pub group_text : Look → List Lanes → ℕ → List (List ℕ) → Column → ℕ → Mark → List ℕ
+group_text look bands n rows c at m =
     if is_chosen look m
-    then group_head count c at m.process ++ sentence n rows m ++ TITLE_END.now ++ drawn n rows m ++ GROUP_END.now
+    then group_head bands c at m.process ++ sentence n rows m ++ TITLE_END.now ++ drawn n rows m ++ GROUP_END.now
     else []
 
 -- a group for each of these marks, in order, the first of which has this place
-abbrev pub groups_text : Look → ℕ → ℕ → List (List ℕ) → List Column → ℕ → List Mark → List ℕ
-groups_text look count n rows columns at [] = []
-groups_text look count n rows columns at (m ∷ marks) =
-    group_text look count n rows (column_at columns at) at m ++ groups_text look count n rows columns (at + 1) marks
+abbrev pub groups_text : Look → List Lanes → ℕ → List (List ℕ) → List Column → ℕ → List Mark → List ℕ
+groups_text look bands n rows columns at [] = []
+groups_text look bands n rows columns at (m ∷ marks) =
+    group_text look bands n rows (column_at columns at) at m ++ groups_text look bands n rows columns (at + 1) marks
 
 -- an element so wide and so high, in which so much of what is drawn is seen
 unfoldable pub page_size : ℕ → ℕ → List ℕ
@@ -67,21 +70,24 @@ unfoldable pub heading : List ℕ → List ℕ
 heading title = SHEET.now ++ BACKDROP.now ++ titled SEEN_TITLE.now title TEXT_END.now
 
 -- what stands under the marks: lanes, how each process ended, and steps, orders and arrows
-unfoldable pub under_text : Look → List Bool → ℕ → List Column → List Mark → List ℕ
-under_text look lanes n columns marks =
-    bands_text lanes n columns ++ ends_text lanes n (last_column columns) marks n ++ feet_text look (lane_of lanes n) columns marks 0 marks
+unfoldable pub under_text : Look → List Lanes → ℕ → List Column → List Mark → List ℕ
+under_text look bands n columns marks =
+    bands_text bands n columns ++ ends_text bands columns marks n ++ feet_text look bands columns marks 0 marks
 
--- the picture in these lanes and columns
-unfoldable pub picture_in : List Bool → List Column → List ℕ → Look → ℕ → List (List ℕ) → List Mark → Option Broken → List ℕ
-picture_in lanes columns title look n rows marks broken =
-    let count = lane_of lanes n in
+-- the picture in these bands and columns
+unfoldable pub picture_in : List Lanes → List Column → List ℕ → Look → ℕ → List (List ℕ) → List Mark → Option Broken → List ℕ
+picture_in bands columns title look n rows marks broken =
     let last = (last_column columns).band in
     let width = page_width look.width columns in
-    page_head title width (page_height count last width) n (chosen_count look marks) ++ heading title
-    ++ never_text count columns marks broken ++ under_text look lanes n columns marks ++ groups_text look count n rows columns 0 marks
-    ++ legend_text count last width
+    page_head title width (page_height bands last width) n (chosen_count look marks) ++ heading title
+    ++ heads_text width bands columns ++ never_text bands columns marks broken ++ under_text look bands n columns marks ++ groups_text look bands n rows columns 0 marks
+    ++ legend_text bands last width
 
--- the picture of these marks of a run of `n` processes, whose rows have these names, and of what must never hold and does
-unfoldable pub picture : List ℕ → Look → ℕ → List (List ℕ) → List Mark → Option Broken → List ℕ
-picture title look n rows marks broken =
-    picture_in (lanes look marks n) (columns look n rows (lanes look marks n) marks) title look n rows marks broken
+-- the picture with these columns
+abbrev pub picture_with : List Column → List ℕ → Look → ℕ → List (List ℕ) → List Mark → Option Broken → List ℕ
+picture_with columns title look n rows marks broken = picture_in (bands look n columns marks) columns title look n rows marks broken
+
+-- the picture of these marks of a run of `n` processes, whose rows have these names, which has these parts, and of what must
+-- never hold and does
+unfoldable pub picture : List ℕ → Look → ℕ → List (List ℕ) → Option Parts → List Mark → Option Broken → List ℕ
+picture title look n rows parts marks broken = picture_with (columns look n rows parts marks) title look n rows marks broken

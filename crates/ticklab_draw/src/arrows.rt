@@ -3,9 +3,10 @@ ghost use Rattle.std.specs.Prelude.{◌≡◌, ◌++◌, ◌<◌, ◌^◌, OnOk}
 ghost use Rattle.ticklab_draw.specs.Arrows.{arrow_by, arrow_from, arrow_of, from_text, read_from, route_text, turn};
 ghost use Rattle.ticklab_draw.specs.Steps.{step_text};
 
+use crate::bands::Lanes;
 use crate::columns::Column;
 use crate::layout::{
-    ARROW_BEHIND, column_at, from_y, in_x, lane_y, leave_x, reach_x, right_x, way_y,
+    ARROW_BEHIND, column_at, from_y, in_x, leave_x, leave_y, reach_x, right_x, sign_y, way_y,
 };
 use crate::look::{Look, is_chosen};
 use crate::mark::{Mark, Sight};
@@ -41,19 +42,19 @@ pub fn read_from(sight: Sight) -> Option<usize>
 pub fn push_arrow(
     out: &mut Vec<u8>,
     look: Look,
-    n: u8,
+    bands: &[Lanes],
     columns: &[Column],
     column: Column,
     marks: &[Mark],
     place: Option<usize>,
 ) -> Added
-    ensures { OnOk result (out.new.items ≡ out.old.items ++ arrow_by look n columns.now column marks.now place) }
+    ensures { OnOk result (out.new.items ≡ out.old.items ++ arrow_by look bands.now columns.now column marks.now place) }
 {
     match place {
         Some(from) => push_arrow_of(
             out,
             look,
-            n,
+            bands,
             columns,
             column,
             from,
@@ -66,19 +67,19 @@ pub fn push_arrow(
 fn push_arrow_of(
     out: &mut Vec<u8>,
     look: Look,
-    n: u8,
+    bands: &[Lanes],
     columns: &[Column],
     column: Column,
     from: usize,
     found: Option<Mark>,
 ) -> Added
-    ensures { OnOk result (out.new.items ≡ out.old.items ++ arrow_of look n columns.now column from found) }
+    ensures { OnOk result (out.new.items ≡ out.old.items ++ arrow_of look bands.now columns.now column from found) }
 {
     match found {
         Some(put) if is_chosen(look, &put) => {
-            push_arrow_from(out, n, from, column_at(columns, from), column, put.step)
+            push_arrow_from(out, bands, from, column_at(columns, from), column, put.step)
         }
-        Some(put) => push_from(out, n, column, put.step),
+        Some(put) => push_from(out, bands, column, put.step),
         None => Ok(()),
     }
 }
@@ -87,39 +88,45 @@ fn push_arrow_of(
 #[tactic(auto, unfolding(crate::specs::Arrows::arrow_from))]
 fn push_arrow_from(
     out: &mut Vec<u8>,
-    n: u8,
+    bands: &[Lanes],
     from: usize,
     start: Column,
     column: Column,
     step: usize,
 ) -> Added
-    ensures { OnOk result (out.new.items ≡ out.old.items ++ arrow_from n from start column step) }
+    ensures { OnOk result (out.new.items ≡ out.old.items ++ arrow_from bands.now from start column step) }
 {
-    if start.band == column.band {
-        push_route(out, n, from, start, column)
+    if start.band.number == column.band.number {
+        push_route(out, bands, from, start, column)
     } else {
-        push_from(out, n, column, step)
+        push_from(out, bands, column, step)
     }
 }
 
 // What stands for it at a get whose put is of an earlier band, or isn't shown.
 #[tactic(auto, unfolding(crate::specs::Arrows::from_text))]
-fn push_from(out: &mut Vec<u8>, n: u8, column: Column, step: usize) -> Added
-    ensures { OnOk result (out.new.items ≡ out.old.items ++ from_text n column step) }
+fn push_from(out: &mut Vec<u8>, bands: &[Lanes], column: Column, step: usize) -> Added
+    ensures { OnOk result (out.new.items ≡ out.old.items ++ from_text bands.now column step) }
 {
-    let y = from_y(n, column.band, column.lane);
+    let y = from_y(bands, column);
     push_step(out, u64::from(column.x), y, FROM_STEP, step)
 }
 
 // Within a band: out of the sign into the gutter behind its column, there to the height of the way, along it to
 // the gutter before the get, there to the lane, and to the sign.
 #[tactic(auto, unfolding(crate::specs::Arrows::route_text))]
-fn push_route(out: &mut Vec<u8>, n: u8, from: usize, start: Column, column: Column) -> Added
-    ensures { OnOk result (out.new.items ≡ out.old.items ++ route_text n from start column) }
+fn push_route(
+    out: &mut Vec<u8>,
+    bands: &[Lanes],
+    from: usize,
+    start: Column,
+    column: Column,
+) -> Added
+    ensures { OnOk result (out.new.items ≡ out.old.items ++ route_text bands.now from start column) }
 {
-    let y = lane_y(n, start.band, start.lane);
-    let end = lane_y(n, start.band, column.lane);
-    let way = way_y(n, from, start, column);
+    let (lane, end) = (sign_y(bands, start), sign_y(bands, column));
+    let way = way_y(bands, from, start, column);
+    let y = leave_y(lane, way);
     push_two(out, ARROW, leave_x(start), " ", y, "")?;
     push_turn(out, right_x(start) + ARROW_BEHIND, y, way)?;
     push_turn(out, in_x(column), way, end)?;

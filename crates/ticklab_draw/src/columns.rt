@@ -5,22 +5,31 @@ ghost use Rattle.ticklab_draw.specs.Words.{names};
 
 use crate::beside::beside;
 use crate::layout::{EDGE, band_end, field_half, flag_width, letters_half, next_column};
-use crate::look::{Look, is_chosen, lane_of};
+use crate::look::{Look, is_chosen};
 use crate::mark::{Mark, Sight};
 use crate::shapes::{Shape, shape_of};
 use crate::words::Cast;
 use crate::writing::digits;
 use base::Act;
 use std::alloc::{AllocError, Global};
+use ticklab_trace::{Part, Parts, part_at};
 
-/// Where the column of a mark stands: in which band, its middle, how far it reaches on each side, and in which lane its
-/// sign is.
+/// Where a band of columns stands: how many bands stand above it, and how many heads of parts.
+#[derive(Clone, Copy)]
+pub struct Band {
+    pub number: usize,
+    pub heads: usize,
+}
+
+/// Where the column of a mark stands: in which band, its middle, and how far it reaches on each side. Its mark is of this
+/// process and part.
 #[derive(Clone, Copy)]
 pub struct Column {
-    pub band: usize,
+    pub band: Band,
     pub x: u16,
     pub half: u16,
-    pub lane: u8,
+    pub process: u8,
+    pub part: Part,
 }
 
 /// A column for each mark.
@@ -28,15 +37,15 @@ pub fn columns(
     alloc: Global,
     look: Look,
     cast: Cast<'_>,
-    lanes: &[bool],
+    parts: Option<Parts>,
     marks: &[Mark],
 ) -> Result<Vec<Column>, AllocError>
-    ensures { IfOk result (λ found. found.items ≡ columns look cast.entry.processes (names cast.entry.registers.now) lanes.now marks.now) }
+    ensures { IfOk result (λ found. found.items ≡ columns look cast.entry.processes (names cast.entry.registers.now) parts marks.now) }
 {
     let mut found = Vec::new(alloc);
     let mut last = EDGE;
     for mark in marks {
-        last = column_of(alloc, look, cast, lanes, last, mark)?;
+        last = column_of(alloc, look, cast, parts, last, mark)?;
         found.push(last)?;
     }
     Ok(found)
@@ -47,20 +56,22 @@ fn column_of(
     alloc: Global,
     look: Look,
     cast: Cast<'_>,
-    lanes: &[bool],
+    parts: Option<Parts>,
     last: Column,
     mark: &Mark,
 ) -> Result<Column, AllocError>
     requires right { last.x + last.half ≤ 20000 }
-    requires few { last.band < 2 ^ 64 - 1 }
-    ensures column { IfOk result (λ column. column ≡ column_of look cast.entry.processes (names cast.entry.registers.now) lanes.now last mark.now) }
+    requires few { last.band.number < 2 ^ 64 - 1 }
+    requires headed { last.band.heads < 2 ^ 64 - 1 }
+    ensures column { IfOk result (λ column. column ≡ column_of look cast.entry.processes (names cast.entry.registers.now) parts last mark.now) }
     ensures right { IfOk result (λ column. column.x + column.half ≤ 20000) }
-    ensures few { IfOk result (λ column. column.band ≤ last.band + 1) }
+    ensures few { IfOk result (λ column. column.band.number ≤ last.band.number + 1) }
+    ensures headed { IfOk result (λ column. column.band.heads ≤ last.band.heads + 1) }
 {
     if is_chosen(look, mark) {
         let half = half_of(alloc, cast, mark)?;
-        let lane = lane_of(lanes, mark.process);
-        Ok(next_column(band_end(look.width), lane, last, half))
+        let part = part_at(parts, mark.step.saturating_sub(1));
+        Ok(next_column(band_end(look.width), mark.process, part, last, half))
     } else {
         Ok(last)
     }

@@ -4,6 +4,7 @@ ghost use Rattle.std.specs.Prelude.{◌≡◌, ◌++◌, OnOk};
 ghost use Rattle.ticklab_draw.specs.Feet.{change_text, feet_text, foot_text, order_at, order_text, when_line};
 
 use crate::arrows::{push_arrow, push_step, read_from};
+use crate::bands::Lanes;
 use crate::colours::{push_colour, push_stroke};
 use crate::columns::Column;
 use crate::layout::{band_foot, band_top, column_at, order_y, step_y};
@@ -23,15 +24,15 @@ pub fn push_feet(
     alloc: Global,
     out: &mut Vec<u8>,
     look: Look,
-    n: u8,
+    bands: &[Lanes],
     columns: &[Column],
     marks: &[Mark],
 ) -> Added
-    ensures { OnOk result (out.new.items ≡ out.old.items ++ feet_text look n columns.now marks.now 0 marks.now) }
+    ensures { OnOk result (out.new.items ≡ out.old.items ++ feet_text look bands.now columns.now marks.now 0 marks.now) }
 {
     for (at, mark) in marks.iter().enumerate() {
         let column = column_at(columns, at);
-        push_foot(alloc, out, look, n, columns, column, mark, marks)?;
+        push_foot(alloc, out, look, bands, columns, column, mark, marks)?;
     }
     Ok(())
 }
@@ -41,37 +42,37 @@ fn push_foot(
     alloc: Global,
     out: &mut Vec<u8>,
     look: Look,
-    n: u8,
+    bands: &[Lanes],
     columns: &[Column],
     column: Column,
     mark: &Mark,
     marks: &[Mark],
 ) -> Added
-    ensures { OnOk result (out.new.items ≡ out.old.items ++ foot_text look n columns.now column mark.now marks.now) }
+    ensures { OnOk result (out.new.items ≡ out.old.items ++ foot_text look bands.now columns.now column mark.now marks.now) }
 {
     if !is_chosen(look, mark) {
         return Ok(());
     }
-    let (x, y) = (u64::from(column.x), step_y(n, column.band));
+    let (x, y) = (u64::from(column.x), step_y(bands, column.band));
     push_step(out, x, y, "", mark.step)?;
-    push_change(alloc, out, n, column, mark.process, mark.sight)?;
+    push_change(alloc, out, bands, column, mark.process, mark.sight)?;
     let place = read_from(mark.sight);
-    push_arrow(out, look, n, columns, column, marks, place)
+    push_arrow(out, look, bands, columns, column, marks, place)
 }
 
 fn push_change(
     alloc: Global,
     out: &mut Vec<u8>,
-    n: u8,
+    bands: &[Lanes],
     column: Column,
     p: u8,
     sight: Sight,
 ) -> Added
-    ensures { OnOk result (out.new.items ≡ out.old.items ++ change_text n column p sight) }
+    ensures { OnOk result (out.new.items ≡ out.old.items ++ change_text bands.now column p sight) }
 {
     match sight {
-        Sight::Stamp(held) => push_order(alloc, out, n, column, p, held),
-        Sight::Clear(held) => push_order(alloc, out, n, column, p, held),
+        Sight::Stamp(held) => push_order(alloc, out, bands, column, p, held),
+        Sight::Clear(held) => push_order(alloc, out, bands, column, p, held),
         _ => Ok(()),
     }
 }
@@ -80,17 +81,17 @@ fn push_change(
 fn push_order(
     alloc: Global,
     out: &mut Vec<u8>,
-    n: u8,
+    bands: &[Lanes],
     column: Column,
     p: u8,
     held: Holdings,
 ) -> Added
-    ensures { OnOk result (out.new.items ≡ out.old.items ++ order_text n column p held) }
+    ensures { OnOk result (out.new.items ≡ out.old.items ++ order_text bands.now column p held) }
 {
     let found = holders(alloc, &held)?;
     let (x, band) = (u64::from(column.x), column.band);
-    push_when(out, x, band_top(n, band), band_foot(n, band), p)?;
-    push_order_at(out, x, order_y(n, band), p, &found)
+    push_when(out, x, band_top(bands, band), band_foot(bands, band), p)?;
+    push_order_at(out, x, order_y(bands, band), p, &found)
 }
 
 // The line through all lanes where an order changed.

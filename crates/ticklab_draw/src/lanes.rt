@@ -1,13 +1,11 @@
 // The lanes of all bands, and how each process ended.
 ghost use Rattle.std.specs.Prelude.{◌≡◌, ◌==◌, ◌++◌, ◌+◌, ◌<◌, ◌^◌, [], OnOk, if◌then◌else◌};
-ghost use Rattle.ticklab_draw.specs.Chosen.{is_lane, lane_of};
-ghost use Rattle.ticklab_draw.specs.Layout.{beside_x, end_x, lane_y};
-ghost use Rattle.ticklab_draw.specs.Lanes.{band_text, bands_text, caption, end_of, end_style, end_text, end_words, ended, ended_by, ends_text, lane_line, lane_name, lane_text, lanes_text};
+ghost use Rattle.ticklab_draw.specs.Lanes.{band_text, bands_text, caption, end_beside, end_of, end_style, end_text, end_words, ended, ended_by, ends_text, lane_end, lane_line, lane_name, lane_of_process, lane_text, lanes_text, last_lane};
 
+use crate::bands::{Lanes, is_lane, lane_of, lanes_at};
 use crate::colours::{push_colour, push_stroke};
 use crate::columns::Column;
 use crate::layout::{EDGE, LANES_BEHIND, WORDS_BEHIND, lane_y, order_y, right_x, step_y};
-use crate::look::{is_lane, lane_of};
 use crate::mark::{Mark, Sight};
 use crate::pieces::{AND_COLOUR, AND_Y, PATH_END, TEXT_END};
 use crate::writing::{Added, push, push_one, push_two};
@@ -42,54 +40,55 @@ const ENDED: &str = "ended";
 
 const TRAP: &str = "trap ";
 
-/// Adds the bands of these columns.
-pub fn push_bands(out: &mut Vec<u8>, lanes: &[bool], n: u8, columns: &[Column]) -> Added
-    ensures { OnOk result (out.new.items ≡ out.old.items ++ bands_text lanes.now n columns.now) }
+/// Adds the bands of these columns, in which `n` processes may have lanes.
+pub fn push_bands(out: &mut Vec<u8>, bands: &[Lanes], n: u8, columns: &[Column]) -> Added
+    ensures { OnOk result (out.new.items ≡ out.old.items ++ bands_text bands.now n columns.now) }
 {
     let mut last = EDGE;
     for &column in columns {
-        push_ended_band(out, lanes, n, last, column)?;
+        push_ended_band(out, bands, n, last, column)?;
         last = column;
     }
-    push_band(out, lanes, n, last)
+    push_band(out, bands, n, last)
 }
 
 // The band that ends with a column, where the next one is of another.
-fn push_ended_band(out: &mut Vec<u8>, lanes: &[bool], n: u8, last: Column, next: Column) -> Added
-    ensures { OnOk result (out.new.items ≡ out.old.items ++ (if last.band == next.band then [] else band_text lanes.now n last)) }
+fn push_ended_band(out: &mut Vec<u8>, bands: &[Lanes], n: u8, last: Column, next: Column) -> Added
+    ensures { OnOk result (out.new.items ≡ out.old.items ++ (if last.band.number == next.band.number then [] else band_text bands.now n last)) }
 {
-    if last.band == next.band {
+    if last.band.number == next.band.number {
         Ok(())
     } else {
-        push_band(out, lanes, n, last)
+        push_band(out, bands, n, last)
     }
 }
 
 #[tactic(auto, unfolding(crate::specs::Lanes::band_text))]
-fn push_band(out: &mut Vec<u8>, lanes: &[bool], n: u8, last: Column) -> Added
-    ensures { OnOk result (out.new.items ≡ out.old.items ++ band_text lanes.now n last) }
+fn push_band(out: &mut Vec<u8>, bands: &[Lanes], n: u8, last: Column) -> Added
+    ensures { OnOk result (out.new.items ≡ out.old.items ++ band_text bands.now n last) }
 {
-    let count = lane_of(lanes, n);
-    push_lanes(out, lanes, n, last)?;
-    push_caption(out, order_y(count, last.band), ORDER)?;
-    push_caption(out, step_y(count, last.band), STEP)
+    push_lanes(out, bands, n, last)?;
+    push_caption(out, order_y(bands, last.band), ORDER)?;
+    push_caption(out, step_y(bands, last.band), STEP)
 }
 
-fn push_lanes(out: &mut Vec<u8>, lanes: &[bool], n: u8, last: Column) -> Added
-    ensures { OnOk result (out.new.items ≡ out.old.items ++ lanes_text lanes.now n last n) }
+fn push_lanes(out: &mut Vec<u8>, bands: &[Lanes], n: u8, last: Column) -> Added
+    ensures { OnOk result (out.new.items ≡ out.old.items ++ lanes_text bands.now last n) }
 {
-    let count = lane_of(lanes, n);
     for p in 0..n {
-        push_if_lane(out, lanes, count, last, p)?;
+        push_lane_of(out, bands, last, p)?;
     }
     Ok(())
 }
 
-fn push_if_lane(out: &mut Vec<u8>, lanes: &[bool], count: u8, last: Column, p: u8) -> Added
-    ensures { OnOk result (out.new.items ≡ out.old.items ++ (if is_lane lanes.now p then lane_text (lane_y count last.band (lane_of lanes.now p)) (end_x last) p else [])) }
+// The lane of a process in the band that ends with a column, where it has one.
+#[tactic(auto, unfolding(crate::specs::Lanes::lane_of_process))]
+fn push_lane_of(out: &mut Vec<u8>, bands: &[Lanes], last: Column, p: u8) -> Added
+    ensures { OnOk result (out.new.items ≡ out.old.items ++ lane_of_process bands.now last p) }
 {
-    if is_lane(lanes, p) {
-        let y = lane_y(count, last.band, lane_of(lanes, p));
+    let has = lanes_at(bands, last.band).has;
+    if is_lane(&has, p) {
+        let y = lane_y(bands, last.band, lane_of(&has, p));
         push_lane(out, y, right_x(last) + LANES_BEHIND, p)
     } else {
         Ok(())
@@ -133,32 +132,62 @@ pub fn push_caption(out: &mut Vec<u8>, y: u128, words: &str) -> Added
     push(out, TEXT_END)
 }
 
-/// Adds how each process that has a lane stands after these marks, beside it; it ends with this column.
-pub fn push_ends(out: &mut Vec<u8>, lanes: &[bool], n: u8, last: Column, marks: &[Mark]) -> Added
-    ensures { OnOk result (out.new.items ≡ out.old.items ++ ends_text lanes.now n last marks.now n) }
+/// Adds how each process stands after these marks, beside the last of its lanes.
+pub fn push_ends(
+    out: &mut Vec<u8>,
+    bands: &[Lanes],
+    n: u8,
+    columns: &[Column],
+    marks: &[Mark],
+) -> Added
+    ensures { OnOk result (out.new.items ≡ out.old.items ++ ends_text bands.now columns.now marks.now n) }
 {
-    let count = lane_of(lanes, n);
     for p in 0..n {
-        push_if_end(out, lanes, count, last, marks, p)?;
+        push_end_beside(out, bands, p, marks, last_lane(bands, p, columns))?;
     }
     Ok(())
 }
 
-fn push_if_end(
+// How a process stands, beside its lane that ends with this column.
+#[tactic(auto, unfolding(crate::specs::Lanes::end_beside))]
+fn push_end_beside(
     out: &mut Vec<u8>,
-    lanes: &[bool],
-    count: u8,
-    last: Column,
-    marks: &[Mark],
+    bands: &[Lanes],
     p: u8,
+    marks: &[Mark],
+    last: Option<Column>,
 ) -> Added
-    ensures { OnOk result (out.new.items ≡ out.old.items ++ (if is_lane lanes.now p then end_text (beside_x last) (lane_y count last.band (lane_of lanes.now p) + 4) (end_of p marks.now) else [])) }
+    ensures { OnOk result (out.new.items ≡ out.old.items ++ end_beside bands.now p marks.now last) }
 {
-    if is_lane(lanes, p) {
-        let y = lane_y(count, last.band, lane_of(lanes, p)) + 4;
-        push_end(out, right_x(last) + WORDS_BEHIND, y, end_of(p, marks))
+    match last {
+        Some(last) => {
+            let lane = lane_of(&lanes_at(bands, last.band).has, p);
+            let y = lane_y(bands, last.band, lane) + 4;
+            push_end(out, right_x(last) + WORDS_BEHIND, y, end_of(p, marks))
+        }
+        None => Ok(()),
+    }
+}
+
+// The column with which the last lane of a process ends.
+#[tactic(auto, unfolding(crate::specs::Lanes::last_lane))]
+fn last_lane(bands: &[Lanes], p: u8, columns: &[Column]) -> Option<Column>
+    ensures { result ≡ last_lane bands.now p columns.now }
+{
+    let mut found = lane_end(bands, p, None, EDGE);
+    for &column in columns {
+        found = lane_end(bands, p, found, column);
+    }
+    found
+}
+
+fn lane_end(bands: &[Lanes], p: u8, found: Option<Column>, column: Column) -> Option<Column>
+    ensures { result ≡ lane_end bands.now p found column }
+{
+    if is_lane(&lanes_at(bands, column.band).has, p) {
+        Some(column)
     } else {
-        Ok(())
+        found
     }
 }
 

@@ -1,15 +1,21 @@
-// Where things stand on the page. Bands of columns stand one below the other, each with all lanes.
+// Where things stand on the page. Bands of columns stand one below the other, each with lanes of its own.
 ghost use Rattle.std.specs.Prelude.{◌≡◌, ◌*◌, ◌+◌, ◌-◌, ◌<◌, ◌≤◌, ◌^◌};
-ghost use Rattle.ticklab_draw.specs.Layout.{above_y, band_end, band_foot, band_height, band_top, column_at, column_behind, field_half, flag_middle, flag_width, from_y, in_x, is_narrow, lane_y, last_column, leave_x, left_x, legend_height, letters_half, next_column, order_y, page_height, page_least, page_width, reach_x, right_x, step_y, track_lane, track_y, way_y};
+ghost use Rattle.ticklab_draw.specs.Layout.{above_y, band_below, band_end, band_foot, band_top, column_at, column_behind, field_half, first_band, first_column, first_edge, flag_middle, flag_width, from_y, head_y, headed, in_x, is_narrow, lane_in, lane_y, last_column, last_of, leave_x, leave_y, left_x, legend_height, letters_half, next_column, order_y, page_height, page_least, page_width, reach_x, right_x, sign_y, step_y, strip_y, track_lane, track_y, way_y};
 
-use crate::columns::Column;
+use crate::bands::{Lanes, lane_count, lane_of, lanes_at};
+use crate::columns::{Band, Column};
+use ticklab_trace::Part;
 
 /// Where the lanes of the first band begin: a column that has no width.
 pub const EDGE: Column = Column {
-    band: 0,
+    band: Band {
+        number: 0,
+        heads: 0,
+    },
     x: 50,
     half: 0,
-    lane: 0,
+    process: 0,
+    part: Part::Schedule,
 };
 
 // How wide a gutter between two columns is.
@@ -58,33 +64,77 @@ pub fn page_width(width: u32, columns: &[Column]) -> u64
     wide
 }
 
-/// The column behind another, in this lane, so wide on each side: in the same band where it ends there, or where that has
-/// none yet.
-pub fn next_column(end: u16, lane: u8, column: Column, half: u16) -> Column
+/// The column behind another, of a mark of this process and part, so wide on each side: in the same band where it is of the
+/// same part, and ends there, or where that has none yet.
+pub fn next_column(end: u16, p: u8, part: Part, column: Column, half: u16) -> Column
     requires end { end ≤ 19880 }
     requires right { column.x + column.half ≤ 20000 }
     requires wide { half ≤ 380 }
-    requires few { column.band < 2 ^ 64 - 1 }
-    ensures next { result ≡ next_column end lane column half }
+    requires few { column.band.number < 2 ^ 64 - 1 }
+    requires headed { column.band.heads < 2 ^ 64 - 1 }
+    ensures next { result ≡ next_column end p part column half }
     ensures right { result.x + result.half ≤ 20000 }
-    ensures few { result.band ≤ column.band + 1 }
+    ensures few { result.band.number ≤ column.band.number + 1 }
+    ensures headed { result.band.heads ≤ column.band.heads + 1 }
 {
+    if !part.is_same(column.part) {
+        return first_column(headed(band_below(column)), p, part, half);
+    }
     let right = column.x + column.half;
     let left = right + GUTTER;
     if EDGE.x < right && end < left + 2 * half {
-        Column {
-            band: column.band + 1,
-            x: EDGE.x + GUTTER + half,
-            half,
-            lane,
-        }
+        first_column(band_below(column), p, part, half)
     } else {
         Column {
             band: column.band,
             x: left + half,
             half,
-            lane,
+            process: p,
+            part,
         }
+    }
+}
+
+// The first column of a band.
+fn first_column(band: Band, p: u8, part: Part, half: u16) -> Column
+    requires { half ≤ 380 }
+    ensures { result ≡ first_column band p part half }
+{
+    Column {
+        band,
+        x: EDGE.x + GUTTER + half,
+        half,
+        process: p,
+        part,
+    }
+}
+
+// The band below that of a column; where this has no column yet, it is that band itself.
+fn band_below(column: Column) -> Band
+    requires right { column.x + column.half ≤ 20000 }
+    requires few { column.band.number < 2 ^ 64 - 1 }
+    ensures below { result ≡ band_below column }
+    ensures few { result.number ≤ column.band.number + 1 }
+    ensures heads { result.heads ≡ column.band.heads }
+{
+    if EDGE.x < column.x + column.half {
+        Band {
+            number: column.band.number + 1,
+            heads: column.band.heads,
+        }
+    } else {
+        column.band
+    }
+}
+
+// A band with the head of a part above it.
+fn headed(band: Band) -> Band
+    requires { band.heads < 2 ^ 64 - 1 }
+    ensures { result ≡ headed band }
+{
+    Band {
+        number: band.number,
+        heads: band.heads + 1,
     }
 }
 
@@ -105,9 +155,44 @@ pub fn last_column(columns: &[Column]) -> Column
     column_at(columns, columns.len().saturating_sub(1))
 }
 
-/// The column of the last of so many marks.
+/// The column of the last of so many marks; where no mark has one yet, the edge of the first band.
 pub fn column_behind(columns: &[Column], count: usize) -> Column
     ensures { result ≡ column_behind columns.now count }
+{
+    let last = last_of(columns, count);
+    if u64::from(EDGE.x) < right_x(last) {
+        last
+    } else {
+        first_edge(columns)
+    }
+}
+
+fn first_edge(columns: &[Column]) -> Column
+    ensures { result ≡ first_edge columns.now }
+{
+    Column {
+        band: first_band(columns),
+        x: EDGE.x,
+        half: 0,
+        process: 0,
+        part: Part::Schedule,
+    }
+}
+
+// The band of the first column that has a width.
+fn first_band(columns: &[Column]) -> Band
+    ensures { result ≡ first_band columns.now }
+{
+    for &column in columns {
+        if u64::from(EDGE.x) < right_x(column) {
+            return column.band;
+        }
+    }
+    EDGE.band
+}
+
+fn last_of(columns: &[Column], count: usize) -> Column
+    ensures { result ≡ last_of columns.now count }
 {
     if count == 0 {
         EDGE
@@ -141,7 +226,21 @@ fn left_x(column: Column) -> u64
 pub fn leave_x(column: Column) -> u64
     ensures { result ≡ leave_x column }
 {
-    u64::from(column.x) + 9
+    u64::from(column.x) + 7
+}
+
+/// How high it leaves it, beside the lane of this height, on the side of the way to which it goes.
+pub fn leave_y(lane: u128, way: u128) -> u128
+    requires { lane < 2 ^ 90 }
+    ensures { result ≡ leave_y lane way }
+{
+    if way == lane {
+        lane
+    } else if way < lane {
+        lane.saturating_sub(5)
+    } else {
+        lane + 5
+    }
 }
 
 /// Where an arrow comes to it.
@@ -151,94 +250,120 @@ pub fn reach_x(column: Column) -> u64
     u64::from(column.x).saturating_sub(9)
 }
 
-/// How far from the top a lane of `n` stands in a band, by how many stand above it.
-pub fn lane_y(n: u8, band: usize, lane: u8) -> u128
-    ensures place { result ≡ lane_y n band lane }
+/// How far from the top a lane of a band stands, by how many of the band stand above it.
+pub fn lane_y(bands: &[Lanes], band: Band, lane: u8) -> u128
+    ensures place { result ≡ lane_y bands.now band lane }
     ensures high { 90 < result }
     ensures low { result < 2 ^ 90 }
 {
-    lane_from(n, band, u128::from(lane))
+    lane_from(bands, band, u128::from(lane))
 }
 
 // The same of a lane that may be the one below the last.
-fn lane_from(n: u8, band: usize, lane: u128) -> u128
+fn lane_from(bands: &[Lanes], band: Band, lane: u128) -> u128
     requires { lane < 2 ^ 16 }
-    ensures place { result ≡ lane_y n band lane }
+    ensures place { result ≡ lane_y bands.now band lane }
     ensures high { 90 < result }
     ensures low { result < 2 ^ 90 }
 {
-    band_top(n, band) + 52 + 92 * lane
+    band_top(bands, band) + 52 + 92 * lane
 }
 
-/// How far from the top a band of `n` lanes begins.
-pub fn band_top(n: u8, band: usize) -> u128
-    ensures place { result ≡ band_top n band }
+/// How far from the top the lane of a column stands.
+pub fn sign_y(bands: &[Lanes], column: Column) -> u128
+    ensures place { result ≡ sign_y bands.now column }
+    ensures high { 90 < result }
+    ensures low { result < 2 ^ 90 }
+{
+    lane_y(bands, column.band, lane_in(bands, column))
+}
+
+// How many lanes of its band stand above it.
+fn lane_in(bands: &[Lanes], column: Column) -> u8
+    ensures { result ≡ lane_in bands.now column }
+{
+    lane_of(&lanes_at(bands, column.band).has, column.process)
+}
+
+/// How far from the top a band begins.
+pub fn band_top(bands: &[Lanes], band: Band) -> u128
+    ensures place { result ≡ band_top bands.now band }
     ensures high { 44 ≤ result }
     ensures low { result < 2 ^ 85 }
 {
-    44 + (band as u128) * band_height(n)
+    let above = u128::from(lanes_at(bands, band).above);
+    44 + 52 * band.number as u128 + 92 * above + 30 * band.heads as u128
 }
 
 /// How far from the top the lanes of a band end.
-pub fn band_foot(n: u8, band: usize) -> u128
-    ensures place { result ≡ band_foot n band }
-    ensures low { result < 2 ^ 90 }
+pub fn band_foot(bands: &[Lanes], band: Band) -> u128
+    ensures place { result ≡ band_foot bands.now band }
+    ensures low { result < 2 ^ 89 }
 {
-    band_top(n, band) + 92 * u128::from(n)
-}
-
-fn band_height(n: u8) -> u128
-    ensures height { result ≡ band_height n }
-    ensures low { result < 2 ^ 16 }
-{
-    92 * u128::from(n) + 52
+    let count = lane_count(&lanes_at(bands, band).has);
+    band_top(bands, band) + 92 * count as u128
 }
 
 /// How far from the top the order of tickets stands in a band.
-pub fn order_y(n: u8, band: usize) -> u128
-    ensures { result ≡ order_y n band }
+pub fn order_y(bands: &[Lanes], band: Band) -> u128
+    ensures { result ≡ order_y bands.now band }
 {
-    band_foot(n, band) + 10
+    band_foot(bands, band) + 10
 }
 
 /// How far from the top the numbers of steps stand in a band.
-pub fn step_y(n: u8, band: usize) -> u128
-    ensures { result ≡ step_y n band }
+pub fn step_y(bands: &[Lanes], band: Band) -> u128
+    ensures { result ≡ step_y bands.now band }
 {
-    band_foot(n, band) + 28
+    band_foot(bands, band) + 28
 }
 
 /// How far from the top words above the lanes of a band stand.
-pub fn above_y(n: u8, band: usize) -> u128
-    ensures { result ≡ above_y n band }
+pub fn above_y(bands: &[Lanes], band: Band) -> u128
+    ensures { result ≡ above_y bands.now band }
 {
-    band_top(n, band) - 3
+    band_top(bands, band) - 3
 }
 
-/// How far from the top it stands of which step the value is that is read in a lane.
-pub fn from_y(n: u8, band: usize, lane: u8) -> u128
-    ensures { result ≡ from_y n band lane }
+/// How far from the top the strip of a head begins that stands above a band.
+pub fn strip_y(bands: &[Lanes], band: Band) -> u128
+    ensures { result ≡ strip_y bands.now band }
 {
-    lane_y(n, band, lane) + 33
+    band_top(bands, band) - 36
+}
+
+/// How far from the top its words stand.
+pub fn head_y(bands: &[Lanes], band: Band) -> u128
+    ensures { result ≡ head_y bands.now band }
+{
+    band_top(bands, band) - 22
+}
+
+/// How far from the top it stands of which step the value is that is read in a column.
+pub fn from_y(bands: &[Lanes], column: Column) -> u128
+    ensures { result ≡ from_y bands.now column }
+{
+    sign_y(bands, column) + 33
 }
 
 /// How far from the top an arrow goes that leads from a put, at its place and column, to a get in another column.
-pub fn way_y(n: u8, from: usize, start: Column, column: Column) -> u128
-    ensures way { result ≡ way_y n from start column }
+pub fn way_y(bands: &[Lanes], from: usize, start: Column, column: Column) -> u128
+    ensures way { result ≡ way_y bands.now from start column }
     ensures low { result < 2 ^ 90 }
 {
     if left_x(column) == right_x(start) + LANES_BEHIND {
-        lane_y(n, start.band, column.lane)
+        sign_y(bands, column)
     } else {
-        track_y(n, start.band, start.lane, column.lane, from)
+        let (q, p) = (lane_in(bands, start), lane_in(bands, column));
+        track_y(bands, start.band, q, p, from)
     }
 }
 
-fn track_y(n: u8, band: usize, q: u8, p: u8, from: usize) -> u128
-    ensures track { result ≡ track_y n band (track_lane q p) from }
+fn track_y(bands: &[Lanes], band: Band, q: u8, p: u8, from: usize) -> u128
+    ensures track { result ≡ track_y bands.now band (track_lane q p) from }
     ensures low { result < 2 ^ 90 }
 {
-    lane_from(n, band, track_lane(q, p)) - (32 + 3 * (from % 6) as u128)
+    lane_from(bands, band, track_lane(q, p)) - (32 + 3 * (from % 6) as u128)
 }
 
 // The lane above which it goes.
@@ -298,9 +423,9 @@ fn legend_height(width: u64) -> u128
 }
 
 /// As high as all bands up to the last, and the legend below them.
-pub fn page_height(n: u8, last: usize, width: u64) -> u128
-    ensures height { result ≡ page_height n last width }
+pub fn page_height(bands: &[Lanes], last: Band, width: u64) -> u128
+    ensures height { result ≡ page_height bands.now last width }
     ensures low { result < 2 ^ 90 }
 {
-    44 + (last as u128 + 1) * band_height(n) + legend_height(width)
+    band_foot(bands, last) + 52 + legend_height(width)
 }

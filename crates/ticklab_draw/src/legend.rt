@@ -2,6 +2,8 @@
 ghost use Rattle.std.specs.Prelude.{◌≡◌, ◌++◌, ◌<◌, ◌^◌, OnOk};
 ghost use Rattle.ticklab_draw.specs.Legend.{legend_text, narrow_line, narrow_lines, wide_legend};
 
+use crate::bands::Lanes;
+use crate::columns::Band;
 use crate::lanes::push_caption;
 use crate::layout::{is_narrow, page_height};
 use crate::pieces::PICTURE_END;
@@ -35,10 +37,10 @@ const STEP_BELOW: &str = "step: its number in the schedule";
 
 /// Adds the legend of the page of this width with this last band, and the end of the picture.
 #[tactic(auto, unfolding(crate::specs::Legend::legend_text))]
-pub fn push_legend(out: &mut Vec<u8>, n: u8, last: usize, width: u64) -> Added
-    ensures { OnOk result (out.new.items ≡ out.old.items ++ legend_text n last width) }
+pub fn push_legend(out: &mut Vec<u8>, bands: &[Lanes], last: Band, width: u64) -> Added
+    ensures { OnOk result (out.new.items ≡ out.old.items ++ legend_text bands.now last width) }
 {
-    let foot = page_height(n, last, width);
+    let foot = page_height(bands, last, width);
     if is_narrow(width) {
         push_narrow(out, foot.saturating_sub(162))?;
     } else {

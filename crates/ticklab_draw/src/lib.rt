@@ -6,10 +6,12 @@
 #![tactic(auto)]
 
 mod arrows;
+mod bands;
 mod beside;
 mod colours;
 mod columns;
 mod feet;
+mod heads;
 mod labels;
 mod lanes;
 pub mod laws;

@@ -1,10 +1,9 @@
-// How a picture looks: which marks it shows, and which processes have lanes.
-ghost use Rattle.std.specs.Prelude.{◌≡◌, ◌≤◌, IfOk};
-ghost use Rattle.ticklab_draw.specs.Chosen.{chosen_count, has_lane, is_chosen, is_lane, is_shared, is_shared_act, lane_of, lanes, shown_count};
+// How a picture looks: which marks it shows.
+ghost use Rattle.std.specs.Prelude.{◌≡◌};
+ghost use Rattle.ticklab_draw.specs.Chosen.{chosen_count, is_chosen, is_shared};
 
 use crate::mark::{Mark, Sight};
-use base::Act;
-use std::alloc::{AllocError, Global};
+use ticklab_trace::is_shared_act;
 
 /// How a picture of a run looks.
 #[derive(Clone, Copy)]
@@ -34,12 +33,6 @@ fn is_shared(sight: Sight) -> bool
     }
 }
 
-fn is_shared_act(act: Act) -> bool
-    ensures { result ≡ is_shared_act act }
-{
-    !matches!(act, Act::Older(..) | Act::Held(..) | Act::Out(_))
-}
-
 /// How many of these marks are shown.
 pub fn chosen_count(look: Look, marks: &[Mark]) -> usize
     ensures { result ≡ chosen_count look marks.now }
@@ -51,55 +44,4 @@ pub fn chosen_count(look: Look, marks: &[Mark]) -> usize
         }
     }
     count
-}
-
-/// Which processes have lanes: those of which marks are shown, and all where none is.
-pub fn lanes(alloc: Global, look: Look, marks: &[Mark], n: u8) -> Result<Vec<bool>, AllocError>
-    ensures { IfOk result (λ found. found.items ≡ lanes look marks.now n) }
-{
-    let mut found = Vec::new(alloc);
-    for p in 0..n {
-        found.push(has_lane(look, marks, p))?;
-    }
-    Ok(found)
-}
-
-fn has_lane(look: Look, marks: &[Mark], p: u8) -> bool
-    ensures { result ≡ has_lane look marks.now p }
-{
-    0 < shown_count(look, marks, p) || chosen_count(look, marks) == 0
-}
-
-// How many marks of a process are shown.
-fn shown_count(look: Look, marks: &[Mark], p: u8) -> usize
-    ensures { result ≡ shown_count look marks.now p }
-{
-    let mut count = 0;
-    for mark in marks {
-        if is_chosen(look, mark) && mark.process == p {
-            count += 1;
-        }
-    }
-    count
-}
-
-/// Whether a process has a lane.
-pub fn is_lane(lanes: &[bool], p: u8) -> bool
-    ensures { result ≡ is_lane lanes.now p }
-{
-    lanes.get(p as usize).copied().unwrap_or(false)
-}
-
-/// How many lanes stand above that of a process.
-pub fn lane_of(lanes: &[bool], p: u8) -> u8
-    ensures lane { result ≡ lane_of lanes.now p }
-    ensures low { result ≤ p }
-{
-    let mut lane = 0;
-    for q in 0..p {
-        if is_lane(lanes, q) {
-            lane += 1;
-        }
-    }
-    lane
 }

@@ -2,6 +2,7 @@
 ghost use Rattle.std.specs.Prelude.{◌≡◌, ◌++◌, OnOk, option_map};
 ghost use Rattle.ticklab_draw.specs.Never.{broken_of, dashed_line, marks_within, moment_text, never_behind, never_label, never_text, never_title, never_words, value_text};
 
+use crate::bands::Lanes;
 use crate::columns::Column;
 use crate::layout::{LINE_BEHIND, above_y, band_foot, band_top, column_behind, right_x};
 use crate::mark::Mark;
@@ -42,20 +43,20 @@ pub struct NeverMark<'a> {
     pub value: Result<u32, Trap>,
 }
 
-/// Adds the mark among those of a run of `n` processes, where there is one.
+/// Adds the mark among those of a run, where there is one.
 pub fn push_never(
     out: &mut Vec<u8>,
-    n: u8,
+    bands: &[Lanes],
     columns: &[Column],
     marks: &[Mark],
     never: Option<NeverMark<'_>>,
 ) -> Added
-    ensures { OnOk result (out.new.items ≡ out.old.items ++ never_text n columns.now marks.now (option_map broken_of never.entry)) }
+    ensures { OnOk result (out.new.items ≡ out.old.items ++ never_text bands.now columns.now marks.now (option_map broken_of never.entry)) }
 {
     match never {
         Some(never) => {
             let count = marks_within(never.steps, marks);
-            push_never_behind(out, n, column_behind(columns, count), never)
+            push_never_behind(out, bands, column_behind(columns, count), never)
         }
         None => Ok(()),
     }
@@ -76,13 +77,18 @@ fn marks_within(steps: usize, marks: &[Mark]) -> usize
 
 // In the gutter behind a column.
 #[tactic(auto, unfolding(crate::specs::Never::never_behind))]
-fn push_never_behind(out: &mut Vec<u8>, n: u8, column: Column, never: NeverMark<'_>) -> Added
-    ensures { OnOk result (out.new.items ≡ out.old.items ++ never_behind n column (broken_of never.entry)) }
+fn push_never_behind(
+    out: &mut Vec<u8>,
+    bands: &[Lanes],
+    column: Column,
+    never: NeverMark<'_>,
+) -> Added
+    ensures { OnOk result (out.new.items ≡ out.old.items ++ never_behind bands.now column (broken_of never.entry)) }
 {
     let (x, band) = (right_x(column) + LINE_BEHIND, column.band);
     push_never_title(out, never)?;
-    push_dashed_line(out, x, band_top(n, band), band_foot(n, band))?;
-    push_never_label(out, x, above_y(n, band), never.number)
+    push_dashed_line(out, x, band_top(bands, band), band_foot(bands, band))?;
+    push_never_label(out, x, above_y(bands, band), never.number)
 }
 
 // When it holds, how it reads, and what it comes to.

@@ -4,13 +4,15 @@ ghost use Rattle.ticklab_draw.specs.Never.{broken_of};
 ghost use Rattle.ticklab_draw.specs.Words.{names};
 ghost use Rattle.ticklab_draw.specs.Pictures.{file_name, group_head, group_text, groups_text, heading, page_head, page_size, picture, picture_in, titled, under_text};
 
+use crate::bands::{Lanes, bands};
 use crate::colours::push_colour;
 use crate::columns::{Column, columns};
 use crate::feet::push_feet;
+use crate::heads::push_heads;
 use crate::lanes::{push_bands, push_ends};
-use crate::layout::{column_at, lane_y, last_column, page_height, page_width};
+use crate::layout::{column_at, last_column, page_height, page_width, sign_y};
 use crate::legend::push_legend;
-use crate::look::{Look, chosen_count, is_chosen, lane_of, lanes};
+use crate::look::{Look, chosen_count, is_chosen};
 use crate::mark::Mark;
 use crate::never::{NeverMark, push_never};
 use crate::pieces::{AND_COLOUR, GROUP_END, TEXT_END, TITLE_END};
@@ -21,6 +23,7 @@ use crate::writing::{Added, push, push_escaped_bytes, push_one, push_two};
 use base::NoMemory;
 use base::tree::Named;
 use std::alloc::Global;
+use ticklab_trace::Parts;
 
 const PAGE: &str =
     "<svg xmlns=\"http://www.w3.org/2000/svg\" role=\"img\" aria-labelledby=\"title about\" width=\"";
@@ -51,7 +54,8 @@ const MARK_AT: &str = "\" transform=\"translate(";
 const MARK_TITLE: &str = ")\"><title>";
 
 /// Those of the marks of a run of `processes` processes that are shown, as SVG. Rows of registers have these names, and
-/// `r` with its number where there is none. What must never hold has a mark where it does.
+/// `r` with its number where there is none. A part of the run has a head above its first band. What must never hold has a
+/// mark where it does.
 #[tactic(auto, unfolding(crate::specs::Pictures::picture))]
 pub fn picture(
     alloc: Global,
@@ -59,30 +63,31 @@ pub fn picture(
     look: Look,
     processes: u8,
     registers: &[Named],
+    parts: Option<Parts>,
     marks: &[Mark],
     never: Option<NeverMark<'_>>,
 ) -> Result<Vec<u8>, NoMemory>
-    ensures { IfOk result (λ text. text.items ≡ picture title.now look processes (names registers.now) marks.now (option_map broken_of never.entry)) }
+    ensures { IfOk result (λ text. text.items ≡ picture title.now look processes (names registers.now) parts marks.now (option_map broken_of never.entry)) }
 {
     let cast = Cast {
         processes,
         registers,
     };
-    let lanes = lanes(alloc, look, marks, processes)?;
-    let columns = columns(alloc, look, cast, &lanes, marks)?;
+    let columns = columns(alloc, look, cast, parts, marks)?;
+    let bands = bands(alloc, look, processes, &columns, marks)?;
     let mut out = Vec::new(alloc);
     push_picture(
-        alloc, &mut out, &lanes, &columns, title, look, cast, marks, never,
+        alloc, &mut out, &bands, &columns, title, look, cast, marks, never,
     )?;
     Ok(out)
 }
 
-// The picture in these lanes and columns.
+// The picture in these bands and columns.
 #[tactic(auto, unfolding(crate::specs::Pictures::picture_in))]
 fn push_picture(
     alloc: Global,
     out: &mut Vec<u8>,
-    lanes: &[bool],
+    bands: &[Lanes],
     columns: &[Column],
     title: &[u8],
     look: Look,
@@ -90,18 +95,18 @@ fn push_picture(
     marks: &[Mark],
     never: Option<NeverMark<'_>>,
 ) -> Added
-    ensures { OnOk result (out.new.items ≡ out.old.items ++ picture_in lanes.now columns.now title.now look cast.entry.processes (names cast.entry.registers.now) marks.now (option_map broken_of never.entry)) }
+    ensures { OnOk result (out.new.items ≡ out.old.items ++ picture_in bands.now columns.now title.now look cast.entry.processes (names cast.entry.registers.now) marks.now (option_map broken_of never.entry)) }
 {
     let (n, last) = (cast.processes, last_column(columns).band);
-    let count = lane_of(lanes, n);
     let width = page_width(look.width, columns);
-    let height = page_height(count, last, width);
+    let height = page_height(bands, last, width);
     push_page(out, title, width, height, n, chosen_count(look, marks))?;
     push_heading(out, title)?;
-    push_never(out, count, columns, marks, never)?;
-    push_under(alloc, out, look, lanes, n, columns, marks)?;
-    push_groups(alloc, out, look, count, cast, columns, marks)?;
-    push_legend(out, count, last, width)
+    push_heads(out, width, bands, columns)?;
+    push_never(out, bands, columns, marks, never)?;
+    push_under(alloc, out, look, bands, n, columns, marks)?;
+    push_groups(alloc, out, look, bands, cast, columns, marks)?;
+    push_legend(out, bands, last, width)
 }
 
 // The page, its title and what it is of, for who sees it and for who has it read out.
@@ -170,16 +175,16 @@ fn push_under(
     alloc: Global,
     out: &mut Vec<u8>,
     look: Look,
-    lanes: &[bool],
+    bands: &[Lanes],
     n: u8,
     columns: &[Column],
     marks: &[Mark],
 ) -> Added
-    ensures { OnOk result (out.new.items ≡ out.old.items ++ under_text look lanes.now n columns.now marks.now) }
+    ensures { OnOk result (out.new.items ≡ out.old.items ++ under_text look bands.now n columns.now marks.now) }
 {
-    push_bands(out, lanes, n, columns)?;
-    push_ends(out, lanes, n, last_column(columns), marks)?;
-    push_feet(alloc, out, look, lane_of(lanes, n), columns, marks)
+    push_bands(out, bands, n, columns)?;
+    push_ends(out, bands, n, columns, marks)?;
+    push_feet(alloc, out, look, bands, columns, marks)
 }
 
 // A group for each mark that is shown, in order.
@@ -187,16 +192,16 @@ fn push_groups(
     alloc: Global,
     out: &mut Vec<u8>,
     look: Look,
-    count: u8,
+    bands: &[Lanes],
     cast: Cast<'_>,
     columns: &[Column],
     marks: &[Mark],
 ) -> Added
-    ensures { OnOk result (out.new.items ≡ out.old.items ++ groups_text look count cast.entry.processes (names cast.entry.registers.now) columns.now 0 marks.now) }
+    ensures { OnOk result (out.new.items ≡ out.old.items ++ groups_text look bands.now cast.entry.processes (names cast.entry.registers.now) columns.now 0 marks.now) }
 {
     for (at, mark) in marks.iter().enumerate() {
         let column = column_at(columns, at);
-        push_group(alloc, out, look, count, cast, column, at, mark)?;
+        push_group(alloc, out, look, bands, cast, column, at, mark)?;
     }
     Ok(())
 }
@@ -207,18 +212,18 @@ fn push_group(
     alloc: Global,
     out: &mut Vec<u8>,
     look: Look,
-    count: u8,
+    bands: &[Lanes],
     cast: Cast<'_>,
     column: Column,
     at: usize,
     mark: &Mark,
 ) -> Added
-    ensures { OnOk result (out.new.items ≡ out.old.items ++ group_text look count cast.entry.processes (names cast.entry.registers.now) column at mark.now) }
+    ensures { OnOk result (out.new.items ≡ out.old.items ++ group_text look bands.now cast.entry.processes (names cast.entry.registers.now) column at mark.now) }
 {
     if !is_chosen(look, mark) {
         return Ok(());
     }
-    push_group_head(out, count, column, at, mark.process)?;
+    push_group_head(out, bands, column, at, mark.process)?;
     push_sentence(out, cast, mark)?;
     push(out, TITLE_END)?;
     push_drawn(alloc, out, cast, mark)?;
@@ -226,11 +231,11 @@ fn push_group(
 }
 
 #[tactic(auto, unfolding(crate::specs::Pictures::group_head))]
-fn push_group_head(out: &mut Vec<u8>, n: u8, column: Column, at: usize, p: u8) -> Added
-    ensures { OnOk result (out.new.items ≡ out.old.items ++ group_head n column at p) }
+fn push_group_head(out: &mut Vec<u8>, bands: &[Lanes], column: Column, at: usize, p: u8) -> Added
+    ensures { OnOk result (out.new.items ≡ out.old.items ++ group_head bands.now column at p) }
 {
     push_one(out, MARK, at as u128 + 1, AND_COLOUR)?;
     push_colour(out, p)?;
-    let y = lane_y(n, column.band, column.lane);
+    let y = sign_y(bands, column);
     push_two(out, MARK_AT, u64::from(column.x), " ", y, MARK_TITLE)
 }

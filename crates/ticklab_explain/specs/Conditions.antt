@@ -26,6 +26,7 @@ is_so s F.Touches = touches s
 is_so s F.Doubled = bytes_eq (after s 1) (here s)
 is_so s F.BeforeEquals = slice_index s.text s.span.end == 61
 is_so s F.Declared = is_some (first_declaration s)
+is_so s F.Clears = s.items.clears
 
 -- the item of a schedule that the refusal is about
 unfoldable pub item : Setting → List ℕ

@@ -11,7 +11,7 @@ use Rattle.ticklab_explain.specs.Places.{IsPlace}
 use Rattle.ticklab_explain.specs.Rows.{Help}
 use Rattle.ticklab_explain.specs.Questions.{IsQuestionReport, question_hint, question_message, question_span}
 use Rattle.ticklab_explain.specs.Reports.{AreWanted, IsReport}
-use Rattle.ticklab_explain.specs.Settings.{IsSetting, Setting}
+use Rattle.ticklab_explain.specs.Settings.{IsSetting, Setting, step_items}
 use Rattle.ticklab_explain.specs.Spots.{IsSpanAt, spot_of}
 use Rattle.ticklab_explain.specs.declared.explanation.Explanation.{Explanation}
 use Rattle.ticklab_explain.specs.declared.explanation.InputFault.{InputFault}
@@ -21,7 +21,7 @@ use Rattle.ticklab_explain.specs.declared.wanted.Wanted.{Wanted}
 
 -- the report for people of a fault, which a schedule of so many processes may have
 abbrev pub IsFaultReport : ℕ → List ℕ → List ℕ → InputFault → List ℕ → Type 0
-IsFaultReport processes name text (I.Refused refusal) report = IsReport processes name text refusal report
+IsFaultReport processes name text (I.Refused refusal) report = IsReport (step_items processes) name text refusal report
 IsFaultReport processes name text (I.Question fault) report = IsQuestionReport name text fault report
 
 -- the place of a part of a text
@@ -51,7 +51,7 @@ pub record ArePartsIn (s : Setting) (wanted : List Wanted) (refusal : Refusal) (
 -- of a refusal, which a schedule of so many processes may have
 pub record AreRefusalParts (processes : ℕ) (text : List ℕ) (refusal : Refusal) (e : Explanation) : Type 0 where
   pub set : Setting
-  pub is_set : IsSetting processes text refusal set
+  pub is_set : IsSetting (step_items processes) text refusal set
   pub wanted : List Wanted
   pub are_wanted : AreWanted set refusal wanted
   pub parts : ArePartsIn set wanted refusal e

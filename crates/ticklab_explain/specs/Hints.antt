@@ -69,7 +69,7 @@ piece_text s Q.Statement words = statement_of (here s)
 piece_text s Q.StatementBefore words = statement_of (before s 1)
 piece_text s (Q.Tokens part) words = quoted s part
 piece_text s Q.DeclaredNames words = declared_in s.text true false s.tokens
-piece_text s Q.ProcessCount words = decimal s.processes
+piece_text s Q.ProcessCount words = decimal s.items.processes
 
 abbrev pub text_of : Setting → List (Quote × List ℕ) → List ℕ
 text_of s pieces = flat_map (λ piece. piece_text s piece.0 piece.1) pieces

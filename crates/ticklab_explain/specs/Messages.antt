@@ -17,7 +17,8 @@ use Rattle.ticklab_explain.specs.Pieces.{joined}
 use Rattle.ticklab_explain.specs.Settings.{Setting, about, shortened}
 use Rattle.ticketc_refusals.specs.declared.refusal.Refusal.{Refusal}
 use Rattle.ticketc_refusals.specs.declared.refusal.Refusal.TheVariants.{Text, Kinds, Code, Schedule}
-use Rattle.ticklab_explain.specs.declared.messages.TheConstants.{AND_A, BRACKET_TOO_DEEP, BREAKS_A_STAMP, BYTES, CODE_EMPTY, CODE_TOO_LONG, DECLARED_TWICE, EXPECTED_ITEM, GOES_ON_PAST, INPUT_HAS, INSTRUCTION, IS_A, IS_WANTED, ITS_LAST, JUMPS_PAST_THE_END, MOST_BYTES, NAME_HAS, NOT_DECLARED, NO_FIRST_LINE, NO_LINE, NO_PROCESS_AS_IN, NO_SUCH_SLOT, NO_TOKEN_BEGINS, NO_UTF8, NUMBER_TOO_GREAT, ONE_NAME_MORE, OTHER_HEIGHT, PROCESSES_OUT_OF_RANGE, REGISTER, SCAN, SCHEDULE_TOO_LONG, TAKES_TOO_MANY, VARIABLE}
+use Rattle.ticklab_explain.specs.declared.items.Items.{Items}
+use Rattle.ticklab_explain.specs.declared.messages.TheConstants.{AND_A, BRACKET_TOO_DEEP, BREAKS_A_STAMP, BYTES, CODE_EMPTY, CODE_TOO_LONG, DECLARED_TWICE, EXPECTED_MOVES, EXPECTED_STEPS, GOES_ON_PAST, INPUT_HAS, INSTRUCTION, IS_A, IS_WANTED, ITS_LAST, JUMPS_PAST_THE_END, MOST_BYTES, NAME_HAS, NOT_DECLARED, NO_FIRST_LINE, NO_LINE, NO_PROCESS_AS_IN, NO_SUCH_SLOT, NO_TOKEN_BEGINS, NO_UTF8, NUMBER_TOO_GREAT, ONE_NAME_MORE, OTHER_HEIGHT, PROCESSES_OUT_OF_RANGE, REGISTER, SCAN, SCHEDULE_TOO_LONG, TAKES_TOO_MANY, TOO_MANY_MOVES, VARIABLE}
 use Rattle.ticklab_explain.specs.declared.wanted.Wanted.{Wanted}
 
 -- the character at fault is quoted where the text is UTF-8
@@ -67,10 +68,18 @@ code_message (C.BadStamp place) = instruction place BREAKS_A_STAMP.now
 code_message (C.BadLine line) = if line == 1 then NO_FIRST_LINE.now else NO_LINE.now
 code_message C.NoMemory = []
 
+-- where an item of a schedule, or of stamps and clears, is none
+abbrev pub item_message : Items → List ℕ → List ℕ
+item_message items item =
+    if items.clears then joined (EXPECTED_MOVES.now ∷ item ∷ codes "`" ∷ []) else joined (EXPECTED_STEPS.now ∷ item ∷ codes "`" ∷ [])
+
+abbrev pub too_long : Items → List ℕ
+too_long items = if items.clears then TOO_MANY_MOVES.now else SCHEDULE_TOO_LONG.now
+
 abbrev pub schedule_message : Setting → ScheduleFault → List ℕ
-schedule_message s (S.BadItem place) = joined (EXPECTED_ITEM.now ∷ shortened (about s) ∷ codes "`" ∷ [])
+schedule_message s (S.BadItem place) = item_message s.items (shortened (about s))
 schedule_message s (S.NoSuchProcess place) = joined (NO_PROCESS_AS_IN.now ∷ shortened (about s) ∷ codes "`" ∷ [])
-schedule_message s S.TooLong = SCHEDULE_TOO_LONG.now
+schedule_message s S.TooLong = too_long s.items
 schedule_message s S.NoMemory = []
 
 abbrev pub message_of : Setting → List Wanted → Refusal → List ℕ

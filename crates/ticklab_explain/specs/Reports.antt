@@ -12,8 +12,9 @@ use Rattle.ticklab_explain.specs.Pictures.{IsPicture}
 use Rattle.ticklab_explain.specs.Places.{IsPlace}
 use Rattle.ticklab_explain.specs.Rows.{Help}
 use Rattle.ticketc_refusals.specs.RefusalLine.{refusal_line}
-use Rattle.ticklab_explain.specs.Settings.{IsSetting, Setting, before}
+use Rattle.ticklab_explain.specs.Settings.{IsSetting, Setting, before, step_items}
 use Rattle.ticklab_explain.specs.Spots.{IsSpanAt, spot_of}
+use Rattle.ticklab_explain.specs.declared.items.Items.{Items}
 use Rattle.ticklab_explain.specs.declared.place.Place.{Place}
 use Rattle.ticketc_refusals.specs.declared.refusal.Refusal.{Refusal}
 use Rattle.ticketc_refusals.specs.declared.refusal.Refusal.TheVariants.{Text}
@@ -70,19 +71,23 @@ pub record IsWritten (name : List ℕ) (s : Setting) (wanted : List Wanted) (ref
   pub are_hints : AreHintLines name s.text s (hint_of s wanted refusal) hints
   pub whole : report ≡ head ++ hints ++ last_line refusal
 
--- the report of the refusal, of a schedule of so many processes
-pub record IsReport (processes : ℕ) (name text : List ℕ) (refusal : Refusal) (report : List ℕ) : Type 0 where
+-- the report of the refusal, of a text of such items or of another text
+pub record IsReport (items : Items) (name text : List ℕ) (refusal : Refusal) (report : List ℕ) : Type 0 where
   pub set : Setting
-  pub is_set : IsSetting processes text refusal set
+  pub is_set : IsSetting items text refusal set
   pub wanted : List Wanted
   pub are_wanted : AreWanted set refusal wanted
   pub written : IsWritten name set wanted refusal report
 
 -- it is the report of a refusal that the input has
-pub record TellsFor (processes : ℕ) (has : Refusal → Type 0) (name text report : List ℕ) : Type 0 where
+pub record TellsOf (items : Items) (has : Refusal → Type 0) (name text report : List ℕ) : Type 0 where
   pub refusal : Refusal
   pub had : has refusal
-  pub told : IsReport processes name text refusal report
+  pub told : IsReport items name text refusal report
+
+-- of a schedule of so many processes
+abbrev pub TellsFor : ℕ → (Refusal → Type 0) → List ℕ → List ℕ → List ℕ → Type 0
+TellsFor processes has name text report = TellsOf (step_items processes) has name text report
 
 -- of a program or a code
 abbrev pub Tells : (Refusal → Type 0) → List ℕ → List ℕ → List ℕ → Type 0

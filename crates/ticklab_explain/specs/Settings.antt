@@ -13,6 +13,7 @@ use Rattle.tick_syntax.specs.declared.token.Token.{Token}
 use Rattle.ticketc_refusals.specs.Refusals.{IsText}
 use Rattle.ticklab_explain.specs.Spots.{IsSpanAt, spot_of}
 use Rattle.ticketc_refusals.specs.declared.refusal.Refusal.{Refusal}
+use Rattle.ticklab_explain.specs.declared.items.Items.{Items}
 use Rattle.ticklab_explain.specs.declared.scene.Scene.{Scene}
 use Rattle.ticklab_explain.specs.declared.spot.Spot.{Spot}
 use Rattle.ticklab_explain.specs.declared.spot.Spot.TheVariants.{Character}
@@ -104,6 +105,14 @@ part_before text _ = text
 abbrev pub read_part : List ℕ → Refusal → List ℕ
 read_part text refusal = part_before text (spot_of refusal)
 
+-- the items of a schedule of so many processes
+abbrev pub step_items : ℕ → Items
+step_items processes = record { processes = processes; clears = false }
+
+-- those of their stamps and clears
+abbrev pub move_items : ℕ → Items
+move_items processes = record { processes = processes; clears = true }
+
 -- a refusal's place in a text, and what stands about it
 pub record Setting : Type 0 where
   pub text : List ℕ
@@ -115,11 +124,11 @@ pub record Setting : Type 0 where
   -- the words on both sides of the span
   pub left : List ℕ
   pub right : List ℕ
-  -- how many processes a schedule has
-  pub processes : ℕ
+  -- what the items of a schedule may be
+  pub items : Items
 
 -- This is the place of the refusal in the text. One that is nowhere is set at its begin.
-pub record IsSetting (processes : ℕ) (text : List ℕ) (refusal : Refusal) (s : Setting) : Type 0 where
+pub record IsSetting (items : Items) (text : List ℕ) (refusal : Refusal) (s : Setting) : Type 0 where
   pub same_text : s.text ≡ text
   pub are_tokens : AreTokens (read_part text refusal) s.tokens
   pub found : Option Span
@@ -128,7 +137,7 @@ pub record IsSetting (processes : ℕ) (text : List ℕ) (refusal : Refusal) (s 
   pub same_at : s.at ≡ index_from s.span.start s.tokens
   pub is_left : IsWordBefore text s.span.start s.left
   pub is_right : IsWordAfter text (behind text s.span) s.right
-  pub same_processes : s.processes ≡ processes
+  pub same_items : s.items ≡ items
 
 -- what the refusal is about, as it is written
 unfoldable pub about : Setting → List ℕ
@@ -233,5 +242,5 @@ setting scene = record {
   at = scene.at;
   left = scene.left.now;
   right = scene.right.now;
-  processes = scene.processes;
+  items = scene.items;
 }

@@ -73,6 +73,8 @@ pub enum Fact {
     BeforeEquals,
     /// The name that the refusal is about is declared.
     Declared,
+    /// Items may begin with `c`.
+    Clears,
 }
 
 fn holds(ask: Ask, words: &[&str], scene: &Scene, wanted: &[Wanted]) -> bool
@@ -115,6 +117,7 @@ impl Fact {
             Fact::Doubled => scene.after(1) == scene.here(),
             Fact::BeforeEquals => byte_at(scene.text, scene.span.end) == b'=',
             Fact::Declared => scene.first_declaration().is_some(),
+            Fact::Clears => scene.items.clears,
         }
     }
 }

@@ -2,10 +2,13 @@
 ghost use Rattle.std.specs.Prelude.{◌≡◌, ◌<◌, ℕ, List, IfOk, MatchOption, None, Some};
 ghost use Rattle.language_schedules.specs.Schedule.{schedule_of};
 ghost use Rattle.ticketc_refusals.specs.Refusals.{IsCode, IsCodeRefused, IsInputRefused, IsProgram, IsProgramRefused, IsScheduleRefused, IsTakenInput};
-ghost use Rattle.ticklab_explain.specs.Reports.{Tells, TellsFor};
+ghost use Rattle.ticklab_explain.specs.Reports.{IsReport, Tells, TellsFor};
+ghost use Rattle.ticklab_explain.specs.Settings.{move_items};
+ghost use Rattle.ticketc_refusals.specs.declared.refusal.Refusal.TheVariants.{Schedule};
 
-use crate::report::report;
+use crate::report::{moves_report, report};
 use base::NoMemory;
+use language_schedules::ScheduleFault;
 use std::alloc::Global;
 use ticketc_refusals::{Refusal, begins_code, code_refusal, program_refusal, schedule_refusal};
 
@@ -84,4 +87,18 @@ pub fn explain_schedule(
         }
         None => Ok(None),
     }
+}
+
+/// The report of this fault of a text that spells no stamps and clears of so many processes.
+pub fn explain_moves(
+    alloc: Global,
+    name: &str,
+    text: &str,
+    n: u8,
+    fault: ScheduleFault,
+) -> Result<Vec<u8>, NoMemory>
+    ensures { IfOk result (λ report. IsReport (move_items n) name.now text.now (Schedule fault) report.items) }
+{
+    let refusal = Refusal::Schedule(fault);
+    moves_report(alloc, n, name, text.as_bytes(), refusal)
 }

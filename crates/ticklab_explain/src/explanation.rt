@@ -7,6 +7,7 @@ ghost use Rattle.ticklab_explain.specs.Settings.{setting};
 use crate::choosing::hint_of;
 use crate::finding::{tokens_of, wanted_at};
 use crate::hint::Hint;
+use crate::items::Items;
 use crate::piece::push_pieces;
 use crate::place::{Place, place_of};
 use crate::questions::{explain_question, told};
@@ -83,7 +84,11 @@ fn refusal_parts(
     ensures { IfOk result (AreRefusalParts processes text.now refusal) }
 {
     let tokens = tokens_of(alloc, read_part(text, refusal))?;
-    let scene = scene_of(processes, text, &tokens, refusal);
+    let items = Items {
+        processes,
+        clears: false,
+    };
+    let scene = scene_of(items, text, &tokens, refusal);
     let wanted = wanted_at(alloc, &scene, refusal)?;
     Ok(parts_in(alloc, &scene, &wanted, refusal)?)
 }

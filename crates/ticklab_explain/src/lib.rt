@@ -1,4 +1,4 @@
-//! `ticklab_explain` tells people what is wrong with a program, a code or a schedule.
+//! `ticklab_explain` tells people what is wrong with a program, a code, a schedule, or stamps and clears.
 //!
 //! The report says where the fault is, what was expected and what stands there. It shows the line with a
 //! caret under it, a hint if the slip is a common one, and the line that `ticketc` tells. `ticketc_refusals`
@@ -22,6 +22,7 @@ mod explanation;
 mod finding;
 mod hint;
 mod item_slips;
+mod items;
 mod limits;
 mod messages;
 mod name_slips;
@@ -41,6 +42,8 @@ mod wanted;
 mod words;
 mod writing;
 
-pub use explaining::{explain, explain_code, explain_program, explain_refusal, explain_schedule};
+pub use explaining::{
+    explain, explain_code, explain_moves, explain_program, explain_refusal, explain_schedule,
+};
 pub use explanation::{Explanation, InputFault, explanation_of, report_of};
 pub use questions::{explain_question, point};

@@ -1,5 +1,6 @@
 // Hints that a refusal always has.
 
+use crate::condition::Fact::Clears;
 use crate::rule::{Rule, rules};
 
 pub static NUMBER_TOO_BIG: &[Rule] = rules![
@@ -35,5 +36,6 @@ pub static NO_SUCH_PROCESS: &[Rule] = rules![
 ];
 
 pub static SCHEDULE_TOO_LONG: &[Rule] = rules![
+    [Is(Clears)] => ("at most 10000000 stamps and clears are read");
     [] => ("a schedule has at most 10000000 steps");
 ];

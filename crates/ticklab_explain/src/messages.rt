@@ -1,9 +1,10 @@
 // What is wrong, in words.
 ghost use Rattle.std.specs.Prelude.{◌≡◌, ◌++◌, OnOk, string_bytes};
-ghost use Rattle.ticklab_explain.specs.Messages.{character_message, code_message, instruction, kind_word, kinds_message, message_of, schedule_message, text_message, wrong_kind};
+ghost use Rattle.ticklab_explain.specs.Messages.{character_message, code_message, instruction, item_message, kind_word, kinds_message, message_of, schedule_message, text_message, too_long, wrong_kind};
 ghost use Rattle.ticklab_explain.specs.Settings.{about, setting};
 
 use crate::expectation::push_expectation;
+use crate::items::Items;
 use crate::piece::{pieces, push_pieces};
 use crate::scene::{Scene, is_text, shortened};
 use crate::wanted::Wanted;
@@ -75,11 +76,15 @@ const NO_FIRST_LINE: &str = "this is no first line of a code";
 
 const NO_LINE: &str = "this is no line of an instruction";
 
-const EXPECTED_ITEM: &str = "expected `P` or `P*K`, found `";
+const EXPECTED_STEPS: &str = "expected `P` or `P*K`, found `";
+
+const EXPECTED_MOVES: &str = "expected `P`, `P*K`, `cP` or `cP*K`, found `";
 
 const NO_PROCESS_AS_IN: &str = "there is no such process as in `";
 
 const SCHEDULE_TOO_LONG: &str = "the schedule is too long";
+
+const TOO_MANY_MOVES: &str = "there are too many stamps and clears";
 
 /// Adds what is wrong.
 pub fn push_message(text: &mut String, scene: &Scene, wanted: &[Wanted], refusal: Refusal) -> Added
@@ -178,14 +183,35 @@ fn push_instruction(text: &mut String, place: u16, fault: &str) -> Added
     push_number(text, INSTRUCTION, usize::from(place), fault)
 }
 
+// Where an item of a schedule, or of stamps and clears, is none.
+fn push_bad_item(text: &mut String, items: Items, item: &str) -> Added
+    ensures { OnOk result (string_bytes text.new ≡ string_bytes text.old ++ item_message items item.now) }
+{
+    if items.clears {
+        push_all(text, &[EXPECTED_MOVES, item, "`"])
+    } else {
+        push_all(text, &[EXPECTED_STEPS, item, "`"])
+    }
+}
+
+fn too_long(items: Items) -> &'static str
+    ensures { result.now ≡ too_long items }
+{
+    if items.clears {
+        TOO_MANY_MOVES
+    } else {
+        SCHEDULE_TOO_LONG
+    }
+}
+
 fn push_schedule(text: &mut String, scene: &Scene, fault: ScheduleFault) -> Added
     ensures { OnOk result (string_bytes text.new ≡ string_bytes text.old ++ schedule_message (setting scene.now) fault) }
 {
     let item = shortened(scene.about());
     match fault {
-        ScheduleFault::BadItem(_) => push_all(text, &[EXPECTED_ITEM, item, "`"]),
+        ScheduleFault::BadItem(_) => push_bad_item(text, scene.items, item),
         ScheduleFault::NoSuchProcess(_) => push_all(text, &[NO_PROCESS_AS_IN, item, "`"]),
-        ScheduleFault::TooLong => push_all(text, &[SCHEDULE_TOO_LONG]),
+        ScheduleFault::TooLong => text.push_str(too_long(scene.items)),
         ScheduleFault::NoMemory => Ok(()),
     }
 }

@@ -98,7 +98,7 @@ fn push(text: &mut String, scene: &Scene, quote: Quote, words: &str) -> Added
         Quote::StatementBefore => text.push_str(statement_of(scene.before(1))),
         Quote::Tokens(part) => push_part(text, scene, part),
         Quote::DeclaredNames => push_declared(text, scene.text, scene.tokens),
-        Quote::ProcessCount => push_count(text, scene.processes),
+        Quote::ProcessCount => push_count(text, scene.items.processes),
     }
 }
 

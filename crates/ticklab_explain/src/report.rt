@@ -7,12 +7,13 @@ ghost use Rattle.ticklab_explain.specs.Pictures.{IsPicture};
 ghost use Rattle.ticklab_explain.specs.Places.{IsPlace};
 ghost use Rattle.ticklab_explain.specs.Reports.{AreHintLines, IsHead, IsReport, IsSeen, IsWritten, error_text, last_line, place_text};
 ghost use Rattle.ticklab_explain.specs.Rows.{help_of};
-ghost use Rattle.ticklab_explain.specs.Settings.{setting};
+ghost use Rattle.ticklab_explain.specs.Settings.{move_items, setting, step_items};
 ghost use Rattle.ticklab_explain.specs.declared.place.Place.{Place};
 
 use crate::choosing::hint_of;
 use crate::finding::{tokens_of, wanted_at};
 use crate::hint::Hint;
+use crate::items::Items;
 use crate::messages::push_message;
 use crate::picture::push_picture;
 use crate::piece::push_pieces;
@@ -36,8 +37,7 @@ pub const HINT: &str = "hint: ";
 
 const TICKETC: &str = "ticketc: ";
 
-/// The report of a refusal, of a schedule of so many processes: its place, what is wrong, the line with
-/// a caret, what may help, and the line that `ticketc` tells.
+/// The report of a refusal, of a schedule of so many processes or of another text.
 pub fn report(
     alloc: Global,
     processes: u8,
@@ -45,10 +45,45 @@ pub fn report(
     text: &[u8],
     refusal: Refusal,
 ) -> Result<Vec<u8>, NoMemory>
-    ensures { IfOk result (λ report. IsReport processes name.now text.now refusal report.items) }
+    ensures { IfOk result (λ report. IsReport (step_items processes) name.now text.now refusal report.items) }
+{
+    let items = Items {
+        processes,
+        clears: false,
+    };
+    items_report(alloc, items, name, text, refusal)
+}
+
+/// The same of stamps and clears of so many processes.
+pub fn moves_report(
+    alloc: Global,
+    processes: u8,
+    name: &str,
+    text: &[u8],
+    refusal: Refusal,
+) -> Result<Vec<u8>, NoMemory>
+    ensures { IfOk result (λ report. IsReport (move_items processes) name.now text.now refusal report.items) }
+{
+    let items = Items {
+        processes,
+        clears: true,
+    };
+    items_report(alloc, items, name, text, refusal)
+}
+
+// The report of a refusal, of a text of such items or of another text: its place, what is wrong, the line with
+// a caret, what may help, and the line that `ticketc` tells.
+fn items_report(
+    alloc: Global,
+    items: Items,
+    name: &str,
+    text: &[u8],
+    refusal: Refusal,
+) -> Result<Vec<u8>, NoMemory>
+    ensures { IfOk result (λ report. IsReport items name.now text.now refusal report.items) }
 {
     let tokens = tokens_of(alloc, read_part(text, refusal))?;
-    let scene = scene_of(processes, text, &tokens, refusal);
+    let scene = scene_of(items, text, &tokens, refusal);
     let wanted = wanted_at(alloc, &scene, refusal)?;
     told(alloc, name, &scene, &wanted, refusal)
 }
@@ -111,7 +146,8 @@ pub fn push_placed(
     span: Span,
     message: &str,
 ) -> Added
-    ensures { OnOk result ((place : Place) × (drawn : List ℕ) × IsPlace text.now (min span.start (length text.now)) place × IsPicture text.now span place.line drawn × (out.new.items ≡ out.old.items ++ (place_text name.now place ++ error_text message.now ++ drawn))) }
+    ensures { OnOk result ((place : Place) × (drawn : List ℕ) × IsPlace text.now (min span.start (length text.now)) place × IsPicture text.now span place.line drawn
+        × (out.new.items ≡ out.old.items ++ (place_text name.now place ++ error_text message.now ++ drawn))) }
 {
     let place = place_of(text, span.start.min(text.len()));
     push_place(out, name, place)?;
@@ -185,7 +221,8 @@ fn push_seen(alloc: Global, out: &mut Vec<u8>, name: &str, text: &[u8], span: Op
 }
 
 fn push_other(alloc: Global, out: &mut Vec<u8>, name: &str, text: &[u8], span: Span) -> Added
-    ensures { OnOk result ((place : Place) × (drawn : List ℕ) × IsPlace text.now (min span.start (length text.now)) place × IsPicture text.now span place.line drawn × (out.new.items ≡ out.old.items ++ (ARROW.now ++ place_text name.now place ++ line_end ++ drawn))) }
+    ensures { OnOk result ((place : Place) × (drawn : List ℕ) × IsPlace text.now (min span.start (length text.now)) place × IsPicture text.now span place.line drawn
+        × (out.new.items ≡ out.old.items ++ (ARROW.now ++ place_text name.now place ++ line_end ++ drawn))) }
 {
     let place = place_of(text, span.start.min(text.len()));
     push_seen_place(out, name, place)?;

@@ -4,6 +4,7 @@ ghost use Rattle.std.specs.Str.{is_utf8};
 ghost use Rattle.ticklab_explain.specs.Hints.{first_declaration, first_written};
 ghost use Rattle.ticklab_explain.specs.Settings.{about, after, as_text, before, counted, front, front_end, has_begun, here, is_keyword_here, is_name, is_name_after, is_name_at, is_name_before, open_brace, setting, shortened, sort_here, text_at, touches, unclosed, word};
 
+use crate::items::Items;
 use base::span::Span;
 use std::str;
 use tick_syntax::token::{Sort, Token};
@@ -20,8 +21,8 @@ pub struct Scene<'a> {
     /// The words on both sides of the span.
     pub left: &'a str,
     pub right: &'a str,
-    /// How many processes a schedule has.
-    pub processes: u8,
+    /// What the items of a schedule may be.
+    pub items: Items,
 }
 
 /// Whether bytes are a text.

@@ -2,6 +2,7 @@
 ghost use Rattle.std.specs.Prelude.{◌≡◌, ◌≤◌, length};
 ghost use Rattle.ticklab_explain.specs.Settings.{AreBlanksAfter, AreBlanksBefore, AreTokens, IsSetting, IsWordEnd, IsWordStart, behind, index_from, is_doubled, is_compared, is_word_byte, part_before, read_part, setting};
 
+use crate::items::Items;
 use crate::scene::{Scene, as_text, byte_at, text_at};
 use crate::spot::{Spot, span_at, spot_of};
 use base::span::Span;
@@ -10,13 +11,13 @@ use ticketc_refusals::Refusal;
 
 /// The scene of a refusal in a text that these tokens spell, as far as it is read.
 pub fn scene_of<'a>(
-    processes: u8,
+    items: Items,
     text: &'a [u8],
     tokens: &'a [Token],
     refusal: Refusal,
 ) -> Scene<'a>
     requires { AreTokens (read_part text.now refusal) tokens.now }
-    ensures { IsSetting processes text.now refusal (setting result) }
+    ensures { IsSetting items text.now refusal (setting result) }
 {
     let span = span_at(text, spot_of(refusal)).unwrap_or(Span { start: 0, end: 0 });
     let before = blank_start(text, span.start.min(text.len()));
@@ -28,7 +29,7 @@ pub fn scene_of<'a>(
         at: index_from(span.start, tokens),
         left: as_text(&text[word_start(text, before)..before]),
         right: as_text(&text[after..word_end(text, after)]),
-        processes,
+        items,
     }
 }
 

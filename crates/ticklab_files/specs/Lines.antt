@@ -1,15 +1,14 @@
 -- Lines that tell why an input is refused.
-use Rattle.std.specs.Prelude.{◌++◌, ◌-◌, ℕ, ◌+◌, List, [], codes}
-use Rattle.std.specs.Fmt.{decimal}
+use Rattle.std.specs.Prelude.{◌++◌, ℕ, List, codes}
 use Rattle.language_schedules.specs.declared.schedule.ScheduleFault.{ScheduleFault}
-use Rattle.language_schedules.specs.declared.schedule.ScheduleFault.TheVariants.{BadItem, NoSuchProcess, TooLong, NoMemory}
+use Rattle.ticketc_refusals.specs.declared.refusal.Refusal.TheVariants.{Schedule}
+use Rattle.ticklab_explain.specs.Reports.{IsReport}
+use Rattle.ticklab_explain.specs.Settings.{move_items}
 
 -- a program whose code isn't made
 abbrev pub too_long_line : List ℕ → List ℕ
 too_long_line name = name ++ codes ": error: its code would have more than 65535 instructions\n"
 
-abbrev pub spelling_line : ScheduleFault → List ℕ
-spelling_line (BadItem place) = codes "STAMPS: error: bad item at " ++ decimal place ++ codes "\n"
-spelling_line (NoSuchProcess place) = codes "STAMPS: error: no such process at " ++ decimal place ++ codes "\n"
-spelling_line TooLong = codes "STAMPS: error: too many steps\n"
-spelling_line NoMemory = []
+-- the report of a text that spells no stamps and clears of so many processes
+unfoldable pub IsMisspelled : ℕ → List ℕ → ScheduleFault → List ℕ → Type 0
+IsMisspelled n text fault report = IsReport (move_items n) (codes "STAMPS") text (Schedule fault) report

@@ -4,26 +4,27 @@ ghost use Rattle.language_schedules.specs.Moves.{moves_of as moves_spelled, move
 ghost use Rattle.language_schedules.specs.Schedule.{schedule_of as schedule_spelled};
 ghost use Rattle.ticketc_refusals.specs.Refusals.{IsProgramRefused, IsScheduleRefused, SpelledIn};
 ghost use Rattle.ticklab_explain.specs.Reports.{Tells, TellsFor};
+ghost use Rattle.ticklab_files.specs.Lines.{IsMisspelled};
 ghost use Rattle.language_questions.specs.Lines.{asked_of, questions_in};
 ghost use Rattle.searches_explore.specs.Lines.{lines_of};
 ghost use Rattle.ticklab_files.specs.Asking.{IsFileRefused, IsOf, place_of, texts_of};
 ghost use Rattle.ticklab_files.specs.Codes.{HasCode, HasNoCode, program_code};
 ghost use Rattle.ticklab_files.specs.Asking.{IsUnexplored};
-ghost use Rattle.ticklab_files.specs.Lines.{spelling_line};
 ghost use Rattle.ticklab_files.specs.Stops.{IfRefused};
 ghost use Rattle.ticklab_files.specs.prover.Asked.{IsAsked};
 
 use crate::asking::{NeverLines, never_lines, questions_asked};
 use crate::fault::AnswerFault;
 use crate::stop::NoAnswer;
+use base::NoMemory;
 use code_core::Code;
 use language_questions::{Ends, Questions};
 use language_schedules::{Move, ScheduleFault, read_moves, read_schedule};
-use std::alloc::{AllocError, Global};
+use std::alloc::Global;
 use tick_kinds::Program;
 use tick_lower::{LowerFault, lower};
 use ticketc_refusals::{SpelledProgram, program_with_tokens};
-use ticklab_explain::{explain_refusal, explain_schedule};
+use ticklab_explain::{explain_moves, explain_refusal, explain_schedule};
 
 /// The program of a file whose lines can be read, with this name.
 pub fn program_of(alloc: Global, name: &str, input: &[u8]) -> Result<Program, NoAnswer>
@@ -52,7 +53,8 @@ pub fn asked_program<'a>(
     never: &'a [&'a str],
 ) -> Result<AskedProgram<'a>, NoAnswer>
     ensures spelled { IfOk result (λ asked. SpelledIn input.now asked.spelled) }
-    ensures asks { IfOk result (λ asked. IsAsked name.now (texts_of never.now) input.now asked.spelled.program asked.ends (lines_of asked.lines.properties.items) (map place_of asked.lines.places.items)) }
+    ensures asks { IfOk result (λ asked. IsAsked name.now (texts_of never.now) input.now asked.spelled.program asked.ends
+        (lines_of asked.lines.properties.items) (map place_of asked.lines.places.items)) }
     ensures as_many { IfOk result (λ asked. length asked.lines.properties.items ≡ length asked.lines.places.items) }
     ensures refused { IfErr result (λ stop. IfRefused stop (IsUnexplored name.now (texts_of never.now) input.now)) }
 {
@@ -133,30 +135,22 @@ pub fn code_of(alloc: Global, name: &str, program: &Program) -> Result<Code, NoA
 pub fn moves_of(alloc: Global, text: &str, n: u8) -> Result<Vec<Move>, NoAnswer>
     ensures ok { IfOk result (λ moves. moves_spelled n text.now ≡ Ok moves.items) }
     ensures in_range { IfOk result (λ moves. All (λ move. mover move < n) moves.items) }
-    ensures refused { IfErr result (λ stop. IfRefused stop (λ report. (fault : ScheduleFault) × (moves_spelled n text.now ≡ Err fault) × (report ≡ spelling_line fault))) }
+    ensures refused { IfErr result (λ stop. IfRefused stop (λ report. (fault : ScheduleFault) × (moves_spelled n text.now ≡ Err fault) × IsMisspelled n text.now fault report)) }
 {
     match read_moves(alloc, text, n) {
         Ok(moves) => Ok(moves),
         Err(ScheduleFault::NoMemory) => Err(NoAnswer::Fault(AnswerFault::NoMemory)),
         Err(fault) => {
-            let line = spelling_line(alloc, fault)?;
-            Err(NoAnswer::Refused(line.into_bytes()))
+            let report = misspelled(alloc, text, n, fault)?;
+            Err(NoAnswer::Refused(report))
         }
     }
 }
 
-// Why a text spells no moves.
-fn spelling_line(alloc: Global, fault: ScheduleFault) -> Result<String, AllocError>
-    ensures { IfOk result (λ line. string_bytes line ≡ spelling_line fault) }
+// The report of this fault of a text.
+#[tactic(auto, unfolding(crate::specs::Lines::IsMisspelled))]
+fn misspelled(alloc: Global, text: &str, n: u8, fault: ScheduleFault) -> Result<Vec<u8>, NoMemory>
+    ensures { IfOk result (λ report. IsMisspelled n text.now fault report.items) }
 {
-    match fault {
-        ScheduleFault::BadItem(place) => {
-            format!(in alloc; "STAMPS: error: bad item at {place}\n")
-        }
-        ScheduleFault::NoSuchProcess(place) => {
-            format!(in alloc; "STAMPS: error: no such process at {place}\n")
-        }
-        ScheduleFault::TooLong => String::from_str(alloc, "STAMPS: error: too many steps\n"),
-        ScheduleFault::NoMemory => Ok(String::new(alloc)),
-    }
+    explain_moves(alloc, "STAMPS", text, n, fault)
 }

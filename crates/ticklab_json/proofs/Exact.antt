@@ -30,8 +30,10 @@ use Rattle.ticklab_check.specs.declared.checked.Checked.TheVariants as C
 use Rattle.ticklab_check.specs.declared.reporting.Findings.{Findings}
 use Rattle.ticklab_check.specs.declared.source.Source.{Source}
 use Rattle.word_core.specs.Stamps.{Labels}
+use Rattle.ticklab_trace.specs.Folds.{is_private_act, is_private_made}
 use Rattle.ticklab_trace.specs.Places.{Standing}
 use Rattle.ticklab_trace.specs.TraceText.{label_rank, ticket_rank}
+use Rattle.ticklab_trace.specs.declared.parts.Parts.{Parts}
 use Rattle.ticklab_trace.specs.declared.steps.StatementStep.{StatementStep}
 use Rattle.ticklab_trace.specs.declared.steps.InstructionStep.{InstructionStep}
 use Rattle.ticklab_json.specs.Checks.{file_data, file_list, file_members, findings_data, with_checked, with_states}
@@ -40,7 +42,7 @@ use Rattle.ticklab_json.specs.Found.{fault_text, head_members, lead_in_data, loo
 use Rattle.ticklab_json.specs.Members.{count, with_member}
 use Rattle.ticklab_json.specs.declared.found.Head.{Head}
 use Rattle.ticklab_json.specs.declared.found.Head.TheVariants.{Says, Runs}
-use Rattle.ticklab_json.specs.Steps.{BrokenLine, break_data, breaks_at, broken_at, heading, if_lost, instruction_data, instruction_members, label_order, rank_data, ranks_to, start_data, statement_data, statement_list, statement_members, stopped, taken, ticket_order, value_members, with_place, written_data}
+use Rattle.ticklab_json.specs.Steps.{BrokenLine, break_data, breaks_at, broken_at, heading, if_lost, instruction_data, instruction_members, label_order, part_data, private_data, rank_data, ranks_to, start_data, statement_data, statement_list, statement_members, stopped, taken, ticket_order, value_members, with_place, written_data}
 
 left : (a b : Bool) → (a || b) ≡ false → a ≡ false
 left false b h = refl
@@ -174,10 +176,22 @@ if_exact false d h = tt
 pub broken_exact : (steps : ℕ) (broken : Option BrokenLine) → IsExact (broken_at steps broken)
 broken_exact steps broken = then_exact (breaks_at steps) (λ b. if_exact (b.steps == steps) (break_data b) (break_exact b)) broken
 
-pub statement_exact : (a : WholeProgram Name) (spots : List Standing) (broken : Option BrokenLine) (k : ℕ) (step : StatementStep)
-    → has_float (statement_data a spots broken k step) ≡ false
-statement_exact a spots broken k step =
-    with_exact (codes "breaks") (broken_at (k + 1) broken) (statement_members a spots k step) (broken_exact (k + 1) broken) (members_exact a spots k step)
+part_exact : (parts : Option Parts) (k : ℕ) → IsExact (part_data parts k)
+part_exact None k = tt
+part_exact (Some parts) k = refl
+
+private_exact : (tells is_private : Bool) → IsExact (private_data tells is_private)
+private_exact true is_private = refl
+private_exact false is_private = tt
+
+pub statement_exact : (a : WholeProgram Name) (spots : List Standing) (parts : Option Parts) (tells : Bool) (broken : Option BrokenLine) (k : ℕ) (step : StatementStep)
+    → has_float (statement_data a spots parts tells broken k step) ≡ false
+statement_exact a spots parts tells broken k step =
+    let told = with_member (codes "breaks") (broken_at (k + 1) broken) (statement_members a spots k step) in
+    let parted = with_member (codes "part") (part_data parts k) told in
+    with_exact (codes "private") (private_data tells (is_private_act step.act)) parted (private_exact tells (is_private_act step.act))
+    (with_exact (codes "part") (part_data parts k) told (part_exact parts k)
+    (with_exact (codes "breaks") (broken_at (k + 1) broken) (statement_members a spots k step) (broken_exact (k + 1) broken) (members_exact a spots k step)))
 
 -- a line that breaks before the first step
 pub start_exact : (broken : Option BrokenLine) (d v : Data) → Some d ≡ broken_at 0 broken → v ≡ start_data d → has_float v ≡ false
@@ -187,11 +201,11 @@ start_exact broken d v is told =
 
 -- and what a search has found
 steps_exact : (a : WholeProgram Name) (spots : List Standing) (k : ℕ) (steps : List StatementStep)
-    → items_have_float (items_of (statement_list a spots None k steps)) ≡ false
+    → items_have_float (items_of (statement_list a spots None false None k steps)) ≡ false
 steps_exact a spots k [] = refl
 steps_exact a spots k (step ∷ steps) =
-    both (has_float (statement_data a spots None k step)) (items_have_float (items_of (statement_list a spots None (k + 1) steps)))
-    (statement_exact a spots None k step) (steps_exact a spots (k + 1) steps)
+    both (has_float (statement_data a spots None false None k step)) (items_have_float (items_of (statement_list a spots None false None (k + 1) steps)))
+    (statement_exact a spots None false None k step) (steps_exact a spots (k + 1) steps)
 
 -- what stands beside a run
 head_exact : (head : Head) → members_have_float (head_members head) ≡ false
@@ -200,18 +214,18 @@ head_exact (Runs plan from) = refl
 
 run_exact : (head : Members) → members_have_float head ≡ false → (a : WholeProgram Name) (spots : List Standing) (schedule : List ℕ) (steps : List StatementStep)
     (broken : Option BrokenLine)
-    → has_float (run_data head (record { schedule = schedule; trace = statement_list a spots None 0 steps; broken = broken })) ≡ false
+    → has_float (run_data head (record { schedule = schedule; trace = statement_list a spots None false None 0 steps; broken = broken })) ≡ false
 run_exact head exact a spots schedule steps broken =
     let a1 = put (codes "answer") (string (fault_text broken)) head in
     let h1 : members_have_float a1 ≡ false = put_exact (codes "answer") (string (fault_text broken)) head refl exact in
     let a2 = put (codes "schedule") (string (schedule_text schedule)) a1 in
     let h2 : members_have_float a2 ≡ false = put_exact (codes "schedule") (string (schedule_text schedule)) a1 refl h1 in
-    let trace = array (items_of (statement_list a spots None 0 steps)) in
+    let trace = array (items_of (statement_list a spots None false None 0 steps)) in
     with_exact (codes "breaks") (option_map break_data broken) (put (codes "trace") trace a2) (mapped break_data break_exact broken)
     (put_exact (codes "trace") trace a2 (steps_exact a spots 0 steps) h2)
 
 pub run_told : (head : Head) (a : WholeProgram Name) (spots : List Standing) (schedule : List ℕ) (steps : List StatementStep) (broken : Option BrokenLine)
-    (trace : List Data) (v : Data) → trace ≡ statement_list a spots None 0 steps
+    (trace : List Data) (v : Data) → trace ≡ statement_list a spots None false None 0 steps
     → v ≡ run_data (head_members head) (record { schedule = schedule; trace = trace; broken = broken }) → has_float v ≡ false
 run_told head a spots schedule steps broken trace v same told =
     ap has_float (told ∙ ap (λ t. run_data (head_members head) (record { schedule = schedule; trace = t; broken = broken })) same)
@@ -223,16 +237,16 @@ lead_in_exact [] = tt
 lead_in_exact (p ∷ lead_in) = refl
 
 loop_exact : (answer says : List ℕ) (a : WholeProgram Name) (spots : List Standing) (schedule lead_in cycle : List ℕ) (steps : List StatementStep)
-    → has_float (loop_data answer says (record { schedule = schedule; lead_in = lead_in; cycle = cycle; trace = statement_list a spots None 0 steps })) ≡ false
+    → has_float (loop_data answer says (record { schedule = schedule; lead_in = lead_in; cycle = cycle; trace = statement_list a spots None false None 0 steps })) ≡ false
 loop_exact answer says a spots schedule lead_in cycle steps =
-    let trace = array (items_of (statement_list a spots None 0 steps)) in
+    let trace = array (items_of (statement_list a spots None false None 0 steps)) in
     with_exact (codes "lead_in") (lead_in_data lead_in)
     (member (codes "answer") (string answer) (member (codes "cycle") (string (schedule_text cycle)) (member (codes "says") (string says)
     (member (codes "schedule") (string (schedule_text schedule)) (member (codes "trace") trace no_members)))))
     (lead_in_exact lead_in) (both (has_float trace) false (steps_exact a spots 0 steps) refl)
 
 pub loop_told : (answer says : List ℕ) (a : WholeProgram Name) (spots : List Standing) (schedule lead_in cycle : List ℕ) (steps : List StatementStep)
-    (trace : List Data) (v : Data) → trace ≡ statement_list a spots None 0 steps
+    (trace : List Data) (v : Data) → trace ≡ statement_list a spots None false None 0 steps
     → v ≡ loop_data answer says (record { schedule = schedule; lead_in = lead_in; cycle = cycle; trace = trace }) → has_float v ≡ false
 loop_told answer says a spots schedule lead_in cycle steps trace v same told =
     ap has_float (told ∙ ap (λ t. loop_data answer says (record { schedule = schedule; lead_in = lead_in; cycle = cycle; trace = t })) same)
@@ -253,8 +267,11 @@ made_exact a k step (Some i) =
     with_exact (codes "order") (option_map label_order step.labels) a3
     (mapped label_order (λ labels. ranks_exact (label_rank labels) (length labels)) step.labels) h3
 
-pub instruction_exact : (a : WholeProgram Name) (k : ℕ) (step : InstructionStep) → has_float (instruction_data a k step) ≡ false
-instruction_exact a k step = made_exact a k step step.instruction
+pub instruction_exact : (a : WholeProgram Name) (tells : Bool) (k : ℕ) (step : InstructionStep) → has_float (instruction_data a tells k step) ≡ false
+instruction_exact a tells k step =
+    let is_private = is_private_made step.instruction step.lost step.act in
+    with_exact (codes "private") (private_data tells is_private) (instruction_members a k step step.instruction) (private_exact tells is_private)
+    (made_exact a k step step.instruction)
 
 -- what files come to
 states_exact : (states : Option (Bool × ℕ)) (ms : Members) → members_have_float ms ≡ false → members_have_float (with_states states ms) ≡ false

@@ -1,5 +1,5 @@
 -- The steps of a trace as objects, one in a line.
-use Rattle.std.specs.Prelude.{ℕ, zero, suc, ◌+◌, ◌==◌, if◌then◌else◌, true, List, [], ◌∷◌, ◌++◌, codes, length, slice_get, slice_index, Option, Some, None, Ok, Err, option_and_then, option_map}
+use Rattle.std.specs.Prelude.{ℕ, zero, suc, ◌+◌, ◌==◌, if◌then◌else◌, Bool, true, false, List, [], ◌∷◌, ◌++◌, codes, length, slice_get, slice_index, Option, Some, None, Ok, Err, option_and_then, option_map}
 use Rattle.base.specs.Plain.{Name, WholeProgram}
 use Rattle.base.specs.declared.event.Act.{Act}
 use Rattle.base.specs.declared.event.Act.TheVariants as A
@@ -10,8 +10,13 @@ use Rattle.serde_json.specs.Data.{Data, null, boolean, string, array, object, Me
 use Rattle.serde_json.specs.View.{items_of}
 use Rattle.tick_play.specs.Lines.{trap_text}
 use Rattle.word_core.specs.Stamps.{Labels}
+use Rattle.ticklab_trace.specs.Folds.{is_private_act, is_private_made}
 use Rattle.ticklab_trace.specs.Places.{Standing}
+use Rattle.ticklab_trace.specs.Parts.{part_at}
 use Rattle.ticklab_trace.specs.TraceText.{label_rank, name_at, ticket_rank}
+use Rattle.ticklab_trace.specs.declared.parts.Part.{Part}
+use Rattle.ticklab_trace.specs.declared.parts.Part.TheVariants.{Schedule, LeadIn, Cycle}
+use Rattle.ticklab_trace.specs.declared.parts.Parts.{Parts}
 use Rattle.ticklab_trace.specs.declared.steps.Written.{Written}
 use Rattle.ticklab_trace.specs.declared.steps.StatementStep.{StatementStep}
 use Rattle.ticklab_trace.specs.declared.steps.InstructionStep.{InstructionStep}
@@ -101,14 +106,32 @@ breaks_at steps b = if b.steps == steps then Some (break_data b) else None
 abbrev pub broken_at : ℕ → Option BrokenLine → Option Data
 broken_at steps broken = option_and_then (breaks_at steps) broken
 
-abbrev pub statement_data : WholeProgram Name → List Standing → Option BrokenLine → ℕ → StatementStep → Data
-statement_data a spots broken number step =
-    object (with_member (codes "breaks") (broken_at (number + 1) broken) (statement_members a spots number step))
+-- the part of a run that goes on for ever to which the step behind so many others belongs, by the key that it has in an answer
+abbrev pub part_key : Part → List ℕ
+part_key Schedule = codes "schedule"
+part_key LeadIn = codes "lead_in"
+part_key Cycle = codes "cycle"
 
--- an object for each step, from this number on
-abbrev pub statement_list : WholeProgram Name → List Standing → Option BrokenLine → ℕ → List StatementStep → List Data
-statement_list a spots broken number [] = []
-statement_list a spots broken number (step ∷ steps) = statement_data a spots broken number step ∷ statement_list a spots broken (number + 1) steps
+abbrev pub part_data : Option Parts → ℕ → Option Data
+part_data None number = None
+part_data (Some parts) number = Some (string (part_key (part_at (Some parts) number)))
+
+-- whether a step is private, where that is told
+abbrev pub private_data : Bool → Bool → Option Data
+private_data true is_private = Some (boolean is_private)
+private_data false is_private = None
+
+abbrev pub statement_data : WholeProgram Name → List Standing → Option Parts → Bool → Option BrokenLine → ℕ → StatementStep → Data
+statement_data a spots parts tells broken number step =
+    object (with_member (codes "private") (private_data tells (is_private_act step.act))
+    (with_member (codes "part") (part_data parts number)
+    (with_member (codes "breaks") (broken_at (number + 1) broken) (statement_members a spots number step))))
+
+-- an object for each step, from this number on; perhaps each tells whether its step is private
+abbrev pub statement_list : WholeProgram Name → List Standing → Option Parts → Bool → Option BrokenLine → ℕ → List StatementStep → List Data
+statement_list a spots parts tells broken number [] = []
+statement_list a spots parts tells broken number (step ∷ steps) =
+    statement_data a spots parts tells broken number step ∷ statement_list a spots parts tells broken (number + 1) steps
 
 -- a line that breaks before the first step has an object of its own
 abbrev pub start_data : Data → Data
@@ -118,8 +141,9 @@ abbrev pub start_list : Option Data → List Data
 start_list None = []
 start_list (Some breaks) = start_data breaks ∷ []
 
-abbrev pub statement_objects : WholeProgram Name → List Standing → Option BrokenLine → List StatementStep → List ℕ
-statement_objects a spots broken steps = lines (start_list (broken_at 0 broken)) ++ lines (statement_list a spots broken 0 steps)
+abbrev pub statement_objects : WholeProgram Name → List Standing → Option Parts → Bool → Option BrokenLine → List StatementStep → List ℕ
+statement_objects a spots parts tells broken steps =
+    lines (start_list (broken_at 0 broken)) ++ lines (statement_list a spots parts tells broken 0 steps)
 
 -- The same of a code.
 
@@ -139,12 +163,14 @@ abbrev pub instruction_members : WholeProgram Name → ℕ → InstructionStep �
 instruction_members a number step None = put (codes "stopped") (boolean true) (heading number step.process)
 instruction_members a number step (Some i) = with_instruction a step i (heading number step.process)
 
-abbrev pub instruction_data : WholeProgram Name → ℕ → InstructionStep → Data
-instruction_data a number step = object (instruction_members a number step step.instruction)
+abbrev pub instruction_data : WholeProgram Name → Bool → ℕ → InstructionStep → Data
+instruction_data a tells number step =
+    object (with_member (codes "private") (private_data tells (is_private_made step.instruction step.lost step.act))
+    (instruction_members a number step step.instruction))
 
-abbrev pub instruction_list : WholeProgram Name → ℕ → List InstructionStep → List Data
-instruction_list a number [] = []
-instruction_list a number (step ∷ steps) = instruction_data a number step ∷ instruction_list a (number + 1) steps
+abbrev pub instruction_list : WholeProgram Name → Bool → ℕ → List InstructionStep → List Data
+instruction_list a tells number [] = []
+instruction_list a tells number (step ∷ steps) = instruction_data a tells number step ∷ instruction_list a tells (number + 1) steps
 
-abbrev pub instruction_objects : WholeProgram Name → List InstructionStep → List ℕ
-instruction_objects a steps = lines (instruction_list a 0 steps)
+abbrev pub instruction_objects : WholeProgram Name → Bool → List InstructionStep → List ℕ
+instruction_objects a tells steps = lines (instruction_list a tells 0 steps)

@@ -8,28 +8,30 @@ ghost use Rattle.ticklab_json.specs.Steps.{if_lost, instruction_data, instructio
 use crate::events::event_in;
 use crate::members::{Members, heading, push_line, put_if};
 use crate::order::label_order;
+use crate::source::private_in;
 use base::NoMemory;
 use code_core::Instr;
 use code_text::push_instruction;
 use serde_json::{Value, put};
 use std::alloc::{AllocError, Global};
 use tick_kinds::Program;
-use ticklab_trace::InstructionStep;
+use ticklab_trace::{InstructionStep, is_private_made};
 use word_core::LabelWord;
 
 /// An object in a line for each step: its number, the process, the place of its instruction and how it reads,
-/// and what it did. `program` is the program that the code was lowered from.
+/// and what it did; and where that is told, whether it is private. `program` is the program that the code was lowered from.
 #[tactic(auto, using(crate::proofs::Exact::instruction_exact))]
 pub fn code_objects(
     alloc: Global,
     program: &Program,
+    tells: bool,
     steps: &[InstructionStep],
 ) -> Result<String, NoMemory>
-    ensures { IfOk result (λ text. string_bytes text ≡ instruction_objects program.now steps.now) }
+    ensures { IfOk result (λ text. string_bytes text ≡ instruction_objects program.now tells steps.now) }
 {
     let mut text = String::new(alloc);
     for (number, step) in steps.iter().enumerate() {
-        let value = instruction(alloc, program, number, *step)?;
+        let value = instruction(alloc, program, tells, number, step)?;
         push_line(&mut text, alloc, &value)?;
     }
     Ok(text)
@@ -38,17 +40,23 @@ pub fn code_objects(
 fn instruction(
     alloc: Global,
     program: &Program,
+    tells: bool,
     number: usize,
-    step: InstructionStep,
+    step: &InstructionStep,
 ) -> Result<Value, AllocError>
     requires { number < 18446744073709551615 }
-    ensures { IfOk result (λ v. view v ≡ instruction_data program.now number step) }
+    ensures { IfOk result (λ v. view v ≡ instruction_data program.now tells number step.now) }
 {
     let mut members = heading(alloc, number, step.process)?;
     match step.instruction {
         None => put(&mut members, alloc, "stopped", Value::from(true))?,
-        Some(instruction) => put_instruction(&mut members, alloc, program, instruction, step)?,
+        Some(instruction) => put_instruction(&mut members, alloc, program, instruction, *step)?,
     }
+    let private = private_in(
+        tells,
+        is_private_made(step.instruction, step.lost, step.act),
+    );
+    put_if(&mut members, alloc, "private", private)?;
     Ok(Value::Object(members))
 }
 

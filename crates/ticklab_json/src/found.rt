@@ -1,5 +1,5 @@
 //! What a search has found, as an object in a line.
-ghost use Rattle.std.specs.Prelude.{◌≡◌, ◌∷◌, [], IfOk, None, OnOk, map, option_map, string_bytes};
+ghost use Rattle.std.specs.Prelude.{◌≡◌, ◌∷◌, [], IfOk, None, OnOk, false, map, option_map, string_bytes};
 ghost use Rattle.language_schedules.specs.Written.{schedule_text};
 ghost use Rattle.serde_json.specs.Data.{put, string};
 ghost use Rattle.serde_json.specs.View.{members_view, view};
@@ -49,7 +49,12 @@ pub fn found_run(
     steps: &[StatementStep],
     broken: Option<Breaking<'_>>,
 ) -> Result<String, NoMemory>
-    ensures { IfOk result (λ text. string_bytes text ≡ lines (run_data (head_members head.entry) (record { schedule = schedule.now; trace = statement_list program.now (map told_standing spots.now) None 0 steps.now; broken = option_map broken_line broken.entry }) ∷ [])) }
+    ensures { IfOk result (λ text. string_bytes text ≡ lines (run_data (head_members head.entry)
+        (record {
+          schedule = schedule.now;
+          trace = statement_list program.now (map told_standing spots.now) None false None 0 steps.now;
+          broken = option_map broken_line broken.entry;
+        }) ∷ [])) }
 {
     let trace = statement_values(alloc, program, spots, steps)?;
     let value = run_value(alloc, head, schedule, trace, broken)?;
@@ -116,7 +121,8 @@ fn put_run(
     trace: Vec<Value>,
     broken: Option<Breaking<'_>>,
 ) -> Result<(), NoMemory>
-    ensures { OnOk result (members_view members.new.entries ≡ with_run (record { schedule = schedule.now; trace = map view trace.items; broken = option_map broken_line broken.entry }) (members_view members.old.entries)) }
+    ensures { OnOk result (members_view members.new.entries ≡ with_run
+        (record { schedule = schedule.now; trace = map view trace.items; broken = option_map broken_line broken.entry }) (members_view members.old.entries)) }
 {
     put_text(members, alloc, "answer", fault_text(&broken))?;
     put_schedule(members, alloc, "schedule", schedule)?;
@@ -173,7 +179,13 @@ pub fn found_loop(
     looped: Loop<'_>,
     steps: &[StatementStep],
 ) -> Result<String, NoMemory>
-    ensures { IfOk result (λ text. string_bytes text ≡ lines (loop_data answer.now says.now (record { schedule = looped.entry.schedule.now; lead_in = looped.entry.lead_in.now; cycle = looped.entry.cycle.now; trace = statement_list program.now (map told_standing spots.now) None 0 steps.now }) ∷ [])) }
+    ensures { IfOk result (λ text. string_bytes text ≡ lines (loop_data answer.now says.now
+        (record {
+          schedule = looped.entry.schedule.now;
+          lead_in = looped.entry.lead_in.now;
+          cycle = looped.entry.cycle.now;
+          trace = statement_list program.now (map told_standing spots.now) None false None 0 steps.now;
+        }) ∷ [])) }
 {
     let trace = statement_values(alloc, program, spots, steps)?;
     let value = loop_value(alloc, answer, says, looped, trace)?;
@@ -187,7 +199,8 @@ fn loop_value(
     looped: Loop<'_>,
     trace: Vec<Value>,
 ) -> Result<Value, NoMemory>
-    ensures { IfOk result (λ v. view v ≡ loop_data answer.now says.now (record { schedule = looped.entry.schedule.now; lead_in = looped.entry.lead_in.now; cycle = looped.entry.cycle.now; trace = map view trace.items })) }
+    ensures { IfOk result (λ v. view v ≡ loop_data answer.now says.now
+        (record { schedule = looped.entry.schedule.now; lead_in = looped.entry.lead_in.now; cycle = looped.entry.cycle.now; trace = map view trace.items })) }
 {
     let mut members = says_members(alloc, says)?;
     put_text(&mut members, alloc, "answer", answer)?;

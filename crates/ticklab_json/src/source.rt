@@ -1,8 +1,8 @@
 //! The steps of a program as objects.
-ghost use Rattle.std.specs.Prelude.{◌≡◌, ◌<◌, IfOk, None, OnOk, map, option_and_then, option_map, slice_get, string_bytes};
+ghost use Rattle.std.specs.Prelude.{◌≡◌, ◌<◌, IfOk, None, OnOk, false, map, option_and_then, option_map, slice_get, string_bytes};
 ghost use Rattle.serde_json.specs.View.{members_view, view};
 ghost use Rattle.ticklab_json.specs.Members.{lines};
-ghost use Rattle.ticklab_json.specs.Steps.{broken_at, broken_line, start_data, start_list, statement_data, statement_list, statement_objects, stopped, taken, with_place, written_data};
+ghost use Rattle.ticklab_json.specs.Steps.{broken_at, broken_line, part_data, part_key, private_data, start_data, start_list, statement_data, statement_list, statement_objects, stopped, taken, with_place, written_data};
 ghost use Rattle.ticklab_trace.specs.Places.{told_standing};
 
 use crate::breaking::{Breaking, broken_at};
@@ -14,24 +14,29 @@ use serde_json::{Value, json, put};
 use std::alloc::{AllocError, Global};
 use tick_kinds::Program;
 use ticket_core::Tickets;
-use ticklab_trace::{StatementPlace, StatementStep, Written, ticket_of};
+use ticklab_trace::{
+    Part, Parts, StatementPlace, StatementStep, Written, is_private, part_at, ticket_of,
+};
 
 /// An object in a line for each step: its number, the process, where its statement stands and how it reads, and what it
-/// did. The line that breaks is told in the object of the step after which it does, or in one before all.
+/// did; and of a run that has parts, to which of them it belongs. Where that is told, also whether it is private. The line that breaks is told in the object of the step
+/// after which it does, or in one before all.
 /// `spots` are those of the program's text, as `places` tells them.
 #[tactic(auto, using(crate::proofs::Exact::statement_exact))]
 pub fn source_objects(
     alloc: Global,
     program: &Program,
     spots: &[StatementPlace<'_>],
+    parts: Option<Parts>,
+    tells: bool,
     broken: Option<Breaking<'_>>,
     steps: &[StatementStep],
 ) -> Result<String, NoMemory>
-    ensures { IfOk result (λ text. string_bytes text ≡ statement_objects program.now (map told_standing spots.now) (option_map broken_line broken.entry) steps.now) }
+    ensures { IfOk result (λ text. string_bytes text ≡ statement_objects program.now (map told_standing spots.now) parts tells (option_map broken_line broken.entry) steps.now) }
 {
     let mut text = start_lines(alloc, broken)?;
     for (number, step) in steps.iter().enumerate() {
-        let value = statement(alloc, program, spots, broken, number, *step)?;
+        let value = statement(alloc, program, spots, parts, tells, broken, number, *step)?;
         push_line(&mut text, alloc, &value)?;
     }
     Ok(text)
@@ -44,11 +49,11 @@ pub fn statement_values(
     spots: &[StatementPlace<'_>],
     steps: &[StatementStep],
 ) -> Result<Vec<Value>, NoMemory>
-    ensures { IfOk result (λ values. map view values.items ≡ statement_list program.now (map told_standing spots.now) None 0 steps.now) }
+    ensures { IfOk result (λ values. map view values.items ≡ statement_list program.now (map told_standing spots.now) None false None 0 steps.now) }
 {
     let mut values = Vec::with_capacity(alloc, steps.len())?;
     for (number, step) in steps.iter().enumerate() {
-        let value = statement(alloc, program, spots, None, number, *step)?;
+        let value = statement(alloc, program, spots, None, false, None, number, *step)?;
         values.push(value)?;
     }
     Ok(values)
@@ -78,12 +83,14 @@ fn statement(
     alloc: Global,
     program: &Program,
     spots: &[StatementPlace<'_>],
+    parts: Option<Parts>,
+    tells: bool,
     broken: Option<Breaking<'_>>,
     number: usize,
     step: StatementStep,
 ) -> Result<Value, AllocError>
     requires { number < 18446744073709551615 }
-    ensures { IfOk result (λ v. view v ≡ statement_data program.now (map told_standing spots.now) (option_map broken_line broken.entry) number step) }
+    ensures { IfOk result (λ v. view v ≡ statement_data program.now (map told_standing spots.now) parts tells (option_map broken_line broken.entry) number step) }
 {
     let mut members = heading(alloc, number, step.process)?;
     put_place(&mut members, alloc, spot_of(spots, step.number))?;
@@ -103,7 +110,45 @@ fn statement(
     )?;
     let breaks = broken_at(alloc, number + 1, broken)?;
     put_if(&mut members, alloc, "breaks", breaks)?;
+    let part = part_in(alloc, parts, number)?;
+    put_if(&mut members, alloc, "part", part)?;
+    let private = private_in(tells, is_private(step.act));
+    put_if(&mut members, alloc, "private", private)?;
     Ok(Value::Object(members))
+}
+
+/// Whether a step is private, where that is told.
+pub fn private_in(tells: bool, is_private: bool) -> Option<Value>
+    ensures { option_map view result ≡ private_data tells is_private }
+{
+    if tells {
+        Some(Value::from(is_private))
+    } else {
+        None
+    }
+}
+
+// The part to which a step belongs, where the run has parts.
+fn part_in(alloc: Global, parts: Option<Parts>, number: usize) -> Result<Option<Value>, AllocError>
+    ensures { IfOk result (λ found. option_map view found ≡ part_data parts number) }
+{
+    match parts {
+        Some(_) => {
+            let key = part_key(part_at(parts, number));
+            Ok(Some(Value::try_from_str(alloc, key)?))
+        }
+        None => Ok(None),
+    }
+}
+
+fn part_key(part: Part) -> &'static str
+    ensures { result.now ≡ part_key part }
+{
+    match part {
+        Part::Schedule => "schedule",
+        Part::LeadIn => "lead_in",
+        Part::Cycle => "cycle",
+    }
 }
 
 fn spot_of<'a>(spots: &[StatementPlace<'a>], number: Option<usize>) -> Option<StatementPlace<'a>>

@@ -12,6 +12,7 @@ use Rattle.ticklab_line.specs.Found.{for_file, for_number, for_number_or, is_set
 use Rattle.ticklab_line.specs.declared.commands.Steps.{Steps}
 use Rattle.ticklab_line.specs.declared.commands.Steps.TheVariants.{Merged, MergedFirst, Single}
 use Rattle.ticklab_line.specs.declared.commands.Drawing.{Drawing}
+use Rattle.ticklab_line.specs.declared.commands.Paging.{Paging}
 use Rattle.ticklab_line.specs.declared.commands.Request.{Request}
 use Rattle.ticklab_line.specs.declared.commands.AskedRun.{AskedRun}
 use Rattle.ticklab_line.specs.declared.commands.Request.TheVariants.{Explore, Ends, Check, Lasso, Hunt, Runs, Trace, Draw, Page, Explain, Labels}
@@ -59,7 +60,7 @@ run_app name = with_rule (with_rule (with_rule (with_rule (with_file name) (word
     (repeated_rule (codes "never"))
 
 abbrev pub trace_app : App
-trace_app = with_rule (run_app (codes "trace")) json_rule
+trace_app = with_rule (with_rule (run_app (codes "trace")) (flag_rule (codes "shared"))) json_rule
 
 abbrev pub draw_app : App
 draw_app = with_rule (with_rule (with_rule (with_rule (with_rule (run_app (codes "draw"))
@@ -70,7 +71,7 @@ draw_app = with_rule (with_rule (with_rule (with_rule (with_rule (run_app (codes
     (number_rule (codes "width") (Signed (pos 300) (pos 20000)))
 
 abbrev pub page_app : App
-page_app = with_rule (run_app (codes "page")) (text_rule (codes "title"))
+page_app = with_rule (with_rule (run_app (codes "page")) (text_rule (codes "title"))) (flag_rule (codes "shared"))
 
 abbrev pub explain_app : App
 explain_app = with_rule (with_rule (with_file (codes "explain")) (further_rule (codes "schedule"))) json_rule
@@ -161,10 +162,16 @@ side_in rows = if is_set (codes "lift") rows then Lifted else if is_set (codes "
 abbrev pub whole_run : Drawing Text
 whole_run = record { title = None; from = 1; to = 10000000; is_shared = false; width = 1000 }
 
+abbrev pub whole_page : Paging Text
+whole_page = record { title = None; is_shared = false }
+
 abbrev pub drawing_in : List Row → Option (Drawing Text)
 drawing_in rows = for_number_or 32 (codes "from") 1 rows (λ from. for_number_or 32 (codes "to") 10000000 rows (λ to.
     for_number_or 32 (codes "width") 1000 rows (λ width.
     Some (record { title = first_of (codes "title") rows; from = from; to = to; is_shared = is_set (codes "shared") rows; width = width }))))
+
+abbrev pub paging_in : List Row → Paging Text
+paging_in rows = record { title = first_of (codes "title") rows; is_shared = is_set (codes "shared") rows }
 
 abbrev pub run_by : Text → Text → List Text → Side → AskedRun Text (List Text)
 run_by file schedule never side = record { file = file; schedule = schedule; never = never; side = side }
@@ -173,8 +180,8 @@ run_by file schedule never side = record { file = file; schedule = schedule; nev
 abbrev pub run_of : Text → List Text → List Row → Option Asked
 run_of name never rows = for_file rows (λ file. option_and_then (λ schedule.
     if bytes_eq name (codes "draw") then option_map (Draw (run_by file schedule never (side_in rows))) (drawing_in rows)
-    else if bytes_eq name (codes "page") then Some (Page (run_by file schedule never (side_in rows)) (first_of (codes "title") rows))
-    else Some (Trace (run_by file schedule never (side_in rows)))) (first_of (codes "schedule") rows))
+    else if bytes_eq name (codes "page") then Some (Page (run_by file schedule never (side_in rows)) (paging_in rows))
+    else Some (Trace (run_by file schedule never (side_in rows)) (is_set (codes "shared") rows))) (first_of (codes "schedule") rows))
 
 abbrev pub run_in : Text → List Row → Option Asked
 run_in name rows = run_of name (list_of (codes "never") rows) rows
@@ -207,6 +214,9 @@ request_in = option_and_then (λ p. named p.0 p.1)
 abbrev pub plain_drawing : Drawing (Bor Text) → Drawing Text
 plain_drawing d = record { title = option_map (λ text. text.now) d.title; from = d.from; to = d.to; is_shared = d.is_shared; width = d.width }
 
+abbrev pub plain_paging : Paging (Bor Text) → Paging Text
+plain_paging p = record { title = option_map (λ text. text.now) p.title; is_shared = p.is_shared }
+
 abbrev pub plain_run : AskedRun (Bor Text) (Vec (Bor Text) Global) → AskedRun Text (List Text)
 plain_run run = run_by run.file.now run.schedule.now (map (λ text. text.now) run.never.items) run.side
 
@@ -217,9 +227,9 @@ plain_request (Check paths limit memory jobs) = Check (map (λ text. text.now) p
 plain_request (Lasso file prefix cycle) = Lasso file.now prefix.now (option_map (λ text. text.now) cycle)
 plain_request (Hunt file never seed runs from steps is_uniform jobs) = Hunt file.now (map (λ text. text.now) never.items) seed runs from steps is_uniform jobs
 plain_request (Runs file times turns) = Runs file.now times turns
-plain_request (Trace run) = Trace (plain_run run)
+plain_request (Trace run is_shared) = Trace (plain_run run) is_shared
 plain_request (Draw run drawing) = Draw (plain_run run) (plain_drawing drawing)
-plain_request (Page run title) = Page (plain_run run) (option_map (λ text. text.now) title)
+plain_request (Page run paging) = Page (plain_run run) (plain_paging paging)
 plain_request (Explain file schedule) = Explain file.now (option_map (λ text. text.now) schedule)
 plain_request (Labels processes moves) = Labels processes moves.now
 
@@ -253,23 +263,32 @@ rows = (codes "explore" ∷ codes "a" ∷ codes "--limit" ∷ codes "7" ∷ [], 
     )
     ∷ (codes "lasso" ∷ codes "a" ∷ codes "0 1" ∷ codes "@b" ∷ [], Lasso (codes "a") (codes "0 1") (Some (codes "@b")))
     ∷ (codes "lasso" ∷ codes "a" ∷ codes "@b" ∷ [], Lasso (codes "a") (codes "@b") None)
-    ∷ (codes "trace" ∷ codes "a" ∷ codes "0 1*3" ∷ [], Trace (run_by (codes "a") (codes "0 1*3") [] Program))
+    ∷ (codes "trace" ∷ codes "a" ∷ codes "0 1*3" ∷ [], Trace (run_by (codes "a") (codes "0 1*3") [] Program) false)
     ∷ (
       codes "trace" ∷ codes "--never" ∷ codes "n" ∷ codes "a" ∷ codes "0" ∷ codes "--never=1" ∷ [],
-      Trace (run_by (codes "a") (codes "0") (codes "n" ∷ codes "1" ∷ []) Program),
+      Trace (run_by (codes "a") (codes "0") (codes "n" ∷ codes "1" ∷ []) Program) false,
     )
-    ∷ (codes "trace" ∷ codes "--json" ∷ codes "a" ∷ codes "0" ∷ codes "--code" ∷ [], Trace (run_by (codes "a") (codes "0") [] Code))
-    ∷ (codes "trace" ∷ codes "-" ∷ codes "@b" ∷ codes "--code" ∷ [], Trace (run_by (codes "-") (codes "@b") [] Code))
+    ∷ (codes "trace" ∷ codes "--json" ∷ codes "a" ∷ codes "0" ∷ codes "--code" ∷ [], Trace (run_by (codes "a") (codes "0") [] Code) false)
+    ∷ (codes "trace" ∷ codes "-" ∷ codes "@b" ∷ codes "--code" ∷ [], Trace (run_by (codes "-") (codes "@b") [] Code) false)
+    ∷ (codes "trace" ∷ codes "a" ∷ codes "0" ∷ codes "--shared" ∷ [], Trace (run_by (codes "a") (codes "0") [] Program) true)
+    ∷ (codes "trace" ∷ codes "--shared" ∷ codes "--json" ∷ codes "a" ∷ codes "0" ∷ codes "--lift" ∷ [], Trace (run_by (codes "a") (codes "0") [] Lifted) true)
     ∷ (codes "draw" ∷ codes "a" ∷ [] ∷ [], Draw (run_by (codes "a") [] [] Program) whole_run)
     ∷ (codes "draw" ∷ codes "--code" ∷ codes "a" ∷ codes "0" ∷ [], Draw (run_by (codes "a") (codes "0") [] Code) whole_run)
     ∷ (codes "draw" ∷ codes "a" ∷ codes "0" ∷ codes "--never=n" ∷ [], Draw (run_by (codes "a") (codes "0") (codes "n" ∷ []) Program) whole_run)
     ∷ (codes "draw" ∷ codes "a" ∷ codes "-" ∷ codes "--lift" ∷ [], Draw (run_by (codes "a") (codes "-") [] Lifted) whole_run)
-    ∷ (codes "draw" ∷ codes "a" ∷ codes "0" ∷ codes "--title" ∷ codes "b/c" ∷ codes "--shared" ∷ [], Draw (run_by (codes "a") (codes "0") [] Program) (record whole_run { title = Some (codes "b/c"); is_shared = true }))
-    ∷ (codes "draw" ∷ codes "--from=2" ∷ codes "a" ∷ codes "--to" ∷ codes "9" ∷ codes "0" ∷ codes "--width=300" ∷ [], Draw (run_by (codes "a") (codes "0") [] Program) (record whole_run { from = 2; to = 9; width = 300 }))
-    ∷ (codes "page" ∷ codes "a" ∷ codes "0" ∷ [], Page (run_by (codes "a") (codes "0") [] Program) None)
-    ∷ (codes "page" ∷ codes "--title=b" ∷ codes "a" ∷ codes "@c" ∷ codes "--lift" ∷ [], Page (run_by (codes "a") (codes "@c") [] Lifted) (Some (codes "b")))
-    ∷ (codes "page" ∷ codes "a" ∷ codes "--never" ∷ codes "n" ∷ codes "-" ∷ [], Page (run_by (codes "a") (codes "-") (codes "n" ∷ []) Program) None)
-    ∷ (codes "trace" ∷ codes "a" ∷ codes "--lift" ∷ codes "0" ∷ codes "--code" ∷ [], Trace (run_by (codes "a") (codes "0") [] Lifted))
+    ∷ (
+      codes "draw" ∷ codes "a" ∷ codes "0" ∷ codes "--title" ∷ codes "b/c" ∷ codes "--shared" ∷ [],
+      Draw (run_by (codes "a") (codes "0") [] Program) (record whole_run { title = Some (codes "b/c"); is_shared = true }),
+    )
+    ∷ (
+      codes "draw" ∷ codes "--from=2" ∷ codes "a" ∷ codes "--to" ∷ codes "9" ∷ codes "0" ∷ codes "--width=300" ∷ [],
+      Draw (run_by (codes "a") (codes "0") [] Program) (record whole_run { from = 2; to = 9; width = 300 }),
+    )
+    ∷ (codes "page" ∷ codes "a" ∷ codes "0" ∷ [], Page (run_by (codes "a") (codes "0") [] Program) whole_page)
+    ∷ (codes "page" ∷ codes "--title=b" ∷ codes "a" ∷ codes "@c" ∷ codes "--lift" ∷ [], Page (run_by (codes "a") (codes "@c") [] Lifted) (record whole_page { title = Some (codes "b") }))
+    ∷ (codes "page" ∷ codes "--shared" ∷ codes "a" ∷ codes "0" ∷ [], Page (run_by (codes "a") (codes "0") [] Program) (record whole_page { is_shared = true }))
+    ∷ (codes "page" ∷ codes "a" ∷ codes "--never" ∷ codes "n" ∷ codes "-" ∷ [], Page (run_by (codes "a") (codes "-") (codes "n" ∷ []) Program) whole_page)
+    ∷ (codes "trace" ∷ codes "a" ∷ codes "--lift" ∷ codes "0" ∷ codes "--code" ∷ [], Trace (run_by (codes "a") (codes "0") [] Lifted) false)
     ∷ (codes "explain" ∷ codes "a" ∷ [], Explain (codes "a") None)
     ∷ (codes "explain" ∷ codes "a" ∷ codes "0" ∷ [], Explain (codes "a") (Some (codes "0")))
     ∷ (codes "explain" ∷ codes "--json" ∷ codes "a" ∷ [], Explain (codes "a") None)
@@ -278,7 +297,10 @@ rows = (codes "explore" ∷ codes "a" ∷ codes "--limit" ∷ codes "7" ∷ [], 
     ∷ (codes "explore" ∷ codes "a" ∷ codes "--limit=4294967295" ∷ [], Explore (codes "a") [] 4294967295 1000 MergedFirst)
     ∷ (codes "check" ∷ codes "a" ∷ codes "--jobs=1" ∷ [], Check (codes "a" ∷ []) 4294967295 1000 1)
     ∷ (codes "check" ∷ codes "a" ∷ codes "--jobs=64" ∷ [], Check (codes "a" ∷ []) 4294967295 1000 64)
-    ∷ (codes "draw" ∷ codes "a" ∷ codes "0" ∷ codes "--from=10000000" ∷ codes "--to=1" ∷ codes "--width=20000" ∷ [], Draw (run_by (codes "a") (codes "0") [] Program) (record whole_run { from = 10000000; to = 1; width = 20000 }))
+    ∷ (
+      codes "draw" ∷ codes "a" ∷ codes "0" ∷ codes "--from=10000000" ∷ codes "--to=1" ∷ codes "--width=20000" ∷ [],
+      Draw (run_by (codes "a") (codes "0") [] Program) (record whole_run { from = 10000000; to = 1; width = 20000 }),
+    )
     ∷ (codes "draw" ∷ codes "a" ∷ codes "0" ∷ codes "--from=1" ∷ codes "--to=10000000" ∷ [], Draw (run_by (codes "a") (codes "0") [] Program) whole_run)
     ∷ (codes "labels" ∷ codes "1" ∷ codes "0" ∷ [], Labels 1 (codes "0"))
     ∷ (codes "labels" ∷ codes "6" ∷ codes "5" ∷ [], Labels 6 (codes "5"))

@@ -64,6 +64,15 @@ pub struct Drawing<T> {
     pub width: u32,
 }
 
+/// How a page shows a run.
+#[derive(Debug, Drop)]
+pub struct Paging<T> {
+    /// Its title, where that is not the file's name.
+    pub title: Option<T>,
+    /// Steps that no other process can see are folded.
+    pub is_shared: bool,
+}
+
 /// A run of a program, or of its code, and what must never hold.
 #[derive(Debug, Drop)]
 pub struct AskedRun<T, L> {
@@ -129,12 +138,15 @@ pub enum Request<T, L> {
         times: u32,
         turns: u64,
     },
-    /// A run step by step, and where what must never hold does.
-    Trace(AskedRun<T, L>),
+    /// A run step by step, and where what must never hold does. Steps that no other process can see may be folded.
+    Trace {
+        run: AskedRun<T, L>,
+        is_shared: bool,
+    },
     /// A run as a picture, and where what must never hold does.
     Draw(AskedRun<T, L>, Drawing<T>),
-    /// A run as a page of HTML, with this title where that is not the file's name.
-    Page(AskedRun<T, L>, Option<T>),
+    /// A run as a page of HTML, and where what must never hold does.
+    Page(AskedRun<T, L>, Paging<T>),
     /// What is wrong with a program or a code, or with a schedule of it.
     Explain {
         file: T,

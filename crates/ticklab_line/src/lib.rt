@@ -18,5 +18,5 @@ mod values;
 mod words;
 
 pub use asking::{Line, Output, asked};
-pub use commands::{AskedRun, Drawing, Request, Side, Steps};
+pub use commands::{AskedRun, Drawing, Paging, Request, Side, Steps};
 pub use laws::{law_commands, law_hunts, law_no_commands};

@@ -1,11 +1,13 @@
 -- What the script replays: for each step its process, the line where it stands, and what it changed. `s` is the status of
--- the process, `r` a row with a number, `v` a variable; the process's own value follows. `t` are the tickets or labels of
+-- the process, `r` a row with a number, `v` a variable; the process's own value follows. `c` is a scan of what all processes
+-- hold, `d` one that is now a copy of the scan that follows. `t` are the tickets or labels of
 -- all processes, whose ranks the trace tells.
 use Rattle.std.specs.Prelude.{ℕ, ◌==◌, if◌then◌else◌, List, [], ◌∷◌, ◌++◌, codes, length, slice_index, Option, Some, None}
 use Rattle.std.specs.List.{flat_map}
 use Rattle.base.specs.declared.event.Act.{Act}
 use Rattle.base.specs.declared.event.Act.TheVariants as A
 use Rattle.word_core.specs.Stamps.{Labels, label_at}
+use Rattle.ticklab_trace.specs.declared.steps.Scanned.{Scanned}
 use Rattle.ticklab_trace.specs.declared.steps.Written.{Written}
 use Rattle.ticklab_page.specs.Writing.{around, for_each, markup}
 use Rattle.ticklab_page.specs.declared.steps.PageStep.{PageStep}
@@ -19,6 +21,14 @@ act_change _ = []
 abbrev pub variable_change : Option Written → List ℕ
 variable_change None = []
 variable_change (Some w) = around (codes " v") w.variable [] ++ around (codes " ") w.value []
+
+abbrev pub copy_change : ℕ → Option ℕ → List ℕ
+copy_change scan None = around (codes " c") scan []
+copy_change scan (Some of) = around (codes " d") scan [] ++ around (codes " ") of []
+
+abbrev pub scan_change : Option Scanned → List ℕ
+scan_change None = []
+scan_change (Some s) = copy_change s.scan s.of
 
 abbrev pub tickets_text : List ℕ → List ℕ
 tickets_text tickets = for_each (λ i. around (codes " ") (slice_index tickets i) []) (length tickets)
@@ -43,7 +53,7 @@ label_change (Some labels) = markup (codes " t") ++ labels_text labels
 abbrev pub change_line : PageStep → List ℕ
 change_line step =
     around [] step.process [] ++ around (codes " ") step.line [] ++ act_change step.act ++ variable_change step.written
-    ++ ticket_change step.tickets ++ label_change step.labels ++ markup (codes ";\n")
+    ++ scan_change step.scanned ++ ticket_change step.tickets ++ label_change step.labels ++ markup (codes ";\n")
 
 abbrev pub change_lines : List PageStep → List ℕ
 change_lines [] = []

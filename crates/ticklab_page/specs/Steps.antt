@@ -4,6 +4,8 @@ use Rattle.base.specs.declared.event.Act.{Act}
 use Rattle.base.specs.declared.event.Act.TheVariants as A
 use Rattle.code_core.specs.declared.instr.Instr.{Instr}
 use Rattle.ticklab_trace.specs.Places.{Standing}
+use Rattle.code_core.specs.declared.instr.Instr.TheVariants as I
+use Rattle.ticklab_trace.specs.declared.steps.Scanned.{Scanned}
 use Rattle.ticklab_trace.specs.declared.steps.StatementStep.{StatementStep}
 use Rattle.ticklab_trace.specs.declared.steps.InstructionStep.{InstructionStep}
 use Rattle.ticklab_page.specs.declared.steps.PageStep.{PageStep}
@@ -23,6 +25,7 @@ of_statement spots step = record {
   line = statement_line spots step.number;
   act = step.act;
   written = step.written;
+  scanned = step.scanned;
   tickets = step.tickets;
   labels = None;
 }
@@ -32,6 +35,12 @@ abbrev pub instruction_line : ℕ → Option Instr → ℕ
 instruction_line place None = 0
 instruction_line place (Some i) = place + 1
 
+-- the scan that an instruction takes or copies
+abbrev pub scanned_by : Instr → Option Scanned
+scanned_by (I.Scan s) = Some (record { scan = s; of = None })
+scanned_by (I.Copy s t) = Some (record { scan = t; of = Some s })
+scanned_by _ = None
+
 -- The step of a code. It doesn't say what it wrote of the process's own variables.
 abbrev pub of_instruction : InstructionStep → PageStep
 of_instruction step = record {
@@ -39,6 +48,7 @@ of_instruction step = record {
   line = instruction_line step.place step.instruction;
   act = step.act;
   written = None;
+  scanned = option_and_then scanned_by step.instruction;
   tickets = None;
   labels = step.labels;
 }

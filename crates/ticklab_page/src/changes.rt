@@ -3,7 +3,7 @@ ghost use Rattle.std.specs.Prelude.{◌≡◌, ◌++◌, [], IfOk, OnOk, map};
 ghost use Rattle.std.specs.List.{flat_map};
 ghost use Rattle.ticklab_trace.specs.Places.{told_standing};
 ghost use Rattle.ticklab_page.specs.Steps.{of_instruction, of_statement};
-ghost use Rattle.ticklab_page.specs.Changes.{act_change, change_line, change_lines, label_change, label_text, labels_text, ticket_change, tickets_text, variable_change};
+ghost use Rattle.ticklab_page.specs.Changes.{act_change, change_line, change_lines, copy_change, label_change, label_text, labels_text, scan_change, ticket_change, tickets_text, variable_change};
 ghost use Rattle.ticklab_page.specs.Writing.{around};
 
 use crate::steps::{PageStep, of_instruction, of_statement};
@@ -12,7 +12,7 @@ use base::Act;
 use label_core::Label;
 use std::alloc::{AllocError, Global};
 use ticket_core::Tickets;
-use ticklab_trace::{InstructionStep, StatementPlace, StatementStep, Written};
+use ticklab_trace::{InstructionStep, Scanned, StatementPlace, StatementStep, Written};
 use word_core::LabelWord;
 
 /// A line for each step of a program, whose statements stand there.
@@ -48,6 +48,7 @@ fn push_change(page: &mut Vec<u8>, step: PageStep) -> Added
     push_around(page, " ", step.line as u64, "")?;
     push_act_change(page, step.act)?;
     push_variable_change(page, step.written)?;
+    push_scan_change(page, step.scanned)?;
     push_ticket_change(page, step.tickets)?;
     push_label_change(page, step.labels)?;
     push(page, ";\n")
@@ -75,6 +76,27 @@ fn push_variable_change(page: &mut Vec<u8>, written: Option<Written>) -> Added
         Some(written) => {
             push_around(page, " v", u64::from(written.variable), "")?;
             push_around(page, " ", u64::from(written.value), "")
+        }
+    }
+}
+
+fn push_scan_change(page: &mut Vec<u8>, scanned: Option<Scanned>) -> Added
+    ensures { OnOk result (page.new.items ≡ page.old.items ++ scan_change scanned) }
+{
+    match scanned {
+        None => Ok(()),
+        Some(scanned) => push_copy(page, scanned.scan, scanned.of),
+    }
+}
+
+fn push_copy(page: &mut Vec<u8>, scan: u8, of: Option<u8>) -> Added
+    ensures { OnOk result (page.new.items ≡ page.old.items ++ copy_change scan of) }
+{
+    match of {
+        None => push_around(page, " c", u64::from(scan), ""),
+        Some(of) => {
+            push_around(page, " d", u64::from(scan), "")?;
+            push_around(page, " ", u64::from(of), "")
         }
     }
 }

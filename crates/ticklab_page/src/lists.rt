@@ -1,13 +1,18 @@
 // The lines of the program or the code, and those of the steps.
-ghost use Rattle.std.specs.Prelude.{◌≡◌, ◌++◌, IfOk, OnOk, map, string_bytes};
+ghost use Rattle.std.specs.Prelude.{◌≡◌, ◌<◌, ◌++◌, IfOk, OnOk, map, string_bytes};
 ghost use Rattle.std.specs.Str.Lines.{lines};
 ghost use Rattle.code_text.specs.CodeText.{instr_text};
-ghost use Rattle.ticklab_page.specs.Lists.{line_items, listing_head, listing_text, step_head, step_item, step_items, steps_text, steps_top};
+ghost use Rattle.ticklab_trace.specs.FoldedText.{row_text};
+ghost use Rattle.ticklab_page.specs.Lists.{folded_item, heading, line_items, listing_head, listing_text, part_head, row_foot, row_head, row_summary, step_head, step_item, step_items, steps_text, steps_top};
 
 use crate::writing::{Added, push, push_shown, push_twice};
 use code_core::{Code, Instr};
 use code_text::push_instruction;
 use std::alloc::{AllocError, Global};
+use ticklab_trace::{Fold, Part, Parts, Row, begun_at, ends_row, fold_at, push_row, rows_past};
+
+// An item of the list of steps that is a heading.
+const HEADING: &str = "<li><h3 style=\"font-size:1rem;margin:.6rem .6rem .2rem\">";
 
 /// Adds the lines of the program or the code.
 #[tactic(auto, unfolding(crate::specs::Lists::listing_text))]
@@ -78,14 +83,21 @@ fn push_line_items(page: &mut Vec<u8>, lines: &[&str]) -> Added
     Ok(())
 }
 
-/// Adds the steps, after the start, as a trace has them.
+/// Adds the steps, after the start, as a trace has them, with a heading before each part that begins. These rows of private
+/// steps are folded.
 #[tactic(auto, unfolding(crate::specs::Lists::steps_text))]
-pub fn push_steps(alloc: Global, page: &mut Vec<u8>, trace: &str) -> Added
-    ensures { OnOk result (page.new.items ≡ page.old.items ++ steps_text trace.now) }
+pub fn push_steps(
+    alloc: Global,
+    page: &mut Vec<u8>,
+    parts: Option<Parts>,
+    rows: &[Row],
+    trace: &str,
+) -> Added
+    ensures { OnOk result (page.new.items ≡ page.old.items ++ steps_text parts rows.now trace.now) }
 {
     push(page, steps_top())?;
     let lines = lines_of(alloc, trace)?;
-    push_step_items(page, lines.as_slice())?;
+    push_step_items(alloc, page, parts, rows, lines.as_slice())?;
     push(page, "</ol></div>\n</section>\n</div>\n")
 }
 
@@ -100,13 +112,97 @@ fn steps_top() -> &'static str
 "
 }
 
-fn push_step_items(page: &mut Vec<u8>, lines: &[&str]) -> Added
-    ensures { OnOk result (page.new.items ≡ page.old.items ++ step_items 1 (map (λ x. x.now) lines.now)) }
+fn push_step_items(
+    alloc: Global,
+    page: &mut Vec<u8>,
+    parts: Option<Parts>,
+    rows: &[Row],
+    lines: &[&str],
+) -> Added
+    ensures { OnOk result (page.new.items ≡ page.old.items ++ step_items parts rows.now 0 (map (λ x. x.now) lines.now)) }
 {
+    let mut left = rows;
     for (at, line) in lines.iter().enumerate() {
-        push_step_item(page, at as u64 + 1, line)?;
+        push_part_head(page, begun_at(parts, at))?;
+        push_folded_item(alloc, page, left, at, line)?;
+        left = rows_past(left, at);
     }
     Ok(())
+}
+
+// A step, and what of a row of private ones begins before it and ends with it.
+#[tactic(auto, unfolding(crate::specs::Lists::folded_item))]
+fn push_folded_item(
+    alloc: Global,
+    page: &mut Vec<u8>,
+    rows: &[Row],
+    before: usize,
+    line: &str,
+) -> Added
+    requires { before < 18446744073709551615 }
+    ensures { OnOk result (page.new.items ≡ page.old.items ++ folded_item rows.now before line.now) }
+{
+    push_row_head(alloc, page, before, fold_at(rows, before))?;
+    push_step_item(page, before as u64 + 1, line)?;
+    push_row_foot(page, ends_row(rows, before))
+}
+
+// A row is open or closed, and the number of its steps stands at its head.
+fn push_row_head(alloc: Global, page: &mut Vec<u8>, before: usize, fold: Fold) -> Added
+    requires { before < 18446744073709551615 }
+    ensures { OnOk result (page.new.items ≡ page.old.items ++ row_head before fold) }
+{
+    match fold {
+        Fold::Apart | Fold::Within => Ok(()),
+        Fold::Begins(row) => push_row_summary(alloc, page, before, row),
+    }
+}
+
+fn push_row_summary(alloc: Global, page: &mut Vec<u8>, before: usize, row: Row) -> Added
+    requires { before < 18446744073709551615 }
+    ensures { OnOk result (page.new.items ≡ page.old.items ++ row_summary before row) }
+{
+    let text = row_text(alloc, before, row)?;
+    push(page, "<li><details><summary>")?;
+    push(page, &text)?;
+    push(page, "</summary><ol>\n")
+}
+
+fn row_text(alloc: Global, before: usize, row: Row) -> Result<String, AllocError>
+    requires { before < 18446744073709551615 }
+    ensures { IfOk result (λ text. string_bytes text ≡ row_text before row) }
+{
+    let mut text = String::new(alloc);
+    push_row(&mut text, before, row)?;
+    Ok(text)
+}
+
+fn push_row_foot(page: &mut Vec<u8>, ends: bool) -> Added
+    ensures { OnOk result (page.new.items ≡ page.old.items ++ row_foot ends) }
+{
+    if ends {
+        return push(page, "</ol></details></li>\n");
+    }
+    Ok(())
+}
+
+// The heading of a part that begins.
+fn push_part_head(page: &mut Vec<u8>, part: Option<Part>) -> Added
+    ensures { OnOk result (page.new.items ≡ page.old.items ++ part_head part) }
+{
+    match part {
+        None => Ok(()),
+        Some(part) => push_heading(page, part.name()),
+    }
+}
+
+#[tactic(auto, unfolding(crate::specs::Lists::heading))]
+fn push_heading(page: &mut Vec<u8>, name: &str) -> Added
+    ensures { OnOk result (page.new.items ≡ page.old.items ++ heading name.now) }
+{
+    push(page, HEADING)?;
+    push(page, name)?;
+    push(page, "</h3></li>\n")
 }
 
 #[tactic(auto, unfolding(crate::specs::Lists::step_item))]

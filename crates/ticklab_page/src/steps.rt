@@ -1,13 +1,13 @@
 //! What a page has of each step.
 
-ghost use Rattle.std.specs.Prelude.{◌≡◌, map};
+ghost use Rattle.std.specs.Prelude.{◌≡◌, map, option_and_then};
 ghost use Rattle.ticklab_trace.specs.Places.{told_standing};
-ghost use Rattle.ticklab_page.specs.Steps.{first_trap, instruction_line, is_trap, of_instruction, of_statement, opened_at, statement_line};
+ghost use Rattle.ticklab_page.specs.Steps.{first_trap, instruction_line, is_trap, of_instruction, of_statement, opened_at, scanned_by, statement_line};
 
 use base::Act;
 use code_core::Instr;
 use ticket_core::Tickets;
-use ticklab_trace::{InstructionStep, StatementPlace, StatementStep, Written};
+use ticklab_trace::{InstructionStep, Scanned, StatementPlace, StatementStep, Written};
 use word_core::LabelWord;
 
 /// A step of a program or of a code.
@@ -20,6 +20,8 @@ pub struct PageStep {
     pub act: Option<Act>,
     /// What it wrote of the process's own variables; of a code that isn't known.
     pub written: Option<Written>,
+    /// Which of the process's own scans it took or copied.
+    pub scanned: Option<Scanned>,
     /// What all processes of a program hold after a stamp or a clear.
     pub tickets: Option<Tickets>,
     /// The same of a code.
@@ -35,6 +37,7 @@ pub fn of_statement(spots: &[StatementPlace<'_>], step: StatementStep) -> PageSt
         line: statement_line(spots, step.number),
         act: step.act,
         written: step.written,
+        scanned: step.scanned,
         tickets: step.tickets,
         labels: None,
     }
@@ -67,8 +70,20 @@ pub fn of_instruction(step: InstructionStep) -> PageStep
         line: instruction_line(step.place, step.instruction),
         act: step.act,
         written: None,
+        scanned: scanned_by(step.instruction),
         tickets: None,
         labels: step.labels,
+    }
+}
+
+// The scan that an instruction takes or copies.
+fn scanned_by(instruction: Option<Instr>) -> Option<Scanned>
+    ensures { result ≡ option_and_then scanned_by instruction }
+{
+    match instruction {
+        Some(Instr::Scan(scan)) => Some(Scanned { scan, of: None }),
+        Some(Instr::Copy(of, scan)) => Some(Scanned { scan, of: Some(of) }),
+        _ => None,
     }
 }
 

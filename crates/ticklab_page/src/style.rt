@@ -1,13 +1,21 @@
 // The head of every page, and its style sheet.
 
-/// What stands before the style sheet. Nothing is loaded from elsewhere, and no script runs but the one of this text, whose
-/// SHA-256 this is.
+/// What stands before the style sheet. Nothing is loaded from elsewhere, and no script runs but the one of the text whose
+/// SHA-256 follows.
 pub const OPENING: &str = "<!DOCTYPE html>
 <html lang=\"en\">
 <head>
 <meta charset=\"utf-8\">
 <meta name=\"viewport\" content=\"width=device-width,initial-scale=1\">
-<meta http-equiv=\"Content-Security-Policy\" content=\"default-src 'none';style-src 'unsafe-inline';script-src 'sha256-ZgFg1YiOrExyzRkM8AKWQqXTw4qTfoy6MSZtwhHNqEU='\">
+<meta http-equiv=\"Content-Security-Policy\" content=\"default-src 'none';style-src 'unsafe-inline';script-src 'sha256-";
+
+/// That of a page of a run that goes round for ever, and that of any other page.
+pub const ROUNDS_SUM: &str = "VPCoAJiO+WVB1aqRhs2td8UgeV+P/QvO3Q2AqlrbnF0=";
+
+pub const SCRIPT_SUM: &str = "djnvXilxUcbmNHO4n37MsXd7td3iEErr1hnUKVHBHS8=";
+
+/// What stands between, and the end of it.
+pub const OPENING_END: &str = "'\">
 ";
 
 /// The style sheet, for dark and light, for narrow pages and for paper.
@@ -35,19 +43,24 @@ code,.listing,.told,.state td,.state th{font-family:ui-monospace,'DejaVu Sans Mo
 .listing li::after{content:attr(data-at);margin-left:2ch;padding:0 .5ch;font-weight:bold;border-radius:.2rem;background:var(--shade)}
 .listing li:not([data-at])::after{content:none}
 .told a{display:block;padding:0 .6rem;color:inherit;text-decoration:none}
+.told details{white-space:normal}
+.told summary{white-space:pre;color:var(--faint)}
+.told ol{list-style:none;margin:0;padding:0 0 0 2ch}
 .told a:hover{text-decoration:underline}
 .here{background:var(--now);font-weight:bold}
 .state{border-collapse:collapse}
 .state caption{text-align:left;padding:.2rem .6rem;white-space:nowrap}
 .state td,.state th{border:1px solid var(--rule);padding:.1rem .6rem;text-align:right}
 .state th{text-align:left;background:var(--shade)}
+.state .kind th{background:none;padding-top:.5rem}
 .state .new{background:var(--now);font-weight:bold}
 .move{display:flex;flex-wrap:wrap;gap:.4rem;align-items:center;position:sticky;top:0;background:var(--paper);padding:.4rem 0;z-index:1;border-bottom:1px solid var(--rule)}
 .move button{font:inherit;min-width:2.75rem;min-height:2.75rem;padding:0 .7rem;color:inherit;background:var(--shade);border:1px solid var(--faint);border-radius:.3rem}
+.move button[aria-pressed=true]{background:var(--now)}
 .move button:disabled{opacity:.45}
 .said{flex:1 1 16rem;margin:0;overflow-wrap:anywhere;font-weight:bold}
 .drawn{max-height:none}
-.drawn svg{display:block}
+.drawn svg{display:block;max-width:max(100%,75rem);height:auto}
 .drawn g[id]{cursor:pointer}
 .drawn .here{outline:2px solid #d08a00;outline-offset:3px}
 :focus-visible{outline:3px solid var(--link);outline-offset:1px}

@@ -1,4 +1,8 @@
 -- A run of which each state is asked until a line first is broken, and the lines of a state one by one until one is.
+-- The idea. So far either no line was broken, or the first break is known (`FoundBefore`); one state more keeps that (`watched`),
+-- and after the last state it is what the contract says (`all_watched`). The rest says what is known of a break that was found:
+-- its line has a place, and it comes after no more steps than there are.
+-- Read `FoundBefore` first, then `watched`.
 use Rattle.std.proofs.Common.{◌≡◌, ◌∙◌, ◌<◌, ◌≤◌, ◌+◌, ℕ, Bool, false, List, length, get_or, map, option_map, take, ap, sym, subst, arith, inl, inr, Option, None, Some, MatchOption, true≢false}
 use Rattle.std.specs.Prelude.{◌||◌, IfNone, IfSome, is_some, slice_get, unwrap_or}
 use Rattle.std.specs.List.{list_any}

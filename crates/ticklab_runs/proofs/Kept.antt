@@ -9,9 +9,9 @@ use Rattle.ticklab_runs.specs.prover.Kept.{IsKept, kept_with, marked_with}
 
 module _ {X : Type 0} (add : ℕ → X → List Mark → List Mark) where
   pub kept_none : {T : Type 0} (telling : Telling T) (kept : List X) (marks : List Mark) → kept ≡ [] → marks ≡ [] → IsKept add telling [] kept marks
-  kept_none (Trace form) kept marks none unmarked = none
+  kept_none (Trace tracing) kept marks none unmarked = none
   kept_none (Picture drawing) kept marks none unmarked = unmarked
-  kept_none (Page title) kept marks none unmarked = (none, unmarked)
+  kept_none (Page paging) kept marks none unmarked = (none, unmarked)
 
   module _ (steps kept more : List X) (marks marked : List Mark) (step : X) (i : ℕ) (count : length steps ≡ i) where
     more_kept : kept ≡ steps → more ≡ kept ++ step ∷ [] → more ≡ steps ++ step ∷ []
@@ -24,6 +24,6 @@ module _ {X : Type 0} (add : ℕ → X → List Mark → List Mark) where
 
     pub kept_more : {T : Type 0} (telling : Telling T) → IsKept add telling steps kept marks → more ≡ kept_with telling step kept
         → marked ≡ marked_with add telling (i + 1) step marks → IsKept add telling (steps ++ step ∷ []) more marked
-    kept_more (Trace form) before is is_marked = more_kept before is
+    kept_more (Trace tracing) before is is_marked = more_kept before is
     kept_more (Picture drawing) before is is_marked = more_marked before is_marked
-    kept_more (Page title) before is is_marked = (more_kept before.0 is, more_marked before.1 is_marked)
+    kept_more (Page paging) before is is_marked = (more_kept before.0 is, more_marked before.1 is_marked)

@@ -10,6 +10,8 @@ use Rattle.ticklab_files.specs.Asking.{AsksNever, TextPlace}
 use Rattle.ticklab_files.specs.Codes.{IsCodeless}
 use Rattle.ticklab_files.specs.Asking.{IsUnexplored, no_file, no_option}
 use Rattle.ticklab_files.specs.Reading.{AfterBoth, AfterTexts, AreTexts, IsRead, IsSchedule, ReadsOf, ReadsInputOf, is_input}
+use Rattle.ticklab_trace.specs.declared.parts.Parts.{Parts}
+use Rattle.ticklab_runs.specs.Parts.{parts_of}
 use Rattle.ticklab_runs.specs.Runs.{IsRun, IsTooLong, IsUnrun, Told, code_refused, file_refused, is_of_code, option_refused, schedule_on, too_long, way_refused}
 use Rattle.ticklab_files.specs.Stops.{IfRefused}
 use Rattle.ticklab_files.specs.Ways.{AreMisspelled, AreSpelled, AreSteps, Texts}
@@ -23,14 +25,17 @@ use Rattle.ticklab_files.proofs.Responding.{refused_as, stopped_by}
 pub run_by : {texts : List (List ℕ)} {input : List ℕ} (side : Side) (P : Told texts input) (asks : AsksNever texts input) (given : Texts)
     → (n : ℕ) → n ≡ asks.file.program.processes → (schedule lead_in cycle steps : List ℕ) → AreSpelled n given schedule lead_in cycle
     → steps ≡ schedule_on side asks.file.program (schedule ++ lead_in ++ cycle)
-    → (out told : List ℕ) → told ≡ out → P asks steps out → IsRun side P given told
-run_by side P asks given n count schedule lead_in cycle steps spelled same out told told_is held = record {
+    → (parts : Option Parts) → parts ≡ parts_of (length schedule) (length cycle) (length (schedule ++ lead_in ++ cycle))
+    → (out told : List ℕ) → told ≡ out → P asks parts steps out → IsRun side P given told
+run_by side P asks given n count schedule lead_in cycle steps spelled same parts parted out told told_is held = record {
   asks = asks;
   schedule = schedule;
   lead_in = lead_in;
   cycle = cycle;
   spelled = subst (λ m. AreSpelled m given schedule lead_in cycle) count spelled;
-  told = subst (P asks (schedule_on side asks.file.program (schedule ++ lead_in ++ cycle))) (sym told_is) (subst (λ s. P asks s out) same held);
+  told =
+      let whole = schedule_on side asks.file.program (schedule ++ lead_in ++ cycle) in
+      subst (λ (p : Option Parts). P asks p whole told) parted (subst (P asks parts whole) (sym told_is) (subst (λ s. P asks parts s out) same held));
 }
 
 -- all steps of a way that the texts spell

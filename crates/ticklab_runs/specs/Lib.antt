@@ -2,6 +2,7 @@ pub mod Breaking
 pub mod Lines
 pub mod Objects
 pub mod Pages
+pub mod Parts
 pub mod Pictures
 pub mod Runs
 pub mod Steps

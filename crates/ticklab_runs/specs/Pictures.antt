@@ -1,6 +1,7 @@
 -- What `draw` answers: a picture of a run of a program, or of its code.
 use Rattle.std.specs.Prelude.{ℕ, List, map, unwrap_or, Option}
 use Rattle.base.specs.Plain.{Name, WholeProgram}
+use Rattle.ticklab_trace.specs.declared.parts.Parts.{Parts}
 use Rattle.ticklab_draw.specs.Never.{Broken}
 use Rattle.ticklab_draw.specs.Pictures.{file_name, picture}
 use Rattle.ticklab_draw.specs.declared.look.Look.{Look}
@@ -18,6 +19,6 @@ title_of title name = unwrap_or title (file_name name)
 abbrev pub look_of : Drawing (List ℕ) → Look
 look_of drawing = record { from = drawing.from; is_shared = drawing.is_shared; width = drawing.width }
 
--- the picture of these marks of a run
-abbrev pub picture_of : WholeProgram Name → List ℕ → Look → List Mark → Option Broken → List ℕ
-picture_of a title look marks mark = picture title look a.processes (row_names a) marks mark
+-- the picture of these marks of a run that has these parts
+abbrev pub picture_of : WholeProgram Name → List ℕ → Look → Option Parts → List Mark → Option Broken → List ℕ
+picture_of a title look parts marks mark = picture title look a.processes (row_names a) parts marks mark

@@ -12,6 +12,7 @@ use std::alloc::Global;
 use tick_kinds::Program;
 use ticklab_draw::{Look, Mark, NeverMark, file_name, picture};
 use ticklab_line::Drawing;
+use ticklab_trace::Parts;
 
 /// The title that is asked for, else the name of the file without its folder.
 pub fn title_of<'t>(title: Option<&'t str>, name: &'t str) -> &'t [u8]
@@ -34,20 +35,21 @@ pub fn look_of(drawing: &Drawing<&str>) -> Look
     }
 }
 
-/// The picture of these marks of a run of the program or of its code.
+/// The picture of these marks of a run of the program or of its code, which has these parts.
 pub fn picture_of(
     alloc: Global,
     program: &Program,
     title: &[u8],
     look: Look,
+    parts: Option<Parts>,
     marks: &[Mark],
     never: Option<NeverMark<'_>>,
 ) -> Result<Vec<u8>, NoMemory>
-    ensures { IfOk result (λ out. out.items ≡ picture_of program.now title.now look marks.now (option_map broken_of never.entry)) }
+    ensures { IfOk result (λ out. out.items ≡ picture_of program.now title.now look parts marks.now (option_map broken_of never.entry)) }
 {
     let registers = program.tree().registers.as_slice();
     let n = program.processes();
-    picture(alloc, title, look, n, registers, marks, never)
+    picture(alloc, title, look, n, registers, parts, marks, never)
 }
 
 /// The mark of the line that is broken, one of so many.

@@ -75,7 +75,8 @@ fn follow(
 ) -> Result<(Vec<StatementStep>, Vec<Mark>, Option<Break>), NoMemory>
     requires { All (λ p. p < (resolved program.now).processes) schedule.now }
     ensures steps { IfOk result (λ run. AreStatementsKept (resolved program.now) schedule.now telling.now run.0.items run.1.items) }
-    ensures broken { IfOk result (λ run. MatchOption run.2 (NeverBreaks (resolved program.now) (lines_of lines.now) schedule.now) (IsFirstBreak (resolved program.now) (lines_of lines.now) schedule.now)) }
+    ensures broken { IfOk result (λ run. MatchOption run.2
+        (NeverBreaks (resolved program.now) (lines_of lines.now) schedule.now) (IsFirstBreak (resolved program.now) (lines_of lines.now) schedule.now)) }
 {
     let mut run = SourceRun::new(alloc, program)?;
     let kept = kept_of(telling, schedule);

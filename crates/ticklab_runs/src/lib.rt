@@ -10,11 +10,12 @@ mod drawing;
 mod following;
 mod objects;
 mod paging;
+mod parts;
 mod seen;
 mod told_run;
 mod tracing;
 
 pub use broken_line::with_line;
 pub use drawing::part_of;
-pub use told_run::{Telling, told};
+pub use told_run::{Telling, Tracing, told};
 pub use tracing::{source_text, spots_in};

@@ -12,18 +12,21 @@ use tick_kinds::Program;
 use ticklab_explain::place;
 use ticklab_files::PropertyPlace;
 use ticklab_json::{Breaking, source_objects};
-use ticklab_trace::{StatementPlace, StatementStep};
+use ticklab_trace::{Parts, StatementPlace, StatementStep};
 
-/// An object for each of these steps, each in a line. That of the step after which the line is broken tells that too.
+/// An object for each of these steps, each in a line. That of the step after which the line is broken tells that too. Perhaps each
+/// tells whether its step is private.
 pub fn broken_objects(
     alloc: Global,
     place: &PropertyPlace<'_>,
     broken: Break,
     program: &Program,
     spots: &[StatementPlace<'_>],
+    parts: Option<Parts>,
+    tells: bool,
     steps: &[StatementStep],
 ) -> Result<Vec<u8>, NoMemory>
-    ensures { IfOk result (λ out. AreBrokenObjects (record { place = place_of place.now; broken = broken }) program.now (map told_standing spots.now) steps.now out.items) }
+    ensures { IfOk result (λ out. AreBrokenObjects tells (record { place = place_of place.now; broken = broken }) program.now (map told_standing spots.now) parts steps.now out.items) }
 {
     let text = String::from_utf8_lossy(alloc, part_of(place.text, place.span))?;
     let at = place::place_of(place.text, place.span.start.min(place.text.len()));
@@ -35,6 +38,6 @@ pub fn broken_objects(
         text: &text,
         value: broken.value,
     };
-    let text = source_objects(alloc, program, spots, Some(breaking), steps)?;
+    let text = source_objects(alloc, program, spots, parts, tells, Some(breaking), steps)?;
     Ok(text.into_bytes())
 }

@@ -1,9 +1,9 @@
-//! `ticklab page`.
+//! `ticklab page`: a run as a page, if it has no more steps than a page may have.
 ghost use Rattle.std.specs.Prelude.{◌≡◌, IfErr, IfOk, OnOk, option_map, string_bytes};
 ghost use Rattle.ticketc_refusals.specs.Refusals.{SpelledIn};
 ghost use Rattle.ticklab_draw.specs.Never.{broken_of};
 ghost use Rattle.ticklab_page.specs.Pages.{code_page};
-ghost use Rattle.ticklab_runs.specs.Pages.{IsPageOf, whole_look};
+ghost use Rattle.ticklab_runs.specs.Pages.{IsPageOf, page_look};
 ghost use Rattle.ticklab_runs.specs.Pictures.{picture_of};
 ghost use Rattle.ticklab_runs.specs.Runs.{IsTooLong, IsWithin, plain_telling};
 ghost use Rattle.ticklab_runs.specs.Lines.{long_run_line};
@@ -20,7 +20,7 @@ use ticketc_refusals::SpelledProgram;
 use ticklab_draw::{Look, NeverMark};
 use ticklab_files::NoAnswer;
 use ticklab_page::{MOST_STEPS, code_page, source_page};
-use ticklab_trace::places;
+use ticklab_trace::{Parts, places};
 
 /// A page has at most so many steps; `from` says where the schedule is from.
 pub fn within_a_page(
@@ -55,50 +55,57 @@ fn long_run_line(alloc: Global, from: &str, count: usize) -> Result<String, Allo
     Ok(line)
 }
 
-/// The page of a run of the program that this text is, with this title and this mark of what must never hold. It opens
-/// there, or where a process traps.
+/// The page of a run of the program that this text is, which has these parts, with this title and this mark of what must
+/// never hold. It opens there, or where a process traps.
 pub fn program_page(
     alloc: Global,
     title: &[u8],
+    is_shared: bool,
     text: &str,
     spelled: &SpelledProgram,
+    parts: Option<Parts>,
     run: &ProgramRun<'_>,
     never: Option<NeverMark<'_>>,
 ) -> Result<Vec<u8>, NoMemory>
     requires { SpelledIn text.now spelled.now }
-    ensures { IfOk result (λ out. IsPageOf title.now text.now spelled.now.program run.now.steps.items run.now.marks.items (option_map broken_of never.entry) out.items) }
+    ensures { IfOk result (λ out. IsPageOf title.now is_shared text.now spelled.now.program parts run.now.steps.items run.now.marks.items (option_map broken_of never.entry) out.items) }
 {
     let (program, marks) = (&spelled.program, run.marks.as_slice());
-    let drawn = picture_of(alloc, program, title, whole_look(), marks, never)?;
+    let look = page_look(is_shared);
+    let drawn = picture_of(alloc, program, title, look, parts, marks, never)?;
     let spots = places(alloc, program, text, spelled.tokens.as_slice())?;
     let (spots, steps) = (spots.as_slice(), run.steps.as_slice());
     let drawn = drawn.as_slice();
-    source_page(alloc, title, text, program, spots, steps, drawn, never)
+    source_page(
+        alloc, title, is_shared, text, program, spots, parts, steps, drawn, never,
+    )
 }
 
 /// That of a run of its code.
 pub fn code_page_of(
     alloc: Global,
     title: &[u8],
+    is_shared: bool,
     program: &Program,
     code: &Code,
     run: &CodeRun,
 ) -> Result<Vec<u8>, NoMemory>
-    ensures { IfOk result (λ out. out.items ≡ code_page title.now program.now code.now run.now.steps.items (picture_of program.now title.now whole_look run.now.marks.items None)) }
+    ensures { IfOk result (λ out. out.items ≡ code_page title.now is_shared program.now code.now run.now.steps.items (picture_of program.now title.now (page_look is_shared) None run.now.marks.items None)) }
 {
     let marks = run.marks.as_slice();
-    let drawn = picture_of(alloc, program, title, whole_look(), marks, None)?;
-    let steps = run.steps.as_slice();
-    code_page(alloc, title, program, code, steps, drawn.as_slice())
+    let look = page_look(is_shared);
+    let drawn = picture_of(alloc, program, title, look, None, marks, None)?;
+    let (steps, drawn) = (run.steps.as_slice(), drawn.as_slice());
+    code_page(alloc, title, is_shared, program, code, steps, drawn)
 }
 
-// The picture of a page is that of `draw` without options.
-fn whole_look() -> Look
-    ensures { result ≡ whole_look }
+// How the picture of a page looks.
+fn page_look(is_shared: bool) -> Look
+    ensures { result ≡ page_look is_shared }
 {
     Look {
         from: 1,
-        is_shared: false,
-        width: 1000,
+        is_shared,
+        width: 1400,
     }
 }

@@ -16,6 +16,7 @@ ghost use Rattle.ticklab_files.specs.Ways.{held};
 use crate::drawing::{look_of, never_mark, picture_of, title_of};
 use crate::following::{code_run, program_run};
 use crate::paging::{code_page_of, program_page, within_a_page};
+use crate::parts::parts_of;
 use crate::tracing::{instructions_told, program_trace};
 use base::NoMemory;
 use code_core::Code;
@@ -27,17 +28,26 @@ use ticklab_files::{
     AskedProgram, DONE, Files, Form, LabFault, NoAnswer, Response, ScheduleTexts, asked_program,
     bytes_of, code_of, is_input, output, settled, texts_of, way_of,
 };
-use ticklab_line::{AskedRun, Drawing, Side};
+use ticklab_line::{AskedRun, Drawing, Paging, Side};
+use ticklab_trace::Parts;
 
 /// How a run is told.
 #[derive(Drop)]
 pub enum Telling<T> {
     /// Each step, by a line or as an object of JSON.
-    Trace(Form),
+    Trace(Tracing),
     /// A picture that shows this.
     Picture(Drawing<T>),
-    /// A page of HTML, with this title where that is not the file's name.
-    Page(Option<T>),
+    /// A page of HTML that shows this.
+    Page(Paging<T>),
+}
+
+/// How a trace tells a run.
+#[derive(Clone, Copy)]
+pub struct Tracing {
+    pub form: Form,
+    /// Private steps are folded, or told to be private.
+    pub is_shared: bool,
 }
 
 /// Whose run is told: that of the program that an input is, or of its code.
@@ -47,13 +57,15 @@ pub struct Subject<'s, 'a> {
     pub name: &'s str,
     pub text: &'s str,
     pub asked: &'s AskedProgram<'a>,
+    /// The parts of the run, where it goes round for ever. Of a code they are not told.
+    pub parts: Option<Parts>,
     pub is_code: bool,
 }
 
 /// The run of the program under a schedule, or of its code, told so. Where an answer is given that goes on for ever, the run
-/// goes on with the steps that lead on and one round of those that repeat. Of a program is told too where what must never
-/// hold does first: a line `#! never` of the file, or one of these texts that are the same. A page opens there, or where a
-/// process traps.
+/// goes on with the steps that lead on and one round of those that repeat. Of a program is told where these parts begin, and
+/// where what must never hold does first: a line `#! never` of the file, or one of these texts that are the same. A page opens
+/// there, or where a process traps.
 pub fn told<F: Files>(
     alloc: Global,
     files: &mut F,
@@ -93,7 +105,10 @@ fn run_told(
     let text = text_in(input);
     let program = &asked.spelled.program;
     let way = way_of(alloc, from, given, program.processes())?;
+    let first = way.schedule.len();
+    let round = way.cycle.len();
     let whole = way.steps()?;
+    let parts = parts_of(first, round, whole.len());
     let (steps, lowered) = schedule_on(alloc, name, side, program, whole)?;
     let steps = steps.as_slice();
     within_a_page(alloc, telling, from, steps.len())?;
@@ -101,6 +116,7 @@ fn run_told(
         name,
         text,
         asked: &asked,
+        parts,
         is_code: is_of_code(side),
     };
     let out = telling_of(alloc, &subject, lowered, steps, telling)?;
@@ -164,7 +180,9 @@ fn telling_of(
     requires program { SpelledIn subject.now.text.now subject.now.asked.now.spelled }
     requires code { IfSome lowered (λ code. code ≡ program_code subject.now.asked.now.spelled.program) }
     requires has_code { IfSome lowered (λ code. HasCode subject.now.asked.now.spelled.program) }
-    ensures ok { IfOk result (λ out. IsToldWith (plain_telling telling.now) subject.now.is_code subject.now.name.now (lines_of subject.now.asked.now.lines.properties.items) (map place_of subject.now.asked.now.lines.places.items) subject.now.text.now subject.now.asked.now.spelled.program schedule.now out.items) }
+    ensures ok { IfOk result (λ out. IsToldWith (plain_telling telling.now) subject.now.is_code subject.now.name.now
+        (lines_of subject.now.asked.now.lines.properties.items) (map place_of subject.now.asked.now.lines.places.items)
+        subject.now.text.now subject.now.asked.now.spelled.program subject.now.parts schedule.now out.items) }
     ensures refused { IfErr result (λ stop. IfRefused stop (IsCodeless subject.now.is_code subject.now.name.now subject.now.asked.now.spelled.program)) }
 {
     let schedule = steps_told(telling, schedule);
@@ -204,7 +222,9 @@ fn program_told(
     requires lines { length subject.now.asked.now.lines.properties.items ≡ length subject.now.asked.now.lines.places.items }
     requires schedule { All (λ p. p < (resolved subject.now.asked.now.spelled.program).processes) schedule.now }
     requires program { SpelledIn subject.now.text.now subject.now.asked.now.spelled }
-    ensures { IfOk result (λ out. IsProgramTold (plain_telling telling.now) subject.now.name.now (lines_of subject.now.asked.now.lines.properties.items) (map place_of subject.now.asked.now.lines.places.items) subject.now.text.now subject.now.asked.now.spelled.program schedule.now out.items) }
+    ensures { IfOk result (λ out. IsProgramTold (plain_telling telling.now) subject.now.name.now
+        (lines_of subject.now.asked.now.lines.properties.items) (map place_of subject.now.asked.now.lines.places.items)
+        subject.now.text.now subject.now.asked.now.spelled.program subject.now.parts schedule.now out.items) }
 {
     let Subject { name, text, .. } = *subject;
     let (spelled, lines) = (&subject.asked.spelled, &subject.asked.lines);
@@ -212,14 +232,18 @@ fn program_told(
     let run = program_run(alloc, program, lines, schedule, telling)?;
     let never = never_mark(lines.places.len(), run.broken);
     match telling {
-        Telling::Trace(form) => program_trace(alloc, text, spelled, &run, *form),
-        Telling::Page(title) => {
-            let title = title_of(*title, name);
-            program_page(alloc, title, text, spelled, &run, never)
+        Telling::Trace(tracing) => {
+            program_trace(alloc, text, spelled, subject.parts, &run, *tracing)
+        }
+        Telling::Page(paging) => {
+            let (title, is_shared) = (title_of(paging.title, name), paging.is_shared);
+            let parts = subject.parts;
+            program_page(alloc, title, is_shared, text, spelled, parts, &run, never)
         }
         Telling::Picture(drawing) => {
             let (title, marks) = (title_of(drawing.title, name), run.marks.as_slice());
-            picture_of(alloc, program, title, look_of(drawing), marks, never)
+            let look = look_of(drawing);
+            picture_of(alloc, program, title, look, subject.parts, marks, never)
         }
     }
 }
@@ -239,11 +263,16 @@ fn code_told(
 {
     let run = code_run(alloc, code, schedule, telling)?;
     match telling {
-        Telling::Trace(form) => instructions_told(alloc, program, run.steps.as_slice(), *form),
-        Telling::Page(title) => code_page_of(alloc, title_of(*title, name), program, code, &run),
+        Telling::Trace(tracing) => {
+            instructions_told(alloc, program, run.steps.as_slice(), *tracing)
+        }
+        Telling::Page(paging) => {
+            let title = title_of(paging.title, name);
+            code_page_of(alloc, title, paging.is_shared, program, code, &run)
+        }
         Telling::Picture(drawing) => {
             let (title, marks) = (title_of(drawing.title, name), run.marks.as_slice());
-            picture_of(alloc, program, title, look_of(drawing), marks, None)
+            picture_of(alloc, program, title, look_of(drawing), None, marks, None)
         }
     }
 }

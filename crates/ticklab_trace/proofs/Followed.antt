@@ -29,10 +29,11 @@ use Rattle.code_core.specs.declared.instr.Instr.{Instr}
 use Rattle.code_machine.specs.Machine as C
 use Rattle.ticklab_trace.specs.declared.links.Link.{Link}
 use Rattle.ticklab_trace.specs.Numbers.{remains, IsNumber}
-use Rattle.ticklab_trace.specs.StatementSteps.{running_as, running_at, remaining, first_target, target, wrote, IsStatementStep}
+use Rattle.ticklab_trace.specs.StatementSteps.{running_as, running_at, remaining, first_taken, first_target, target, wrote, IsStatementStep}
+use Rattle.ticklab_trace.specs.declared.steps.Scanned.{Scanned}
 use Rattle.ticklab_trace.specs.declared.steps.Written.{Written}
 use Rattle.ticklab_trace.specs.Shown.{shown}
-use Rattle.ticklab_trace.specs.prover.Links.{rest_next, rest_past, rest_at, IsTable, is_zero, is_past, went, HasCome, link_at, linked_target}
+use Rattle.ticklab_trace.specs.prover.Links.{rest_next, rest_past, rest_at, IsTable, is_zero, is_past, went, HasCome, link_at, linked_taken, linked_target}
 
 is_running : Status → Bool
 is_running Running = true
@@ -112,6 +113,10 @@ module _ (body : Block ℕ) (links : List Link) (table : IsTable body links) (k 
   pub first_is : (rest : Block ℕ) (o : Option Link) → slice_get links k ≡ o → rest_at body k ≡ rest → first_target rest ≡ linked_target o
   first_is rest None none at = ap first_target (sym at ∙ past_end none)
   first_is rest (Some link) is at = ap first_target (sym at ∙ (table.each k link is).here)
+
+  pub taken_is : (rest : Block ℕ) (o : Option Link) → slice_get links k ≡ o → rest_at body k ≡ rest → first_taken rest ≡ linked_taken o
+  taken_is rest None none at = ap first_taken (sym at ∙ past_end none)
+  taken_is rest (Some link) is at = ap first_taken (sym at ∙ (table.each k link is).here)
 
   pub number_is : (rest : Block ℕ) (o : Option Link) → slice_get links k ≡ o → rest_at body k ≡ rest → IsNumber body (option_map (λ link. k) o) rest
   number_is rest None none at = sym at ∙ past_end none
@@ -272,13 +277,19 @@ module _ (body : Block ℕ) (links : List Link) (table : IsTable body links) (nu
   target_as q Ended at = refl
   target_as q (Trapped t) at = refl
 
-  pub step_is : (n p : ℕ) (s s' : SourceState) (status : Status) (link : Option Link) (num : Option ℕ) (act : Option Act) (written : Option Written) (tickets : Option (List ℕ))
+  taken_as : (q : SourceProcess) (status : Status) → HasCome body number (running_as q status)
+      → first_taken (remaining (running_as q status)) ≡ linked_taken (link_at links number status)
+  taken_as q Running at = taken_is body links table number q.rest (slice_get links number) refl at
+  taken_as q Ended at = refl
+  taken_as q (Trapped t) at = refl
+
+  pub step_is : (n p : ℕ) (s s' : SourceState) (status : Status) (link : Option Link) (num : Option ℕ) (act : Option Act) (written : Option Written) (scanned : Option Scanned) (tickets : Option (List ℕ))
       → HasCome body number (running_at p s) → slice_get (statuses_of s) p ≡ Some status → s' ≡ source_step n p s
       → link ≡ link_at links number status → num ≡ option_map (λ link. number) link
       → act ≡ option_map (λ e. e.act) (slice_get s'.events (length s.events))
-      → written ≡ wrote (linked_target link) (running_at p s') → tickets ≡ shown act s'.tickets
-      → IsStatementStep body p s s' (record { process = p; number = num; act = act; written = written; tickets = tickets })
-  step_is n p s s' status link num act written tickets at its made link_is num_is act_is written_is tickets_is =
+      → written ≡ wrote (linked_target link) (running_at p s') → scanned ≡ linked_taken link → tickets ≡ shown act s'.tickets
+      → IsStatementStep body p s s' (record { process = p; number = num; act = act; written = written; scanned = scanned; tickets = tickets })
+  step_is n p s s' status link num act written scanned tickets at its made link_is num_is act_is written_is scanned_is tickets_is =
       let found = running_is s p status its in
       let q = found.0 in
       let here : HasCome body number (running_as q status) = subst (HasCome body number) found.2 at in
@@ -291,6 +302,7 @@ module _ (body : Block ℕ) (links : List Link) (table : IsTable body links) (nu
         written = written_is
             ∙ ap (λ o. wrote (linked_target o) (running_at p s')) link_is
             ∙ ap (λ x. wrote x (running_at p s')) (sym (target_as q status here) ∙ ap (λ o. first_target (remaining o)) (sym found.2));
+        scanned = scanned_is ∙ ap linked_taken link_is ∙ sym (taken_as q status here) ∙ ap (λ o. first_taken (remaining o)) (sym found.2);
         tickets = tickets_is;
       }
 

@@ -6,3 +6,5 @@ pub mod Linked
 pub mod Followed
 pub mod Running
 pub mod Offered
+pub mod Rows
+mod FoldExamples

@@ -3,5 +3,9 @@ pub mod Shown
 pub mod StatementSteps
 pub mod InstructionSteps
 pub mod Places
+pub mod Parts
 pub mod TraceText
+pub mod Folds
+pub mod RowLaws
+pub mod FoldedText
 pub mod prover

@@ -4,9 +4,10 @@ use Rattle.base.specs.declared.event.Event.{Event}
 use Rattle.base.specs.declared.status.Status.{Status}
 use Rattle.base.specs.declared.status.Status.TheVariants.{Running}
 use Rattle.base.specs.Observables.{told}
-use Rattle.base.specs.Plain.{Statement, assign, get, older, held, Block, nil, cons, WholeProgram}
+use Rattle.base.specs.Plain.{Statement, assign, get, scan, copy, older, held, Block, nil, cons, WholeProgram}
 use Rattle.tick_source.specs.Source.{SourceProcess, SourceState, source, source_step}
 use Rattle.ticklab_trace.specs.declared.steps.StatementStep.{StatementStep}
+use Rattle.ticklab_trace.specs.declared.steps.Scanned.{Scanned}
 use Rattle.ticklab_trace.specs.declared.steps.Written.{Written}
 use Rattle.ticklab_trace.specs.Numbers.{IsNumber}
 use Rattle.ticklab_trace.specs.Shown.{shown}
@@ -41,6 +42,16 @@ abbrev pub wrote : Option ℕ → Option SourceProcess → Option Written
 wrote (Some x) (Some q) = Some (record { variable = x; value = slice_index q.variables x })
 wrote _ _ = None
 
+-- the scan that a statement takes or copies
+abbrev pub taken_by : Statement ℕ → Option Scanned
+taken_by (scan s) = Some (record { scan = s; of = None })
+taken_by (copy t s) = Some (record { scan = t; of = Some s })
+taken_by _ = None
+
+abbrev pub first_taken : Block ℕ → Option Scanned
+first_taken nil = None
+first_taken (cons s rest) = taken_by s
+
 -- a run of a program with this body, in the state that it has come to
 pub record RunState : Type 0 where
   pub body : Block ℕ
@@ -54,6 +65,7 @@ pub record IsStatementStep (body : Block ℕ) (p : ℕ) (before after : SourceSt
   -- what others see of it, where they see something
   pub act : after.events ≡ told p step.act before.events
   pub written : step.written ≡ wrote (first_target (remaining (running_at p before))) (running_at p after)
+  pub scanned : step.scanned ≡ first_taken (remaining (running_at p before))
   -- the tickets that it leaves, where it is a stamp or a clear
   pub tickets : step.tickets ≡ shown step.act after.tickets
 

@@ -11,7 +11,10 @@ use Rattle.code_core.specs.declared.instr.Instr.{Instr}
 use Rattle.code_text.specs.CodeText.{instr_text}
 use Rattle.base.specs.Plain.{Name, WholeProgram}
 use Rattle.tick_play.specs.Lines.{trap_text}
+use Rattle.ticklab_trace.specs.Parts.{begun_at, part_name}
 use Rattle.ticklab_trace.specs.Places.{Standing}
+use Rattle.ticklab_trace.specs.declared.parts.Part.{Part}
+use Rattle.ticklab_trace.specs.declared.parts.Parts.{Parts}
 use Rattle.ticklab_trace.specs.declared.steps.Written.{Written}
 use Rattle.ticklab_trace.specs.declared.steps.StatementStep.{StatementStep}
 use Rattle.ticklab_trace.specs.declared.steps.InstructionStep.{InstructionStep}
@@ -126,10 +129,16 @@ step_text a spots step (Some k) act = spot_text a step act (slice_get spots k)
 abbrev pub statement_line : WholeProgram Name → List Standing → ℕ → StatementStep → List ℕ
 statement_line a spots number step = head number step.process ++ step_text a spots step step.number step.act ++ line_end
 
--- a line for each step, from this number on
-abbrev pub statement_lines : WholeProgram Name → List Standing → ℕ → List StatementStep → List ℕ
-statement_lines a spots number [] = []
-statement_lines a spots number (step ∷ steps) = statement_line a spots number step ++ statement_lines a spots (number + 1) steps
+-- the line of a part that begins
+abbrev pub part_line : Option Part → List ℕ
+part_line None = []
+part_line (Some part) = codes "-- " ++ part_name part ++ line_end
+
+-- a line for each step, from this number on, and one before each part that begins
+abbrev pub statement_lines : WholeProgram Name → List Standing → Option Parts → ℕ → List StatementStep → List ℕ
+statement_lines a spots parts number [] = []
+statement_lines a spots parts number (step ∷ steps) =
+    part_line (begun_at parts number) ++ statement_line a spots number step ++ statement_lines a spots parts (number + 1) steps
 
 -- The same of a code.
 abbrev pub made_text : WholeProgram Name → List ℕ → InstructionStep → Option Labels → Option Act → List ℕ

@@ -32,7 +32,8 @@ pub fn code_trace(
     Ok(text)
 }
 
-fn push_line(
+/// The line of step `number` from 0.
+pub fn push_line(
     text: &mut String,
     program: &Program,
     number: usize,

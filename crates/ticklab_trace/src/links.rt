@@ -3,8 +3,9 @@ ghost use Rattle.tick_kinds.specs.Resolved.{resolved_block, resolved_statement};
 ghost use Rattle.tick_source.specs.Values.{value};
 ghost use Rattle.ticklab_trace.specs.Numbers.{size, size_of};
 ghost use Rattle.ticklab_trace.specs.prover.Links.{Adds, AddsOne, Begins, IsTable, is_past, is_zero, went};
-ghost use Rattle.ticklab_trace.specs.StatementSteps.{target};
+ghost use Rattle.ticklab_trace.specs.StatementSteps.{taken_by, target};
 
+use crate::steps::Scanned;
 use base::{NoMemory, Trap};
 use std::alloc::{AllocError, Global};
 use tick_kinds::resolved::{Expression, Statement};
@@ -166,6 +167,23 @@ pub fn target(statement: &Statement) -> Option<u8>
         Statement::Get(x, _, _) => Some(*x),
         Statement::Older(x, _, _, _) => Some(*x),
         Statement::Held(x, _, _) => Some(*x),
+        _ => None,
+    }
+}
+
+/// The scan that a statement takes or copies.
+pub fn taken_by(statement: &Statement) -> Option<Scanned>
+    ensures { result ≡ taken_by (resolved_statement statement.now) }
+{
+    match statement {
+        Statement::Scan(scan) => Some(Scanned {
+            scan: *scan,
+            of: None,
+        }),
+        Statement::Copy(scan, of) => Some(Scanned {
+            scan: *scan,
+            of: Some(*of),
+        }),
         _ => None,
     }
 }

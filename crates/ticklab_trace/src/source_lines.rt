@@ -2,9 +2,10 @@
 
 ghost use Rattle.std.specs.Prelude.{◌≡◌, ◌<◌, ◌≤◌, ◌+◌, ◌++◌, IfOk, OnOk, length, map, option_map, string_bytes};
 ghost use Rattle.ticklab_trace.specs.Places.{told_standing};
-ghost use Rattle.ticklab_trace.specs.TraceText.{done_text, order_text, spot_text, statement_line, statement_lines, step_text, taken_text};
+ghost use Rattle.ticklab_trace.specs.TraceText.{done_text, order_text, part_line, spot_text, statement_line, statement_lines, step_text, taken_text};
 
 use crate::columns::{push_head, push_nowhere, push_where, push_words};
+use crate::parts::{Part, Parts, begun_at};
 use crate::ranks::{ticket_of, ticket_rank};
 use crate::spots::StatementPlace;
 use crate::steps::StatementStep;
@@ -15,25 +16,43 @@ use tick_kinds::Program;
 use ticket_core::Tickets;
 
 /// A line for each step: its number, the process, where its statement stands and how it reads, and what it
-/// did. So many steps come before these. `spots` are those of the program's text, as `places` tells them.
+/// did. Before the first step of a part stands a line that names it. So many steps come before these. `spots` are those of
+/// the program's text, as `places` tells them.
 pub fn source_trace(
     alloc: Global,
     program: &Program,
     spots: &[StatementPlace<'_>],
+    parts: Option<Parts>,
     before: usize,
     steps: &[StatementStep],
 ) -> Result<String, NoMemory>
     requires { before + length steps.now ≤ 18446744073709551615 }
-    ensures { IfOk result (λ text. string_bytes text ≡ statement_lines program.now (map told_standing spots.now) before steps.now) }
+    ensures { IfOk result (λ text. string_bytes text ≡ statement_lines program.now (map told_standing spots.now) parts before steps.now) }
 {
     let mut text = String::new(alloc);
     for (number, step) in steps.iter().enumerate() {
+        push_part(&mut text, begun_at(parts, before + number))?;
         push_line(&mut text, program, spots, before + number, *step)?;
     }
     Ok(text)
 }
 
-fn push_line(
+/// The line of a part that begins.
+pub fn push_part(text: &mut String, part: Option<Part>) -> Result<(), AllocError>
+    ensures { OnOk result (string_bytes text.new ≡ string_bytes text.old ++ part_line part) }
+{
+    match part {
+        None => Ok(()),
+        Some(part) => {
+            text.push_str("-- ")?;
+            text.push_str(part.name())?;
+            text.push_str("\n")
+        }
+    }
+}
+
+/// The line of step `number` from 0.
+pub fn push_line(
     text: &mut String,
     program: &Program,
     spots: &[StatementPlace<'_>],

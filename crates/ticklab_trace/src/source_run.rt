@@ -4,11 +4,11 @@ ghost use Rattle.tick_kinds.specs.Resolution.{resolved};
 ghost use Rattle.base.specs.Plain.{Block};
 ghost use Rattle.tick_source.specs.Source.{source, source_start, source_step};
 ghost use Rattle.ticklab_trace.specs.StatementSteps.{AreStatementSteps, IsStatementStep, events_after, running_at, wrote};
-ghost use Rattle.ticklab_trace.specs.prover.Links.{HasCome, IsTable, link_at, linked_target};
+ghost use Rattle.ticklab_trace.specs.prover.Links.{HasCome, IsTable, link_at, linked_taken, linked_target};
 
-use crate::links::{Link, following, links, target};
+use crate::links::{Link, following, links, taken_by, target};
 use crate::shown::{act_after, shown};
-use crate::steps::{StatementStep, Written};
+use crate::steps::{Scanned, StatementStep, Written};
 use base::{NoMemory, Status};
 use std::alloc::Global;
 use std::marker::Model;
@@ -129,6 +129,7 @@ fn made_step(
     machine.step(p)?;
     let act = act_after(machine.events(), told);
     let written = written(machine, p, link);
+    let scanned = scanned(link);
     let tickets = shown(act, machine.tickets());
     let number = number_of(link, number);
     Ok(StatementStep {
@@ -136,6 +137,7 @@ fn made_step(
         number,
         act,
         written,
+        scanned,
         tickets,
     })
 }
@@ -157,6 +159,13 @@ fn number_of(link: Option<Link<'_>>, number: usize) -> Option<usize>
         Some(_) => Some(number),
         None => None,
     }
+}
+
+// The scan that the statement of this link takes or copies.
+fn scanned(link: Option<Link<'_>>) -> Option<Scanned>
+    ensures { result ≡ linked_taken link.entry }
+{
+    taken_by(link?.statement)
 }
 
 // The variable that the statement of this link wrote, where the process goes on after it.

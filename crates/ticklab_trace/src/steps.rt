@@ -12,6 +12,15 @@ pub struct Written {
     pub value: u32,
 }
 
+/// A scan that a step took or copied.
+#[derive(Clone, Copy)]
+pub struct Scanned {
+    /// Its number, in the order in which scans are declared.
+    pub scan: u8,
+    /// Of which scan it is now a copy; `None` where it has what all processes hold.
+    pub of: Option<u8>,
+}
+
 /// A step of a program on whole-number tickets. A step of a process that had stopped has neither a
 /// number nor an act.
 #[derive(Clone, Copy)]
@@ -24,6 +33,8 @@ pub struct StatementStep {
     pub act: Option<Act>,
     /// What it wrote of the process's own variables.
     pub written: Option<Written>,
+    /// Which of the process's own scans it took or copied.
+    pub scanned: Option<Scanned>,
     /// The tickets of all processes after a stamp or a clear.
     pub tickets: Option<Tickets>,
 }

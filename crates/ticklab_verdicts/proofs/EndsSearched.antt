@@ -31,8 +31,9 @@ use Rattle.ticklab_line.specs.declared.commands.Steps.{Steps}
 use Rattle.ticklab_files.specs.Asking.{IsOf, TextPlace}
 use Rattle.ticklab_verdicts.specs.BySteps.{SafeBy, StuckBy, kind_of}
 use Rattle.ticklab_verdicts.specs.Ends.{IsEndsFound, IsEndsFoundBy, IsEndsFoundFirst, IsEndsRefused, IsPast, TellsEnds, TellsMore, can_end, endless, ends, ends_fault, ends_unknown, first_fault, first_quiet, first_unknown, half, more, no_fault, no_process, stuck, stuck_merged}
-use Rattle.ticklab_verdicts.specs.Found.{MeetsLimit, TellsShortest}
+use Rattle.ticklab_verdicts.specs.Found.{MeetsLimit, TellsOn}
 use Rattle.ticklab_verdicts.specs.Hearing.{Heard, HearsOf, IsHeard}
+use Rattle.ticklab_verdicts.specs.Shorter.{is_break}
 use Rattle.ticklab_verdicts.specs.Shown.{ShowsEnds, ShowsHalved, ShowsKnown, ShowsLimit}
 use Rattle.ticklab_verdicts.specs.Sought.{Sought, sought_by}
 use Rattle.ticklab_verdicts.specs.declared.search.Search.{Search}
@@ -40,7 +41,8 @@ use Rattle.ticklab_files.specs.declared.response.Response.{Response}
 use Rattle.ticklab_verdicts.specs.prover.Searches.{AreEndsKnownBy, AreEndsSearchedBy, AreHeardFor, IsKnownBy, IsShowable}
 use Rattle.ticklab_verdicts.proofs.Heard.{heard_as, heard_then}
 use Rattle.ticklab_verdicts.proofs.Placed.{held_of, placed, program_of}
-use Rattle.ticklab_verdicts.proofs.Searched.{fault_by, fault_told, limit_told, meets_limit, quiet_told, told_both}
+use Rattle.ticklab_verdicts.proofs.Searched.{fault_by, fault_told, limit_told, meets_limit, quiet_told}
+use Rattle.ticklab_verdicts.proofs.Shortened.{told_both}
 
 -- What is known of ends is enough to show it.
 module _ (q : Search) (asked : MustStop) where
@@ -126,7 +128,7 @@ module _ (q : Search) (limits : Limits) (asked : MustStop) where
   told_by : (m : Bool) (e : Verdict Fault Liveness) (x : Response) (heard : List Heard) → IsKnownBy m (program_of q) (held_of q) limits e
       → IfKnown e (AreEndsKnownBy m (program_of q) asked) → ShowsEnds m asked (sought_by q) limits e x
       → AreHeardFor m (program_of q) (held_of q) limits e heard → IsEndsFoundBy (sought_by q) limits asked m x heard
-  told_by m (Found f) x heard is known shows on = ends_fault (fault_told q limits m f x heard is shows on)
+  told_by m (Found states f) x heard is known shows on = ends_fault (fault_told q limits m states f x heard is shows on)
   told_by m (Nowhere states l) x heard is known shows on = no_fault (told_known m states l x heard is.safe known shows on)
   told_by m (Limit states) x heard is known shows on = ends_unknown (limit_told q limits m states x heard is.at_limit shows on)
 
@@ -155,10 +157,11 @@ module _ (q : Search) (limits : Limits) (asked : MustStop) where
     unknown_first states x is shows =
         heard_as hears before after (λ heard on. first_unknown (limit_told q limits true states x heard is.searched.known.at_limit shows on)) is.searched.watched
 
-    pub fault_first : (between : W) (f : Fault) (x : Response) → AreEndsSearchedBy true (program_of q) (held_of q) asked limits hears before between (Found f)
-        → IsHeard hears between after (TellsShortest (sought_by q) limits x) → IsHeard hears before after (IsEndsFoundFirst (sought_by q) limits asked x)
-    fault_first between f x is single =
-        heard_then hears before between after (λ first more on then. first_fault (told_both q limits f x first more on then)) is.searched.watched single
+    pub fault_first : (between : W) (states : ℕ) (f : Fault) (x : Response)
+        → AreEndsSearchedBy true (program_of q) (held_of q) asked limits hears before between (Found states f)
+        → IsHeard hears between after (TellsOn (sought_by q) limits (is_break f) states x) → IsHeard hears before after (IsEndsFoundFirst (sought_by q) limits asked x)
+    fault_first between states f x is single =
+        heard_then hears before between after (λ first more on then. first_fault (told_both q limits states f x first more is.searched.known on then)) is.searched.watched single
 
     pub quiet_first : (between : W) (states : ℕ) (l : Liveness) (x : Response)
         → AreEndsSearchedBy true (program_of q) (held_of q) asked limits hears before between (Nowhere states l)
@@ -186,10 +189,10 @@ module _ (q : Search) (limits : Limits) (asked : MustStop) where
         heard_as hears before after (λ heard on. told_half states l known others x heard (meets_limit q limits false others heard is.searched.known.at_limit on) shows) is.searched.watched
 
     -- single steps find no fault either
-    pub no_other : (states : ℕ) (f : Fault) → SafeBy true (program_of q) (lines_of (held_of q)) limits states
-        → AreEndsSearchedBy false (program_of q) (held_of q) asked limits hears before after (Found f) → ⊥
-    no_other states f safe is =
-        false≢true (sym (safe.never (schedule_of f).items) ∙ fault_by (program_of q) (held_of q) false limits (Found f) is.searched.known)
+    pub no_other : (states seen : ℕ) (f : Fault) → SafeBy true (program_of q) (lines_of (held_of q)) limits states
+        → AreEndsSearchedBy false (program_of q) (held_of q) asked limits hears before after (Found seen f) → ⊥
+    no_other states seen f safe is =
+        false≢true (sym (safe.never (schedule_of f).items) ∙ fault_by (program_of q) (held_of q) false limits (Found seen f) is.searched.known)
 
 -- what is found, where the places and who is asked for are these
 pub ends_moved : {W : Type 0} (hears : HearsOf W) (before after : W) (steps : Steps) (s : Sought) (places others : List TextPlace)

@@ -15,15 +15,15 @@ use Rattle.ticklab_files.specs.Responses.{Refuses}
 use Rattle.ticklab_files.specs.declared.response.Response.{Response}
 use Rattle.ticklab_verdicts.specs.prover.Searches.{AreHeardFor}
 
-module _ {W : Type 0} (begins : W → Bool → W → Type 0) (sees : W → ℕ → ℕ → ℕ → W → Type 0) where
+module _ {W : Type 0} (begins finds : W → Bool → W → Type 0) (sees : W → ℕ → ℕ → ℕ → W → Type 0) where
   seen_all : (before after : W) (told : List Told) → watching.Hears sees before told after
-      → Hears (hearing begins sees) before (map seen told) after
+      → Hears (hearing begins finds sees) before (map seen told) after
   seen_all before after [] is = is
   seen_all before after (one ∷ told) (between, first, rest) = (between, first, seen_all between after told rest)
 
   -- a search that began, by steps of this kind
   pub began : {E : Type 0} (before between after : W) (m n : Bool) → n ≡ m → (a : WholeProgram ℕ) (lines : List Property) (limits : Limits) (e : Verdict Fault E)
-      → begins before n between → IsWatched sees between after (AreToldFor a (SeesBy m a (lines_of lines)) limits e) → IsHeard (hearing begins sees) before after (AreHeardFor m a lines limits e)
+      → begins before n between → IsWatched sees between after (AreToldFor a (SeesBy m a (lines_of lines)) limits e) → IsHeard (hearing begins finds sees) before after (AreHeardFor m a lines limits e)
   began before between after m n same a lines limits e first watched = record {
     heard = begun m ∷ map seen watched.told;
     is = (between, subst (λ (k : Bool). begins before k between) same first, seen_all between after watched.told watched.heard);

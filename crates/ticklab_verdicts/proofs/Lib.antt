@@ -5,6 +5,7 @@ pub mod HuntSearched
 pub mod Looped
 pub mod Placed
 pub mod Searched
+pub mod Shortened
 pub mod ToldLoops
 pub mod Uncoded
 pub mod Within

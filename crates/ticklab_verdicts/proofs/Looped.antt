@@ -1,4 +1,8 @@
 -- What `lasso` answers, from what was found and what the answer shows of it.
+-- The idea. `lasso_told` goes by cases of what was found: each has its own form of answer. `checked_by` and `way_checked_by` say
+-- that the schedules were read for as many processes as the program of the file has, `prefix_unread`, `cycle_unread` and
+-- `way_unread` the same of one that is no schedule.
+-- Read `lasso_told` first, then `checked_by`.
 use Rattle.std.proofs.Common.{◌≡◌, ◌<◌, ◌++◌, ℕ, List, Result, Ok, IfErr, IsErrAnd, Option, Some, None, IfNone, IfSome, subst, sym}
 use Rattle.std.specs.List.{All}
 use Rattle.std.proofs.lemmas.List.Elements.{All-append}

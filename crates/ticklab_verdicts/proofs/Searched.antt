@@ -1,12 +1,9 @@
 -- What an answer of `explore` says, from what was explored and what the answer shows of it: by steps of one kind
--- (`found_as`), and by merged steps first (`safe_first`, `limit_first`, `both_first`).
+-- (`found_as`), and by merged steps, where these find no fault (`safe_first`, `limit_first`). `Shortened.antt` goes on where
+-- they do.
 -- The idea. What is known of a search, what the answer shows and what a watch hears all go by cases of what was
 -- explored: a trap, a broken line, no fault, or a limit. `told_by` puts the three together in each case.
--- The difficulty is the second search. Where merged steps have found a fault, single ones look for a shortest schedule.
--- They can't answer that there is none, since one is known (`fault_by`, `none_missed`). If they meet a limit, the answer
--- tells a schedule that needs all its steps (`told_minimal`). The watch hears first the one search and then the other
--- (`told_both`).
--- Read `told_by` first, then `none_missed` and `both_first`.
+-- Read `told_by` first, then `none_missed`.
 use Rattle.std.proofs.Common.{◌≡◌, ◌∙◌, ◌+◌, ◌++◌, ◌<◌, ◌≤◌, ◌*◌, ℕ, Bool, true, false, List, All, ap, length, refl, subst, sym}
 use Rattle.std.proofs.lemmas.Bool.{false≢true, or_right}
 use Rattle.std.proofs.Math.Bool.{true-or}
@@ -22,7 +19,7 @@ use Rattle.searches_states.specs.Watching.{AreTold, AreToldToEnd, IsWatched}
 use Rattle.searches_states.specs.declared.limits.Limits.{Limits}
 use Rattle.searches_states.specs.declared.verdict.Verdict.{Verdict}
 use Rattle.searches_states.specs.declared.verdict.Verdict.TheVariants.{Found, Nowhere, Limit}
-use Rattle.searches_explore.specs.Never.{AreToldFor, IfBreaks, IfBroken, IfFault, IfLimit, IfSafe, IfTrapped, IfTraps, schedule_of}
+use Rattle.searches_explore.specs.Never.{AreToldFor, IfBreaks, IfBroken, IfFault, IfFaultIn, IfLimit, IfSafe, IfTrapped, IfTraps, schedule_of}
 use Rattle.searches_explore.specs.Searching.{AreBytesFor, IsFullFor}
 use Rattle.searches_explore.specs.declared.fault.Fault.{Fault}
 use Rattle.searches_explore.specs.declared.fault.Fault.TheVariants.{Trapped, Broken}
@@ -31,27 +28,28 @@ use Rattle.searches_explore.specs.BySteps.{TellsBy}
 use Rattle.searches_explore.specs.declared.exploring.StepKind.{StepKind}
 use Rattle.searches_explore.proofs.Offered.{first_breaks}
 use Rattle.ticklab_line.specs.declared.commands.Steps.{Steps}
-use Rattle.ticklab_verdicts.specs.BySteps.{BrokenBy, LimitBy, SafeBy, SeesBy, TrapBy, begins_merged, break_line_by, kind_of, line_by}
-use Rattle.ticklab_verdicts.specs.Found.{IsFoundBy, IsFoundFirst, IsQuiet, MeetsLimit, TellsBoth, TellsFault, TellsLimit, TellsSafe, TellsShortest, broken, fault, first_fault, first_safe, first_unknown, minimal_break, minimal_trap, safe, shortest, trapped, unknown}
+use Rattle.ticklab_verdicts.specs.BySteps.{BrokenBy, FoundBy, LimitBy, SafeBy, SeesBy, TrapBy, begins_merged, break_line_by, kind_of, line_by}
+use Rattle.ticklab_verdicts.specs.Found.{IsFoundBy, IsFoundFirst, IsFoundWithin, IsQuiet, MeetsLimit, TellsFault, TellsLimit, TellsSafe, broken, fault, first_safe, first_unknown, safe, trapped, unknown}
 use Rattle.ticklab_verdicts.specs.Hearing.{Heard, HearsOf, IsHeard, IsSearchHeard, IsSearchHeardToEnd, hearing}
-use Rattle.ticklab_verdicts.specs.Lines.{minimal_break_line, minimal_line}
 use Rattle.ticklab_verdicts.specs.Shown.{SaysFault, Shows, ShowsLimit, ShowsSafe}
 use Rattle.ticklab_verdicts.specs.Sought.{sought_by}
 use Rattle.ticklab_verdicts.specs.declared.search.Search.{Search}
 use Rattle.ticklab_files.specs.declared.response.Response.{Response}
 use Rattle.ticklab_verdicts.specs.prover.Searches.{AreHeardFor, IsKnownBy, IsSearchedBy}
-use Rattle.ticklab_verdicts.proofs.Heard.{began, heard_as, heard_then}
+use Rattle.ticklab_verdicts.proofs.Heard.{began, heard_as}
 use Rattle.ticklab_verdicts.proofs.Placed.{held_of, program_of}
 use Rattle.ticklab_verdicts.proofs.Within.{lawful_by, within_by}
 use Rattle.ticklab_verdicts.proofs.Within.{line_within}
 
 -- what is known of it
 pub known_as : {E : Type 0} (m : Bool) (a : WholeProgram ℕ) (lines : List Property) (limits : Limits) (e : Verdict Fault E) → IfTrapped e (TrapBy m a (lines_of lines))
-    → IfBroken e (BrokenBy m a (lines_of lines)) → IfSafe e (SafeBy m a (lines_of lines) limits) → IfLimit e (LimitBy m a (lines_of lines) limits)
-    → IsKnownBy m a lines limits e
-known_as m a lines limits e traps breaks never full = record {
+    → IfBroken e (BrokenBy m a (lines_of lines)) → IfFaultIn e (FoundBy m a (lines_of lines)) → IfFaultIn e (λ states _. states ≤ limits.states)
+    → IfSafe e (SafeBy m a (lines_of lines) limits) → IfLimit e (LimitBy m a (lines_of lines) limits) → IsKnownBy m a lines limits e
+known_as m a lines limits e traps breaks seen few never full = record {
   trapped = traps;
   broken = breaks;
+  seen = seen;
+  few = few;
   safe = never;
   at_limit = full;
   lawful = lawful_by a lines m e traps breaks;
@@ -59,34 +57,35 @@ known_as m a lines limits e traps breaks never full = record {
 }
 
 -- a search that began, by steps of this kind, of lines that are these
-pub searched_as : {W E : Type 0} (begins : W → Bool → W → Type 0) (sees : W → ℕ → ℕ → ℕ → W → Type 0) (before between after : W) (m n : Bool) → n ≡ m
+pub searched_as : {W E : Type 0} (begins finds : W → Bool → W → Type 0) (sees : W → ℕ → ℕ → ℕ → W → Type 0) (before between after : W) (m n : Bool) → n ≡ m
     → (a : WholeProgram ℕ) (given lines : List Property) → given ≡ lines → (limits : Limits) (e : Verdict Fault E) → begins before n between
     → IfTrapped e (TrapBy m a (lines_of given)) → IfBroken e (BrokenBy m a (lines_of given))
+    → IfFaultIn e (FoundBy m a (lines_of given)) → IfFaultIn e (λ states _. states ≤ limits.states)
     → IfSafe e (SafeBy m a (lines_of given) limits) → IfLimit e (LimitBy m a (lines_of given) limits)
-    → IsWatched sees between after (AreToldFor a (SeesBy m a (lines_of given)) limits e) → IsSearchedBy n a lines limits (hearing begins sees) before after e
-searched_as begins sees before between after m n same a given lines held limits e first traps breaks never full watched =
-    subst (λ (k : Bool). IsSearchedBy k a lines limits (hearing begins sees) before after e) (sym same)
-    (subst (λ (asked : List Property). IsSearchedBy m a asked limits (hearing begins sees) before after e) held (record {
-      known = known_as m a given limits e traps breaks never full;
-      watched = began begins sees before between after m n same a given limits e first watched;
+    → IsWatched sees between after (AreToldFor a (SeesBy m a (lines_of given)) limits e) → IsSearchedBy n a lines limits (hearing begins finds sees) before after e
+searched_as begins finds sees before between after m n same a given lines held limits e first traps breaks seen few never full watched =
+    subst (λ (k : Bool). IsSearchedBy k a lines limits (hearing begins finds sees) before after e) (sym same)
+    (subst (λ (asked : List Property). IsSearchedBy m a asked limits (hearing begins finds sees) before after e) held (record {
+      known = known_as m a given limits e traps breaks seen few never full;
+      watched = began begins finds sees before between after m n same a given limits e first watched;
     }))
 
 -- what an exploration by steps of this kind tells
-module _ {W E : Type 0} (begins : W → Bool → W → Type 0) (sees : W → ℕ → ℕ → ℕ → W → Type 0) (before between after : W)
+module _ {W E : Type 0} (begins finds : W → Bool → W → Type 0) (sees : W → ℕ → ℕ → ℕ → W → Type 0) (before between after : W)
     (a : WholeProgram ℕ) (given lines : List Property) (held : given ≡ lines) (limits : Limits) (e : Verdict Fault E) where
   pub told_so : (m : Bool) → begins before m between → TellsBy a (lines_of given) limits sees between after (kind_of m) e
-      → IsSearchedBy m a lines limits (hearing begins sees) before after e
+      → IsSearchedBy m a lines limits (hearing begins finds sees) before after e
   told_so false first told =
-      searched_as begins sees before between after false false refl a given lines held limits e first told.trapped told.broken told.safe told.at_limit told.watched
+      searched_as begins finds sees before between after false false refl a given lines held limits e first told.trapped told.broken told.seen told.few told.safe told.at_limit told.watched
   told_so true first told =
-      searched_as begins sees before between after true true refl a given lines held limits e first told.trapped told.broken told.safe told.at_limit told.watched
+      searched_as begins finds sees before between after true true refl a given lines held limits e first told.trapped told.broken told.seen told.few told.safe told.at_limit told.watched
 
   -- the first search of an `explore` by these steps
   pub told_by_steps : (steps : Steps) (m : Bool) (kind : StepKind) → m ≡ begins_merged steps → kind ≡ kind_of m → begins before m between
       → TellsBy a (lines_of given) limits sees between after kind e
-      → IsSearchedBy (begins_merged steps) a lines limits (hearing begins sees) before after e
+      → IsSearchedBy (begins_merged steps) a lines limits (hearing begins finds sees) before after e
   told_by_steps steps m kind is same first told =
-      subst (λ (k : Bool). IsSearchedBy k a lines limits (hearing begins sees) before after e) is
+      subst (λ (k : Bool). IsSearchedBy k a lines limits (hearing begins finds sees) before after e) is
       (told_so m first (subst (λ (k : StepKind). TellsBy a (lines_of given) limits sees between after k e) same told))
 
 -- a line that is broken, or a process that traps, is a fault
@@ -100,10 +99,10 @@ module _ (a : WholeProgram ℕ) (lines : List Property) where
   -- what is found by steps of either kind
   pub fault_by : {E : Type 0} (m : Bool) (limits : Limits) (e : Verdict Fault E) → IsKnownBy m a lines limits e
       → IfFault e (λ schedule. is_fault (lines_of lines) (source a schedule) ≡ true)
-  fault_by false limits (Found (Trapped s)) known = trap_is_fault (source a s.items) known.trapped.traps
-  fault_by true limits (Found (Trapped s)) known = trap_is_fault (source a s.items) known.trapped.traps
-  fault_by false limits (Found (Broken s line v)) known = break_is_fault (source a s.items) line v known.broken.broken.first
-  fault_by true limits (Found (Broken s line v)) known = break_is_fault (source a s.items) line v known.broken.first
+  fault_by false limits (Found seen (Trapped s)) known = trap_is_fault (source a s.items) known.trapped.traps
+  fault_by true limits (Found seen (Trapped s)) known = trap_is_fault (source a s.items) known.trapped.traps
+  fault_by false limits (Found seen (Broken s line v)) known = break_is_fault (source a s.items) line v known.broken.broken.first
+  fault_by true limits (Found seen (Broken s line v)) known = break_is_fault (source a s.items) line v known.broken.first
   fault_by m limits (Nowhere states k) known = tt
   fault_by m limits (Limit states) known = tt
 
@@ -118,17 +117,16 @@ module _ (a : WholeProgram ℕ) (lines : List Property) where
   minimal_within (Broken s line v) breaks = line_within a lines _ line v breaks.broken.first
 
 -- what holds of the schedule of a fault
-pub of_fault : {E : Type 0} (P : List ℕ → Type 0) (e : Verdict Fault E) (f : Fault) (schedule : Vec ℕ Global) → e ≡ Found f → schedule ≡ schedule_of f
-    → IfFault e P → P schedule.items
-of_fault P e f schedule is same held = subst (λ (s : Vec ℕ Global). P s.items) (sym same) (subst (λ d. IfFault d P) is held)
+pub of_fault : {E : Type 0} (P : List ℕ → Type 0) (e : Verdict Fault E) (states : ℕ) (f : Fault) → e ≡ Found states f → IfFault e P → P (schedule_of f).items
+of_fault P e states f is held = subst (λ d. IfFault d P) is held
 
 -- and of its line
-pub of_line : {E : Type 0} (P : List ℕ → ℕ → Valued → Type 0) (e : Verdict Fault E) (f : Fault) → e ≡ Found f → IfBroken e P → IfBreaks f P
-of_line P e f is held = subst (λ d. IfBroken d P) is held
+pub of_line : {E : Type 0} (P : List ℕ → ℕ → Valued → Type 0) (e : Verdict Fault E) (states : ℕ) (f : Fault) → e ≡ Found states f → IfBroken e P → IfBreaks f P
+of_line P e states f is held = subst (λ d. IfBroken d P) is held
 
 module _ (q : Search) (limits : Limits) where
   -- so far a search is heard, of which this is known
-  on_the_way : {E : Type 0} {m : Bool} {e : Verdict Fault E} {heard : List Heard} (gone : ℕ) (on : AreHeardFor m (program_of q) (held_of q) limits e heard)
+  pub on_the_way : {E : Type 0} {m : Bool} {e : Verdict Fault E} {heard : List Heard} (gone : ℕ) (on : AreHeardFor m (program_of q) (held_of q) limits e heard)
       → AreTold (SeesBy m (program_of q) (lines_of (held_of q))) (AreBytesFor (program_of q)) gone on.told → IsSearchHeard m (program_of q) (lines_of (held_of q)) gone heard
   on_the_way gone on are = record { told = on.told; are = are; whole = on.whole }
 
@@ -138,11 +136,23 @@ module _ (q : Search) (limits : Limits) where
       → IsSearchHeardToEnd m (program_of q) (lines_of (held_of q)) held below states gone heard
   to_the_end held below states gone on are = record { told = on.told; are = are; whole = on.whole }
 
-  pub fault_told : {E : Type 0} (m : Bool) (f : Fault) (x : Response) (heard : List Heard) → IsKnownBy {E = E} m (program_of q) (held_of q) limits (Found f)
-      → SaysFault (line_by m) (break_line_by m) (sought_by q) f x → AreHeardFor {E = E} m (program_of q) (held_of q) limits (Found f) heard
+  -- a fault was found in so many states
+  found_within : {E : Type 0} (m : Bool) (states : ℕ) (f : Fault) (heard : List Heard) → IsKnownBy {E = E} m (program_of q) (held_of q) limits (Found states f)
+      → AreHeardFor {E = E} m (program_of q) (held_of q) limits (Found states f) heard
+      → IsFoundWithin m (program_of q) (lines_of (held_of q)) limits (schedule_of f).items heard
+  found_within m states f heard known on = record {
+    states = states;
+    seen = known.seen;
+    few = known.few;
+    gone = on.are.0;
+    on_the_way = on_the_way on.are.0 on on.are.1;
+  }
+
+  pub fault_told : {E : Type 0} (m : Bool) (states : ℕ) (f : Fault) (x : Response) (heard : List Heard) → IsKnownBy {E = E} m (program_of q) (held_of q) limits (Found states f)
+      → SaysFault (line_by m) (break_line_by m) (sought_by q) f x → AreHeardFor {E = E} m (program_of q) (held_of q) limits (Found states f) heard
       → TellsFault (sought_by q) limits m x heard
-  fault_told m (Trapped s) x heard known shows on = trapped s.items known.trapped on.are.0 (on_the_way on.are.0 on on.are.1) shows
-  fault_told m (Broken s line v) x heard known shows on = broken s.items line v known.broken on.are.0 (on_the_way on.are.0 on on.are.1) shows
+  fault_told m states (Trapped s) x heard known shows on = trapped s.items known.trapped (found_within m states (Trapped s) heard known on) shows
+  fault_told m states (Broken s line v) x heard known shows on = broken s.items line v known.broken (found_within m states (Broken s line v) heard known on) shows
 
   pub quiet_told : {E : Type 0} {k : E} (m : Bool) (states : ℕ) (heard : List Heard) → SafeBy m (program_of q) (lines_of (held_of q)) limits states
       → AreHeardFor m (program_of q) (held_of q) limits (Nowhere states k) heard → IsQuiet m (program_of q) (lines_of (held_of q)) limits states heard
@@ -168,28 +178,9 @@ module _ (q : Search) (limits : Limits) where
 
   told_by : (m : Bool) (e : Verdict Fault (Unit {0})) (x : Response) (heard : List Heard) → IsKnownBy m (program_of q) (held_of q) limits e
       → Shows m (sought_by q) limits e x → AreHeardFor m (program_of q) (held_of q) limits e heard → IsFoundBy (sought_by q) limits m x heard
-  told_by m (Found f) x heard known shows on = fault (fault_told m f x heard known shows on)
+  told_by m (Found states f) x heard known shows on = fault (fault_told m states f x heard known shows on)
   told_by m (Nowhere states k) x heard known shows on = safe (safe_told m states x heard known.safe shows on)
   told_by m (Limit states) x heard known shows on = unknown (limit_told m states x heard known.at_limit shows on)
-
-  told_minimal : {E : Type 0} (states : ℕ) (k : Fault) (x : Response) (heard : List Heard) → LimitBy false (program_of q) (lines_of (held_of q)) limits states
-      → IfTraps k (IsMinimalTrapped (program_of q) (lines_of (held_of q))) → IfBreaks k (IsMinimalBroken (program_of q) (lines_of (held_of q)))
-      → SaysFault minimal_line minimal_break_line (sought_by q) k x → AreHeardFor {E = E} false (program_of q) (held_of q) limits (Limit states) heard
-      → TellsShortest (sought_by q) limits x heard
-  told_minimal states (Trapped s) x heard full traps breaks shows on = minimal_trap states (meets_limit false states heard full on) s.items traps shows
-  told_minimal states (Broken s line v) x heard full traps breaks shows on = minimal_break states (meets_limit false states heard full on) s.items line v breaks shows
-
-  -- by merged steps as far as they find a fault, and then by single ones
-  pub told_both : {E : Type 0} (f : Fault) (x : Response) (first more : List Heard) → AreHeardFor {E = E} true (program_of q) (held_of q) limits (Found f) first
-      → TellsShortest (sought_by q) limits x more → TellsBoth (sought_by q) limits x (first ++ more)
-  told_both f x first more on single = record {
-    gone = on.are.0;
-    first = first;
-    merged = on_the_way on.are.0 on on.are.1;
-    more = more;
-    single = single;
-    whole = refl;
-  }
 
   -- the search came to this
   module _ {E W : Type 0} (hears : HearsOf W) (m : Bool) (before after : W) (e d : Verdict Fault E) (is : e ≡ d) where
@@ -212,25 +203,7 @@ module _ (q : Search) (limits : Limits) where
       limit_first states x searched shows =
           heard_as hears before after (λ heard on. first_unknown (limit_told true states x heard searched.known.at_limit shows on)) searched.watched
 
-      pub shortest_as : (f : Fault) (x : Response) → IsSearchedBy {E = E} false (program_of q) (held_of q) limits hears before after (Found f)
-          → SaysFault (line_by false) (break_line_by false) (sought_by q) f x → IsHeard hears before after (TellsShortest (sought_by q) limits x)
-      shortest_as f x searched shows =
-          heard_as hears before after (λ heard on. shortest (fault_told false f x heard searched.known shows on)) searched.watched
-
-      pub minimal_as : (states : ℕ) (k : Fault) (x : Response) → IsSearchedBy {E = E} false (program_of q) (held_of q) limits hears before after (Limit states)
-          → IfTraps k (IsMinimalTrapped (program_of q) (lines_of (held_of q))) → IfBreaks k (IsMinimalBroken (program_of q) (lines_of (held_of q)))
-          → SaysFault minimal_line minimal_break_line (sought_by q) k x → IsHeard hears before after (TellsShortest (sought_by q) limits x)
-      minimal_as states k x searched traps breaks shows =
-          heard_as hears before after (λ heard on. told_minimal states k x heard searched.known.at_limit traps breaks shows on) searched.watched
-
       -- where there is a fault
       pub none_missed : (states : ℕ) (k : E) → IsSearchedBy false (program_of q) (held_of q) limits hears before after (Nowhere states k)
           → (schedule : List ℕ) → is_fault (lines_of (held_of q)) (source (program_of q) schedule) ≡ true → ⊥
       none_missed states k searched schedule wrong = false≢true (sym (searched.known.safe.never schedule) ∙ wrong)
-
-      pub both_first : (between : W) (f : Fault) (x : Response)
-          → IsSearchedBy {E = E} true (program_of q) (held_of q) limits hears before between (Found f)
-          → IsHeard hears between after (TellsShortest (sought_by q) limits x)
-          → IsHeard hears before after (IsFoundFirst (sought_by q) limits x)
-      both_first between f x searched single =
-          heard_then hears before between after (λ first more on then. first_fault (told_both f x first more on then)) searched.watched single

@@ -25,17 +25,17 @@ module _ (a : WholeProgram ℕ) (lines : List Property) where
   -- by single steps or by merged ones
   pub lawful_by : {E : Type 0} (m : Bool) (e : Verdict Fault E) → IfTrapped e (TrapBy m a (lines_of lines)) → IfBroken e (BrokenBy m a (lines_of lines))
       → IfFault e (All (λ p. p < a.processes))
-  lawful_by false (Found (Trapped schedule)) traps breaks = traps.lawful
-  lawful_by true (Found (Trapped schedule)) traps breaks = traps.lawful
-  lawful_by false (Found (Broken schedule line v)) traps breaks = breaks.broken.lawful
-  lawful_by true (Found (Broken schedule line v)) traps breaks = breaks.lawful
+  lawful_by false (Found states (Trapped schedule)) traps breaks = traps.lawful
+  lawful_by true (Found states (Trapped schedule)) traps breaks = traps.lawful
+  lawful_by false (Found states (Broken schedule line v)) traps breaks = breaks.broken.lawful
+  lawful_by true (Found states (Broken schedule line v)) traps breaks = breaks.lawful
   lawful_by m (Nowhere states known) traps breaks = tt
   lawful_by m (Limit states) traps breaks = tt
 
   pub within_by : {E : Type 0} (m : Bool) (e : Verdict Fault E) → IfBroken e (BrokenBy m a (lines_of lines)) → IfBroken e (λ schedule line v. line < length lines)
-  within_by m (Found (Trapped schedule)) breaks = tt
-  within_by false (Found (Broken schedule line v)) breaks = line_within _ line v breaks.broken.first
-  within_by true (Found (Broken schedule line v)) breaks = line_within _ line v breaks.first
+  within_by m (Found states (Trapped schedule)) breaks = tt
+  within_by false (Found states (Broken schedule line v)) breaks = line_within _ line v breaks.broken.first
+  within_by true (Found states (Broken schedule line v)) breaks = line_within _ line v breaks.first
   within_by m (Nowhere states known) breaks = tt
   within_by m (Limit states) breaks = tt
 

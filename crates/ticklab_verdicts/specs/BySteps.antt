@@ -1,5 +1,5 @@
--- By single steps or by merged ones: which schedule is shown, and how it is called; what holds of the limits and of the
--- number of states that is told where nothing is wrong, and where there are more; and how many states were seen when so
+-- By single steps or by merged ones: which schedule is shown, and how it is called; how many states were seen when it was
+-- found; what holds of the limits and of the number of states that is told where nothing is wrong, and where there are more; and how many states were seen when so
 -- many of them were gone. The lines are those that must never hold.
 use Rattle.std.specs.Prelude.{ℕ, Bool, true, false, List}
 use Rattle.base.specs.Plain.{WholeProgram}
@@ -8,7 +8,7 @@ use Rattle.language_properties.specs.Values.{Valued}
 use Rattle.searches_states.specs.declared.limits.Limits.{Limits}
 use Rattle.searches_states.specs.declared.must_stop.MustStop.{MustStop}
 use Rattle.searches_explore.specs.Ending.{IsShortestStuck, IsStuckAfter}
-use Rattle.searches_explore.specs.Never.{IsBroken, IsMergedLimit, IsMergedSafe, IsLimit, IsSafe, IsShortestBroken, IsShortestTrapped, SeesMerged}
+use Rattle.searches_explore.specs.Never.{IsBroken, IsFoundIn, IsMergedFoundIn, IsMergedLimit, IsMergedSafe, IsLimit, IsSafe, IsShortestBroken, IsShortestTrapped, SeesMerged}
 use Rattle.searches_explore.specs.Searching.{Sees}
 use Rattle.searches_explore.specs.Trap.{IsTrap}
 use Rattle.searches_explore.specs.declared.exploring.StepKind.{StepKind}
@@ -47,6 +47,11 @@ line_by true = some_line
 abbrev pub break_line_by : Bool → List ℕ
 break_line_by false = shortest_break_line
 break_line_by true = some_break_line
+
+-- so many states were seen when this schedule was found
+abbrev pub FoundBy : Bool → WholeProgram ℕ → List Formula → ℕ → List ℕ → Type 0
+FoundBy false = IsFoundIn
+FoundBy true = IsMergedFoundIn
 
 abbrev pub SafeBy : Bool → WholeProgram ℕ → List Formula → Limits → ℕ → Type 0
 SafeBy false = IsSafe

@@ -110,7 +110,8 @@ module _ (s : Sought) (limits : Limits) (asked : MustStop) where
 
 -- The answer of `explore --ends` on an input, with these texts of a command line for what must never hold, and what a
 -- watch hears on the way: nothing of an input that is refused.
-pub data IsEndsExplored (steps : Steps) (name : List ℕ) (texts : List (List ℕ)) (process : Option ℕ) (limits : Limits) (output : Output) (input : List ℕ) (response : Response) (heard : List Heard) : Type 0 where
+pub data IsEndsExplored (steps : Steps) (name : List ℕ) (texts : List (List ℕ)) (process : Option ℕ) (limits : Limits)
+    (output : Output) (input : List ℕ) (response : Response) (heard : List Heard) : Type 0 where
   explored : (asks : AsksNever texts input) → IsThere (resolved asks.file.program).processes process
       → IsEndsFound (sought_of name texts output input asks) limits (asked_by asks.file.asked.ends process) steps response heard
       → IsEndsExplored steps name texts process limits output input response heard

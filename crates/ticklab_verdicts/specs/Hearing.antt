@@ -1,5 +1,5 @@
--- What a watch hears of searches through all schedules: that one begins, by merged steps or by single ones, and how far
--- it is.
+-- What a watch hears of searches through all schedules: that one begins, by merged steps or by single ones, how far it
+-- is, and that it has found a fault for which a shorter schedule is looked for.
 use Rattle.std.specs.Prelude.{◌≡◌, ℕ, Bool, List, [], ◌∷◌, map}
 use Rattle.base.specs.Plain.{WholeProgram}
 use Rattle.language_properties.specs.Properties.{Formula}
@@ -10,15 +10,17 @@ use Rattle.ticklab_verdicts.specs.BySteps.{SeesBy}
 pub data Heard : Type 0 where
   begun : (is_merged : Bool) → Heard
   seen : Told → Heard
+  fault_found : (is_break : Bool) → Heard
 
 -- what it is for a watch to hear one thing, of the watch before and after
 abbrev pub HearsOf : Type 0 → Type 1
 HearsOf W = W → Heard → W → Type 0
 
--- the same by what it is for it that a search begins, and that three numbers are told
-abbrev pub hearing : {W : Type 0} → (W → Bool → W → Type 0) → (W → ℕ → ℕ → ℕ → W → Type 0) → HearsOf W
-hearing begins sees before (begun is_merged) after = begins before is_merged after
-hearing begins sees before (seen told) after = sees before told.states told.gone told.bytes after
+-- the same by what it is for it that a search begins, that a fault is found, and that three numbers are told
+abbrev pub hearing : {W : Type 0} → (W → Bool → W → Type 0) → (W → Bool → W → Type 0) → (W → ℕ → ℕ → ℕ → W → Type 0) → HearsOf W
+hearing begins finds sees before (begun is_merged) after = begins before is_merged after
+hearing begins finds sees before (seen told) after = sees before told.states told.gone told.bytes after
+hearing begins finds sees before (fault_found is_break) after = finds before is_break after
 
 -- The watch heard these, one after the other, and nothing else.
 abbrev pub Hears : {W : Type 0} → HearsOf W → W → List Heard → W → Type 0

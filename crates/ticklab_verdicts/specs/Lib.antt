@@ -8,6 +8,7 @@ pub mod Lasso
 pub mod Lines
 pub mod Loops
 pub mod RunObjects
+pub mod Shorter
 pub mod Shown
 pub mod Sought
 pub mod Tallies

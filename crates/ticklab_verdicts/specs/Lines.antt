@@ -21,6 +21,14 @@ some_line = codes "a process traps under this schedule:"
 abbrev pub minimal_line : List ℕ
 minimal_line = codes "a process traps under this schedule, and where any one step is left out none does:"
 
+abbrev pub bounded_line : List ℕ
+bounded_line = codes "a process traps under this schedule, and where any one step is left out none does; --single looks for a shortest one:"
+
+-- by whether a shortest one was looked for no further than a bound that nobody asked for
+abbrev pub minimal_line_by : Bool → List ℕ
+minimal_line_by false = minimal_line
+minimal_line_by true = bounded_line
+
 abbrev pub trap_lines : List ℕ → List ℕ → List ℕ
 trap_lines found schedule = found ++ line_end ++ schedule_text schedule ++ line_end
 
@@ -56,6 +64,13 @@ some_break_line = codes "a #! never line breaks under this schedule:"
 
 abbrev pub minimal_break_line : List ℕ
 minimal_break_line = codes "a #! never line breaks under this schedule, and where any one step is left out none does:"
+
+abbrev pub bounded_break_line : List ℕ
+bounded_break_line = codes "a #! never line breaks under this schedule, and where any one step is left out none does; --single looks for a shortest one:"
+
+abbrev pub minimal_break_line_by : Bool → List ℕ
+minimal_break_line_by false = minimal_break_line
+minimal_break_line_by true = bounded_break_line
 
 -- no trap was found, and so many lines `#! never` don't break
 abbrev pub safe_text : ℕ → List ℕ

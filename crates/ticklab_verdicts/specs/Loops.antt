@@ -25,7 +25,7 @@ is_write act = false
 
 -- Steps of a program, under a line that says what they are, and what each of them does.
 abbrev pub steps_text : WholeProgram Name → List Standing → List ℕ → List ℕ → List StatementStep → List ℕ
-steps_text a spots words schedule steps = trap_lines words schedule ++ statement_lines a spots 0 steps
+steps_text a spots words schedule steps = trap_lines words schedule ++ statement_lines a spots None 0 steps
 
 -- the steps that lead on, where there are some
 abbrev pub lead_in_text : WholeProgram Name → List Standing → List ℕ → List StatementStep → List ℕ
@@ -57,4 +57,4 @@ pub record IsLoopObject (answer says input : List ℕ) (a : WholeProgram Name) (
   pub spelled : Spells input tokens
   pub steps : List StatementStep
   pub are_steps : AreStatementSteps (resolved a) (schedule ++ lead_in ++ cycle) steps
-  pub object : out ≡ lines (loop_data answer says (record { schedule = schedule; lead_in = lead_in; cycle = cycle; trace = statement_list a (standings input tokens a) None 0 steps }) ∷ [])
+  pub object : out ≡ lines (loop_data answer says (record { schedule = schedule; lead_in = lead_in; cycle = cycle; trace = statement_list a (standings input tokens a) None false None 0 steps }) ∷ [])

@@ -1,5 +1,5 @@
 -- What `explore` and `hunt` answer as JSON where they show a schedule.
-use Rattle.std.specs.Prelude.{◌≡◌, ℕ, List, [], ◌∷◌, Option, Some, None, length, min}
+use Rattle.std.specs.Prelude.{◌≡◌, ℕ, false, List, [], ◌∷◌, Option, Some, None, length, min}
 use Rattle.base.specs.Plain.{Name, WholeProgram}
 use Rattle.tick_syntax.specs.Spelling.{Spells}
 use Rattle.tick_syntax.specs.declared.token.Token.{Token}
@@ -24,7 +24,7 @@ pub record IsRunObject (head : Members) (input : List ℕ) (a : WholeProgram Nam
   pub spelled : Spells input tokens
   pub steps : List StatementStep
   pub are_steps : AreStatementSteps (resolved a) schedule steps
-  pub object : out ≡ lines (run_data head (record { schedule = schedule; trace = statement_list a (standings input tokens a) None 0 steps; broken = broken }) ∷ [])
+  pub object : out ≡ lines (run_data head (record { schedule = schedule; trace = statement_list a (standings input tokens a) None false None 0 steps; broken = broken }) ∷ [])
 
 -- the line that stands here breaks
 pub record IsBreakObject (head : Members) (input : List ℕ) (a : WholeProgram Name) (schedule : List ℕ) (place : TextPlace) (v : Valued) (out : List ℕ) : Type 0 where

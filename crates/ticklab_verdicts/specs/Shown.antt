@@ -102,7 +102,7 @@ SaysFault trap breaks s (Broken schedule line v) response = SaysBroken breaks s 
 
 -- by steps of one kind, within these limits
 abbrev pub Shows : Bool → Sought → Limits → Verdict Fault (Unit {0}) → Response → Type 0
-Shows is_merged s limits (Found fault) response = SaysFault (line_by is_merged) (break_line_by is_merged) s fault response
+Shows is_merged s limits (Found states fault) response = SaysFault (line_by is_merged) (break_line_by is_merged) s fault response
 Shows is_merged s limits (Nowhere states known) response = ShowsSafe s is_merged states response
 Shows is_merged s limits (Limit states) response = ShowsLimit s is_merged limits states response
 
@@ -175,7 +175,7 @@ ShowsKnown is_merged asked s states L.Ends response = ShowsAllEnd s asked states
 ShowsKnown is_merged asked s states L.CanEnd response = ShowsCanEnd s is_merged asked states response
 
 abbrev pub ShowsEnds : Bool → MustStop → Sought → Limits → Verdict Fault Liveness → Response → Type 0
-ShowsEnds is_merged asked s limits (Found fault) response = SaysFault (line_by is_merged) (break_line_by is_merged) s fault response
+ShowsEnds is_merged asked s limits (Found states fault) response = SaysFault (line_by is_merged) (break_line_by is_merged) s fault response
 ShowsEnds is_merged asked s limits (Nowhere states known) response = ShowsKnown is_merged asked s states known response
 ShowsEnds is_merged asked s limits (Limit states) response = ShowsLimit s is_merged limits states response
 

@@ -1,4 +1,4 @@
-//! `ticklab explore --ends`.
+//! `ticklab explore --ends`: whether processes can always end, and whether they do under each fair schedule.
 ghost use Rattle.std.specs.Prelude.{◌≡◌, ◌<◌, IfErr, IfOk, MatchResult, None, length, true};
 ghost use Rattle.tick_kinds.specs.Resolution.{resolved};
 ghost use Rattle.searches_explore.specs.Lines.{lines_of};
@@ -16,12 +16,11 @@ ghost use Rattle.ticklab_verdicts.specs.prover.Searches.{AreEndsKnownBy, AreEnds
 mod loops;
 mod wording;
 
-use crate::exploring::{
-    break_line, fault_said, into_schedule, limit_shown, shortest_found, states_shown, trap_line,
-};
+use crate::exploring::{break_line, fault_said, limit_shown, states_shown, trap_line};
 use crate::extent::{extent_of, kind_of};
 use crate::progress::Progress;
 use crate::search::{Answered, Search, Task};
+use crate::shorter::shorter_found;
 use base::{NoMemory, set_at};
 use language_questions::Ends;
 use loops::loop_shown;
@@ -55,7 +54,8 @@ pub fn explored_ends<F: Files, W: Progress>(
     steps: Steps,
     output: Output,
 ) -> Result<Response, LabFault>
-    ensures ok { IfOk result (ExploresEnds F.Reads F.ReadsInput (hearing W.begins W.hears) files.old files.new progress.old progress.new file.now (texts_of never.now) process limits steps output) }
+    ensures ok { IfOk result (ExploresEnds F.Reads F.ReadsInput (hearing W.begins W.finds W.hears) files.old files.new progress.old progress.new
+        file.now (texts_of never.now) process limits steps output) }
     ensures err { IfErr result (IsOfFile (IsUnread F.Reads F.ReadsInput F.Lists F.Fails) file.now) }
 {
     let input = bytes_of(alloc, files, file)?;
@@ -97,7 +97,8 @@ fn all_ends<W: Progress>(
     output: Output,
     progress: &mut W,
 ) -> Result<Response, NoAnswer>
-    ensures ok { IfOk result (λ response. IsHeard (hearing W.begins W.hears) progress.old progress.new (IsEndsExplored steps name.now (texts_of never.now) process limits output input.now response)) }
+    ensures ok { IfOk result (λ response. IsHeard (hearing W.begins W.finds W.hears) progress.old progress.new
+        (IsEndsExplored steps name.now (texts_of never.now) process limits output input.now response)) }
     ensures refused { IfErr result (λ stop. IfRefused stop (λ report. IsEndsRefused name.now (texts_of never.now) process input.now report × (progress.old ≡ progress.new))) }
 {
     let (spelled, questions) = spelled_program_of(alloc, name, input)?;
@@ -121,7 +122,7 @@ fn all_ends<W: Progress>(
 /// What is found of the program where these processes are asked for.
 pub fn ends_found<W: Progress>(task: &Task<'_, '_>, steps: Steps, progress: &mut W) -> Answered
     requires sound { IsSound task.now.search }
-    ensures { IfOk result (λ response. IsHeard (hearing W.begins W.hears) progress.old progress.new (IsEndsFound (sought_by task.now.search) task.now.limits task.now.asked steps response)) }
+    ensures { IfOk result (λ response. IsHeard (hearing W.begins W.finds W.hears) progress.old progress.new (IsEndsFound (sought_by task.now.search) task.now.limits task.now.asked steps response)) }
 {
     match steps {
         Steps::Single => found_by(task, false, progress),
@@ -133,7 +134,8 @@ pub fn ends_found<W: Progress>(task: &Task<'_, '_>, steps: Steps, progress: &mut
 // By steps of one kind alone.
 fn found_by<W: Progress>(task: &Task<'_, '_>, is_merged: bool, progress: &mut W) -> Answered
     requires sound { IsSound task.now.search }
-    ensures { IfOk result (λ response. IsHeard (hearing W.begins W.hears) progress.old progress.new (IsEndsFoundBy (sought_by task.now.search) task.now.limits task.now.asked is_merged response)) }
+    ensures { IfOk result (λ response. IsHeard (hearing W.begins W.finds W.hears) progress.old progress.new
+        (IsEndsFoundBy (sought_by task.now.search) task.now.limits task.now.asked is_merged response)) }
 {
     let explored = explored_by(task, is_merged, progress)?;
     shown(task, is_merged, explored)
@@ -142,14 +144,14 @@ fn found_by<W: Progress>(task: &Task<'_, '_>, is_merged: bool, progress: &mut W)
 // By merged steps first, and by single ones where these tell more.
 fn found_first<W: Progress>(task: &Task<'_, '_>, progress: &mut W) -> Answered
     requires sound { IsSound task.now.search }
-    ensures { IfOk result (λ response. IsHeard (hearing W.begins W.hears) progress.old progress.new (IsEndsFoundFirst (sought_by task.now.search) task.now.limits task.now.asked response)) }
+    ensures { IfOk result (λ response. IsHeard (hearing W.begins W.finds W.hears) progress.old progress.new (IsEndsFoundFirst (sought_by task.now.search) task.now.limits task.now.asked response)) }
 {
     if is_nobody(task.asked) {
         return found_by(task, true, progress);
     }
     let explored = explored_by(task, true, progress)?;
     match explored {
-        Verdict::Found(fault) => shortest_found(task, into_schedule(fault), progress),
+        Verdict::Found { states, found } => shorter_found(task, states, found, progress),
         Verdict::Nowhere { states, known } => more_found(task, states, known, progress),
         Verdict::Limit { states } => limit_shown(task, true, states),
     }
@@ -166,11 +168,11 @@ fn more_found<W: Progress>(
     requires sound { IsSound task.now.search }
     requires safe { SafeBy true (resolved task.now.search.spelled.now.program) (lines_of task.now.search.lines.now.properties.items) task.now.limits states }
     requires known { AreEndsKnownBy true (resolved task.now.search.spelled.now.program) task.now.asked known }
-    ensures { IfOk result (λ response. IsHeard (hearing W.begins W.hears) progress.old progress.new (TellsMore (sought_by task.now.search) task.now.limits task.now.asked states response)) }
+    ensures { IfOk result (λ response. IsHeard (hearing W.begins W.finds W.hears) progress.old progress.new (TellsMore (sought_by task.now.search) task.now.limits task.now.asked states response)) }
 {
     let single = explored_by(task, false, progress)?;
     match single {
-        Verdict::Found(_) => unreachable!(),
+        Verdict::Found { .. } => unreachable!(),
         Verdict::Nowhere {
             states: seen,
             known: settled,
@@ -185,7 +187,8 @@ fn explored_by<W: Progress>(
     is_merged: bool,
     progress: &mut W,
 ) -> Result<Verdict<Fault, Liveness>, NoMemory>
-    ensures { IfOk result (AreEndsSearchedBy is_merged (resolved task.now.search.spelled.now.program) task.now.search.lines.now.properties.items task.now.asked task.now.limits (hearing W.begins W.hears) progress.old progress.new) }
+    ensures { IfOk result (AreEndsSearchedBy is_merged (resolved task.now.search.spelled.now.program)
+        task.now.search.lines.now.properties.items task.now.asked task.now.limits (hearing W.begins W.finds W.hears) progress.old progress.new) }
 {
     let Task {
         search,
@@ -268,7 +271,7 @@ fn shown(task: &Task<'_, '_>, is_merged: bool, explored: Verdict<Fault, Liveness
     ensures { IfOk result (ShowsEnds is_merged task.now.asked (sought_by task.now.search) task.now.limits explored) }
 {
     match explored {
-        Verdict::Found(fault) => {
+        Verdict::Found { found: fault, .. } => {
             let trap = trap_line(is_merged);
             fault_said(&task.search, &fault, trap, break_line(is_merged))
         }

@@ -1,15 +1,12 @@
-//! `ticklab explore`.
-ghost use Rattle.std.specs.Prelude.{◌≡◌, if◌then◌else◌, ◌<◌, ◌++◌, IfErr, IfOk, OnOk, length, string_bytes, true};
-ghost use Rattle.tick_source.specs.Source.{source};
-ghost use Rattle.tick_kinds.specs.Resolution.{resolved};
-ghost use Rattle.searches_explore.specs.Lines.{is_fault, lines_of};
+//! `ticklab explore`: whether some schedule leads to a trap or breaks a line, and how that is told.
+ghost use Rattle.std.specs.Prelude.{◌≡◌, if◌then◌else◌, ◌<◌, ◌++◌, IfErr, IfOk, OnOk, length, string_bytes};
 ghost use Rattle.searches_explore.specs.Never.{IfBreaks, IfBroken, IfFault, schedule_of};
 ghost use Rattle.base.specs.Lines.{line_end};
 ghost use Rattle.ticklab_files.specs.Asking.{texts_of};
 ghost use Rattle.ticklab_verdicts.specs.BySteps.{break_line_by, line_by};
 ghost use Rattle.ticklab_verdicts.specs.Exploring.{Explores};
 ghost use Rattle.ticklab_files.specs.Faults.{IsOfFile, IsUnread};
-ghost use Rattle.ticklab_verdicts.specs.Found.{IsFound, TellsShortest};
+ghost use Rattle.ticklab_verdicts.specs.Found.{IsFound};
 ghost use Rattle.ticklab_verdicts.specs.Hearing.{IsHeard, hearing};
 ghost use Rattle.ticklab_verdicts.specs.Lines.{counted_text, larger_text, limit_line, more_text, next_line, safe_line, safe_text, states_text, try_text};
 ghost use Rattle.ticklab_files.specs.Responses.{Gives};
@@ -19,13 +16,12 @@ ghost use Rattle.ticklab_verdicts.specs.Sought.{IsLawful, IsSound, sought_by};
 use crate::counts::push_many;
 use crate::ends::{asked_in, asks_ends, ends_found};
 use crate::extent::{SearchExtent, begins_merged, extent_of, kind_of};
-use crate::hunting::{MINIMAL, MINIMAL_BREAK};
 use crate::progress::Progress;
 use crate::search::{Answered, Search, Task};
+use crate::shorter::shorter_found;
 use crate::trapping::{broken_shown, trap_shown};
 use base::{Trap, push_number};
-use searches_explore::{Fault, Limits, StepKind, Verdict, explore};
-use searches_hunt::shrink_fault;
+use searches_explore::{Fault, Limits, Verdict, explore};
 use std::alloc::{AllocError, Global};
 use ticklab_files::{
     DONE, Files, LIMIT, LabFault, Response, answer, asked_program, bytes_of, settled,
@@ -59,7 +55,7 @@ pub fn explored<'a, F: Files, W: Progress>(
     steps: Steps,
     output: Output,
 ) -> Result<Response, LabFault>
-    ensures ok { IfOk result (Explores F.Reads F.ReadsInput (hearing W.begins W.hears) files.old files.new progress.old progress.new file.now (texts_of never.now) limits steps output) }
+    ensures ok { IfOk result (Explores F.Reads F.ReadsInput (hearing W.begins W.finds W.hears) files.old files.new progress.old progress.new file.now (texts_of never.now) limits steps output) }
     ensures err { IfErr result (IsOfFile (IsUnread F.Reads F.ReadsInput F.Lists F.Fails) file.now) }
 {
     let input = bytes_of(alloc, files, file)?;
@@ -94,7 +90,7 @@ pub fn explored<'a, F: Files, W: Progress>(
 // fault.
 fn found<W: Progress>(task: &Task<'_, '_>, steps: Steps, progress: &mut W) -> Answered
     requires sound { IsSound task.now.search }
-    ensures { IfOk result (λ response. IsHeard (hearing W.begins W.hears) progress.old progress.new (IsFound (sought_by task.now.search) task.now.limits steps response)) }
+    ensures { IfOk result (λ response. IsHeard (hearing W.begins W.finds W.hears) progress.old progress.new (IsFound (sought_by task.now.search) task.now.limits steps response)) }
 {
     let Task { search, limits, .. } = *task;
     let program = &search.spelled.program;
@@ -107,55 +103,10 @@ fn found<W: Progress>(task: &Task<'_, '_>, steps: Steps, progress: &mut W) -> An
         Steps::Single => shown(task, false, &explored),
         Steps::Merged => shown(task, true, &explored),
         Steps::MergedFirst => match explored {
-            Verdict::Found(fault) => shortest_found(task, into_schedule(fault), progress),
+            Verdict::Found { states, found } => shorter_found(task, states, found, progress),
             Verdict::Nowhere { states, .. } => safe_shown(&search, true, states),
             Verdict::Limit { states } => limit_shown(task, true, states),
         },
-    }
-}
-
-/// What is told of a fault that merged steps have found, where this schedule leads to it: a shortest schedule, by single
-/// steps; where these meet a limit, what is left of this one when each step is left out that can be.
-pub fn shortest_found<W: Progress>(
-    task: &Task<'_, '_>,
-    schedule: Vec<u8>,
-    progress: &mut W,
-) -> Answered
-    requires sound { IsSound task.now.search }
-    requires lawful { IsLawful task.now.search schedule.items }
-    requires fault { is_fault (lines_of task.now.search.lines.now.properties.items) (source (resolved task.now.search.spelled.now.program) schedule.items) ≡ true }
-    ensures { IfOk result (λ response. IsHeard (hearing W.begins W.hears) progress.old progress.new (TellsShortest (sought_by task.now.search) task.now.limits response)) }
-{
-    let Task { search, limits, .. } = *task;
-    let alloc = search.alloc;
-    let program = &search.spelled.program;
-    let properties = search.lines.properties.as_slice();
-    progress.begin(false);
-    let explored = explore(
-        alloc,
-        program,
-        properties,
-        StepKind::Single,
-        limits,
-        progress,
-    )?;
-    match explored {
-        Verdict::Found(fault) => fault_said(&search, &fault, trap_line(false), break_line(false)),
-        Verdict::Nowhere { .. } => unreachable!(),
-        Verdict::Limit { .. } => {
-            let minimal = shrink_fault(alloc, program, properties, schedule)?;
-            fault_said(&search, &minimal, MINIMAL, MINIMAL_BREAK)
-        }
-    }
-}
-
-/// The schedule of a fault.
-pub fn into_schedule(fault: Fault) -> Vec<u8>
-    ensures { result ≡ schedule_of fault }
-{
-    match fault {
-        Fault::Trapped(schedule) => schedule,
-        Fault::Broken { schedule, .. } => schedule,
     }
 }
 
@@ -169,7 +120,7 @@ fn shown(task: &Task<'_, '_>, is_merged: bool, explored: &Verdict<Fault, ()>) ->
     let search = &task.search;
     match explored {
         Verdict::Nowhere { states, .. } => safe_shown(search, is_merged, *states),
-        Verdict::Found(fault) => {
+        Verdict::Found { found: fault, .. } => {
             fault_said(search, fault, trap_line(is_merged), break_line(is_merged))
         }
         Verdict::Limit { states } => limit_shown(task, is_merged, *states),

@@ -1,4 +1,4 @@
-//! `ticklab hunt` without `--threads`.
+//! `ticklab hunt` without `--threads`: random schedules, and how the first with a fault is told.
 ghost use Rattle.std.specs.Prelude.{◌≡◌, ◌<◌, ◌++◌, IfErr, IfOk, IfSome, length, string_bytes};
 ghost use Rattle.searches_explore.specs.Never.{IfBreaks, schedule_of};
 ghost use Rattle.ticklab_files.specs.Asking.{texts_of};

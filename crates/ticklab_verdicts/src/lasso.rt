@@ -1,4 +1,4 @@
-//! `ticklab lasso`.
+//! `ticklab lasso`: whether a given prefix and cycle go on for ever, and how that is told.
 ghost use Rattle.std.specs.Prelude.{◌≡◌, ◌<◌, ◌||◌, All, IfErr, IfOk, Some, option_map, string_bytes};
 ghost use Rattle.tick_kinds.specs.Resolution.{resolved};
 ghost use Rattle.ticketc_refusals.specs.Refusals.{SpelledIn};

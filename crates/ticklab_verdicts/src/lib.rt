@@ -14,6 +14,7 @@ mod lasso;
 mod progress;
 mod run_objects;
 mod search;
+mod shorter;
 mod tallying;
 mod trapping;
 

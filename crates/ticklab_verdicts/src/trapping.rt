@@ -89,7 +89,8 @@ fn broken_answer(
 ) -> Result<Vec<u8>, NoMemory>
     requires sound { IsSound search.now }
     requires schedule { IsLawful search.now schedule.now }
-    ensures { IfOk result (λ out. IsBrokenAnswer search.now.output found.now (head_members head.entry) search.now.input.now search.now.spelled.now.program schedule.now (place_of place.now) value out.items) }
+    ensures { IfOk result (λ out. IsBrokenAnswer search.now.output found.now (head_members head.entry)
+        search.now.input.now search.now.spelled.now.program schedule.now (place_of place.now) value out.items) }
 {
     match search.output {
         Output::Text => {

@@ -1,4 +1,9 @@
 -- Stamps and clears that were worked out by hand.
+-- The first part is computed: two processes in turn, one that gives its label up, three processes, one alone, and labels
+-- that are read back from their word. The second part has words that stand for no labels, by the bounds of what a word may
+-- have: a byte is too high (`no_digit`), there is a byte or a bit too many (`no_third_byte`, `no_third_bit`), or an absent
+-- process has a byte that isn't 0 (`no_absent`).
+-- Read `came_back` first, then `left_labels` and `no_digit`.
 use Rattle.std.proofs.Common.{◌≡◌, ◌<◌, None, Some, List, [], ◌∷◌, refl, lit<, lit≤, arith}
 use Rattle.ticket_core.specs.Tickets.{start_tickets, ticket_ranks, tickets_moved}
 use Rattle.ticket_core.specs.declared.moves.Move.{Move}

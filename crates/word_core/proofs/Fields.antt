@@ -1,4 +1,9 @@
 -- Numbers in fields of one width, side by side in one number.
+-- The idea. The first number is in the lowest field, and the fields of the others are above it (`place_split`). So all is
+-- by induction over the labels. Where each number fits its field, all together are below the power of two behind the last
+-- field (`fields_lt`). Each number is read back from its field (`field_at`), and the whole is known from what is read
+-- (`fields_back`). `fields_set` puts another number into a field, and `fields_but` empties one by a mask.
+-- Read `fields_lt` first, then `field_at` and `fields_but`.
 use Rattle.std.proofs.Common.{◌≡◌, ℕ, suc, zero, ◌+◌, ◌-◌, ◌*◌, ◌/◌, ◌%◌, ◌^◌, ◌<◌, ◌≤◌, Option, None, List, [], ◌∷◌, length, set, sym, ap, ◌∙◌, subst, arith}
 use Rattle.std.specs.Prelude.{All, bit_and}
 use Rattle.std.specs.Int.Bits.{and_zero_r}

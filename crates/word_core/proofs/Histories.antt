@@ -1,4 +1,9 @@
 -- Facts of histories, each by induction from the front with what is shared as accumulator.
+-- The idea. A step at the end comes after all others (`memory_after-snoc`, `tickets_from-snoc`, `legal_from-snoc`). By
+-- cases of one act, labels and tickets go on to agree (`acted_agrees`), and register rows keep their form (`acted_rows`).
+-- So both hold after each history. `history_stands`, `word_stands`, `beginning`, `next_step`, `one_step` and `history_rows`
+-- are the laws.
+-- Read `acted_agrees` first, then `history_stands`.
 use Rattle.std.proofs.Common.{◌≡◌, ℕ, ◌^◌, ◌<◌, List, [], ◌∷◌, ◌++◌, refl, sym, ◌∙◌, subst, arith, length-set}
 use Rattle.std.specs.Prelude.{replicate, slice_set, slice_index_or}
 use Rattle.std.proofs.lemmas.List.Elements.{All-get_or, All-set, All-replicate}

@@ -1,4 +1,9 @@
 -- Where labels are in an order, how many each is above are numbers of that order too.
+-- The idea. A label with a higher number is above all that one with a lower number is above (`passes_on`). So its count is
+-- no lower (`ranks_le`), and higher where its number is (`ranks_lt`). An absent process has number 0, and another 1 more
+-- than its count. `grows` says of both together that they grow as the numbers of the order. By `ordered_pairs` and
+-- `pairs_ordered`, labels are in an order exactly where these numbers order each pair.
+-- Read `passes_on` first, then `grows` and `ordered_pairs`.
 use Rattle.std.proofs.Common.{◌≡◌, ℕ, ◌+◌, ◌<◌, ◌≤◌, true, false, ltb, Option, None, Some, List, length, refl, sym, ap, ◌∙◌, arith, ⊎_elim}
 use Rattle.std.specs.Prelude.{slice_index}
 use Rattle.std.specs.List.{AllByRecursion}

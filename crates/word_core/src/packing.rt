@@ -1,3 +1,4 @@
+//! Where labels stand in the 64 bits of a word: a byte and a presence bit for each process.
 ghost use Rattle.std.specs.Prelude.{◌≡◌, ◌↔◌, ◌==◌, ◌+◌, ◌-◌, ◌*◌, ◌^◌, ◌<◌, ◌≤◌, ℕ, [], length, replicate, bit_and, MatchOption, IsTrue};
 ghost use Rattle.label_core.specs.Labels.{label_number};
 ghost use Rattle.word_core.specs.Stamps.{Labels, cleared};

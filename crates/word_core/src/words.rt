@@ -1,3 +1,4 @@
+//! `LabelWord`: the labels of all processes in one word. It is read, asked, and changed by stamps and clears.
 ghost use Rattle.std.specs.Prelude.{◌≡◌, ◌↔◌, ◌+◌, ◌-◌, ◌<◌, ◌≤◌, ℕ, Option, None, Some, List, [], ◌++◌, length, take, replicate, slice_index, slice_set, All, IfSome, MatchOption, IsTrue};
 ghost use Rattle.label_core.specs.Labels.{IsLabel, next};
 ghost use Rattle.ticket_core.specs.Tickets.{start_tickets, stamp_ticket, clear_ticket};

@@ -46,6 +46,7 @@ complete -c ticklab -n 'contains -- hunt (commandline -opc)[2]' -F
 complete -c ticklab -n 'contains -- trace (commandline -opc)[2]' -l code -d 'Takes the program\'s code, on bounded labels; the schedule is one of the code'
 complete -c ticklab -n 'contains -- trace (commandline -opc)[2]' -l lift -d 'Takes the code, and a schedule of the program, which is lifted to the code'
 complete -c ticklab -n 'contains -- trace (commandline -opc)[2]' -l never -x -d 'Also marks where EXPR first holds, as a line #! never EXPR of the program does; it may be given again; not with --code or --lift'
+complete -c ticklab -n 'contains -- trace (commandline -opc)[2]' -l shared -d 'Folds what touches nothing shared: a row of such steps of one process is told as one'
 complete -c ticklab -n 'contains -- trace (commandline -opc)[2]' -l json -d 'Prints the answer as JSON'
 complete -c ticklab -n 'contains -- trace (commandline -opc)[2]' -s h -l help -d 'Print help'
 complete -c ticklab -n 'contains -- trace (commandline -opc)[2]' -F
@@ -65,6 +66,7 @@ complete -c ticklab -n 'contains -- page (commandline -opc)[2]' -l code -d 'Take
 complete -c ticklab -n 'contains -- page (commandline -opc)[2]' -l lift -d 'Takes the code, and a schedule of the program, which is lifted to the code'
 complete -c ticklab -n 'contains -- page (commandline -opc)[2]' -l never -x -d 'Also marks where EXPR first holds, as a line #! never EXPR of the program does; it may be given again; not with --code or --lift'
 complete -c ticklab -n 'contains -- page (commandline -opc)[2]' -l title -x -d 'The title of the page [default: the name of the program\'s file]'
+complete -c ticklab -n 'contains -- page (commandline -opc)[2]' -l shared -d 'Folds what touches nothing shared: a row of such steps of one process is told as one'
 complete -c ticklab -n 'contains -- page (commandline -opc)[2]' -s h -l help -d 'Print help'
 complete -c ticklab -n 'contains -- page (commandline -opc)[2]' -F
 complete -c ticklab -n 'contains -- page (commandline -opc)[2]' -a '(set -l word (commandline -ct); string match -q \'@*\' -- $word; and string replace -r \'^\' @ -- (__fish_complete_path (string sub -s 2 -- $word)))'

@@ -11,7 +11,10 @@ use tick_run::{Gate, RunEnd};
 // if (me == 0) { stamp; stamp; s = scan; x = older s 1 0; out x; s = scan; }
 // else { stamp; stamp; stamp; stamp; stamp; stamp; }
 const COMES_BACK: &str =
-    "tickcode 1 3 1 1 0\nMe\nPush 0\nBin ==\nJumpZero 18\nLoadWord\nNext\nExchange 4\nLoadWord\nNext\nExchange 7\nScan 0\nPush 1\nPush 0\nOlder 0 0\nLoad 0\nOut\nScan 0\nJump 36\nLoadWord\nNext\nExchange 18\nLoadWord\nNext\nExchange 21\nLoadWord\nNext\nExchange 24\nLoadWord\nNext\nExchange 27\nLoadWord\nNext\nExchange 30\nLoadWord\nNext\nExchange 33\nHalt\n";
+    "tickcode 1 3 1 1 0\nMe\nPush 0\nBin ==\nJumpZero 18\nLoadWord\nNext\nExchange 4\nLoadWord\nNext\nExchange 7\n\
+     Scan 0\nPush 1\nPush 0\nOlder 0 0\nLoad 0\nOut\nScan 0\nJump 36\nLoadWord\nNext\nExchange 18\nLoadWord\nNext\n\
+     Exchange 21\nLoadWord\nNext\nExchange 24\nLoadWord\nNext\nExchange 27\nLoadWord\nNext\nExchange 30\nLoadWord\n\
+     Next\nExchange 33\nHalt\n";
 
 // Which process makes its steps on what is shared next, and up to which of them. After the last each goes
 // on as it likes.

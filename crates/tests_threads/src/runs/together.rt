@@ -16,7 +16,10 @@ impl Gate for Open {
 // put r (me + 1); if (me == 1) { x = (0 - 1); } else { if (me == 2) { while 1 { stamp; } } else {
 // if (me == 3) { while 1 { out me; } } else { out 5; out 6; } } }
 const EACH_ITS_WAY: &str =
-    "tickcode 1 4 1 0 1\nMe\nPush 1\nBin +\nPut 0\nMe\nPush 1\nBin ==\nJumpZero 13\nPush 0\nPush 1\nBin -\nStore 0\nJump 38\nMe\nPush 2\nBin ==\nJumpZero 24\nPush 1\nJumpZero 23\nLoadWord\nNext\nExchange 19\nJump 17\nJump 38\nMe\nPush 3\nBin ==\nJumpZero 34\nPush 1\nJumpZero 33\nMe\nOut\nJump 28\nJump 38\nPush 5\nOut\nPush 6\nOut\nHalt\n";
+    "tickcode 1 4 1 0 1\nMe\nPush 1\nBin +\nPut 0\nMe\nPush 1\nBin ==\nJumpZero 13\nPush 0\nPush 1\nBin -\n\
+     Store 0\nJump 38\nMe\nPush 2\nBin ==\nJumpZero 24\nPush 1\nJumpZero 23\nLoadWord\nNext\nExchange 19\nJump 17\n\
+     Jump 38\nMe\nPush 3\nBin ==\nJumpZero 34\nPush 1\nJumpZero 33\nMe\nOut\nJump 28\nJump 38\nPush 5\nOut\n\
+     Push 6\nOut\nHalt\n";
 
 static ITS_WAY: [Wanted<'static>; 1] = [Wanted {
     outputs: &[&[5, 6], &[], &[], &[3, 3, 3, 3]],

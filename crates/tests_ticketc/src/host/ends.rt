@@ -1,3 +1,4 @@
+//! Ends of the program that fail at a chosen call, and what the program makes of them.
 use std::alloc::{AllocError, Global};
 use std::env::Args;
 use std::io;

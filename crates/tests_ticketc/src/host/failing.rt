@@ -1,3 +1,4 @@
+//! Calls of the host that fail, and calls that are interrupted.
 use crate::host::ends::{Failing, Given, Taken, served};
 use std::io::ErrorKind;
 use std::sync::Wait;

@@ -1,50 +1,64 @@
-//! `ticklab check`.
-ghost use Rattle.std.specs.Prelude.{◌≡◌, ◌∷◌, [], IfErr, IfOk, length, map, option_map, string_bytes};
+//! `ticklab check`: which files are meant, and what is answered once they were searched.
+ghost use Rattle.std.specs.Prelude.{◌≡◌, ◌∷◌, ℕ, List, [], IfErr, IfOk, length, map, option_map, string_bytes};
 ghost use Rattle.std.specs.List.{filter};
 ghost use Rattle.ticklab_files.specs.Asking.{texts_of};
-ghost use Rattle.ticklab_answers.specs.Checks.{AreIn, AreNamed, AreRead, ChecksAll, IsAmong, IsNamed, IsUnderOne, TellsFindings, findings_in, name_in, slash_after};
+ghost use Rattle.ticklab_check.specs.Wording.{status_of};
+ghost use Rattle.ticklab_answers.specs.Checks.{AreIn, AreNamed, AreRead, ChecksAll, IsAmong, IsNamed, IsUnderOne, findings_in, name_in, slash_after};
+ghost use Rattle.ticklab_answers.specs.Hearing.{IsOfCheck, IsToldOf, IsUnwritten, WritesAll};
+ghost use Rattle.ticklab_files.specs.Responses.{Gives};
 ghost use Rattle.ticklab_files.specs.Reading.{is_tick};
 ghost use Rattle.ticklab_files.specs.Faults.{HasNoTicks, IsOfFile, IsOfFileThat, IsUnread};
 
+use crate::hearing::fault_of;
+use crate::host::Host;
 use base::NoMemory;
 use searches_explore::Limits;
 use std::alloc::{AllocError, Global};
-use ticklab_check::{Checks, Findings, Source, check};
-use ticklab_files::{
-    AnswerFault, Files, Form, LabFault, ReadFault, Response, bytes_of, is_input, output,
-};
+use std::io::Write;
+use ticklab_check::{Checks, Findings, Listener, Source, Unheard, check};
+use ticklab_files::{Files, Form, LabFault, ReadFault, Response, bytes_of, is_input, output};
 use ticklab_json::findings_object;
 
-/// Whether each of these files, and of the `.tick` files in these folders, is as it says, as far as these limits let each
-/// search go. All are read before the first is searched. They are searched by `checks`.
-pub fn checked<F: Files, C: Checks>(
+/// Whether each of these files, and of the `.tick` files in these folders, is as it says, as far as these limits let the
+/// searches go. All are read before the first is searched. They are searched by `checks`. For people, the lines of each file
+/// are written as soon as they are known, and the answer is the last line.
+pub fn checked<F: Files, O: Write, T, C: Checks>(
     alloc: Global,
-    files: &mut F,
+    host: &mut Host<F, O, T>,
     checks: &C,
     paths: &[&str],
     limits: Limits,
     form: Form,
 ) -> Result<Response, LabFault>
-    ensures ok { IfOk result (ChecksAll F.Reads F.ReadsInput F.Lists files.old files.new (texts_of paths.now) limits form) }
-    ensures err { IfErr result (IsOfFileThat (IsUnread F.Reads F.ReadsInput F.Lists F.Fails) (IsUnderOne (texts_of paths.now))) }
+    ensures ok { IfOk result (λ response. (written : List (List ℕ))
+        × ChecksAll F.Reads F.ReadsInput F.Lists host.old.files host.new.files (texts_of paths.now) limits (C.most checks.now) form written response
+        × WritesAll O.contents host.old host.new written) }
+    ensures err { IfErr result (IsOfCheck (IsUnread F.Reads F.ReadsInput F.Lists F.Fails) (IsUnderOne (texts_of paths.now)) form) }
 {
-    let names = names_of(alloc, files, paths)?;
-    let sources = sources_of(alloc, files, names)?;
-    Ok(sources_checked(alloc, checks, &sources, limits, form)?)
+    let names = names_of(alloc, &mut host.files, paths)?;
+    let sources = sources_of(alloc, &mut host.files, names)?;
+    match form {
+        Form::Text => heard(alloc, checks, &sources, limits, form, host),
+        Form::Json => heard(alloc, checks, &sources, limits, form, &mut Unheard),
+    }
 }
 
-fn sources_checked<C: Checks>(
+// The answer about these files, of which a listener hears.
+fn heard<C: Checks, L: Listener>(
     alloc: Global,
     checks: &C,
     sources: &[Source],
     limits: Limits,
     form: Form,
-) -> Result<Response, AnswerFault>
-    ensures { IfOk result (TellsFindings limits sources.now form) }
+    listener: &mut L,
+) -> Result<Response, LabFault>
+    ensures ok { IfOk result (IsToldOf L.hears listener.old listener.new (C.most checks.now) sources.now limits form) }
+    ensures err { IfErr result (IsUnwritten L.refuses) }
 {
-    let findings = check(alloc, checks, sources, limits)?;
-    let out = findings_told(alloc, sources, &findings, form)?;
-    Ok(output(alloc, findings.tally.status(), out))
+    match check(alloc, checks, sources, limits, listener) {
+        Ok(findings) => Ok(findings_told(alloc, sources, &findings, form)?),
+        Err(fault) => Err(fault_of(fault)),
+    }
 }
 
 fn findings_told(
@@ -52,14 +66,15 @@ fn findings_told(
     sources: &[Source],
     findings: &Findings,
     form: Form,
-) -> Result<Vec<u8>, NoMemory>
+) -> Result<Response, NoMemory>
     requires { length sources.now ≡ length findings.now.files.items }
-    ensures { IfOk result (λ out. out.items ≡ findings_in form sources.now findings.now) }
+    ensures { IfOk result (Gives (status_of findings.now.tally) (λ out. out ≡ findings_in form sources.now findings.now)) }
 {
-    match form {
-        Form::Text => Ok(findings.text(alloc, sources)?),
-        Form::Json => Ok(findings_object(alloc, sources, findings)?.into_bytes()),
-    }
+    let out = match form {
+        Form::Text => findings.last_line(alloc)?,
+        Form::Json => findings_object(alloc, sources, findings)?.into_bytes(),
+    };
+    Ok(output(alloc, findings.tally.status(), out))
 }
 
 // The files that these paths stand for.

@@ -1,4 +1,4 @@
-//! `ticklab explain`.
+//! `ticklab explain`: what is wrong with a program, a code or a schedule, or that nothing is.
 ghost use Rattle.std.specs.Prelude.{◌≡◌, ◌++◌, IfErr, IfOk, MatchResult, option_map};
 ghost use Rattle.ticketc_refusals.specs.Refusals.{IsCode, IsCodeRefused, ProgramIn};
 ghost use Rattle.ticklab_files.specs.Asking.{IsProgramFile};

@@ -14,7 +14,7 @@ fault_of (Trapped schedule) = F.Trap
 fault_of (Broken schedule line v) = F.Never
 
 abbrev pub found_of : Verdict Fault (Unit {0}) → Found
-found_of (V.Found fault) = fault_of fault
+found_of (V.Found states fault) = fault_of fault
 found_of (V.Nowhere states known) = F.Safe states
 found_of (V.Limit states) = F.Limit states
 
@@ -26,7 +26,7 @@ merged_known L.Ends states = F.Unsettled states
 merged_known L.CanEnd states = F.Unsettled states
 
 abbrev pub merged_found : Verdict Fault Liveness → Found
-merged_found (V.Found fault) = fault_of fault
+merged_found (V.Found states fault) = fault_of fault
 merged_found (V.Nowhere states known) = merged_known known states
 merged_found (V.Limit states) = F.Limit states
 
@@ -38,6 +38,6 @@ single_known (L.Stuck schedule lead_in cycle) states merged = F.Stuck merged
 single_known L.CanEnd states merged = F.Unsettled merged
 
 abbrev pub settled : Verdict Fault Liveness → ℕ → Found
-settled (V.Found fault) merged = fault_of fault
+settled (V.Found states fault) merged = fault_of fault
 settled (V.Nowhere states known) merged = single_known known states merged
 settled (V.Limit states) merged = F.Unsettled merged

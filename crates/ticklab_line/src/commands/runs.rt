@@ -2,9 +2,9 @@
 ghost use Rattle.std.specs.Prelude.{◌≡◌, IfOk, codes, map, option_map};
 ghost use Rattle.clap.specs.Matches.{found_of};
 ghost use Rattle.clap.specs.Walk.{first_of, rows_of};
-ghost use Rattle.ticklab_line.specs.Commands.{drawing_in, plain_drawing, plain_request, run_in, run_of, side_in};
+ghost use Rattle.ticklab_line.specs.Commands.{drawing_in, paging_in, plain_drawing, plain_paging, plain_request, run_in, run_of, side_in};
 
-use crate::commands::{AskedRun, Drawing, Lent, Request, Side};
+use crate::commands::{AskedRun, Drawing, Lent, Paging, Request, Side};
 use crate::described::Word::{Flag, Number, One, Repeated, Text};
 use crate::described::{Description, Word};
 use crate::values::{is_set, list_in, number_or, text_in};
@@ -35,12 +35,17 @@ const MARKED: Word = Repeated(
     "Also marks where EXPR first holds, as a line #! never EXPR of the program does; it may be given again; not with --code or --lift",
 );
 
+const FOLDED: Word = Flag(
+    "shared",
+    "Folds what touches nothing shared: a row of such steps of one process is told as one",
+);
+
 /// `ticklab trace`.
 pub const TRACE: Description = Description {
     name: "trace",
     about: "Prints a line for each step of a run",
     example: "Example: ticklab trace lock.tick \"0 1*3 0\"",
-    words: &[PROGRAM, SCHEDULE, CODE, LIFT, MARKED, JSON],
+    words: &[PROGRAM, SCHEDULE, CODE, LIFT, MARKED, FOLDED, JSON],
 };
 
 /// `ticklab draw`.
@@ -100,6 +105,7 @@ pub const PAGE: Description = Description {
             "TEXT",
             "The title of the page [default: the name of the program's file]",
         ),
+        FOLDED,
     ],
 };
 
@@ -126,8 +132,11 @@ fn run_of<'a>(name: &str, given: &ArgMatches<'a>, never: Vec<&'a str>) -> Option
     };
     match name {
         "draw" => Some(Request::Draw(run, drawing_in(given)?)),
-        "page" => Some(Request::Page(run, title_in(given))),
-        _ => Some(Request::Trace(run)),
+        "page" => Some(Request::Page(run, paging_in(given))),
+        _ => {
+            let is_shared = is_set(given, "shared");
+            Some(Request::Trace { run, is_shared })
+        }
     }
 }
 
@@ -147,6 +156,13 @@ fn title_in<'a>(given: &ArgMatches<'a>) -> Option<&'a str>
     ensures { option_map (λ text. text.now) result ≡ first_of (codes "title") (rows_of (found_of given.now)) }
 {
     text_in(given, "title")
+}
+
+fn paging_in<'a>(given: &ArgMatches<'a>) -> Paging<&'a str>
+    ensures { plain_paging result ≡ paging_in (rows_of (found_of given.now)) }
+{
+    let (title, is_shared) = (title_in(given), is_set(given, "shared"));
+    Paging { title, is_shared }
 }
 
 fn drawing_in<'a>(given: &ArgMatches<'a>) -> Option<Drawing<&'a str>>

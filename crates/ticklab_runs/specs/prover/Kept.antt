@@ -16,14 +16,14 @@ kept_with (Picture drawing) step steps = steps
 kept_with telling step steps = steps ++ step ∷ []
 
 abbrev pub marked_with : {T X : Type 0} → (ℕ → X → List Mark → List Mark) → Telling T → ℕ → X → List Mark → List Mark
-marked_with add (Trace form) number step marks = marks
+marked_with add (Trace tracing) number step marks = marks
 marked_with add telling number step marks = add number step marks
 
 -- the steps themselves, and their marks, which each step adds so
 abbrev pub IsKept : {T X : Type 0} → (ℕ → X → List Mark → List Mark) → Telling T → List X → List X → List Mark → Type 0
-IsKept add (Trace form) steps kept marks = kept ≡ steps
+IsKept add (Trace tracing) steps kept marks = kept ≡ steps
 IsKept add (Picture drawing) steps kept marks = marks ≡ marks_on add 1 [] steps
-IsKept add (Page title) steps kept marks = (kept ≡ steps) × (marks ≡ marks_on add 1 [] steps)
+IsKept add (Page paging) steps kept marks = (kept ≡ steps) × (marks ≡ marks_on add 1 [] steps)
 
 -- of the steps of a program under a schedule
 abbrev pub AreStatementsKept : {T : Type 0} → WholeProgram ℕ → List ℕ → Telling T → List StatementStep → List Mark → Type 0

@@ -8,7 +8,8 @@ use Rattle.tick_kinds.specs.Resolved.{resolved_statement}
 use Rattle.tick_source.specs.Values.{value}
 use Rattle.tick_source.specs.Source.{SourceProcess}
 use Rattle.ticklab_trace.specs.declared.links.Link.{Link}
-use Rattle.ticklab_trace.specs.StatementSteps.{target}
+use Rattle.ticklab_trace.specs.declared.steps.Scanned.{Scanned}
+use Rattle.ticklab_trace.specs.StatementSteps.{taken_by, target}
 use Rattle.ticklab_trace.specs.Numbers.{size, size_of, remains, inside}
 
 -- what remains after a statement, and where its test is 0
@@ -104,6 +105,11 @@ link_at links k _ = None
 abbrev pub linked_target : Option Link → Option ℕ
 linked_target None = None
 linked_target (Some link) = target (resolved_statement link.statement.now)
+
+-- and the scan that it takes or copies
+abbrev pub linked_taken : Option Link → Option Scanned
+linked_taken None = None
+linked_taken (Some link) = taken_by (resolved_statement link.statement.now)
 
 -- A process that runs has come to this number.
 abbrev pub HasCome : Block ℕ → ℕ → Option SourceProcess → Type 0

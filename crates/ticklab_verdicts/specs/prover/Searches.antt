@@ -1,5 +1,5 @@
 -- What an exploration comes to, by single steps or by merged ones.
-use Rattle.std.specs.Prelude.{◌≡◌, ℕ, ◌<◌, ⊤, ◌∷◌, Bool, true, false, List, length, map}
+use Rattle.std.specs.Prelude.{◌≡◌, ℕ, ◌<◌, ◌≤◌, ⊤, ◌∷◌, Bool, true, false, List, length, map}
 use Rattle.std.specs.List.{All}
 use Rattle.base.specs.Plain.{WholeProgram}
 use Rattle.language_properties.specs.declared.property.Property.{Property}
@@ -12,9 +12,9 @@ use Rattle.searches_fairness.specs.declared.liveness.Liveness.{Liveness}
 use Rattle.searches_fairness.specs.declared.liveness.Liveness.TheVariants as L
 use Rattle.searches_explore.specs.Ending.{CanAlwaysEnd, EndsIfFair, GoesOn, IsEndlessBy, IsLoopAfter}
 use Rattle.searches_explore.specs.Lines.{lines_of}
-use Rattle.searches_explore.specs.Never.{AreToldFor, IfBroken, IfFault, IfKnown, IfLimit, IfSafe, IfTrapped}
+use Rattle.searches_explore.specs.Never.{AreToldFor, IfBroken, IfFault, IfFaultIn, IfKnown, IfLimit, IfSafe, IfTrapped}
 use Rattle.searches_explore.specs.declared.fault.Fault.{Fault}
-use Rattle.ticklab_verdicts.specs.BySteps.{BrokenBy, LimitBy, SafeBy, SeesBy, StuckBy, TrapBy}
+use Rattle.ticklab_verdicts.specs.BySteps.{BrokenBy, FoundBy, LimitBy, SafeBy, SeesBy, StuckBy, TrapBy}
 use Rattle.ticklab_verdicts.specs.Sought.{IsLawful}
 use Rattle.ticklab_verdicts.specs.declared.search.Search.{Search}
 use Rattle.ticklab_verdicts.specs.Hearing.{Heard, HearsOf, IsHeard, begun, seen}
@@ -31,6 +31,8 @@ module _ {E : Type 0} (m : Bool) (a : WholeProgram ℕ) (lines : List Property) 
   pub record IsKnownBy (e : Verdict Fault E) : Type 0 where
     pub trapped : IfTrapped e (TrapBy m a (lines_of lines))
     pub broken : IfBroken e (BrokenBy m a (lines_of lines))
+    pub seen : IfFaultIn e (FoundBy m a (lines_of lines))
+    pub few : IfFaultIn e (λ states _. states ≤ limits.states)
     pub safe : IfSafe e (SafeBy m a (lines_of lines) limits)
     pub at_limit : IfLimit e (LimitBy m a (lines_of lines) limits)
     pub lawful : IfFault e (All (λ p. p < a.processes))

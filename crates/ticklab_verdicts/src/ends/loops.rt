@@ -53,7 +53,8 @@ fn loop_object(
 ) -> Result<String, NoMemory>
     requires sound { IsSound search.now }
     requires lawful { AreLawful (resolved search.now.spelled.now.program).processes looped }
-    ensures { IfOk result (λ text. IsLoopObject word.now says.now search.now.input.now search.now.spelled.now.program looped.entry.schedule.now looped.entry.lead_in.now looped.entry.cycle.now (string_bytes text)) }
+    ensures { IfOk result (λ text. IsLoopObject word.now says.now search.now.input.now search.now.spelled.now.program
+        looped.entry.schedule.now looped.entry.lead_in.now looped.entry.cycle.now (string_bytes text)) }
 {
     let alloc = search.alloc;
     let program = &search.spelled.program;
@@ -122,7 +123,7 @@ fn push_steps(
     ensures { OnOk result (string_bytes text.new ≡ string_bytes text.old ++ steps_text program.now (map told_standing spots.now) words.now schedule.now steps.now) }
 {
     let written = write_schedule(alloc, schedule)?;
-    let trace = source_trace(alloc, program, spots, 0, steps)?;
+    let trace = source_trace(alloc, program, spots, None, 0, steps)?;
     text.push_str(words)?;
     text.push_str("\n")?;
     text.push_str(&written)?;

@@ -1,3 +1,10 @@
+-- How the goals of the functions that emit statements are met: `emit_branch`, `emit_repeat`, `emit_statement` and
+-- `emit_block`.
+-- The idea. All lemmas are those of `Emitted.antt`. The lengths there (`long_tested` and its like) show that each place
+-- fits. `patch_branch` and `patch_repeat` say that the code is that of the statement, once its jumps are written.
+-- `emit_statement` has the parts of a statement behind references (`branch_lent`, `repeat_lent`). `emit_block` is a loop,
+-- with what `Emitting` says as its invariant.
+-- Read `emit_branch-returns` first, then `emit_block-loop-statement-preserved`.
 use Rattle.std.proofs.Common.{◌≡◌, ℕ, ◌+◌, ◌∙◌, ◌++◌, ap, arith, length, sym, drop, subst}
 use Rattle.std.specs.Prelude.{slice_set, OnOk}
 use Rattle.code_core.specs.declared.instr.Instr.TheVariants as I

@@ -4,5 +4,5 @@ use Rattle.ticklab_draw.proofs.feet.push_feet.Given as goal
 
 abbrev pub invariant-loop-at : goal.invariant-loop-at
 invariant-loop-at l =
-    l.out.items ++ feet_text l.look l.n l.columns l.marks l.at (drop l.at l.marks)
-    ≡ l.fn.out.items ++ feet_text l.look l.n l.columns l.marks 0 l.marks
+    l.out.items ++ feet_text l.look l.bands l.columns l.marks l.at (drop l.at l.marks)
+    ≡ l.fn.out.items ++ feet_text l.look l.bands l.columns l.marks 0 l.marks

@@ -17,5 +17,5 @@ returns c =
           (c.blank_start-before.result, c.word_start.result, rw c.min.ensures at c.blank_start-before.ensures, c.word_start.ensures, c.as_text.ensures);
       is_right =
           (c.blank_end-after.result, c.word_end.result, rw c.behind.ensures at (rw c.min-2.ensures at c.blank_end-after.ensures), c.word_end.ensures, c.as_text-2.ensures);
-      same_processes = refl;
+      same_items = refl;
     }

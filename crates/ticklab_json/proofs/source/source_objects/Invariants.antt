@@ -6,5 +6,5 @@ use Rattle.ticklab_json.proofs.source.source_objects.Given as goal
 
 abbrev pub invariant-loop-number : goal.invariant-loop-number
 invariant-loop-number l =
-    string_bytes l.text ++ lines (statement_list l.program (map told_standing l.spots) (option_map broken_line l.broken) l.number (drop l.number l.steps))
-    ≡ statement_objects l.program (map told_standing l.spots) (option_map broken_line l.broken) l.steps
+    string_bytes l.text ++ lines (statement_list l.program (map told_standing l.spots) l.parts l.tells (option_map broken_line l.broken) l.number (drop l.number l.steps))
+    ≡ statement_objects l.program (map told_standing l.spots) l.parts l.tells (option_map broken_line l.broken) l.steps

@@ -10,7 +10,7 @@ unfolding value_row
 returns c =
     on_ok c.push_row.result
     (three c.args.page.now.items c.push_around.new.page.items c.push_shown.new.page.items c.push_row.new.page.items
-    (around c.args.letter.now c.args.number (codes "\"><th scope=\"row\">")) (shown c.args.name.now) (fixed_row (codes "</th>") c.args.n (codes "<td>0</td>"))
+    (around c.args.letter.now c.args.number (codes "\"><th scope=\"row\">")) (shown c.args.name.now) (fixed_row (codes "</th>") c.args.n c.args.cell.now)
     c.in_ok-push_around.ensures
     (c.in_ok-push_shown.ensures ∙ ap (λ (t : List ℕ). c.push_around.new.page.items ++ shown t) c.as_bytes.ensures.value))
     c.push_row.ensures

@@ -16,7 +16,7 @@ returns c =
     then_ok c.picture.result
     (λ out drawn.
     drawn
-    ∙ ap (λ (n : ℕ). picture title c.args.look n (names c.as_slice-registers.result.now) marks mark) c.processes-n.ensures.count
-    ∙ ap (λ (rows : List (List ℕ)). picture title c.args.look a.processes rows marks mark)
+    ∙ ap (λ (n : ℕ). picture title c.args.look n (names c.as_slice-registers.result.now) c.args.parts marks mark) c.processes-n.ensures.count
+    ∙ ap (λ (rows : List (List ℕ)). picture title c.args.look a.processes rows c.args.parts marks mark)
     (ap names c.as_slice-registers.ensures.value ∙ named c.tree.result.now.registers.items ∙ ap row_names c.tree.ensures.tree))
     c.picture.ensures

@@ -1,10 +1,10 @@
-use Rattle.std.proofs.Common.{◌∙◌, List, ap, refl, subst}
+use Rattle.std.proofs.Common.{◌∙◌, List, None, ap, refl, subst}
 use Rattle.code_core.specs.Instructions.{StepCode}
 use Rattle.ticklab_draw.specs.Marks.{instruction_marks, with_instruction}
 use Rattle.ticklab_trace.specs.InstructionSteps.{AreInstructionSteps}
 use Rattle.ticklab_trace.specs.declared.steps.InstructionStep.{InstructionStep}
 use Rattle.ticklab_files.proofs.Responding.{then_ok}
-use Rattle.ticklab_runs.specs.Pages.{whole_look}
+use Rattle.ticklab_runs.specs.Pages.{page_look}
 use Rattle.ticklab_runs.specs.Steps.{CodeRun}
 use Rattle.ticklab_runs.specs.Traces.{instructions_told}
 use Rattle.ticklab_runs.specs.prover.Kept.{IsKept}
@@ -19,7 +19,7 @@ returns-in-Trace c =
     let same = subst (λ t. IsKept with_instruction t k.0 c.in_ok-run.run'.steps.items c.in_ok-run.run'.marks.items) c.in-Trace.is k.2 in
     rw c.in-Trace.is
     (then_ok c.instructions_told.result
-    (λ out told. (ran, told ∙ ap (λ (steps : List InstructionStep). instructions_told c.in-Trace.form c.args.program.now steps) (c.as_slice.ensures.value ∙ same)))
+    (λ out told. (ran, told ∙ ap (λ (steps : List InstructionStep). instructions_told c.in-Trace.tracing c.args.program.now steps) (c.as_slice.ensures.value ∙ same)))
     c.instructions_told.ensures)
 
 pub returns-in-Page : goal.returns-in-Page
@@ -30,13 +30,14 @@ returns-in-Page c =
     let are = subst (λ (code : StepCode). AreInstructionSteps code c.args.schedule.now k.0) c.requires.code k.1 in
     let ran : CodeRun c.args.program.now c.args.schedule.now = record { has_code = c.requires.has_code; steps = k.0; are_steps = are } in
     let both = subst (λ t. IsKept with_instruction t k.0 c.in_ok-run.run'.steps.items c.in_ok-run.run'.marks.items) c.in-Page.is k.2 in
-    let title = c.title_of.ensures in
+    let title = c.title_of-title.ensures in
+    let look = page_look c.in-Page.paging.is_shared in
     rw c.in-Page.is
     (then_ok c.code_page_of.result
     (λ out page. (
       ran,
-      page ∙ same_code_page a _ _ title run.marks.items (instruction_marks k.0) both.1 c.args.code.now _ run.steps.items k.0 _ _ c.requires.code both.0
-          (same_picture a _ _ title run.marks.items (instruction_marks k.0) both.1 whole_look whole_look _ _ refl refl),
+      page ∙ same_code_page a _ _ title run.marks.items (instruction_marks k.0) both.1 c.in-Page.paging.is_shared c.args.code.now _ run.steps.items k.0 _ _ c.requires.code both.0
+          (same_picture a _ _ title run.marks.items (instruction_marks k.0) both.1 look look None _ _ refl refl),
     )) c.code_page_of.ensures)
 
 pub returns : goal.returns
@@ -50,5 +51,5 @@ returns c =
     (then_ok c.picture_of.result
     (λ out drawn. (
       ran,
-      drawn ∙ same_picture a _ _ c.title_of-title.ensures c.as_slice-marks.result.now (instruction_marks k.0) (c.as_slice-marks.ensures.value ∙ marked) _ _ _ _ c.look_of.ensures refl,
+      drawn ∙ same_picture a _ _ c.title_of-title-in-Picture.ensures c.as_slice-marks.result.now (instruction_marks k.0) (c.as_slice-marks.ensures.value ∙ marked) _ _ None _ _ c.look_of.ensures refl,
     )) c.picture_of.ensures)

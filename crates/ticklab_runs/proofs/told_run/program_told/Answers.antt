@@ -6,7 +6,6 @@ use Rattle.ticklab_trace.specs.declared.steps.StatementStep.{StatementStep}
 use Rattle.ticklab_files.specs.Asking.{place_of}
 use Rattle.ticklab_files.proofs.Responding.{then_ok}
 use Rattle.ticklab_runs.specs.Breaking.{broken_at, mark_of}
-use Rattle.ticklab_runs.specs.Pictures.{look_of}
 use Rattle.ticklab_runs.specs.Traces.{IsTraceOf}
 use Rattle.ticklab_runs.specs.prover.Kept.{IsKept}
 use Rattle.ticklab_runs.proofs.Breaks.{line_found, steps_found}
@@ -40,7 +39,7 @@ returns-in-Trace c =
     (then_ok c.program_trace.result
     (λ out told. (
       record { steps = k.0; are_steps = k.1; broken = broken; is_first = c.in_ok-run.ensures.broken },
-      subst (λ (steps : List StatementStep). IsTraceOf c.in-Trace.form s.text.now a steps broken out.items) same told,
+      subst (λ (steps : List StatementStep). IsTraceOf c.in-Trace.tracing s.text.now a s.parts steps broken out.items) same told,
     )) c.program_trace.ensures)
 
 pub returns-in-Page : goal.returns-in-Page
@@ -58,7 +57,7 @@ returns-in-Page c =
     (then_ok c.program_page.result
     (λ out page. (
       record { steps = k.0; are_steps = k.1; broken = broken; is_first = c.in_ok-run.ensures.broken },
-      same_page a _ _ c.title_of-title.ensures run.marks.items (statement_marks k.0) both.1 s.text.now out.items run.steps.items k.0 _ _ both.0 never page,
+      same_page a _ _ c.title_of-title.ensures run.marks.items (statement_marks k.0) both.1 s.text.now out.items c.in-Page.paging.is_shared s.parts run.steps.items k.0 _ _ both.0 never page,
     )) c.program_page.ensures)
 
 pub returns : goal.returns
@@ -76,5 +75,6 @@ returns c =
     (then_ok c.picture_of.result
     (λ out drawn. (
       record { steps = k.0; are_steps = k.1; broken = broken; is_first = c.in_ok-run.ensures.broken },
-      drawn ∙ same_picture a _ _ c.title_of-title-in-Picture.ensures c.as_slice-marks.result.now (statement_marks k.0) (c.as_slice-marks.ensures.value ∙ marked) _ _ _ _ c.look_of.ensures never,
+      drawn ∙ same_picture a _ _ c.title_of-title-in-Picture.ensures c.as_slice-marks.result.now (statement_marks k.0)
+          (c.as_slice-marks.ensures.value ∙ marked) _ _ s.parts _ _ c.look_of-look.ensures never,
     )) c.picture_of.ensures)

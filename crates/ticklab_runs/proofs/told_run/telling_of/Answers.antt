@@ -41,5 +41,5 @@ returns-clause-ok c =
     let asked = s.asked.now in
     rw c.if-subject.false
     (subst (λ (steps : List ℕ). IsProgramTold (plain_telling c.args.telling.now) s.name.now (lines_of asked.lines.properties.items)
-    (map place_of asked.lines.places.items) s.text.now asked.spelled.program steps c.in_ok-program_told.field-0.items)
+    (map place_of asked.lines.places.items) s.text.now asked.spelled.program s.parts steps c.in_ok-program_told.field-0.items)
     c.steps_told-schedule.ensures c.in_ok-program_told.ensures)

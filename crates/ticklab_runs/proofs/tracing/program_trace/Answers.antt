@@ -12,12 +12,12 @@ returns c =
     let a = c.args.spelled.now.program in
     let line = broken_at c.in-Some.line in
     let steps = c.args.run.now.steps.items in
-    let form = c.args.form in
+    let tracing = c.args.tracing in
     then_ok c.told_with.result
     (λ out told. (
       c.in_ok-spots.ensures.tokens,
       c.in_ok-spots.ensures.spelled,
-      subst (λ (found : Option BrokenLine). AreTold form (option_map broken_at found) a (standings c.args.text.now c.in_ok-spots.ensures.tokens a) steps out.items) (sym c.in-Some.is)
-          (subst (λ (spots : List Standing). AreToldWith form line a spots steps out.items) (ap (map told_standing) c.as_slice-spots.ensures.value ∙ c.in_ok-spots.ensures.told)
-          (subst (λ (shown : List StatementStep). AreToldWith form line a (map told_standing c.as_slice-spots.result.now) shown out.items) c.as_slice-steps.ensures.value told)),
+      subst (λ (found : Option BrokenLine). AreTold tracing (option_map broken_at found) a (standings c.args.text.now c.in_ok-spots.ensures.tokens a) c.args.parts steps out.items) (sym c.in-Some.is)
+          (subst (λ (spots : List Standing). AreToldWith tracing line a spots c.args.parts steps out.items) (ap (map told_standing) c.as_slice-spots.ensures.value ∙ c.in_ok-spots.ensures.told)
+          (subst (λ (shown : List StatementStep). AreToldWith tracing line a (map told_standing c.as_slice-spots.result.now) c.args.parts shown out.items) c.as_slice-steps.ensures.value told)),
     )) c.told_with.ensures

@@ -10,6 +10,6 @@ returns-clause-step c =
     let after = c.step.new.self in
     λ body table at.
     step_is body c.args.links.now table c.args.number (length s.processes) c.args.p s after c.status.result c.link_at-link.result c.number_of-number.result
-    c.act_after-act.result c.written-written.result c.shown-tickets.result at c.status.ensures c.in_ok-step.ensures.ok c.link_at-link.ensures c.number_of-number.ensures
+    c.act_after-act.result c.written-written.result c.scanned-scanned.result c.shown-tickets.result at c.status.ensures c.in_ok-step.ensures.ok c.link_at-link.ensures c.number_of-number.ensures
     (c.act_after-act.ensures ∙ λ i. option_map (λ e. e.act) (slice_get (c.events.ensures i) (length (c.events-told.ensures i))))
-    c.written-written.ensures (c.shown-tickets.ensures ∙ ap (shown c.act_after-act.result) c.tickets.ensures)
+    c.written-written.ensures c.scanned-scanned.ensures (c.shown-tickets.ensures ∙ ap (shown c.act_after-act.result) c.tickets.ensures)

@@ -50,7 +50,7 @@ returns-clause-ok g c =
     let asked = asked_of c.in_ok-spelled.questions in
     let held = c.in_ok-lines.lines in
     let there = subst (λ n. IsThere n c.args.process) c.processes.ensures.count c.in_ok-asked.ensures.there in
-    ends_moved (hearing g.W.Progress.begins g.W.Watch.hears) _ _ c.args.steps
+    ends_moved (hearing g.W.Progress.begins g.W.Progress.finds g.W.Watch.hears) _ _ c.args.steps
     (record { input = input; program = p; lines = lines_of held.properties.items; places = []; output = c.args.output })
     (map place_of held.places.items) (places_by name input asked texts)
     c.in_ok-asked.asked (asked_by asked.ends c.args.process) c.args.limits c.in_ok-ends_found.field-0

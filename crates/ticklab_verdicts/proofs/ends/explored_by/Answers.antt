@@ -17,6 +17,6 @@ returns g c =
     let told = subst (λ (k : StepKind). TellsEndsBy a (lines_of given) task.asked task.limits g.W.Watch.hears c.begin.new.self c.explore_ends.new.watch k e)
     c.kind_of-kind.ensures c.in_ok-explored.ensures in
     record {
-      searched = told_so g.W.Progress.begins g.W.Watch.hears _ _ _ a given _ c.as_slice-properties.ensures.value task.limits e m c.begin.ensures told.0;
+      searched = told_so g.W.Progress.begins g.W.Progress.finds g.W.Watch.hears _ _ _ a given _ c.as_slice-properties.ensures.value task.limits e m c.begin.ensures told.0;
       known = known_if m a task.asked e told.1;
     }

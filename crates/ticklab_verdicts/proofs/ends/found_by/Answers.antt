@@ -18,5 +18,5 @@ shown-requires g c =
 
 pub returns : goal.returns
 returns g c =
-    then_ok c.shown.result (λ x shows. ends_found_as c.args.task.now.search c.args.task.now.limits c.args.task.now.asked (hearing g.W.Progress.begins g.W.Watch.hears) _ _
+    then_ok c.shown.result (λ x shows. ends_found_as c.args.task.now.search c.args.task.now.limits c.args.task.now.asked (hearing g.W.Progress.begins g.W.Progress.finds g.W.Watch.hears) _ _
     c.args.is_merged c.in_ok-explored.explored x c.in_ok-explored.ensures shows) c.shown.ensures

@@ -14,47 +14,47 @@ use Rattle.ticklab_verdicts.proofs.ends.found_first.Goals as goal
 
 pub returns-then-is_nobody : goal.returns-then-is_nobody
 returns-then-is_nobody g c =
-    then_ok c.found_by.result (λ x found. heard_as (hearing g.W.Progress.begins g.W.Watch.hears) _ _
+    then_ok c.found_by.result (λ x found. heard_as (hearing g.W.Progress.begins g.W.Progress.finds g.W.Watch.hears) _ _
     (λ heard on. nobody (sym c.is_nobody.ensures ∙ c.if-is_nobody.true) on) found) c.found_by.ensures
 
-pub shortest_found-requires-clause-lawful : goal.shortest_found-requires-clause-lawful
-shortest_found-requires-clause-lawful g c =
-    of_fault (IsLawful c.args.task.now.search) c.in_ok-explored.explored c.in-Found.fault _ c.in-Found.is c.into_schedule.ensures c.in_ok-explored.ensures.searched.known.lawful
+pub shorter_found-requires-clause-lawful : goal.shorter_found-requires-clause-lawful
+shorter_found-requires-clause-lawful g c =
+    of_fault (IsLawful c.args.task.now.search) c.in_ok-explored.explored c.in-Found.states c.in-Found.found c.in-Found.is c.in_ok-explored.ensures.searched.known.lawful
 
-pub shortest_found-requires-clause-fault : goal.shortest_found-requires-clause-fault
-shortest_found-requires-clause-fault g c =
+pub shorter_found-requires-clause-fault : goal.shorter_found-requires-clause-fault
+shorter_found-requires-clause-fault g c =
     let a = program_of c.args.task.now.search in
     let props = held_of c.args.task.now.search in
     let e = c.in_ok-explored.explored in
-    of_fault (λ (schedule : List ℕ). is_fault (lines_of props) (source a schedule) ≡ true) e c.in-Found.fault _ c.in-Found.is c.into_schedule.ensures
+    of_fault (λ (schedule : List ℕ). is_fault (lines_of props) (source a schedule) ≡ true) e c.in-Found.states c.in-Found.found c.in-Found.is
     (fault_by a props true c.args.task.now.limits e c.in_ok-explored.ensures.searched.known)
 
 pub returns-in-Found : goal.returns-in-Found
 returns-in-Found g c =
     let q = c.args.task.now.search in
-    let H = hearing g.W.Progress.begins g.W.Watch.hears in
-    then_ok c.shortest_found.result (λ x told. fault_first q c.args.task.now.limits c.args.task.now.asked H _ _ _ c.in-Found.fault x
-    (ends_searched_is q c.args.task.now.limits c.args.task.now.asked H _ _ true _ (Found c.in-Found.fault) c.in-Found.is c.in_ok-explored.ensures) told)
-    c.shortest_found.ensures
+    let H = hearing g.W.Progress.begins g.W.Progress.finds g.W.Watch.hears in
+    then_ok c.shorter_found.result (λ x told. fault_first q c.args.task.now.limits c.args.task.now.asked H _ _ _ c.in-Found.states c.in-Found.found x
+    (ends_searched_is q c.args.task.now.limits c.args.task.now.asked H _ _ true _ (Found c.in-Found.states c.in-Found.found) c.in-Found.is c.in_ok-explored.ensures) told)
+    c.shorter_found.ensures
 
 pub more_found-requires-clause-safe : goal.more_found-requires-clause-safe
 more_found-requires-clause-safe g c =
     let q = c.args.task.now.search in
-    let H = hearing g.W.Progress.begins g.W.Watch.hears in
+    let H = hearing g.W.Progress.begins g.W.Progress.finds g.W.Watch.hears in
     (ends_searched_is q c.args.task.now.limits c.args.task.now.asked H _ _ true _ (Nowhere c.in-Nowhere.states c.in-Nowhere.known) c.in-Nowhere.is
     c.in_ok-explored.ensures).searched.known.safe
 
 pub more_found-requires-clause-known : goal.more_found-requires-clause-known
 more_found-requires-clause-known g c =
     let q = c.args.task.now.search in
-    let H = hearing g.W.Progress.begins g.W.Watch.hears in
+    let H = hearing g.W.Progress.begins g.W.Progress.finds g.W.Watch.hears in
     (ends_searched_is q c.args.task.now.limits c.args.task.now.asked H _ _ true _ (Nowhere c.in-Nowhere.states c.in-Nowhere.known) c.in-Nowhere.is
     c.in_ok-explored.ensures).known
 
 pub returns-in-Nowhere : goal.returns-in-Nowhere
 returns-in-Nowhere g c =
     let q = c.args.task.now.search in
-    let H = hearing g.W.Progress.begins g.W.Watch.hears in
+    let H = hearing g.W.Progress.begins g.W.Progress.finds g.W.Watch.hears in
     then_ok c.more_found.result (λ x told. quiet_first q c.args.task.now.limits c.args.task.now.asked H _ _ _ c.in-Nowhere.states c.in-Nowhere.known x
     (ends_searched_is q c.args.task.now.limits c.args.task.now.asked H _ _ true _ (Nowhere c.in-Nowhere.states c.in-Nowhere.known) c.in-Nowhere.is
     c.in_ok-explored.ensures) told) c.more_found.ensures
@@ -62,7 +62,7 @@ returns-in-Nowhere g c =
 pub returns-in-Limit : goal.returns-in-Limit
 returns-in-Limit g c =
     let q = c.args.task.now.search in
-    let H = hearing g.W.Progress.begins g.W.Watch.hears in
+    let H = hearing g.W.Progress.begins g.W.Progress.finds g.W.Watch.hears in
     then_ok c.limit_shown.result (λ x shows. unknown_first q c.args.task.now.limits c.args.task.now.asked H _ _ c.in-Limit.states x
     (ends_searched_is q c.args.task.now.limits c.args.task.now.asked H _ _ true _ (Limit c.in-Limit.states) c.in-Limit.is c.in_ok-explored.ensures) shows)
     c.limit_shown.ensures

@@ -15,7 +15,7 @@ use Rattle.ticklab_verdicts.proofs.exploring.explored.Goals as goal
 
 pub returns-in-Err-clause-ok : goal.returns-in-Err-clause-ok
 returns-in-Err-clause-ok g c =
-    let H = hearing g.W.Progress.begins g.W.Watch.hears in
+    let H = hearing g.W.Progress.begins g.W.Progress.finds g.W.Watch.hears in
     let explores : List ℕ → Response → Type 0 = λ input y. IsHeard H c.args.progress.now c.args.progress.now
     (IsExplored c.args.steps c.args.file.now (texts_of c.args.never.now) c.args.limits c.args.output input y) in
     let x = c.in_ok-settled-in-Err.field-0 in (
@@ -35,9 +35,9 @@ returns-then-asks_ends-clause-ok g c =
     let x = c.in_ok-response.response in (
       c.in_ok-input.input.items,
       c.in_ok-input.ensures.ok,
-      subst (λ (input : List ℕ). IsHeard (hearing g.W.Progress.begins g.W.Watch.hears) c.args.progress.now c.ends_found.new.progress
+      subst (λ (input : List ℕ). IsHeard (hearing g.W.Progress.begins g.W.Progress.finds g.W.Watch.hears) c.args.progress.now c.ends_found.new.progress
           (IsExplored c.args.steps c.args.file.now texts c.args.limits c.args.output input x)) c.as_slice-bytes.ensures.value
-          (ends_moved (hearing g.W.Progress.begins g.W.Watch.hears) _ _ c.args.steps
+          (ends_moved (hearing g.W.Progress.begins g.W.Progress.finds g.W.Watch.hears) _ _ c.args.steps
           (record { input = input; program = c.in-Ok.asked.spelled.program; lines = lines_of held.properties.items; places = []; output = c.args.output })
           (map place_of held.places.items) (places_by c.args.file.now input known.asked texts) c.asked_in.result
           (asked_by known.asked.ends None) c.args.limits x (IsExplored c.args.steps c.args.file.now texts c.args.limits c.args.output input x)
@@ -55,10 +55,11 @@ returns-clause-ok g c =
     let x = c.in_ok-response-2.response in (
       c.in_ok-input.input.items,
       c.in_ok-input.ensures.ok,
-      subst (λ (input : List ℕ). IsHeard (hearing g.W.Progress.begins g.W.Watch.hears) c.args.progress.now c.found.new.progress
+      subst (λ (input : List ℕ). IsHeard (hearing g.W.Progress.begins g.W.Progress.finds g.W.Watch.hears) c.args.progress.now c.found.new.progress
           (IsExplored c.args.steps c.args.file.now texts c.args.limits c.args.output input x)) c.as_slice-bytes.ensures.value
-          (heard_as (hearing g.W.Progress.begins g.W.Watch.hears) _ _ (λ heard found. explored (asks_of known)
+          (heard_as (hearing g.W.Progress.begins g.W.Progress.finds g.W.Watch.hears) _ _ (λ heard found. explored (asks_of known)
           (ap asks_ends known.who ∙ sym c.asks_ends.ensures ∙ c.if-asks_ends.false)
-          (subst (λ (at : List TextPlace). IsFound (record { input = input; program = c.in-Ok.asked.spelled.program; lines = lines_of held.properties.items; places = at; output = c.args.output }) c.args.limits c.args.steps x heard)
+          (subst (λ (at : List TextPlace). IsFound (record { input = input; program = c.in-Ok.asked.spelled.program; lines = lines_of held.properties.items; places = at; output = c.args.output })
+          c.args.limits c.args.steps x heard)
           known.stand found)) c.in_ok-response-2.ensures),
     )

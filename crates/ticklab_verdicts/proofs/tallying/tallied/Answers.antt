@@ -8,7 +8,8 @@ returns-clause-ok g c =
     let counted = c.runs_counted-counted.ensures in (
       c.in_ok-input.input.items,
       c.in_ok-input.ensures.ok,
-      subst (λ (input : List ℕ). IsTallied g.M.Runner.Ran c.args.runner.now c.runs_counted-counted.new.runner c.args.file.now c.args.times c.args.turns input c.in_ok-settled.field-0) c.as_slice.ensures.value
+      subst (λ (input : List ℕ). IsTallied g.M.Runner.Ran c.args.runner.now c.runs_counted-counted.new.runner c.args.file.now c.args.times c.args.turns input c.in_ok-settled.field-0)
+          c.as_slice.ensures.value
           (settled_with c.runs_counted-counted.result c.in_ok-settled.field-0 (λ x h. tallied h)
           (λ x h. untallied (record { status = h.status; nothing = h.nothing; told = h.told.0 }) h.told.1)
           counted.ok counted.refused c.in_ok-settled.ensures),

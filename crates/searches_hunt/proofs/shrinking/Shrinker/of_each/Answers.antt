@@ -12,4 +12,5 @@ loop-p-preserved c =
 
 pub returns : goal.returns
 returns c =
-    fault_once_more (resolved c.args.self.now.program.now) (lines_of c.args.self.now.lines.now) c.args.schedule.items c.loop-p.kept.items c.without_pieces-2.result c.loop-p.invariant c.without_pieces-2.ensures
+    fault_once_more (resolved c.args.self.now.program.now) (lines_of c.args.self.now.lines.now) c.args.schedule.items c.loop-p.kept.items c.without_pieces-2.result
+    c.loop-p.invariant c.without_pieces-2.ensures

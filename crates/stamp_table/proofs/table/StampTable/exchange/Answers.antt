@@ -1,3 +1,8 @@
+-- How the goals of `exchange` are met: what was exchanged are words, and what is told are labels.
+-- The idea. The word found is the old one or another. `act_is` says by these two cases that the act of the words is that of
+-- the answer. Where the exchange was lost, the word found is that of the labels in the end (`lost`), so labels can be read
+-- from it. `told` is the step in the words of the answer, and the clauses come from it.
+-- Read `act_is` first, then `told`.
 use Rattle.std.proofs.Common.{◌≡◌, ◌≤◌, ◌==◌, ap, sym, ◌∙◌, subst, refl}
 use Rattle.std.proofs.lemmas.Bool.{eq-eqb, ne_eqb}
 use Rattle.word_core.specs.Packed.{AreLabels, IsWordOf, word}
