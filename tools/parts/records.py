@@ -8,6 +8,8 @@ import re
 from parts import kit
 from parts.crates import below, files_of
 from parts.functions import Source
+from parts.items import WORD, without_comments
+from parts.reached import World
 from parts.tool import read, read_bytes, write
 
 PARTS = os.path.dirname(os.path.abspath(__file__))
@@ -15,8 +17,6 @@ LINE = re.compile(r"([0-9a-f]{32}) (\S+\.edit): (.+)")
 PLACE = re.compile(r"(?:\./)?((?:src|proofs)/[^:\s]+)")
 QUOTED = re.compile(r"`([^`]+)`")
 IMPORTED = re.compile(r"^from parts(?: import ([\w, ]+)|\.(\w+) import)", re.MULTILINE)
-# The head of a file, by the end of its name: lines at the very beginning that say what the file is about.
-HEADS = {".antt": re.compile(r"(?:--[^\r\n]*\n)*"), ".rt": re.compile(r"(?://![^\r\n]*\n)*")}
 
 
 def sum_of(*parts):
@@ -25,12 +25,6 @@ def sum_of(*parts):
 
 def sum_of_file(path):
     return hashlib.sha256(read_bytes(path)).hexdigest()
-
-
-def without_head(path, text):
-    """The text of a file without its head, which decides no check."""
-    head = HEADS.get(os.path.splitext(path)[1])
-    return text[head.match(text).end() :] if head else text
 
 
 def files_of_tool(path):
@@ -45,8 +39,8 @@ def files_of_tool(path):
 
 
 def contracts(source):
-    """The files of a crate's src/ without their heads, and without the bodies of those functions that belong to no trait and make
-    no constant."""
+    """The files of a crate's src/ with their texts, without the bodies of those functions that belong to no trait and make no
+    constant."""
     for file in sorted(source.texts):
         lines = source.texts[file].split("\n")
         for function in source.functions(file):
@@ -54,13 +48,13 @@ def contracts(source):
             if body and function.may_stand_twice(source.types):
                 opens, ends = (function.first - 1 + at for at in body)
                 lines[opens + 1 : ends] = [""] * (ends - opens - 1)
-        yield f"{file}\n" + without_head(file, "\n".join(lines))
+        yield file, "\n".join(lines)
 
 
 class Records:
-    """The records of crates, each with a sum of the edit and of what decides a check of its crate: the crate's own files; what
-    it uses of the crates below, which are their contracts, their definitions and the lemmas that it names; their lines of
-    crates.txt, HANDLES, the toolchain and the parts of the tool. Of each file of a crate it leaves the head out."""
+    """The records of crates, each with a sum of the edit and of what decides whether it is refused: its functions with their
+    proofs, what these reach, HANDLES, the toolchain and the parts of the tool. An edit that changes what many functions read
+    has all of its crate for its functions."""
 
     def __init__(self, top, crates):
         self.top, self.crates = top, crates
@@ -76,9 +70,6 @@ class Records:
         lines = read(self.path(name)).splitlines() if os.path.exists(self.path(name)) else []
         found = [(LINE.fullmatch(line), line) for line in lines]
         return {it[2]: (it[1], it[3]) for it, _ in found if it}, [line for it, line in found if not it]
-
-    def sum(self, name, edit):
-        return sum_of(self.of_crate(name), edit.name, edit.text)[:32]
 
     def holds(self, name, edit):
         """Whether the edit was seen refused as all stands here."""
@@ -98,28 +89,34 @@ class Records:
         write(f"{self.path(tried.name)}.new", "".join(lines))
         os.replace(f"{self.path(tried.name)}.new", self.path(tried.name))
 
-    @functools.cache
-    def of_crate(self, name):
-        own, below_it = files_of(f"{self.top}/crates/{name}"), below(name, self.crates)[:-1]
-        lemmas = [it for lower in below_it for it in self.files(lower, self.named(name, own, lower))]
-        all_read = sum_of(self.base, self.crates[name].line, *self.files(name, own), *lemmas, *map(self.used, below_it))
-        return sum_of(self.tool, all_read)
+    @functools.cached_property
+    def world(self):
+        return World(self.top, self.crates, lambda name: contracts(Source(f"{self.top}/crates/{name}")))
 
     @functools.cache
-    def used(self, name):
-        """What a crate has for all above it: definitions, and sources without the bodies of functions."""
-        folder = f"{self.top}/crates/{name}"
-        definitions = self.files(name, [path for path in files_of(folder) if path.startswith("specs/")])
-        return sum_of(self.crates[name].line, *definitions, *contracts(Source(folder)))
+    def sum(self, name, edit):
+        own = self.texts_of_crate(name) if edit.is_wide else self.texts_of_functions(name, edit)
+        heads = [self.crates[it].line.partition(":")[0] for it in below(name, self.crates)]
+        return sum_of(self.tool, self.base, *heads, edit.name, edit.text, *own)[:32]
 
-    def files(self, name, paths):
-        texts = {path: read_bytes(f"{self.top}/crates/{name}/{path}").decode() for path in paths}
-        return [f"{name}/{path} {sum_of(without_head(path, text))}" for path, text in texts.items()]
+    def texts_of_crate(self, name):
+        start = [item for file in self.world.items if file.startswith(f"{name}/") for item in self.world.items[file]]
+        files = files_of(f"{self.top}/crates/{name}")
+        return [*self.texts_of(name, start, set()), *(without_comments(read(f"{self.top}/crates/{name}/{it}")) for it in files)]
 
-    def named(self, name, paths, lower):
-        """The pages of lemmas of a crate below that these files name."""
-        page, texts = re.compile(rf"\b{lower}(?:\.|::)proofs(?:\.|::)(\w+)"), [f"{self.top}/crates/{name}/{it}" for it in paths]
-        return sorted({f"proofs/{found}.antt" for text in texts for found in page.findall(read(text))})
+    def texts_of_functions(self, name, edit):
+        world, start, words, own = self.world, [], set(), []
+        for function in edit.functions:
+            file, text = f"{name}/{function.file}", without_comments("\n".join(function.text))
+            read_here = text + edit.text
+            words.update(WORD.findall(read_here))
+            start += world.edges(file, frozenset(WORD.findall(read_here)), read_here) + world.root(name)
+            start += [item for page in world.pages(name, {function.proof, function.path}) for item in world.items[page]]
+            own.append(f"{file}\n{text}")
+        return [*own, *self.texts_of(name, start, words)]
+
+    def texts_of(self, name, start, words):
+        return sorted(f"{item.file}\n{item.text}" for item in self.world.reached(start, words, set(below(name, self.crates))))
 
 
 def how_refused(told):
