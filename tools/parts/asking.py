@@ -59,18 +59,20 @@ def asking(name, *words):
 
 
 class Asker:
-    """Asks a program, which may use so many seconds of a processor, and on a busy machine take ten times as long."""
+    """Asks a program, which may use so many seconds of a processor, and on a busy machine take ten times as long; in a folder,
+    and with limits by their kind in `resource`."""
 
-    def __init__(self, patience=60):
-        self.patience = patience
+    def __init__(self, patience=60, place=None, limits=()):
+        self.patience, self.place, self.limits = patience, place, limits
         # (the kernel ends by the same signal what has used its seconds of a processor)
         signal.signal(signal.SIGALRM, lambda _number, _frame: self.running.send_signal(signal.SIGXCPU))
 
     def answer(self, path, words, given):
         """The status, the output, and what is told on standard error."""
-        ends = {"stdin": subprocess.PIPE, "stdout": subprocess.PIPE, "stderr": subprocess.PIPE}
+        how = {"stdin": subprocess.PIPE, "stdout": subprocess.PIPE, "stderr": subprocess.PIPE, "env": {}, "cwd": self.place}
+        how["preexec_fn"] = (lambda: [resource.setrlimit(kind, (most, most)) for kind, most in self.limits]) if self.limits else None
         _, most = resource.getrlimit(resource.RLIMIT_CPU)
-        with subprocess.Popen(words, executable=path, env={}, **ends) as self.running:
+        with subprocess.Popen(words, executable=path, **how) as self.running:
             resource.prlimit(self.running.pid, resource.RLIMIT_CPU, (math.ceil(self.patience), most))
             # (a limit of `communicate` would have it look again and again)
             signal.alarm(math.ceil(10 * self.patience))

@@ -16,8 +16,8 @@ GOES_ON = re.compile(r"(?<!\\)(?:\\\\)*\\$")
 ANY = "\\..."
 # What an output may have to do with a text.
 DOES = {"be": bytes.__eq__, "begin with": bytes.startswith, "end with": bytes.endswith, "have": bytes.__contains__}
-# A command line with its input and what is to come of it, and where that stands.
-Row = namedtuple("Row", "where words given outputs told status pattern")
+# A command line with its input and what is to come of it, in how many MiB of memory, and where that stands.
+Row = namedtuple("Row", "where words given outputs told status pattern mib")
 
 
 class BadRow(Exception):
@@ -36,9 +36,11 @@ class File:
         self.top, self.path, self.texts = top, path, {}
 
     def rows(self, text):
+        """Each row when it is asked for: texts may be large."""
         lines = [(f"{self.path}:{number}", line) for number, line in enumerate(text.split("\n"), 1) if not line.startswith("#")]
         blocks = [list(block) for is_text, block in itertools.groupby(lines, lambda it: bool(it[1].strip())) if is_text]
-        return [row for block in blocks for row in self.of_block(block)]
+        for block in blocks:
+            yield from self.of_block(block)
 
     def of_block(self, lines):
         where, head = lines[0]
@@ -55,8 +57,8 @@ class File:
         return [self.expanded(where, word.encode()) for word in shlex.split(line[2:])]
 
     def answer(self, lines):
-        """The input, the outputs of which one has to come, what is told, the status, and what finds the output."""
-        of, outputs = {sign: [] for sign in "<!=/"}, [[]]
+        """The input, the outputs of which one has to come, what is told, the status, what finds the output, and the memory."""
+        of, outputs = {sign: [] for sign in "<!=/%"}, [[]]
         for where, line in lines:
             if line == "or":
                 outputs.append([])
@@ -64,9 +66,10 @@ class File:
                 raise BadRow(f"{where}: no line of a row: {line}")
             else:
                 of.get(line[0], outputs[-1]).append((where, line))
-        status, pattern = int(of["="][0][1][1:]) if of["="] else 0, self.joined(of["/"], "/", b"")
+        status, mib = (int(of[sign][0][1][1:]) if of[sign] else 0 for sign in "=%")
+        pattern = self.joined(of["/"], "/", b"")
         outputs, told = [self.output(it, ">") for it in outputs], self.output(of["!"], "!")
-        return self.joined(of["<"], "<", b""), outputs, told, status, re.compile(pattern) if pattern else None
+        return self.joined(of["<"], "<", b""), outputs, told, status, re.compile(pattern) if pattern else None, mib
 
     def output(self, lines, sign):
         does = 0
