@@ -67,12 +67,16 @@ class Asker:
         # (the kernel ends by the same signal what has used its seconds of a processor)
         signal.signal(signal.SIGALRM, lambda _number, _frame: self.running.send_signal(signal.SIGXCPU))
 
+    def limit(self):
+        for kind, most in self.limits:
+            resource.setrlimit(kind, (most, most))
+
     def answer(self, path, words, given):
         """The status, the output, and what is told on standard error."""
-        how = {"stdin": subprocess.PIPE, "stdout": subprocess.PIPE, "stderr": subprocess.PIPE, "env": {}, "cwd": self.place}
-        how["preexec_fn"] = (lambda: [resource.setrlimit(kind, (most, most)) for kind, most in self.limits]) if self.limits else None
+        ends = {"stdin": subprocess.PIPE, "stdout": subprocess.PIPE, "stderr": subprocess.PIPE}
+        how = {"env": {}, "cwd": self.place, "preexec_fn": self.limit if self.limits else None}
         _, most = resource.getrlimit(resource.RLIMIT_CPU)
-        with subprocess.Popen(words, executable=path, **how) as self.running:
+        with subprocess.Popen(words, executable=path, **ends, **how) as self.running:
             resource.prlimit(self.running.pid, resource.RLIMIT_CPU, (math.ceil(self.patience), most))
             # (a limit of `communicate` would have it look again and again)
             signal.alarm(math.ceil(10 * self.patience))

@@ -1,11 +1,14 @@
 """Asks a program what a row of answers/ asks, and compares what it answers with what stands there."""
 import functools
 import itertools
+import resource
+import tempfile
 
 from parts.asking import NAMES, Asker, TookTooLong, program
+from parts.tool import write
 
-# So much of a line is shown.
-SHOWN = 160
+# So much of a line is shown, and so much stack a row has that says how much memory it may take.
+SHOWN, KIB_OF_STACK = 160, 256
 
 
 def cut(text):
@@ -57,3 +60,13 @@ def wrong_of(row, asker=None):
     wrong = [] if status == row.status else [f"status: found {status}, wanted {row.status}"]
     wrong += wrong_output("output", row.outputs, compared(output, row.pattern)) + wrong_output("standard error", [row.told], told)
     return ["\n  ".join([line, *wrong])] if wrong else []
+
+
+def wrong_within(row, texts, seconds=60, stack=KIB_OF_STACK):
+    """The same of a row with a limit of memory. It is asked in a folder where each of these texts lies in a file of its name."""
+    limits = (resource.RLIMIT_CORE, 0), (resource.RLIMIT_STACK, stack * 2**10), (resource.RLIMIT_AS, row.mib * 2**20)
+    with tempfile.TemporaryDirectory() as folder:
+        for name in texts:
+            if name.encode() in b" ".join(row.words).replace(b"@", b"").split():
+                write(f"{folder}/{name}", texts[name])
+        return wrong_of(row, Asker(seconds, folder, limits))
