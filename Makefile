@@ -19,6 +19,6 @@ deb:
 
 # Checks the programs in dist/, without building any; where make is given PREFIX or DESTDIR, those that are installed there.
 check:
-	@tools/check $(if $(filter-out file,$(origin PREFIX) $(origin DESTDIR)),--programs "$(DESTDIR)$(PREFIX)/bin")
+	@TICKET_PROGRAMS=$(if $(filter-out file,$(origin PREFIX) $(origin DESTDIR)),"$(DESTDIR)$(PREFIX)/bin") tools/check
 
 .PHONY: all install uninstall deb check
