@@ -44,9 +44,9 @@ def program_of_sources(name):
     return found.stdout.strip()
 
 
-def asking(name, *words):
-    """What asks a program, with these words in front, and answers the status and both outputs."""
-    asker, path = Asker(), program(name)
+def asking(name, *words, place=None):
+    """What asks a program, with these words in front and in a folder, and answers the status and both outputs."""
+    asker, path = Asker(place=place), program(name)
 
     def ask(more, given):
         try:

@@ -62,11 +62,15 @@ def wrong_of(row, asker=None):
     return ["\n  ".join([line, *wrong])] if wrong else []
 
 
+def lay(row, texts, folder):
+    """Puts those of the named texts that a row names into files of these names."""
+    for name in texts.keys() & {word.removeprefix(b"@").decode(errors="replace") for word in row.words}:
+        write(f"{folder}/{name}", texts[name])
+
+
 def wrong_within(row, texts, seconds=60, stack=KIB_OF_STACK):
-    """The same of a row with a limit of memory. It is asked in a folder where each of these texts lies in a file of its name."""
+    """The same of a row with a limit of memory, in a folder of its own."""
     limits = (resource.RLIMIT_CORE, 0), (resource.RLIMIT_STACK, stack * 2**10), (resource.RLIMIT_AS, row.mib * 2**20)
     with tempfile.TemporaryDirectory() as folder:
-        for name in texts:
-            if name.encode() in b" ".join(row.words).replace(b"@", b"").split():
-                write(f"{folder}/{name}", texts[name])
+        lay(row, texts, folder)
         return wrong_of(row, Asker(seconds, folder, limits))
