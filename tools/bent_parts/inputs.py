@@ -1,4 +1,10 @@
 """The inputs that are bent, with the commands that read them, and what is done to one place of an input."""
+import itertools
+
+from parts.rows import File
+from parts.tool import TOP, read
+
+ROWS = "answers/bent/inputs.txt"
 
 # What a command answers to an input that is taken: its plain form, what its plain form is answered with, or that under
 # the plain form of the schedule that its last word is.
@@ -8,41 +14,20 @@ FORM, SAME, PLAYED = "form", "same", "played"
 PROGRAM, RUNNABLE, MOVES = "program", "runnable", "moves"
 PROCESSES = 3
 
-# Those that play a schedule.
+# Those that play a schedule, and what each command shows.
 PLAYERS = ("source", "code", "lift", "drop")
-CHECK = ((("check",), FORM),)
-# Under one turn each process ends in one way.
-RUN = (("run", b"1"), SAME)
-OF_PROGRAMS = (*CHECK, (("emit",), SAME), *(((player, b"0*9 1*9"), PLAYED) for player in PLAYERS), RUN)
-OF_CODES = ((("code", b"0*20 1*20"), PLAYED), RUN)
-ORDER = ((("order", b"%d" % PROCESSES), SAME),)
+SHOWS = {"check": FORM, "emit": SAME, "run": SAME, "order": SAME, **dict.fromkeys(PLAYERS, PLAYED)}
+CHECK, ORDER = ((("check",), FORM),), ((("order", b"%d" % PROCESSES), SAME),)
+OF_CODES = ((("code", b"0*20 1*20"), PLAYED), (("run", b"1"), SAME))
 
-INPUTS = (
-    (PROGRAM, OF_PROGRAMS, b"processes 2; var x; scan s; begin stamp; s = scan; x = older s 0 1; out x; end"),
-    (PROGRAM, OF_PROGRAMS, b"processes 1; var x; begin while (x < 2) { x = (x + 1); } out x; end"),
-    (PROGRAM, OF_PROGRAMS,
-     b"processes 3; scan s; begin if (me == 0) { stamp; stamp; s = scan; } "
-     b"else { stamp; stamp; stamp; stamp; stamp; } end"),
-    # each statement, each kind of name in each place, and lines of their own
-    (PROGRAM, OF_PROGRAMS,
-     b"processes 2;\nvar x, nx; # names\nscan s, t;\nreg r;\nbegin\nx = get r me;\nput r (x != 10);\nt = copy s;\n"
-     b"nx = older t x 1;\nclear;\nx = held t 0;\nif (x <= n) { out nx; } else { }\nend\n"),
-    # the greatest number, the longest name, eight rows of registers, and 64 brackets open
-    (PROGRAM, CHECK, b"processes 6; begin out 4294967295; out 0429496729; end"),
-    (PROGRAM, CHECK, b"processes 1; var " + b"x" * 64 + b"; begin end"),
-    (PROGRAM, CHECK, b"processes 1; reg ab, bc, cd, de, ef, fg, gh, hi; begin end"),
-    (PROGRAM, CHECK, b"processes 1; begin out " + b"(" * 64),
-    (RUNNABLE, OF_CODES,
-     b"tickcode 1 2 1 1 0\nLoadWord\nNext\nExchange 0\nScan 0\nPush 0\nPush 1\nOlder 0 0\nLoad 0\nOut\nHalt\n"),
-    # each kind of instruction, jumps on and back over values on the stack, and a stamp that is jumped to
-    (RUNNABLE, OF_CODES,
-     b"tickcode 2 1 2 2 2\nMe\nCount\nBin <=\nJumpZero 6\nPush 10\nPut 1\nLoadWord\nNext\nExchange 6\nScan 1\n"
-     b"Copy 1 0\nClear\nMe\nHeld 1 1\nMe\nMe\nOlder 1 1\nLoad 1\nStore 0\nMe\nGet 1 0\nPush 0\nPush 0\nJumpZero 27\n"
-     b"Out\nPush 1\nJump 22\nOut\nHalt\n"),
-    # a code is no program
-    (PROGRAM, CHECK, b"tickcode 2 1 0 0 0\nHalt\n"),
-    (MOVES, ORDER, b" 0 1*2\r\nc1 02\t0*012 c02*3 "),
-)
+
+def inputs():
+    """The inputs of the rows: how each is read, the command lines with what they show, and the input."""
+    for given, rows in itertools.groupby(File(TOP, ROWS).rows(read(ROWS)), lambda row: row.given):
+        lines = [((row.words[1].decode(), *row.words[2:]), SHOWS[row.words[1].decode()]) for row in rows]
+        commands = {words[0] for words, _ in lines}
+        yield MOVES if "order" in commands else RUNNABLE if commands == {"code", "run"} else PROGRAM, lines, given
+
 
 # A program, and schedules of its processes. The longest has ten million steps.
 TWO = b"processes 2; begin out 7; end"
