@@ -1,7 +1,8 @@
 """What a check of a function reads of the crates, as items of their files.
 
 A name reaches what the file has by it, and what it imports by it. A type reaches what traits have for it, and those of its methods
-whose names are read. Where a name may mean several items it reaches them all, so that no less is reached than a check reads.
+whose names are read. Where a name may mean several items it reaches them all. So no less should be reached than a check reads, but nothing
+proves that; the gate tries one in ten of the records.
 """
 import collections
 import functools
