@@ -51,7 +51,7 @@ class Judge:
         yield from self.first()
         single, merged = self.found.values()
         if not single.traps and len(single.depth) <= min(self.limit, MOST_STATES_OF_ENDS):
-            yield from self.ends(single, len(merged.depth) < len(single.depth))
+            yield from self.ends(single, len(merged.depth))
 
     def no_trap(self, steps, states):
         """What is wrong where no process traps in so many states; with one less for a limit there have to be more."""
@@ -90,39 +90,33 @@ class Judge:
         wanted = [(len(schedule), trap), *((len(steps), None) for steps in without)]
         return trap is not None and wanted == [self.found["single"].moves.replayed(it) for it in (schedule, *without)]
 
-    def ends(self, single, is_fewer):
-        """What is answered otherwise of whether all processes can still end, the first, and the last. By merged steps only that
-        is asked, and not whether they do under a fair schedule."""
-        every, fewer = single.every, ("--limit", str(len(single.depth) - 1))
+    def ends(self, single, merged):
+        """What is answered otherwise of whether all processes end, the first, and the last: by single steps, by so many merged
+        states, which is what is asked first, and where one merged state less is allowed."""
+        every = single.every
         for asked, option in ((every, "--ends"), (every[:1], "--ends=0"), (every[-1:], f"--ends={every[-1]}")):
-            stuck, found = single.stuck(asked), self.ask(option)
-            if not is_ending(single, asked, stuck, *found) or self.ask(option, "--single") != found:
-                yield f"{option}: found {shown(*found)}"
-            for words, right in ((("--merged",), "can-end"), *([(fewer, "limit")] if is_fewer else [])):
+            stuck = single.stuck(asked)
+            for words, states in ((("--single",), len(single.depth)), (("--merged",), merged), ((), merged)):
                 found = self.ask(option, *words)
-                if not is_merged_ending(single, asked, stuck, right, *found):
-                    yield f"{option} {words[0]}: found {shown(*found)}"
+                if not is_ending(single, asked, stuck, states, words == ("--single",), *found):
+                    yield f"{option} {' '.join(words)}: found {shown(*found)}"
+            status, answer = self.ask(option, "--limit", str(merged - 1))
+            if (status, answer["answer"], answer.get("states")) != (MORE, "limit", merged - 1):
+                yield f"{option}, limit {merged - 1}: found {shown(status, answer)}"
 
 
-def is_ending(search, asked, stuck, status, answer):
-    """That an answer is right: nobody is stuck anywhere or goes on under a fair schedule, or what is told of it fits."""
+def is_ending(search, asked, stuck, states, is_shortest, status, answer):
+    """That an answer is right: nobody is stuck anywhere or goes on under a fair schedule, of so many states, or what is told
+    of it fits. By single steps no way to a loop is shorter, nor to where somebody is stuck."""
     if not stuck and not search.goes_on(asked):
-        return (status, answer["answer"], answer.get("states")) == (SAFE, "ends", len(search.depth))
+        return (status, answer["answer"], answer.get("states")) == (SAFE, "ends", states)
     if (status, answer["answer"]) != (STUCK, "stuck" if stuck else "endless") or not is_loop(search, asked, answer):
         return False
     schedule = steps_of(answer["schedule"])
     end = search.led(schedule)
-    # (no way to a loop is shorter, nor to where somebody is stuck)
     shortest = min(search.depth[state] for state in stuck or [end])
-    return len(schedule) == shortest and (end in stuck if stuck else not answer.get("lead_in"))
-
-
-def is_merged_ending(search, asked, stuck, right, status, answer):
-    """That an answer by merged steps is right: nobody is stuck anywhere, or what is told of it fits."""
-    if not stuck:
-        return (status, answer["answer"]) == (MORE, right) and "can still end after every schedule" in answer["says"]
-    is_told = (status, answer["answer"]) == (STUCK, "stuck")
-    return is_told and is_loop(search, asked, answer) and search.led(steps_of(answer["schedule"])) in stuck
+    is_there = end in stuck if stuck else not answer.get("lead_in")
+    return is_there and (not is_shortest or len(schedule) == shortest)
 
 
 def is_loop(search, asked, answer):

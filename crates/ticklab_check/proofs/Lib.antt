@@ -1,4 +1,4 @@
+pub mod Asked
 pub mod Finding
 pub mod Listing
 pub mod Offered
-pub mod Settling

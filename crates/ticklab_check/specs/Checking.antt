@@ -15,7 +15,7 @@ use Rattle.searches_states.specs.declared.limits.Limits.{Limits}
 use Rattle.searches_states.specs.declared.must_stop.MustStop.{MustStop}
 use Rattle.searches_states.specs.declared.must_stop.MustStop.TheVariants as M
 use Rattle.searches_explore.specs.Ending.{CanAlwaysEnd, EndsIfFair, GoesOn, IsStuckAfter}
-use Rattle.searches_explore.specs.Never.{IsBroken, IsMergedLimit, IsMergedSafe, IsLimit, IsSafe}
+use Rattle.searches_explore.specs.Never.{IsBroken, IsMergedLimit, IsMergedSafe}
 use Rattle.searches_explore.specs.Trap.{IsTrap}
 use Rattle.ticklab_explain.specs.Questions.{IsQuestionReport}
 use Rattle.ticklab_explain.specs.Reports.{Tells}
@@ -46,13 +46,12 @@ module _ (a : WholeProgram ℕ) (lines : List Formula) (limits : Limits) where
   -- what is found where these processes are asked for
   abbrev pub IsFoundOfAsked : MustStop → Found → Type 0
   IsFoundOfAsked asked (F.Safe states) = ⊥
-  IsFoundOfAsked asked (F.Ends states) = IsSafe a lines limits states × CanAlwaysEnd a asked × EndsIfFair a asked
+  IsFoundOfAsked asked (F.Ends states) = IsMergedSafe a lines limits states × CanAlwaysEnd a asked × EndsIfFair a asked
   IsFoundOfAsked asked F.Trap = (schedule : List ℕ) × IsTrap a schedule
   IsFoundOfAsked asked F.Never = (schedule : List ℕ) × (line : ℕ) × (v : Valued) × IsBroken a lines schedule line v
   IsFoundOfAsked asked (F.Stuck states) = IsMergedSafe a lines limits states × (schedule : List ℕ) × IsStuckAfter a asked schedule
   IsFoundOfAsked asked (F.Endless states) =
-      IsSafe a lines limits states × CanAlwaysEnd a asked × (prefix : List ℕ) × (cycle : List ℕ) × GoesOn a asked prefix cycle
-  IsFoundOfAsked asked (F.Unsettled states) = IsMergedSafe a lines limits states × CanAlwaysEnd a asked × (others : ℕ) × IsLimit a lines limits others
+      IsMergedSafe a lines limits states × CanAlwaysEnd a asked × (prefix : List ℕ) × (cycle : List ℕ) × GoesOn a asked prefix cycle
   IsFoundOfAsked asked (F.Limit states) = IsMergedLimit a lines limits states
 
   -- what is found where nobody is asked for

@@ -16,7 +16,6 @@ compared F.Trap X.Trap = V.AsExpected
 compared F.Never X.Never = V.AsExpected
 compared (F.Stuck states) X.Stuck = V.AsExpected
 compared (F.Endless states) X.Stuck = V.AsExpected
-compared (F.Unsettled states) expected = V.Limit
 compared (F.Limit states) expected = V.Limit
 compared found expected = V.Otherwise
 

@@ -1,5 +1,5 @@
 -- What is told of files, line by line, and the exit status.
-use Rattle.std.specs.Prelude.{◌≡◌, ◌+◌, ◌/◌, ◌%◌, ◌==◌, ◌++◌, ℕ, Bool, true, false, List, [], ◌∷◌, Option, Some, None, codes, if◌then◌else◌, map, string_bytes}
+use Rattle.std.specs.Prelude.{◌≡◌, ◌+◌, ◌/◌, ◌%◌, ◌==◌, ◌++◌, ℕ, List, [], ◌∷◌, Option, Some, None, codes, if◌then◌else◌, map, string_bytes}
 use Rattle.std.specs.List.{AllZip, zip}
 use Rattle.std.specs.Fmt.{decimal}
 use Rattle.language_questions.specs.declared.questions.Expected.{Expected}
@@ -22,7 +22,6 @@ use Rattle.ticklab_check.specs.declared.tally.Tally.{Tally}
 -- its word, and more where that alone says little
 abbrev pub found_text : Found → List ℕ
 found_text F.Never = codes "broken #! never line"
-found_text (F.Unsettled states) = codes "limit, whether all end was not found out"
 found_text found = found_word found
 
 -- the word behind `#! expect`
@@ -39,17 +38,13 @@ verdict_text V.AsExpected expected = codes ", as expected"
 verdict_text V.Otherwise expected = codes ", but " ++ expected_text expected ++ codes " was expected"
 verdict_text V.Limit expected = []
 
-abbrev pub count_text : ℕ → List ℕ
-count_text states = decimal states ++ (if states == 1 then codes " state" else codes " states")
-
 abbrev pub merged_text : ℕ → List ℕ
 merged_text states = decimal states ++ (if states == 1 then codes " merged state" else codes " merged states")
 
--- whether they are merged, and how many there are, behind a comma
-abbrev pub behind_text : Option (Bool × ℕ) → List ℕ
+-- how many there are, behind a comma
+abbrev pub behind_text : Option ℕ → List ℕ
 behind_text None = []
-behind_text (Some (true, states)) = codes ", " ++ merged_text states
-behind_text (Some (false, states)) = codes ", " ++ count_text states
+behind_text (Some states) = codes ", " ++ merged_text states
 
 -- how many states there are, where that is known
 abbrev pub states_text : Found → List ℕ

@@ -1,5 +1,5 @@
 -- The word for what is found of a file, and its states.
-use Rattle.std.specs.Prelude.{ℕ, Bool, true, false, List, codes, Option, Some, None}
+use Rattle.std.specs.Prelude.{ℕ, List, codes, Option, Some, None}
 use Rattle.ticklab_check.specs.declared.found.Found.{Found}
 use Rattle.ticklab_check.specs.declared.found.Found.TheVariants as F
 
@@ -10,16 +10,14 @@ found_word F.Trap = codes "trap"
 found_word F.Never = codes "never"
 found_word (F.Stuck states) = codes "stuck"
 found_word (F.Endless states) = codes "endless"
-found_word (F.Unsettled states) = codes "unsettled"
 found_word (F.Limit states) = codes "limit"
 
--- whether states are merged ones, and how many there are, where that is known
-abbrev pub states_of : Found → Option (Bool × ℕ)
-states_of (F.Safe states) = Some (true, states)
-states_of (F.Ends states) = Some (false, states)
+-- how many merged states there are, where that is known
+abbrev pub states_of : Found → Option ℕ
+states_of (F.Safe states) = Some states
+states_of (F.Ends states) = Some states
 states_of F.Trap = None
 states_of F.Never = None
-states_of (F.Stuck states) = Some (true, states)
-states_of (F.Endless states) = Some (false, states)
-states_of (F.Unsettled states) = Some (true, states)
-states_of (F.Limit states) = Some (true, states)
+states_of (F.Stuck states) = Some states
+states_of (F.Endless states) = Some states
+states_of (F.Limit states) = Some states

@@ -23,7 +23,6 @@ pub fn compared(found: Found, expected: Expected) -> Comparison
 {
     match (found, expected) {
         (Found::Limit { .. }, _) => Comparison::Limit,
-        (Found::Unsettled { .. }, _) => Comparison::Limit,
         (Found::Safe { .. }, Expected::Safe)
         | (Found::Ends { .. }, Expected::Safe)
         | (Found::Trap, Expected::Trap)

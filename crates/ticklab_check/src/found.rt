@@ -5,10 +5,9 @@ ghost use Rattle.ticklab_check.specs.Words.{found_word, states_of};
 #[derive(Clone, Copy, PartialEq, Eq, Debug)]
 pub enum Found {
     /// No process traps and no line `#! never` breaks, and nobody is asked whether it ends. There are so many merged
-    /// states, as in what follows where it isn't said otherwise.
+    /// states, as in what follows.
     Safe { states: u32 },
-    /// The same, and those asked for end if each process that runs steps again and again. There are so many single
-    /// states.
+    /// The same, and those asked for end if each process that runs steps again and again.
     Ends { states: u32 },
     /// A process traps.
     Trap,
@@ -17,10 +16,8 @@ pub enum Found {
     /// No process traps and no line breaks, but after some schedule those asked for can't all end.
     Stuck { states: u32 },
     /// The same, and they always can; but under some endless schedule, in which each process that runs steps again and
-    /// again, they don't. There are so many single states.
+    /// again, they don't.
     Endless { states: u32 },
-    /// The same, and they always can; whether they will was not found out, since single steps met a limit.
-    Unsettled { states: u32 },
     /// A limit is met: there are more states than this.
     Limit { states: u32 },
 }
@@ -35,21 +32,20 @@ pub fn found_word(found: Found) -> &'static str
         Found::Never => "never",
         Found::Stuck { .. } => "stuck",
         Found::Endless { .. } => "endless",
-        Found::Unsettled { .. } => "unsettled",
         Found::Limit { .. } => "limit",
     }
 }
 
-/// Whether states are merged ones, and how many there are, where that is known.
-pub fn states_of(found: Found) -> Option<(bool, u32)>
+/// How many merged states there are, where that is known.
+pub fn states_of(found: Found) -> Option<u32>
     ensures { result ≡ states_of found }
 {
     match found {
         Found::Trap | Found::Never => None,
         Found::Safe { states }
+        | Found::Ends { states }
         | Found::Stuck { states }
-        | Found::Unsettled { states }
-        | Found::Limit { states } => Some((true, states)),
-        Found::Ends { states } | Found::Endless { states } => Some((false, states)),
+        | Found::Endless { states }
+        | Found::Limit { states } => Some(states),
     }
 }

@@ -5,7 +5,7 @@ ghost use Rattle.searches_explore.specs.Lines.{lines_of};
 ghost use Rattle.tick_kinds.specs.Resolution.{resolved};
 ghost use Rattle.ticketc_refusals.specs.Refusals.{ProgramIn};
 ghost use Rattle.ticklab_check.specs.Checking.{ComesTo, IsFound, IsFoundOfAsked, SourceComesTo, asked_for, lines_asked};
-ghost use Rattle.ticklab_check.specs.prover.Answers.{fault_of, found_of, merged_found, merged_known, settled, single_known};
+ghost use Rattle.ticklab_check.specs.prover.Answers.{asked_found, fault_of, found_of, known_of};
 
 use crate::checked::Checked;
 use crate::comparing::expected_of;
@@ -115,7 +115,7 @@ fn properties_of(alloc: Global, lines: Vec<NeverLine>) -> Result<Vec<Property>, 
     Ok(properties)
 }
 
-// What is found of a program where these lines must never hold, and these processes are asked for.
+// What is found of a program where these lines must never hold, and these processes are asked for: by merged steps.
 fn found_in(
     alloc: Global,
     program: &Program,
@@ -154,8 +154,8 @@ fn fault_of(fault: &Fault) -> Found
     }
 }
 
-// By merged steps first; where those asked for can always end, whether they will is asked by single ones.
-#[tactic(auto, using(crate::proofs::Settling::merged_is))]
+// The same where these processes are asked for.
+#[tactic(auto, using(crate::proofs::Asked::asked_is))]
 fn found_of_asked(
     alloc: Global,
     program: &Program,
@@ -166,56 +166,26 @@ fn found_of_asked(
     ensures { IfOk result (IsFoundOfAsked (resolved program.now) (lines_of lines.now) limits asked) }
 {
     let kind = StepKind::Merged;
-    let merged = explore_ends(alloc, program, lines, asked, kind, limits, &mut Unwatched)?;
-    match merged_found(&merged) {
-        Found::Unsettled { states } => {
-            let kind = StepKind::Single;
-            let single = explore_ends(alloc, program, lines, asked, kind, limits, &mut Unwatched)?;
-            Ok(settled(&single, states))
-        }
-        found => Ok(found),
-    }
+    let explored = explore_ends(alloc, program, lines, asked, kind, limits, &mut Unwatched)?;
+    Ok(asked_found(&explored))
 }
 
-fn merged_found(explored: &Verdict<Fault, Liveness>) -> Found
-    ensures { result ≡ merged_found explored.now }
+fn asked_found(explored: &Verdict<Fault, Liveness>) -> Found
+    ensures { result ≡ asked_found explored.now }
 {
     match explored {
         Verdict::Found { found, .. } => fault_of(found),
-        Verdict::Nowhere { states, known } => merged_known(known, *states),
+        Verdict::Nowhere { states, known } => known_of(known, *states),
         Verdict::Limit { states } => Found::Limit { states: *states },
     }
 }
 
-// By merged steps no endless schedule is found, nor that there is none.
-fn merged_known(known: &Liveness, states: u32) -> Found
-    ensures { result ≡ merged_known known.now states }
+fn known_of(known: &Liveness, states: u32) -> Found
+    ensures { result ≡ known_of known.now states }
 {
     match known {
         Liveness::Stuck { .. } => Found::Stuck { states },
-        Liveness::Endless { .. } | Liveness::Ends | Liveness::CanEnd => Found::Unsettled { states },
-    }
-}
-
-// What single steps find, where there are so many merged states and those asked for can always end.
-fn settled(explored: &Verdict<Fault, Liveness>, merged: u32) -> Found
-    ensures { result ≡ settled explored.now merged }
-{
-    match explored {
-        Verdict::Found { found, .. } => fault_of(found),
-        Verdict::Nowhere { states, known } => single_known(known, *states, merged),
-        Verdict::Limit { .. } => Found::Unsettled { states: merged },
-    }
-}
-
-// They always find out whether those asked for will end.
-fn single_known(known: &Liveness, states: u32, merged: u32) -> Found
-    ensures { result ≡ single_known known.now states merged }
-{
-    match known {
         Liveness::Endless { .. } => Found::Endless { states },
         Liveness::Ends => Found::Ends { states },
-        Liveness::Stuck { .. } => Found::Stuck { states: merged },
-        Liveness::CanEnd => Found::Unsettled { states: merged },
     }
 }

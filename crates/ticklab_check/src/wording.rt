@@ -1,7 +1,7 @@
 // Adds what is told of files to a text.
 ghost use Rattle.std.specs.Prelude.{◌≡◌, ◌++◌, ◌==◌, IfOk, OnOk};
 ghost use Rattle.std.specs.Fmt.{decimal};
-ghost use Rattle.ticklab_check.specs.Wording.{behind_text, checked_text, count_text, expected_text, file_text, found_text, lines_text, merged_text, searched_line, seconds_text, states_text, tally_text, verdict_text};
+ghost use Rattle.ticklab_check.specs.Wording.{behind_text, checked_text, expected_text, file_text, found_text, lines_text, merged_text, searched_line, seconds_text, states_text, tally_text, verdict_text};
 
 use crate::checked::{Checked, Comparison, Timed};
 use crate::comparing::compared;
@@ -71,7 +71,6 @@ fn found_text(found: Found) -> &'static str
 {
     match found {
         Found::Never => "broken #! never line",
-        Found::Unsettled { .. } => "limit, whether all end was not found out",
         _ => found_word(found),
     }
 }
@@ -114,26 +113,15 @@ fn push_states(text: &mut Vec<u8>, found: Found) -> Added
     }
 }
 
-// Whether they are merged, and how many there are, behind a comma.
-fn push_behind(text: &mut Vec<u8>, states: Option<(bool, u32)>) -> Added
+// How many there are, behind a comma.
+fn push_behind(text: &mut Vec<u8>, states: Option<u32>) -> Added
     ensures { OnOk result (text.new.items ≡ text.old.items ++ behind_text states) }
 {
-    let Some((merged, states)) = states else {
+    let Some(states) = states else {
         return Ok(());
     };
     push(text, ", ")?;
-    if merged {
-        push_merged(text, states)
-    } else {
-        push_count(text, states)
-    }
-}
-
-fn push_count(text: &mut Vec<u8>, states: u32) -> Added
-    ensures { OnOk result (text.new.items ≡ text.old.items ++ count_text states) }
-{
-    push_decimal(text, u64::from(states))?;
-    push(text, if states == 1 { " state" } else { " states" })
+    push_merged(text, states)
 }
 
 fn push_merged(text: &mut Vec<u8>, states: u32) -> Added

@@ -274,10 +274,10 @@ instruction_exact a tells k step =
     (made_exact a k step step.instruction)
 
 -- what files come to
-states_exact : (states : Option (Bool × ℕ)) (ms : Members) → members_have_float ms ≡ false → members_have_float (with_states states ms) ≡ false
+states_exact : (states : Option ℕ) (ms : Members) → members_have_float ms ≡ false → members_have_float (with_states states ms) ≡ false
 states_exact None ms h = h
-states_exact (Some (merged, states)) ms h =
-    put_exact (codes "states") (count states) (put (codes "merged") (boolean merged) ms) refl (put_exact (codes "merged") (boolean merged) ms refl h)
+states_exact (Some states) ms h =
+    put_exact (codes "states") (count states) (put (codes "merged") (boolean true) ms) refl (put_exact (codes "merged") (boolean true) ms refl h)
 
 checked_exact : (checked : Checked) (ms : Members) → members_have_float ms ≡ false → members_have_float (with_checked checked ms) ≡ false
 checked_exact (C.Refused report) ms h = put_exact (codes "report") (string (utf8_lossy report.items)) ms refl h

@@ -1,5 +1,5 @@
 -- What files come to, as an object.
-use Rattle.std.specs.Prelude.{ℕ, Bool, List, codes, map, Option, Some, None, string_bytes}
+use Rattle.std.specs.Prelude.{ℕ, true, List, codes, map, Option, Some, None, string_bytes}
 use Rattle.std.specs.List.{zip}
 use Rattle.std.specs.Str.Lossy.{utf8_lossy}
 use Rattle.serde_json.specs.Data.{Data, boolean, string, array, object, Members, no_members, member, put}
@@ -25,9 +25,10 @@ verdict_word V.AsExpected = codes "as-expected"
 verdict_word V.Otherwise = codes "otherwise"
 verdict_word V.Limit = codes "limit"
 
-abbrev pub with_states : Option (Bool × ℕ) → Members → Members
+-- how many merged states there are, where that is known
+abbrev pub with_states : Option ℕ → Members → Members
 with_states None members = members
-with_states (Some (merged, states)) members = put (codes "states") (count states) (put (codes "merged") (boolean merged) members)
+with_states (Some states) members = put (codes "states") (count states) (put (codes "merged") (boolean true) members)
 
 -- the report of a file that is refused, whose bytes that are no UTF-8 are told as U+FFFD; of any other what was expected,
 -- its states, and how many of its lines ask something

@@ -89,17 +89,14 @@ fn put_checked(members: &mut Members, alloc: Global, checked: &Checked) -> Resul
     }
 }
 
-fn put_states(
-    members: &mut Members,
-    alloc: Global,
-    states: Option<(bool, u32)>,
-) -> Result<(), AllocError>
+// How many merged states there are, where that is known.
+fn put_states(members: &mut Members, alloc: Global, states: Option<u32>) -> Result<(), AllocError>
     ensures { OnOk result (members_view members.new.entries ≡ with_states states (members_view members.old.entries)) }
 {
-    let Some((merged, states)) = states else {
+    let Some(states) = states else {
         return Ok(());
     };
-    put(members, alloc, "merged", Value::from(merged))?;
+    put(members, alloc, "merged", Value::from(true))?;
     put(members, alloc, "states", Value::from(states))
 }
 

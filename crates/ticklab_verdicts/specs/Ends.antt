@@ -1,22 +1,22 @@
 -- What `explore` answers where it asks who ends, and what a watch hears on the way.
-use Rattle.std.specs.Prelude.{◌≡◌, ◌++◌, ◌≤◌, ◌<◌, ⊤, ℕ, Bool, true, false, List, [], Option, Some, None, replicate, slice_set}
+use Rattle.std.specs.Prelude.{◌≡◌, ◌≤◌, ◌<◌, ⊤, ℕ, Bool, true, false, List, [], Option, Some, None, replicate, slice_set}
 use Rattle.language_questions.specs.declared.questions.Ends.{Ends}
 use Rattle.language_questions.specs.declared.questions.Ends.TheVariants as N
 use Rattle.tick_kinds.specs.Resolution.{resolved}
 use Rattle.searches_states.specs.declared.limits.Limits.{Limits}
 use Rattle.searches_states.specs.declared.must_stop.MustStop.{MustStop}
 use Rattle.searches_states.specs.declared.must_stop.MustStop.TheVariants.{All, Each}
-use Rattle.searches_explore.specs.Ending.{CanAlwaysEnd, EndsIfFair, GoesOn, IsEndlessBy, IsLoopAfter, IsStuckAfter}
+use Rattle.searches_explore.specs.Ending.{CanAlwaysEnd, EndsIfFair, GoesOn, IsEndlessBy, IsLoopAfter}
 use Rattle.ticklab_line.specs.declared.commands.Steps.{Steps}
 use Rattle.ticklab_line.specs.declared.commands.Steps.TheVariants.{MergedFirst, Single, Merged}
 use Rattle.ticklab_files.specs.Asking.{AsksNever, IsFileRefused, IsProgramFile, TellsOption, lines_in}
 use Rattle.ticklab_verdicts.specs.BySteps.{StuckBy}
-use Rattle.ticklab_verdicts.specs.Found.{IsQuiet, MeetsLimit, TellsBoth, TellsFault, TellsLimit}
+use Rattle.ticklab_verdicts.specs.Found.{IsQuiet, TellsBoth, TellsFault, TellsLimit}
 use Rattle.ticklab_verdicts.specs.Hearing.{Heard, HearsOf, IsHeard}
-use Rattle.ticklab_verdicts.specs.Lines.{is_nobody, no_process_line}
+use Rattle.ticklab_verdicts.specs.Lines.{no_process_line}
 use Rattle.ticklab_files.specs.Reading.{AfterFile, ReadsOf, ReadsInputOf}
 use Rattle.ticklab_files.specs.Responses.{Refuses}
-use Rattle.ticklab_verdicts.specs.Shown.{ShowsAllEnd, ShowsCanEnd, ShowsEndless, ShowsHalf, ShowsStuck}
+use Rattle.ticklab_verdicts.specs.Shown.{ShowsAllEnd, ShowsEndless, ShowsStuck}
 use Rattle.ticklab_verdicts.specs.Sought.{Sought, sought_of}
 use Rattle.ticklab_line.specs.declared.asking.Output.{Output}
 use Rattle.ticklab_files.specs.declared.response.Response.{Response}
@@ -57,19 +57,17 @@ pub data IsEndsRefused (name : List ℕ) (texts : List (List ℕ)) (process : Op
 
 -- Where these processes are asked for, as far as these limits let a search go.
 module _ (s : Sought) (limits : Limits) (asked : MustStop) where
-  -- Nothing is wrong under any schedule, and this is found of ends. Endless schedules are asked for by single steps alone,
-  -- which always find out whether there is one.
+  -- Nothing is wrong under any schedule, and this is found of ends.
   pub data TellsEnds (is_merged : Bool) (response : Response) (heard : List Heard) : Type 0 where
     stuck : (schedule lead_in cycle : List ℕ) (states : ℕ) → StuckBy is_merged (resolved s.program) asked schedule
         → IsLoopAfter (resolved s.program) schedule lead_in cycle → IsQuiet is_merged (resolved s.program) s.lines limits states heard
         → ShowsStuck s is_merged asked schedule lead_in cycle response → TellsEnds is_merged response heard
-    endless : (prefix cycle : List ℕ) (states : ℕ) → is_merged ≡ false → CanAlwaysEnd (resolved s.program) asked → IsEndlessBy (resolved s.program) asked prefix cycle
+    endless : (prefix cycle : List ℕ) (states : ℕ) → CanAlwaysEnd (resolved s.program) asked → IsEndlessBy (resolved s.program) asked prefix cycle
         → GoesOn (resolved s.program) asked prefix cycle → IsQuiet is_merged (resolved s.program) s.lines limits states heard
         → ShowsEndless s asked prefix cycle response → TellsEnds is_merged response heard
-    ends : (states : ℕ) → is_merged ≡ false → CanAlwaysEnd (resolved s.program) asked → EndsIfFair (resolved s.program) asked
-        → IsQuiet is_merged (resolved s.program) s.lines limits states heard → ShowsAllEnd s asked states response → TellsEnds is_merged response heard
-    can_end : (states : ℕ) → is_merged ≡ true → CanAlwaysEnd (resolved s.program) asked → IsQuiet is_merged (resolved s.program) s.lines limits states heard
-        → ShowsCanEnd s is_merged asked states response → TellsEnds is_merged response heard
+    ends : (states : ℕ) → CanAlwaysEnd (resolved s.program) asked → EndsIfFair (resolved s.program) asked
+        → IsQuiet is_merged (resolved s.program) s.lines limits states heard → ShowsAllEnd s is_merged asked states response
+        → TellsEnds is_merged response heard
 
   -- By steps of one kind alone. A trap or a line that breaks is told first.
   pub data IsEndsFoundBy (is_merged : Bool) (response : Response) (heard : List Heard) : Type 0 where
@@ -77,31 +75,11 @@ module _ (s : Sought) (limits : Limits) (asked : MustStop) where
     ends_fault : TellsFault s limits is_merged response heard → IsEndsFoundBy is_merged response heard
     no_fault : TellsEnds is_merged response heard → IsEndsFoundBy is_merged response heard
 
-  -- What is told where merged steps find nothing wrong: of ends what single ones find; where these meet a limit, what
-  -- merged ones do.
-  pub data TellsMore (states : ℕ) (response : Response) (heard : List Heard) : Type 0 where
-    more : TellsEnds false response heard → TellsMore states response heard
-    stuck_merged : (schedule lead_in cycle : List ℕ) → IsStuckAfter (resolved s.program) asked schedule → IsLoopAfter (resolved s.program) schedule lead_in cycle
-        → (others : ℕ) → MeetsLimit false (resolved s.program) s.lines limits others heard
-        → ShowsStuck s true asked schedule lead_in cycle response → TellsMore states response heard
-    half : CanAlwaysEnd (resolved s.program) asked → (others : ℕ) → MeetsLimit false (resolved s.program) s.lines limits others heard
-        → ShowsHalf s asked states limits others response → TellsMore states response heard
-
-  -- By merged steps, which find nothing wrong, and then by single ones.
-  pub record TellsHalves (response : Response) (heard : List Heard) : Type 0 where
-    pub states : ℕ
-    pub first : List Heard
-    pub merged : IsQuiet true (resolved s.program) s.lines limits states first
-    pub more : List Heard
-    pub single : TellsMore states response more
-    pub whole : heard ≡ first ++ more
-
-  -- By merged steps first, and then by single ones; by merged ones alone where these meet a limit, or nobody is asked for.
+  -- By merged steps first, and by single ones where these find a fault.
   pub data IsEndsFoundFirst (response : Response) (heard : List Heard) : Type 0 where
-    nobody : is_nobody asked ≡ true → IsEndsFoundBy true response heard → IsEndsFoundFirst response heard
     first_unknown : TellsLimit s limits true response heard → IsEndsFoundFirst response heard
     first_fault : TellsBoth s limits response heard → IsEndsFoundFirst response heard
-    first_quiet : TellsHalves response heard → IsEndsFoundFirst response heard
+    first_quiet : TellsEnds true response heard → IsEndsFoundFirst response heard
 
   abbrev pub IsEndsFound : Steps → Response → List Heard → Type 0
   IsEndsFound MergedFirst = IsEndsFoundFirst

@@ -167,29 +167,6 @@ ends_text asked =
 abbrev pub ends_line : Bool → ℕ → MustStop → ℕ → List ℕ
 ends_line is_merged lines asked states = quiet_text lines ++ ends_text asked ++ counted_text is_merged states
 
--- they can always end, and it is open whether they do
-abbrev pub can_end_text : Bool → ℕ → MustStop → ℕ → List ℕ
-can_end_text is_merged lines asked states =
-    quiet_text lines ++ asked_text asked ++ codes " can still end after every schedule" ++ counted_text is_merged states
-    ++ codes "; whether the end comes, if each that runs steps again and again, is open"
-
--- what settles it: endless schedules are asked for by single steps alone
-abbrev pub settling_text : Bool → List ℕ
-settling_text is_merged = if is_merged then codes ": explore without --merged asks that" else []
-
-abbrev pub can_end_line : Bool → ℕ → MustStop → ℕ → List ℕ
-can_end_line is_merged lines asked states =
-    if is_nobody asked then ends_line is_merged lines asked states
-    else (can_end_text is_merged lines asked states ++ settling_text is_merged)
-
--- what may help where single steps met a limit
-abbrev pub half_next : Limits → ℕ → List ℕ
-half_next limits others = codes "try " ++ larger_text limits others ++ codes ", or fewer processes or rounds\n"
-
--- the same of merged steps, where by single ones there are more states than this
-abbrev pub half_line : ℕ → MustStop → ℕ → ℕ → List ℕ
-half_line lines asked states others = can_end_text true lines asked states ++ codes ": " ++ more_text false others
-
 -- they can always end, and under an endless schedule they don't
 abbrev pub endless_line : ℕ → MustStop → List ℕ
 endless_line lines asked =

@@ -1,6 +1,6 @@
 -- What `explore` and `hunt` show of a program: a text, the schedule in it alone, or an object. Where there is no schedule the
 -- second is empty.
-use Rattle.std.specs.Prelude.{◌≡◌, ◌++◌, ℕ, Bool, true, false, if◌then◌else◌, List, [], ◌∷◌, codes, length, slice_get, Option, None, Some}
+use Rattle.std.specs.Prelude.{◌≡◌, ◌++◌, ℕ, Bool, true, false, List, [], ◌∷◌, codes, length, slice_get, Option, None, Some}
 use Rattle.base.specs.Lines.{line_end}
 use Rattle.base.specs.Plain.{Name, WholeProgram}
 use Rattle.language_properties.specs.Values.{Valued}
@@ -23,7 +23,7 @@ use Rattle.ticklab_verdicts.specs.BySteps.{break_line_by, line_by}
 use Rattle.ticklab_line.specs.declared.asking.Output.{Output}
 use Rattle.ticklab_line.specs.declared.asking.Output.TheVariants.{Text, ScheduleAlone, Json}
 use Rattle.ticklab_runs.specs.Lines.{broken_text}
-use Rattle.ticklab_verdicts.specs.Lines.{can_end_line, endless_line, ends_line, half_line, half_next, is_nobody, limit_line, minimal_break_line, minimal_line, next_line, nothing_line, safe_line, schedule_alone, stuck_line, trap_lines}
+use Rattle.ticklab_verdicts.specs.Lines.{endless_line, ends_line, limit_line, minimal_break_line, minimal_line, next_line, nothing_line, safe_line, schedule_alone, stuck_line, trap_lines}
 use Rattle.ticklab_verdicts.specs.Loops.{IsLoopObject, IsLoopText}
 use Rattle.ticklab_files.specs.Responses.{Gives}
 use Rattle.ticklab_verdicts.specs.RunObjects.{IsBreakObject, IsRunObject}
@@ -143,43 +143,18 @@ ShowsStuck s is_merged asked = ShowsLoop (codes "stuck") (stuck_line is_merged (
 abbrev pub ShowsEndless : Sought → MustStop → List ℕ → List ℕ → Response → Type 0
 ShowsEndless s asked prefix cycle = ShowsLoop (codes "endless") (endless_line (length s.places) asked) s prefix [] cycle
 
-abbrev pub ShowsAllEnd : Sought → MustStop → ℕ → Response → Type 0
-ShowsAllEnd s asked states =
-    Gives 0 (IsStatesAnswer s.output (codes "ends") (ends_line false (length s.places) asked states) false states (length s.places) [])
-
--- where nobody is asked for, all of them end
-abbrev pub can_end_word : MustStop → List ℕ
-can_end_word asked = if is_nobody asked then codes "ends" else codes "can-end"
-
--- whether they do is open, where somebody is asked for
-abbrev pub can_end_status : MustStop → ℕ
-can_end_status asked = if is_nobody asked then 0 else 6
-
-abbrev pub ShowsCanEnd : Sought → Bool → MustStop → ℕ → Response → Type 0
-ShowsCanEnd s is_merged asked states =
-    Gives (can_end_status asked) (IsStatesAnswer s.output (can_end_word asked) (can_end_line is_merged (length s.places) asked states) is_merged states
-    (length s.places) [])
-
--- by merged steps they can, and by single ones there are more states than this
-abbrev pub ShowsHalf : Sought → MustStop → ℕ → Limits → ℕ → Response → Type 0
-ShowsHalf s asked states limits others =
-    Gives 6 (IsStatesAnswer s.output (codes "limit") (half_line (length s.places) asked states others) true states (length s.places)
-    (half_next limits others))
+abbrev pub ShowsAllEnd : Sought → Bool → MustStop → ℕ → Response → Type 0
+ShowsAllEnd s is_merged asked states =
+    Gives 0 (IsStatesAnswer s.output (codes "ends") (ends_line is_merged (length s.places) asked states) is_merged states (length s.places) [])
 
 -- where nothing is wrong in so many states
 abbrev pub ShowsKnown : Bool → MustStop → Sought → ℕ → Liveness → Response → Type 0
 ShowsKnown is_merged asked s states (L.Stuck schedule lead_in cycle) response =
     ShowsStuck s is_merged asked schedule.items lead_in.items cycle.items response
 ShowsKnown is_merged asked s states (L.Endless prefix cycle) response = ShowsEndless s asked prefix.items cycle.items response
-ShowsKnown is_merged asked s states L.Ends response = ShowsAllEnd s asked states response
-ShowsKnown is_merged asked s states L.CanEnd response = ShowsCanEnd s is_merged asked states response
+ShowsKnown is_merged asked s states L.Ends response = ShowsAllEnd s is_merged asked states response
 
 abbrev pub ShowsEnds : Bool → MustStop → Sought → Limits → Verdict Fault Liveness → Response → Type 0
 ShowsEnds is_merged asked s limits (Found states fault) response = SaysFault (line_by is_merged) (break_line_by is_merged) s fault response
 ShowsEnds is_merged asked s limits (Nowhere states known) response = ShowsKnown is_merged asked s states known response
 ShowsEnds is_merged asked s limits (Limit states) response = ShowsLimit s is_merged limits states response
-
--- what merged steps find in so many states, where by single ones there are more states than these
-abbrev pub ShowsHalved : MustStop → Sought → Limits → ℕ → ℕ → Liveness → Response → Type 0
-ShowsHalved asked s limits others states L.CanEnd response = ShowsHalf s asked states limits others response
-ShowsHalved asked s limits others states known response = ShowsKnown true asked s states known response

@@ -1,17 +1,15 @@
 //! `ticklab explore --ends`: whether processes can always end, and whether they do under each fair schedule.
 ghost use Rattle.std.specs.Prelude.{◌≡◌, ◌<◌, IfErr, IfOk, MatchResult, None, length, true};
 ghost use Rattle.tick_kinds.specs.Resolution.{resolved};
-ghost use Rattle.searches_explore.specs.Lines.{lines_of};
 ghost use Rattle.searches_explore.specs.Never.{IfBroken, IfFault, IfKnown};
-ghost use Rattle.ticklab_verdicts.specs.BySteps.{SafeBy};
 ghost use Rattle.ticklab_files.specs.Asking.{texts_of};
-ghost use Rattle.ticklab_verdicts.specs.Ends.{ExploresEnds, IsEndsExplored, IsEndsFound, IsEndsFoundBy, IsEndsFoundFirst, IsEndsRefused, IsPast, IsThere, TellsMore, asked_by, asks_ends};
+ghost use Rattle.ticklab_verdicts.specs.Ends.{ExploresEnds, IsEndsExplored, IsEndsFound, IsEndsFoundBy, IsEndsFoundFirst, IsEndsRefused, IsPast, IsThere, asked_by, asks_ends};
 ghost use Rattle.ticklab_files.specs.Faults.{IsOfFile, IsUnread};
 ghost use Rattle.ticklab_verdicts.specs.Hearing.{IsHeard, hearing};
-ghost use Rattle.ticklab_verdicts.specs.Shown.{ShowsAllEnd, ShowsCanEnd, ShowsEndless, ShowsEnds, ShowsHalf, ShowsHalved, ShowsKnown, ShowsStuck, can_end_status, can_end_word};
+ghost use Rattle.ticklab_verdicts.specs.Shown.{ShowsAllEnd, ShowsEndless, ShowsEnds, ShowsKnown, ShowsStuck};
 ghost use Rattle.ticklab_verdicts.specs.Sought.{AreLawful, IsLawful, IsSound, sought_by};
 ghost use Rattle.ticklab_files.specs.Stops.{IfRefused, IsRefusal};
-ghost use Rattle.ticklab_verdicts.specs.prover.Searches.{AreEndsKnownBy, AreEndsSearchedBy, IsShowable};
+ghost use Rattle.ticklab_verdicts.specs.prover.Searches.{AreEndsSearchedBy, IsShowable};
 
 mod loops;
 mod wording;
@@ -28,21 +26,18 @@ pub use loops::loop_text;
 use searches_explore::{Fault, Limits, Liveness, MustStop, Verdict, explore_ends};
 use std::alloc::Global;
 use ticklab_files::{
-    AnswerFault, DONE, Files, LIMIT, LabFault, NoAnswer, Response, bytes_of, never_lines, settled,
+    AnswerFault, DONE, Files, LabFault, NoAnswer, Response, bytes_of, never_lines, settled,
     spelled_program_of,
 };
 use ticklab_json::Loop;
 use ticklab_line::{Output, Steps};
 pub use wording::push_processes;
-use wording::{
-    can_end_line, endless_line, ends_line, half_line, half_next, is_nobody, no_process_line,
-    stuck_line,
-};
+use wording::{endless_line, ends_line, no_process_line, stuck_line};
 
 /// Whether those processes of the program end that its file asks, or this one: after every schedule, whether they still
 /// can, and whether they do where each process that runs steps again and again; as far as `limits` let a
 /// search go. A trap is told first, and a line `#! never` of the file that breaks, or one of these texts that are
-/// the same. By merged steps alone only the first is asked. The progress is told of each search.
+/// the same. The progress is told of each search.
 pub fn explored_ends<F: Files, W: Progress>(
     alloc: Global,
     files: &mut F,
@@ -141,43 +136,16 @@ fn found_by<W: Progress>(task: &Task<'_, '_>, is_merged: bool, progress: &mut W)
     shown(task, is_merged, explored)
 }
 
-// By merged steps first, and by single ones where these tell more.
+// By merged steps first, and by single ones where these find a fault.
 fn found_first<W: Progress>(task: &Task<'_, '_>, progress: &mut W) -> Answered
     requires sound { IsSound task.now.search }
     ensures { IfOk result (λ response. IsHeard (hearing W.begins W.finds W.hears) progress.old progress.new (IsEndsFoundFirst (sought_by task.now.search) task.now.limits task.now.asked response)) }
 {
-    if is_nobody(task.asked) {
-        return found_by(task, true, progress);
-    }
     let explored = explored_by(task, true, progress)?;
     match explored {
         Verdict::Found { states, found } => shorter_found(task, states, found, progress),
-        Verdict::Nowhere { states, known } => more_found(task, states, known, progress),
+        Verdict::Nowhere { states, known } => known_shown(task, true, states, known),
         Verdict::Limit { states } => limit_shown(task, true, states),
-    }
-}
-
-// What single steps find of ends, where merged ones have found nothing wrong in so many states, and this of ends; where
-// single ones meet a limit, what merged ones have found.
-fn more_found<W: Progress>(
-    task: &Task<'_, '_>,
-    states: u32,
-    known: Liveness,
-    progress: &mut W,
-) -> Answered
-    requires sound { IsSound task.now.search }
-    requires safe { SafeBy true (resolved task.now.search.spelled.now.program) (lines_of task.now.search.lines.now.properties.items) task.now.limits states }
-    requires known { AreEndsKnownBy true (resolved task.now.search.spelled.now.program) task.now.asked known }
-    ensures { IfOk result (λ response. IsHeard (hearing W.begins W.finds W.hears) progress.old progress.new (TellsMore (sought_by task.now.search) task.now.limits task.now.asked states response)) }
-{
-    let single = explored_by(task, false, progress)?;
-    match single {
-        Verdict::Found { .. } => unreachable!(),
-        Verdict::Nowhere {
-            states: seen,
-            known: settled,
-        } => known_shown(task, false, seen, settled),
-        Verdict::Limit { states: others } => half_shown(task, states, known, others),
     }
 }
 
@@ -250,18 +218,6 @@ pub fn asked_in(ends: Option<Ends>) -> MustStop
     }
 }
 
-// The answer that tells what merged steps have found, where by single ones there are more states than these.
-fn half_shown(task: &Task<'_, '_>, states: u32, known: Liveness, others: u32) -> Answered
-    requires sound { IsSound task.now.search }
-    requires shown { IsShowable task.now.search known }
-    ensures { IfOk result (ShowsHalved task.now.asked (sought_by task.now.search) task.now.limits others states known) }
-{
-    match known {
-        Liveness::CanEnd => can_half_shown(task, states, others),
-        other => known_shown(task, true, states, other),
-    }
-}
-
 // The answer that tells what was explored. What `explore` would find it tells in the same way.
 fn shown(task: &Task<'_, '_>, is_merged: bool, explored: Verdict<Fault, Liveness>) -> Answered
     requires sound { IsSound task.now.search }
@@ -300,8 +256,7 @@ fn known_shown(task: &Task<'_, '_>, is_merged: bool, states: u32, known: Livenes
             stuck_shown(task, is_merged, looped)
         }
         Liveness::Endless { prefix, cycle } => endless_shown(task, &prefix, &cycle),
-        Liveness::Ends => ends_shown(task, states),
-        Liveness::CanEnd => can_end_shown(task, is_merged, states),
+        Liveness::Ends => ends_shown(task, is_merged, states),
     }
 }
 
@@ -339,51 +294,11 @@ fn endless_shown(task: &Task<'_, '_>, prefix: &[u8], cycle: &[u8]) -> Answered
 }
 
 // They always end.
-fn ends_shown(task: &Task<'_, '_>, states: u32) -> Answered
-    ensures { IfOk result (ShowsAllEnd (sought_by task.now.search) task.now.asked states) }
+fn ends_shown(task: &Task<'_, '_>, is_merged: bool, states: u32) -> Answered
+    ensures { IfOk result (ShowsAllEnd (sought_by task.now.search) is_merged task.now.asked states) }
 {
     let search = &task.search;
-    let extent = extent_of(search, false, states);
+    let extent = extent_of(search, is_merged, states);
     let says = ends_line(search.alloc, task.asked, extent)?;
     states_shown(search, DONE, "ends", extent, &says, "")
-}
-
-// They always can; whether they do is open.
-fn can_end_shown(task: &Task<'_, '_>, is_merged: bool, states: u32) -> Answered
-    ensures { IfOk result (ShowsCanEnd (sought_by task.now.search) is_merged task.now.asked states) }
-{
-    let word = can_end_word(task.asked);
-    let extent = extent_of(&task.search, is_merged, states);
-    let says = can_end_line(task.search.alloc, task.asked, extent)?;
-    states_shown(
-        &task.search,
-        can_end_status(task.asked),
-        word,
-        extent,
-        &says,
-        "",
-    )
-}
-
-fn can_end_status(asked: MustStop) -> u8
-    ensures { result ≡ can_end_status asked }
-{
-    if is_nobody(asked) { DONE } else { LIMIT }
-}
-
-// By merged steps they always can; by single ones there are more states than these.
-fn can_half_shown(task: &Task<'_, '_>, states: u32, others: u32) -> Answered
-    ensures { IfOk result (ShowsHalf (sought_by task.now.search) task.now.asked states task.now.limits others) }
-{
-    let alloc = task.search.alloc;
-    let extent = extent_of(&task.search, true, states);
-    let says = half_line(alloc, extent.lines, task.asked, states, others)?;
-    let more = half_next(alloc, task.limits, others)?;
-    states_shown(&task.search, LIMIT, "limit", extent, &says, &more)
-}
-
-fn can_end_word(asked: MustStop) -> &'static str
-    ensures { result.now ≡ can_end_word asked }
-{
-    if is_nobody(asked) { "ends" } else { "can-end" }
 }

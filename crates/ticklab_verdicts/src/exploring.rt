@@ -292,8 +292,8 @@ pub fn push_safe(text: &mut String, lines: usize) -> Result<(), AllocError>
     text.push_str(") breaks")
 }
 
-/// Adds that there are more states than these.
-pub fn push_more(text: &mut String, is_merged: bool, states: u32) -> Result<(), AllocError>
+// Adds that there are more states than these.
+fn push_more(text: &mut String, is_merged: bool, states: u32) -> Result<(), AllocError>
     ensures { OnOk result (string_bytes text.new ≡ string_bytes text.old ++ more_text is_merged states) }
 {
     text.push_str("there are more than ")?;
@@ -310,8 +310,8 @@ fn limit_line(alloc: Global, is_merged: bool, states: u32) -> Result<String, All
     Ok(line)
 }
 
-/// What may help where this limit was met, as so many states are told.
-pub fn larger(limits: Limits, states: u32) -> &'static str
+// What may help where this limit was met, as so many states are told.
+fn larger(limits: Limits, states: u32) -> &'static str
     ensures { result.now ≡ larger_text limits states }
 {
     either(

@@ -18,26 +18,12 @@ found_of (V.Found states fault) = fault_of fault
 found_of (V.Nowhere states known) = F.Safe states
 found_of (V.Limit states) = F.Limit states
 
--- by merged steps no endless schedule is found, nor that there is none
-abbrev pub merged_known : Liveness → ℕ → Found
-merged_known (L.Stuck schedule lead_in cycle) states = F.Stuck states
-merged_known (L.Endless prefix cycle) states = F.Unsettled states
-merged_known L.Ends states = F.Unsettled states
-merged_known L.CanEnd states = F.Unsettled states
+abbrev pub known_of : Liveness → ℕ → Found
+known_of (L.Stuck schedule lead_in cycle) states = F.Stuck states
+known_of (L.Endless prefix cycle) states = F.Endless states
+known_of L.Ends states = F.Ends states
 
-abbrev pub merged_found : Verdict Fault Liveness → Found
-merged_found (V.Found states fault) = fault_of fault
-merged_found (V.Nowhere states known) = merged_known known states
-merged_found (V.Limit states) = F.Limit states
-
--- what single steps find, where there are so many merged states and those asked for can always end
-abbrev pub single_known : Liveness → ℕ → ℕ → Found
-single_known (L.Endless prefix cycle) states merged = F.Endless states
-single_known L.Ends states merged = F.Ends states
-single_known (L.Stuck schedule lead_in cycle) states merged = F.Stuck merged
-single_known L.CanEnd states merged = F.Unsettled merged
-
-abbrev pub settled : Verdict Fault Liveness → ℕ → Found
-settled (V.Found states fault) merged = fault_of fault
-settled (V.Nowhere states known) merged = single_known known states merged
-settled (V.Limit states) merged = F.Unsettled merged
+abbrev pub asked_found : Verdict Fault Liveness → Found
+asked_found (V.Found states fault) = fault_of fault
+asked_found (V.Nowhere states known) = known_of known states
+asked_found (V.Limit states) = F.Limit states

@@ -1,5 +1,5 @@
 -- What an exploration comes to, by single steps or by merged ones.
-use Rattle.std.specs.Prelude.{◌≡◌, ℕ, ◌<◌, ◌≤◌, ⊤, ◌∷◌, Bool, true, false, List, length, map}
+use Rattle.std.specs.Prelude.{◌≡◌, ℕ, ◌<◌, ◌≤◌, ⊤, ◌∷◌, Bool, List, length, map}
 use Rattle.std.specs.List.{All}
 use Rattle.base.specs.Plain.{WholeProgram}
 use Rattle.language_properties.specs.declared.property.Property.{Property}
@@ -7,10 +7,9 @@ use Rattle.searches_states.specs.Watching.{Told}
 use Rattle.searches_states.specs.declared.limits.Limits.{Limits}
 use Rattle.searches_states.specs.declared.must_stop.MustStop.{MustStop}
 use Rattle.searches_states.specs.declared.verdict.Verdict.{Verdict}
-use Rattle.searches_fairness.specs.FairAnswer.{IfCanEnd, IfEndless, IfEnds, IfLoop, IfStuck, IfUnknown}
 use Rattle.searches_fairness.specs.declared.liveness.Liveness.{Liveness}
 use Rattle.searches_fairness.specs.declared.liveness.Liveness.TheVariants as L
-use Rattle.searches_explore.specs.Ending.{CanAlwaysEnd, EndsIfFair, GoesOn, IsEndlessBy, IsLoopAfter}
+use Rattle.searches_explore.specs.BySteps.{KnowsEndsAs}
 use Rattle.searches_explore.specs.Lines.{lines_of}
 use Rattle.searches_explore.specs.Never.{AreToldFor, IfBroken, IfFault, IfFaultIn, IfKnown, IfLimit, IfSafe, IfTrapped}
 use Rattle.searches_explore.specs.declared.fault.Fault.{Fault}
@@ -42,15 +41,9 @@ module _ {E : Type 0} (m : Bool) (a : WholeProgram ℕ) (lines : List Property) 
     pub known : IsKnownBy e
     pub watched : IsHeard hears before after (AreHeardFor e)
 
--- What holds of what is known, where these processes have to end. By merged steps no endless schedule is found, nor that
--- there is none; by single ones it is always known.
-pub record AreEndsKnownBy (m : Bool) (a : WholeProgram ℕ) (asked : MustStop) (l : Liveness) : Type 0 where
-  pub blocked : IfStuck l (StuckBy m a asked)
-  pub loops : IfLoop l (IsLoopAfter a)
-  pub can : IfCanEnd l (CanAlwaysEnd a asked)
-  pub endless : IfEndless l (λ prefix cycle. (m ≡ false) × IsEndlessBy a asked prefix cycle × GoesOn a asked prefix cycle)
-  pub ends : IfEnds l ((m ≡ false) × EndsIfFair a asked)
-  pub unknown : IfUnknown l (m ≡ true)
+-- What holds of what is known, where these processes have to end.
+abbrev pub AreEndsKnownBy : Bool → WholeProgram ℕ → MustStop → Liveness → Type 0
+AreEndsKnownBy m a asked = KnowsEndsAs a asked (StuckBy m a asked)
 
 pub record AreEndsSearchedBy (m : Bool) (a : WholeProgram ℕ) (lines : List Property) (asked : MustStop) (limits : Limits) {W : Type 0} (hears : HearsOf W)
     (before after : W) (e : Verdict Fault Liveness) : Type 0 where

@@ -1,12 +1,12 @@
 //! The lines of the answers to `explore --ends`.
 ghost use Rattle.std.specs.Prelude.{◌≡◌, ◌≤◌, ◌+◌, ◌++◌, IfOk, OnOk, length, string_bytes};
 ghost use Rattle.std.specs.List.{list_any};
-ghost use Rattle.ticklab_verdicts.specs.Lines.{asked_text, can_end_line, can_end_text, endless_line, ends_line, ends_text, half_line, half_next, is_nobody, marked, no_process_line, numbers_text, processes_text, quiet_text, stuck_line};
+ghost use Rattle.ticklab_verdicts.specs.Lines.{asked_text, endless_line, ends_line, ends_text, is_nobody, marked, no_process_line, numbers_text, processes_text, quiet_text, stuck_line};
 
-use crate::exploring::{either, larger, push_counted, push_more, push_safe};
+use crate::exploring::{either, push_counted, push_safe};
 use crate::extent::SearchExtent;
 use base::push_number;
-use searches_explore::{Limits, MustStop};
+use searches_explore::MustStop;
 use std::alloc::{AllocError, Global};
 
 fn push_asked(alloc: Global, text: &mut String, asked: MustStop) -> Result<(), AllocError>
@@ -75,8 +75,8 @@ fn push_numbers(text: &mut String, first: u8, more: &[u8]) -> Result<(), AllocEr
     }
 }
 
-/// Whether nobody is asked for.
-pub fn is_nobody(asked: MustStop) -> bool
+// Whether nobody is asked for.
+fn is_nobody(asked: MustStop) -> bool
     ensures { result ≡ is_nobody asked }
 {
     match asked {
@@ -121,67 +121,6 @@ fn push_ends(alloc: Global, text: &mut String, asked: MustStop) -> Result<(), Al
     text.push_str(
         " can still end after every schedule, and will if each that runs steps again and again",
     )
-}
-
-// They can always end, and it is open whether they do.
-fn can_end_text(alloc: Global, asked: MustStop, extent: SearchExtent) -> Result<String, AllocError>
-    ensures { IfOk result (λ text. string_bytes text ≡ can_end_text extent.is_merged extent.lines asked extent.states) }
-{
-    let mut text = quiet(alloc, extent.lines)?;
-    push_asked(alloc, &mut text, asked)?;
-    text.push_str(" can still end after every schedule")?;
-    push_counted(&mut text, extent)?;
-    text.push_str("; whether the end comes, if each that runs steps again and again, is open")?;
-    Ok(text)
-}
-
-/// They can always end; whether they do is open, and this settles it.
-pub fn can_end_line(
-    alloc: Global,
-    asked: MustStop,
-    extent: SearchExtent,
-) -> Result<String, AllocError>
-    ensures { IfOk result (λ line. string_bytes line ≡ can_end_line extent.is_merged extent.lines asked extent.states) }
-{
-    if is_nobody(asked) {
-        return ends_line(alloc, asked, extent);
-    }
-    let mut line = can_end_text(alloc, asked, extent)?;
-    if extent.is_merged {
-        line.push_str(": explore without --merged asks that")?;
-    }
-    Ok(line)
-}
-
-/// By merged steps they can always end; by single ones there are more states than these.
-pub fn half_line(
-    alloc: Global,
-    lines: usize,
-    asked: MustStop,
-    states: u32,
-    others: u32,
-) -> Result<String, AllocError>
-    ensures { IfOk result (λ line. string_bytes line ≡ half_line lines asked states others) }
-{
-    let extent = SearchExtent {
-        lines,
-        is_merged: true,
-        states,
-    };
-    let mut line = can_end_text(alloc, asked, extent)?;
-    line.push_str(": ")?;
-    push_more(&mut line, false, others)?;
-    Ok(line)
-}
-
-/// What may help where single steps met a limit.
-pub fn half_next(alloc: Global, limits: Limits, others: u32) -> Result<String, AllocError>
-    ensures { IfOk result (λ line. string_bytes line ≡ half_next limits others) }
-{
-    let mut line = String::from_str(alloc, "try ")?;
-    line.push_str(larger(limits, others))?;
-    line.push_str(", or fewer processes or rounds\n")?;
-    Ok(line)
 }
 
 /// They can always end, and under a schedule they don't.

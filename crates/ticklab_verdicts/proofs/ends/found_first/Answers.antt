@@ -1,21 +1,14 @@
-use Rattle.std.proofs.Common.{◌≡◌, ◌∙◌, ℕ, true, List, sym}
+use Rattle.std.proofs.Common.{◌≡◌, ℕ, true, List}
 use Rattle.ticklab_verdicts.specs.Hearing.{hearing}
 use Rattle.tick_source.specs.Source.{source}
 use Rattle.searches_explore.specs.Lines.{is_fault, lines_of}
 use Rattle.searches_states.specs.declared.verdict.Verdict.TheVariants.{Found, Nowhere, Limit}
-use Rattle.ticklab_verdicts.specs.Ends.{nobody}
 use Rattle.ticklab_verdicts.specs.Sought.{IsLawful}
 use Rattle.ticklab_files.proofs.Responding.{then_ok}
-use Rattle.ticklab_verdicts.proofs.EndsSearched.{ends_searched_is, fault_first, quiet_first, unknown_first}
-use Rattle.ticklab_verdicts.proofs.Heard.{heard_as}
+use Rattle.ticklab_verdicts.proofs.EndsSearched.{ends_searched_is, fault_first, quiet_first, showable, unknown_first}
 use Rattle.ticklab_verdicts.proofs.Placed.{held_of, program_of}
 use Rattle.ticklab_verdicts.proofs.Searched.{fault_by, of_fault}
 use Rattle.ticklab_verdicts.proofs.ends.found_first.Goals as goal
-
-pub returns-then-is_nobody : goal.returns-then-is_nobody
-returns-then-is_nobody g c =
-    then_ok c.found_by.result (λ x found. heard_as (hearing g.W.Progress.begins g.W.Progress.finds g.W.Watch.hears) _ _
-    (λ heard on. nobody (sym c.is_nobody.ensures ∙ c.if-is_nobody.true) on) found) c.found_by.ensures
 
 pub shorter_found-requires-clause-lawful : goal.shorter_found-requires-clause-lawful
 shorter_found-requires-clause-lawful g c =
@@ -37,17 +30,11 @@ returns-in-Found g c =
     (ends_searched_is q c.args.task.now.limits c.args.task.now.asked H _ _ true _ (Found c.in-Found.states c.in-Found.found) c.in-Found.is c.in_ok-explored.ensures) told)
     c.shorter_found.ensures
 
-pub more_found-requires-clause-safe : goal.more_found-requires-clause-safe
-more_found-requires-clause-safe g c =
+pub known_shown-requires-clause-shown : goal.known_shown-requires-clause-shown
+known_shown-requires-clause-shown g c =
     let q = c.args.task.now.search in
     let H = hearing g.W.Progress.begins g.W.Progress.finds g.W.Watch.hears in
-    (ends_searched_is q c.args.task.now.limits c.args.task.now.asked H _ _ true _ (Nowhere c.in-Nowhere.states c.in-Nowhere.known) c.in-Nowhere.is
-    c.in_ok-explored.ensures).searched.known.safe
-
-pub more_found-requires-clause-known : goal.more_found-requires-clause-known
-more_found-requires-clause-known g c =
-    let q = c.args.task.now.search in
-    let H = hearing g.W.Progress.begins g.W.Progress.finds g.W.Watch.hears in
+    showable q c.args.task.now.asked true c.in-Nowhere.known
     (ends_searched_is q c.args.task.now.limits c.args.task.now.asked H _ _ true _ (Nowhere c.in-Nowhere.states c.in-Nowhere.known) c.in-Nowhere.is
     c.in_ok-explored.ensures).known
 
@@ -55,9 +42,9 @@ pub returns-in-Nowhere : goal.returns-in-Nowhere
 returns-in-Nowhere g c =
     let q = c.args.task.now.search in
     let H = hearing g.W.Progress.begins g.W.Progress.finds g.W.Watch.hears in
-    then_ok c.more_found.result (λ x told. quiet_first q c.args.task.now.limits c.args.task.now.asked H _ _ _ c.in-Nowhere.states c.in-Nowhere.known x
+    then_ok c.known_shown.result (λ x shows. quiet_first q c.args.task.now.limits c.args.task.now.asked H _ _ c.in-Nowhere.states c.in-Nowhere.known x
     (ends_searched_is q c.args.task.now.limits c.args.task.now.asked H _ _ true _ (Nowhere c.in-Nowhere.states c.in-Nowhere.known) c.in-Nowhere.is
-    c.in_ok-explored.ensures) told) c.more_found.ensures
+    c.in_ok-explored.ensures) shows) c.known_shown.ensures
 
 pub returns-in-Limit : goal.returns-in-Limit
 returns-in-Limit g c =
